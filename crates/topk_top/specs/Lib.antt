@@ -1,0 +1,3 @@
+-- How a top call ends, and what it writes.
+pub mod Texts
+pub mod Ends
