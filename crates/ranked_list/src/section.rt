@@ -9,6 +9,7 @@ use std::mem;
 
 /// The most lists of a bundle, and the most rows of a list.
 const MOST_LISTS: usize = 64;
+
 const MOST_ROWS: u32 = 200_000;
 
 /// The lists that are whole, and the one that is open behind them.

@@ -46,7 +46,10 @@ impl Transcript {
 
     /// How many sorted accesses a list gave.
     pub fn depth(&self, list: u8) -> u64 {
-        self.accesses.iter().filter(|a| is_sorted_on(a, list)).count() as u64
+        self.accesses
+            .iter()
+            .filter(|a| is_sorted_on(a, list))
+            .count() as u64
     }
 
     /// What the accesses cost.
@@ -59,7 +62,12 @@ impl Transcript {
     pub(crate) fn bottom(&self, list: u8, top: u32) -> u32 {
         let mut bottom = top;
         for access in &self.accesses {
-            if let Access::Sorted { list: on, grade, .. } = access {
+            if let Access::Sorted {
+                list: on,
+                grade,
+                ..
+            } = access
+            {
                 if *on == list {
                     bottom = *grade;
                 }
@@ -94,7 +102,15 @@ fn is_sorted_on(access: &Access, list: u8) -> bool {
 /// The list, the object and the grade of an access.
 fn parts(access: &Access) -> (u8, u32, u32) {
     match access {
-        Access::Sorted { list, object, grade } => (*list, *object, *grade),
-        Access::Random { list, object, grade } => (*list, *object, *grade),
+        Access::Sorted {
+            list,
+            object,
+            grade,
+        } => (*list, *object, *grade),
+        Access::Random {
+            list,
+            object,
+            grade,
+        } => (*list, *object, *grade),
     }
 }

@@ -14,18 +14,19 @@ pub reads_front : (bytes into new : List ℕ) (at piece count : ℕ) → at ≤ 
     → count ≡ min (min (length (drop at bytes)) (length into)) piece
     → new ≡ take count (drop at bytes) ++ drop (length (take count (drop at bytes))) into → length new ≡ length into
     → (drop at bytes ≡ take count new ++ drop (at + count) bytes)
-      × (count ≡ 0 → 0 < length new → drop (at + count) bytes ≡ [])
+    × (count ≡ 0 → 0 < length new → drop (at + count) bytes ≡ [])
 reads_front bytes into new at piece count within some counts copied kept =
     let left = drop at bytes in
     let fits : count ≤ length left = omega arith in
     let long : length (take count left) ≡ count = length-take-le count left fits in
     let front : take count new ≡ take count left =
-        ap (take count) copied
-        ∙ ap (λ n. take n (take count left ++ drop (length (take count left)) into)) (sym long)
-        ∙ take-append_seam (take count left) (drop (length (take count left)) into) in
-    let rest : drop count left ≡ drop (at + count) bytes = drop-drop count at bytes in
-    (sym (take-append-drop count left) ∙ ap (λ xs. xs ++ drop count left) (sym front) ∙ ap (λ xs. take count new ++ xs) rest,
-     λ none room. drop_of_length-le bytes {i = at + count} (omega (arith, length-drop at bytes)))
+    ap (take count) copied
+    ∙ ap (λ n. take n (take count left ++ drop (length (take count left)) into)) (sym long)
+    ∙ take-append_seam (take count left) (drop (length (take count left)) into) in
+    let rest : drop count left ≡ drop (at + count) bytes = drop-drop count at bytes in (
+      sym (take-append-drop count left) ∙ ap (λ xs. xs ++ drop count left) (sym front) ∙ ap (λ xs. take count new ++ xs) rest,
+      λ none room. drop_of_length-le bytes {i = at + count} (omega (arith, length-drop at bytes)),
+    )
 
 -- one more piece that stopped stops the whole
 pub stops_reading : (limit : ℕ) (before mid now : Option (List ℕ)) (text piece : List ℕ) (faults_before faults_mid faults_now : ℕ)
@@ -43,11 +44,11 @@ pub reads_left : (seen bytes into new : List ℕ) (at piece least count : ℕ) �
     → new ≡ take count (take (length seen - at) (drop at seen)) ++ drop (length (take count (take (length seen - at) (drop at seen)))) into
     → length new ≡ length into
     → (drop at bytes ≡ take count new ++ drop (at + count) bytes)
-      × (count ≡ 0 → 0 < length new → drop (at + count) bytes ≡ [])
+    × (count ≡ 0 → 0 < length new → drop (at + count) bytes ≡ [])
 reads_left seen bytes into new at piece least count same within some first counts copied kept =
     let rest : take (length seen - at) (drop at seen) ≡ drop at bytes = take_rest seen at ∙ ap (drop at) same in
     let least_is : least ≡ min (length (drop at bytes)) (length into) = first ∙ ap (λ xs. min (length xs) (length into)) rest in
     let count_is : count ≡ min (min (length (drop at bytes)) (length into)) piece = counts ∙ ap (λ n. min n piece) least_is in
     let copy_is : new ≡ take count (drop at bytes) ++ drop (length (take count (drop at bytes))) into =
-        copied ∙ ap (λ xs. take count xs ++ drop (length (take count xs)) into) rest in
+    copied ∙ ap (λ xs. take count xs ++ drop (length (take count xs)) into) rest in
     reads_front bytes into new at piece count within some count_is copy_is kept

@@ -12,7 +12,7 @@ pub took_more : (before mid now : Option (List ℕ)) (text : List ℕ) (done cou
     → Appends before now (take (done + count) text)
 took_more before mid now text done count first second =
     let rest : take (length text - done) (drop done text) ≡ drop done text =
-        ap (λ n. take n (drop done text)) (sym (length-drop done text)) ∙ take-length (drop done text) in
+    ap (λ n. take n (drop done text)) (sym (length-drop done text)) ∙ take-length (drop done text) in
     let next : Appends mid now (take count (drop done text)) = subst (λ xs. Appends mid now (take count xs)) rest second in
     rw (take-add done count text) (Appends-trans before mid now (take done text) (take count (drop done text)) first next)
 

@@ -32,8 +32,13 @@ impl Model for MemIntake {
 
     ghost Value = { Incoming };
 
-    ghost view = { λ m. record { left = drop m.at m.bytes.items; piece = m.piece;
-        fails = m.fails.items; calls = m.calls; faults = m.faults } };
+    ghost view = { λ m. record {
+      left = drop m.at m.bytes.items;
+      piece = m.piece;
+      fails = m.fails.items;
+      calls = m.calls;
+      faults = m.faults;
+    } };
 
     ghost invariant = { λ m. (m.at ≤ vec_len m.bytes) × (0 < m.piece) };
 }
@@ -41,15 +46,15 @@ impl Model for MemIntake {
 impl MemIntake {
     /// The stream of these bytes, at most `piece` of them in one call, whose calls with a number in
     /// `fails` fail. It had no call yet.
-    pub fn make(
-        alloc: Global,
-        bytes: &[u8],
-        piece: u32,
-        fails: &[u64],
-    ) -> Result<MemIntake, Memory>
+    pub fn make(alloc: Global, bytes: &[u8], piece: u32, fails: &[u64]) -> Result<MemIntake, Memory>
         requires { 0 < piece }
-        ensures { IfOk result (λ m. m ≡ record { left = bytes.now; piece = piece;
-            fails = fails.now; calls = 0; faults = 0 }) }
+        ensures { IfOk result (λ m. m ≡ record {
+          left = bytes.now;
+          piece = piece;
+          fails = fails.now;
+          calls = 0;
+          faults = 0;
+        }) }
     {
         Ok(MemIntake {
             bytes: Vec::from_slice(alloc, bytes).map_err(|_| Memory)?,

@@ -30,8 +30,13 @@ impl Model for MemSink {
 
     ghost Value = { Outgoing };
 
-    ghost view = { λ m. record { held = m.bytes.items; room = m.room;
-        fails = m.fails.items; calls = m.calls; faults = m.faults } };
+    ghost view = { λ m. record {
+      held = m.bytes.items;
+      room = m.room;
+      fails = m.fails.items;
+      calls = m.calls;
+      faults = m.faults;
+    } };
 
     ghost invariant = { λ m. (vec_len m.bytes ≤ m.room) × (m.room ≤ vec_capacity m.bytes) };
 }
@@ -40,8 +45,13 @@ impl MemSink {
     /// A stream that has taken nothing yet and has room for `room` bytes, whose calls with a number
     /// in `fails` fail. The memory for the whole room is taken here.
     pub fn make(alloc: Global, room: u32, fails: &[u64]) -> Result<MemSink, Memory>
-        ensures { IfOk result (λ m. m ≡ record { held = []; room = room;
-            fails = fails.now; calls = 0; faults = 0 }) }
+        ensures { IfOk result (λ m. m ≡ record {
+          held = [];
+          room = room;
+          fails = fails.now;
+          calls = 0;
+          faults = 0;
+        }) }
     {
         Ok(MemSink {
             bytes: Vec::with_capacity(alloc, room as usize).map_err(|_| Memory)?,

@@ -10,8 +10,9 @@ use Rattle.topk_top.specs.declared.status.Status.TheVariants.{Done, Partial, Bad
 owes_nothing : {A : Type 0} (c : Call) (status : Status) (text : List ℕ) → (status ≡ BadWords → ⊥) → (IsReply status text → ⊥)
     → Owes c status text → A
 owes_nothing c status text not_words not_reply owed = elim owed [
-    inl words ↦ absurd (not_words words.2)
-    | inr reply ↦ absurd (not_reply reply.2) ]
+  | inl words ↦ absurd (not_words words.2)
+  | inr reply ↦ absurd (not_reply reply.2)
+]
 
 -- whoever wrote the owed text whole ends so
 ends_answered : (c : Call) (status : Status) (text : List ℕ) → Owes c status text
@@ -32,5 +33,6 @@ ends_answered c LongInput text owed written quiet = owes_nothing c LongInput tex
 pub ends_said : (c : Call) (status : Status) (text : List ℕ) (result : Status) → Owes c status text
     → Says c.held_before c.held_after c.writes_before c.writes_after text status result → Ends c result
 ends_said c status text result owed said = elim said [
-    inl whole ↦ subst (λ s. Ends c s) (sym whole.0) (ends_answered c status text owed whole.1 whole.2)
-    | inr front ↦ subst (λ s. Ends c s) (sym front.0) (status, text, owed, front.1, front.2) ]
+  | inl whole ↦ subst (λ s. Ends c s) (sym whole.0) (ends_answered c status text owed whole.1 whole.2)
+  | inr front ↦ subst (λ s. Ends c s) (sym front.0) (status, text, owed, front.1, front.2)
+]

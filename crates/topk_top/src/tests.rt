@@ -3,7 +3,7 @@
 use super::{Status, Words, top};
 use std::alloc::Global;
 use std::test::Fail;
-use tk_io::{MemIntake, MemSink};
+use tk_io::{Failed, MemIntake, MemSink, Sink};
 
 const LISTS: &str = "list A\n1,900\n2,800\n3,100\nlist B\n2,700\n3,600\n1,500\n";
 
@@ -109,17 +109,37 @@ fn ends_at_each_fault(rt: HostRuntime) -> Result<(), Fail> {
         assert!(rt; ANSWER.starts_with(out.taken()));
         assert_eq!(rt; out.taken().len(), room as usize);
     }
-    for call in 1..3 {
+    for call in 1..59 {
         let mut input = MemIntake::make(rt.alloc(), bytes.as_bytes(), 60, &[])?;
-        let mut out = MemSink::make(rt.alloc(), 57, &[call])?;
+        let sink = MemSink::make(rt.alloc(), 57, &[call])?;
+        let mut out = ByteSink { sink };
         let status = top(rt.alloc(), &words, &mut input, &mut out);
-        let wanted = if call == 1 {
-            Status::WriteFault
-        } else {
-            Status::Done
-        };
-        assert_eq!(rt; status, wanted);
-        assert!(rt; ANSWER.starts_with(out.taken()));
+        let is_whole = call == 58;
+        assert_eq!(rt; status == Status::Done, is_whole, "at call {call}");
+        assert_eq!(rt; status == Status::WriteFault, !is_whole, "at call {call}");
+        assert!(rt; ANSWER.starts_with(out.sink.taken()));
+        assert_eq!(rt; out.sink.taken().len() as u64, call - 1);
     }
     Ok(())
+}
+
+/// A sink that takes one byte in each call.
+#[derive(Drop)]
+struct ByteSink {
+    sink: MemSink,
+}
+
+impl Sink for ByteSink {
+    ghost use Rattle.std.specs.Prelude.{Some};
+
+    ghost held = { λ b. Some b.sink.held };
+
+    ghost faults = { λ b. b.sink.faults };
+
+    fn write(&mut self, bytes: &[u8]) -> Result<usize, Failed> {
+        match bytes {
+            [first, ..] => self.sink.write(&[*first]),
+            [] => self.sink.write(bytes),
+        }
+    }
 }

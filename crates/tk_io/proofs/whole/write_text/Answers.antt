@@ -10,7 +10,8 @@ returns-in_err-done-clause-front g c =
     rw (p.1) (took_front _ _ _ _ _ c.loop-done.invariant.2 c.in_err-done.ensures.taken)
 
 pub loop-done-preserved : goal.loop-done-preserved
-loop-done-preserved g c =
-    (omega (arith, c.in_ok-done.ensures.bound, length-take (length c.args.text.now - c.loop-done.done) (drop c.loop-done.done c.args.text.now), length-drop c.loop-done.done c.args.text.now),
-     c.in_ok-done.ensures.cause.stays ∙ c.loop-done.invariant.1,
-     took_more _ _ _ c.args.text.now c.loop-done.done c.in_ok-done.field-0 c.loop-done.invariant.2 c.in_ok-done.ensures.taken)
+loop-done-preserved g c = (
+  omega (arith, c.in_ok-done.ensures.bound, length-take (length c.args.text.now - c.loop-done.done) (drop c.loop-done.done c.args.text.now), length-drop c.loop-done.done c.args.text.now),
+  c.in_ok-done.ensures.cause.stays ∙ c.loop-done.invariant.1,
+  took_more _ _ _ c.args.text.now c.loop-done.done c.in_ok-done.field-0 c.loop-done.invariant.2 c.in_ok-done.ensures.taken,
+)
