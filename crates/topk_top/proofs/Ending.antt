@@ -1,8 +1,8 @@
 -- A call that comes to its text ends with it, or with a write fault.
-use Rattle.std.proofs.Common.{◌≡◌, ℕ, List, ◌⊎◌, inl, inr, refl, sym, subst}
+use Rattle.std.proofs.Common.{◌≡◌, ℕ, List, inl, inr, sym, subst}
 use Rattle.std.specs.Io.KnownBytes.{Appends}
 use Rattle.topk_top.specs.Texts.{IsReply}
-use Rattle.topk_top.specs.Ends.{Call, Owes, Answers, Ends, Says}
+use Rattle.topk_top.specs.Ends.{Call, Owes, Ends, Says}
 use Rattle.topk_top.specs.declared.status.Status.{Status}
 use Rattle.topk_top.specs.declared.status.Status.TheVariants.{Done, Partial, BadWords, BadCatalog, ReadFault, WriteFault, OpenFault, PortFault, Memory, LongInput, BadInput}
 

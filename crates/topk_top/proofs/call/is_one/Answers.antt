@@ -1,4 +1,4 @@
-use Rattle.std.proofs.Common.{arith, refl, sym}
+use Rattle.std.proofs.Common.{arith, refl}
 use Rattle.std.specs.Cmp.Lexicographic.{told_text}
 use Rattle.topk_top.proofs.Lists.{tells_word}
 use Rattle.topk_top.proofs.call.is_one.Goals as goal

@@ -1,6 +1,5 @@
-use Rattle.std.proofs.Common.{arith, sym, ap}
+use Rattle.std.proofs.Common.{arith}
 use Rattle.tk_io.proofs.Reading.{reads_left}
-use Rattle.tk_io.specs.InMemory.{Incoming}
 use Rattle.tk_io.proofs.mem_intake.MemIntakeIntake.read.Goals as goal
 
 pub returns-clause-bytes : goal.returns-clause-bytes
