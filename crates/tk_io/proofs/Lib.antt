@@ -1,0 +1,3 @@
+-- Lemmas on streams.
+mod Reading
+mod Writing

@@ -1,0 +1,3 @@
+-- Lemmas on calls and replies.
+mod Ending
+mod Lists
