@@ -74,7 +74,10 @@ impl Ranking {
         ensures sorted { IsStrictlySortedBy rank_cmp self.new.ranks }
         ensures err { OnErr result (self.new ≡ self.old) }
     {
-        if !self.ranks.insert(rank).map_err(|_| Memory)? {
+        let Ok(new) = self.ranks.insert(rank) else {
+            return Err(Memory);
+        };
+        if !new {
             return Ok(false);
         }
         self.kth = kth_with(&self.ranks, self.k, self.kth, rank);
@@ -127,8 +130,9 @@ fn kth_with(ranks: &BTreeSet<Rank>, k: u32, kth: Option<Rank>, added: Rank) -> O
 
 /// The k-th of the ranks without one of them, where `kth` is the k-th of all.
 fn kth_without(ranks: &BTreeSet<Rank>, kth: Option<Rank>, removed: Rank) -> Option<Rank>
-    ensures { (k : ℕ) → IsTrue (has_rank ranks.now.keys removed)
-        → kth ≡ slice_get ranks.now.keys k
+    requires sorted { IsStrictlySortedBy rank_cmp ranks.now.keys }
+    requires there { IsTrue (has_rank ranks.now.keys removed) }
+    ensures { (k : ℕ) → kth ≡ slice_get ranks.now.keys k
         → result ≡ slice_get (remove_key (is_at (rank_cmp removed)) ranks.now.keys) k }
 {
     match kth {
