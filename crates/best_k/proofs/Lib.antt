@@ -1,3 +1,7 @@
 pub mod OrderLaws
+pub mod InOrder
+pub mod FirstK
+pub mod KthLow
 pub mod Sorted
 pub mod Ranks
+pub mod BoardLaws
