@@ -9,7 +9,7 @@ use Rattle.std.specs.List.Sorted.{IsStrictlySortedBy}
 use Rattle.std.specs.Map.{lookup, keys_of}
 use Rattle.std.specs.Option.{option_map}
 use Rattle.std.specs.BTreeMap.{is_at, insert_entry}
-use Rattle.std.proofs.lemmas.Bool.{false≢true, eq-eqb, ne_eqb, false_from_ne_true}
+use Rattle.std.proofs.lemmas.Bool.{false≢true, eq-eqb, ne_eqb, eqb-true, and_parts, false_from_ne_true}
 use Rattle.std.proofs.lemmas.Cmp.{nat_cmp_total}
 use Rattle.std.proofs.lemmas.List.{take-map}
 use Rattle.std.proofs.lemmas.List.Elements.{All-from_recursion, recursion_from_All, All-take}
@@ -23,7 +23,7 @@ use Rattle.ranked_list.specs.declared.item.Item.{Item}
 use Rattle.best_k.specs.declared.rank.Rank.{Rank}
 use Rattle.best_k.specs.declared.rank.Bounds.{Bounds}
 use Rattle.best_k.specs.Order.{item_cmp, AreDistinct, in_order, first_k, kth_low}
-use Rattle.best_k.specs.Held.{put_item, has_object}
+use Rattle.best_k.specs.Held.{Held, put_item, has_object}
 use Rattle.best_k.specs.Rank.{item_of, rank_of, rank_cmp, has_rank}
 use Rattle.best_k.specs.Kept.{KeepsRanks, bounded_item, items_of, has_bounds}
 use Rattle.best_k.proofs.OrderLaws.{items_total, exact_items}
@@ -263,6 +263,21 @@ items_of-insert_entry object bounds (e ∷ entries) =
     | Equal ↦ λ tie. ap (λ (key : ℕ). bounded_item (key, bounds) ∷ items_of entries) (sym (exact_unsigned object e.0 tie))
     | Greater ↦ λ _. ap (λ (items : List Item). bounded_item e ∷ items) (items_of-insert_entry object bounds entries)
     ] refl
+
+-- what a look-up finds has a rank's bounds where the rank is there
+pub found_bounds : (rank : Rank) (found : Option Bounds) → has_bounds rank found ≡ true → found ≡ Some (record { low = rank.low; high = rank.high })
+found_bounds rank None e = absurd (false≢true e)
+found_bounds rank (Some bounds) e =
+    let both = and_parts (bounds.low == rank.low) (bounds.high == rank.high) e in
+    let low = eqb-true bounds.low rank.low both.0 in
+    let high = eqb-true bounds.high rank.high both.1 in
+    λ i. Some (record { low = low i; high = high i })
+
+-- a board's value, with its items as `put_item` leaves them
+pub put_value : (board : Held) (k after : ℕ) (items put : List Item) (item : Item) → record { k = k; items = items } ≡ board → after ≡ k → put ≡ put_item item items → ◌≡◌ {A = Held} (record { k = after; items = put }) (record { k = board.k; items = put_item item board.items })
+put_value board k after items put item is same_k same_items =
+    subst (λ (v : Held). ◌≡◌ {A = Held} (record { k = after; items = put }) (record { k = v.k; items = put_item item v.items })) is
+    (λ i. record { k = same_k i; items = same_items i })
 
 -- the new rank is there where it isn't the old one
 replaced_test : (old new : Bool) → (old ≡ true → new ≡ false) → (not old && (new || old)) ≡ new
