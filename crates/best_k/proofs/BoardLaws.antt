@@ -15,7 +15,7 @@ use Rattle.std.proofs.lemmas.List.{take-map}
 use Rattle.std.proofs.lemmas.List.Elements.{All-from_recursion, recursion_from_All, All-take}
 use Rattle.std.proofs.lemmas.List.Folds.{list_any_none}
 use Rattle.std.proofs.lemmas.List.Kept.{AllPairs-cons}
-use Rattle.std.proofs.lemmas.List.Sorted.{All-permutation}
+use Rattle.std.proofs.lemmas.List.Sorted.{All-permutation, list_any-IsPermutation}
 use Rattle.std.proofs.lemmas.Map.Keys.{sorted_head, sorted_tail}
 use Rattle.std.proofs.lemmas.Map.Lookups.{exact_unsigned}
 use Rattle.std.proofs.lemmas.Option.{none-some, same_Some, slice_get-map}
@@ -28,9 +28,9 @@ use Rattle.best_k.specs.Rank.{item_of, rank_of, rank_cmp, has_rank}
 use Rattle.best_k.specs.Kept.{KeepsRanks, bounded_item, items_of, has_bounds}
 use Rattle.best_k.proofs.OrderLaws.{items_total, exact_items}
 use Rattle.std.proofs.lemmas.Map.Views.{tells_apart}
-use Rattle.best_k.proofs.Ranks.{exact_ranks}
+use Rattle.best_k.proofs.Ranks.{exact_ranks, take-all}
 use Rattle.best_k.proofs.Sorted.{less_than_all}
-use Rattle.best_k.proofs.InOrder.{has_item, Ascend, Ascend-nil, Ascend-cons, in_order-ascends, has-in_order, in_order-permutes, ascending_one}
+use Rattle.best_k.proofs.InOrder.{has_item, Ascend, Ascend-nil, Ascend-cons, in_order-ascends, has-in_order, length-in_order, in_order-permutes, ascending_one}
 
 -- ids in order
 abbrev Rise : List (ℕ × Bounds) → Type 0
@@ -53,9 +53,9 @@ apart a b less same = false≢true (ap is_eq (sym less ∙ ap (nat_cmp a) (sym s
 is_eq-nat_cmp : (a b : ℕ) → is_eq (nat_cmp a b) ≡ (a == b)
 is_eq-nat_cmp a b =
     elim (nat_cmp a b) as (λ r. nat_cmp a b ≡ r → is_eq r ≡ (a == b)) [
-      Less ↦ λ e. sym (ne_eqb a b (apart a b e))
-    | Equal ↦ λ e. sym (eq-eqb a b (exact_unsigned a b e))
-    | Greater ↦ λ e. sym (ne_eqb a b (λ same. apart b a (nat_cmp_total.antisymm b a ∙ ap ordering_reverse e) (sym same)))
+      | Less ↦ λ e. sym (ne_eqb a b (apart a b e))
+      | Equal ↦ λ e. sym (eq-eqb a b (exact_unsigned a b e))
+      | Greater ↦ λ e. sym (ne_eqb a b (λ same. apart b a (nat_cmp_total.antisymm b a ∙ ap ordering_reverse e) (sym same)))
     ] refl
 
 is_eq-item_cmp : (a b : Item) → is_eq (item_cmp a b) ≡ (((b.low == a.low) && (b.high == a.high)) && (a.object == b.object))
@@ -84,9 +84,9 @@ has-below : (item : Item) (entries : List (ℕ × Bounds)) → IsBelow item.obje
 has-below item [] below = refl
 has-below item (e ∷ entries) below =
     let other : is_eq (item_cmp item (bounded_item e)) ≡ false =
-      is_eq-item_cmp item (bounded_item e)
-      ∙ ap (λ t. ((e.1.low == item.low) && (e.1.high == item.high)) && t) (sym (is_eq-nat_cmp item.object e.0) ∙ ap is_eq below.0)
-      ∙ and-false ((e.1.low == item.low) && (e.1.high == item.high)) in
+    is_eq-item_cmp item (bounded_item e)
+    ∙ ap (λ t. ((e.1.low == item.low) && (e.1.high == item.high)) && t) (sym (is_eq-nat_cmp item.object e.0) ∙ ap is_eq below.0)
+    ∙ and-false ((e.1.low == item.low) && (e.1.high == item.high)) in
     ap (λ b. b || has_item (items_of entries) item) other ∙ has-below item entries below.1
 
 -- an item is there where the look-up finds its bounds
@@ -95,14 +95,14 @@ has-items_of item [] up = refl
 has-items_of item (e ∷ entries) up =
     let same = (e.1.low == item.low) && (e.1.high == item.high) in
     let test : is_eq (item_cmp item (bounded_item e)) ≡ (same && is_eq (nat_cmp item.object e.0)) =
-      is_eq-item_cmp item (bounded_item e) ∙ ap (λ t. same && t) (sym (is_eq-nat_cmp item.object e.0)) in
+    is_eq-item_cmp item (bounded_item e) ∙ ap (λ t. same && t) (sym (is_eq-nat_cmp item.object e.0)) in
     ap (λ b. b || has_item (items_of entries) item) test
     ∙ elim (nat_cmp item.object e.0) as (λ r. nat_cmp item.object e.0 ≡ r → ((same && is_eq r) || has_item (items_of entries) item) ≡ has_bounds (rank_of item) (cond (is_eq r) (Some e.1) (lookup (is_at (nat_cmp item.object)) entries))) [
-      Less ↦ λ _. ap (λ b. b || has_item (items_of entries) item) (and-false same) ∙ has-items_of item entries (sorted_tail nat_cmp e.0 (keys_of entries) up)
-    | Equal ↦ λ tie.
-        let below : IsBelow item.object entries = subst (λ (key : ℕ). IsBelow key entries) (sym (exact_unsigned item.object e.0 tie)) (sorted_head nat_cmp e.0 (keys_of entries) up) in
-        ap (λ b. (same && true) || b) (has-below item entries below) ∙ or-false (same && true) ∙ and-true same
-    | Greater ↦ λ _. ap (λ b. b || has_item (items_of entries) item) (and-false same) ∙ has-items_of item entries (sorted_tail nat_cmp e.0 (keys_of entries) up)
+      | Less ↦ λ _. ap (λ b. b || has_item (items_of entries) item) (and-false same) ∙ has-items_of item entries (sorted_tail nat_cmp e.0 (keys_of entries) up)
+      | Equal ↦ λ tie.
+          let below : IsBelow item.object entries = subst (λ (key : ℕ). IsBelow key entries) (sym (exact_unsigned item.object e.0 tie)) (sorted_head nat_cmp e.0 (keys_of entries) up) in
+          ap (λ b. (same && true) || b) (has-below item entries below) ∙ or-false (same && true) ∙ and-true same
+      | Greater ↦ λ _. ap (λ b. b || has_item (items_of entries) item) (and-false same) ∙ has-items_of item entries (sorted_tail nat_cmp e.0 (keys_of entries) up)
     ] refl
 
 -- ---- the ranks are the items in order
@@ -135,8 +135,8 @@ ranks_in_order k entries ranks keeps =
     ascending_one (map item_of ranks) (in_order (items_of entries)) (items-ascend ranks keeps.sorted)
     (in_order-ascends (items_of entries) (AreDistinct-items_of entries keeps.rising))
     (λ item.
-        has-items ranks item ∙ keeps.each (rank_of item)
-        ∙ sym (has-items_of item entries keeps.rising) ∙ sym (has-in_order (items_of entries) item))
+    has-items ranks item ∙ keeps.each (rank_of item)
+    ∙ sym (has-items_of item entries keeps.rising) ∙ sym (has-in_order (items_of entries) item))
 
 -- ---- the answers
 -- the k-th rank's low is the k-th low
@@ -162,10 +162,11 @@ lookup-below object (e ∷ entries) below =
 -- an item of another object is told apart by either test
 other_item : (item : Item) (e : ℕ × Bounds) → is_eq (nat_cmp item.object e.0) ≡ false → (is_eq (item_cmp item (bounded_item e)) ≡ false) × ((e.0 == item.object) ≡ false)
 other_item item e other =
-    let differ : (item.object == e.0) ≡ false = sym (is_eq-nat_cmp item.object e.0) ∙ other in
-    (is_eq-item_cmp item (bounded_item e) ∙ ap (λ t. ((e.1.low == item.low) && (e.1.high == item.high)) && t) differ
-     ∙ and-false ((e.1.low == item.low) && (e.1.high == item.high)),
-     ne_eqb e.0 item.object (λ same. false≢true (sym differ ∙ eq-eqb item.object e.0 (sym same))))
+    let differ : (item.object == e.0) ≡ false = sym (is_eq-nat_cmp item.object e.0) ∙ other in (
+      is_eq-item_cmp item (bounded_item e) ∙ ap (λ t. ((e.1.low == item.low) && (e.1.high == item.high)) && t) differ
+          ∙ and-false ((e.1.low == item.low) && (e.1.high == item.high)),
+      ne_eqb e.0 item.object (λ same. false≢true (sym differ ∙ eq-eqb item.object e.0 (sym same))),
+    )
 
 -- the test of an object finds its item and no other
 abbrev Tells : ℕ → Item → Item → Type 0
@@ -184,17 +185,18 @@ tells object bounds (e ∷ entries) up found =
     let above = sorted_head nat_cmp e.0 (keys_of entries) up in
     let rest = sorted_tail nat_cmp e.0 (keys_of entries) up in
     elim (nat_cmp object e.0) as (λ r. nat_cmp object e.0 ≡ r → cond (is_eq r) (Some e.1) (lookup (is_at (nat_cmp object)) entries) ≡ Some bounds → AllByRecursion (Tells object item) (items_of (e ∷ entries))) [
-      Less ↦ λ less later.
-        let other = other_item item e (ap is_eq less) in
-        (other.0 ∙ sym other.1, tells object bounds entries rest later)
-    | Equal ↦ λ tie here.
-        let same : object ≡ e.0 = exact_unsigned object e.0 tie in
-        let itself : Tells object item item = ap is_eq (tied_itself items_total item) ∙ sym (eq-eqb object object refl) in
-        (subst (λ (b : Bounds). Tells object item (bounded_item (e.0, b))) (sym (same_Some e.1 bounds here)) (subst (λ (key : ℕ). Tells object item (bounded_item (key, bounds))) same itself),
-         tells_below item entries (subst (λ (key : ℕ). IsBelow key entries) (sym same) above))
-    | Greater ↦ λ greater later.
-        let other = other_item item e (ap is_eq greater) in
-        (other.0 ∙ sym other.1, tells object bounds entries rest later)
+      | Less ↦ λ less later.
+          let other = other_item item e (ap is_eq less) in
+          (other.0 ∙ sym other.1, tells object bounds entries rest later)
+      | Equal ↦ λ tie here.
+          let same : object ≡ e.0 = exact_unsigned object e.0 tie in
+          let itself : Tells object item item = ap is_eq (tied_itself items_total item) ∙ sym (eq-eqb object object refl) in (
+            subst (λ (b : Bounds). Tells object item (bounded_item (e.0, b))) (sym (same_Some e.1 bounds here)) (subst (λ (key : ℕ). Tells object item (bounded_item (key, bounds))) same itself),
+            tells_below item entries (subst (λ (key : ℕ). IsBelow key entries) (sym same) above),
+          )
+      | Greater ↦ λ greater later.
+          let other = other_item item e (ap is_eq greater) in
+          (other.0 ∙ sym other.1, tells object bounds entries rest later)
     ] refl found
 
 list_any-agree : (p q : Item → Bool) (items : List Item) → AllByRecursion (λ item. p item ≡ q item) items → list_any p items ≡ list_any q items
@@ -212,8 +214,8 @@ pub top_of-Some : (k : ℕ) (entries : List (ℕ × Bounds)) (ranks : List Rank)
 top_of-Some k entries ranks object bounds rank top keeps found is answers =
     let item = bounded_item (object, bounds) in
     let there : has_rank ranks rank ≡ true =
-      ap (has_rank ranks) is ∙ keeps.each (rank_of item) ∙ ap (has_bounds (rank_of item)) found
-      ∙ ap (λ b. b && (bounds.high == bounds.high)) (eq-eqb bounds.low bounds.low refl) ∙ eq-eqb bounds.high bounds.high refl in
+    ap (has_rank ranks) is ∙ keeps.each (rank_of item) ∙ ap (has_bounds (rank_of item)) found
+    ∙ ap (λ b. b && (bounds.high == bounds.high)) (eq-eqb bounds.low bounds.low refl) ∙ eq-eqb bounds.high bounds.high refl in
     answers there ∙ ap (has_rank (take k ranks)) is ∙ sym (has-items (take k ranks) item)
     ∙ ap (λ (items : List Item). has_item items item) (first_k-kept k entries ranks keeps)
     ∙ list_any-agree (is_at (item_cmp item)) (λ (other : Item). other.object == object) (first_k k (items_of entries))
@@ -223,8 +225,8 @@ absent : (object : ℕ) (entries : List (ℕ × Bounds)) → lookup (is_at (nat_
 absent object [] none = tt
 absent object (e ∷ entries) none =
     elim (is_eq (nat_cmp object e.0)) as (λ b. is_eq (nat_cmp object e.0) ≡ b → cond b (Some e.1) (lookup (is_at (nat_cmp object)) entries) ≡ None → AllByRecursion (λ (item : Item). (item.object == object) ≡ false) (items_of (e ∷ entries))) [
-      true ↦ λ _ some. absurd (none-some e.1 (sym some))
-    | false ↦ λ other later. ((other_item (bounded_item (object, e.1)) e other).1, absent object entries later)
+      | true ↦ λ _ some. absurd (none-some e.1 (sym some))
+      | false ↦ λ other later. ((other_item (bounded_item (object, e.1)) e other).1, absent object entries later)
     ] refl none
 
 -- one without is not
@@ -234,6 +236,12 @@ top_of-None k entries object none =
     (All-from_recursion (λ (item : Item). (item.object == object) ≡ false) (first_k k (items_of entries))
     (all_first_k (λ (item : Item). (item.object == object) ≡ false) k (items_of entries) (absent object entries none))))
 
+-- of no more than k items each is among the first k
+pub has_object-all : (object k : ℕ) (items : List Item) → length items ≤ k → has_object object (first_k k items) ≡ has_object object items
+has_object-all object k items few =
+    ap (has_object object) (take-all (in_order items) k (omega (arith, length-in_order items)))
+    ∙ sym (list_any-IsPermutation (λ (item : Item). item.object == object) items (in_order items) (in_order-permutes items))
+
 -- ---- putting an item
 -- the same item again changes nothing
 pub put_item-same : (object : ℕ) (bounds : Bounds) (entries : List (ℕ × Bounds)) → Rise entries → lookup (is_at (nat_cmp object)) entries ≡ Some bounds → put_item (bounded_item (object, bounds)) (items_of entries) ≡ items_of entries
@@ -242,12 +250,12 @@ put_item-same object bounds (e ∷ entries) up found =
     let item = bounded_item (object, bounds) in
     let above = sorted_head nat_cmp e.0 (keys_of entries) up in
     elim (nat_cmp object e.0) as (λ r. nat_cmp object e.0 ≡ r → cond (is_eq r) (Some e.1) (lookup (is_at (nat_cmp object)) entries) ≡ Some bounds → match_ordering r (item ∷ items_of (e ∷ entries)) (item ∷ items_of entries) (bounded_item e ∷ put_item item (items_of entries)) ≡ items_of (e ∷ entries)) [
-      Less ↦ λ less later.
-        absurd (none-some bounds (sym (lookup-below object entries (keys_after object e.0 entries less above)) ∙ later))
-    | Equal ↦ λ tie here.
-        ap (λ (key : ℕ). bounded_item (key, bounds) ∷ items_of entries) (exact_unsigned object e.0 tie)
-        ∙ ap (λ (b : Bounds). bounded_item (e.0, b) ∷ items_of entries) (sym (same_Some e.1 bounds here))
-    | Greater ↦ λ _ later. ap (λ (items : List Item). bounded_item e ∷ items) (put_item-same object bounds entries (sorted_tail nat_cmp e.0 (keys_of entries) up) later)
+      | Less ↦ λ less later.
+          absurd (none-some bounds (sym (lookup-below object entries (keys_after object e.0 entries less above)) ∙ later))
+      | Equal ↦ λ tie here.
+          ap (λ (key : ℕ). bounded_item (key, bounds) ∷ items_of entries) (exact_unsigned object e.0 tie)
+          ∙ ap (λ (b : Bounds). bounded_item (e.0, b) ∷ items_of entries) (sym (same_Some e.1 bounds here))
+      | Greater ↦ λ _ later. ap (λ (items : List Item). bounded_item e ∷ items) (put_item-same object bounds entries (sorted_tail nat_cmp e.0 (keys_of entries) up) later)
     ] refl found
   where
     keys_after : (a b : ℕ) (rest : List (ℕ × Bounds)) → nat_cmp a b ≡ Less → IsBelow b rest → IsBelow a rest
@@ -259,9 +267,9 @@ items_of-insert_entry object bounds [] = refl
 items_of-insert_entry object bounds (e ∷ entries) =
     let item = bounded_item (object, bounds) in
     elim (nat_cmp object e.0) as (λ r. nat_cmp object e.0 ≡ r → items_of (match_ordering r ((object, bounds) ∷ e ∷ entries) ((e.0, bounds) ∷ entries) (e ∷ insert_entry nat_cmp entries object bounds)) ≡ match_ordering r (item ∷ items_of (e ∷ entries)) (item ∷ items_of entries) (bounded_item e ∷ put_item item (items_of entries))) [
-      Less ↦ λ _. refl
-    | Equal ↦ λ tie. ap (λ (key : ℕ). bounded_item (key, bounds) ∷ items_of entries) (sym (exact_unsigned object e.0 tie))
-    | Greater ↦ λ _. ap (λ (items : List Item). bounded_item e ∷ items) (items_of-insert_entry object bounds entries)
+      | Less ↦ λ _. refl
+      | Equal ↦ λ tie. ap (λ (key : ℕ). bounded_item (key, bounds) ∷ items_of entries) (sym (exact_unsigned object e.0 tie))
+      | Greater ↦ λ _. ap (λ (items : List Item). bounded_item e ∷ items) (items_of-insert_entry object bounds entries)
     ] refl
 
 -- what a look-up finds has a rank's bounds where the rank is there
@@ -312,15 +320,15 @@ keeps-replaced k entries after ranks added removed object old bounds keeps new a
   rising = rising;
   sorted = sorted;
   each = λ rank.
-    let here = is_eq (nat_cmp object rank.object) in
-    let same : here ≡ true → object ≡ rank.object = λ e. tells_apart exact_unsigned object rank.object e in
-    let step = each_replaced object old bounds rank (has_rank ranks rank) (lookup (is_at (nat_cmp rank.object)) entries) here (keeps.each rank)
+      let here = is_eq (nat_cmp object rank.object) in
+      let same : here ≡ true → object ≡ rank.object = λ e. tells_apart exact_unsigned object rank.object e in
+      let step = each_replaced object old bounds rank (has_rank ranks rank) (lookup (is_at (nat_cmp rank.object)) entries) here (keeps.each rank)
       (λ e. ap (λ (o : ℕ). lookup (is_at (nat_cmp o)) entries) (sym (same e)) ∙ found)
       (λ n e.
-        let one : rank_of (bounded_item (object, bounds)) ≡ rank = tells_apart exact_ranks (rank_of (bounded_item (object, bounds))) rank (same_rank object bounds rank ∙ ap (λ t. t && here) n ∙ e) in
-        ap (has_rank ranks) (sym one) ∙ new) in
-    removes rank ∙ ap (λ t. not (is_eq (rank_cmp (rank_of (bounded_item (object, old))) rank)) && t) (adds rank)
-    ∙ ap (λ t. not t && (is_eq (rank_cmp (rank_of (bounded_item (object, bounds))) rank) || has_rank ranks rank)) (same_rank object old rank)
-    ∙ ap (λ t. not (has_bounds rank (Some old) && here) && (t || has_rank ranks rank)) (same_rank object bounds rank)
-    ∙ step ∙ ap (has_bounds rank) (sym (updates rank.object));
+      let one : rank_of (bounded_item (object, bounds)) ≡ rank = tells_apart exact_ranks (rank_of (bounded_item (object, bounds))) rank (same_rank object bounds rank ∙ ap (λ t. t && here) n ∙ e) in
+      ap (has_rank ranks) (sym one) ∙ new) in
+      removes rank ∙ ap (λ t. not (is_eq (rank_cmp (rank_of (bounded_item (object, old))) rank)) && t) (adds rank)
+      ∙ ap (λ t. not t && (is_eq (rank_cmp (rank_of (bounded_item (object, bounds))) rank) || has_rank ranks rank)) (same_rank object old rank)
+      ∙ ap (λ t. not (has_bounds rank (Some old) && here) && (t || has_rank ranks rank)) (same_rank object bounds rank)
+      ∙ step ∙ ap (has_bounds rank) (sym (updates rank.object));
 }

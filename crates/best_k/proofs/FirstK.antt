@@ -37,8 +37,8 @@ has-take zero items item h = absurd (false≢true h)
 has-take (suc k) [] item h = absurd (false≢true h)
 has-take (suc k) (first ∷ rest) item h =
     elim (is_at (item_cmp item) first) as (λ b. (b || has_item (take k rest) item) ≡ true → (b || has_item rest item) ≡ true) [
-      true ↦ λ _. refl
-    | false ↦ has-take k rest item
+      | true ↦ λ _. refl
+      | false ↦ has-take k rest item
     ] h
 
 -- what is before each of some items is before one that is among them
@@ -46,17 +46,17 @@ less_of_member : (first : Item) (rest : List Item) (item : Item) → AllByRecurs
 less_of_member first [] item all there = absurd (false≢true there)
 less_of_member first (next ∷ rest) item all there =
     elim (or_cases (is_at (item_cmp item) next) (has_item rest item) there) [
-      inl same ↦ subst (λ (i : Item). item_cmp first i ≡ Less) (sym (tells_apart exact_items item next same)) all.0
-    | inr later ↦ less_of_member first rest item all.1 later
+      | inl same ↦ subst (λ (i : Item). item_cmp first i ≡ Less) (sym (tells_apart exact_items item next same)) all.0
+      | inr later ↦ less_of_member first rest item all.1 later
     ]
 
 after_step : (first : Item) (taken rest : List Item) (inside outside : Item) → AllByRecursion (λ other. item_cmp first other ≡ Less) rest → (has_item taken inside ≡ true → item_cmp inside outside ≡ Less) → has_item (first ∷ taken) inside ≡ true → has_item rest outside ≡ true → item_cmp inside outside ≡ Less
 after_step first taken rest inside outside above later within there =
     elim (or_cases (is_at (item_cmp inside) first) (has_item taken inside) within) [
-      inl same ↦
-        subst (λ (i : Item). item_cmp i outside ≡ Less) (sym (tells_apart exact_items inside first same))
-        (less_of_member first rest outside above there)
-    | inr among ↦ later among
+      | inl same ↦
+          subst (λ (i : Item). item_cmp i outside ≡ Less) (sym (tells_apart exact_items inside first same))
+          (less_of_member first rest outside above there)
+      | inr among ↦ later among
     ]
 
 -- of ascending items, what is not among the first k is after each of them
@@ -65,10 +65,10 @@ after_taken zero items inside outside up within there beyond = absurd (false≢t
 after_taken (suc k) [] inside outside up within there beyond = absurd (false≢true within)
 after_taken (suc k) (first ∷ rest) inside outside up within there beyond =
     elim (is_at (item_cmp outside) first) as (λ b. (b || has_item rest outside) ≡ true → (b || has_item (take k rest) outside) ≡ false → item_cmp inside outside ≡ Less) [
-      true ↦ λ _ out. absurd (false≢true (sym out))
-    | false ↦ λ later out.
-        after_step first (take k rest) rest inside outside (sorted_head item_cmp first rest up)
-        (λ among. after_taken k rest inside outside (sorted_tail item_cmp first rest up) among later out) within later
+      | true ↦ λ _ out. absurd (false≢true (sym out))
+      | false ↦ λ later out.
+          after_step first (take k rest) rest inside outside (sorted_head item_cmp first rest up)
+          (λ among. after_taken k rest inside outside (sorted_tail item_cmp first rest up) among later out) within later
     ] there beyond
 
 -- the first k in order are the first k
@@ -79,14 +79,14 @@ first_k-is k items apart =
       ordered = IsInOrder-from_Ascend (first_k k items) (Ascend-take k (in_order items) up);
       size = length-take k (in_order items) ∙ ap (min k) (length-in_order items);
       held =
-        All-from_any (eq_by_cmp_equiv items_total) (Contains items) (first_k k items)
-        (λ item among. Contains-from_has items item (sym (has-in_order items item) ∙ has-take k (in_order items) item among));
+          All-from_any (eq_by_cmp_equiv items_total) (Contains items) (first_k k items)
+          (λ item among. Contains-from_has items item (sym (has-in_order items item) ∙ has-take k (in_order items) item among));
       ahead = λ inside outside within there beyond before.
-        IsBefore-asymmetric outside inside before
-        (before_from_less inside outside
-        (after_taken k (in_order items) inside outside up (has_from_Contains (first_k k items) inside within)
-        (has-in_order items outside ∙ has_from_Contains items outside there)
-        (false_from_ne_true (has_item (first_k k items) outside) (λ among. beyond (Contains-from_has (first_k k items) outside among)))));
+          IsBefore-asymmetric outside inside before
+          (before_from_less inside outside
+          (after_taken k (in_order items) inside outside up (has_from_Contains (first_k k items) inside within)
+          (has-in_order items outside ∙ has_from_Contains items outside there)
+          (false_from_ne_true (has_item (first_k k items) outside) (λ among. beyond (Contains-from_has (first_k k items) outside among)))));
     }
 
 -- ---- and no other list is
@@ -134,24 +134,24 @@ unfolding others_of
 first_k-only k items first apart is =
     let others = others_of first (in_order items) in
     let inside : (item : Item) → has_item first item ≡ true → has_item (in_order items) item ≡ true =
-      λ item among. has-in_order items item ∙ has_from_Contains items item (All-contains (Contains items) first item is.held (Contains-from_has first item among)) in
+    λ item among. has-in_order items item ∙ has_from_Contains items item (All-contains (Contains items) first item is.held (Contains-from_has first item among)) in
     let across : (a b : Item) → has_item first a ≡ true → has_item others b ≡ true → item_cmp a b ≡ Less = λ a b among there.
-      let outside = others_parts (has_item first b) (has_item (in_order items) b) (sym (has-others_of first (in_order items) b) ∙ there) in
-      elim (item_cmp a b) as (λ r. item_cmp a b ≡ r → r ≡ Less) [
-        Less ↦ λ _. refl
+    let outside = others_parts (has_item first b) (has_item (in_order items) b) (sym (has-others_of first (in_order items) b) ∙ there) in
+    elim (item_cmp a b) as (λ r. item_cmp a b ≡ r → r ≡ Less) [
+      | Less ↦ λ _. refl
       | Equal ↦ λ e. absurd (false≢true (sym outside.0 ∙ ap (has_item first) (sym (exact_items a b e)) ∙ among))
       | Greater ↦ λ e.
           absurd (is.ahead a b (Contains-from_has first a among) (Contains-from_has items b (sym (has-in_order items b) ∙ outside.1))
           (λ among'. false≢true (sym outside.0 ∙ has_from_Contains first b among'))
           (before_from_less b a (less_from_greater items_total a b e)))
-      ] refl in
+    ] refl in
     let up : Ascend (first ++ others) =
-      Ascend-append first others (Ascend-from_IsInOrder first is.ordered)
-      (IsStrictlySortedBy-filter item_cmp (λ item. not (has_item first item)) (in_order items) (in_order-ascends items apart)) across in
+    Ascend-append first others (Ascend-from_IsInOrder first is.ordered)
+    (IsStrictlySortedBy-filter item_cmp (λ item. not (has_item first item)) (in_order items) (in_order-ascends items apart)) across in
     let whole : first ++ others ≡ in_order items =
-      ascending_one (first ++ others) (in_order items) up (in_order-ascends items apart)
-      (λ item. list_any-append (is_at (item_cmp item)) first others ∙ ap (λ b. has_item first item || b) (has-others_of first (in_order items) item)
-      ∙ join_part (has_item first item) (has_item (in_order items) item) (inside item)) in
+    ascending_one (first ++ others) (in_order items) up (in_order-ascends items apart)
+    (λ item. list_any-append (is_at (item_cmp item)) first others ∙ ap (λ b. has_item first item || b) (has-others_of first (in_order items) item)
+    ∙ join_part (has_item first item) (has_item (in_order items) item) (inside item)) in
     let size : length first ≡ min k (length (first ++ others)) =
-      is.size ∙ ap (min k) (sym (length-in_order items)) ∙ ap (λ (zs : List Item). min k (length zs)) (sym whole) in
+    is.size ∙ ap (min k) (sym (length-in_order items)) ∙ ap (λ (zs : List Item). min k (length zs)) (sym whole) in
     sym (ap (take k) (sym whole) ∙ take-front k first others size)

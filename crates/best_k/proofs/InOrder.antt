@@ -46,12 +46,12 @@ Contains-from_has items item h = Contains-from_any (tells_apart exact_items) ite
 pub same_has : (others items : List Item) → ((item : Item) → Contains others item ↔ Contains items item) → (item : Item) → has_item others item ≡ has_item items item
 same_has others items same item =
     elim (cases_Bool (has_item items item)) [
-      inl found ↦ has_from_Contains others item ((same item).1 (Contains-from_has items item found)) ∙ sym found
-    | inr lacks ↦
-        elim (cases_Bool (has_item others item)) [
-          inl found ↦ absurd (false≢true (sym lacks ∙ has_from_Contains items item ((same item).0 (Contains-from_has others item found))))
-        | inr none ↦ none ∙ sym lacks
-        ]
+      | inl found ↦ has_from_Contains others item ((same item).1 (Contains-from_has items item found)) ∙ sym found
+      | inr lacks ↦
+          elim (cases_Bool (has_item others item)) [
+            | inl found ↦ absurd (false≢true (sym lacks ∙ has_from_Contains items item ((same item).0 (Contains-from_has others item found))))
+            | inr none ↦ none ∙ sym lacks
+          ]
     ]
 
 -- ---- items of different objects
@@ -66,9 +66,9 @@ pub has-other : (item : Item) (rest : List Item) → AllByRecursion (λ (other :
 has-other item [] apart = refl
 has-other item (other ∷ rest) apart =
     elim (item_cmp item other) as (λ r. item_cmp item other ≡ r → (is_eq r || has_item rest item) ≡ false) [
-      Less ↦ λ _. has-other item rest apart.1
-    | Equal ↦ λ e. absurd (apart.0 (ap (λ (i : Item). i.object) (exact_items item other e)))
-    | Greater ↦ λ _. has-other item rest apart.1
+      | Less ↦ λ _. has-other item rest apart.1
+      | Equal ↦ λ e. absurd (apart.0 (ap (λ (i : Item). i.object) (exact_items item other e)))
+      | Greater ↦ λ _. has-other item rest apart.1
     ] refl
 
 -- ---- an item in its place
@@ -76,11 +76,11 @@ pub with_placed-permutes : (item : Item) (items : List Item) → IsPermutation (
 with_placed-permutes item [] = IsPermutation-refl (item ∷ [])
 with_placed-permutes item (first ∷ rest) =
     elim (is_before item first) as (λ b. IsPermutation (item ∷ first ∷ rest) (cond b (item ∷ first ∷ rest) (first ∷ with_placed item rest))) [
-      true ↦ IsPermutation-refl (item ∷ first ∷ rest)
-    | false ↦
-        IsPermutation-trans (item ∷ first ∷ rest) (first ∷ item ∷ rest) (first ∷ with_placed item rest)
-        (IsPermutation-sym (first ∷ item ∷ rest) (item ∷ first ∷ rest) (IsPermutation-middle (first ∷ []) item rest))
-        (IsPermutation-cons first (item ∷ rest) (with_placed item rest) (with_placed-permutes item rest))
+      | true ↦ IsPermutation-refl (item ∷ first ∷ rest)
+      | false ↦
+          IsPermutation-trans (item ∷ first ∷ rest) (first ∷ item ∷ rest) (first ∷ with_placed item rest)
+          (IsPermutation-sym (first ∷ item ∷ rest) (item ∷ first ∷ rest) (IsPermutation-middle (first ∷ []) item rest))
+          (IsPermutation-cons first (item ∷ rest) (with_placed item rest) (with_placed-permutes item rest))
     ]
 
 -- what is before an item and those in order is before each when it is placed
@@ -88,8 +88,8 @@ before_placed : (first item : Item) (rest : List Item) → item_cmp first item �
 before_placed first item [] less all = (less, tt)
 before_placed first item (next ∷ rest) less all =
     elim (is_before item next) as (λ b. AllByRecursion (λ other. item_cmp first other ≡ Less) (cond b (item ∷ next ∷ rest) (next ∷ with_placed item rest))) [
-      true ↦ (less, all)
-    | false ↦ (all.0, before_placed first item rest less all.1)
+      | true ↦ (less, all)
+      | false ↦ (all.0, before_placed first item rest less all.1)
     ]
 
 pub with_placed-ascends : (item : Item) (items : List Item) → has_item items item ≡ false → Ascend items → Ascend (with_placed item items)
@@ -97,11 +97,11 @@ with_placed-ascends item [] absent up = Ascend-cons item [] tt Ascend-nil
 with_placed-ascends item (first ∷ rest) absent up =
     let above = sorted_head item_cmp first rest up in
     elim (item_cmp item first) as (λ r. item_cmp item first ≡ r → (is_eq r || has_item rest item) ≡ false → Ascend (cond (is_lt r) (item ∷ first ∷ rest) (first ∷ with_placed item rest))) [
-      Less ↦ λ less _. Ascend-cons item (first ∷ rest) (less, less_than_all items_total item first rest less above) up
-    | Equal ↦ λ _ same. absurd (false≢true (sym same))
-    | Greater ↦ λ greater none.
-        Ascend-cons first (with_placed item rest) (before_placed first item rest (less_from_greater items_total item first greater) above)
-        (with_placed-ascends item rest none (sorted_tail item_cmp first rest up))
+      | Less ↦ λ less _. Ascend-cons item (first ∷ rest) (less, less_than_all items_total item first rest less above) up
+      | Equal ↦ λ _ same. absurd (false≢true (sym same))
+      | Greater ↦ λ greater none.
+          Ascend-cons first (with_placed item rest) (before_placed first item rest (less_from_greater items_total item first greater) above)
+          (with_placed-ascends item rest none (sorted_tail item_cmp first rest up))
     ] refl absent
 
 -- ---- the items in order

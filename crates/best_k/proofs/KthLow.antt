@@ -78,20 +78,20 @@ count_mono : (v w : ℕ) (numbers : List ℕ) → v < w → count_by (λ n. nat_
 count_mono v w [] less = omega arith
 count_mono v w (n ∷ numbers) less =
     let here : cond (nat_le w n) 1 0 ≤ cond (nat_lt v n) 1 0 =
-      elim (nat_le w n) as (λ b. nat_le w n ≡ b → cond b 1 0 ≤ cond (nat_lt v n) 1 0) [
-        true ↦ λ e. let upto = leb-true w n e in subst (λ b. 1 ≤ cond b 1 0) (sym (lt-ltb v n (omega arith))) (omega arith)
+    elim (nat_le w n) as (λ b. nat_le w n ≡ b → cond b 1 0 ≤ cond (nat_lt v n) 1 0) [
+      | true ↦ λ e. let upto = leb-true w n e in subst (λ b. 1 ≤ cond b 1 0) (sym (lt-ltb v n (omega arith))) (omega arith)
       | false ↦ λ _. omega arith
-      ] refl in
+    ] refl in
     omega (arith, sum_by-cons (λ m. cond (nat_le w m) 1 0) n numbers, sum_by-cons (λ m. cond (nat_lt v m) 1 0) n numbers, count_mono v w numbers less, here)
 
 -- numbers have one k-th largest at most
 pub IsKthLargest-only : (k : ℕ) (numbers : List ℕ) (v w : ℕ) → IsKthLargest k numbers v → IsKthLargest k numbers w → v ≡ w
 IsKthLargest-only k numbers v w is also =
     elim (cases_order v w) [
-      inl same ↦ same
-    | inr apart ↦
-        elim apart [
-          inl less ↦ absurd (omega (arith, count_mono v w numbers less, is.greater, also.no_less))
-        | inr more ↦ absurd (omega (arith, count_mono w v numbers more, is.no_less, also.greater))
-        ]
+      | inl same ↦ same
+      | inr apart ↦
+          elim apart [
+            | inl less ↦ absurd (omega (arith, count_mono v w numbers less, is.greater, also.no_less))
+            | inr more ↦ absurd (omega (arith, count_mono w v numbers more, is.no_less, also.greater))
+          ]
     ]

@@ -65,14 +65,14 @@ then_less Greater s e = absurd (cc)
 pub before_from_less : (a b : Item) → item_cmp a b ≡ Less → IsBefore a b
 before_from_less a b e =
     elim (then_less (ordering_then (nat_cmp b.low a.low) (nat_cmp b.high a.high)) (nat_cmp a.object b.object) e) [
-      inl bounds ↦
-        elim (then_less (nat_cmp b.low a.low) (nat_cmp b.high a.high) bounds) [
-          inl low ↦ inl (less_from_nat b.low a.low low)
-        | inr (low, high) ↦ inr (sym (exact_unsigned b.low a.low low), inl (less_from_nat b.high a.high high))
-        ]
-    | inr (bounds, object) ↦
-        let both = both_equal (nat_cmp b.low a.low) (nat_cmp b.high a.high) bounds in
-        inr (sym (exact_unsigned b.low a.low both.0), inr (sym (exact_unsigned b.high a.high both.1), less_from_nat a.object b.object object))
+      | inl bounds ↦
+          elim (then_less (nat_cmp b.low a.low) (nat_cmp b.high a.high) bounds) [
+            | inl low ↦ inl (less_from_nat b.low a.low low)
+            | inr (low, high) ↦ inr (sym (exact_unsigned b.low a.low low), inl (less_from_nat b.high a.high high))
+          ]
+      | inr (bounds, object) ↦
+          let both = both_equal (nat_cmp b.low a.low) (nat_cmp b.high a.high) bounds in
+          inr (sym (exact_unsigned b.low a.low both.0), inr (sym (exact_unsigned b.high a.high both.1), less_from_nat a.object b.object object))
     ]
 
 less_tested : (r : Ordering) → is_lt r ≡ true → r ≡ Less
@@ -99,7 +99,7 @@ IsBefore-asymmetric a b h g = IsBefore-irreflexive a (IsBefore-transitive a b a 
 pub IsBefore-total : (a b : Item) → a.object ≢ b.object → IsBefore a b ⊎ IsBefore b a
 IsBefore-total a b apart =
     elim (item_cmp a b) as (λ r. item_cmp a b ≡ r → IsBefore a b ⊎ IsBefore b a) [
-      Less ↦ λ e. inl (before_from_less a b e)
-    | Equal ↦ λ e. absurd (apart (ap (λ (item : Item). item.object) (exact_items a b e)))
-    | Greater ↦ λ e. inr (before_from_less b a (items_total.antisymm b a ∙ ap ordering_reverse e))
+      | Less ↦ λ e. inl (before_from_less a b e)
+      | Equal ↦ λ e. absurd (apart (ap (λ (item : Item). item.object) (exact_items a b e)))
+      | Greater ↦ λ e. inr (before_from_less b a (items_total.antisymm b a ∙ ap ordering_reverse e))
     ] refl

@@ -141,28 +141,29 @@ pub top_upto : (v : Ranked) (k : ℕ) (ranks : List Rank) (kth : Option Rank) (r
 top_upto v k ranks kth rank last e keeps some =
     subst (λ (w : Ranked). IsTrue (has_rank w.ranks rank) → is_le (rank_cmp rank last) ≡ has_rank (take w.k w.ranks) rank) e
     (λ there.
-        let positive = keeps.positive in
-        let next : suc (k - 1) ≡ k = omega arith in
-        subst (λ (n : ℕ). is_le (rank_cmp rank last) ≡ has_rank (take n ranks) rank) next
-        (sym (has-take ranks_total rank ranks (k - 1) last keeps.sorted there (sym keeps.at_hand ∙ some))))
+    let positive = keeps.positive in
+    let next : suc (k - 1) ≡ k = omega arith in
+    subst (λ (n : ℕ). is_le (rank_cmp rank last) ≡ has_rank (take n ranks) rank) next
+    (sym (has-take ranks_total rank ranks (k - 1) last keeps.sorted there (sym keeps.at_hand ∙ some))))
 
 -- and each is, where there is no k-th
 pub top_all : (v : Ranked) (k : ℕ) (ranks : List Rank) (kth : Option Rank) (rank : Rank) → record { k = k; ranks = ranks } ≡ v → KeepsKth k ranks kth → kth ≡ None → IsTrue (has_rank v.ranks rank) → true ≡ has_rank (take v.k v.ranks) rank
 top_all v k ranks kth rank e keeps none =
     subst (λ (w : Ranked). IsTrue (has_rank w.ranks rank) → true ≡ has_rank (take w.k w.ranks) rank) e
     (λ there.
-        let few = length_le_from_None ranks (k - 1) (sym keeps.at_hand ∙ none) in
-        sym (ap (λ (zs : List Rank). has_rank zs rank) (take-all ranks k (omega arith)) ∙ there))
+    let few = length_le_from_None ranks (k - 1) (sym keeps.at_hand ∙ none) in
+    sym (ap (λ (zs : List Rank). has_rank zs rank) (take-all ranks k (omega arith)) ∙ there))
 
 -- one more of the first k items is listed: n were, and m are
 pub first_more : (k n m : ℕ) (items more : List Item) (ranks rest : List Rank) (rank : Rank) (all : List Item) → n ≤ k → (n ≡ k → ⊥) → m ≡ n + 1 → items ++ map item_of (take (k - n) ranks) ≡ all → ranks ≡ rank ∷ rest → more ≡ items ++ item_of rank ∷ [] → (m ≤ k) × (more ++ map item_of (take (k - m) rest) ≡ all)
 first_more k n m items more ranks rest rank all few other longer so_far is added =
     let left : k - n ≡ suc (k - m) = omega arith in
-    let step : take (k - n) ranks ≡ rank ∷ take (k - m) rest = ap (λ (i : ℕ). take i ranks) left ∙ ap (λ (zs : List Rank). take (suc (k - m)) zs) is in
-    (omega arith,
-     ap (λ (zs : List Item). zs ++ map item_of (take (k - m) rest)) added
-     ∙ append_assoc items (item_of rank ∷ []) (map item_of (take (k - m) rest))
-     ∙ ap (λ (zs : List Rank). items ++ map item_of zs) (sym step) ∙ so_far)
+    let step : take (k - n) ranks ≡ rank ∷ take (k - m) rest = ap (λ (i : ℕ). take i ranks) left ∙ ap (λ (zs : List Rank). take (suc (k - m)) zs) is in (
+      omega arith,
+      ap (λ (zs : List Item). zs ++ map item_of (take (k - m) rest)) added
+          ∙ append_assoc items (item_of rank ∷ []) (map item_of (take (k - m) rest))
+          ∙ ap (λ (zs : List Rank). items ++ map item_of zs) (sym step) ∙ so_far,
+    )
 
 pub cond-or : (b x : Bool) → cond b true x ≡ (b || x)
 cond-or true x = refl

@@ -48,9 +48,9 @@ module _ {K : Type 0} {R : K → K → Ordering} (o : IsTotalOrder R) where
       ap (λ r. slice_get (match_ordering r (x ∷ k ∷ ks) (k ∷ ks) (k ∷ insert_key R ks x)) 1) less ∙ h
   slice_get-insert_before x (k ∷ ks) (suc i) p absent h b =
       elim (R x k) as (λ r. (is_eq r || has ks x) ≡ false → slice_get (match_ordering r (x ∷ k ∷ ks) (k ∷ ks) (k ∷ insert_key R ks x)) (suc (suc i)) ≡ Some p) [
-        Less ↦ λ _. h
-      | Equal ↦ λ e. absurd (false≢true (sym e))
-      | Greater ↦ λ e. slice_get-insert_before x ks i p e h b
+        | Less ↦ λ _. h
+        | Equal ↦ λ e. absurd (false≢true (sym e))
+        | Greater ↦ λ e. slice_get-insert_before x ks i p e h b
       ] absent
 
   -- an added key that is after the one at a place leaves it there
@@ -68,9 +68,9 @@ module _ {K : Type 0} {R : K → K → Ordering} (o : IsTotalOrder R) where
   length-insert_key_le x [] = omega arith
   length-insert_key_le x (k ∷ ks) =
       elim (R x k) as (λ r. length (match_ordering r (x ∷ k ∷ ks) (k ∷ ks) (k ∷ insert_key R ks x)) ≤ length (k ∷ ks) + 1) [
-        Less ↦ omega arith
-      | Equal ↦ omega arith
-      | Greater ↦ omega (arith, length-insert_key_le x ks)
+        | Less ↦ omega arith
+        | Equal ↦ omega arith
+        | Greater ↦ omega (arith, length-insert_key_le x ks)
       ]
 
   -- of keys in order that have y: y is not before the first
@@ -84,15 +84,15 @@ module _ {K : Type 0} {R : K → K → Ordering} (o : IsTotalOrder R) where
   slice_get-remove_upto y [] i p s m h b = absurd (none-some p h)
   slice_get-remove_upto y (k ∷ ks) zero p s m h b =
       elim (R y k) as (λ r. R y k ≡ r → slice_get (cond (is_eq r) ks (k ∷ remove_key (is_at (R y)) ks)) 0 ≡ slice_get ks 0) [
-        Less ↦ λ e. absurd (not_before_first y k ks s m e)
-      | Equal ↦ λ e. refl
-      | Greater ↦ λ e. absurd (false≢true (ap is_le (sym e) ∙ ap (λ (z : K). is_le (R y z)) (same_Some k p h) ∙ b))
+        | Less ↦ λ e. absurd (not_before_first y k ks s m e)
+        | Equal ↦ λ e. refl
+        | Greater ↦ λ e. absurd (false≢true (ap is_le (sym e) ∙ ap (λ (z : K). is_le (R y z)) (same_Some k p h) ∙ b))
       ] refl
   slice_get-remove_upto y (k ∷ ks) (suc i) p s m h b =
       elim (R y k) as (λ r. R y k ≡ r → slice_get (cond (is_eq r) ks (k ∷ remove_key (is_at (R y)) ks)) (suc i) ≡ slice_get ks (suc i)) [
-        Less ↦ λ e. absurd (not_before_first y k ks s m e)
-      | Equal ↦ λ e. refl
-      | Greater ↦ λ e. slice_get-remove_upto y ks i p (sorted_tail R k ks s) (ap (λ r. is_eq r || has ks y) (sym e) ∙ m) h b
+        | Less ↦ λ e. absurd (not_before_first y k ks s m e)
+        | Equal ↦ λ e. refl
+        | Greater ↦ λ e. slice_get-remove_upto y ks i p (sorted_tail R k ks s) (ap (λ r. is_eq r || has ks y) (sym e) ∙ m) h b
       ] refl
 
   -- a removed key that is after the one at a place leaves it there
@@ -149,13 +149,13 @@ module _ {K : Type 0} {R : K → K → Ordering} (o : IsTotalOrder R) where
   has-take q (k ∷ ks) zero p s m h =
       subst (λ (z : K). (is_eq (R q k) || false) ≡ is_le (R q z)) (same_Some k p h)
       (elim (R q k) as (λ r. R q k ≡ r → (is_eq r || false) ≡ is_le r) [
-        Less ↦ λ e. absurd (not_before_first q k ks s m e)
-      | Equal ↦ λ e. refl
-      | Greater ↦ λ e. refl
+        | Less ↦ λ e. absurd (not_before_first q k ks s m e)
+        | Equal ↦ λ e. refl
+        | Greater ↦ λ e. refl
       ] refl)
   has-take q (k ∷ ks) (suc i) p s m h =
       elim (R q k) as (λ r. R q k ≡ r → (is_eq r || has (take (suc i) ks) q) ≡ is_le (R q p)) [
-        Less ↦ λ e. absurd (not_before_first q k ks s m e)
-      | Equal ↦ λ e. sym (ap is_le (o.congr q k p e ∙ less_at k ks i p (sorted_head R k ks s) h))
-      | Greater ↦ λ e. has-take q ks i p (sorted_tail R k ks s) (ap (λ r. is_eq r || has ks q) (sym e) ∙ m) h
+        | Less ↦ λ e. absurd (not_before_first q k ks s m e)
+        | Equal ↦ λ e. sym (ap is_le (o.congr q k p e ∙ less_at k ks i p (sorted_head R k ks s) h))
+        | Greater ↦ λ e. has-take q ks i p (sorted_tail R k ks s) (ap (λ r. is_eq r || has ks q) (sym e) ∙ m) h
       ] refl

@@ -1,5 +1,5 @@
 -- What a board holds: for each object the item that was put last.
-use Rattle.std.specs.Prelude.{◌==◌, ℕ, Bool, Option, List, [], ◌∷◌, find}
+use Rattle.std.specs.Prelude.{◌==◌, ◌<◌, ℕ, Bool, Option, List, [], ◌∷◌, AllPairs, find}
 use Rattle.std.specs.List.{list_any}
 use Rattle.std.specs.Ordering.{nat_cmp, match_ordering}
 use Rattle.ranked_list.specs.declared.item.Item.{Item}
@@ -8,6 +8,10 @@ use Rattle.ranked_list.specs.declared.item.Item.{Item}
 pub record Held : Type 0 where
   pub k : ℕ
   pub items : List Item
+
+-- the ids of the items rise, as they do on a board
+abbrev pub IsRising : List Item → Type 0
+IsRising items = AllPairs (λ (a : Item) (b : Item). a.object < b.object) items
 
 -- the items with this one: in place of its object's where the object has one, else added at its id
 abbrev pub put_item : Item → List Item → List Item

@@ -53,8 +53,10 @@ impl Board {
     /// Adds an object with its bounds, or replaces the bounds that it had. Where memory is refused
     /// nothing has changed.
     pub fn put(&mut self, object: u32, low: u64, high: u64) -> Result<(), Memory>
-        ensures ok { OnOk result (self.new ≡ record self.old { items =
-            put_item (record { object = object; low = low; high = high }) self.old.items }) }
+        ensures ok { OnOk result (self.new ≡ record self.old {
+          items =
+              put_item (record { object = object; low = low; high = high }) self.old.items;
+        }) }
         ensures err { OnErr result (self.new ≡ self.old) }
     {
         let bounds = Bounds { low, high };
@@ -82,9 +84,11 @@ impl Board {
         self.ranking.kth().map(|rank| rank.low)
     }
 
-    /// Whether an object is one of the first k: of all that were put, while they are fewer.
+    /// Whether an object is one of the first k. While no more than k were put, each of them is.
     pub fn is_top(&self, object: u32) -> bool
-        ensures { result ≡ has_object object (first_k self.now.k self.now.items) }
+        ensures by_order { result ≡ has_object object (first_k self.now.k self.now.items) }
+        ensures all_of_few { length self.now.items ≤ self.now.k
+            → result ≡ has_object object self.now.items }
     {
         match self.bounds.get(&object) {
             Some(bounds) => self.ranking.is_top(bounds.rank_of(object)),

@@ -154,5 +154,8 @@ fn first_after(ranks: &BTreeSet<Rank>, rank: Rank) -> Option<Rank>
     ensures { (place : ℕ) → slice_get ranks.now.keys place ≡ Some rank
         → result ≡ slice_get ranks.now.keys (suc place) }
 {
-    ranks.range((Bound::Excluded(rank), Bound::Unbounded)).next().copied()
+    ranks
+        .range((Bound::Excluded(rank), Bound::Unbounded))
+        .next()
+        .copied()
 }

@@ -46,8 +46,22 @@ fn counts_of_objects(rt: HostRuntime) -> Result<(), Memory> {
     try_board(&rt, alloc, 3, &[], None, &[])?;
     try_board(&rt, alloc, 3, &puts[..1], None, &[(7, 5, 9)])?;
     try_board(&rt, alloc, 3, &puts[..2], None, &[(2, 6, 6), (7, 5, 9)])?;
-    try_board(&rt, alloc, 3, &puts[..3], Some(1), &[(2, 6, 6), (7, 5, 9), (4, 1, 9)])?;
-    try_board(&rt, alloc, 3, &puts, Some(3), &[(2, 6, 6), (7, 5, 9), (9, 3, 3)])?;
+    try_board(
+        &rt,
+        alloc,
+        3,
+        &puts[..3],
+        Some(1),
+        &[(2, 6, 6), (7, 5, 9), (4, 1, 9)],
+    )?;
+    try_board(
+        &rt,
+        alloc,
+        3,
+        &puts,
+        Some(3),
+        &[(2, 6, 6), (7, 5, 9), (9, 3, 3)],
+    )?;
     try_board(&rt, alloc, 1, &puts, Some(6), &[(2, 6, 6)])?;
     let all = [(2, 6, 6), (7, 5, 9), (9, 3, 3), (4, 1, 9)];
     try_board(&rt, alloc, 1_000_000, &puts, None, &all)

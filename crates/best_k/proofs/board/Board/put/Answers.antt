@@ -32,9 +32,9 @@ invariant_of-self-in-Ok-Some c =
     let is_old : c.rank_of.result ≡ old = cc in
     let absent = ap (has_rank ranks) (sym c.rank_of-rank.ensures) ∙ not-true _ (sym c.in_ok-insert.ensures.new ∙ c.if-not-branch.false) in
     let kept = keeps-replaced c.self.inside.ranking.k entries c.insert-2.new.self.entries ranks c.insert.new.self.ranks c.remove.new.self.ranks c.args.object c.in-Ok-Some.old bounds keeps absent
-      (λ other. c.in_ok-insert.ensures.added other ∙ ap (λ (r : Rank). is_eq (rank_cmp r other) || has_rank ranks other) c.rank_of-rank.ensures)
-      (λ other. c.remove.ensures.removed other ∙ ap (λ (r : Rank). not (is_eq (rank_cmp r other)) && has_rank c.insert.new.self.ranks other) is_old)
-      c.remove.ensures.sorted c.insert-2.ensures.ordered (sym c.in-Ok-Some.ensures.old ∙ c.in-Ok-Some.field-0-is) (λ q. c.in-Ok-Some.ensures.updates.0 q) in
+    (λ other. c.in_ok-insert.ensures.added other ∙ ap (λ (r : Rank). is_eq (rank_cmp r other) || has_rank ranks other) c.rank_of-rank.ensures)
+    (λ other. c.remove.ensures.removed other ∙ ap (λ (r : Rank). not (is_eq (rank_cmp r other)) && has_rank c.insert.new.self.ranks other) is_old)
+    c.remove.ensures.sorted c.insert-2.ensures.ordered (sym c.in-Ok-Some.ensures.old ∙ c.in-Ok-Some.field-0-is) (λ q. c.in-Ok-Some.ensures.updates.0 q) in
     (subst (λ k. KeepsRanks k c.insert-2.new.self.entries c.remove.new.self.ranks) (sym (c.remove.ensures.same_k ∙ c.insert.ensures.same_k)) kept, c.self.invariant.1)
 
 pub returns-in-Ok-Some-clause-ok : goal.returns-in-Ok-Some-clause-ok
