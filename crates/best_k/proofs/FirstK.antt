@@ -81,7 +81,7 @@ first_k-is k items apart =
       held =
           All-from_any (eq_by_cmp_equiv items_total) (Contains items) (first_k k items)
           (λ item among. Contains-from_has items item (sym (has-in_order items item) ∙ has-take k (in_order items) item among));
-      ahead = λ inside outside within there beyond before.
+      none_ahead = λ inside outside within there beyond before.
           IsBefore-asymmetric outside inside before
           (before_from_less inside outside
           (after_taken k (in_order items) inside outside up (has_from_Contains (first_k k items) inside within)
@@ -141,7 +141,7 @@ first_k-only k items first apart is =
       | Less ↦ λ _. refl
       | Equal ↦ λ e. absurd (false≢true (sym outside.0 ∙ ap (has_item first) (sym (exact_items a b e)) ∙ among))
       | Greater ↦ λ e.
-          absurd (is.ahead a b (Contains-from_has first a among) (Contains-from_has items b (sym (has-in_order items b) ∙ outside.1))
+          absurd (is.none_ahead a b (Contains-from_has first a among) (Contains-from_has items b (sym (has-in_order items b) ∙ outside.1))
           (λ among'. false≢true (sym outside.0 ∙ has_from_Contains first b among'))
           (before_from_less b a (less_from_greater items_total a b e)))
     ] refl in

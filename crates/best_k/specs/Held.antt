@@ -9,6 +9,10 @@ pub record Held : Type 0 where
   pub k : ℕ
   pub items : List Item
 
+-- the item of an object with this low and this high
+abbrev pub item_with : ℕ → ℕ → ℕ → Item
+item_with object low high = record { object = object; low = low; high = high }
+
 -- the ids of the items rise, as they do on a board
 abbrev pub IsRising : List Item → Type 0
 IsRising items = AllPairs (λ (a : Item) (b : Item). a.object < b.object) items

@@ -5,6 +5,10 @@ use Rattle.std.specs.declared.cmp.Ordering.{Ordering}
 use Rattle.std.specs.Ordering.{ordering_then, nat_cmp, is_lt}
 use Rattle.ranked_list.specs.declared.item.Item.{Item}
 
+-- `OrderLaws` proves that `IsBefore` is a strict total order on items of different objects, `InOrder` that
+-- `in_order` lists the same items in order and that no other list does, `FirstK` that `first_k` alone is the
+-- first k, and `KthLow` that `kth_low` is the k-th largest low.
+
 -- a stands before b: its low is greater, at equal lows its high is greater, at equal bounds its id is smaller
 abbrev pub IsBefore : Item → Item → Type 0
 IsBefore a b =
@@ -50,7 +54,7 @@ pub record IsFirstK (k : ℕ) (items first : List Item) : Type 0 where
   pub ordered : IsInOrder first
   pub size : length first ≡ min k (length items)
   pub held : All (Contains items) first
-  pub ahead : (inside outside : Item) → Contains first inside → Contains items outside → (Contains first outside → ⊥) → IsBefore outside inside → ⊥
+  pub none_ahead : (inside outside : Item) → Contains first inside → Contains items outside → (Contains first outside → ⊥) → IsBefore outside inside → ⊥
 
 -- v is the k-th largest of the numbers: fewer than k are greater, and at least k are no less
 pub record IsKthLargest (k : ℕ) (numbers : List ℕ) (v : ℕ) : Type 0 where

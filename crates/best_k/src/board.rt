@@ -3,7 +3,7 @@
 ghost use Rattle.std.specs.Prelude.{◌≡◌, ◌≤◌, ◌<◌, [], length, List, IfOk, OnOk, OnErr, MatchOption};
 ghost use Rattle.ranked_list.specs.declared.item.Item.{Item};
 ghost use Rattle.best_k.specs.Order.{first_k, kth_low, IsFirstK, IsKthLargest, lows};
-ghost use Rattle.best_k.specs.Held.{put_item, has_object};
+ghost use Rattle.best_k.specs.Held.{item_with, put_item, has_object};
 
 use super::Memory;
 use super::rank::Bounds;
@@ -53,10 +53,8 @@ impl Board {
     /// Adds an object with its bounds, or replaces the bounds that it had. Where memory is refused
     /// nothing has changed.
     pub fn put(&mut self, object: u32, low: u64, high: u64) -> Result<(), Memory>
-        ensures ok { OnOk result (self.new ≡ record self.old {
-          items =
-              put_item (record { object = object; low = low; high = high }) self.old.items;
-        }) }
+        ensures ok { OnOk result (self.new
+            ≡ record self.old { items = put_item (item_with object low high) self.old.items }) }
         ensures err { OnErr result (self.new ≡ self.old) }
     {
         let bounds = Bounds { low, high };
@@ -109,6 +107,7 @@ impl Board {
             answer,
         } = self;
         drop(bounds);
-        Ok(Items::from_vec(ranking.first(answer)?))
+        let items = ranking.first(answer)?;
+        Ok(Items::from_vec(items))
     }
 }

@@ -1,6 +1,6 @@
 //! Ranks in order, with the k-th at hand.
 
-ghost use Rattle.std.specs.Prelude.{◌≡◌, ◌≤◌, ◌<◌, ◌^◌, ◌-◌, [], suc, ℕ, false, not, ◌||◌, ◌&&◌, cond, length, take, map, slice_get, IfOk, OnOk, OnErr, IsTrue, List};
+ghost use Rattle.std.specs.Prelude.{◌≡◌, ◌≤◌, ◌-◌, [], suc, ℕ, false, not, ◌||◌, ◌&&◌, take, map, slice_get, IfOk, OnOk, OnErr, IsTrue, List};
 ghost use Rattle.std.specs.Ordering.{is_eq};
 ghost use Rattle.std.specs.List.Sorted.{IsStrictlySortedBy};
 ghost use Rattle.std.specs.Set.{remove_key};
@@ -97,11 +97,10 @@ impl Ranking {
     }
 
     /// Adds the items of the first k ranks to `items`, in order.
-    pub(crate) fn first(&self, items: Vec<Item>) -> Result<Vec<Item>, Memory>
+    pub(crate) fn first(&self, mut items: Vec<Item>) -> Result<Vec<Item>, Memory>
         requires { items.items ≡ [] }
         ensures { IfOk result (λ items. items.items ≡ map item_of (take self.now.k self.now.ranks)) }
     {
-        let mut items = items;
         for rank in &self.ranks {
             if items.len() == self.k as usize {
                 break;

@@ -9,7 +9,7 @@ use Rattle.best_k.proofs.board.Board.first.Goals as goal
 
 pub returns-clause-by_order : goal.returns-clause-by_order
 returns-clause-by_order c =
-    c.from_vec.ensures ∙ c.in_ok-first.ensures
+    c.from_vec.ensures ∙ c.in_ok-items.ensures
     ∙ first_k-kept c.self.inside.ranking.k c.self.inside.bounds.entries c.self.inside.ranking.ranks c.self.invariant.0
     ∙ ap (λ (v : Held). first_k v.k v.items) c.self.view_is
 
