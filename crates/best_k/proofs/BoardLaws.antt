@@ -1,5 +1,5 @@
 -- What a board holds against what it keeps.
-use Rattle.std.proofs.Common.{◌≡◌, ◌≢◌, ◌==◌, ℕ, zero, suc, ◌+◌, ◌-◌, ◌<◌, ◌≤◌, Bool, true, false, not, cond, eqb, ◌&&◌, ◌||◌, List, [], ◌∷◌, ◌++◌, length, take, map, get_or, Option, Some, None, IsTrue, refl, sym, ap, ◌∙◌, subst, inl, inr, arith}
+use Rattle.std.proofs.Common.{◌≡◌, ◌≢◌, ◌==◌, ℕ, ◌-◌, ◌≤◌, Bool, true, false, not, cond, ◌&&◌, ◌||◌, List, [], ◌∷◌, length, take, map, Option, Some, None, IsTrue, refl, sym, ap, ◌∙◌, subst, arith}
 use Rattle.std.specs.declared.cmp.Ordering.{Ordering}
 use Rattle.std.specs.declared.cmp.Ordering.TheVariants.{Less, Equal, Greater}
 use Rattle.std.specs.Ordering.{is_eq, nat_cmp, ordering_then, ordering_reverse, match_ordering}
@@ -26,7 +26,7 @@ use Rattle.best_k.specs.Order.{item_cmp, AreDistinct, in_order, first_k, kth_low
 use Rattle.best_k.specs.Held.{Held, put_item, has_object}
 use Rattle.best_k.specs.Rank.{item_of, rank_of, rank_cmp, has_rank}
 use Rattle.best_k.specs.Kept.{KeepsRanks, bounded_item, items_of, has_bounds}
-use Rattle.best_k.proofs.OrderLaws.{items_total, exact_items}
+use Rattle.best_k.proofs.OrderLaws.{items_total}
 use Rattle.std.proofs.lemmas.Map.Views.{tells_apart}
 use Rattle.best_k.proofs.Ranks.{exact_ranks, take-all}
 use Rattle.best_k.proofs.Sorted.{less_than_all}

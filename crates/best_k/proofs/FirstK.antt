@@ -1,20 +1,19 @@
 -- The first k of items: exactly one list is so.
-use Rattle.std.proofs.Common.{◌≡◌, ◌≢◌, ℕ, zero, suc, ◌+◌, ◌-◌, ◌<◌, ◌≤◌, ◌⊎◌, Bool, true, false, not, cond, ◌&&◌, ◌||◌, min, List, [], ◌∷◌, ◌++◌, length, take, drop, get_or, length-append, refl, sym, ap, ◌∙◌, subst, inl, inr, arith}
+use Rattle.std.proofs.Common.{◌≡◌, ℕ, zero, suc, Bool, true, false, not, ◌&&◌, ◌||◌, min, List, [], ◌∷◌, ◌++◌, length, take, refl, sym, ap, ◌∙◌, subst, inl, inr, arith}
 use Rattle.std.specs.declared.cmp.Ordering.TheVariants.{Less, Equal, Greater}
 use Rattle.std.specs.Ordering.{is_eq}
-use Rattle.std.specs.List.{AllByRecursion, list_any, filter, All, Contains}
-use Rattle.std.specs.List.Sorted.{IsStrictlySortedBy}
+use Rattle.std.specs.List.{AllByRecursion, filter, Contains}
 use Rattle.std.specs.BTreeMap.{is_at}
 use Rattle.std.specs.Cmp.{tied_itself, eq_by_cmp_equiv}
 use Rattle.std.proofs.lemmas.Bool.{false≢true, or_cases, or_right, false_from_ne_true}
 use Rattle.std.proofs.lemmas.Map.Views.{tells_apart, All-from_any, any-filter_same}
 use Rattle.std.proofs.lemmas.List.{length-take}
-use Rattle.std.proofs.lemmas.List.Elements.{All-contains, All-from_recursion, recursion_from_All}
+use Rattle.std.proofs.lemmas.List.Elements.{All-contains, recursion_from_All}
 use Rattle.std.proofs.lemmas.List.Folds.{list_any-append}
 use Rattle.std.proofs.lemmas.List.Kept.{IsStrictlySortedBy-filter}
 use Rattle.std.proofs.lemmas.Map.Keys.{sorted_head, sorted_tail}
 use Rattle.ranked_list.specs.declared.item.Item.{Item}
-use Rattle.best_k.specs.Order.{item_cmp, IsBefore, AreDistinct, IsInOrder, in_order, first_k, IsFirstK}
+use Rattle.best_k.specs.Order.{item_cmp, AreDistinct, in_order, first_k, IsFirstK}
 use Rattle.best_k.proofs.OrderLaws.{items_total, exact_items, before_from_less, IsBefore-asymmetric}
 use Rattle.best_k.proofs.Sorted.{less_from_greater}
 use Rattle.best_k.proofs.InOrder.{has_item, Ascend, Ascend-nil, Ascend-cons, has_from_Contains, Contains-from_has, in_order-ascends, has-in_order, length-in_order, IsInOrder-from_Ascend, Ascend-from_IsInOrder, ascending_one}

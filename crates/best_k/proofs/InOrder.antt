@@ -1,21 +1,19 @@
 -- The items in order: the same items, in order, and the only list that is so.
-use Rattle.std.proofs.Common.{◌≡◌, ◌≢◌, ◌↔◌, ℕ, zero, suc, ◌+◌, ◌-◌, ◌<◌, ◌≤◌, ◌⊎◌, Bool, true, false, not, cond, ◌&&◌, ◌||◌, List, [], ◌∷◌, ◌++◌, length, take, drop, get_or, IsTrue, refl, sym, ap, ◌∙◌, subst, inl, inr, arith}
-use Rattle.std.specs.declared.cmp.Ordering.{Ordering}
+use Rattle.std.proofs.Common.{◌≡◌, ◌≢◌, ◌↔◌, suc, Bool, true, false, cond, ◌||◌, List, [], ◌∷◌, length, get_or, refl, sym, ap, ◌∙◌, inl, inr, arith}
 use Rattle.std.specs.declared.cmp.Ordering.TheVariants.{Less, Equal, Greater}
-use Rattle.std.specs.Ordering.{is_eq, is_lt, eq_by_cmp}
-use Rattle.std.specs.Cmp.{IsTotalOrder, tied_itself, eq_by_cmp_equiv}
-use Rattle.std.specs.List.{AllByRecursion, list_any, filter, All, AllPairs, Contains}
+use Rattle.std.specs.Ordering.{is_eq, is_lt}
+use Rattle.std.specs.Cmp.{eq_by_cmp_equiv}
+use Rattle.std.specs.List.{AllByRecursion, list_any, All, Contains}
 use Rattle.std.specs.List.Sorted.{IsStrictlySortedBy, IsPermutation}
 use Rattle.std.specs.BTreeMap.{is_at}
-use Rattle.std.specs.BTreeSet as set
 use Rattle.std.proofs.lemmas.Bool.{false≢true, cases_Bool}
-use Rattle.std.proofs.lemmas.List.Elements.{recursion_from_All, All-contains}
+use Rattle.std.proofs.lemmas.List.Elements.{recursion_from_All}
 use Rattle.std.proofs.lemmas.List.Sorted.{IsPermutation-refl, IsPermutation-sym, IsPermutation-cons, IsPermutation-trans, IsPermutation-middle, list_any-IsPermutation, length_permutation}
 use Rattle.std.proofs.lemmas.Map.Keys.{sorted_head, sorted_tail, Less-from_sorted}
 use Rattle.std.proofs.lemmas.Map.Views.{Contains-from_any, list_any-from_Contains, tells_apart}
 use Rattle.std.proofs.lemmas.Map.Lookups.{btree_set_from_contains}
 use Rattle.ranked_list.specs.declared.item.Item.{Item}
-use Rattle.best_k.specs.Order.{item_cmp, IsBefore, is_before, AreDistinct, IsInOrder, with_placed, in_order}
+use Rattle.best_k.specs.Order.{item_cmp, is_before, AreDistinct, IsInOrder, with_placed, in_order}
 use Rattle.best_k.proofs.OrderLaws.{items_total, exact_items, less_from_before, before_from_less}
 use Rattle.best_k.proofs.Sorted.{less_than_all, less_from_greater}
 

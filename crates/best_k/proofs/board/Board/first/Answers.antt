@@ -1,5 +1,4 @@
-use Rattle.std.proofs.Common.{List, sym, ap, ◌∙◌, subst}
-use Rattle.ranked_list.specs.declared.item.Item.{Item}
+use Rattle.std.proofs.Common.{sym, ap, ◌∙◌, subst}
 use Rattle.best_k.specs.Held.{Held}
 use Rattle.best_k.specs.Kept.{items_of}
 use Rattle.best_k.specs.Order.{first_k, AreDistinct, IsFirstK}

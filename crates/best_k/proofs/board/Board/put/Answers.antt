@@ -1,7 +1,5 @@
-use Rattle.std.proofs.Common.{◌≡◌, ◌&&◌, ◌||◌, true, false, not, sym, ap, ◌∙◌, subst, Some}
-use Rattle.std.specs.BTreeMap.{is_at}
-use Rattle.std.specs.Map.{lookup}
-use Rattle.std.specs.Ordering.{nat_cmp, is_eq}
+use Rattle.std.proofs.Common.{◌≡◌, ◌&&◌, ◌||◌, true, not, sym, ap, ◌∙◌, subst}
+use Rattle.std.specs.Ordering.{is_eq}
 use Rattle.std.proofs.lemmas.Bool.{not-false, not-true}
 use Rattle.best_k.specs.declared.rank.Rank.{Rank}
 use Rattle.best_k.specs.declared.rank.Bounds.{Bounds}
