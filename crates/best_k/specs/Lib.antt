@@ -1,0 +1,4 @@
+pub mod Order
+pub mod Held
+pub mod Rank
+pub mod Kept

@@ -1,0 +1,15 @@
+//! The first k of the objects seen so far, by low, high and id, kept as they come.
+#![tactic(auto)]
+
+mod board;
+mod rank;
+mod ranking;
+#[cfg(test)]
+mod tests;
+
+pub use board::Board;
+pub use ranked_list::{Item, Items};
+
+/// No memory was left.
+#[derive(Clone, Copy, Debug, PartialEq, Eq)]
+pub struct Memory;
