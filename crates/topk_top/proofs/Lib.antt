@@ -1,3 +1,0 @@
--- Lemmas on calls and replies.
-mod Ending
-mod Lists
