@@ -1,5 +1,5 @@
 -- What a cut of a text means.
-use Rattle.std.proofs.Common.{◌≡◌, ◌≢◌, ℕ, suc, ◌+◌, ◌<◌, Bool, true, false, cond, eqb, List, [], ◌∷◌, ◌++◌, length, get_or, take, drop, Option, Some, None, not, nat_lt, ◌≤◌, refl, sym, ap, ◌∙◌, subst, ⊎_elim, arith, rules, eq-eqb, ne_eqb, eqb-true, add-one}
+use Rattle.std.proofs.Common.{◌≡◌, ◌≢◌, ℕ, ◌+◌, ◌<◌, Bool, true, false, cond, eqb, List, [], ◌∷◌, ◌++◌, length, get_or, take, drop, Option, Some, None, not, nat_lt, ◌≤◌, refl, sym, ap, ◌∙◌, arith, eq-eqb, ne_eqb, eqb-true}
 use Rattle.std.specs.List.{All, position, prefix_len}
 use Rattle.std.specs.Option.{option_map, MatchOption}
 use Rattle.std.proofs.Common.{Bor}

@@ -1,8 +1,8 @@
 -- What the test of a name finds out.
-use Rattle.std.proofs.Common.{◌≡◌, ◌<◌, ◌&&◌, ℕ, Bool, true, false, List, ◌∷◌, length, nat_lt, refl, sym, ap, ◌∙◌, lt-ltb}
+use Rattle.std.proofs.Common.{◌≡◌, ◌<◌, ◌&&◌, ℕ, Bool, true, false, List, ◌∷◌, length, refl, ap, ◌∙◌, lt-ltb}
 use Rattle.std.specs.List.{list_all}
 use Rattle.std.specs.Char.{is_ascii_alphabetic}
-use Rattle.line_text.specs.Names.{is_name_byte, is_name, IsName}
+use Rattle.line_text.specs.Names.{is_name_byte, is_name}
 
 -- where the first byte is a letter and the length is right, the other bytes decide
 pub is_name_by_rest : (text : List ℕ) (first : ℕ) (rest : List ℕ) → text ≡ first ∷ rest → length rest < 32 → is_ascii_alphabetic first ≡ true

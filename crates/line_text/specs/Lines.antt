@@ -1,5 +1,5 @@
 -- The lines of a text.
-use Rattle.std.specs.Prelude.{◌≡◌, ◌≢◌, ◌==◌, ◌&&◌, ℕ, Bool, false, List, [], ◌∷◌, ◌++◌, All, if◌then◌else◌}
+use Rattle.std.specs.Prelude.{◌≢◌, ◌==◌, ◌&&◌, ℕ, Bool, false, List, [], ◌∷◌, ◌++◌, All, if◌then◌else◌}
 use Rattle.std.specs.List.{onto_first, flat_map}
 
 -- whether a text begins with LF

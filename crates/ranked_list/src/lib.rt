@@ -38,3 +38,6 @@ impl<T: Drop> From<AllocFailed<T>> for Memory {
         Memory
     }
 }
+
+#[cfg(test)]
+mod tests;

@@ -1,6 +1,5 @@
-use Rattle.std.proofs.Common.{ap, sym, ◌∙◌, ne_eqb}
-use Rattle.line_text.specs.Numbers.{is_number}
-use Rattle.line_text.proofs.NumberLaws.{list_all_digits, is_number_by_rest}
+use Rattle.std.proofs.Common.{sym, ◌∙◌}
+use Rattle.line_text.proofs.NumberLaws.{is_number_by_rest}
 use Rattle.line_text.proofs.numbers.is_number.Goals as goal
 
 pub returns : goal.returns

@@ -1,5 +1,5 @@
 use Rattle.std.proofs.Common.{sym, ◌∙◌}
-use Rattle.line_text.proofs.NumberLaws.{digits_from_number, reads_digits}
+use Rattle.line_text.proofs.NumberLaws.{reads_digits}
 use Rattle.line_text.proofs.numbers.read_number.Goals as goal
 
 pub returns : goal.returns
