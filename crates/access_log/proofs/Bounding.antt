@@ -1,11 +1,10 @@
 -- The bounds of an object, from the grades that are known and the bottoms.
-use Rattle.std.proofs.Common.{◌≡◌, ℕ, ◌+◌, ◌<◌, ◌≤◌, ◌⊎◌, inl, inr, List, [], ◌∷◌, length, map, take, zip, All, Contains, Option, Some, None, unwrap_or, refl, sym, ap, ap₂, subst, ◌∙◌, arith}
+use Rattle.std.proofs.Common.{◌≡◌, ℕ, ◌+◌, ◌<◌, ◌≤◌, inl, inr, List, [], ◌∷◌, length, map, Contains, Option, unwrap_or, refl, sym, ap, ap₂, subst, ◌∙◌, arith}
 use Rattle.std.specs.List.{range_with_len}
 use Rattle.std.proofs.lemmas.List.FromFn.{length-range_with_len, get_or-range_with_len}
-use Rattle.ranked_list.specs.declared.row.Row.{Row}
 use Rattle.ranked_list.specs.Table.{top_grade}
 use Rattle.topk_theory.specs.declared.access.Access.{Access}
-use Rattle.topk_theory.specs.Transcript.{sorted_rows, random_rows, given_rows, bottom_of, list_numbers}
+use Rattle.topk_theory.specs.Transcript.{sorted_rows, given_rows, bottom_of, list_numbers}
 use Rattle.topk_theory.specs.Bounds.{known_grade, low, high}
 use Rattle.topk_theory.proofs.AgreementLists.{contains_map_from, all_from_members}
 use Rattle.topk_theory.proofs.AgreementRows.{grade_among_row}

@@ -1,7 +1,7 @@
 -- What the tests of one more access decide: the first of the eight kinds that holds, or that none does.
-use Rattle.std.proofs.Common.{◌≡◌, ◌≢◌, ℕ, zero, suc, ◌+◌, ◌<◌, ◌≤◌, ◌⊎◌, inl, inr, Bool, true, false, not, cond, ◌==◌, ◌&&◌, ◌||◌, nat_lt, nat_le, List, [], ◌∷◌, ◌++◌, length, Contains, Option, Some, None, refl, sym, ap, subst, ◌∙◌, arith, ltb-true, ltb-false, lt-ltb, leb-true, leb-false, le-leb, eqb-true, eq-eqb, ne_eqb}
-use Rattle.std.specs.List.{list_any, cons_option}
-use Rattle.std.proofs.lemmas.Bool.{cases_Bool, cond-true, cond-false, eqb-false, or_cases, or_left, or_right, and_parts, and_from, and_cases, not-true, not-false, not_from_false, true≢false}
+use Rattle.std.proofs.Common.{◌≡◌, ℕ, ◌<◌, ◌≤◌, inl, inr, Bool, true, false, not, cond, ◌==◌, ◌&&◌, ◌||◌, nat_lt, nat_le, List, [], ◌∷◌, length, Contains, Option, Some, None, refl, sym, ap, subst, ◌∙◌, arith, ltb-true, ltb-false, lt-ltb, leb-true, leb-false, le-leb, eqb-true, eq-eqb, ne_eqb}
+use Rattle.std.specs.List.{list_any}
+use Rattle.std.proofs.lemmas.Bool.{cases_Bool, cond-true, cond-false, eqb-false, or_cases, or_left, or_right, and_parts, and_from, not-true, true≢false}
 use Rattle.ranked_list.specs.declared.row.Row.{Row}
 use Rattle.ranked_list.specs.Table.{objects, top_grade}
 use Rattle.topk_theory.specs.declared.access.Access.{Access}
@@ -10,9 +10,9 @@ use Rattle.topk_theory.specs.Transcript.{list_of, object_of, grade_of, is_sorted
 use Rattle.topk_theory.specs.Consistent.{Kind, number_of, HasOther, HasAbove, IsOfKind, IsFirstKind}
 use Rattle.topk_theory.specs.Consistent.Kind.{no_such_list, above_top, too_many_objects, rises, repeats, clashes, falls_short, above_bottom}
 use Rattle.topk_theory.proofs.AgreementLists.{contains_nil, contains_here, contains_there, contains_cases}
-use Rattle.topk_theory.proofs.AgreementNames.{has, has_contains, contains_has, has_not, not_has}
+use Rattle.topk_theory.proofs.AgreementNames.{has, has_contains, has_not, not_has}
 use Rattle.topk_theory.proofs.AgreementRows.{row_is}
-use Rattle.access_log.specs.Scan.{is_of, reads, differs, is_passed, is_too_many, sorted_kind, random_kind, later_kind, first_kind}
+use Rattle.access_log.specs.Scan.{reads, differs, is_passed, is_too_many, sorted_kind, random_kind, later_kind, first_kind}
 
 -- a member that passes a test
 any_from : {X : Type 0} → (p : X → Bool) (xs : List X) → list_any p xs ≡ true → (x : X) × Contains xs x × (p x ≡ true)

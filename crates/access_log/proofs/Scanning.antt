@@ -1,17 +1,15 @@
 -- What the scans of a list of accesses find.
-use Rattle.std.proofs.Common.{◌≡◌, ℕ, zero, suc, ◌+◌, ◌<◌, ◌≤◌, ◌⊎◌, inl, inr, Bool, true, false, not, cond, ◌==◌, ◌&&◌, ◌||◌, List, [], ◌∷◌, ◌++◌, length, map, take, set, fold, count_by, Contains, Option, Some, None, slice_index_or, refl, sym, ap, ap₂, subst, ◌∙◌, arith}
-use Rattle.std.specs.List.{list_any, cons_option}
-use Rattle.std.proofs.lemmas.Bool.{cases_Bool, cond-true, cond-false, eqb-true, eqb-false, eq-eqb, ne_eqb, and_parts, and_from, true≢false}
+use Rattle.std.proofs.Common.{◌≡◌, ℕ, zero, suc, ◌+◌, ◌<◌, inl, inr, true, false, cond, ◌==◌, ◌&&◌, List, [], ◌∷◌, ◌++◌, length, map, take, set, fold, count_by, Some, None, slice_index_or, refl, sym, ap₂, ◌∙◌, arith}
+use Rattle.std.proofs.lemmas.Bool.{cases_Bool, and_parts, and_from, true≢false}
 use Rattle.std.proofs.lemmas.List.{take_more_set}
 use Rattle.std.proofs.lemmas.List.FromFn.{map-range_with_len_more}
 use Rattle.std.proofs.lemmas.List.Recursion.{is_count_by}
-use Rattle.ranked_list.specs.declared.row.Row.{Row}
 use Rattle.ranked_list.specs.Table.{top_grade}
 use Rattle.topk_theory.specs.declared.access.Access.{Access}
 use Rattle.topk_theory.specs.declared.access.Access.TheVariants.{Sorted, Random}
-use Rattle.topk_theory.specs.Transcript.{list_of, object_of, grade_of, is_sorted, last_grade, sorted_row, given_row, sorted_rows, given_rows, depth_of, bottom_of, list_numbers}
-use Rattle.topk_theory.specs.Bounds.{known_grade, grade_among}
-use Rattle.access_log.specs.Scan.{is_of, reads, differs, is_passed}
+use Rattle.topk_theory.specs.Transcript.{list_of, object_of, grade_of, is_sorted, last_grade, sorted_rows, depth_of, bottom_of, list_numbers}
+use Rattle.topk_theory.specs.Bounds.{known_grade}
+use Rattle.access_log.specs.Scan.{is_of}
 
 -- a grade is unknown as long as no access is of the list and the object, and the first that is gave it
 known_grade_skips : (A : List Access) (a : Access) (list object : ℕ) → is_of list object a ≡ false → known_grade (a ∷ A) object list ≡ known_grade A object list

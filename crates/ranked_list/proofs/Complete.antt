@@ -1,5 +1,5 @@
 -- Each text that spells a bundle is read as it.
-use Rattle.std.proofs.Common.{◌≡◌, ◌≢◌, ◌<◌, ◌≤◌, ◌^◌, ◌+◌, ◌-◌, ℕ, zero, suc, Bool, true, false, not, eqb, ◌&&◌, ◌||◌, List, [], ◌∷◌, ◌++◌, map, length, get_or, Option, Some, None, Result, Ok, Err, refl, sym, ap, ap₂, ◌∙◌, subst, arith, rules, ltb, lt-ltb, eq-eqb, length-append, append_assoc, append-nil}
+use Rattle.std.proofs.Common.{◌≡◌, ◌≢◌, ◌<◌, ◌≤◌, ◌^◌, ◌+◌, ℕ, Bool, true, false, not, ◌&&◌, ◌||◌, List, [], ◌∷◌, ◌++◌, map, length, get_or, Ok, Err, refl, sym, ap, ap₂, ◌∙◌, subst, arith, ltb, lt-ltb, eq-eqb, length-append, append_assoc, append-nil}
 use Rattle.std.specs.Prelude.{nat_eq}
 use Rattle.std.specs.List.{All, Contains, list_any}
 use Rattle.std.specs.Set.{is_member}
@@ -7,14 +7,13 @@ use Rattle.std.specs.Str.{bytes_eq}
 use Rattle.std.proofs.lemmas.List.{length_push, get_or_at, get_or_append_left}
 use Rattle.std.proofs.lemmas.List.Folds.{list_any-append}
 use Rattle.std.proofs.lemmas.List.Elements.{All-head, All-tail, All-contains, Contains-append_left, Contains-append_right, Contains-push}
-use Rattle.std.proofs.lemmas.Bool.{and_from, or_from, false_from_ne_true, not_from_false}
+use Rattle.std.proofs.lemmas.Bool.{and_from, false_from_ne_true, not_from_false}
 use Rattle.std.proofs.lemmas.Slice.Eq.{bytes_eq-Decides}
 use Rattle.line_text.specs.Names.{is_name, IsName}
 use Rattle.ranked_list.specs.declared.row.Row.{Row}
 use Rattle.ranked_list.specs.Table.{IsRanked, objects, top_grade}
-use Rattle.ranked_list.specs.Bundle.{Content, IsBundle, section, sections, bundle_lines, list_line, row_line, query_line}
-use Rattle.ranked_list.specs.Reading.{Front, Part, list_part, row_part, query_part, part_of, last_row, in_order, room, is_wanted, takes_row, with_row, is_whole, is_whole_after, is_taken, takes_list, with_list, with_query, first_front, read_part, read_on, read_first, read_all, takes_part, with_part}
-use Rattle.ranked_list.proofs.Members.{Within}
+use Rattle.ranked_list.specs.Bundle.{Content, IsBundle, sections, bundle_lines, list_line, row_line, query_line}
+use Rattle.ranked_list.specs.Reading.{Front, list_part, row_part, room, is_wanted, takes_row, with_row, is_whole, is_whole_after, is_taken, takes_list, with_list, first_front, read_on, read_first, read_all}
 use Rattle.ranked_list.proofs.RankLaws.{Capped, no_row, next_in_order, next_has, next_is_new}
 use Rattle.ranked_list.proofs.PartLaws.{part_of-list_line, part_of-row_line, part_of-query_line}
 use Rattle.ranked_list.proofs.ReadLaws.{read_on-takes, read_on-query, ends_alone}

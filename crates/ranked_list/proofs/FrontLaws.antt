@@ -1,22 +1,22 @@
 -- The fronts of bundles: what holds of them, and that a line more makes another.
-use Rattle.std.proofs.Common.{◌≡◌, ◌≢◌, ◌<◌, ◌≤◌, ◌^◌, ◌+◌, ◌-◌, ℕ, zero, suc, Bool, true, false, not, eqb, ◌&&◌, ◌||◌, List, [], ◌∷◌, ◌++◌, map, length, get_or, Option, Some, None, refl, sym, ap, ap₂, ◌∙◌, subst, ⊎_elim, arith, rules, ltb, ltb-true, length-append, append_assoc, append-nil, leb-true, eqb-true}
+use Rattle.std.proofs.Common.{◌≡◌, ◌≢◌, ◌<◌, ◌≤◌, ◌^◌, ◌+◌, ℕ, true, false, not, ◌&&◌, List, [], ◌∷◌, ◌++◌, length, get_or, refl, sym, ap, ◌∙◌, subst, arith, ltb, ltb-true, append_assoc, append-nil, eqb-true}
 use Rattle.std.specs.Prelude.{nat_eq}
 use Rattle.std.specs.List.{All, AllPairs, Contains, flat_map, zip, list_any}
 use Rattle.std.specs.Set.{is_member}
 use Rattle.std.specs.Str.{bytes_eq}
 use Rattle.std.proofs.lemmas.List.{map_push, length_push}
 use Rattle.std.proofs.lemmas.List.Concat.{flat_map-append}
-use Rattle.std.proofs.lemmas.List.Elements.{All-push, All-contains, All-weaker, All-nil, All-cons}
+use Rattle.std.proofs.lemmas.List.Elements.{All-push, All-nil, All-cons}
 use Rattle.std.proofs.lemmas.List.Quantifiers.{all_pairs_push}
 use Rattle.std.proofs.lemmas.Bool.{and_parts, or_parts, not-true, both_ways, false≢true}
 use Rattle.std.proofs.lemmas.Slice.Eq.{bytes_eq-Decides}
 use Rattle.line_text.specs.Names.{is_name, IsName}
 use Rattle.ranked_list.specs.declared.row.Row.{Row}
-use Rattle.ranked_list.specs.Table.{IsRanked, IsTable, objects, top_grade}
-use Rattle.ranked_list.specs.Bundle.{Content, IsBundle, section, sections, bundle_lines, list_line, row_line, query_line}
+use Rattle.ranked_list.specs.Table.{IsRanked, IsTable, objects}
+use Rattle.ranked_list.specs.Bundle.{IsBundle, section, sections, list_line, row_line}
 use Rattle.ranked_list.specs.Reading.{Front, last_row, in_order, room, is_wanted, takes_row, with_row, is_whole, is_whole_after, is_taken, takes_list, with_list, with_query}
-use Rattle.ranked_list.proofs.Members.{Within, Within-push, member_from_contains, contains_from_member, at_most, all_there}
-use Rattle.ranked_list.proofs.RankLaws.{IsRanked-push, distinct_objects, length-objects, order_cap}
+use Rattle.ranked_list.proofs.Members.{Within, Within-push, member_from_contains, contains_from_member, all_there}
+use Rattle.ranked_list.proofs.RankLaws.{IsRanked-push, distinct_objects, length-objects}
 
 -- the object of a row has 32 bits
 abbrev pub Small : Row → Type 0

@@ -1,12 +1,10 @@
 -- What the reading of lines finds out: a bundle that they spell, or the first line at fault.
-use Rattle.std.proofs.Common.{◌≡◌, ◌≢◌, ◌<◌, ◌≤◌, ◌+◌, ◌-◌, ℕ, zero, suc, Bool, true, false, List, [], ◌∷◌, ◌++◌, length, take, Result, Ok, Err, refl, sym, ap, ◌∙◌, subst, ⊎_elim, arith, rules, append_assoc, append-nil, IfOk, IfErr}
+use Rattle.std.proofs.Common.{◌≡◌, ◌≢◌, ◌<◌, ◌≤◌, ◌+◌, ◌-◌, ℕ, suc, Bool, true, false, List, [], ◌∷◌, ◌++◌, length, take, Result, Ok, Err, refl, sym, ap, ◌∙◌, subst, ⊎_elim, arith, append_assoc, append-nil, IfOk, IfErr}
 use Rattle.std.specs.List.{All}
 use Rattle.std.proofs.lemmas.List.Elements.{All-head, All-tail, All-drop}
 use Rattle.std.proofs.lemmas.Bool.{cases_Bool}
-use Rattle.line_text.specs.Names.{is_name}
-use Rattle.ranked_list.specs.declared.row.Row.{Row}
-use Rattle.ranked_list.specs.Bundle.{Content, IsBundle, Spells, Begins, IsFirstFault, bundle_lines, list_line, row_line, query_line}
-use Rattle.ranked_list.specs.Reading.{Front, Part, list_part, row_part, query_part, no_part, part_of, takes_row, with_row, takes_list, with_list, is_whole, with_query, takes_part, with_part, first_front, at_end, read_part, read_on, read_first, read_all}
+use Rattle.ranked_list.specs.Bundle.{Content, IsBundle, Spells, Begins, IsFirstFault, bundle_lines, query_line}
+use Rattle.ranked_list.specs.Reading.{Front, Part, list_part, row_part, query_part, no_part, part_of, takes_row, with_row, takes_list, with_list, is_whole, with_query, takes_part, with_part, first_front, read_part, read_on, read_first, read_all}
 use Rattle.ranked_list.proofs.PartLaws.{PartMeans, part_means}
 use Rattle.ranked_list.proofs.ReadLaws.{read_on-nil, read_on-cons, read_part-takes, read_part-refuses, ends_alone, ends_before_more, ends_short}
 use Rattle.ranked_list.proofs.FrontLaws.{IsFront, IsFront-row, IsFront-list, IsFront-first, front_lines, front_lines-row, front_lines-list, whole_bundle}

@@ -1,11 +1,11 @@
 -- The reading of a bundle, line by line.
-use Rattle.std.proofs.Common.{◌≡◌, ℕ, ◌+◌, Bool, true, false, cond, List, [], ◌∷◌, Result, Ok, Err, refl, sym, ap, ◌∙◌, subst}
+use Rattle.std.proofs.Common.{◌≡◌, ℕ, ◌+◌, true, false, List, [], ◌∷◌, Result, Ok, Err, refl, sym, ap, ◌∙◌}
 use Rattle.std.proofs.Common.{Bor}
 use Rattle.std.proofs.lemmas.Bool.{false≢true}
 use Rattle.ranked_list.specs.declared.line.Line.{Line}
 use Rattle.ranked_list.specs.declared.line.Line.TheVariants.{Heading, Entry, Query, Other}
 use Rattle.ranked_list.specs.Bundle.{Content}
-use Rattle.ranked_list.specs.Reading.{Front, Part, list_part, row_part, query_part, no_part, part_of, is_whole, with_query, at_end, read_part, read_on, read_first, read_all, first_front, takes_part, with_part, part_read}
+use Rattle.ranked_list.specs.Reading.{Front, Part, list_part, row_part, query_part, no_part, part_of, is_whole, with_query, read_part, read_on, read_first, read_all, first_front, takes_part, with_part, part_read}
 
 -- the ends of a query line: no line after it, or one
 pub ends_alone : (front : Front) (line : ℕ) (ls : List (List ℕ)) (go : Front → Result Content ℕ) (query : List ℕ) → is_whole front ≡ true → ls ≡ []

@@ -1,23 +1,22 @@
 -- Whether lists form a table, list by list.
-use Rattle.std.proofs.Common.{◌≡◌, ◌≢◌, ◌<◌, ◌≤◌, ◌+◌, ℕ, zero, suc, Bool, true, false, not, eqb, ◌||◌, List, [], ◌∷◌, ◌++◌, length, get_or, take, drop, Option, Some, None, Result, Ok, Err, refl, sym, ap, ◌∙◌, subst, ⊎_elim, arith, rules, eqb-true}
+use Rattle.std.proofs.Common.{◌≡◌, ◌<◌, ◌+◌, ℕ, Bool, true, false, eqb, List, [], ◌∷◌, ◌++◌, length, get_or, take, drop, Option, Some, None, Result, Ok, Err, refl, sym, ap, ◌∙◌, subst, ⊎_elim, arith, eqb-true}
 use Rattle.std.specs.Prelude.{nat_eq}
 use Rattle.std.specs.List.{All, slice_get}
 use Rattle.std.specs.Set.{is_member}
 use Rattle.std.specs.Result.{is_err}
-use Rattle.std.proofs.lemmas.List.{take_more, drop_more, take-append-drop, take_all}
-use Rattle.std.proofs.lemmas.List.Elements.{All-nil, All-more}
+use Rattle.std.proofs.lemmas.List.{take_more, drop_more, take-append-drop}
 use Rattle.std.proofs.lemmas.Option.{slice_get_within, get_or_from_slice_get}
 use Rattle.std.proofs.lemmas.Bool.{both_ways, or_cases}
 use Rattle.ranked_list.specs.declared.row.Row.{Row}
 use Rattle.ranked_list.specs.declared.order.RowFault.{RowFault}
 use Rattle.ranked_list.specs.declared.order.RowFault.TheVariants.{OutOfOrder, TooHigh}
 use Rattle.ranked_list.specs.Order.{FindsOrder}
-use Rattle.ranked_list.specs.Table.{IsRanked, IsTable, objects, top_grade}
+use Rattle.ranked_list.specs.Table.{IsRanked, IsTable, objects}
 use Rattle.ranked_list.specs.Reading.{last_row, in_order, TellsObjects}
 use Rattle.ranked_list.specs.Tracking.{IsAlike}
 use Rattle.ranked_list.proofs.Members.{Within, all_there}
-use Rattle.ranked_list.proofs.RankLaws.{IsRanked-push, next_in_order, next_is_new, next_has, distinct_objects, length-objects, order_cap, order_below, order_from}
-use Rattle.ranked_list.proofs.TrackLaws.{last_row-push, is_member-push, TellsObjects-push}
+use Rattle.ranked_list.proofs.RankLaws.{next_in_order, next_is_new, next_has, distinct_objects, length-objects, order_cap, order_below, order_from}
+use Rattle.ranked_list.proofs.TrackLaws.{is_member-push}
 use Rattle.ranked_list.proofs.FrontLaws.{SameObjects, same_from_within, within_from_same}
 
 -- ---- one row of a list

@@ -1,5 +1,5 @@
 -- Each front goes on to some bundle: the objects that its open list lacks follow with the grade 0.
-use Rattle.std.proofs.Common.{◌≡◌, ◌≢◌, ◌<◌, ◌≤◌, ◌^◌, ◌+◌, ℕ, zero, suc, Bool, true, false, not, eqb, ◌&&◌, List, [], ◌∷◌, ◌++◌, length, get_or, Option, Some, None, refl, sym, ap, ◌∙◌, subst, ⊎_elim, arith, rules, ltb, lt-ltb, eq-eqb, append_assoc, append-nil, eqb-true}
+use Rattle.std.proofs.Common.{◌≡◌, ◌≢◌, ◌<◌, ◌^◌, ℕ, true, false, not, eqb, List, [], ◌∷◌, ◌++◌, length, Option, refl, sym, ap, ◌∙◌, subst, ⊎_elim, arith, ltb, lt-ltb, eq-eqb, append_assoc, append-nil, eqb-true}
 use Rattle.std.specs.Prelude.{nat_eq}
 use Rattle.std.specs.List.{All}
 use Rattle.std.specs.Set.{is_member}
@@ -7,8 +7,8 @@ use Rattle.std.proofs.lemmas.List.{length_push, map_push}
 use Rattle.std.proofs.lemmas.List.Elements.{All-nil}
 use Rattle.std.proofs.lemmas.Bool.{and_from, or_left, or_right, or_cases, cases_Bool, not_from_false, false≢true}
 use Rattle.ranked_list.specs.declared.row.Row.{Row}
-use Rattle.ranked_list.specs.Table.{objects, top_grade}
-use Rattle.ranked_list.specs.Bundle.{Content, IsBundle, Spells, Begins, bundle_lines, row_line, query_line}
+use Rattle.ranked_list.specs.Table.{objects}
+use Rattle.ranked_list.specs.Bundle.{Begins, bundle_lines, row_line, query_line}
 use Rattle.ranked_list.specs.Reading.{Front, last_row, in_order, room, is_wanted, takes_row, with_row, is_whole, is_whole_after, with_query}
 use Rattle.ranked_list.proofs.Members.{Within, member-push, contains_from_member, at_most, fewer}
 use Rattle.ranked_list.proofs.RankLaws.{order_from, length-objects, distinct_objects, object_at, no_row}

@@ -1,4 +1,4 @@
-use Rattle.std.proofs.Common.{◌<◌, ◌∙◌, length, length-set, arith}
+use Rattle.std.proofs.Common.{◌∙◌, length-set, arith}
 use Rattle.topk_theory.specs.Transcript.{bottom_of}
 use Rattle.access_log.proofs.Scanning.{listed_more}
 use Rattle.access_log.proofs.scan.bottoms.Goals as goal

@@ -1,4 +1,4 @@
-use Rattle.std.proofs.Common.{◌<◌, ◌∙◌, Option, length, length-set, arith, ℕ}
+use Rattle.std.proofs.Common.{◌∙◌, length-set, arith}
 use Rattle.topk_theory.specs.Bounds.{known_grade}
 use Rattle.access_log.proofs.Scanning.{listed_more}
 use Rattle.access_log.proofs.scan.known_grades.Goals as goal

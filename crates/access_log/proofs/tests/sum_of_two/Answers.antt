@@ -1,4 +1,4 @@
-use Rattle.std.proofs.Common.{◌≡◌, ℕ, zero, suc, ◌<◌, [], ◌∷◌, Contains, refl, arith}
+use Rattle.std.proofs.Common.{ℕ, zero, suc, ◌<◌, [], ◌∷◌, Contains, refl, arith}
 use Rattle.monotone_fn.specs.Tree.{Tree, trees}
 use Rattle.monotone_fn.specs.Shape.{NumbersLists, nodes_of}
 use Rattle.access_log.proofs.tests.sum_of_two.Goals as goal

@@ -3,7 +3,7 @@ use Rattle.line_text.specs.Lines.{lines}
 use Rattle.line_text.proofs.LineLaws.{lines-nil}
 use Rattle.ranked_list.specs.Reading.{read_on}
 use Rattle.ranked_list.specs.Tracking.{Gives}
-use Rattle.ranked_list.proofs.ReadLaws.{read_all-none, read_all-first, read_all-other}
+use Rattle.ranked_list.proofs.ReadLaws.{read_all-none, read_all-first}
 use Rattle.ranked_list.proofs.bundle.read_lines.Goals as goal
 
 pub returns-in_default : goal.returns-in_default

@@ -1,7 +1,7 @@
-use Rattle.std.proofs.Common.{sym, ◌∙◌, ap, subst, refl, arith, ◌+◌}
+use Rattle.std.proofs.Common.{sym, ◌∙◌, ap, subst, arith, ◌+◌}
 use Rattle.line_text.specs.Lines.{lines}
 use Rattle.line_text.proofs.LineLaws.{lines-nil}
-use Rattle.ranked_list.specs.Reading.{part_read, with_part, read_on}
+use Rattle.ranked_list.specs.Reading.{part_read, read_on}
 use Rattle.ranked_list.specs.Tracking.{front_of, Gives}
 use Rattle.ranked_list.proofs.ReadLaws.{read_on-nil, read_on-takes, read_on-refuses, read_on-query, no_query}
 use Rattle.ranked_list.proofs.bundle.read_rest.Goals as goal

@@ -1,9 +1,7 @@
-use Rattle.std.proofs.Common.{sym, ◌∙◌, ap, subst, arith, take, true}
-use Rattle.std.proofs.lemmas.List.{take_all}
+use Rattle.std.proofs.Common.{sym, ◌∙◌}
 use Rattle.std.proofs.lemmas.Bool.{both_ways, false≢true}
 use Rattle.std.specs.Prelude.{nat_eq}
 use Rattle.std.specs.HashSet.{contains}
-use Rattle.ranked_list.specs.Table.{objects}
 use Rattle.ranked_list.proofs.TableLaws.{at_place, among_more, has_at}
 use Rattle.ranked_list.proofs.table.all_among.Goals as goal
 

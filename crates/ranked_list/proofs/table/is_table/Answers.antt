@@ -1,4 +1,4 @@
-use Rattle.std.proofs.Common.{sym, ◌∙◌, ap, subst, arith, take, length, refl, true, get_or, ◌≡◌}
+use Rattle.std.proofs.Common.{sym, ap, subst, arith, take, length, refl, get_or, ◌≡◌}
 use Rattle.std.specs.Prelude.{nat_eq}
 use Rattle.std.specs.HashSet.{contains}
 use Rattle.std.proofs.lemmas.List.{take_all}

@@ -1,7 +1,7 @@
-use Rattle.std.proofs.Common.{sym, ◌∙◌, ap, subst, arith, take, true}
+use Rattle.std.proofs.Common.{sym, ◌∙◌, ap, subst, take}
 use Rattle.std.specs.Prelude.{nat_eq}
 use Rattle.std.specs.HashSet.{contains}
-use Rattle.ranked_list.specs.Table.{IsRanked, objects}
+use Rattle.ranked_list.specs.Table.{IsRanked}
 use Rattle.ranked_list.specs.Reading.{last_row, in_order, TellsObjects}
 use Rattle.ranked_list.proofs.RankLaws.{IsRanked-push}
 use Rattle.ranked_list.proofs.TrackLaws.{last_row-push, TellsObjects-push}

@@ -1,4 +1,4 @@
-use Rattle.std.proofs.Common.{sym, ◌∙◌, ap}
+use Rattle.std.proofs.Common.{◌∙◌, ap}
 use Rattle.topk_theory.specs.Transcript.{seen_objects}
 use Rattle.topk_theory.proofs.AgreementNames.{has}
 use Rattle.access_log.specs.Log.{Log}

@@ -1,4 +1,4 @@
-use Rattle.std.proofs.Common.{sym, ap, ap₂, ◌∙◌, map, ◌++◌, ◌∷◌, [], List, ℕ, cond, eqb, length, refl}
+use Rattle.std.proofs.Common.{ap, ap₂, ◌∙◌, map, ◌++◌, ◌∷◌, [], cond, eqb, length, refl}
 use Rattle.std.proofs.lemmas.List.{map_push}
 use Rattle.ranked_list.proofs.TrackLaws.{Begins, front_of-begins, IsTracked-begins}
 use Rattle.ranked_list.proofs.reader.Reader.begin_list.Goals as goal

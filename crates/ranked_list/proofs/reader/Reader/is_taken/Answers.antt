@@ -1,8 +1,7 @@
-use Rattle.std.proofs.Common.{sym, ◌∙◌, ap, ap₂, ◌||◌, true, false}
+use Rattle.std.proofs.Common.{sym, ◌∙◌, ap, ◌||◌}
 use Rattle.std.specs.List.{list_any}
 use Rattle.std.specs.Str.{bytes_eq}
 use Rattle.ranked_list.proofs.TrackLaws.{list_any-map}
-use Rattle.ranked_list.specs.Tracking.{front_of}
 use Rattle.ranked_list.proofs.reader.Reader.is_taken.Goals as goal
 
 pub returns-then-has_name : goal.returns-then-has_name
