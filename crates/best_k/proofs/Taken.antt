@@ -62,6 +62,7 @@ items_of-remove_entry object (e ∷ entries) up =
   where
     apart_less : Less ≡ Equal → ⊥
     apart_less e = cc
+
     apart_greater : Greater ≡ Equal → ⊥
     apart_greater e = cc
 

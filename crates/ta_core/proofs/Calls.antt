@@ -33,12 +33,14 @@ along t u e run = subst MakesItsRun (sym e) run
 pub next_row_is : (log : Log) (r : Reading) (row : Row) → MayBeNextRow log (need_at log.lists r) row → (r.done ≡ false) × (length r.objects < log.lists) × (row.grade ≤ 1000000)
 next_row_is log r row may =
     elim (cases_Bool r.done) [
-      inl done ↦ absurd (subst (λ need. MayBeNextRow log need row) (need_when_done log.lists r done) may)
-    | inr open' ↦ elim (cases_lt (length r.objects) log.lists) [
-        inr whole ↦ absurd (subst (λ need. MayBeNextRow log need row) (need_after_row log.lists r open' whole) may)
-      | inl short ↦
-          let kinds : (kind : Kind) → IsOfKind log.lists log.count log.accesses (Sorted (length r.objects) row.object row.grade) kind → kind ≡ too_many_objects = subst (λ need. MayBeNextRow log need row) (need_in_row log.lists r open' short) may in
-          (open', short, elim (cases_lt 1000000 row.grade) [ inl above ↦ absurd (another (kinds above_top above)) | inr le ↦ le ]) ] ]
+      | inl done ↦ absurd (subst (λ need. MayBeNextRow log need row) (need_when_done log.lists r done) may)
+      | inr open' ↦ elim (cases_lt (length r.objects) log.lists) [
+        | inr whole ↦ absurd (subst (λ need. MayBeNextRow log need row) (need_after_row log.lists r open' whole) may)
+        | inl short ↦
+            let kinds : (kind : Kind) → IsOfKind log.lists log.count log.accesses (Sorted (length r.objects) row.object row.grade) kind → kind ≡ too_many_objects = subst (λ need. MayBeNextRow log need row) (need_in_row log.lists r open' short) may in
+            (open', short, elim (cases_lt 1000000 row.grade) [ inl above ↦ absurd (another (kinds above_top above)) | inr le ↦ le ])
+      ]
+    ]
   where
     another : above_top ≡ too_many_objects → ⊥
     another e = cc
@@ -47,12 +49,14 @@ next_row_is log r row may =
 pub next_grade_is : (log : Log) (r : Reading) (grade : ℕ) → MayBeNextGrade log (need_at log.lists r) grade → (r.done ≡ false) × (log.lists ≤ length r.objects) × (grade ≤ 1000000)
 next_grade_is log r grade may =
     elim (cases_Bool r.done) [
-      inl done ↦ absurd (subst (λ need. MayBeNextGrade log need grade) (need_when_done log.lists r done) may)
-    | inr open' ↦ elim (cases_lt (length r.objects) log.lists) [
-        inl short ↦ absurd (subst (λ need. MayBeNextGrade log need grade) (need_in_row log.lists r open' short) may)
-      | inr whole ↦
-          let kinds : (kind : Kind) → ¬ IsOfKind log.lists log.count log.accesses (Random (length r.grades) (first_or_zero r.waiting) grade) kind = subst (λ need. MayBeNextGrade log need grade) (need_after_row log.lists r open' whole) may in
-          (open', whole, elim (cases_lt 1000000 grade) [ inl above ↦ absurd (kinds above_top above) | inr le ↦ le ]) ] ]
+      | inl done ↦ absurd (subst (λ need. MayBeNextGrade log need grade) (need_when_done log.lists r done) may)
+      | inr open' ↦ elim (cases_lt (length r.objects) log.lists) [
+        | inl short ↦ absurd (subst (λ need. MayBeNextGrade log need grade) (need_in_row log.lists r open' short) may)
+        | inr whole ↦
+            let kinds : (kind : Kind) → ¬ IsOfKind log.lists log.count log.accesses (Random (length r.grades) (first_or_zero r.waiting) grade) kind = subst (λ need. MayBeNextGrade log need grade) (need_after_row log.lists r open' whole) may in
+            (open', whole, elim (cases_lt 1000000 grade) [ inl above ↦ absurd (kinds above_top above) | inr le ↦ le ])
+      ]
+    ]
 
 -- a test of what is seen, and its contrary
 pub unseen_if_new : (b : Bool) (P : Type 0) → (IsTrue b ↔ P) → not b ≡ true → ¬ P
@@ -79,8 +83,9 @@ pub absent_row : (e : Tree) (k room : ℕ) (log : Log) (board : Held) (r : Readi
 absent_row e k room log board r object is_new kept fresh waits item h = λ same.
     let on = kept_board e k room log board r kept item h in
     elim (waits_from r.waiting object is_new (first_or_zero (with_new r.waiting object is_new)) (first_is_member (with_new r.waiting object is_new) waits)) [
-      inl before ↦ on.1 (subst (λ z. Contains r.waiting z) (sym same) before)
-    | inr new ↦ fresh new.0 (subst (λ z. Contains (seen_objects log.accesses) z) (same ∙ sym new.1) on.0) ]
+      | inl before ↦ on.1 (subst (λ z. Contains r.waiting z) (sym same) before)
+      | inr new ↦ fresh new.0 (subst (λ z. Contains (seen_objects log.accesses) z) (same ∙ sym new.1) on.0)
+    ]
 
 pub absent_grade : (e : Tree) (k room : ℕ) (log : Log) (board : Held) (r : Reading) → IsKept e k room log board r → 0 < length r.waiting → (item : Item) → Contains board.items item → item.object ≢ first_or_zero r.waiting
 absent_grade e k room log board r kept waits item h = λ same.
@@ -108,7 +113,8 @@ ready_row e k room log board r told row is_new kept may unseen is =
       bottoms = sound.bottoms_capped;
       waits = λ whole. fed.enough_waits (whole ∙ sym kept.lists);
       absent = λ whole item h. absent_row e k room log board r row.object is_new kept unseen (fed.enough_waits (whole ∙ sym kept.lists)) item h;
-      deep = omega (arith, kept_depth e k room log board r kept next.0, kept.counted) })
+      deep = omega (arith, kept_depth e k room log board r kept next.0, kept.counted);
+    })
 
 pub ready_grade : (e : Tree) (k room : ℕ) (log : Log) (board : Held) (r told : Reading) (grade : ℕ) → IsKept e k room log board r → MayBeNextGrade log (need_at log.lists r) grade → told ≡ grade_added r grade → IsReady e board told
 ready_grade e k room log board r told grade kept may is =
@@ -120,24 +126,25 @@ ready_grade e k room log board r told grade kept may is =
       bottoms = sound.bottoms_capped;
       waits = λ whole. rest.0;
       absent = λ whole item h. absent_grade e k room log board r kept rest.0 item h;
-      deep = omega (arith, kept_depth e k room log board r kept next.0, kept.counted) })
+      deep = omega (arith, kept_depth e k room log board r kept next.0, kept.counted);
+    })
 
 -- what the machine keeps once a row or a grade is told
 pub row_kept : (e : Tree) (k room : ℕ) (log after : Log) (board board' : Held) (r told then : Reading) (row : Row) (list : ℕ) (is_new : Bool) → IsKept e k room log board r → MayBeNextRow log (need_at log.lists r) row → (is_new ≡ true → ¬ Contains (seen_objects log.accesses) row.object) → (is_new ≡ false → Contains (seen_objects log.accesses) row.object) → told ≡ row_added log.lists r row is_new → list ≡ length r.objects → after ≡ with_access log (Sorted list row.object row.grade) → IsConsistent after → board' ≡ record board { items = items_after (value e) (list_count e) board.items told } → then ≡ followed (value e) board'.k (list_count e) board'.items told → IsKept e k room after board' then
 row_kept e k room log after board board' r told then row list is_new kept may unseen seen is_told is_list is_after consistent is_board is_then =
     let next = next_row_is log r row may in
     subst (IsKept e k room after board') (sym (is_then ∙ ap (followed (value e) board'.k (list_count e) board'.items) is_told))
-      (kept_row e k room log after board board' r row is_new kept next.0 next.1 next.2 unseen seen
-        (is_after ∙ ap (λ l. with_access log (Sorted l row.object row.grade)) is_list) consistent
-        (is_board ∙ ap (λ s. record { k = board.k; items = items_after (value e) (list_count e) board.items s }) is_told))
+    (kept_row e k room log after board board' r row is_new kept next.0 next.1 next.2 unseen seen
+    (is_after ∙ ap (λ l. with_access log (Sorted l row.object row.grade)) is_list) consistent
+    (is_board ∙ ap (λ s. record { k = board.k; items = items_after (value e) (list_count e) board.items s }) is_told))
 
 pub grade_kept : (e : Tree) (k room : ℕ) (log after : Log) (board board' : Held) (r told then : Reading) (grade list object : ℕ) → IsKept e k room log board r → MayBeNextGrade log (need_at log.lists r) grade → told ≡ grade_added r grade → list ≡ length r.grades → object ≡ first_or_zero r.waiting → after ≡ with_access log (Random list object grade) → IsConsistent after → board' ≡ record board { items = items_after (value e) (list_count e) board.items told } → then ≡ followed (value e) board'.k (list_count e) board'.items told → IsKept e k room after board' then
 grade_kept e k room log after board board' r told then grade list object kept may is_told is_list is_object is_after consistent is_board is_then =
     let next = next_grade_is log r grade may in
     subst (IsKept e k room after board') (sym (is_then ∙ ap (followed (value e) board'.k (list_count e) board'.items) is_told))
-      (kept_grade e k room log after board board' r grade kept next.0 next.1 next.2
-        (is_after ∙ ap (λ l. with_access log (Random l object grade)) is_list ∙ ap (λ o. with_access log (Random (length r.grades) o grade)) is_object) consistent
-        (is_board ∙ ap (λ s. record { k = board.k; items = items_after (value e) (list_count e) board.items s }) is_told))
+    (kept_grade e k room log after board board' r grade kept next.0 next.1 next.2
+    (is_after ∙ ap (λ l. with_access log (Random l object grade)) is_list ∙ ap (λ o. with_access log (Random (length r.grades) o grade)) is_object) consistent
+    (is_board ∙ ap (λ s. record { k = board.k; items = items_after (value e) (list_count e) board.items s }) is_told))
 
 -- what is told of a row and of a grade
 abbrev machine_of : Tree → ℕ → ℕ → Costs → Log → Reading → Machine
@@ -147,22 +154,26 @@ pub row_taken : (e : Tree) (k room : ℕ) (costs : Costs) (log after : Log) (r t
 row_taken e k room costs log after r then row list before is may room_for is_list is_after =
     let next = next_row_is log r row may in
     let access : row_access (need_at log.lists r) row ≡ Sorted (length r.objects) row.object row.grade = ap (λ need. row_access need row) (need_in_row log.lists r next.0 next.1) in
-    subst (λ (t : Machine). HasRoomFor t row.object × Takes (row_access t.need row) t (machine_of e k room costs after then)) is
-      (room_for, record {
+    subst (λ (t : Machine). HasRoomFor t row.object × Takes (row_access t.need row) t (machine_of e k room costs after then)) is (
+      room_for,
+      record {
         expr = refl;
         k = refl;
         room = refl;
         costs = refl;
-        log = is_after ∙ ap (λ l. with_access log (Sorted l row.object row.grade)) is_list ∙ ap (with_access log) (sym access) })
+        log = is_after ∙ ap (λ l. with_access log (Sorted l row.object row.grade)) is_list ∙ ap (with_access log) (sym access);
+      },
+    )
 
 pub grade_taken : (e : Tree) (k room : ℕ) (costs : Costs) (log after : Log) (r then : Reading) (grade list object : ℕ) (before : Machine) → machine_of e k room costs log r ≡ before → MayBeNextGrade log (need_at log.lists r) grade → list ≡ length r.grades → object ≡ first_or_zero r.waiting → after ≡ with_access log (Random list object grade) → Takes (grade_access before.need grade) before (machine_of e k room costs after then)
 grade_taken e k room costs log after r then grade list object before is may is_list is_object is_after =
     let next = next_grade_is log r grade may in
     let access : grade_access (need_at log.lists r) grade ≡ Random (length r.grades) (first_or_zero r.waiting) grade = ap (λ need. grade_access need grade) (need_after_row log.lists r next.0 next.1) in
     subst (λ (t : Machine). Takes (grade_access t.need grade) t (machine_of e k room costs after then)) is
-      (record {
-        expr = refl;
-        k = refl;
-        room = refl;
-        costs = refl;
-        log = is_after ∙ ap (λ l. with_access log (Random l object grade)) is_list ∙ ap (λ o. with_access log (Random (length r.grades) o grade)) is_object ∙ ap (with_access log) (sym access) })
+    (record {
+      expr = refl;
+      k = refl;
+      room = refl;
+      costs = refl;
+      log = is_after ∙ ap (λ l. with_access log (Random l object grade)) is_list ∙ ap (λ o. with_access log (Random (length r.grades) o grade)) is_object ∙ ap (with_access log) (sym access);
+    })

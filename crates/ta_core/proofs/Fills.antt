@@ -25,8 +25,9 @@ length-grades_in_row object [] bs = omega arith
 length-grades_in_row object (other ∷ os) [] = omega arith
 length-grades_in_row object (other ∷ os) (bottom ∷ bs) =
     elim (cases_Bool (other == object)) [
-      inl t ↦ omega (arith, ap length (has_here object other bottom os bs t), length-grades_in_row object os bs)
-    | inr f ↦ omega (arith, ap length (has_not_here object other bottom os bs f)) ]
+      | inl t ↦ omega (arith, ap length (has_here object other bottom os bs t), length-grades_in_row object os bs)
+      | inr f ↦ omega (arith, ap length (has_not_here object other bottom os bs f))
+    ]
 
 -- in the first list where they end the row has another object
 pub grades_in_row_end : (object : ℕ) (os bs : List ℕ) → length bs ≡ length os → length (grades_in_row object os bs) < length os → slice_index os (length (grades_in_row object os bs)) ≢ object
@@ -34,13 +35,14 @@ grades_in_row_end object [] bs e l = absurd (omega arith)
 grades_in_row_end object (other ∷ os) [] e l = absurd (omega arith)
 grades_in_row_end object (other ∷ os) (bottom ∷ bs) e l =
     elim (cases_Bool (other == object)) [
-      inl t ↦
-        let same : grades_in_row object (other ∷ os) (bottom ∷ bs) ≡ bottom ∷ grades_in_row object os bs = has_here object other bottom os bs t in
-        let count : length (grades_in_row object (other ∷ os) (bottom ∷ bs)) ≡ suc (length (grades_in_row object os bs)) = ap length same in
-        subst (λ p. slice_index (other ∷ os) p ≢ object) (sym count) (grades_in_row_end object os bs (omega arith) (omega arith))
-    | inr f ↦
-        let count : length (grades_in_row object (other ∷ os) (bottom ∷ bs)) ≡ 0 = ap length (has_not_here object other bottom os bs f) in
-        subst (λ p. slice_index (other ∷ os) p ≢ object) (sym count) (eqb-false other object f) ]
+      | inl t ↦
+          let same : grades_in_row object (other ∷ os) (bottom ∷ bs) ≡ bottom ∷ grades_in_row object os bs = has_here object other bottom os bs t in
+          let count : length (grades_in_row object (other ∷ os) (bottom ∷ bs)) ≡ suc (length (grades_in_row object os bs)) = ap length same in
+          subst (λ p. slice_index (other ∷ os) p ≢ object) (sym count) (grades_in_row_end object os bs (omega arith) (omega arith))
+      | inr f ↦
+          let count : length (grades_in_row object (other ∷ os) (bottom ∷ bs)) ≡ 0 = ap length (has_not_here object other bottom os bs f) in
+          subst (λ p. slice_index (other ∷ os) p ≢ object) (sym count) (eqb-false other object f)
+    ]
 
 -- where the first list has another object there are none
 pub grades_in_row_none : (object : ℕ) (os bs : List ℕ) → (0 < length os → slice_index os 0 ≢ object) → grades_in_row object os bs ≡ []
@@ -48,8 +50,9 @@ grades_in_row_none object [] bs n = refl
 grades_in_row_none object (other ∷ os) [] n = refl
 grades_in_row_none object (other ∷ os) (bottom ∷ bs) n =
     elim (cases_Bool (other == object)) [
-      inl t ↦ absurd (n (omega arith) (eqb-true other object t))
-    | inr f ↦ has_not_here object other bottom os bs f ]
+      | inl t ↦ absurd (n (omega arith) (eqb-true other object t))
+      | inr f ↦ has_not_here object other bottom os bs f
+    ]
 
 -- the place and the grade of an object that a row has
 pub row_place : (n : ℕ) (D : List (List Row)) (rows : List Row) (depth object : ℕ) → IsTable n D → Contains D rows → 1 ≤ depth → depth ≤ n → (row_at rows depth).object ≡ object → (place_in rows object ≡ depth - 1) × (grade_in rows object ≡ (row_at rows depth).grade)
@@ -66,17 +69,18 @@ skips n D (rows ∷ L) start depth object t within positive fits =
     let row : Row = row_at rows depth in
     let later : List ℕ = grades_in_row object (objects_at depth L) (bottoms_at depth L) in
     elim (cases_Bool (row.object == object)) [
-      inl s ↦
-        let place = (row_place n D rows depth object t (within rows (contains_here rows L)) positive fits (eqb-true row.object object s)).0 in
-        let count : length (grades_in_row object (objects_at depth (rows ∷ L)) (bottoms_at depth (rows ∷ L))) ≡ suc (length later) = ap length (has_here object row.object row.grade (objects_at depth L) (bottoms_at depth L) s) in
-        random_block_here start depth object rows L (omega arith)
-        ∙ skips n D L (start + 1) depth object t (λ other h. within other (contains_there rows L other h)) positive fits
-        ∙ ap (λ at. random_block at depth object (drop (length later) L)) (omega arith)
-        ∙ ap (λ c. random_block (start + c) depth object (drop c (rows ∷ L))) (sym count)
-    | inr f ↦
-        let count : length (grades_in_row object (objects_at depth (rows ∷ L)) (bottoms_at depth (rows ∷ L))) ≡ 0 = ap length (has_not_here object row.object row.grade (objects_at depth L) (bottoms_at depth L) f) in
-        ap (λ at. random_block at depth object (rows ∷ L)) (omega arith)
-        ∙ ap (λ c. random_block (start + c) depth object (drop c (rows ∷ L))) (sym count) ]
+      | inl s ↦
+          let place = (row_place n D rows depth object t (within rows (contains_here rows L)) positive fits (eqb-true row.object object s)).0 in
+          let count : length (grades_in_row object (objects_at depth (rows ∷ L)) (bottoms_at depth (rows ∷ L))) ≡ suc (length later) = ap length (has_here object row.object row.grade (objects_at depth L) (bottoms_at depth L) s) in
+          random_block_here start depth object rows L (omega arith)
+          ∙ skips n D L (start + 1) depth object t (λ other h. within other (contains_there rows L other h)) positive fits
+          ∙ ap (λ at. random_block at depth object (drop (length later) L)) (omega arith)
+          ∙ ap (λ c. random_block (start + c) depth object (drop c (rows ∷ L))) (sym count)
+      | inr f ↦
+          let count : length (grades_in_row object (objects_at depth (rows ∷ L)) (bottoms_at depth (rows ∷ L))) ≡ 0 = ap length (has_not_here object row.object row.grade (objects_at depth L) (bottoms_at depth L) f) in
+          ap (λ at. random_block at depth object (rows ∷ L)) (omega arith)
+          ∙ ap (λ c. random_block (start + c) depth object (drop c (rows ∷ L))) (sym count)
+    ]
 
 -- and the row's grades are the object's
 pub row_grades : (n : ℕ) (D L : List (List Row)) (depth object : ℕ) → IsTable n D → ((rows : List Row) → Contains L rows → Contains D rows) → 1 ≤ depth → depth ≤ n → grades_in_row object (objects_at depth L) (bottoms_at depth L) ≡ take (length (grades_in_row object (objects_at depth L) (bottoms_at depth L))) (grades_of L object)
@@ -85,13 +89,14 @@ row_grades n D (rows ∷ L) depth object t within positive fits =
     let row : Row = row_at rows depth in
     let later : List ℕ = grades_in_row object (objects_at depth L) (bottoms_at depth L) in
     elim (cases_Bool (row.object == object)) [
-      inl s ↦
-        let grade = (row_place n D rows depth object t (within rows (contains_here rows L)) positive fits (eqb-true row.object object s)).1 in
-        let same : grades_in_row object (objects_at depth (rows ∷ L)) (bottoms_at depth (rows ∷ L)) ≡ row.grade ∷ later = has_here object row.object row.grade (objects_at depth L) (bottoms_at depth L) s in
-        same
-        ∙ ap (λ g. g ∷ later) (sym grade)
-        ∙ ap (λ rest. grade_in rows object ∷ rest) (row_grades n D L depth object t (λ other h. within other (contains_there rows L other h)) positive fits)
-        ∙ ap (λ c. take c (grades_of (rows ∷ L) object)) (sym (ap length same))
-    | inr f ↦
-        let none : grades_in_row object (objects_at depth (rows ∷ L)) (bottoms_at depth (rows ∷ L)) ≡ [] = has_not_here object row.object row.grade (objects_at depth L) (bottoms_at depth L) f in
-        none ∙ ap (λ c. take c (grades_of (rows ∷ L) object)) (sym (ap length none)) ]
+      | inl s ↦
+          let grade = (row_place n D rows depth object t (within rows (contains_here rows L)) positive fits (eqb-true row.object object s)).1 in
+          let same : grades_in_row object (objects_at depth (rows ∷ L)) (bottoms_at depth (rows ∷ L)) ≡ row.grade ∷ later = has_here object row.object row.grade (objects_at depth L) (bottoms_at depth L) s in
+          same
+          ∙ ap (λ g. g ∷ later) (sym grade)
+          ∙ ap (λ rest. grade_in rows object ∷ rest) (row_grades n D L depth object t (λ other h. within other (contains_there rows L other h)) positive fits)
+          ∙ ap (λ c. take c (grades_of (rows ∷ L) object)) (sym (ap length same))
+      | inr f ↦
+          let none : grades_in_row object (objects_at depth (rows ∷ L)) (bottoms_at depth (rows ∷ L)) ≡ [] = has_not_here object row.object row.grade (objects_at depth L) (bottoms_at depth L) f in
+          none ∙ ap (λ c. take c (grades_of (rows ∷ L) object)) (sym (ap length none))
+    ]

@@ -28,7 +28,8 @@ pub monotone : (e : Tree) → IsMonotone (value e)
 monotone e lesser greater h =
     value-monotone e lesser greater (record {
       same_length = length_all_zip ◌≤◌ lesser greater h;
-      each = λ i l. AllZip-get_or ◌≤◌ lesser greater i 0 0 h l })
+      each = λ i l. AllZip-get_or ◌≤◌ lesser greater i 0 0 h l;
+    })
 
 -- a table that agrees is asked
 pub asked_of : (e : Tree) (k room : ℕ) (log : Log) (board : Held) (r : Reading) (D : List (List Row)) → IsKept e k room log board r → AgreesWith D log → IsAsked k log.count D
@@ -36,7 +37,8 @@ asked_of e k room log board r D kept agrees = record {
   table = agrees.table;
   lists = omega (arith, kept.some_list, agrees.lists);
   positive = kept.asked;
-  fits = kept.fits }
+  fits = kept.fits;
+}
 
 -- what is needed, by where the reading is
 pub need_in_row : (m : ℕ) (r : Reading) → r.done ≡ false → length r.objects < m → need_at m r ≡ RowAt (length r.objects) r.depth
@@ -64,26 +66,29 @@ needed e k room log board r D kept agrees =
     let on = kept.on_table D agrees in
     let asked = asked_of e k room log board r D kept agrees in
     elim (cases_Bool r.done) [
-      inl done ↦
-        subst (λ need. IsAt (ta_run V k D) A need × CanServe D need) (sym (need_when_done log.lists r done))
+      | inl done ↦
+          subst (λ need. IsAt (ta_run V k D) A need × CanServe D need) (sym (need_when_done log.lists r done))
           (nothing_needed V k D A (made_of_reading V k log.count D A r done on.reading).run)
-    | inr open' ↦ elim (cases_lt (length r.objects) log.lists) [
-        inl short ↦
-          subst (λ need. IsAt (ta_run V k D) A need × CanServe D need) (sym (need_in_row log.lists r open' short))
+      | inr open' ↦ elim (cases_lt (length r.objects) log.lists) [
+        | inl short ↦
+            subst (λ need. IsAt (ta_run V k D) A need × CanServe D need) (sym (need_in_row log.lists r open' short))
             (row_needed V k log.count D A r (monotone e) asked (row_of_reading V k log.count D A r open' (omega (arith, agrees.lists)) on.reading))
-      | inr whole ↦
-          let rest = kept.rest.after_row open' whole in
-          let first = first_member r.waiting rest.0 in
-          let same : first_or_zero r.waiting ≡ first.0 = ap first_or_zero first.2 in
-          let other : slice_index r.objects (length r.grades) ≢ first.0 = λ e'. rest.2 (e' ∙ sym same) in
-          subst (λ need. IsAt (ta_run V k D) A need × CanServe D need) (sym (need_after_row log.lists r open' whole ∙ ap (Grade (length r.grades)) same))
-            (grade_needed V k log.count D A r first.0 first.1 (monotone e) asked (asks_of_reading V k log.count D A r open' (omega (arith, agrees.lists)) on.reading) first.2 (omega (arith, rest.1, agrees.lists)) other) ] ]
+        | inr whole ↦
+            let rest = kept.rest.after_row open' whole in
+            let first = first_member r.waiting rest.0 in
+            let same : first_or_zero r.waiting ≡ first.0 = ap first_or_zero first.2 in
+            let other : slice_index r.objects (length r.grades) ≢ first.0 = λ e'. rest.2 (e' ∙ sym same) in
+            subst (λ need. IsAt (ta_run V k D) A need × CanServe D need) (sym (need_after_row log.lists r open' whole ∙ ap (Grade (length r.grades)) same))
+            (grade_needed V k log.count D A r first.0 first.1 (monotone e) asked (asks_of_reading V k log.count D A r open' (omega (arith, agrees.lists)) on.reading) first.2 (omega (arith, rest.1, agrees.lists)) other)
+      ]
+    ]
 
 pub kept_makes : (e : Tree) (k room : ℕ) (costs : Costs) (log : Log) (board : Held) (r : Reading) → IsKept e k room log board r → MakesItsRun (record { expr = e; k = k; room = room; costs = costs; log = log; need = need_at log.lists r })
 kept_makes e k room costs log board r kept = record {
   consistent = kept.agreeing;
   on_run = λ D agrees. (needed e k room log board r D kept agrees).0;
-  served = λ D agrees. (needed e k room log board r D kept agrees).1 }
+  served = λ D agrees. (needed e k room log board r D kept agrees).1;
+}
 
 -- the depth is one of the tables', so it is small
 pub kept_depth : (e : Tree) (k room : ℕ) (log : Log) (board : Held) (r : Reading) → IsKept e k room log board r → r.done ≡ false → r.depth ≤ log.count
@@ -92,5 +97,6 @@ kept_depth e k room log board r kept open' =
     let agrees : AgreesWith D log = kept.agreeing.1 in
     let on = kept.on_table D agrees in
     elim (cases_lt (length r.objects) log.lists) [
-      inl short ↦ (row_of_reading (value e) k log.count D log.accesses r open' (omega (arith, agrees.lists)) on.reading).at.within
-    | inr whole ↦ (asks_of_reading (value e) k log.count D log.accesses r open' (omega (arith, agrees.lists)) on.reading).at.within ]
+      | inl short ↦ (row_of_reading (value e) k log.count D log.accesses r open' (omega (arith, agrees.lists)) on.reading).at.within
+      | inr whole ↦ (asks_of_reading (value e) k log.count D log.accesses r open' (omega (arith, agrees.lists)) on.reading).at.within
+    ]

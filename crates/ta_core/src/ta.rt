@@ -116,7 +116,13 @@ impl Ta {
         };
         let mut next = self.progress.copy();
         next.add_row(self.transcript.lists(), row, is_new);
-        tell(&self.expr, &mut self.transcript, &mut self.board, access, &next)?;
+        tell(
+            &self.expr,
+            &mut self.transcript,
+            &mut self.board,
+            access,
+            &next,
+        )?;
         self.progress = follow(&self.expr, &self.board, next);
         Ok(())
     }
@@ -134,7 +140,13 @@ impl Ta {
         };
         let mut next = self.progress.copy();
         next.add_grade(grade);
-        tell(&self.expr, &mut self.transcript, &mut self.board, access, &next)?;
+        tell(
+            &self.expr,
+            &mut self.transcript,
+            &mut self.board,
+            access,
+            &next,
+        )?;
         self.progress = follow(&self.expr, &self.board, next);
         Ok(())
     }
@@ -204,8 +216,10 @@ fn tell(
         → (item : Item) → Contains board.old.items item → item.object ≢ first_or_zero next.now.waiting.items }
     ensures told { OnOk result (transcript.new ≡ with_access transcript.old access) }
     ensures agrees { OnOk result (IsConsistent transcript.new) }
-    ensures put { OnOk result (board.new ≡ record board.old { items =
-        items_after (value expr.now) (list_count expr.now) board.old.items (reading_of next.now) }) }
+    ensures put { OnOk result (board.new ≡ record board.old {
+      items =
+          items_after (value expr.now) (list_count expr.now) board.old.items (reading_of next.now);
+    }) }
     ensures unchanged { OnErr result (transcript.new ≡ transcript.old) }
     ensures kept { OnErr result (board.new ≡ board.old) }
 {

@@ -11,4 +11,4 @@ returns-in-Ok-clause-items c =
     let a = c.self.inside in
     let done : need_at a.transcript.lists (reading_of a.progress) ≡ Done = ap (λ (t : Machine). t.need) c.self.view_is ∙ c.requires in
     subst (λ (t : Machine). IsAnswer t c.in-Ok.items) c.self.view_is
-      (answers a.expr a.k a.room a.costs a.transcript a.board (reading_of a.progress) c.in-Ok.items c.self.invariant done c.in-Ok.ensures.only)
+    (answers a.expr a.k a.room a.costs a.transcript a.board (reading_of a.progress) c.in-Ok.items c.self.invariant done c.in-Ok.ensures.only)

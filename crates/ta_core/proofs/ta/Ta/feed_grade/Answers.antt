@@ -27,7 +27,7 @@ returns-in_err-tell-clause-run c =
     let a = c.self.inside in
     let old : MakesItsRun c.args.self.now = subst MakesItsRun c.self.view_is (kept_makes a.expr a.k a.room a.costs a.transcript a.board (reading_of a.progress) c.self.invariant) in
     let same : record { expr = a.expr; k = a.k; room = a.room; costs = a.costs; log = c.tell.new.transcript; need = need_at c.tell.new.transcript.lists (reading_of a.progress) } ≡ c.args.self.now =
-      ap (λ l. record { expr = a.expr; k = a.k; room = a.room; costs = a.costs; log = l; need = need_at l.lists (reading_of a.progress) }) c.in_err-tell.ensures.unchanged ∙ c.self.view_is in
+    ap (λ l. record { expr = a.expr; k = a.k; room = a.room; costs = a.costs; log = l; need = need_at l.lists (reading_of a.progress) }) c.in_err-tell.ensures.unchanged ∙ c.self.view_is in
     along _ c.args.self.now same old
 
 pub invariant_of-self-2 : goal.invariant_of-self-2
@@ -39,7 +39,7 @@ invariant_of-self-2 c =
     let may : MayBeNextGrade a.transcript (need_at a.transcript.lists r) c.args.grade = subst (λ (t : Machine). MayBeNextGrade t.log t.need c.args.grade) (sym c.self.view_is) c.requires in
     let told : reading_of c.add_grade.new.self ≡ grade_added r c.args.grade = c.add_grade.ensures ∙ ap (λ s. grade_added s c.args.grade) c.copy-next.ensures in
     grade_kept a.expr a.k a.room a.transcript c.tell.new.transcript a.board c.tell.new.board r (reading_of c.add_grade.new.self) (reading_of c.follow-self-inside.result) c.args.grade c.len.result object c.self.invariant may told c.len.ensures.value is_first
-      c.in_ok-tell.ensures.told c.in_ok-tell.ensures.agrees c.in_ok-tell.ensures.put c.follow-self-inside.ensures
+    c.in_ok-tell.ensures.told c.in_ok-tell.ensures.agrees c.in_ok-tell.ensures.put c.follow-self-inside.ensures
 
 pub returns-clause-run : goal.returns-clause-run
 returns-clause-run c =

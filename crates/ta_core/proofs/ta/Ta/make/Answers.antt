@@ -14,7 +14,7 @@ invariant_of-result c =
     let log : c.in-Ok.transcript ≡ empty = c.in-Ok.ensures ∙ ap (λ m. record { lists = m; count = c.args.count; accesses = [] }) c.lists.ensures.lists in
     subst (λ (l : Log). IsKept c.args.expr c.args.k c.min-room.result l c.in-Ok-make.board (reading_of c.at.result)) (sym log)
     (subst (λ (r : Reading). IsKept c.args.expr c.args.k c.min-room.result empty c.in-Ok-make.board r) (sym c.at.ensures)
-      (kept_start c.args.expr c.args.k c.min-room.result c.args.count c.in-Ok-make.board c.lists.ensures.made.lists c.requires.asked c.requires.fits c.requires.counted (omega (arith, c.min-room.ensures)) (omega (arith, c.min-room.ensures)) c.in-Ok-make.ensures.same_k c.in-Ok-make.ensures.empty))
+    (kept_start c.args.expr c.args.k c.min-room.result c.args.count c.in-Ok-make.board c.lists.ensures.made.lists c.requires.asked c.requires.fits c.requires.counted (omega (arith, c.min-room.ensures)) (omega (arith, c.min-room.ensures)) c.in-Ok-make.ensures.same_k c.in-Ok-make.ensures.empty))
 
 pub returns-clause-run : goal.returns-clause-run
 returns-clause-run c =
