@@ -84,7 +84,8 @@ pub fn read_certificate(alloc: Global, bytes: &[u8]) -> Result<Certificate, Cert
     // Else the first line is named with which no certificate begins.
     ensures fault { IfErr result (IsCause (lines bytes.now)) }
     // What is written of an answer is read back.
-    ensures again { (line : ℕ) (query : Query) (count : ℕ) (answer : Answer) → IsCertified line query count answer
+    ensures again { (line : ℕ) (query : Query) (count : ℕ) (answer : Answer)
+        → IsCertified line query count answer
         → bytes.now ≡ outcome_text line (Some query) count (Answered answer)
         → IsReadAs (certificate_of line query count answer) result }
 {

@@ -36,7 +36,8 @@ fn number_within(text: &[u8], least: u64, most: u64) -> Option<u64>
 /// The number before the first space of a text, and what follows the space.
 #[tactic(auto, unfolding(crate::specs::Parts::number_before))]
 fn number_before(text: &[u8], most: u64) -> Option<(u64, &[u8])>
-    ensures value { option_map (λ field. (field.0, field.1.now)) result ≡ number_before most text.now }
+    ensures value { option_map (λ field. (field.0, field.1.now)) result
+        ≡ number_before most text.now }
     ensures within { IfSome result (λ field. field.0 ≤ most) }
 {
     let (number, rest) = cut_at(text, b' ')?;

@@ -22,7 +22,8 @@ pub(crate) struct Results {
 /// The accesses, if no text is left after the line that ends a certificate.
 fn end_accesses(accesses: Vec<Access>, number: u64, rest: &[u8]) -> Result<Vec<Access>, CertFault>
     requires { number + 1 < 2 ^ 64 }
-    ensures { Finds (SpellsNone accesses.items) (λ accesses. accesses.items) (number + 1) (lines rest.now) result }
+    ensures { Finds (SpellsNone accesses.items) (λ accesses. accesses.items)
+        (number + 1) (lines rest.now) result }
 {
     match first_line(rest) {
         Some(_) => Err(CertFault::BadLine { line: number + 1 }),
@@ -46,7 +47,8 @@ fn read_accesses(
 ) -> Result<Vec<Access>, CertFault>
     requires names { AreNames names.now }
     requires numbers { first + length text.now < 2 ^ 64 }
-    ensures { Finds (SpellsAccesses names.now) (λ accesses. accesses.items) first (lines text.now) result }
+    ensures { Finds (SpellsAccesses names.now) (λ accesses. accesses.items)
+        first (lines text.now) result }
 {
     let mut accesses = Vec::new(alloc);
     let mut number = first;
@@ -102,7 +104,8 @@ fn read_counted(
 ) -> Result<(u32, Results), CertFault>
     requires names { AreNames names.now }
     requires numbers { first + length text.now < 2 ^ 64 }
-    ensures { Finds (SpellsCounted names.now) (λ counted. (counted.0, found_of counted.1)) first (lines text.now) result }
+    ensures { Finds (SpellsCounted names.now) (λ counted. (counted.0, found_of counted.1))
+        first (lines text.now) result }
 {
     let Some((line, rest)) = first_line(text) else {
         return Err(CertFault::BadLine { line: first });
@@ -134,7 +137,8 @@ pub(crate) fn read_queried(
     text: &[u8],
 ) -> Result<(Query, u32, Results), CertFault>
     requires { first + length text.now < 2 ^ 64 }
-    ensures { Finds SpellsQueried (λ queried. (queried.0, queried.1, found_of queried.2)) first (lines text.now) result }
+    ensures { Finds SpellsQueried (λ queried. (queried.0, queried.1, found_of queried.2))
+        first (lines text.now) result }
 {
     let Some((line, rest)) = first_line(text) else {
         return Err(CertFault::BadLine { line: first });

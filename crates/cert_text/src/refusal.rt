@@ -1,6 +1,7 @@
 //! Why a query line is refused.
 
 ghost use Rattle.std.specs.Prelude.{◌≡◌, ◌++◌, ◌∷◌, [], map};
+ghost use Rattle.std.specs.Fmt.{decimal};
 ghost use Rattle.std.specs.Option.{option_copied};
 ghost use Rattle.query_text.specs.Query.{name_of};
 ghost use Rattle.cert_text.specs.Outcome.{names_of, refused_line, refused_words};
@@ -50,18 +51,20 @@ fn listed(query: Option<&Query>, list: u8) -> &[u8]
 }
 
 /// Writes the line of a refused query line: its number, the refusal's name and the fields.
-fn write_refused<K: Sink>(
-    out: &mut K,
-    line: u64,
-    name: &[u8],
-    fields: &[Word],
-) -> Result<(), Failed>
+fn write_row<K: Sink>(out: &mut K, line: u64, name: &[u8], fields: &[Word]) -> Result<(), Failed>
     ensures { Writes (refused_words line name.now (map word_text fields.now) ++ 10 ∷ [])
         (K.held out.old) (K.held out.new) (K.faults out.old) (K.faults out.new) result }
 {
     write_bytes(out, b"refused")?;
     write_words(out, &[Word::Number(line), Word::Text(name)])?;
     end_line(out, fields)
+}
+
+/// A field of 32 bits.
+fn number(field: u32) -> Word<'static>
+    ensures { word_text result ≡ decimal field }
+{
+    Word::Number(u64::from(field))
 }
 
 /// Writes the line of a refusal of the query line with this number.
@@ -75,69 +78,36 @@ pub(crate) fn write_refusal<K: Sink>(
         (K.held out.old) (K.held out.new) (K.faults out.old) (K.faults out.new) result }
 {
     match refusal {
-        Refusal::LongLine { limit } => write_refused(
-            out,
-            line,
-            b"LongLine",
-            &[Word::Number(u64::from(limit))],
-        ),
-        Refusal::Syntax { at } => write_refused(
-            out,
-            line,
-            b"Syntax",
-            &[Word::Number(u64::from(at))],
-        ),
-        Refusal::Number { at } => write_refused(
-            out,
-            line,
-            b"Number",
-            &[Word::Number(u64::from(at))],
-        ),
-        Refusal::TooManyLists { at } => write_refused(
-            out,
-            line,
-            b"TooManyLists",
-            &[Word::Number(u64::from(at))],
-        ),
-        Refusal::TooManyNodes { nodes } => write_refused(
+        Refusal::LongLine { limit } => write_row(out, line, b"LongLine", &[number(limit)]),
+        Refusal::Syntax { at } => write_row(out, line, b"Syntax", &[number(at)]),
+        Refusal::Number { at } => write_row(out, line, b"Number", &[number(at)]),
+        Refusal::TooManyLists { at } => write_row(out, line, b"TooManyLists", &[number(at)]),
+        Refusal::TooManyNodes { nodes } => write_row(
             out,
             line,
             b"TooManyNodes",
             &[Word::Number(nodes)],
         ),
-        Refusal::TooDeep { depth } => write_refused(out, line, b"TooDeep", &[Word::Number(depth)]),
-        Refusal::TooBig { node } => write_refused(
-            out,
-            line,
-            b"TooBig",
-            &[Word::Number(u64::from(node))],
-        ),
-        Refusal::UnknownList { list } => write_refused(
+        Refusal::TooDeep { depth } => write_row(out, line, b"TooDeep", &[Word::Number(depth)]),
+        Refusal::TooBig { node } => write_row(out, line, b"TooBig", &[number(node)]),
+        Refusal::UnknownList { list } => write_row(
             out,
             line,
             b"UnknownList",
             &[Word::Text(listed(query, list))],
         ),
-        Refusal::KAboveCount { k, n } => write_refused(
+        Refusal::KAboveCount { k, n } => write_row(
             out,
             line,
             b"KAboveCount",
-            &[Word::Number(u64::from(k)), Word::Number(u64::from(n))],
+            &[number(k), number(n)],
         ),
-        Refusal::Strangers { object, count } => write_refused(
+        Refusal::Strangers { object, count } => write_row(
             out,
             line,
             b"Strangers",
-            &[
-                Word::Number(u64::from(object)),
-                Word::Number(u64::from(count)),
-            ],
+            &[number(object), number(count)],
         ),
-        Refusal::RoomFull { room } => write_refused(
-            out,
-            line,
-            b"RoomFull",
-            &[Word::Number(u64::from(room))],
-        ),
+        Refusal::RoomFull { room } => write_row(out, line, b"RoomFull", &[number(room)]),
     }
 }

@@ -19,14 +19,16 @@ pub(crate) enum Word<'t> {
 
 /// Writes these bytes.
 pub(crate) fn write_bytes<K: Sink>(out: &mut K, bytes: &[u8]) -> Result<(), Failed>
-    ensures { Writes bytes.now (K.held out.old) (K.held out.new) (K.faults out.old) (K.faults out.new) result }
+    ensures { Writes bytes.now
+        (K.held out.old) (K.held out.new) (K.faults out.old) (K.faults out.new) result }
 {
     write_text(out, bytes)
 }
 
 /// Writes a word.
 fn write_word<K: Sink>(out: &mut K, word: Word) -> Result<(), Failed>
-    ensures { Writes (word_text word.entry) (K.held out.old) (K.held out.new) (K.faults out.old) (K.faults out.new) result }
+    ensures { Writes (word_text word.entry)
+        (K.held out.old) (K.held out.new) (K.faults out.old) (K.faults out.new) result }
 {
     match word {
         Word::Text(text) => write_bytes(out, text),
@@ -39,7 +41,8 @@ fn write_word<K: Sink>(out: &mut K, word: Word) -> Result<(), Failed>
 
 /// Writes a space and a word.
 fn write_further<K: Sink>(out: &mut K, word: Word) -> Result<(), Failed>
-    ensures { Writes (32 ∷ word_text word.entry) (K.held out.old) (K.held out.new) (K.faults out.old) (K.faults out.new) result }
+    ensures { Writes (32 ∷ word_text word.entry)
+        (K.held out.old) (K.held out.new) (K.faults out.old) (K.faults out.new) result }
 {
     write_bytes(out, b" ")?;
     write_word(out, word)
@@ -47,7 +50,8 @@ fn write_further<K: Sink>(out: &mut K, word: Word) -> Result<(), Failed>
 
 /// Writes a space and a word for each word.
 pub(crate) fn write_words<K: Sink>(out: &mut K, words: &[Word]) -> Result<(), Failed>
-    ensures { Writes (further (map word_text words.now)) (K.held out.old) (K.held out.new) (K.faults out.old) (K.faults out.new) result }
+    ensures { Writes (further (map word_text words.now))
+        (K.held out.old) (K.held out.new) (K.faults out.old) (K.faults out.new) result }
 {
     for word in words {
         write_further(out, *word)?;

@@ -44,7 +44,8 @@ fn depth_of(transcript: &Transcript) -> u64
 
 /// Writes the line of a query.
 fn write_query_line<K: Sink>(out: &mut K, query: &Query) -> Result<(), Failed>
-    ensures { Writes (query_line query.now ++ 10 ∷ []) (K.held out.old) (K.held out.new) (K.faults out.old) (K.faults out.new) result }
+    ensures { Writes (query_line query.now ++ 10 ∷ [])
+        (K.held out.old) (K.held out.new) (K.faults out.old) (K.faults out.new) result }
 {
     write_bytes(out, b"query ")?;
     write_query_text(out, query)?;
@@ -53,14 +54,16 @@ fn write_query_line<K: Sink>(out: &mut K, query: &Query) -> Result<(), Failed>
 
 /// Writes the text of a query.
 fn write_query_text<K: Sink>(out: &mut K, query: &Query) -> Result<(), Failed>
-    ensures { Writes (printed query.now) (K.held out.old) (K.held out.new) (K.faults out.old) (K.faults out.new) result }
+    ensures { Writes (printed query.now)
+        (K.held out.old) (K.held out.new) (K.faults out.old) (K.faults out.new) result }
 {
     write_query(out, query)
 }
 
 /// Writes the line of an object of the answer.
 fn write_item<K: Sink>(out: &mut K, item: &Item) -> Result<(), Failed>
-    ensures { Writes (answer_line item.now ++ 10 ∷ []) (K.held out.old) (K.held out.new) (K.faults out.old) (K.faults out.new) result }
+    ensures { Writes (answer_line item.now ++ 10 ∷ [])
+        (K.held out.old) (K.held out.new) (K.faults out.old) (K.faults out.new) result }
 {
     let object = Word::Number(u64::from(item.object));
     write_line(
@@ -72,7 +75,8 @@ fn write_item<K: Sink>(out: &mut K, item: &Item) -> Result<(), Failed>
 
 /// Writes the lines of an answer's objects.
 fn write_items<K: Sink>(out: &mut K, items: &Items) -> Result<(), Failed>
-    ensures { Writes (unlines (map answer_line items.now)) (K.held out.old) (K.held out.new) (K.faults out.old) (K.faults out.new) result }
+    ensures { Writes (unlines (map answer_line items.now))
+        (K.held out.old) (K.held out.new) (K.faults out.old) (K.faults out.new) result }
 {
     for place in 0..items.len() {
         let Some(item) = items.get(place) else {
@@ -86,7 +90,8 @@ fn write_items<K: Sink>(out: &mut K, items: &Items) -> Result<(), Failed>
 /// Writes the line of the figures of the accesses.
 fn write_figures<K: Sink>(out: &mut K, query: &Query, transcript: &Transcript) -> Result<(), Failed>
     requires { HasCost query.now transcript.now }
-    ensures { Writes (figures_line query.now transcript.now ++ 10 ∷ []) (K.held out.old) (K.held out.new) (K.faults out.old) (K.faults out.new) result }
+    ensures { Writes (figures_line query.now transcript.now ++ 10 ∷ [])
+        (K.held out.old) (K.held out.new) (K.faults out.old) (K.faults out.new) result }
 {
     let figures = [
         Word::Text(b"depth"),
@@ -122,7 +127,8 @@ fn write_kind<K: Sink>(
 
 /// Writes the line of an access.
 fn write_access<K: Sink>(out: &mut K, names: &Names, access: Access) -> Result<(), Failed>
-    ensures { Writes (access_line names.now access ++ 10 ∷ []) (K.held out.old) (K.held out.new) (K.faults out.old) (K.faults out.new) result }
+    ensures { Writes (access_line names.now access ++ 10 ∷ [])
+        (K.held out.old) (K.held out.new) (K.faults out.old) (K.faults out.new) result }
 {
     match access {
         Access::Sorted {
@@ -144,7 +150,8 @@ fn write_accesses<K: Sink>(
     names: &Names,
     transcript: &Transcript,
 ) -> Result<(), Failed>
-    ensures { Writes (unlines (map (access_line names.now) transcript.now.accesses)) (K.held out.old) (K.held out.new) (K.faults out.old) (K.faults out.new) result }
+    ensures { Writes (unlines (map (access_line names.now) transcript.now.accesses))
+        (K.held out.old) (K.held out.new) (K.faults out.old) (K.faults out.new) result }
 {
     for place in 0..transcript.len() {
         let Some(access) = transcript.get(place) else {
@@ -157,7 +164,8 @@ fn write_accesses<K: Sink>(
 
 /// Writes the lines before the answer's objects.
 fn write_head<K: Sink>(out: &mut K, line: u64, query: &Query, count: u32) -> Result<(), Failed>
-    ensures { Writes (unlines (number_line line ∷ query_line query.now ∷ count_line count ∷ [])) (K.held out.old) (K.held out.new) (K.faults out.old) (K.faults out.new) result }
+    ensures { Writes (unlines (number_line line ∷ query_line query.now ∷ count_line count ∷ []))
+        (K.held out.old) (K.held out.new) (K.faults out.old) (K.faults out.new) result }
 {
     write_line(out, b"certificate", &[Word::Number(line)])?;
     write_query_line(out, query)?;
@@ -167,7 +175,9 @@ fn write_head<K: Sink>(out: &mut K, line: u64, query: &Query, count: u32) -> Res
 /// Writes the lines after the answer's objects.
 fn write_rest<K: Sink>(out: &mut K, query: &Query, transcript: &Transcript) -> Result<(), Failed>
     requires { HasCost query.now transcript.now }
-    ensures { Writes (unlines (figures_line query.now transcript.now ∷ access_lines query.now.names transcript.now.accesses)) (K.held out.old) (K.held out.new) (K.faults out.old) (K.faults out.new) result }
+    ensures { Writes (unlines (figures_line query.now transcript.now
+        ∷ access_lines query.now.names transcript.now.accesses))
+        (K.held out.old) (K.held out.new) (K.faults out.old) (K.faults out.new) result }
 {
     write_figures(out, query, transcript)?;
     write_accesses(out, &query.names, transcript)?;
@@ -183,7 +193,8 @@ pub(crate) fn write_certificate<K: Sink>(
     answer: &Answer,
 ) -> Result<(), Failed>
     requires { HasCost query.now answer.now.transcript }
-    ensures { Writes (unlines (certificate_lines (certificate_of line query.now count answer.now))) (K.held out.old) (K.held out.new) (K.faults out.old) (K.faults out.new) result }
+    ensures { Writes (unlines (certificate_lines (certificate_of line query.now count answer.now)))
+        (K.held out.old) (K.held out.new) (K.faults out.old) (K.faults out.new) result }
 {
     write_head(out, line, query, count)?;
     write_items(out, &answer.items)?;

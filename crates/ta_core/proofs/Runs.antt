@@ -12,14 +12,15 @@ use Rattle.monotone_fn.specs.Tree.{Tree}
 use Rattle.monotone_fn.specs.Value.{value, NoSmaller}
 use Rattle.monotone_fn.proofs.Laws.{value-monotone}
 use Rattle.topk_theory.specs.Aggregate.{IsMonotone}
-use Rattle.topk_theory.specs.Transcript.{Agrees}
+use Rattle.topk_theory.specs.Transcript.{Agrees, seen_objects}
 use Rattle.topk_theory.specs.Threshold.{IsAsked, ta_run}
 use Rattle.topk_theory.specs.Machine.{IsAt, CanServe}
+use Rattle.topk_theory.proofs.AgreementLists.{contains_here, member_of_all}
 use Rattle.access_log.specs.Log.{Log, AgreesWith}
 use Rattle.ta_core.specs.Reading.{Reading, first_or_zero, need_at}
 use Rattle.ta_core.specs.OnTable.{OnReading, OnTable, OnAsks}
 use Rattle.ta_core.specs.Kept.{IsKept}
-use Rattle.ta_core.specs.Machine.{Machine, MakesItsRun}
+use Rattle.ta_core.specs.Machine.{Machine, MakesItsRun, IsOfSeen}
 use Rattle.ta_core.proofs.NeedSteps.{row_needed, grade_needed, nothing_needed}
 use Rattle.ta_core.proofs.Steps.{row_of_reading, asks_of_reading, made_of_reading}
 
@@ -83,11 +84,25 @@ needed e k room log board r D kept agrees =
       ]
     ]
 
+tame_need : (e : Tree) (k room : ℕ) (log : Log) (board : Held) (r : Reading) → IsKept e k room log board r → IsOfSeen log (need_at log.lists r)
+tame_need e k room log board r kept =
+    elim (cases_Bool r.done) [
+      | inl done ↦ subst (IsOfSeen log) (sym (need_when_done log.lists r done)) tt
+      | inr open' ↦ elim (cases_lt (length r.objects) log.lists) [
+        | inl short ↦ subst (IsOfSeen log) (sym (need_in_row log.lists r open' short)) tt
+        | inr whole ↦
+            let first = first_member r.waiting (kept.rest.after_row open' whole).0 in
+            let waits : Contains r.waiting (first_or_zero r.waiting) = subst (λ ws. Contains ws (first_or_zero ws)) (sym first.2) (contains_here first.0 first.1) in
+            subst (IsOfSeen log) (sym (need_after_row log.lists r open' whole)) (member_of_all (Contains (seen_objects log.accesses)) r.waiting (first_or_zero r.waiting) kept.sound.waiting_seen waits)
+      ]
+    ]
+
 pub kept_makes : (e : Tree) (k room : ℕ) (costs : Costs) (log : Log) (board : Held) (r : Reading) → IsKept e k room log board r → MakesItsRun (record { expr = e; k = k; room = room; costs = costs; log = log; need = need_at log.lists r })
 kept_makes e k room costs log board r kept = record {
   consistent = kept.agreeing;
   on_run = λ D agrees. (needed e k room log board r D kept agrees).0;
   served = λ D agrees. (needed e k room log board r D kept agrees).1;
+  tame = tame_need e k room log board r kept;
 }
 
 -- the depth is one of the tables', so it is small

@@ -29,12 +29,19 @@ pub record Machine : Type 0 where
   pub log : Log
   pub need : Need
 
+-- a grade is needed of an object that was seen: no wild guess
+abbrev pub IsOfSeen : Log → Need → Type 0
+IsOfSeen log (RowAt list depth) = Unit {0}
+IsOfSeen log (Grade list object) = Contains (seen_objects log.accesses) object
+IsOfSeen log Done = Unit {0}
+
 -- on every table that agrees with the transcript, of which there is one, the transcript is how the algorithm's run begins,
 -- the need is the run's next access, or done exactly at its end, and the table can serve it
 pub record MakesItsRun (t : Machine) : Type 0 where
   pub consistent : IsConsistent t.log
   pub on_run : (D : List (List Row)) → AgreesWith D t.log → IsAt (ta_run (value t.expr) t.k D) t.log.accesses t.need
   pub served : (D : List (List Row)) → AgreesWith D t.log → CanServe D t.need
+  pub tame : IsOfSeen t.log t.need
 
 -- the need is a row, and this one can be it: no kind of inconsistency, but for an object too many
 abbrev pub MayBeNextRow : Log → Need → Row → Type 0

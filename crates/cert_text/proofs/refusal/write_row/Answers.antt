@@ -3,7 +3,7 @@ use Rattle.std.specs.Fmt.{decimal}
 use Rattle.cert_text.specs.Outcome.{refused_words}
 use Rattle.cert_text.specs.Writing.{further, word_text}
 use Rattle.cert_text.proofs.WritingLaws.{Writes-as, Writes-fail, Writes-then, refused_parts}
-use Rattle.cert_text.proofs.refusal.write_refused.Goals as goal
+use Rattle.cert_text.proofs.refusal.write_row.Goals as goal
 
 pub returns-in_err-write_bytes : goal.returns-in_err-write_bytes
 unfolding refused_words
