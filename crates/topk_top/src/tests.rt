@@ -126,7 +126,7 @@ fn refuses_inputs(rt: HostRuntime) -> Result<(), Fail> {
         let input = format!(in rt.alloc(); "{LISTS}{rest}")?;
         let text = format!(in rt.alloc(); "refused {why}\n")?;
         let (status, out) = outcome_of(rt.alloc(), &input)?;
-        let is_bundle = why.as_bytes()[0] == b'1';
+        let is_bundle = matches!(why.as_bytes(), [b'1', ..]);
         let wanted = if is_bundle {
             Status::Partial
         } else {
