@@ -6,3 +6,4 @@ pub mod HeldLaws
 pub mod Sorted
 pub mod Ranks
 pub mod BoardLaws
+pub mod Taken

@@ -1,5 +1,5 @@
 -- What a board holds: for each object the item that was put last.
-use Rattle.std.specs.Prelude.{◌==◌, ◌<◌, ℕ, Bool, Option, List, [], ◌∷◌, AllPairs, find}
+use Rattle.std.specs.Prelude.{◌==◌, ◌<◌, ℕ, Bool, Option, List, [], ◌∷◌, AllPairs, find, not, filter}
 use Rattle.std.specs.List.{list_any}
 use Rattle.std.specs.Ordering.{nat_cmp, match_ordering}
 use Rattle.ranked_list.specs.declared.item.Item.{Item}
@@ -22,6 +22,10 @@ abbrev pub put_item : Item → List Item → List Item
 put_item item [] = item ∷ []
 put_item item (held ∷ others) =
     match_ordering (nat_cmp item.object held.object) (item ∷ held ∷ others) (item ∷ others) (held ∷ put_item item others)
+
+-- the items without the object's
+abbrev pub without : ℕ → List Item → List Item
+without object items = filter (λ (item : Item). not (item.object == object)) items
 
 -- the object's item, if it has one
 abbrev pub item_at : ℕ → List Item → Option Item

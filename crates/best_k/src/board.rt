@@ -3,7 +3,7 @@
 ghost use Rattle.std.specs.Prelude.{◌≡◌, ◌≤◌, ◌<◌, [], length, List, IfOk, OnOk, OnErr, MatchOption};
 ghost use Rattle.ranked_list.specs.declared.item.Item.{Item};
 ghost use Rattle.best_k.specs.Order.{first_k, kth_low, IsFirstK, IsKthLargest, lows};
-ghost use Rattle.best_k.specs.Held.{item_with, put_item, has_object};
+ghost use Rattle.best_k.specs.Held.{item_with, put_item, without, has_object};
 
 use super::Memory;
 use super::rank::Bounds;
@@ -71,6 +71,15 @@ impl Board {
             }
         }
         Ok(())
+    }
+
+    /// Takes an object off. Where it isn't there nothing changes. Takes no memory.
+    pub fn remove(&mut self, object: u32)
+        ensures { self.new ≡ record self.old { items = without object self.old.items } }
+    {
+        if let Some(bounds) = self.bounds.remove(&object) {
+            self.ranking.remove(bounds.rank_of(object));
+        }
     }
 
     /// The k-th largest low, None while fewer than k objects are there.

@@ -1,47 +1,143 @@
-//! Expressions over the lists of a query.
+//! Expressions within the limits.
 
-use super::{Memory, Node};
+use super::Memory;
+use super::copies::copy_node;
+use super::fault::ExprFault;
+use super::grades::{bottoms_filled, value_of, zeros_filled};
+use super::limits::{MAX_DEPTH, MAX_LISTS, MAX_NODES, MAX_VALUE, TOP_GRADE};
+use super::node::Node;
+use super::shape::{count_lists, count_nodes, depth_of};
+use super::value::value_at;
 use std::alloc::Global;
-use thiserror::Error;
+use std::marker::Model;
 
-/// A monotone expression over lists that are numbered from 0.
+/// An expression within the limits, which contracts see as its tree. Each of its values fits in 63 bits.
 #[derive(Debug, Drop)]
 pub struct Expr {
     root: Node,
+    lists: u8,
 }
 
-/// Why a tree is no expression here.
-#[derive(Clone, Copy, Debug, PartialEq, Eq, Error)]
-pub enum ExprFault {
-    /// No memory was left.
-    #[error("no memory")]
-    Memory,
+impl Model for Expr {
+    ghost use Rattle.std.specs.Prelude.{◌≡◌};
+    ghost use Rattle.monotone_fn.specs.Tree.{Tree};
+    ghost use Rattle.monotone_fn.specs.Code.{tree_code};
+
+    ghost Value = { Tree };
+
+    ghost coded = { tree_code };
+
+    ghost use Rattle.monotone_fn.specs.Shape.{list_count};
+    ghost use Rattle.monotone_fn.specs.Limits.{IsExpr};
+    ghost use Rattle.monotone_fn.specs.Shown.{tree_of};
+
+    ghost view = { λ a. tree_of a.root };
+
+    ghost invariant = { λ a. IsExpr (tree_of a.root) × (a.lists ≡ list_count (tree_of a.root)) };
 }
 
 impl Expr {
-    /// The expression of a tree.
-    pub fn make(_alloc: Global, root: Node) -> Result<Expr, ExprFault> {
-        Ok(Expr { root })
+    ghost use Rattle.std.specs.Prelude.{◌≡◌, ℕ, ◌≤◌, List, length, IfOk};
+    ghost use Rattle.monotone_fn.specs.Shape.{list_count, NumbersLists};
+    ghost use Rattle.monotone_fn.specs.Value.{value, low, high, IsMonotone, IsWithin};
+    ghost use Rattle.monotone_fn.specs.Limits.{AreGrades, AreGradesWhereKnown, top_value, IsExpr, Makes};
+    ghost use Rattle.monotone_fn.specs.Shown.{tree_of};
+
+    /// The expression of a tree, or why it is refused: too many nodes, then too much depth, then a value too big.
+    /// It takes no memory yet, so [`ExprFault::Memory`] does not come.
+    pub fn make(_alloc: Global, root: Node) -> Result<Expr, ExprFault>
+        requires { NumbersLists (tree_of root) }
+        ensures { Makes (tree_of root) result }
+    {
+        let nodes = count_nodes(&root);
+        if nodes > MAX_NODES as u64 {
+            return Err(ExprFault::TooManyNodes { nodes });
+        }
+        let depth = depth_of(&root);
+        if depth > MAX_DEPTH as u64 {
+            return Err(ExprFault::TooDeep { depth });
+        }
+        let mut ended = 0;
+        if value_at(&root, &[TOP_GRADE; MAX_LISTS], &mut ended).is_none() {
+            return Err(ExprFault::TooBig { node: ended });
+        }
+        let lists = count_lists(&root) as u8;
+        Ok(Expr { root, lists })
     }
 
     /// An equal expression.
-    pub fn copy(&self, alloc: Global) -> Result<Expr, Memory> {
-        let root = self.root.copy(alloc)?;
-        Ok(Expr { root })
+    ///
+    /// # Errors
+    ///
+    /// [`Memory`] where no memory is left.
+    pub fn copy(&self, alloc: Global) -> Result<Expr, Memory>
+        ensures { IfOk result (λ e. e ≡ self.now) }
+    {
+        let root = copy_node(alloc, &self.root)?;
+        Ok(Expr {
+            root,
+            lists: self.lists,
+        })
     }
 
-    /// The tree that it was made of.
-    pub fn root(&self) -> &Node {
+    /// The tree that the expression was made of.
+    pub fn root(&self) -> &Node
+        ensures tree { tree_of result.now ≡ self.now }
+        ensures made { IsExpr self.now }
+    {
         &self.root
     }
 
-    /// One more than the greatest number of its lists.
-    pub fn lists(&self) -> u8 {
-        self.root.span()
+    /// How many lists it names. They are numbered from 0.
+    pub fn lists(&self) -> u8
+        ensures lists { result ≡ list_count self.now }
+        ensures made { IsExpr self.now }
+    {
+        self.lists
     }
 
-    /// The value at the grades of its lists.
-    pub fn eval(&self, grades: &[u32]) -> u64 {
-        self.root.value(grades)
+    /// The value at an object's grades, one for each list. It is at most the value where each grade is the greatest,
+    /// which is below 2^63, and grades no smaller give a value no smaller.
+    pub fn eval(&self, grades: &[u32]) -> u64
+        requires lists { length grades.now ≡ list_count self.now }
+        requires capped { AreGrades grades.now }
+        ensures value { result ≡ value self.now grades.now }
+        ensures bounded { result ≤ top_value self.now }
+        ensures small { top_value self.now ≤ MAX_VALUE }
+        ensures monotone { IsMonotone (value self.now) }
+    {
+        value_of(&self.root, grades)
+    }
+
+    /// The least value that an object with these known grades may have, W of Fagin, Lotem and Naor: the value with 0
+    /// in place of each unknown grade.
+    pub fn eval_low(&self, known: &[Option<u32>]) -> u64
+        requires lists { length known.now ≡ list_count self.now }
+        requires capped { AreGradesWhereKnown known.now }
+        ensures value { result ≡ low self.now known.now }
+        ensures small { result ≤ MAX_VALUE }
+        ensures below { (bottoms grades : List ℕ) → IsWithin known.now bottoms grades
+            → result ≤ value self.now grades }
+    {
+        let root = &self.root;
+        let grades = zeros_filled(known);
+        value_of(root, &grades[..known.len()])
+    }
+
+    /// The greatest value that an object with these known grades may have under these bottoms, one for each list, B of
+    /// Fagin, Lotem and Naor: the value with the list's bottom in place of each unknown grade.
+    pub fn eval_high(&self, known: &[Option<u32>], bottoms: &[u32]) -> u64
+        requires lists { length known.now ≡ list_count self.now }
+        requires bottoms { length bottoms.now ≡ list_count self.now }
+        requires capped { AreGradesWhereKnown known.now }
+        requires bottoms_capped { AreGrades bottoms.now }
+        ensures value { result ≡ high self.now known.now bottoms.now }
+        ensures small { result ≤ MAX_VALUE }
+        ensures above { (grades : List ℕ) → IsWithin known.now bottoms.now grades
+            → value self.now grades ≤ result }
+    {
+        let root = &self.root;
+        let grades = bottoms_filled(known, bottoms);
+        value_of(root, &grades[..known.len()])
     }
 }

@@ -1,1 +1,10 @@
--- Proofs on bundles.
+pub mod PartLaws
+pub mod TrackLaws
+pub mod ReadLaws
+pub mod Members
+pub mod RankLaws
+pub mod FrontLaws
+pub mod Viable
+pub mod Complete
+pub mod Outcome
+pub mod TableLaws

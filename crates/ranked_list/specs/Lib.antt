@@ -1,1 +1,5 @@
 pub mod Table
+pub mod Order
+pub mod Bundle
+pub mod Reading
+pub mod Tracking

@@ -1,79 +1,124 @@
-//! Bundles: lists over the same objects, and one query line.
+//! Bundles: lists and a query in one text.
 
-use super::line_text::{after, first_line};
-use super::section::Sections;
-use super::{MemList, Memory};
+ghost use Rattle.std.specs.Prelude.{◌≡◌, IfOk, IfErr};
+ghost use Rattle.std.specs.Prelude.{◌+◌, ◌<◌, ◌^◌, Err};
+ghost use Rattle.line_text.specs.Lines.{lines};
+ghost use Rattle.ranked_list.specs.Bundle.{Content, content, Spells, IsReadAs, IsCause};
+ghost use Rattle.ranked_list.specs.Reading.{read_on, read_all, read_part, query_part};
+ghost use Rattle.ranked_list.specs.Tracking.{front_of, IsTracked, Gives};
+
+use super::line::{Line, line_of};
+use super::mem_list::MemList;
+use super::reader::Reader;
+use line_text::first_line;
 use std::alloc::Global;
 use thiserror::Error;
 
-/// Named lists over the same objects, and the text of the query line.
+/// Lists under their names, with the text of a query over them.
 #[derive(Debug, Drop)]
 pub struct Bundle {
+    /// The names of the lists, in their order.
     pub names: Vec<Vec<u8>>,
+    /// The lists, which are a table.
     pub lists: Vec<MemList>,
+    /// The text after the word `query` and its blank.
     pub query: Vec<u8>,
 }
 
 /// Why a text wasn't read as a bundle.
-#[derive(Clone, Copy, Debug, PartialEq, Eq, Error)]
+#[derive(Debug, Drop, Error)]
 pub enum BundleFault {
-    /// The text is no bundle, by this line at the latest. Lines count from 1.
-    #[error("no bundle at line {line}")]
+    /// The text is no bundle. The line, counted from 1, is the first such that no bundle begins
+    /// with the lines up to and including it, or the number of lines plus one where all of them
+    /// are the front of a bundle.
+    #[error("line {line} is at fault")]
     BadBundle { line: u64 },
     /// No memory was left.
-    #[error("no memory")]
+    #[error("no memory was left")]
     Memory,
 }
 
-impl From<Memory> for BundleFault {
-    fn from(_error: Memory) -> BundleFault {
+impl From<super::Memory> for BundleFault {
+    ghost use Rattle.std.specs.Prelude.{◌≡◌};
+    ghost use Rattle.ranked_list.specs.declared.bundle.BundleFault.TheVariants.{Memory};
+
+    ghost from_gives = { λ _ fault. fault ≡ Memory };
+
+    fn from(_: super::Memory) -> BundleFault {
         BundleFault::Memory
     }
 }
 
-/// Reads a bundle: sections of `list NAME` and lines `OBJECT,GRADE`, then a line `query TEXT`.
-pub fn read_bundle(alloc: Global, bytes: &[u8]) -> Result<Bundle, BundleFault> {
-    let mut sections = Sections::make(alloc);
+/// The bundle that the lines after a front spell, of which the first is the second of the text.
+fn read_rest(alloc: Global, mut reader: Reader, bytes: &[u8]) -> Result<Bundle, BundleFault>
+    requires { IsTracked reader }
+    ensures { Gives result (read_on (front_of reader) 2 (lines bytes.now)) }
+{
     let mut rest = bytes;
-    let mut line = 0_u64;
-    while !rest.is_empty() {
-        let (text, next) = first_line(rest);
-        rest = next;
-        line = line.saturating_add(1);
-        if let Some(query) = after(text, b"query ") {
-            if !sections.is_whole() {
-                return Err(BundleFault::BadBundle { line });
-            }
-            if !rest.is_empty() {
-                let line = line.saturating_add(1);
-                return Err(BundleFault::BadBundle { line });
-            }
-            return end(alloc, sections, query);
+    let mut number: u64 = 2;
+    while let Some((text, more)) = first_line(rest) {
+        let line = line_of(text);
+        if let Line::Query(query) = line {
+            return read_end(alloc, reader, query, number, more);
         }
-        if !take_line(alloc, &mut sections, text)? {
-            return Err(BundleFault::BadBundle { line });
+        if !reader.take_line(alloc, line)? {
+            return Err(BundleFault::BadBundle { line: number });
         }
+        number += 1;
+        rest = more;
     }
-    let line = line.saturating_add(1);
-    Err(BundleFault::BadBundle { line })
+    Err(BundleFault::BadBundle { line: number })
 }
 
-/// Takes a line that is no query line.
-fn take_line(alloc: Global, sections: &mut Sections, text: &[u8]) -> Result<bool, Memory> {
-    match after(text, b"list ") {
-        Some(name) => sections.open_list(alloc, name),
-        None => sections.take_row(text),
+/// The bundle that ends with a query line of this number, if no line is left after it.
+fn read_end(
+    alloc: Global,
+    reader: Reader,
+    query: &[u8],
+    number: u64,
+    rest: &[u8],
+) -> Result<Bundle, BundleFault>
+    requires { number + 1 < 2 ^ 64 }
+    ensures { Gives result (read_part (front_of reader) number (lines rest.now) (λ front. Err number) (query_part query.now)) }
+{
+    if !reader.is_whole() {
+        return Err(BundleFault::BadBundle { line: number });
     }
+    if let Some(_) = first_line(rest) {
+        return Err(BundleFault::BadBundle { line: number + 1 });
+    }
+    Ok(reader.end(alloc, query)?)
 }
 
-/// The bundle of whole sections and a query's text.
-fn end(alloc: Global, mut sections: Sections, query: &[u8]) -> Result<Bundle, BundleFault> {
-    sections.close_list(alloc)?;
-    let query = Vec::from_slice(alloc, query).map_err(|_| BundleFault::Memory)?;
-    let Sections { names, lists, .. } = sections;
-    Ok(Bundle {
-        names,
-        lists,
-        query,
-    })
+/// The bundle that the lines of a text spell.
+fn read_lines(alloc: Global, bytes: &[u8]) -> Result<Bundle, BundleFault>
+    ensures { Gives result (read_all (lines bytes.now)) }
+{
+    let Some((text, rest)) = first_line(bytes) else {
+        return Err(BundleFault::BadBundle { line: 1 });
+    };
+    let Line::Heading(name) = line_of(text) else {
+        return Err(BundleFault::BadBundle { line: 1 });
+    };
+    let reader = Reader::open(alloc, name)?;
+    read_rest(alloc, reader, rest)
 }
+
+/// Reads a bundle: sections, each with the line `list NAME` and then a line `OBJECT,GRADE` for
+/// each row, and at the end the line `query TEXT`.
+///
+/// There are 1 to 64 lists, whose names differ, of 1 to 200,000 rows each over the same objects.
+/// In a list no object comes twice, and the grades, from 0 to 1,000,000, never rise.
+pub fn read_bundle(alloc: Global, bytes: &[u8]) -> Result<Bundle, BundleFault>
+    // What is read is spelled so, and is a bundle.
+    ensures found { IfOk result (λ bundle. Spells (lines bytes.now) (content bundle)) }
+    // What spells a bundle is read as that bundle, unless memory was refused.
+    ensures reads { (c : Content) → Spells (lines bytes.now) c → IsReadAs c result }
+    // Else the first line is named with which no bundle begins.
+    ensures fault { IfErr result (IsCause (lines bytes.now)) }
+{
+    read_lines(alloc, bytes)
+}
+
+#[cfg(test)]
+mod tests;

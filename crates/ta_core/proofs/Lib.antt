@@ -1,1 +1,11 @@
--- Proofs on machines.
+pub mod Rows
+pub mod Fills
+pub mod Asks
+pub mod BoardSteps
+pub mod NeedSteps
+pub mod Steps
+pub mod Runs
+pub mod Sound
+pub mod Feeds
+pub mod Calls
+pub mod Answering

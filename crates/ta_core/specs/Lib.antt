@@ -1,1 +1,5 @@
--- What contracts cite.
+pub mod Reading
+pub mod Shown
+pub mod OnTable
+pub mod Kept
+pub mod Machine

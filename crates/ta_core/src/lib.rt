@@ -1,13 +1,12 @@
-//! The threshold algorithm of Fagin, Lotem and Naor.
+//! The threshold algorithm of Fagin, Lotem and Naor, as a machine that is fed one access at a time.
 #![tactic(auto)]
 
+mod fault;
+mod progress;
 mod ta;
-mod transcript;
 
-pub use monotone_fn::Costs;
-pub use ranked_list::{Item, Items, Need};
-pub use ta::{Answer, CoreFault, Ta};
-pub use transcript::{Access, Transcript};
+pub use fault::CoreFault;
+pub use ta::Ta;
 
 /// No memory was left.
 #[derive(Clone, Copy, Debug, PartialEq, Eq)]

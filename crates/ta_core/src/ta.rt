@@ -1,190 +1,277 @@
-//! The machine of one query.
+//! The machine.
 
-use super::{Access, Costs, Item, Items, Memory, Need, Transcript};
-use monotone_fn::Expr;
-use ranked_list::{Row, TOP_GRADE};
+ghost use Rattle.std.specs.Prelude.{◌≡◌, ◌≢◌, ◌<◌, ◌-◌, ◌^◌, ◌==◌, if◌then◌else◌, length, OnOk, OnErr, Contains};
+ghost use Rattle.ranked_list.specs.declared.item.Item.{Item};
+ghost use Rattle.best_k.specs.Held.{Held};
+ghost use Rattle.monotone_fn.specs.Shape.{list_count};
+ghost use Rattle.monotone_fn.specs.Value.{value};
+ghost use Rattle.monotone_fn.specs.Limits.{AreGrades};
+ghost use Rattle.access_log.specs.Log.{with_access, IsConsistent};
+ghost use Rattle.ta_core.specs.Reading.{enough, items_after, followed, first_or_zero};
+ghost use Rattle.ta_core.specs.Shown.{reading_of};
+
+use super::Memory;
+use super::fault::CoreFault;
+use super::progress::Progress;
+use access_log::{Access, Answer, Transcript};
+use best_k::Board;
+use monotone_fn::{Costs, Expr};
+use ranked_list::{Need, Row};
 use std::alloc::Global;
-use thiserror::Error;
+use std::marker::Model;
 
-/// The answer objects with their bounds, and what they were found by.
-#[derive(Debug, Drop)]
-pub struct Answer {
-    pub items: Items,
-    pub transcript: Transcript,
-}
-
-/// Why a machine refused a row or a grade.
-#[derive(Clone, Copy, Debug, PartialEq, Eq, Error)]
-pub enum CoreFault {
-    /// No memory was left.
-    #[error("no memory")]
-    Memory,
-}
-
-impl From<Memory> for CoreFault {
-    fn from(_error: Memory) -> CoreFault {
-        CoreFault::Memory
-    }
-}
-
-/// The threshold algorithm over one query's lists, fed with what it asks for.
+/// The threshold algorithm on one query. It says which access it needs next, and is fed what that
+/// access gave. Contracts see it as a `Machine`.
 #[derive(Debug, Drop)]
 pub struct Ta {
-    alloc: Global,
     expr: Expr,
     k: u32,
-    count: u32,
-    need: Need,
+    room: u32,
+    costs: Costs,
     transcript: Transcript,
-    seen: Vec<u32>,
+    board: Board,
+    progress: Progress,
+}
+
+impl Model for Ta {
+    ghost use Rattle.std.specs.Coded.{codes};
+    ghost use Rattle.monotone_fn.specs.Code.{tree_code};
+    ghost use Rattle.ta_core.specs.Machine.{Machine};
+
+    ghost Value = { Machine };
+
+    ghost coded = { Prim.hlevel (codes, tree_code) };
+
+    ghost use Rattle.ta_core.specs.Reading.{need_at};
+    ghost use Rattle.ta_core.specs.Shown.{reading_of};
+    ghost use Rattle.ta_core.specs.Kept.{IsKept};
+
+    ghost view = { λ a. record { expr = a.expr; k = a.k; room = a.room; costs = a.costs; log = a.transcript; need = need_at a.transcript.lists (reading_of a.progress) } };
+
+    ghost invariant = { λ a. IsKept a.expr a.k a.room a.transcript a.board (reading_of a.progress) };
 }
 
 impl Ta {
-    /// A machine that looks for the best `k` of `count` objects.
+    ghost use Rattle.std.specs.Prelude.{◌≡◌, ◌≤◌, min, [], IfOk};
+    ghost use Rattle.monotone_fn.specs.Shape.{list_count};
+    ghost use Rattle.ta_core.specs.Machine.{MakesItsRun, MayBeNextRow, MayBeNextGrade, RowFed, GradeFed, IsAnswer};
+
+    /// A machine for the first `k` of `count` objects, that sees `room` of them at most.
     pub fn make(
         alloc: Global,
         expr: Expr,
         k: u32,
         count: u32,
-        _room: u32,
-        _costs: Costs,
-    ) -> Result<Ta, Memory> {
+        room: u32,
+        costs: Costs,
+    ) -> Result<Ta, Memory>
+        requires asked { 1 ≤ k }
+        requires fits { k ≤ count }
+        requires counted { count ≤ 200000 }
+        requires roomy { 1 ≤ room }
+        ensures made { IfOk result (λ t. (t.expr ≡ expr) × (t.k ≡ k) × (t.room ≡ min room count) × (t.costs ≡ costs)
+            × (t.log ≡ record { lists = list_count expr; count = count; accesses = [] })) }
+        ensures run { IfOk result MakesItsRun }
+    {
+        let room = room.min(count);
+        let Ok(transcript) = Transcript::make(alloc, expr.lists(), count) else {
+            return Err(Memory);
+        };
+        let Ok(board) = Board::make(alloc, k, room) else {
+            return Err(Memory);
+        };
         Ok(Ta {
-            alloc,
             expr,
             k,
-            count,
-            need: Need::Row { list: 0, depth: 1 },
-            transcript: Transcript::make(alloc),
-            seen: Vec::new(alloc),
+            room,
+            costs,
+            transcript,
+            board,
+            progress: Progress::at(1),
         })
     }
 
-    /// The next access, or Done where the answer is known.
-    pub fn need(&self) -> Need {
-        self.need
+    /// What is needed next.
+    pub fn need(&self) -> Need
+        ensures need { result ≡ self.now.need }
+        ensures run { MakesItsRun self.now }
+    {
+        self.progress.need(self.transcript.lists())
+    }
+
+    /// Tells the row that is needed. Where it is refused nothing has changed.
+    pub fn feed_row(&mut self, row: Row) -> Result<(), CoreFault>
+        requires { MayBeNextRow self.old.log self.old.need row }
+        ensures fed { RowFed row self.old self.new result }
+        ensures run { MakesItsRun self.new }
+    {
+        let is_new = !self.transcript.is_seen(row.object);
+        if is_new && self.transcript.seen() >= self.room {
+            return Err(no_room(self.transcript.count(), self.room, row.object));
+        }
+        let access = Access::Sorted {
+            list: self.progress.objects.len() as u8,
+            object: row.object,
+            grade: row.grade,
+        };
+        let mut next = self.progress.copy();
+        next.add_row(self.transcript.lists(), row, is_new);
+        tell(
+            &self.expr,
+            &mut self.transcript,
+            &mut self.board,
+            access,
+            &next,
+        )?;
+        self.progress = follow(&self.expr, &self.board, next);
+        Ok(())
+    }
+
+    /// Tells the grade that is needed. `Memory` alone is answered, and then nothing has changed.
+    pub fn feed_grade(&mut self, grade: u32) -> Result<(), CoreFault>
+        requires { MayBeNextGrade self.old.log self.old.need grade }
+        ensures fed { GradeFed grade self.old self.new result }
+        ensures run { MakesItsRun self.new }
+    {
+        let access = Access::Random {
+            list: self.progress.grades.len() as u8,
+            object: self.progress.waiting[0],
+            grade,
+        };
+        let mut next = self.progress.copy();
+        next.add_grade(grade);
+        tell(
+            &self.expr,
+            &mut self.transcript,
+            &mut self.board,
+            access,
+            &next,
+        )?;
+        self.progress = follow(&self.expr, &self.board, next);
+        Ok(())
     }
 
     /// The accesses so far.
-    pub fn transcript(&self) -> &Transcript {
+    pub fn transcript(&self) -> &Transcript
+        ensures log { result.now ≡ self.now.log }
+        ensures run { MakesItsRun self.now }
+    {
         &self.transcript
     }
 
-    /// Takes the row that was asked for.
-    pub fn feed_row(&mut self, row: Row) -> Result<(), CoreFault> {
-        let Need::Row { list, depth } = self.need else {
-            return Ok(());
-        };
-        let Row { object, grade } = row;
-        if !self.seen.contains(&object) {
-            self.seen.push(object).map_err(|_| CoreFault::Memory)?;
-        }
-        self.transcript.push(Access::Sorted {
-            list,
-            object,
-            grade,
-        })?;
-        let next = list.saturating_add(1);
-        self.need = if next < self.expr.lists() {
-            Need::Row { list: next, depth }
-        } else {
-            self.need_after_row(depth)?
-        };
-        Ok(())
+    /// The costs that it was made with.
+    pub fn costs(&self) -> Costs
+        ensures { result ≡ self.now.costs }
+    {
+        self.costs
     }
 
-    /// Takes the grade that was asked for.
-    pub fn feed_grade(&mut self, grade: u32) -> Result<(), CoreFault> {
-        let Need::Grade { list, object } = self.need else {
-            return Ok(());
-        };
-        self.transcript.push(Access::Random {
-            list,
-            object,
-            grade,
-        })?;
-        let depth = u32::try_from(self.transcript.depth(0)).unwrap_or(self.count);
-        self.need = self.need_after_row(depth)?;
-        Ok(())
-    }
-
-    /// The first `k` seen objects by aggregate falling, then id rising.
-    pub fn answer(self) -> Result<Answer, Memory> {
-        let mut scored = Vec::new(self.alloc);
-        for object in &self.seen {
-            let low = self.aggregate(*object)?;
-            scored.push((low, *object)).map_err(|_| Memory)?;
+    /// The answer, once nothing is needed: the first k objects by aggregate falling, then by id rising,
+    /// each with its aggregate as both bounds, and the transcript.
+    pub fn answer(self) -> Result<Answer, Memory>
+        requires { self.need ≡ Need.Done }
+        ensures items { IfOk result (λ answer. IsAnswer self answer.items) }
+        ensures transcript { IfOk result (λ answer. answer.transcript ≡ self.log) }
+    {
+        let Ta {
+            expr: _,
+            k: _,
+            room: _,
+            costs: _,
+            transcript,
+            board,
+            progress: _,
+        } = self;
+        match board.first() {
+            Ok(items) => Ok(Answer { items, transcript }),
+            Err(_) => Err(Memory),
         }
-        scored.sort_unstable_by(|a, b| b.0.cmp(&a.0).then(a.1.cmp(&b.1)));
-        let items = first_items(self.alloc, &scored, self.k)?;
-        Ok(Answer {
-            items,
-            transcript: self.transcript,
-        })
-    }
-
-    /// What comes once each list gave its row at this depth.
-    fn need_after_row(&self, depth: u32) -> Result<Need, Memory> {
-        for object in &self.seen {
-            for list in 0..self.expr.lists() {
-                if self.transcript.grade(list, *object).is_none() {
-                    return Ok(Need::Grade {
-                        list,
-                        object: *object,
-                    });
-                }
-            }
-        }
-        if depth >= self.count || self.may_stop()? {
-            return Ok(Need::Done);
-        }
-        Ok(Need::Row {
-            list: 0,
-            depth: depth.saturating_add(1),
-        })
-    }
-
-    /// Whether `k` seen objects reach the threshold.
-    fn may_stop(&self) -> Result<bool, Memory> {
-        let mut bottoms = Vec::new(self.alloc);
-        for list in 0..self.expr.lists() {
-            let bottom = self.transcript.bottom(list, TOP_GRADE);
-            bottoms.push(bottom).map_err(|_| Memory)?;
-        }
-        let threshold = self.expr.eval(&bottoms);
-        let mut reaching = 0_u32;
-        for object in &self.seen {
-            if self.aggregate(*object)? >= threshold {
-                reaching = reaching.saturating_add(1);
-            }
-        }
-        Ok(reaching >= self.k)
-    }
-
-    /// The value at an object's grades.
-    fn aggregate(&self, object: u32) -> Result<u64, Memory> {
-        let mut grades = Vec::new(self.alloc);
-        for list in 0..self.expr.lists() {
-            let grade = self.transcript.grade(list, object).unwrap_or(0);
-            grades.push(grade).map_err(|_| Memory)?;
-        }
-        Ok(self.expr.eval(&grades))
     }
 }
 
-/// The first `k` objects with their aggregates.
-fn first_items(alloc: Global, scored: &[(u64, u32)], k: u32) -> Result<Items, Memory> {
-    let mut items = Vec::new(alloc);
-    for (low, object) in scored {
-        if items.len() >= k as usize {
-            break;
-        }
-        let item = Item {
-            object: *object,
-            low: *low,
-            high: *low,
-        };
-        items.push(item).map_err(|_| Memory)?;
+/// Why there is no room for the object.
+fn no_room(count: u32, room: u32, object: u32) -> CoreFault
+    ensures { result ≡ (if room == count then CoreFault.Strangers object count else CoreFault.RoomFull room) }
+{
+    if room == count {
+        CoreFault::Strangers { object, count }
+    } else {
+        CoreFault::RoomFull { room }
     }
-    Ok(Items::from_vec(items))
+}
+
+/// Tells an access: the transcript takes it, and an object that has all its grades then is put on the
+/// board. Where memory is refused nothing has changed.
+fn tell(
+    expr: &Expr,
+    transcript: &mut Transcript,
+    board: &mut Board,
+    access: Access,
+    next: &Progress,
+) -> Result<(), Memory>
+    requires lists { transcript.old.lists ≡ list_count expr.now }
+    requires grades { AreGrades next.now.grades.items }
+    requires waits { length next.now.grades.items ≡ list_count expr.now → 0 < length next.now.waiting.items }
+    requires absent { length next.now.grades.items ≡ list_count expr.now
+        → (item : Item) → Contains board.old.items item → item.object ≢ first_or_zero next.now.waiting.items }
+    ensures told { OnOk result (transcript.new ≡ with_access transcript.old access) }
+    ensures agrees { OnOk result (IsConsistent transcript.new) }
+    ensures put { OnOk result (board.new ≡ record board.old {
+      items =
+          items_after (value expr.now) (list_count expr.now) board.old.items (reading_of next.now);
+    }) }
+    ensures unchanged { OnErr result (transcript.new ≡ transcript.old) }
+    ensures kept { OnErr result (board.new ≡ board.old) }
+{
+    if !next.is_scored(expr.lists()) {
+        return match transcript.push(access) {
+            Ok(()) => Ok(()),
+            Err(_) => Err(Memory),
+        };
+    }
+    let object = next.waiting[0];
+    let aggregate = expr.eval(next.grades.as_slice());
+    let Ok(()) = board.put(object, aggregate, aggregate) else {
+        return Err(Memory);
+    };
+    match transcript.push(access) {
+        Ok(()) => Ok(()),
+        Err(_) => {
+            board.remove(object);
+            Err(Memory)
+        }
+    }
+}
+
+/// Whether at least k on the board have an aggregate of at least the bound.
+fn has_enough(board: &Board, bound: u64) -> bool
+    ensures { result ≡ enough board.now.k bound board.now.items }
+{
+    match board.kth() {
+        Some(low) => bound <= low,
+        None => false,
+    }
+}
+
+/// What follows an access that is told: the object that has all its grades waits no more, and a whole
+/// row is the last one, where the algorithm stops, or makes room for the next.
+fn follow(expr: &Expr, board: &Board, next: Progress) -> Progress
+    requires bottoms { AreGrades next.bottoms.items }
+    requires same { length next.bottoms.items ≡ length next.objects.items }
+    requires waits { length next.grades.items ≡ list_count expr.now → 0 < length next.waiting.items }
+    requires deep { next.depth < 2 ^ 32 - 1 }
+    ensures { reading_of result ≡ followed (value expr.now) board.now.k (list_count expr.now) board.now.items (reading_of next) }
+{
+    let lists = expr.lists();
+    let mut next = next;
+    next.settle(lists);
+    if !next.is_whole(lists) {
+        return next;
+    }
+    let threshold = expr.eval(next.bottoms.as_slice());
+    if has_enough(board, threshold) {
+        next.done = true;
+        return next;
+    }
+    Progress::at(next.depth + 1)
 }

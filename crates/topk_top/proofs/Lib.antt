@@ -1,3 +1,10 @@
--- Lemmas on calls and replies.
+-- Lemmas on calls, on the lists of a query, and on machines that are fed from a table.
 mod Ending
 mod Lists
+mod Feeding
+mod Grading
+mod RunLength
+mod Naming
+mod ListCount
+mod Answering
+mod Replying

@@ -3,7 +3,7 @@ use Rattle.std.specs.Prelude.{◌≡◌, ℕ, List, [], ◌∷◌, ◌⊎◌, Op
 use Rattle.std.specs.Io.KnownBytes.{Appends, Keeps}
 use Rattle.tk_io.specs.Faults.{Rose}
 use Rattle.tk_io.specs.Whole.{GaveAll, GaveMore, TookFront}
-use Rattle.topk_top.specs.Texts.{IsReply, words_refused_text}
+use Rattle.topk_top.specs.Reply.{Replies, words_refused_text}
 use Rattle.topk_top.specs.declared.status.Status.{Status}
 use Rattle.topk_top.specs.declared.status.Status.TheVariants.{Done, Partial, BadWords, BadCatalog, ReadFault, WriteFault, OpenFault, PortFault, Memory, LongInput, BadInput}
 
@@ -33,9 +33,9 @@ pub record LeftAlone (c : Call) : Type 0 where
   pub left : Keeps c.left_before c.left_after
   pub faults : c.reads_after ≡ c.reads_before
 
--- the input was read to its end, has no more bytes than the limit, and no read failed
-pub record ReadWhole (c : Call) : Type 0 where
-  pub text : (text : List ℕ) × GaveAll input_limit c.left_before c.left_after text
+-- the input gave these bytes, no more than the limit, and ended, and no read failed
+pub record ReadWhole (c : Call) (bytes : List ℕ) : Type 0 where
+  pub given : GaveAll input_limit c.left_before c.left_after bytes
   pub faults : c.reads_after ≡ c.reads_before
 
 -- nothing was written, and no write failed
@@ -43,11 +43,11 @@ pub record WroteNothing (c : Call) : Type 0 where
   pub held : Keeps c.held_before c.held_after
   pub faults : c.writes_after ≡ c.writes_before
 
--- a call with this status owes this text: the words are refused, or the input is replied to
+-- a call with this status owes this text: the words are refused, or the input is read to its end and its bytes are replied to
 abbrev pub Owes : Call → Status → List ℕ → Type 0
 Owes c status text =
     ((¬ IsOne c.words) × LeftAlone c × (status ≡ BadWords) × (text ≡ words_refused_text))
-    ⊎ (IsOne c.words × ReadWhole c × IsReply status text)
+    ⊎ (IsOne c.words × ((bytes : List ℕ) × ReadWhole c bytes × Replies bytes status text))
 
 -- the text that is owed was written whole, and no write failed
 abbrev pub Answers : Call → Status → Type 0

@@ -1,74 +1,86 @@
-//! The threshold algorithm over the lists of a bundle.
+//! The threshold algorithm, driven over lists that are a table.
 
-use super::Memory;
-use monotone_fn::{Expr, Node, Nodes};
-use ranked_list::{MemList, Need};
+ghost use Rattle.std.specs.Prelude.{◌≡◌, ◌≤◌, ◌<◌, ◌+◌, length, OnOk, IfErr};
+ghost use Rattle.topk_theory.specs.Transcript.{seen_objects};
+ghost use Rattle.topk_theory.specs.Threshold.{IsAsked};
+ghost use Rattle.access_log.specs.Log.{AgreesWith};
+ghost use Rattle.ta_core.specs.Machine.{MakesItsRun};
+ghost use Rattle.topk_top.specs.Driving.{IsStep, StopsDriving, Finishes, Drives};
+
+use super::source::Source;
+use access_log::Answer;
+use ranked_list::Need;
 use std::alloc::Global;
-use ta_core::{Answer, Costs, Ta};
+use ta_core::{CoreFault, Ta};
 
-/// What each access costs.
-pub(crate) const COSTS: Costs = Costs {
-    sorted: 1,
-    random: 1,
-};
-
-/// The best `k` objects by the sum over the lists at these places, of `count` objects each.
-pub(crate) fn answer_by_ta(
-    alloc: Global,
-    lists: &[MemList],
-    places: &[usize],
-    k: u32,
-    count: u32,
-) -> Result<Answer, Memory> {
-    let expr = sum_of(alloc, places.len())?;
-    let mut machine = Ta::make(alloc, expr, k, count, count, COSTS).map_err(|_| Memory)?;
-    for _ in 0..u64::MAX {
+/// Feeds a machine from the lists until it needs nothing more, and has its answer.
+pub(crate) fn drive(alloc: Global, machine: Ta, sources: &mut [Source]) -> Result<Answer, CoreFault>
+    requires asked { IsAsked machine.k machine.log.count sources.old }
+    requires agrees { AgreesWith sources.old machine.log }
+    requires roomy { length (seen_objects machine.log.accesses) ≤ machine.room }
+    ensures { Drives sources.old machine result }
+{
+    let mut machine = machine;
+    loop {
         match machine.need() {
-            Need::Row { list, depth } => {
-                let rows = list_at(lists, places, list);
-                let Some(row) = rows.and_then(|r| r.get(depth.saturating_sub(1))) else {
-                    break;
-                };
-                machine.feed_row(row).map_err(|_| Memory)?;
-            }
+            Need::Row { list, depth } => feed_row(&mut machine, sources, list, depth)?,
             Need::Grade { list, object } => {
-                let rows = list_at(lists, places, list);
-                let Some(grade) = rows.and_then(|r| grade_of(r, object)) else {
-                    break;
-                };
-                machine.feed_grade(grade).map_err(|_| Memory)?;
+                feed_grade(alloc, &mut machine, sources, list, object)?;
             }
-            Need::Done => break,
+            Need::Done => return finish(machine),
         }
     }
-    machine.answer().map_err(|_| Memory)
 }
 
-/// The sum of so many lists.
-fn sum_of(alloc: Global, lists: usize) -> Result<Expr, Memory> {
-    let mut nodes = Vec::new(alloc);
-    for list in 0..u8::MAX {
-        if usize::from(list) < lists {
-            nodes.push(Node::List(list)).map_err(|_| Memory)?;
-        }
+/// The answer of a machine that needs nothing more.
+fn finish(machine: Ta) -> Result<Answer, CoreFault>
+    requires { machine.need ≡ Need.Done }
+    ensures { Finishes machine result }
+{
+    match machine.answer() {
+        Ok(answer) => Ok(answer),
+        Err(_) => Err(CoreFault::Memory),
     }
-    Expr::make(alloc, Node::Sum(Nodes::from_vec(nodes))).map_err(|_| Memory)
 }
 
-/// The list of a query's list number.
-fn list_at<'a>(lists: &'a [MemList], places: &[usize], list: u8) -> Option<&'a MemList> {
-    let place = *places.get(usize::from(list))?;
-    lists.get(place)
+/// Feeds the machine with the row that it needs.
+fn feed_row(machine: &mut Ta, sources: &[Source], list: u8, depth: u32) -> Result<(), CoreFault>
+    requires asked { IsAsked machine.old.k machine.old.log.count sources.now }
+    requires agrees { AgreesWith sources.now machine.old.log }
+    requires roomy { length (seen_objects machine.old.log.accesses) ≤ machine.old.room }
+    requires run { MakesItsRun machine.old }
+    requires need { machine.old.need ≡ Need.Row list depth }
+    ensures ok { OnOk result (IsStep sources.now machine.old machine.new) }
+    ensures err { IfErr result (StopsDriving sources.now machine.old) }
+{
+    let Some(row) = sources[usize::from(list)].row(depth) else {
+        unreachable!();
+    };
+    machine.feed_row(row)
 }
 
-/// The grade of an object in a list.
-fn grade_of(rows: &MemList, object: u32) -> Option<u32> {
-    for place in 0..rows.len() {
-        if let Some(row) = rows.get(place) {
-            if row.object == object {
-                return Some(row.grade);
-            }
-        }
-    }
-    None
+/// Feeds the machine with the grade that it needs.
+fn feed_grade(
+    alloc: Global,
+    machine: &mut Ta,
+    sources: &mut [Source],
+    list: u8,
+    object: u32,
+) -> Result<(), CoreFault>
+    requires agrees { AgreesWith sources.old machine.old.log }
+    requires roomy { length (seen_objects machine.old.log.accesses) ≤ machine.old.room }
+    requires run { MakesItsRun machine.old }
+    requires need { machine.old.need ≡ Need.Grade list object }
+    ensures same { sources.new ≡ sources.old }
+    ensures ok { OnOk result (IsStep sources.old machine.old machine.new) }
+    ensures err { IfErr result (StopsDriving sources.old machine.old) }
+{
+    let source = &mut sources[usize::from(list)];
+    let Ok(found) = source.grade(alloc, object) else {
+        return Err(CoreFault::Memory);
+    };
+    let Some(grade) = found else {
+        unreachable!();
+    };
+    machine.feed_grade(grade)
 }

@@ -3,9 +3,9 @@
 
 mod call;
 mod drive;
+mod named;
 mod one;
-mod query_line;
-mod reply;
+mod source;
 mod status;
 mod words;
 

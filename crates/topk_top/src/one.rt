@@ -1,125 +1,142 @@
 //! The command `one`: a bundle and its query.
 
-ghost use Rattle.std.specs.Prelude.{◌<◌, IfOk};
-ghost use Rattle.topk_top.specs.Texts.{IsReply};
+ghost use Rattle.std.specs.Prelude.{◌≡◌, ◌≤◌, ℕ, List, Ok, Err, IfOk};
+ghost use Rattle.ranked_list.specs.Bundle.{content, IsBundle};
+ghost use Rattle.query_text.specs.Reading.{Reads};
+ghost use Rattle.topk_top.specs.Named.{count_of};
+ghost use Rattle.topk_top.specs.Becomes.{Becomes, RefusesText};
+ghost use Rattle.topk_top.specs.Outcomes.{BecomesOf, IsLineOf, IsMachineFor, IsReply};
 
-use super::drive::{COSTS, answer_by_ta};
-use super::query_line::{Query, read_query};
-use super::reply::{Figures, above_count, answered, bundle_refused, unknown_list};
-use super::{Memory, Status};
+use super::Memory;
+use super::drive::drive;
+use super::named::{NamingFault, named_lists};
+use cert_text::{Outcome, Refusal};
+use query_text::{Costs, Query, QueryFault, read};
 use ranked_list::{Bundle, BundleFault, read_bundle};
 use std::alloc::Global;
-use ta_core::Answer;
+use ta_core::{CoreFault, Ta};
 
-/// A text, and how the call ends that writes it.
+/// What is replied to an input.
 #[derive(Debug, Drop)]
-pub(crate) struct Reply {
-    pub(crate) status: Status,
-    pub(crate) text: Vec<u8>,
+pub(crate) enum Reply {
+    /// It is no bundle, by this text.
+    NoBundle(Vec<u8>),
+    /// It is a bundle, and this became of its query line.
+    Line(Line),
+}
+
+/// What became of a query line: the query, where the line spells one, over lists of so many rows.
+#[derive(Debug, Drop)]
+pub(crate) struct Line {
+    pub(crate) query: Option<Query>,
+    pub(crate) count: u32,
+    pub(crate) outcome: Outcome,
 }
 
 /// The reply to an input.
-pub(crate) fn answer_one(alloc: Global, bytes: &[u8]) -> Result<Reply, Memory>
-    ensures { IfOk result (λ reply. IsReply reply.status reply.text.items) }
+pub(crate) fn reply_to(alloc: Global, bytes: &[u8]) -> Result<Reply, Memory>
+    ensures { IfOk result (IsReply bytes.now) }
 {
-    let bundle = match read_bundle(alloc, bytes) {
-        Ok(bundle) => bundle,
-        Err(BundleFault::BadBundle { line }) => return bad_input(alloc, line),
-        Err(BundleFault::Memory) => return Err(Memory),
-    };
-    match read_query(alloc, &bundle.query)? {
-        Some(query) => answer_query(alloc, &bundle, &query),
-        None => bad_input(alloc, query_line(&bundle)),
-    }
-}
-
-/// The reply to an input that is no bundle by this line.
-fn bad_input(alloc: Global, line: u64) -> Result<Reply, Memory>
-    ensures { IfOk result (λ reply. IsReply reply.status reply.text.items) }
-{
-    let text = bundle_refused(alloc, line)?;
-    Ok(Reply {
-        status: Status::BadInput,
-        text,
-    })
-}
-
-/// The number of a bundle's last line.
-fn query_line(bundle: &Bundle) -> u64 {
-    let mut line = 1_u64;
-    for list in &bundle.lists {
-        line = line.saturating_add(1).saturating_add(u64::from(list.len()));
-    }
-    line
-}
-
-/// The reply to a bundle and a query in form.
-fn answer_query(alloc: Global, bundle: &Bundle, query: &Query) -> Result<Reply, Memory>
-    ensures { IfOk result (λ reply. IsReply reply.status reply.text.items) }
-{
-    let mut places = Vec::new(alloc);
-    for name in &query.names {
-        match place_of(&bundle.names, name) {
-            Some(place) => places.push(place).map_err(|_| Memory)?,
-            None => return no_such_list(alloc, name),
+    match read_bundle(alloc, bytes) {
+        Ok(bundle) => Ok(Reply::Line(line_of(alloc, &bundle)?)),
+        Err(BundleFault::BadBundle { line }) => {
+            let text = format!(in alloc; "refused bundle {line}\n").map_err(|_| Memory)?;
+            Ok(Reply::NoBundle(text.into_bytes()))
         }
+        Err(BundleFault::Memory) => Err(Memory),
     }
+}
+
+/// What becomes of a bundle's query line.
+fn line_of(alloc: Global, bundle: &Bundle) -> Result<Line, Memory>
+    requires { IsBundle (content bundle.now) }
+    ensures { IfOk result (IsLineOf (content bundle.now)) }
+{
     let count = count_of(bundle);
-    if count < query.k {
-        return too_many(alloc, query.k, count);
+    match read(alloc, &bundle.query) {
+        Ok(query) => {
+            let outcome = outcome_of(alloc, bundle, &query)?;
+            Ok(Line {
+                query: Some(query),
+                count,
+                outcome,
+            })
+        }
+        Err(fault) => Ok(Line {
+            query: None,
+            count,
+            outcome: Outcome::Refused(refusal_of(fault)?),
+        }),
     }
-    let answer = answer_by_ta(alloc, &bundle.lists, &places, query.k, count)?;
-    let figures = figures_of(&answer);
-    let text = answered(alloc, answer.items, figures)?;
-    Ok(Reply {
-        status: Status::Done,
-        text,
-    })
 }
 
-/// The reply to a query that names a list which isn't there.
-fn no_such_list(alloc: Global, name: &[u8]) -> Result<Reply, Memory>
-    ensures { IfOk result (λ reply. IsReply reply.status reply.text.items) }
+/// How many rows each list has.
+fn count_of(bundle: &Bundle) -> u32
+    ensures { result ≡ count_of (content bundle.now) }
 {
-    let text = unknown_list(alloc, name)?;
-    Ok(Reply {
-        status: Status::Partial,
-        text,
-    })
-}
-
-/// The reply to a query that asks for more objects than there are.
-fn too_many(alloc: Global, k: u32, count: u32) -> Result<Reply, Memory>
-    requires { count < k }
-    ensures { IfOk result (λ reply. IsReply reply.status reply.text.items) }
-{
-    let text = above_count(alloc, k, count)?;
-    Ok(Reply {
-        status: Status::Partial,
-        text,
-    })
-}
-
-/// Where a name stands.
-fn place_of(names: &[Vec<u8>], name: &[u8]) -> Option<usize> {
-    names.iter().position(|other| other.as_slice() == name)
-}
-
-/// How many objects each list has.
-fn count_of(bundle: &Bundle) -> u32 {
     match bundle.lists.first() {
         Some(list) => list.len(),
         None => 0,
     }
 }
 
-/// The figures of an answer's accesses.
-fn figures_of(answer: &Answer) -> Figures {
-    let transcript = &answer.transcript;
-    Figures {
-        depth: transcript.depth(0),
-        sorted: transcript.sorted(),
-        random: transcript.random(),
-        cost: transcript.cost(&COSTS),
+/// The refusal of a line whose text is no query.
+fn refusal_of(fault: QueryFault) -> Result<Refusal, Memory>
+    ensures { (line : List ℕ) → Reads line (Err fault) → IfOk result (RefusesText line) }
+{
+    match fault {
+        QueryFault::LongLine { limit } => Ok(Refusal::LongLine { limit }),
+        QueryFault::Syntax { at } => Ok(Refusal::Syntax { at }),
+        QueryFault::Number { at } => Ok(Refusal::Number { at }),
+        QueryFault::TooManyLists { at } => Ok(Refusal::TooManyLists { at }),
+        QueryFault::TooManyNodes { nodes } => Ok(Refusal::TooManyNodes { nodes }),
+        QueryFault::TooDeep { depth } => Ok(Refusal::TooDeep { depth }),
+        QueryFault::TooBig { node } => Ok(Refusal::TooBig { node }),
+        QueryFault::Memory => Err(Memory),
     }
+}
+
+/// What becomes of a query over the lists of a bundle.
+fn outcome_of(alloc: Global, bundle: &Bundle, query: &Query) -> Result<Outcome, Memory>
+    requires bundle { IsBundle (content bundle.now) }
+    requires query { Reads (content bundle.now).query (Ok query.now) }
+    ensures { IfOk result (BecomesOf (content bundle.now) query.now) }
+{
+    let mut sources = match named_lists(alloc, bundle, &query.names) {
+        Ok(sources) => sources,
+        Err(NamingFault::Unknown { list }) => {
+            return Ok(Outcome::Refused(Refusal::UnknownList { list }));
+        }
+        Err(NamingFault::Memory) => return Err(Memory),
+    };
+    let count = count_of(bundle);
+    if query.k > count {
+        return Ok(Outcome::Refused(Refusal::KAboveCount {
+            k: query.k,
+            n: count,
+        }));
+    }
+    let machine = machine_for(alloc, query, count)?;
+    match drive(alloc, machine, &mut sources) {
+        Ok(answer) => Ok(Outcome::Answered(answer)),
+        Err(CoreFault::RoomFull { room }) => Ok(Outcome::Refused(Refusal::RoomFull { room })),
+        Err(CoreFault::Strangers { .. }) => unreachable!(),
+        Err(CoreFault::Memory) => Err(Memory),
+    }
+}
+
+/// The machine of a query over lists of so many rows.
+fn machine_for(alloc: Global, query: &Query, count: u32) -> Result<Ta, Memory>
+    requires query { (line : List ℕ) × Reads line (Ok query.now) }
+    requires fits { query.now.k ≤ count }
+    requires counted { count ≤ 200000 }
+    ensures { IfOk result (IsMachineFor query.now count) }
+{
+    let expr = query.expr.copy(alloc).map_err(|_| Memory)?;
+    let room = query.room.unwrap_or(count);
+    let costs = query.cost.unwrap_or(Costs {
+        sorted: 1,
+        random: 1,
+    });
+    Ta::make(alloc, expr, query.k, count, room, costs).map_err(|_| Memory)
 }

@@ -1,7 +1,9 @@
-use Rattle.std.proofs.Common.{inl, inr, refl}
+use Rattle.std.proofs.Common.{inl, inr, refl, subst}
 use Rattle.std.proofs.lemmas.Bool.{false≢true}
 use Rattle.std.proofs.KnownBytes.{Keeps-refl}
+use Rattle.topk_top.specs.Outcomes.{IsReply}
 use Rattle.topk_top.proofs.Ending.{ends_said}
+use Rattle.topk_top.proofs.Replying.{replies_to}
 use Rattle.topk_top.specs.declared.status.Status.TheVariants.{BadWords}
 use Rattle.topk_top.proofs.call.top.Goals as goal
 
@@ -11,12 +13,15 @@ returns-then-not-is_one-clause-ends g c =
     (inl (λ one. false≢true (c.if-not-is_one.ensures.1 one), record { left = Keeps-refl _; faults = refl }, refl, refl))
     c.say.ensures.says
 
-pub returns-in-Ok-answer_one-clause-ends : goal.returns-in-Ok-answer_one-clause-ends
-returns-in-Ok-answer_one-clause-ends g c =
+pub returns-in-Ok-reply_to-clause-ends : goal.returns-in-Ok-reply_to-clause-ends
+returns-in-Ok-reply_to-clause-ends g c =
     ends_said _ _ _ _
     (inr (
       c.if-not-is_one.ensures.0 refl,
-      record { text = (c.in-Ok.text.items, c.in-Ok.ensures.whole); faults = c.in-Ok.ensures.quiet },
-      rw c.deref-in-Ok-answer_one.ensures.value c.in-Ok-answer_one.ensures,
+      (
+        c.in-Ok.text.items,
+        record { given = c.in-Ok.ensures.whole; faults = c.in-Ok.ensures.quiet },
+        replies_to c.in-Ok.text.items c.in-Ok-reply_to.reply (subst (λ bytes. IsReply bytes c.in-Ok-reply_to.reply) c.deref.ensures.value c.in-Ok-reply_to.ensures),
+      ),
     ))
-    c.say-in-Ok-answer_one.ensures.says
+    c.write_reply.ensures.says

@@ -1,0 +1,5 @@
+pub mod Bounding
+pub mod Keeping
+pub mod KindTests
+pub mod Refusing
+pub mod Scanning

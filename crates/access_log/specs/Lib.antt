@@ -1,0 +1,3 @@
+pub mod Log
+pub mod Refusal
+pub mod Scan

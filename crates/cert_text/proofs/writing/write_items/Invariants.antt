@@ -1,0 +1,11 @@
+use Rattle.std.proofs.Common.{map, take, Ok}
+use Rattle.line_text.specs.Lines.{unlines}
+use Rattle.tk_io.specs.declared.Failed.{Failed}
+use Rattle.cert_text.specs.Certificate.{answer_line}
+use Rattle.cert_text.specs.Writing.{Writes}
+use Rattle.cert_text.proofs.writing.write_items.Given as goal
+
+-- the lines of the items so far were written
+abbrev pub invariant-loop-place : goal.invariant-loop-place
+invariant-loop-place g l =
+    Writes {T = Unit {0}} {E = Failed} (unlines (map answer_line (take l.place l.items))) (g.K.Sink.held l.fn.out) (g.K.Sink.held l.out) (g.K.Sink.faults l.fn.out) (g.K.Sink.faults l.out) (Ok tt)

@@ -1,0 +1,75 @@
+-- The lines of a certificate, and which certificates there are.
+use Rattle.std.specs.Prelude.{◌≤◌, ◌<◌, ◌^◌, ◌-◌, ℕ, List, [], ◌∷◌, ◌++◌, length, map, codes, All, Ok}
+use Rattle.std.specs.List.{join_with_byte}
+use Rattle.std.specs.Fmt.{decimal}
+use Rattle.ranked_list.specs.declared.item.Item.{Item}
+use Rattle.topk_theory.specs.declared.access.Access.{Access}
+use Rattle.topk_theory.specs.declared.access.Access.TheVariants.{Sorted, Random}
+use Rattle.topk_theory.specs.Transcript.{list_of, object_of, grade_of}
+use Rattle.query_text.specs.declared.query.Query.{Query}
+use Rattle.query_text.specs.Query.{name_of, printed}
+use Rattle.query_text.specs.Reading.{Reads}
+use Rattle.cert_text.specs.declared.certificate.Certificate.{Certificate}
+
+-- a line of words, with one space between two
+abbrev pub spaced : List (List ℕ) → List ℕ
+spaced words = join_with_byte 32 words
+
+-- the line of the certificate's number, of its query, and of how many objects each list has
+abbrev pub number_line : ℕ → List ℕ
+number_line line = spaced (codes "certificate" ∷ decimal line ∷ [])
+
+abbrev pub query_line : Query → List ℕ
+query_line query = spaced (codes "query" ∷ printed query ∷ [])
+
+abbrev pub count_line : ℕ → List ℕ
+count_line count = spaced (codes "count" ∷ decimal count ∷ [])
+
+-- the line of an object of the answer, with both bounds
+abbrev pub answer_line : Item → List ℕ
+answer_line item = spaced (codes "answer" ∷ decimal item.object ∷ decimal item.low ∷ decimal item.high ∷ [])
+
+-- the line of the figures: the greatest depth of a list, the numbers of sorted and of random accesses, and their cost
+abbrev pub stop_line : ℕ → ℕ → ℕ → ℕ → List ℕ
+stop_line depth sorted random cost =
+    spaced (codes "stop" ∷ codes "depth" ∷ decimal depth ∷ codes "sorted" ∷ decimal sorted ∷ codes "random" ∷ decimal random ∷ codes "cost" ∷ decimal cost ∷ [])
+
+-- the line of an access: how it was made, its list by name, its object and its grade
+abbrev pub access_line : List (List ℕ) → Access → List ℕ
+access_line names (Sorted list object grade) = spaced (codes "s" ∷ name_of names list ∷ decimal object ∷ decimal grade ∷ [])
+access_line names (Random list object grade) = spaced (codes "r" ∷ name_of names list ∷ decimal object ∷ decimal grade ∷ [])
+
+-- the lines of the accesses, and the line that ends a certificate
+abbrev pub access_lines : List (List ℕ) → List Access → List (List ℕ)
+access_lines names accesses = map (access_line names) accesses ++ codes "end" ∷ []
+
+-- the lines of a certificate
+abbrev pub certificate_lines : Certificate → List (List ℕ)
+certificate_lines c =
+    number_line c.line ∷ query_line c.query ∷ count_line c.count ∷ (map answer_line c.items ++ stop_line c.depth c.sorted c.random c.cost ∷ access_lines c.query.names c.accesses)
+
+-- an object has 32 bits and its bounds have 64
+pub record IsItem (item : Item) : Type 0 where
+  pub object : item.object < 2 ^ 32
+  pub low : item.low < 2 ^ 64
+  pub high : item.high < 2 ^ 64
+
+-- an access is of one of the lists, and its object and its grade have 32 bits
+pub record IsAccess (lists : ℕ) (access : Access) : Type 0 where
+  pub list : list_of access < lists
+  pub object : object_of access < 2 ^ 32
+  pub grade : grade_of access < 2 ^ 32
+
+-- what a certificate may say: the numbers are within their ranges, a query line is read as the query, and the accesses are of its lists
+pub record IsCertificate (c : Certificate) : Type 0 where
+  pub line_from : 1 ≤ c.line
+  pub line_to : c.line < 2 ^ 63
+  pub query : Reads (printed c.query) (Ok c.query)
+  pub count_from : 1 ≤ c.count
+  pub count_to : c.count ≤ 200000
+  pub items : All IsItem c.items
+  pub depth : c.depth < 2 ^ 64
+  pub sorted : c.sorted < 2 ^ 64
+  pub random : c.random < 2 ^ 64
+  pub cost : c.cost < 2 ^ 64
+  pub accesses : All (IsAccess (length c.query.names)) c.accesses

@@ -1,0 +1,88 @@
+-- The text of what became of a query line.
+use Rattle.std.specs.Prelude.{◌≡◌, ◌≤◌, ◌<◌, ◌^◌, ℕ, List, [], ◌∷◌, length, map, codes, All, Option, Some, None, unwrap_or, option_map}
+use Rattle.std.specs.Fmt.{decimal}
+use Rattle.line_text.specs.Lines.{unlines}
+use Rattle.monotone_fn.specs.declared.costs.Costs.{Costs}
+use Rattle.monotone_fn.specs.Shape.{list_count}
+use Rattle.monotone_fn.specs.Limits.{IsExpr}
+use Rattle.topk_theory.specs.Transcript.{depth, sorted_count, random_count, cost}
+use Rattle.access_log.specs.Log.{Log, IsWithinLimits}
+use Rattle.access_log.specs.declared.answer.Answer.{Answer}
+use Rattle.query_text.specs.declared.query.Query.{Query}
+use Rattle.query_text.specs.Query.{IsLawful}
+use Rattle.cert_text.specs.declared.certificate.Certificate.{Certificate}
+use Rattle.cert_text.specs.declared.outcome.Outcome.{Outcome}
+use Rattle.cert_text.specs.declared.outcome.Outcome.TheVariants.{Answered, Refused}
+use Rattle.cert_text.specs.declared.refusal.Refusal.{Refusal}
+use Rattle.cert_text.specs.Refusal.{refusal_row, field_word, refused_lists}
+use Rattle.cert_text.specs.Certificate.{spaced, stop_line, certificate_lines, IsItem, IsAccess}
+
+-- what accesses cost a query; 1 and 1 where it doesn't say
+abbrev pub costs_of : Query → Costs
+costs_of query = unwrap_or query.cost (record { sorted = 1; random = 1 })
+
+-- the names of a query's lists, none where there is no query
+abbrev pub names_of : Option Query → List (List ℕ)
+names_of query = unwrap_or (option_map (λ q. q.names) query) []
+
+-- what is certified of an answer: its items, its accesses, and the figures of these
+abbrev pub certificate_of : ℕ → Query → ℕ → Answer → Certificate
+certificate_of line query count answer = record {
+  line = line;
+  query = query;
+  count = count;
+  items = answer.items;
+  depth = depth answer.transcript.lists answer.transcript.accesses;
+  sorted = sorted_count answer.transcript.accesses;
+  random = random_count answer.transcript.accesses;
+  cost = cost (costs_of query).sorted (costs_of query).random answer.transcript.accesses;
+  accesses = answer.transcript.accesses;
+}
+
+-- the line of the figures of a query's accesses
+abbrev pub figures_line : Query → Log → List ℕ
+figures_line query log =
+    stop_line (depth log.lists log.accesses) (sorted_count log.accesses) (random_count log.accesses) (cost (costs_of query).sorted (costs_of query).random log.accesses)
+
+-- the line of a refused query line by its number, the name of the refusal and the words of its fields
+unfoldable pub refused_words : ℕ → List ℕ → List (List ℕ) → List ℕ
+refused_words line name fields = spaced (codes "refused" ∷ decimal line ∷ name ∷ fields)
+
+-- the line of a refusal; a field that is a list is written by its name
+abbrev pub refused_line : ℕ → List (List ℕ) → Refusal → List ℕ
+refused_line line names refusal = refused_words line (refusal_row refusal).0 (map (field_word names) (refusal_row refusal).1)
+
+-- the lines of an outcome: a certificate for an answer, one line for a refusal
+abbrev pub outcome_lines : ℕ → Option Query → ℕ → Outcome → List (List ℕ)
+outcome_lines line None count (Answered answer) = []
+outcome_lines line (Some query) count (Answered answer) = certificate_lines (certificate_of line query count answer)
+outcome_lines line query count (Refused refusal) = refused_line line (names_of query) refusal ∷ []
+
+-- the text of the outcome of the query line with this number, over lists of `count` objects
+unfoldable pub outcome_text : ℕ → Option Query → ℕ → Outcome → List ℕ
+outcome_text line query count outcome = unlines (outcome_lines line query count outcome)
+
+-- the cost of the accesses is one that 64 bits hold
+pub record HasCost (query : Query) (log : Log) : Type 0 where
+  pub sorted : (costs_of query).sorted ≤ 1000000
+  pub random : (costs_of query).random ≤ 1000000
+  pub accesses : length log.accesses < 2 ^ 40
+
+-- an answer comes with its query, and the lists that a refusal names are lists of its query
+abbrev pub IsOutcome : Option Query → Outcome → Type 0
+IsOutcome None (Answered answer) = ⊥
+IsOutcome (Some query) (Answered answer) = HasCost query answer.transcript
+IsOutcome query (Refused refusal) = All (λ list. list < length (names_of query)) (refused_lists refusal)
+
+-- an answer of a query line as it is certified: a lawful query over the transcript's lists, with the transcript's count, and numbers that their types hold
+pub record IsCertified (line : ℕ) (query : Query) (count : ℕ) (answer : Answer) : Type 0 where
+  pub line_from : 1 ≤ line
+  pub line_to : line < 2 ^ 63
+  pub lawful : IsLawful query
+  pub expr : IsExpr query.expr
+  pub lists : answer.transcript.lists ≡ list_count query.expr
+  pub counted : answer.transcript.count ≡ count
+  pub cost : HasCost query answer.transcript
+  pub limits : IsWithinLimits answer.transcript.lists answer.transcript.count
+  pub items : All IsItem answer.items
+  pub accesses : All (IsAccess answer.transcript.lists) answer.transcript.accesses

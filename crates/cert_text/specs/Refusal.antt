@@ -1,0 +1,40 @@
+-- Why a query line is refused, as text.
+use Rattle.std.specs.Prelude.{ℕ, List, [], ◌∷◌, codes}
+use Rattle.std.specs.List.{flat_map}
+use Rattle.std.specs.Fmt.{decimal}
+use Rattle.query_text.specs.Query.{name_of}
+use Rattle.cert_text.specs.declared.refusal.Refusal.{Refusal}
+use Rattle.cert_text.specs.declared.refusal.Refusal.TheVariants.{LongLine, Syntax, Number, TooManyLists, TooManyNodes, TooDeep, TooBig, UnknownList, KAboveCount, Strangers, RoomFull}
+
+-- a field of a refusal: a number, or a list by its number in the query
+pub data Field : Type 0 where
+  number : ℕ → Field
+  list : ℕ → Field
+
+-- the name of a refusal, and its fields in order
+abbrev pub refusal_row : Refusal → List ℕ × List Field
+refusal_row (LongLine limit) = (codes "LongLine", Field.number limit ∷ [])
+refusal_row (Syntax at) = (codes "Syntax", Field.number at ∷ [])
+refusal_row (Number at) = (codes "Number", Field.number at ∷ [])
+refusal_row (TooManyLists at) = (codes "TooManyLists", Field.number at ∷ [])
+refusal_row (TooManyNodes nodes) = (codes "TooManyNodes", Field.number nodes ∷ [])
+refusal_row (TooDeep depth) = (codes "TooDeep", Field.number depth ∷ [])
+refusal_row (TooBig node) = (codes "TooBig", Field.number node ∷ [])
+refusal_row (UnknownList l) = (codes "UnknownList", Field.list l ∷ [])
+refusal_row (KAboveCount k n) = (codes "KAboveCount", Field.number k ∷ Field.number n ∷ [])
+refusal_row (Strangers object count) = (codes "Strangers", Field.number object ∷ Field.number count ∷ [])
+refusal_row (RoomFull room) = (codes "RoomFull", Field.number room ∷ [])
+
+-- the word of a field: a number in decimal, a list by its name
+abbrev pub field_word : List (List ℕ) → Field → List ℕ
+field_word names (Field.number n) = decimal n
+field_word names (Field.list l) = name_of names l
+
+-- the lists that a field names
+abbrev pub lists_in : Field → List ℕ
+lists_in (Field.number n) = []
+lists_in (Field.list l) = l ∷ []
+
+-- the lists that a refusal names
+abbrev pub refused_lists : Refusal → List ℕ
+refused_lists refusal = flat_map lists_in (refusal_row refusal).1

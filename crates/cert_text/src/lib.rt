@@ -1,0 +1,31 @@
+//! Certificates and refusals as text: what is printed of a query line's outcome, and read back.
+//!
+//! ```text
+//! certificate LINE
+//! query QUERY
+//! count COUNT
+//! answer OBJECT LOW HIGH        one line for each object of the answer, in its order
+//! stop depth DEPTH sorted SORTED random RANDOM cost COST
+//! s NAME OBJECT GRADE           a sorted access
+//! r NAME OBJECT GRADE           a random access
+//! end
+//! ```
+//!
+//! A refused query line is one line: `refused LINE`, the name of the refusal and its fields.
+#![tactic(auto)]
+
+mod accesses;
+mod certificate;
+mod fault;
+mod outcome;
+mod parts;
+mod reader;
+mod refusal;
+mod words;
+mod writing;
+
+pub use accesses::Accesses;
+pub use certificate::{Certificate, read_certificate};
+pub use fault::CertFault;
+pub use outcome::{Outcome, write_outcome};
+pub use refusal::Refusal;

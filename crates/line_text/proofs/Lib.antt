@@ -1,0 +1,4 @@
+pub mod CutLaws
+pub mod LineLaws
+pub mod NumberLaws
+pub mod NameLaws

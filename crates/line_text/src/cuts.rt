@@ -1,0 +1,51 @@
+//! Where a text is cut.
+
+ghost use Rattle.std.specs.Prelude.{◌≡◌, ◌==◌};
+ghost use Rattle.std.specs.List.{position};
+ghost use Rattle.std.specs.Option.{option_map};
+ghost use Rattle.line_text.specs.Cuts.{cut_at, rest_after};
+
+/// The place of the first of a byte.
+fn place_of(text: &[u8], byte: u8) -> Option<usize>
+    ensures { result ≡ position (λ b. b == byte) text.now }
+{
+    text.iter().position(|b| *b == byte)
+}
+
+/// What stands before the first of a byte and what stands after it, or None where the text has no
+/// such byte.
+pub fn cut_at(text: &[u8], byte: u8) -> Option<(&[u8], &[u8])>
+    ensures { option_map (λ cut. (cut.0.now, cut.1.now)) result ≡ cut_at byte text.now }
+{
+    let place = place_of(text, byte)?;
+    Some((&text[..place], &text[place + 1..]))
+}
+
+/// What follows a word at the front of a text, or None where the text doesn't begin with it.
+pub fn rest_after<'t>(word: &[u8], text: &'t [u8]) -> Option<&'t [u8]>
+    ensures { option_map (λ rest. rest.now) result ≡ rest_after word.now text.now }
+{
+    text.strip_prefix(word)
+}
+
+#[cfg(test)]
+mod tests {
+    use super::{cut_at, rest_after};
+
+    #[test]
+    fn cuts_at_the_first(rt: HostRuntime) {
+        let Some((before, after)) = cut_at(b"1,2,3", b',') else {
+            assert!(rt; false, "there is a comma");
+            return;
+        };
+        assert_eq!(rt; before, b"1".as_slice());
+        assert_eq!(rt; after, b"2,3".as_slice());
+        assert!(rt; cut_at(b"1 2", b',').is_none());
+        assert!(rt; rest_after(b"list ", b"list").is_none());
+        let Some(name) = rest_after(b"list ", b"list A") else {
+            assert!(rt; false, "the word is there");
+            return;
+        };
+        assert_eq!(rt; name, b"A".as_slice());
+    }
+}

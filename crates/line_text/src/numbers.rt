@@ -1,0 +1,103 @@
+//! Numbers as text.
+
+ghost use Rattle.std.specs.Prelude.{◌≡◌, ◌<◌, ◌^◌, true, SomeIff};
+ghost use Rattle.std.specs.Char.{is_ascii_digit};
+ghost use Rattle.std.specs.List.{list_all};
+ghost use Rattle.std.specs.Str.{all_ascii_digits};
+ghost use Rattle.std.specs.Str.Parse.{digits_value};
+ghost use Rattle.line_text.specs.Numbers.{is_number, number_up_to, ReadsNumber};
+
+/// Why a text isn't read as a number of 64 bits.
+#[derive(Clone, Copy, Debug, PartialEq, Eq)]
+pub enum NumberFault {
+    /// The text is no number: it is neither `0` nor a digit 1 to 9 followed by digits.
+    NoNumber,
+    /// The text is a number above the last value of `u64`.
+    TooLarge,
+}
+
+/// Whether each byte is a digit.
+fn are_digits(bytes: &[u8]) -> bool
+    ensures { result ≡ list_all is_ascii_digit bytes.now }
+{
+    bytes.iter().all(|digit| digit.is_ascii_digit())
+}
+
+/// Whether a text is a number: `0` alone, or a digit 1 to 9 followed by digits.
+pub fn is_number(text: &[u8]) -> bool
+    ensures { result ≡ is_number text.now }
+{
+    let Some((first, rest)) = text.split_first() else {
+        return false;
+    };
+    if *first == b'0' {
+        return rest.is_empty();
+    }
+    if !first.is_ascii_digit() {
+        return false;
+    }
+    are_digits(rest)
+}
+
+/// The value of digits, or None where it is above the last value of `u64`.
+fn value_of(digits: &[u8]) -> Option<u64>
+    requires { all_ascii_digits digits.now ≡ true }
+    ensures { SomeIff result (digits_value 10 digits.now < 2 ^ 64) (digits_value 10 digits.now) }
+{
+    let mut value: u64 = 0;
+    for digit in digits {
+        value = value.checked_mul(10)?.checked_add((*digit - b'0') as u64)?;
+    }
+    Some(value)
+}
+
+/// The number that a text spells.
+pub fn read_number(text: &[u8]) -> Result<u64, NumberFault>
+    ensures { ReadsNumber text.now result }
+{
+    if !is_number(text) {
+        return Err(NumberFault::NoNumber);
+    }
+    value_of(text).ok_or(NumberFault::TooLarge)
+}
+
+/// The number that a text spells, where it spells one that is at most `most`.
+pub fn number_up_to(text: &[u8], most: u64) -> Option<u64>
+    ensures { result ≡ number_up_to most text.now }
+{
+    match read_number(text) {
+        Ok(number) if number <= most => Some(number),
+        _ => None,
+    }
+}
+
+#[cfg(test)]
+mod tests {
+    use super::{NumberFault, is_number, number_up_to, read_number};
+
+    #[test]
+    fn reads_each_number_in_its_one_form(rt: HostRuntime) {
+        let cases: [(&str, Result<u64, NumberFault>); 12] = [
+            ("0", Ok(0)),
+            ("7", Ok(7)),
+            ("10", Ok(10)),
+            ("18446744073709551615", Ok(18_446_744_073_709_551_615)),
+            ("18446744073709551616", Err(NumberFault::TooLarge)),
+            ("99999999999999999999999", Err(NumberFault::TooLarge)),
+            ("", Err(NumberFault::NoNumber)),
+            ("01", Err(NumberFault::NoNumber)),
+            ("00", Err(NumberFault::NoNumber)),
+            ("+1", Err(NumberFault::NoNumber)),
+            ("1 ", Err(NumberFault::NoNumber)),
+            ("1a", Err(NumberFault::NoNumber)),
+        ];
+        for (text, number) in cases {
+            let bytes = text.as_bytes();
+            assert_eq!(rt; read_number(bytes), number, "of {text:?}");
+            let fault = number == Err(NumberFault::NoNumber);
+            assert_eq!(rt; is_number(bytes), !fault, "of {text:?}");
+        }
+        assert_eq!(rt; number_up_to(b"10", 10), Some(10));
+        assert_eq!(rt; number_up_to(b"10", 9), None);
+    }
+}

@@ -1,0 +1,95 @@
+-- Each step of a walk over nodes.
+use Rattle.std.proofs.Common.{◌≡◌, ◌+◌, ◌*◌, ◌-◌, ◌^◌, ◌≤◌, ◌++◌, min, List, length, map, drop, sum, subst, arith}
+use Rattle.std.proofs.lemmas.List.{drop_all}
+use Rattle.monotone_fn.specs.Tree.{trees, terms}
+use Rattle.monotone_fn.specs.Shape.{nodes_of, nodes_in, nodes_under, list_count_in, list_count_under}
+use Rattle.monotone_fn.specs.Value.{values, products}
+use Rattle.monotone_fn.specs.Shown.{tree_of, term_of}
+use Rattle.monotone_fn.specs.declared.node.Node.{Node}
+use Rattle.monotone_fn.specs.declared.node.Term.{Term}
+use Rattle.monotone_fn.proofs.Walks.{Walking, Walking-some, Walking-none, Passes-below_none, Passes-checked, drop-item, values-room, values-step, products-step}
+use Rattle.monotone_fn.proofs.value.+value.Goals as goal
+
+pub value_at-returns-in_err-value-clause-passes : goal.value_at-returns-in_err-value-clause-passes
+value_at-returns-in_err-value-clause-passes t c =
+    rw c.from_residual.ensures (Passes-below_none c.args.grades.now (tree_of c.args.node.now) c.args.ended.now c.value_of_parts.new.ended c.in_err-value.ensures.passes)
+
+pub value_at-returns-clause-passes : goal.value_at-returns-clause-passes
+value_at-returns-clause-passes t c =
+    rw c.then_some.ensures (Passes-checked c.args.grades.now (tree_of c.args.node.now) c.args.ended.now c.value_of_parts.new.ended c.in_ok-value.value c.in_ok-value.value c.in_ok-value.ensures.passes c.in_ok-value.ensures.value)
+
+pub values_at-returns-in_err-value_at-clause-passes :
+    goal.values_at-returns-in_err-value_at-clause-passes
+values_at-returns-in_err-value_at-clause-passes t c =
+    let x = c.args.grades.now in
+    let all = nodes_in (trees c.args.nodes.now) in
+    let items = c.deref-node-items.result.now in
+    let node = c.node-item.result in
+    let left = drop-item items c.loop-node.node-index node (omega arith) c.node-item.is in
+    let at = subst (λ (ns : List Node). Walking x all (nodes_in (trees (map tree_of ns))) c.args.ended.now c.loop-node.ended) left c.loop-node.invariant.walking in
+    rw c.from_residual.ensures (Walking-none x all (nodes_of (tree_of node)) (nodes_in (trees (map tree_of (drop (c.loop-node.node-index + 1) items)))) c.args.ended.now c.loop-node.ended c.value_at.new.ended at c.in_err-value_at.ensures.passes)
+
+pub values_at-push-requires : goal.values_at-push-requires
+values_at-push-requires t c =
+    let x = c.args.grades.now in
+    let all = trees c.args.nodes.now in
+    let items = c.deref-node-items.result.now in
+    let node = c.node-item.result in
+    let left = drop-item items c.loop-node.node-index node (omega arith) c.node-item.is in
+    let at = subst (λ (ns : List Node). c.loop-node.values ++ values (trees (map tree_of ns)) x ≡ values all x) left c.loop-node.invariant.values in
+    omega (arith, values-room x c.loop-node.values all (tree_of node) (trees (map tree_of (drop (c.loop-node.node-index + 1) items))) at, c.requires.few)
+
+pub values_at-loop-node-preserved : goal.values_at-loop-node-preserved
+values_at-loop-node-preserved t c =
+    let x = c.args.grades.now in
+    let all = trees c.args.nodes.now in
+    let items = c.deref-node-items.result.now in
+    let node = c.node-item.result in
+    let rest = trees (map tree_of (drop (c.loop-node.node-index + 1) items)) in
+    let left = drop-item items c.loop-node.node-index node (omega arith) c.node-item.is in
+    let lists = subst (λ (ns : List Node). list_count_in (trees (map tree_of ns)) ≤ length x) left c.loop-node.invariant.lists in
+    let walking = subst (λ (ns : List Node). Walking x (nodes_in all) (nodes_in (trees (map tree_of ns))) c.args.ended.now c.loop-node.ended) left c.loop-node.invariant.walking in
+    let values' = subst (λ (ns : List Node). c.loop-node.values ++ values (trees (map tree_of ns)) x ≡ values all x) left c.loop-node.invariant.values in
+    record {
+      lists = omega (arith, lists);
+      walking = Walking-some x (nodes_in all) (nodes_of (tree_of node)) (nodes_in rest) c.args.ended.now c.loop-node.ended c.value_at.new.ended c.in_ok-value_at.field-0 walking c.in_ok-value_at.ensures.passes;
+      values = rw c.push.ensures (values-step x c.loop-node.values (values all x) (tree_of node) rest c.in_ok-value_at.field-0 values' c.in_ok-value_at.ensures.value);
+    }
+
+pub weighted_at-returns-in_err-value-clause-passes :
+    goal.weighted_at-returns-in_err-value-clause-passes
+weighted_at-returns-in_err-value-clause-passes t c =
+    let x = c.args.grades.now in
+    let all = nodes_under (terms c.args.weighted.now) in
+    let items = c.deref-term-items.result.now in
+    let term = c.term-item.result in
+    let left = drop-item items c.loop-term.term-index term (omega arith) c.term-item.is in
+    let at = subst (λ (us : List Term). Walking x all (nodes_under (terms (map term_of us))) c.args.ended.now c.loop-term.ended) left c.loop-term.invariant.walking in
+    rw c.from_residual.ensures (Walking-none x all (nodes_of (tree_of term.node)) (nodes_under (terms (map term_of (drop (c.loop-term.term-index + 1) items)))) c.args.ended.now c.loop-term.ended c.value_at.new.ended at c.in_err-value.ensures.passes)
+
+pub weighted_at-loop-term-preserved : goal.weighted_at-loop-term-preserved
+weighted_at-loop-term-preserved t c =
+    let x = c.args.grades.now in
+    let all = terms c.args.weighted.now in
+    let items = c.deref-term-items.result.now in
+    let term = c.term-item.result in
+    let rest = terms (map term_of (drop (c.loop-term.term-index + 1) items)) in
+    let left = drop-item items c.loop-term.term-index term (omega arith) c.term-item.is in
+    let lists = subst (λ (us : List Term). list_count_under (terms (map term_of us)) ≤ length x) left c.loop-term.invariant.lists in
+    let walking = subst (λ (us : List Term). Walking x (nodes_under all) (nodes_under (terms (map term_of us))) c.args.ended.now c.loop-term.ended) left c.loop-term.invariant.walking in
+    let total = subst (λ (us : List Term). min (c.loop-term.total + sum (products (terms (map term_of us)) x)) (2 ^ 64 - 1) ≡ min (sum (products all x)) (2 ^ 64 - 1)) left c.loop-term.invariant.total in
+    let new : c.saturating_add-total.result ≡ min (c.loop-term.total + min (term.weight * c.in_ok-value.value) (2 ^ 64 - 1)) (2 ^ 64 - 1) = rw (c.saturating_add-total.ensures, c.saturating_mul.ensures) in
+    record {
+      lists = omega (arith, lists);
+      walking = Walking-some x (nodes_under all) (nodes_of (tree_of term.node)) (nodes_under rest) c.args.ended.now c.loop-term.ended c.value_at.new.ended c.in_ok-value.value walking c.in_ok-value.ensures.passes;
+      fits = omega (arith, new);
+      total = products-step x c.loop-term.total c.saturating_add-total.result (sum (products all x)) term.weight c.in_ok-value.value (2 ^ 64 - 1) (tree_of term.node) rest total c.in_ok-value.ensures.value new;
+    }
+
+pub weighted_at-returns-clause-total : goal.weighted_at-returns-clause-total
+weighted_at-returns-clause-total t c =
+    let x = c.args.grades.now in
+    let items = c.deref-term-items.result.now in
+    let none = drop_all c.loop-term.term-index items (omega arith) in
+    let total = subst (λ (us : List Term). min (c.loop-term.total + sum (products (terms (map term_of us)) x)) (2 ^ 64 - 1) ≡ min (sum (products (terms c.args.weighted.now) x)) (2 ^ 64 - 1)) none c.loop-term.invariant.total in
+    omega (arith, total)

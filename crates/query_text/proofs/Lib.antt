@@ -1,0 +1,16 @@
+pub mod WordLaws
+pub mod FrontLaws
+pub mod ViableLaws
+pub mod CompleteLaws
+pub mod LongestLaws
+pub mod DraftLaws
+pub mod TakeLaws
+pub mod ListLaws
+pub mod ReachLaws
+pub mod StateLaws
+pub mod ReadLaws
+pub mod FinalLaws
+pub mod NumberingLaws
+pub mod AnswerLaws
+pub mod PutLaws
+pub mod BackLaws

@@ -1,0 +1,29 @@
+use Rattle.std.proofs.Common.{refl, sym, ap, subst, ◌∙◌, arith, take, drop, length}
+use Rattle.query_text.specs.Reached.{Reached}
+use Rattle.query_text.proofs.ReadLaws.{reach_start, reach-next, reach_refused, reach_draft, reach_fault}
+use Rattle.query_text.proofs.reading.read_words.Goals as goal
+use Rattle.query_text.proofs.reading.read_words.Goals.{then-at-bytes, else-at-bytes+then-not-may_end}
+
+pub loop-at-init : goal.loop-at-init
+loop-at-init c = reach_start c.args.bytes.now c.new-course.result c.new-draft.result c.new-course.ensures c.new-draft.ensures.names c.new-draft.ensures.frames c.new-draft.ensures.plain
+
+pub returns-in-Err : goal.returns-in-Err
+returns-in-Err c =
+    reach_refused c.args.bytes.now c.loop-at.at c.in-Err.ensures.0 c.loop-at.course c.loop-at.draft c.loop-at.fault c.in-Err.at c.loop-at.invariant
+    c.in-Err.ensures.1 c.in-Err.ensures.2 c.in-Err.ensures.3
+    (elim c.if-at-bytes.branch [ then-at-bytes w ↦ (λ over. absurd (omega arith)) | else-at-bytes+then-not-may_end w ↦ (λ over. sym w.may_end.ensures ∙ w.if-not-may_end.true) ])
+
+pub loop-at-preserved : goal.loop-at-preserved
+loop-at-preserved c =
+    reach-next c.args.bytes.now c.loop-at.at c.in-Ok.count c.loop-at.course c.advance.new.self c.loop-at.draft c.take_word.new.draft c.loop-at.fault c.in_ok-fault.fault _
+    c.loop-at.invariant (ap (λ n. take n (drop c.loop-at.at c.args.bytes.now)) (omega arith)) c.in-Ok.ensures.0 c.in-Ok.ensures.1 c.in_ok-fault.ensures.ok c.in_ok-advance.ensures.ok
+
+pub returns-in-None : goal.returns-in-None
+returns-in-None c =
+    reach_draft c.args.bytes.now c.loop-at.at c.loop-at.course c.loop-at.draft
+    (subst (Reached c.args.bytes.now c.loop-at.at c.loop-at.course c.loop-at.draft) c.in-None.is c.loop-at.invariant) (omega arith) (sym c.may_end.ensures ∙ c.if-not-may_end.false)
+
+pub returns : goal.returns
+returns c =
+    reach_fault c.args.bytes.now c.loop-at.at c.loop-at.course c.loop-at.draft c.in-Some.fault
+    (subst (Reached c.args.bytes.now c.loop-at.at c.loop-at.course c.loop-at.draft) c.in-Some.is c.loop-at.invariant) (omega arith) (sym c.may_end.ensures ∙ c.if-not-may_end.false)

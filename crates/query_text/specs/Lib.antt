@@ -1,0 +1,13 @@
+pub mod Bytes
+pub mod Written
+pub mod Pieces
+pub mod Shape
+pub mod Query
+pub mod Reading
+pub mod Words
+pub mod Front
+pub mod Course
+pub mod Draft
+pub mod Reached
+pub mod Finish
+pub mod Printing

@@ -1,0 +1,22 @@
+//! Queries.
+
+use super::algorithm::Algorithm;
+use super::names::Names;
+use monotone_fn::{Costs, Expr};
+
+/// A query: the k objects with the greatest values of an expression over lists.
+#[derive(Debug, Drop)]
+pub struct Query {
+    /// How many objects are asked for, 1 to 1,000,000.
+    pub k: u32,
+    /// The names of the lists, by the lists' numbers in the expression.
+    pub names: Names,
+    /// The value of an object, over its grades in the lists.
+    pub expr: Expr,
+    /// How the answer is found.
+    pub algorithm: Algorithm,
+    /// What one access costs, each 1 to 1,000,000. None means 1 and 1.
+    pub cost: Option<Costs>,
+    /// How many objects may be kept, 1 to 1,000,000. None means any number.
+    pub room: Option<u32>,
+}

@@ -1,0 +1,40 @@
+use Rattle.std.proofs.Common.{sym, ◌∙◌, ap, subst, arith, ◌+◌}
+use Rattle.line_text.specs.Lines.{lines}
+use Rattle.line_text.proofs.LineLaws.{lines-nil}
+use Rattle.ranked_list.specs.Reading.{part_read, read_on}
+use Rattle.ranked_list.specs.Tracking.{front_of, Gives}
+use Rattle.ranked_list.proofs.ReadLaws.{read_on-nil, read_on-takes, read_on-refuses, read_on-query, no_query}
+use Rattle.ranked_list.proofs.bundle.read_rest.Goals as goal
+
+pub returns-in-Query : goal.returns-in-Query
+returns-in-Query c =
+    let front = front_of c.loop-text.reader in
+    let e = c.loop-text.invariant.same ∙ read_on-query front c.loop-text.number c.in-Some.text.now (lines c.in-Some.more.now) (lines c.loop-text.rest.now) c.in-Query.query.now c.in-Some.ensures.0 c.in-Query.ensures in
+    subst (Gives c.read_end.result) (sym e) c.read_end.ensures
+
+pub returns-then-not-branch : goal.returns-then-not-branch
+returns-then-not-branch c =
+    let front = front_of c.loop-text.reader in
+    let line = c.line_of-line.result in
+    c.loop-text.invariant.same
+    ∙ read_on-refuses front c.loop-text.number c.in-Some.text.now (lines c.in-Some.more.now) (lines c.loop-text.rest.now) (part_read line) c.in-Some.ensures.0 c.line_of-line.ensures
+    (no_query line c.in_default-line.not-Query) (sym c.in_ok-take_line.ensures.tells ∙ c.if-not-branch.true)
+
+pub loop-text-preserved : goal.loop-text-preserved
+loop-text-preserved c =
+    let front = front_of c.loop-text.reader in
+    let line = c.line_of-line.result in
+    let takes = c.in_ok-take_line.ensures.takes c.if-not-branch.false in
+    record {
+      tracked = takes.0;
+      same =
+          c.loop-text.invariant.same
+          ∙ read_on-takes front c.loop-text.number c.in-Some.text.now (lines c.in-Some.more.now) (lines c.loop-text.rest.now) (part_read line) c.in-Some.ensures.0 c.line_of-line.ensures (sym c.in_ok-take_line.ensures.tells ∙ c.if-not-branch.false)
+          ∙ ap (λ f. read_on f (c.loop-text.number + 1) (lines c.in-Some.more.now)) (sym takes.1);
+      few = let shorter = c.in-Some.ensures.1 in let few = c.loop-text.invariant.few in omega arith;
+    }
+
+pub returns : goal.returns
+returns c =
+    let none = ap lines c.in_default.ensures ∙ lines-nil in
+    c.loop-text.invariant.same ∙ ap (read_on (front_of c.loop-text.reader) c.loop-text.number) none ∙ read_on-nil (front_of c.loop-text.reader) c.loop-text.number

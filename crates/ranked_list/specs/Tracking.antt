@@ -1,0 +1,41 @@
+-- What the crate's reader of bundles keeps beside the front that it has read.
+use Rattle.std.specs.Prelude.{◌≡◌, ℕ, Bool, true, List, [], ◌∷◌, map, length, nat_eq}
+use Rattle.std.specs.Set.{is_member}
+use Rattle.ranked_list.specs.Table.{IsRanked, objects}
+use Rattle.std.specs.HashSet.{contains}
+use Rattle.std.specs.declared.result.Result.{Result}
+use Rattle.std.specs.declared.result.Result.TheVariants.{Ok, Err}
+use Rattle.ranked_list.specs.declared.row.Row.{Row}
+use Rattle.ranked_list.specs.declared.reader.Reader.{Reader}
+use Rattle.ranked_list.specs.declared.bundle.Bundle.{Bundle}
+use Rattle.ranked_list.specs.declared.bundle.BundleFault.{BundleFault}
+use Rattle.ranked_list.specs.declared.bundle.BundleFault.TheVariants.{BadBundle, Memory}
+use Rattle.ranked_list.specs.Bundle.{Content, content}
+use Rattle.ranked_list.specs.Reading.{Front, last_row, TellsObjects}
+
+-- the front that a reader has read
+abbrev pub front_of : Reader → Front
+front_of reader = record { names = map (λ name. name.items) reader.names.items; closed = reader.closed.items; name = reader.name.items; rows = reader.rows }
+
+-- the test is passed by the objects of the first list, if there is one
+abbrev pub TellsFirst : (ℕ → Bool) → List (List Row) → Type 0
+TellsFirst test [] = Unit {0}
+TellsFirst test (first ∷ more) = TellsObjects test first
+
+-- the reader keeps the last row of its open list, the objects of that list, and those of the first list
+pub record IsTracked (reader : Reader) : Type 0 where
+  pub last : reader.last ≡ last_row reader.rows
+  pub seen : TellsObjects (contains nat_eq reader.seen) reader.rows
+  pub first : TellsFirst (contains nat_eq reader.first) reader.closed.items
+
+-- a list is ranked and has so many rows, all of objects that pass the test
+pub record IsAlike (count : ℕ) (test : ℕ → Bool) (rows : List Row) : Type 0 where
+  pub sized : length rows ≡ count
+  pub ranked : IsRanked rows
+  pub within : (object : ℕ) → is_member nat_eq (objects rows) object ≡ true → test object ≡ true
+
+-- the code gives what the reading of the lines gives, or memory was refused
+abbrev pub Gives : Result Bundle BundleFault → Result Content ℕ → Type 0
+Gives (Ok bundle) read = read ≡ Ok (content bundle)
+Gives (Err (BadBundle line)) read = read ≡ Err line
+Gives (Err Memory) read = Unit {0}

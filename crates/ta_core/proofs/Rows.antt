@@ -1,0 +1,186 @@
+-- One more row: the machine stays on the run.
+use Rattle.std.proofs.Common.{◌≡◌, ◌≢◌, ℕ, zero, suc, ◌+◌, ◌-◌, ◌<◌, ◌≤◌, ◌⊎◌, inl, inr, Bool, true, false, not, cond, ◌==◌, List, [], ◌∷◌, ◌++◌, length, map, take, drop, filter, All, AllPairs, Contains, slice_index_or, Option, Some, None, refl, sym, ap, subst, ◌∙◌, arith, append_assoc, append-nil, length-append, eqb-true, eq-eqb}
+use Rattle.std.specs.List.{flat_map, cons_option}
+use Rattle.std.proofs.lemmas.Bool.{cases_Bool, cases_lt, true≢false, false≢true, eqb-false, ne_eqb, not_from_true, not_from_false}
+use Rattle.std.proofs.lemmas.List.Elements.{Contains-append_left, Contains-append_right, Contains-append_cases, filter-append}
+use Rattle.std.proofs.lemmas.List.{length-take-le, map-append}
+use Rattle.std.proofs.Math.Seq.{take-suc}
+use Rattle.ranked_list.specs.declared.row.Row.{Row}
+use Rattle.ranked_list.specs.Table.{objects, IsRanked, IsTable, place_in, grade_in}
+use Rattle.topk_theory.specs.declared.access.Access.{Access}
+use Rattle.topk_theory.specs.declared.access.Access.TheVariants.{Sorted, Random}
+use Rattle.topk_theory.specs.Aggregate.{objects_of, grades_of}
+use Rattle.topk_theory.specs.Transcript.{Agrees, Gives, list_at, list_of, object_of, depth_of, sorted_rows, seen_objects, each_once}
+use Rattle.topk_theory.specs.Threshold.{row_at, stands, sorted_block, new_objects, random_block, ta_block, ta_run_to}
+use Rattle.topk_theory.proofs.AgreementLists.{contains_nil, contains_here, contains_there, contains_cases, contains_at, contains_map, contains_map_from}
+use Rattle.topk_theory.proofs.AgreementNames.{has, has_contains, has_not, each_once_complete, each_once_within, each_once_push_old, each_once_push_new}
+use Rattle.topk_theory.proofs.AgreementRows.{list_at_contains, list_at_ranked, list_at_length}
+use Rattle.topk_theory.proofs.Agreement.{sorted_rows_append, agrees_gives, agrees_front, gives_at}
+use Rattle.topk_theory.proofs.ThresholdLists.{filter_here, filter_gone}
+use Rattle.topk_theory.proofs.ThresholdTables.{no_row, place_in-object, object-at_place}
+use Rattle.topk_theory.proofs.ThresholdDepth.{list_sized, list_ranked, table_holds, stands_from}
+use Rattle.topk_theory.proofs.ThresholdRun.{list_number, run_rows, sorted_members, contains_sorted, random_block_here, seen_from_access, access_from_seen, seen_more, run_sees, seen_stands}
+use Rattle.ta_core.specs.Reading.{Reading, grades_in_row, filled, filled_first, with_new, row_added}
+use Rattle.ta_core.specs.OnTable.{IsDepth, objects_at, bottoms_at, OnRow, asks, AreFirstGrades, OnAsks}
+
+-- one more list
+pub take_one_more : (D : List (List Row)) (j : ℕ) → j < length D → take (suc j) D ≡ take j D ++ list_at D j ∷ []
+take_one_more D j l = take-suc D j [] l
+
+pub sorted_block-append : (start depth : ℕ) (xs ys : List (List Row)) → sorted_block start depth (xs ++ ys) ≡ sorted_block start depth xs ++ sorted_block (start + length xs) depth ys
+sorted_block-append start depth [] ys = ap (λ s. sorted_block s depth ys) (omega arith)
+sorted_block-append start depth (rows ∷ xs) ys =
+    ap (λ rest. Sorted start (row_at rows depth).object (row_at rows depth).grade ∷ rest)
+    (sorted_block-append (start + 1) depth xs ys ∙ ap (λ s. sorted_block (start + 1) depth xs ++ sorted_block s depth ys) (omega arith))
+
+-- a list behind those of a block is not read by it
+pub block_of_later : (list start depth : ℕ) (D : List (List Row)) → start + length D ≤ list → sorted_rows list (sorted_block start depth D) ≡ []
+block_of_later list start depth [] l = refl
+block_of_later list start depth (rows ∷ D) l = not_read (start == list) (ne_eqb start list (λ e. absurd (omega arith))) ∙ block_of_later list (start + 1) depth D (omega arith)
+  where
+    not_read : (b : Bool) → (start == list) ≡ false → sorted_rows list (sorted_block start depth (rows ∷ D)) ≡ sorted_rows list (sorted_block (start + 1) depth D)
+    not_read b f = ap (λ t. cons_option (cond t (Some (row_at rows depth)) None) (sorted_rows list (sorted_block (start + 1) depth D))) f
+
+-- what is read and seen in a row
+abbrev pub read_to : List (List Row) → ℕ → ℕ → List Access
+read_to D depth j = ta_run_to D (depth - 1) ++ sorted_block 0 depth (take j D)
+
+pub read_depth : (n : ℕ) (D : List (List Row)) (depth j : ℕ) → IsTable n D → 1 ≤ depth → depth ≤ n → j < length D → depth_of j (read_to D depth j) ≡ depth - 1
+read_depth n D depth j t positive within l =
+    let rows = list_at D j in
+    let long : length rows ≡ n = list_at_length n D j t l in
+    let front : length (take j D) ≡ j = length-take-le j D (omega arith) in
+    ap length (sorted_rows_append j (ta_run_to D (depth - 1)) (sorted_block 0 depth (take j D))
+    ∙ ap (λ above. above ++ sorted_rows j (sorted_block 0 depth (take j D))) (run_rows n D j (depth - 1) t l (omega arith))
+    ∙ ap (λ below. take (depth - 1) rows ++ below) (block_of_later j 0 depth (take j D) (omega arith))
+    ∙ append-nil (take (depth - 1) rows))
+    ∙ length-take-le (depth - 1) rows (omega arith)
+
+-- the row that a table gives next
+pub given_next : (n : ℕ) (D : List (List Row)) (depth j object grade : ℕ) → 1 ≤ depth → depth ≤ n → j < length D → Agrees (length D) n D (read_to D depth j ++ Sorted j object grade ∷ []) → row_at (list_at D j) depth ≡ record { object = object; grade = grade }
+given_next n D depth j object grade positive within l agrees =
+    ap (λ p. slice_index_or (list_at D j) p no_row) (sym (read_depth n D depth j agrees.table positive within l))
+    ∙ gives_at D (read_to D depth j) j object grade no_row (agrees_gives (length D) n D (read_to D depth j) (Sorted j object grade) [] agrees)
+
+-- an object that stands is one of the table's
+pub stands_object : (n : ℕ) (D : List (List Row)) (depth object : ℕ) → IsTable n D → depth ≤ n → stands D depth object ≡ true → Contains (objects_of D) object
+stands_object n D depth object t within s =
+    let from = stands_from D depth object s in
+    let long : length from.0 ≡ n = list_sized n D from.0 t from.1 in
+    let place : place_in from.0 object < length from.0 = omega (arith, from.2) in
+    table_holds n D from.0 object t from.1
+    (subst (λ o. Contains (objects from.0) o) (object-at_place from.0 object no_row place) (contains_map (λ (row : Row). row.object) from.0 (slice_index_or from.0 (place_in from.0 object) no_row) (contains_at from.0 (place_in from.0 object) no_row place)))
+
+pub seen_in_row : (n : ℕ) (D : List (List Row)) (depth j object : ℕ) → IsTable n D → 1 ≤ depth → depth ≤ n → Contains (seen_objects (read_to D depth j)) object → (stands D (depth - 1) object ≡ true) ⊎ Contains (objects_at depth (take j D)) object
+seen_in_row n D depth j object t positive within h =
+    let from = access_from_seen (read_to D depth j) object h in
+    elim (Contains-append_cases (ta_run_to D (depth - 1)) (sorted_block 0 depth (take j D)) (Sorted from.0 object from.1) from.2) [
+      | inl run ↦ inl (seen_stands n D (depth - 1) object t (omega arith) (seen_from_access (ta_run_to D (depth - 1)) from.0 object from.1 run))
+      | inr block ↦
+          let k = sorted_members 0 depth (take j D) (Sorted from.0 object from.1) block in
+          let same : object ≡ (row_at (list_at (take j D) k.0) depth).object = ap object_of k.2 in
+          inr (subst (λ o. Contains (objects_at depth (take j D)) o) (sym same) (contains_map (λ (rows : List Row). (row_at rows depth).object) (take j D) (list_at (take j D) k.0) (list_at_contains (take j D) k.0 k.1)))
+    ]
+
+pub row_sees : (D : List (List Row)) (depth j object : ℕ) → Contains (objects_at depth (take j D)) object → Contains (seen_objects (read_to D depth j)) object
+row_sees D depth j object h =
+    let from = contains_map_from (λ (rows : List Row). (row_at rows depth).object) (take j D) object h in
+    let number = list_number (take j D) from.0 from.1 in
+    let row : Row = row_at (list_at (take j D) number.0) depth in
+    let same : row.object ≡ object = ap (λ rows. (row_at rows depth).object) number.2 ∙ from.2 in
+    subst (λ o. Contains (seen_objects (read_to D depth j)) o) same
+    (seen_from_access (read_to D depth j) (0 + number.0) row.object row.grade (Contains-append_right (ta_run_to D (depth - 1)) (sorted_block 0 depth (take j D)) (Sorted (0 + number.0) row.object row.grade) (contains_sorted 0 number.0 depth (take j D) number.1)))
+
+pub stands_sees : (n : ℕ) (D : List (List Row)) (depth j object : ℕ) → IsTable n D → depth ≤ n → stands D (depth - 1) object ≡ true → Contains (seen_objects (read_to D depth j)) object
+stands_sees n D depth j object t within s =
+    seen_more (ta_run_to D (depth - 1)) (sorted_block 0 depth (take j D)) object (run_sees n D (depth - 1) object t s (stands_object n D (depth - 1) object t (omega arith) s))
+
+-- which objects are new, with one more
+new_with_seen : (p : ℕ → Bool) (xs : List ℕ) (x : ℕ) → (Contains xs x ⊎ (p x ≡ false)) → filter p (each_once (xs ++ x ∷ [])) ≡ filter p (each_once xs)
+new_with_seen p xs x h =
+    elim (cases_Bool (has x xs)) [
+      | inl t ↦ ap (filter p) (each_once_push_old xs x (each_once_complete xs x (has_contains x xs t)))
+      | inr f ↦
+          let gone : p x ≡ false = elim h [ inl c ↦ absurd (has_not x xs f c) | inr g ↦ g ] in
+          ap (filter p) (each_once_push_new xs x (λ c. has_not x xs f (each_once_within xs x c)))
+          ∙ filter-append p (each_once xs) (x ∷ [])
+          ∙ ap (λ ys. filter p (each_once xs) ++ ys) (filter_gone p x [] gone)
+          ∙ append-nil (filter p (each_once xs))
+    ]
+
+new_with_unseen : (p : ℕ → Bool) (xs : List ℕ) (x : ℕ) → (¬ Contains xs x) → p x ≡ true → filter p (each_once (xs ++ x ∷ [])) ≡ filter p (each_once xs) ++ x ∷ []
+new_with_unseen p xs x n t =
+    ap (filter p) (each_once_push_new xs x (λ c. n (each_once_within xs x c)))
+    ∙ filter-append p (each_once xs) (x ∷ [])
+    ∙ ap (λ ys. filter p (each_once xs) ++ ys) (filter_here p x [] t)
+
+-- what a row adds, whatever is left of it
+pub record Added (n : ℕ) (D : List (List Row)) (A : List Access) (r : Reading) (row : Row) (is_new : Bool) : Type 0 where
+  pub objects_are : r.objects ++ row.object ∷ [] ≡ objects_at r.depth (take (suc (length r.objects)) D)
+  pub bottoms_are : r.bottoms ++ row.grade ∷ [] ≡ bottoms_at r.depth (take (suc (length r.objects)) D)
+  pub waiting_are : with_new r.waiting row.object is_new ≡ filter (λ object. not (stands D (r.depth - 1) object)) (each_once (r.objects ++ row.object ∷ []))
+  pub made : A ++ Sorted (length r.objects) row.object row.grade ∷ [] ≡ ta_run_to D (r.depth - 1) ++ sorted_block 0 r.depth (take (suc (length r.objects)) D)
+
+pub added : (V : List ℕ → ℕ) (k n : ℕ) (D : List (List Row)) (A : List Access) (r : Reading) (row : Row) (is_new : Bool) → OnRow V k n D A r → Agrees (length D) n D (A ++ Sorted (length r.objects) row.object row.grade ∷ []) → (is_new ≡ true → ¬ Contains (seen_objects A) row.object) → (is_new ≡ false → Contains (seen_objects A) row.object) → Added n D A r row is_new
+added V k n D A r row is_new on agrees unseen seen =
+    let j : ℕ = length r.objects in
+    let d : ℕ = r.depth in
+    let t : IsTable n D = agrees.table in
+    let l : j < length D = on.unread in
+    let p : ℕ → Bool = λ object. not (stands D (d - 1) object) in
+    let rows = list_at D j in
+    let more : take (suc j) D ≡ take j D ++ rows ∷ [] = take_one_more D j l in
+    let front : length (take j D) ≡ j = length-take-le j D (omega arith) in
+    let positive : 1 ≤ d = on.at.positive in
+    let within : d ≤ n = on.at.within in
+    let given : row_at rows d ≡ row = given_next n D d j row.object row.grade positive within l (subst (λ B. Agrees (length D) n D (B ++ Sorted j row.object row.grade ∷ [])) on.made agrees) in
+    record {
+      objects_are = ap (λ os. os ++ row.object ∷ []) on.objects_are
+          ∙ ap (λ (x : Row). objects_at d (take j D) ++ x.object ∷ []) (sym given)
+          ∙ sym (map-append (λ (rows : List Row). (row_at rows d).object) (take j D) (rows ∷ []))
+          ∙ ap (objects_at d) (sym more);
+      bottoms_are = ap (λ os. os ++ row.grade ∷ []) on.bottoms_are
+          ∙ ap (λ (x : Row). bottoms_at d (take j D) ++ x.grade ∷ []) (sym given)
+          ∙ sym (map-append (λ (rows : List Row). (row_at rows d).grade) (take j D) (rows ∷ []))
+          ∙ ap (bottoms_at d) (sym more);
+      waiting_are = elim (cases_Bool is_new) [
+        | inl yes' ↦
+            let not_seen : ¬ Contains (seen_objects A) row.object = unseen yes' in
+            let fresh : ¬ Contains r.objects row.object = λ c. not_seen (subst (λ B. Contains (seen_objects B) row.object) (sym on.made) (row_sees D d j row.object (subst (λ os. Contains os row.object) on.objects_are c))) in
+            let low : stands D (d - 1) row.object ≡ false = elim (cases_Bool (stands D (d - 1) row.object)) [
+              | inl s ↦ absurd (not_seen (subst (λ B. Contains (seen_objects B) row.object) (sym on.made) (stands_sees n D d j row.object t within s)))
+              | inr s ↦ s
+            ] in
+            ap (λ b. with_new r.waiting row.object b) yes'
+            ∙ ap (λ ws. ws ++ row.object ∷ []) on.waiting_are
+            ∙ sym (new_with_unseen p r.objects row.object fresh (not_from_false (stands D (d - 1) row.object) low))
+        | inr no' ↦
+            let is_seen : Contains (seen_objects (read_to D d j)) row.object = subst (λ B. Contains (seen_objects B) row.object) on.made (seen no') in
+            ap (λ b. with_new r.waiting row.object b) no'
+            ∙ on.waiting_are
+            ∙ sym (new_with_seen p r.objects row.object (elim (seen_in_row n D d j row.object t positive within is_seen) [
+              | inl s ↦ inr (not_from_true (stands D (d - 1) row.object) s)
+              | inr c ↦ inl (subst (λ os. Contains os row.object) (sym on.objects_are) c)
+            ]))
+      ];
+      made = ap (λ B. B ++ Sorted j row.object row.grade ∷ []) on.made
+          ∙ append_assoc (ta_run_to D (d - 1)) (sorted_block 0 d (take j D)) (Sorted j row.object row.grade ∷ [])
+          ∙ ap (λ (x : Row). ta_run_to D (d - 1) ++ (sorted_block 0 d (take j D) ++ Sorted j x.object x.grade ∷ [])) (sym given)
+          ∙ ap (λ s. ta_run_to D (d - 1) ++ (sorted_block 0 d (take j D) ++ Sorted s (row_at rows d).object (row_at rows d).grade ∷ [])) (omega arith)
+          ∙ ap (λ rest. ta_run_to D (d - 1) ++ rest) (sym (sorted_block-append 0 d (take j D) (rows ∷ [])))
+          ∙ ap (λ lists. ta_run_to D (d - 1) ++ sorted_block 0 d lists) (sym more);
+    }
+
+-- a row of which lists are left
+pub row_goes_on : (V : List ℕ → ℕ) (k n : ℕ) (D : List (List Row)) (A : List Access) (r : Reading) (row : Row) (is_new : Bool) → OnRow V k n D A r → Agrees (length D) n D (A ++ Sorted (length r.objects) row.object row.grade ∷ []) → (is_new ≡ true → ¬ Contains (seen_objects A) row.object) → (is_new ≡ false → Contains (seen_objects A) row.object) → suc (length r.objects) < length D → OnRow V k n D (A ++ Sorted (length r.objects) row.object row.grade ∷ []) (row_added (length D) r row is_new)
+row_goes_on V k n D A r row is_new on agrees unseen seen short =
+    let a = added V k n D A r row is_new on agrees unseen seen in
+    let long : suc (length r.objects) ≡ length (r.objects ++ row.object ∷ []) = omega (arith, length-append r.objects (row.object ∷ [])) in
+    record {
+      at = on.at;
+      unread = omega arith;
+      objects_are = a.objects_are ∙ ap (λ j. objects_at r.depth (take j D)) long;
+      bottoms_are = a.bottoms_are ∙ ap (λ j. bottoms_at r.depth (take j D)) long;
+      waiting_are = a.waiting_are;
+      made = a.made ∙ ap (λ j. ta_run_to D (r.depth - 1) ++ sorted_block 0 r.depth (take j D)) long;
+    }

@@ -1,0 +1,49 @@
+-- What the algorithm without random access reads: the rows of each list down to a depth.
+use Rattle.std.proofs.Common.{◌≡◌, ◌≤◌, ◌<◌, ◌==◌, ◌+◌, ◌-◌, ℕ, zero, suc, true, false, List, [], ◌∷◌, ◌++◌, length, take, refl, sym, ap, subst, ◌∙◌, arith, get_or}
+use Rattle.std.proofs.lemmas.Bool.{eq-eqb, ne_eqb}
+use Rattle.std.proofs.Math.Seq.{take-suc}
+use Rattle.ranked_list.specs.declared.row.Row.{Row}
+use Rattle.ranked_list.specs.Table.{IsTable}
+use Rattle.topk_theory.specs.Transcript.{sorted_rows, random_rows, list_at}
+use Rattle.topk_theory.specs.Threshold.{row_at, sorted_block}
+use Rattle.topk_theory.specs.NoRandom.{nra_run_to}
+use Rattle.topk_theory.proofs.Agreement.{sorted_rows_append, random_rows_append}
+use Rattle.topk_theory.proofs.AgreementRows.{list_at_length}
+
+-- a block of lists from a number on reads none before it, and one row of each
+block_past : (list base depth : ℕ) (lists : List (List Row)) → list < base → sorted_rows list (sorted_block base depth lists) ≡ []
+block_past list base depth [] lt = refl
+block_past list base depth (rows ∷ lists) lt =
+    let other : (base == list) ≡ false = ne_eqb base list (λ e. omega arith) in
+    rw other (block_past list (base + 1) depth lists (omega arith))
+
+block_at : (k base depth : ℕ) (lists : List (List Row)) → k < length lists → sorted_rows (base + k) (sorted_block base depth lists) ≡ row_at (list_at lists k) depth ∷ []
+block_at k base depth [] lt = absurd (omega arith)
+block_at zero base depth (rows ∷ lists) lt =
+    let same : (base == (base + 0)) ≡ true = eq-eqb base (base + 0) (omega arith) in
+    rw same (ap (λ t. row_at rows depth ∷ t) (block_past (base + 0) (base + 1) depth lists (omega arith)))
+block_at (suc k) base depth (rows ∷ lists) lt =
+    let other : (base == (base + suc k)) ≡ false = ne_eqb base (base + suc k) (λ e. omega arith) in
+    let next : base + suc k ≡ (base + 1) + k = omega arith in
+    rw other (subst (λ l. sorted_rows l (sorted_block (base + 1) depth lists) ≡ row_at (list_at lists k) depth ∷ []) (sym next) (block_at k (base + 1) depth lists (omega arith)))
+
+block_random : (list base depth : ℕ) (lists : List (List Row)) → random_rows list (sorted_block base depth lists) ≡ []
+block_random list base depth [] = refl
+block_random list base depth (rows ∷ lists) = block_random list (base + 1) depth lists
+
+-- down to a depth the run reads the first rows of each list, and nothing by random access
+pub run_rows : (n depth : ℕ) (D : List (List Row)) (list : ℕ) → IsTable n D → depth ≤ n → list < length D → sorted_rows list (nra_run_to D depth) ≡ take depth (list_at D list)
+run_rows n zero D list table le lt = refl
+run_rows n (suc depth) D list table le lt =
+    let size : length (list_at D list) ≡ n = list_at_length n D list table lt in
+    let before = run_rows n depth D list table (omega arith) lt in
+    let block : sorted_rows (0 + list) (sorted_block 0 (suc depth) D) ≡ row_at (list_at D list) (suc depth) ∷ [] = block_at list 0 (suc depth) D lt in
+    let zero_more : 0 + list ≡ list = omega arith in
+    let at : suc depth - 1 ≡ depth = omega arith in
+    let here : sorted_rows list (sorted_block 0 (suc depth) D) ≡ get_or (list_at D list) depth (record { object = 0; grade = 0 }) ∷ [] = subst (λ p. sorted_rows list (sorted_block 0 (suc depth) D) ≡ get_or (list_at D list) p (record { object = 0; grade = 0 }) ∷ []) at (subst (λ l. sorted_rows l (sorted_block 0 (suc depth) D) ≡ row_at (list_at D list) (suc depth) ∷ []) zero_more block) in
+    sorted_rows_append list (nra_run_to D depth) (sorted_block 0 (suc depth) D) ∙ ap (λ t. t ++ sorted_rows list (sorted_block 0 (suc depth) D)) before ∙ ap (λ t. take depth (list_at D list) ++ t) here ∙ sym (take-suc (list_at D list) depth (record { object = 0; grade = 0 }) (omega arith))
+
+pub run_random : (depth : ℕ) (D : List (List Row)) (list : ℕ) → random_rows list (nra_run_to D depth) ≡ []
+run_random zero D list = refl
+run_random (suc depth) D list =
+    random_rows_append list (nra_run_to D depth) (sorted_block 0 (suc depth) D) ∙ ap (λ t. t ++ random_rows list (sorted_block 0 (suc depth) D)) (run_random depth D list) ∙ block_random list 0 (suc depth) D

@@ -1,0 +1,20 @@
+//! What topk claims, over whole tables and transcripts: the definitions, and the laws above them.
+#![tactic(auto)]
+
+mod access;
+mod laws_no_random;
+mod laws_threshold;
+mod laws_transcript;
+
+pub use access::Access;
+pub use laws_no_random::{
+    answers_a_top_k_by_bounds, bounds_hold, is_quiet_at_the_least_depth, reads_the_table_in_order,
+};
+pub use laws_threshold::{
+    answers_a_top_k, guesses_nothing, reads_the_table, sees_its_answer, stops_at_the_least_depth,
+};
+pub use laws_transcript::{
+    each_kind_excludes_every_table, no_kind_leaves_a_table,
+    some_table_agrees_where_no_access_is_at_fault, tables_agree_access_by_access,
+    the_first_kind_is_one, what_is_known_is_true,
+};

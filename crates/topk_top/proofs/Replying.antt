@@ -1,0 +1,19 @@
+-- A reply as the code keeps it is what its input is replied to.
+use Rattle.std.proofs.Common.{◌≡◌, ℕ, List, inl, inr, refl, sym, ap}
+use Rattle.cert_text.specs.Outcome.{outcome_text}
+use Rattle.topk_top.specs.declared.one.Reply.{Reply}
+use Rattle.topk_top.specs.declared.one.Reply.TheVariants.{NoBundle, Line}
+use Rattle.topk_top.specs.Reply.{Replies}
+use Rattle.topk_top.specs.Outcomes.{IsReply, reply_text, reply_status}
+
+pub replies_to : (bytes : List ℕ) (reply : Reply) → IsReply bytes reply → Replies bytes (reply_status reply) (reply_text reply)
+replies_to bytes (NoBundle text) h = inl (record { no_bundle = h.0; line = h.1.0; fault = h.1.1; status_is = refl; text_is = h.1.2 })
+replies_to bytes (Line line) h = inr (record {
+  content = h.0;
+  spelled = h.1;
+  query = line.query;
+  outcome = line.outcome;
+  becomes = h.2.becomes;
+  status_is = refl;
+  text_is = ap (λ n. outcome_text 1 line.query n line.outcome) h.2.count;
+})
