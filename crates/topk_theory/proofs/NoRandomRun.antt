@@ -1,10 +1,12 @@
 -- What the algorithm without random access reads: the rows of each list down to a depth.
-use Rattle.std.proofs.Common.{◌≡◌, ◌≤◌, ◌<◌, ◌==◌, ◌+◌, ◌-◌, ℕ, zero, suc, true, false, List, [], ◌∷◌, ◌++◌, length, take, refl, sym, ap, subst, ◌∙◌, arith, get_or}
+use Rattle.std.proofs.Common.{◌≡◌, ◌≤◌, ◌<◌, ◌==◌, ◌+◌, ◌-◌, ℕ, zero, suc, true, false, not, cond, List, [], ◌∷◌, ◌++◌, length, take, refl, sym, ap, subst, ◌∙◌, arith, get_or}
 use Rattle.std.proofs.lemmas.Bool.{eq-eqb, ne_eqb}
 use Rattle.std.proofs.Math.Seq.{take-suc}
+use Rattle.std.proofs.lemmas.List.Sums.{sum_by-cons, sum_by-append}
 use Rattle.ranked_list.specs.declared.row.Row.{Row}
 use Rattle.ranked_list.specs.Table.{IsTable}
-use Rattle.topk_theory.specs.Transcript.{sorted_rows, random_rows, list_at}
+use Rattle.topk_theory.specs.declared.access.Access.TheVariants.{Sorted}
+use Rattle.topk_theory.specs.Transcript.{sorted_rows, random_rows, list_at, is_sorted, random_count}
 use Rattle.topk_theory.specs.Threshold.{row_at, sorted_block}
 use Rattle.topk_theory.specs.NoRandom.{nra_run_to}
 use Rattle.topk_theory.proofs.Agreement.{sorted_rows_append, random_rows_append}
@@ -47,3 +49,19 @@ pub run_random : (depth : ℕ) (D : List (List Row)) (list : ℕ) → random_row
 run_random zero D list = refl
 run_random (suc depth) D list =
     random_rows_append list (nra_run_to D depth) (sorted_block 0 (suc depth) D) ∙ ap (λ t. t ++ random_rows list (sorted_block 0 (suc depth) D)) (run_random depth D list) ∙ block_random list 0 (suc depth) D
+
+-- no access is a random one
+block_asks : (list depth : ℕ) (D : List (List Row)) → random_count (sorted_block list depth D) ≡ 0
+block_asks list depth [] = refl
+block_asks list depth (rows ∷ D) =
+    let more : random_count (sorted_block (list + 1) depth D) ≡ 0 = block_asks (list + 1) depth D in
+    let first = sum_by-cons (λ access. cond {A = ℕ} (not (is_sorted access)) 1 0) (Sorted list (row_at rows depth).object (row_at rows depth).grade) (sorted_block (list + 1) depth D) in
+    omega (arith, first, more)
+
+pub run_asks : (depth : ℕ) (D : List (List Row)) → random_count (nra_run_to D depth) ≡ 0
+run_asks zero D = refl
+run_asks (suc depth) D =
+    let before : random_count (nra_run_to D depth) ≡ 0 = run_asks depth D in
+    let here : random_count (sorted_block 0 (suc depth) D) ≡ 0 = block_asks 0 (suc depth) D in
+    let both = sum_by-append (λ access. cond {A = ℕ} (not (is_sorted access)) 1 0) (nra_run_to D depth) (sorted_block 0 (suc depth) D) in
+    omega (arith, both, before, here)

@@ -1,4 +1,4 @@
--- The algorithm without random access: its bounds, where it is quiet, what it reads and what it answers. Depths count from 1.
+-- The algorithm without random access on a whole table: where it is quiet, what it reads and what it answers. Depths count from 1.
 use Rattle.std.specs.Prelude.{ℕ, zero, suc, ◌-◌, ◌==◌, ◌≡◌, ◌<◌, ◌≤◌, false, Bool, true, not, ◌&&◌, ◌||◌, List, [], ◌++◌, length, map, Option, Some, None, nat_lt, nat_le}
 use Rattle.std.specs.List.{list_any, list_all}
 use Rattle.ranked_list.specs.declared.row.Row.{Row}
@@ -18,7 +18,7 @@ seen_items V m A = map (bounded V m A) (seen_objects A)
 abbrev pub first_seen : (List ℕ → ℕ) → ℕ → ℕ → List Access → List Item
 first_seen V k m A = first_k k (seen_items V m A)
 
--- the number is above the bound, if there is one
+-- the number is above the bound, or there is no bound
 abbrev pub exceeds : Option ℕ → ℕ → Bool
 exceeds None number = true
 exceeds (Some bound) number = nat_lt bound number

@@ -1,10 +1,10 @@
 //! Laws of the algorithm without random access of Fagin, Lotem and Naor, over whole tables.
 
-ghost use Rattle.std.specs.Prelude.{◌≤◌, ℕ, List, length};
+ghost use Rattle.std.specs.Prelude.{◌≡◌, ◌≤◌, ℕ, List, length};
 ghost use Rattle.ranked_list.specs.declared.row.Row.{Row};
 ghost use Rattle.topk_theory.specs.declared.access.Access.{Access};
 ghost use Rattle.topk_theory.specs.Aggregate.{IsMonotone, IsTop, aggregate};
-ghost use Rattle.topk_theory.specs.Transcript.{Agrees};
+ghost use Rattle.topk_theory.specs.Transcript.{Agrees, random_count};
 ghost use Rattle.topk_theory.specs.Bounds.{low, high};
 ghost use Rattle.topk_theory.specs.Threshold.{IsAsked, item_objects};
 ghost use Rattle.topk_theory.specs.NoRandom.{IsLeastQuiet, nra_depth, nra_run, nra_answer};
@@ -33,4 +33,9 @@ pub fn answers_a_top_k_by_bounds()
 pub fn reads_the_table_in_order()
     ensures { (V : List ℕ → ℕ) (k n : ℕ) (D : List (List Row)) → IsMonotone V → IsAsked k n D
         → Agrees (length D) n D (nra_run V k D) }
+{}
+
+/// It makes no random access.
+pub fn asks_for_no_grade()
+    ensures { (V : List ℕ → ℕ) (k : ℕ) (D : List (List Row)) → random_count (nra_run V k D) ≡ 0 }
 {}

@@ -8,7 +8,8 @@ mod laws_transcript;
 
 pub use access::Access;
 pub use laws_no_random::{
-    answers_a_top_k_by_bounds, bounds_hold, is_quiet_at_the_least_depth, reads_the_table_in_order,
+    answers_a_top_k_by_bounds, asks_for_no_grade, bounds_hold, is_quiet_at_the_least_depth,
+    reads_the_table_in_order,
 };
 pub use laws_threshold::{
     answers_a_top_k, guesses_nothing, reads_the_table, sees_its_answer, stops_at_the_least_depth,
