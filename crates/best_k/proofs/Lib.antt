@@ -7,3 +7,4 @@ pub mod Sorted
 pub mod Ranks
 pub mod BoardLaws
 pub mod Taken
+pub mod Sorts

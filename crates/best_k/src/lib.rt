@@ -2,12 +2,14 @@
 #![tactic(auto)]
 
 mod board;
+mod order;
 mod rank;
 mod ranking;
 #[cfg(test)]
 mod tests;
 
 pub use board::Board;
+pub use order::put_in_order;
 pub use ranked_list::{Item, Items};
 
 /// No memory was left.

@@ -5,7 +5,7 @@ ghost use Rattle.std.proofs.Common.{rules};
 ghost use Rattle.std.specs.Cmp.{partial_order_from_own_ties};
 ghost use Rattle.std.specs.Cmp.Rules.{comparing};
 ghost use Rattle.std.specs.Ordering.{nat_cmp, on, flip_args, then_cmp, as_partial_cmp};
-ghost use Rattle.best_k.specs.Rank.{item_of};
+ghost use Rattle.best_k.specs.Rank.{item_of, rank_of};
 
 use ranked_list::Item;
 use std::cmp::Ordering;
@@ -47,6 +47,16 @@ impl PartialOrd for Rank {
 }
 
 impl Rank {
+    pub(crate) fn of(item: Item) -> Rank
+        ensures { result ≡ rank_of item }
+    {
+        Rank {
+            low: item.low,
+            high: item.high,
+            object: item.object,
+        }
+    }
+
     pub(crate) fn item(self) -> Item
         ensures { result ≡ item_of self }
     {
