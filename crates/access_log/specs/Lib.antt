@@ -1,3 +1,4 @@
 pub mod Log
 pub mod Refusal
 pub mod Scan
+pub mod Machine
