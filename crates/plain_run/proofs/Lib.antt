@@ -1,0 +1,9 @@
+pub mod Apart
+pub mod Bounding
+pub mod Descending
+pub mod Least
+pub mod Making
+pub mod Reading
+pub mod Scanning
+pub mod Seeing
+pub mod TestTrees
