@@ -1,9 +1,8 @@
 -- What a machine that is done answers.
-use Rattle.std.proofs.Common.{◌≡◌, ◌≢◌, ℕ, zero, suc, ◌<◌, ◌≤◌, ◌⊎◌, inl, inr, Bool, true, false, List, [], ◌∷◌, length, map, All, AllPairs, Contains, refl, sym, ap, subst, ◌∙◌, arith}
+use Rattle.std.proofs.Common.{◌≡◌, ℕ, inl, inr, true, List, [], length, Contains, sym, subst, ◌∙◌}
 use Rattle.std.proofs.lemmas.Bool.{cases_Bool, cases_lt}
 use Rattle.ranked_list.specs.declared.row.Row.{Row}
 use Rattle.ranked_list.specs.declared.item.Item.{Item}
-use Rattle.ranked_list.specs.declared.need.Need.{Need}
 use Rattle.ranked_list.specs.declared.need.Need.TheVariants.{Row as RowAt, Grade, Done}
 use Rattle.best_k.specs.Order.{IsFirstK}
 use Rattle.best_k.specs.Held.{Held}
@@ -11,9 +10,8 @@ use Rattle.monotone_fn.specs.declared.costs.Costs.{Costs}
 use Rattle.monotone_fn.specs.Tree.{Tree}
 use Rattle.monotone_fn.specs.Value.{value}
 use Rattle.topk_theory.specs.Aggregate.{IsTop}
-use Rattle.topk_theory.specs.Transcript.{Agrees, seen_objects, named_objects}
-use Rattle.topk_theory.specs.Fixes.{IsObjectSet, FixesOver, Fixes}
-use Rattle.topk_theory.specs.Threshold.{IsAsked, ta_depth, ta_run, ta_run_to, ta_answer, item_objects}
+use Rattle.topk_theory.specs.Transcript.{seen_objects, named_objects}
+use Rattle.topk_theory.specs.Threshold.{ta_depth, ta_run, ta_run_to, ta_answer, item_objects}
 use Rattle.topk_theory.proofs.AgreementLists.{all_from_members, member_of_all}
 use Rattle.topk_theory.proofs.Agreement.{seen_is_named}
 use Rattle.topk_theory.proofs.ThresholdTop.{answer_is_first}
@@ -22,7 +20,7 @@ use Rattle.access_log.specs.Log.{Log, AgreesWith}
 use Rattle.ta_core.specs.Reading.{Reading, first_or_zero, need_at}
 use Rattle.ta_core.specs.OnTable.{OnBoard}
 use Rattle.ta_core.specs.Kept.{IsKept}
-use Rattle.ta_core.specs.Machine.{Machine, IsAnswer}
+use Rattle.ta_core.specs.Machine.{IsAnswer}
 use Rattle.ta_core.proofs.BoardSteps.{board_first}
 use Rattle.ta_core.proofs.Runs.{monotone, asked_of, need_in_row, need_after_row}
 use Rattle.ta_core.proofs.Steps.{made_of_reading}

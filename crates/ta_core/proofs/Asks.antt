@@ -1,29 +1,29 @@
 -- The end of a row, its random accesses, and the beginning of the next one: the machine stays on the run.
-use Rattle.std.proofs.Common.{◌≡◌, ◌≢◌, ℕ, zero, suc, ◌+◌, ◌-◌, ◌<◌, ◌≤◌, ◌⊎◌, inl, inr, Bool, true, false, not, cond, ◌==◌, List, [], ◌∷◌, ◌++◌, length, map, take, drop, filter, AllPairs, Contains, slice_index_or, slice_index, refl, sym, ap, subst, ◌∙◌, arith, append_assoc, append-nil, length-append, eq-eqb, nat_lt}
+use Rattle.std.proofs.Common.{◌≡◌, ◌≢◌, ℕ, zero, suc, ◌+◌, ◌-◌, ◌<◌, ◌≤◌, inl, inr, Bool, true, false, not, cond, List, [], ◌∷◌, ◌++◌, length, map, take, drop, filter, AllPairs, Contains, slice_index_or, slice_index, refl, sym, ap, subst, ◌∙◌, arith, append_assoc, append-nil, length-append, eq-eqb, nat_lt}
 use Rattle.std.specs.List.{flat_map}
-use Rattle.std.proofs.lemmas.Bool.{cases_Bool, cases_lt, cases_order, ltb-false, not-true, true≢false}
+use Rattle.std.proofs.lemmas.Bool.{cases_lt, cases_order, ltb-false, not-true, true≢false}
 use Rattle.std.proofs.lemmas.List.{drop-map, take_all, drop_all}
 use Rattle.std.proofs.Math.Seq.{take-suc, drop-cons}
 use Rattle.std.proofs.lemmas.List.Kept.{AllPairs-filter}
 use Rattle.ranked_list.specs.declared.row.Row.{Row}
-use Rattle.ranked_list.specs.Table.{objects, IsRanked, IsTable, place_in, grade_in}
+use Rattle.ranked_list.specs.Table.{IsTable, place_in, grade_in}
 use Rattle.topk_theory.specs.declared.access.Access.{Access}
 use Rattle.topk_theory.specs.declared.access.Access.TheVariants.{Sorted, Random}
 use Rattle.topk_theory.specs.Aggregate.{objects_of, grades_of, aggregate, IsMonotone}
 use Rattle.topk_theory.specs.Transcript.{Agrees, list_at, seen_objects, each_once}
-use Rattle.topk_theory.specs.Threshold.{row_at, stands, sorted_block, new_objects, random_block, ta_block, ta_run_to, ta_run, ta_depth, ta_stop}
+use Rattle.topk_theory.specs.Threshold.{row_at, stands, sorted_block, new_objects, random_block, ta_block, ta_run_to, ta_stop}
 use Rattle.topk_theory.proofs.AgreementLists.{contains_here, contains_there, contains_map_from, distinct_tail}
 use Rattle.topk_theory.proofs.AgreementNames.{each_once_within, each_once_distinct}
 use Rattle.topk_theory.proofs.AgreementRows.{list_at_contains}
 use Rattle.topk_theory.proofs.Agreement.{agrees_gives, gives_grade}
 use Rattle.topk_theory.proofs.ThresholdLists.{contains_from_filter, none_from_any, length-map}
 use Rattle.topk_theory.proofs.ThresholdTables.{no_row, place_in-lt, object-at_place}
-use Rattle.topk_theory.proofs.ThresholdDepth.{list_holds, list_sized, table_holds, stops_at_last}
+use Rattle.topk_theory.proofs.ThresholdDepth.{list_holds, table_holds, stops_at_last}
 use Rattle.topk_theory.proofs.ThresholdRun.{row_object, random_block_lower}
 use Rattle.ta_core.specs.Reading.{Reading, grades_in_row, filled, filled_first, first_or_zero, with_new, row_added, grade_added, row_begun}
-use Rattle.ta_core.specs.OnTable.{IsDepth, objects_at, bottoms_at, OnRow, asks, AreFirstGrades, OnAsks, IsMade}
-use Rattle.ta_core.proofs.Rows.{Added, added}
-use Rattle.ta_core.proofs.Fills.{skips, row_grades, row_place}
+use Rattle.ta_core.specs.OnTable.{objects_at, bottoms_at, OnRow, asks, AreFirstGrades, OnAsks}
+use Rattle.ta_core.proofs.Rows.{added}
+use Rattle.ta_core.proofs.Fills.{skips, row_grades}
 
 drop_more : {X : Type 0} (xs : List X) (j k : ℕ) → drop k (drop j xs) ≡ drop (j + k) xs
 drop_more xs zero k = let e : k ≡ 0 + k = omega arith in ap (λ p. drop p xs) e

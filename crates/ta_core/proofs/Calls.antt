@@ -1,16 +1,14 @@
 -- What the calls of a machine need to know of it.
-use Rattle.std.proofs.Common.{◌≡◌, ◌≢◌, ℕ, zero, suc, ◌+◌, ◌-◌, ◌<◌, ◌≤◌, ◌⊎◌, ◌↔◌, inl, inr, Bool, true, false, not, cond, List, [], ◌∷◌, ◌++◌, length, Contains, IsTrue, get_or, refl, sym, ap, subst, ◌∙◌, arith}
+use Rattle.std.proofs.Common.{◌≡◌, ◌≢◌, ℕ, ◌<◌, ◌≤◌, ◌⊎◌, ◌↔◌, inl, inr, Bool, true, false, not, List, [], ◌∷◌, length, Contains, IsTrue, get_or, refl, sym, ap, subst, ◌∙◌, arith}
 use Rattle.std.proofs.lemmas.Bool.{cases_Bool, cases_lt, true≢false, false≢true}
 use Rattle.ranked_list.specs.declared.row.Row.{Row}
 use Rattle.ranked_list.specs.declared.item.Item.{Item}
-use Rattle.ranked_list.specs.Table.{top_grade}
 use Rattle.best_k.specs.Held.{Held}
 use Rattle.monotone_fn.specs.Tree.{Tree}
 use Rattle.monotone_fn.specs.declared.costs.Costs.{Costs}
 use Rattle.monotone_fn.specs.Shape.{list_count}
 use Rattle.monotone_fn.specs.Value.{value}
 use Rattle.monotone_fn.specs.Limits.{AreGrades}
-use Rattle.topk_theory.specs.declared.access.Access.{Access}
 use Rattle.topk_theory.specs.declared.access.Access.TheVariants.{Sorted, Random}
 use Rattle.topk_theory.specs.Transcript.{seen_objects}
 use Rattle.topk_theory.specs.Consistent.{Kind, IsOfKind}
@@ -18,9 +16,9 @@ use Rattle.topk_theory.specs.Consistent.Kind.{above_top, too_many_objects}
 use Rattle.topk_theory.proofs.AgreementLists.{contains_here}
 use Rattle.access_log.specs.Log.{Log, AgreesWith, IsConsistent, with_access}
 use Rattle.ta_core.specs.Reading.{Reading, first_or_zero, with_new, row_added, grade_added, items_after, followed, need_at}
-use Rattle.ta_core.specs.OnTable.{OnTable}
 use Rattle.ta_core.specs.Kept.{IsKept}
-use Rattle.ta_core.specs.Machine.{Machine, MakesItsRun, MayBeNextRow, MayBeNextGrade, HasRoomFor, Takes, row_access, grade_access}
+use Rattle.access_log.specs.Machine.{Machine, MayBeNextRow, MayBeNextGrade, HasRoomFor, Takes, row_access, grade_access}
+use Rattle.ta_core.specs.Machine.{MakesItsRun}
 use Rattle.ta_core.proofs.BoardSteps.{waits_from}
 use Rattle.ta_core.proofs.Runs.{need_in_row, need_after_row, need_when_done, kept_depth}
 use Rattle.ta_core.proofs.Sound.{sound_row, sound_grade, fed_row}

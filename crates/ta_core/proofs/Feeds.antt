@@ -1,10 +1,9 @@
 -- What a machine keeps from its beginning on, through each row and each grade.
-use Rattle.std.proofs.Common.{◌≡◌, ◌≢◌, ℕ, zero, suc, ◌+◌, ◌-◌, ◌<◌, ◌≤◌, ◌⊎◌, inl, inr, Bool, true, false, cond, ◌==◌, List, [], ◌∷◌, ◌++◌, length, All, Contains, slice_index, slice_index_or, refl, sym, ap, subst, ◌∙◌, arith, length-append, eq-eqb}
-use Rattle.std.proofs.lemmas.Bool.{cases_Bool, cases_lt, ne_eqb}
+use Rattle.std.proofs.Common.{◌≡◌, ◌≢◌, ℕ, suc, ◌+◌, ◌<◌, ◌≤◌, inl, inr, Bool, true, false, List, [], ◌∷◌, ◌++◌, length, Contains, slice_index, slice_index_or, refl, sym, ap, subst, ◌∙◌, arith, length-append}
+use Rattle.std.proofs.lemmas.Bool.{cases_lt}
 use Rattle.std.proofs.lemmas.List.Elements.{All-nil}
 use Rattle.ranked_list.specs.declared.row.Row.{Row}
 use Rattle.ranked_list.specs.declared.item.Item.{Item}
-use Rattle.ranked_list.specs.Table.{top_grade}
 use Rattle.best_k.specs.Held.{Held, put_item, without}
 use Rattle.monotone_fn.specs.Tree.{Tree}
 use Rattle.monotone_fn.specs.Value.{value}
@@ -12,16 +11,16 @@ use Rattle.monotone_fn.specs.Shape.{list_count, NumbersLists}
 use Rattle.topk_theory.specs.declared.access.Access.{Access}
 use Rattle.topk_theory.specs.declared.access.Access.TheVariants.{Sorted, Random}
 use Rattle.topk_theory.specs.Aggregate.{IsMonotone}
-use Rattle.topk_theory.specs.Transcript.{Agrees, seen_objects, named_objects}
+use Rattle.topk_theory.specs.Transcript.{Agrees, seen_objects}
 use Rattle.topk_theory.specs.Threshold.{IsAsked}
-use Rattle.topk_theory.proofs.AgreementLists.{contains_nil, contains_here, member_of_all}
+use Rattle.topk_theory.proofs.AgreementLists.{contains_nil, member_of_all}
 use Rattle.topk_theory.proofs.AgreementNames.{each_once_within}
 use Rattle.topk_theory.proofs.Agreement.{agrees_front}
 use Rattle.topk_theory.proofs.Consistent.{empty_agrees}
 use Rattle.access_log.specs.Log.{Log, AgreesWith, IsConsistent, with_access}
 use Rattle.ta_core.specs.Reading.{Reading, first_or_zero, with_new, row_added, grade_added, items_after, row_begun, followed}
-use Rattle.ta_core.specs.OnTable.{OnRow, OnAsks, OnBoard, OnReading, OnTable}
-use Rattle.ta_core.specs.Kept.{IsSound, IsAtRest, IsKept}
+use Rattle.ta_core.specs.OnTable.{OnRow, OnAsks, OnBoard, OnTable}
+use Rattle.ta_core.specs.Kept.{IsSound, IsKept}
 use Rattle.ta_core.proofs.Rows.{row_goes_on}
 use Rattle.ta_core.proofs.Asks.{row_is_last, grade_goes_on}
 use Rattle.ta_core.proofs.BoardSteps.{board_after_row, board_after_grade, put_without}

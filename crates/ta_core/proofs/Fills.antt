@@ -1,13 +1,12 @@
 -- The grades that a row has of an object, and the accesses that they save.
-use Rattle.std.proofs.Common.{◌≡◌, ◌≢◌, ℕ, zero, suc, ◌+◌, ◌-◌, ◌<◌, ◌≤◌, ◌⊎◌, inl, inr, Bool, true, false, not, cond, ◌==◌, List, [], ◌∷◌, ◌++◌, length, map, take, drop, Contains, slice_index_or, slice_index, refl, sym, ap, subst, ◌∙◌, arith, eqb-true}
+use Rattle.std.proofs.Common.{◌≡◌, ◌≢◌, ℕ, suc, ◌+◌, ◌-◌, ◌<◌, ◌≤◌, inl, inr, true, false, cond, ◌==◌, List, [], ◌∷◌, length, take, drop, Contains, slice_index_or, slice_index, refl, sym, ap, subst, ◌∙◌, arith, eqb-true}
 use Rattle.std.proofs.lemmas.Bool.{cases_Bool, eqb-false}
 use Rattle.ranked_list.specs.declared.row.Row.{Row}
-use Rattle.ranked_list.specs.Table.{objects, IsRanked, IsTable, place_in, grade_in}
-use Rattle.topk_theory.specs.declared.access.Access.{Access}
-use Rattle.topk_theory.specs.Aggregate.{objects_of, grades_of}
-use Rattle.topk_theory.specs.Threshold.{row_at, stands, random_block}
+use Rattle.ranked_list.specs.Table.{IsRanked, IsTable, place_in, grade_in}
+use Rattle.topk_theory.specs.Aggregate.{grades_of}
+use Rattle.topk_theory.specs.Threshold.{row_at, random_block}
 use Rattle.topk_theory.proofs.AgreementLists.{contains_here, contains_there}
-use Rattle.topk_theory.proofs.ThresholdTables.{no_row, place_in-object, object-at_place, grade_in-at_place}
+use Rattle.topk_theory.proofs.ThresholdTables.{no_row, place_in-object, grade_in-at_place}
 use Rattle.topk_theory.proofs.ThresholdDepth.{list_sized, list_ranked}
 use Rattle.topk_theory.proofs.ThresholdRun.{random_block_here}
 use Rattle.ta_core.specs.Reading.{grades_in_row}

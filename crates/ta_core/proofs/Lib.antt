@@ -9,3 +9,5 @@ pub mod Sound
 pub mod Feeds
 pub mod Calls
 pub mod Answering
+mod TestFeeds
+mod TestTrees

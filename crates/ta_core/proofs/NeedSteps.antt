@@ -1,25 +1,24 @@
 -- What a machine on the run needs is the run's next access, and the table has it.
-use Rattle.std.proofs.Common.{◌≡◌, ◌≢◌, ℕ, zero, suc, ◌+◌, ◌-◌, ◌<◌, ◌≤◌, ◌⊎◌, inl, inr, Bool, true, false, cond, List, [], ◌∷◌, ◌++◌, length, map, take, drop, Contains, Option, Some, None, slice_index, refl, sym, ap, subst, ◌∙◌, arith, append_assoc, append-nil, nat_lt, take-append-drop}
+use Rattle.std.proofs.Common.{◌≡◌, ◌≢◌, ℕ, zero, suc, ◌+◌, ◌-◌, ◌<◌, ◌≤◌, inl, inr, true, List, [], ◌∷◌, ◌++◌, length, take, drop, Contains, Some, None, slice_index, refl, sym, ap, subst, ◌∙◌, arith, append_assoc, append-nil, take-append-drop}
 use Rattle.std.specs.List.{slice_get, flat_map}
 use Rattle.std.proofs.lemmas.Bool.{cases_lt, true≢false}
 use Rattle.std.proofs.lemmas.List.{length-take-le, take_all}
 use Rattle.std.proofs.Math.Seq.{drop-cons}
 use Rattle.ranked_list.specs.declared.row.Row.{Row}
-use Rattle.ranked_list.specs.declared.need.Need.{Need}
 use Rattle.ranked_list.specs.declared.need.Need.TheVariants.{Row as RowAt, Grade, Done}
-use Rattle.ranked_list.specs.Table.{IsTable, grade_in}
+use Rattle.ranked_list.specs.Table.{grade_in}
 use Rattle.topk_theory.specs.declared.access.Access.{Access}
 use Rattle.topk_theory.specs.declared.access.Access.TheVariants.{Sorted, Random}
-use Rattle.topk_theory.specs.Aggregate.{objects_of, IsMonotone}
+use Rattle.topk_theory.specs.Aggregate.{IsMonotone}
 use Rattle.topk_theory.specs.Transcript.{Begins, list_at, depth_of}
-use Rattle.topk_theory.specs.Threshold.{row_at, sorted_block, new_objects, random_block, ta_block, ta_run_to, ta_run, ta_depth, ta_stop, IsAsked, IsLeastDepth}
+use Rattle.topk_theory.specs.Threshold.{row_at, sorted_block, new_objects, random_block, ta_block, ta_run_to, ta_run, ta_depth, ta_stop, IsAsked}
 use Rattle.topk_theory.specs.Machine.{need_of, IsAt, CanServe}
 use Rattle.topk_theory.proofs.AgreementLists.{contains_here, slice_get_behind, begins_with}
 use Rattle.topk_theory.proofs.AgreementRows.{list_at_contains, list_at_length}
 use Rattle.topk_theory.proofs.ThresholdLaws.{least_depth}
 use Rattle.topk_theory.proofs.ThresholdRun.{random_block_lower}
 use Rattle.ta_core.specs.Reading.{Reading}
-use Rattle.ta_core.specs.OnTable.{IsDepth, objects_at, OnRow, asks, OnAsks, IsMade}
+use Rattle.ta_core.specs.OnTable.{IsDepth, OnRow, asks, OnAsks}
 use Rattle.ta_core.proofs.Rows.{sorted_block-append, read_depth}
 use Rattle.ta_core.proofs.Asks.{run_at, stands_lower, map_at}
 

@@ -1,27 +1,27 @@
 -- One more row: the machine stays on the run.
-use Rattle.std.proofs.Common.{◌≡◌, ◌≢◌, ℕ, zero, suc, ◌+◌, ◌-◌, ◌<◌, ◌≤◌, ◌⊎◌, inl, inr, Bool, true, false, not, cond, ◌==◌, List, [], ◌∷◌, ◌++◌, length, map, take, drop, filter, All, AllPairs, Contains, slice_index_or, Option, Some, None, refl, sym, ap, subst, ◌∙◌, arith, append_assoc, append-nil, length-append, eqb-true, eq-eqb}
-use Rattle.std.specs.List.{flat_map, cons_option}
-use Rattle.std.proofs.lemmas.Bool.{cases_Bool, cases_lt, true≢false, false≢true, eqb-false, ne_eqb, not_from_true, not_from_false}
-use Rattle.std.proofs.lemmas.List.Elements.{Contains-append_left, Contains-append_right, Contains-append_cases, filter-append}
+use Rattle.std.proofs.Common.{◌≡◌, ℕ, suc, ◌+◌, ◌-◌, ◌<◌, ◌≤◌, ◌⊎◌, inl, inr, Bool, true, false, not, cond, ◌==◌, List, [], ◌∷◌, ◌++◌, length, take, filter, Contains, slice_index_or, Some, None, refl, sym, ap, subst, ◌∙◌, arith, append_assoc, append-nil, length-append}
+use Rattle.std.specs.List.{cons_option}
+use Rattle.std.proofs.lemmas.Bool.{cases_Bool, ne_eqb, not_from_true, not_from_false}
+use Rattle.std.proofs.lemmas.List.Elements.{Contains-append_right, Contains-append_cases, filter-append}
 use Rattle.std.proofs.lemmas.List.{length-take-le, map-append}
 use Rattle.std.proofs.Math.Seq.{take-suc}
 use Rattle.ranked_list.specs.declared.row.Row.{Row}
-use Rattle.ranked_list.specs.Table.{objects, IsRanked, IsTable, place_in, grade_in}
+use Rattle.ranked_list.specs.Table.{objects, IsTable, place_in}
 use Rattle.topk_theory.specs.declared.access.Access.{Access}
-use Rattle.topk_theory.specs.declared.access.Access.TheVariants.{Sorted, Random}
-use Rattle.topk_theory.specs.Aggregate.{objects_of, grades_of}
-use Rattle.topk_theory.specs.Transcript.{Agrees, Gives, list_at, list_of, object_of, depth_of, sorted_rows, seen_objects, each_once}
-use Rattle.topk_theory.specs.Threshold.{row_at, stands, sorted_block, new_objects, random_block, ta_block, ta_run_to}
-use Rattle.topk_theory.proofs.AgreementLists.{contains_nil, contains_here, contains_there, contains_cases, contains_at, contains_map, contains_map_from}
+use Rattle.topk_theory.specs.declared.access.Access.TheVariants.{Sorted}
+use Rattle.topk_theory.specs.Aggregate.{objects_of}
+use Rattle.topk_theory.specs.Transcript.{Agrees, list_at, object_of, depth_of, sorted_rows, seen_objects, each_once}
+use Rattle.topk_theory.specs.Threshold.{row_at, stands, sorted_block, ta_run_to}
+use Rattle.topk_theory.proofs.AgreementLists.{contains_at, contains_map, contains_map_from}
 use Rattle.topk_theory.proofs.AgreementNames.{has, has_contains, has_not, each_once_complete, each_once_within, each_once_push_old, each_once_push_new}
-use Rattle.topk_theory.proofs.AgreementRows.{list_at_contains, list_at_ranked, list_at_length}
-use Rattle.topk_theory.proofs.Agreement.{sorted_rows_append, agrees_gives, agrees_front, gives_at}
+use Rattle.topk_theory.proofs.AgreementRows.{list_at_contains, list_at_length}
+use Rattle.topk_theory.proofs.Agreement.{sorted_rows_append, agrees_gives, gives_at}
 use Rattle.topk_theory.proofs.ThresholdLists.{filter_here, filter_gone}
-use Rattle.topk_theory.proofs.ThresholdTables.{no_row, place_in-object, object-at_place}
-use Rattle.topk_theory.proofs.ThresholdDepth.{list_sized, list_ranked, table_holds, stands_from}
-use Rattle.topk_theory.proofs.ThresholdRun.{list_number, run_rows, sorted_members, contains_sorted, random_block_here, seen_from_access, access_from_seen, seen_more, run_sees, seen_stands}
-use Rattle.ta_core.specs.Reading.{Reading, grades_in_row, filled, filled_first, with_new, row_added}
-use Rattle.ta_core.specs.OnTable.{IsDepth, objects_at, bottoms_at, OnRow, asks, AreFirstGrades, OnAsks}
+use Rattle.topk_theory.proofs.ThresholdTables.{no_row, object-at_place}
+use Rattle.topk_theory.proofs.ThresholdDepth.{list_sized, table_holds, stands_from}
+use Rattle.topk_theory.proofs.ThresholdRun.{list_number, run_rows, sorted_members, contains_sorted, seen_from_access, access_from_seen, seen_more, run_sees, seen_stands}
+use Rattle.ta_core.specs.Reading.{Reading, with_new, row_added}
+use Rattle.ta_core.specs.OnTable.{objects_at, bottoms_at, OnRow}
 
 -- one more list
 pub take_one_more : (D : List (List Row)) (j : ℕ) → j < length D → take (suc j) D ≡ take j D ++ list_at D j ∷ []

@@ -1,26 +1,24 @@
 -- A machine that keeps what it keeps makes its run.
-use Rattle.std.proofs.Common.{◌≡◌, ◌≢◌, ℕ, zero, suc, ◌+◌, ◌-◌, ◌<◌, ◌≤◌, ◌⊎◌, inl, inr, Bool, true, false, cond, List, [], ◌∷◌, ◌++◌, length, Contains, slice_index, refl, sym, ap, subst, ◌∙◌, arith, nat_lt}
-use Rattle.std.specs.List.{AllZip}
+use Rattle.std.proofs.Common.{◌≡◌, ◌≢◌, ℕ, ◌<◌, ◌≤◌, inl, inr, true, false, cond, List, [], ◌∷◌, length, Contains, slice_index, refl, sym, ap, subst, ◌∙◌, arith, nat_lt}
 use Rattle.std.proofs.lemmas.Bool.{cases_Bool, cases_lt, lt-ltb, le-ltb}
 use Rattle.std.proofs.lemmas.List.Elements.{length_all_zip, AllZip-get_or}
 use Rattle.ranked_list.specs.declared.row.Row.{Row}
-use Rattle.ranked_list.specs.declared.need.Need.{Need}
 use Rattle.ranked_list.specs.declared.need.Need.TheVariants.{Row as RowAt, Grade, Done}
 use Rattle.best_k.specs.Held.{Held}
 use Rattle.monotone_fn.specs.declared.costs.Costs.{Costs}
 use Rattle.monotone_fn.specs.Tree.{Tree}
-use Rattle.monotone_fn.specs.Value.{value, NoSmaller}
+use Rattle.monotone_fn.specs.Value.{value}
 use Rattle.monotone_fn.proofs.Laws.{value-monotone}
 use Rattle.topk_theory.specs.Aggregate.{IsMonotone}
-use Rattle.topk_theory.specs.Transcript.{Agrees, seen_objects}
+use Rattle.topk_theory.specs.Transcript.{seen_objects}
 use Rattle.topk_theory.specs.Threshold.{IsAsked, ta_run}
 use Rattle.topk_theory.specs.Machine.{IsAt, CanServe}
 use Rattle.topk_theory.proofs.AgreementLists.{contains_here, member_of_all}
 use Rattle.access_log.specs.Log.{Log, AgreesWith}
 use Rattle.ta_core.specs.Reading.{Reading, first_or_zero, need_at}
-use Rattle.ta_core.specs.OnTable.{OnReading, OnTable, OnAsks}
 use Rattle.ta_core.specs.Kept.{IsKept}
-use Rattle.ta_core.specs.Machine.{Machine, MakesItsRun, IsOfSeen}
+use Rattle.access_log.specs.Machine.{IsOfSeen}
+use Rattle.ta_core.specs.Machine.{MakesItsRun}
 use Rattle.ta_core.proofs.NeedSteps.{row_needed, grade_needed, nothing_needed}
 use Rattle.ta_core.proofs.Steps.{row_of_reading, asks_of_reading, made_of_reading}
 

@@ -1,9 +1,8 @@
 -- One access told: what the machine keeps of the table.
-use Rattle.std.proofs.Common.{◌≡◌, ◌≢◌, ℕ, zero, suc, ◌+◌, ◌-◌, ◌<◌, ◌≤◌, ◌⊎◌, inl, inr, Bool, true, false, not, cond, ◌==◌, ◌&&◌, List, [], ◌∷◌, ◌++◌, length, map, take, drop, AllPairs, Contains, slice_index, MatchBool, refl, sym, ap, subst, ◌∙◌, arith, nat_lt, eq-eqb}
-use Rattle.std.proofs.lemmas.Bool.{cases_Bool, cases_lt, cases_eq, lt-ltb, le-ltb, ne_eqb, and_right}
+use Rattle.std.proofs.Common.{◌≡◌, ◌≢◌, ℕ, zero, suc, ◌+◌, ◌<◌, ◌≤◌, ◌⊎◌, inl, inr, Bool, true, false, cond, ◌==◌, ◌&&◌, List, [], ◌∷◌, length, drop, AllPairs, Contains, MatchBool, refl, sym, ap, subst, ◌∙◌, arith, nat_lt, eq-eqb}
+use Rattle.std.proofs.lemmas.Bool.{cases_Bool, cases_eq, lt-ltb, le-ltb, ne_eqb, and_right}
 use Rattle.ranked_list.specs.declared.row.Row.{Row}
 use Rattle.ranked_list.specs.declared.item.Item.{Item}
-use Rattle.ranked_list.specs.Table.{IsTable}
 use Rattle.best_k.specs.Held.{put_item}
 use Rattle.topk_theory.specs.declared.access.Access.{Access}
 use Rattle.topk_theory.specs.Aggregate.{aggregate, IsMonotone}
@@ -11,8 +10,8 @@ use Rattle.topk_theory.specs.Transcript.{seen_objects}
 use Rattle.topk_theory.specs.Threshold.{IsAsked, ta_stop, ta_run, ta_run_to, ta_depth, scored, row_at}
 use Rattle.topk_theory.proofs.AgreementLists.{contains_here}
 use Rattle.topk_theory.proofs.ThresholdLists.{length-map}
-use Rattle.ta_core.specs.Reading.{Reading, first_or_zero, is_scored, items_after, settled, is_whole, row_begun, moved, enough, followed}
-use Rattle.ta_core.specs.OnTable.{objects_at, bottoms_at, IsDepth, OnRow, OnAsks, IsMade, OnReading, OnBoard, OnTable}
+use Rattle.ta_core.specs.Reading.{Reading, first_or_zero, items_after, settled, is_whole, row_begun, moved, enough, followed}
+use Rattle.ta_core.specs.OnTable.{OnRow, OnAsks, IsMade, OnReading, OnBoard, OnTable}
 use Rattle.ta_core.proofs.Asks.{all_grades, object_settles, row_is_made, row_follows}
 use Rattle.ta_core.proofs.BoardSteps.{board_after_put, board_tells_stop}
 use Rattle.ta_core.proofs.NeedSteps.{is_depth}

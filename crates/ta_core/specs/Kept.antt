@@ -1,5 +1,5 @@
 -- What a machine keeps.
-use Rattle.std.specs.Prelude.{◌≡◌, ◌≢◌, ◌<◌, ◌≤◌, ℕ, Bool, false, List, length, drop, All, Contains, slice_index}
+use Rattle.std.specs.Prelude.{◌≡◌, ◌≢◌, ◌<◌, ◌≤◌, ℕ, false, List, length, drop, All, Contains, slice_index}
 use Rattle.ranked_list.specs.declared.row.Row.{Row}
 use Rattle.best_k.specs.Held.{Held}
 use Rattle.monotone_fn.specs.Tree.{Tree}

@@ -1,5 +1,5 @@
 -- Where a machine is in the run of the threshold algorithm on a table that agrees with its transcript.
-use Rattle.std.specs.Prelude.{◌≡◌, ◌≢◌, ◌<◌, ◌≤◌, ℕ, suc, ◌+◌, ◌-◌, Bool, true, false, not, List, [], ◌∷◌, ◌++◌, length, map, take, drop, filter, AllPairs, Contains, MatchBool, nat_lt}
+use Rattle.std.specs.Prelude.{◌≡◌, ◌≢◌, ◌<◌, ◌≤◌, ℕ, ◌-◌, false, not, List, [], ◌∷◌, ◌++◌, length, map, take, drop, filter, AllPairs, Contains, MatchBool, nat_lt}
 use Rattle.std.specs.List.{flat_map}
 use Rattle.ranked_list.specs.declared.row.Row.{Row}
 use Rattle.ranked_list.specs.declared.item.Item.{Item}

@@ -1,20 +1,10 @@
-//! Why a machine refuses a row.
+//! Want of memory, as a fault of a machine.
 
 ghost use Rattle.std.specs.Prelude.{◌≡◌};
-ghost use Rattle.ta_core.specs.declared.fault.CoreFault.{CoreFault};
+ghost use Rattle.access_log.specs.declared.core_fault.CoreFault.{CoreFault};
 
 use super::Memory;
-
-/// Why a machine didn't take a row or a grade.
-#[derive(Clone, Copy, Debug, PartialEq, Eq)]
-pub enum CoreFault {
-    /// The row's object is one more than the `count` objects that each list has.
-    Strangers { object: u32, count: u32 },
-    /// The row's object is one more than the room that was stated, which is less than the count.
-    RoomFull { room: u32 },
-    /// No memory was left.
-    Memory,
-}
+use access_log::CoreFault;
 
 impl From<Memory> for CoreFault {
     ghost from_gives = { λ _ fault. fault ≡ CoreFault.Memory };

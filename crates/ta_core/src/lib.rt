@@ -5,9 +5,12 @@ mod fault;
 mod progress;
 mod ta;
 
-pub use fault::CoreFault;
+pub use access_log::CoreFault;
 pub use ta::Ta;
 
 /// No memory was left.
 #[derive(Clone, Copy, Debug, PartialEq, Eq)]
 pub struct Memory;
+
+#[cfg(test)]
+mod tests;

@@ -11,9 +11,8 @@ ghost use Rattle.ta_core.specs.Reading.{enough, items_after, followed, first_or_
 ghost use Rattle.ta_core.specs.Shown.{reading_of};
 
 use super::Memory;
-use super::fault::CoreFault;
 use super::progress::Progress;
-use access_log::{Access, Answer, Transcript};
+use access_log::{Access, Answer, CoreFault, Transcript};
 use best_k::Board;
 use monotone_fn::{Costs, Expr};
 use ranked_list::{Need, Row};
@@ -36,7 +35,7 @@ pub struct Ta {
 impl Model for Ta {
     ghost use Rattle.std.specs.Coded.{codes};
     ghost use Rattle.monotone_fn.specs.Code.{tree_code};
-    ghost use Rattle.ta_core.specs.Machine.{Machine};
+    ghost use Rattle.access_log.specs.Machine.{Machine};
 
     ghost Value = { Machine };
 
@@ -54,7 +53,8 @@ impl Model for Ta {
 impl Ta {
     ghost use Rattle.std.specs.Prelude.{◌≡◌, ◌≤◌, min, [], IfOk};
     ghost use Rattle.monotone_fn.specs.Shape.{list_count};
-    ghost use Rattle.ta_core.specs.Machine.{MakesItsRun, MayBeNextRow, MayBeNextGrade, RowFed, GradeFed, IsAnswer};
+    ghost use Rattle.access_log.specs.Machine.{MayBeNextRow, MayBeNextGrade, RowFed, GradeFed};
+    ghost use Rattle.ta_core.specs.Machine.{MakesItsRun, IsAnswer};
 
     /// A machine for the first `k` of `count` objects, that sees `room` of them at most.
     pub fn make(
@@ -107,7 +107,7 @@ impl Ta {
     {
         let is_new = !self.transcript.is_seen(row.object);
         if is_new && self.transcript.seen() >= self.room {
-            return Err(no_room(self.transcript.count(), self.room, row.object));
+            return Err(CoreFault::of_room(self.transcript.count(), self.room, row.object));
         }
         let access = Access::Sorted {
             list: self.progress.objects.len() as u8,
@@ -186,17 +186,6 @@ impl Ta {
             Ok(items) => Ok(Answer { items, transcript }),
             Err(_) => Err(Memory),
         }
-    }
-}
-
-/// Why there is no room for the object.
-fn no_room(count: u32, room: u32, object: u32) -> CoreFault
-    ensures { result ≡ (if room == count then CoreFault.Strangers object count else CoreFault.RoomFull room) }
-{
-    if room == count {
-        CoreFault::Strangers { object, count }
-    } else {
-        CoreFault::RoomFull { room }
     }
 }
 

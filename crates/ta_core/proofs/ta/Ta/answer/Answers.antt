@@ -1,8 +1,9 @@
-use Rattle.std.proofs.Common.{◌≡◌, subst, sym, ap, ◌∙◌}
+use Rattle.std.proofs.Common.{◌≡◌, subst, ap, ◌∙◌}
 use Rattle.ranked_list.specs.declared.need.Need.TheVariants.{Done}
 use Rattle.ta_core.specs.Reading.{need_at}
 use Rattle.ta_core.specs.Shown.{reading_of}
-use Rattle.ta_core.specs.Machine.{Machine, IsAnswer}
+use Rattle.access_log.specs.Machine.{Machine}
+use Rattle.ta_core.specs.Machine.{IsAnswer}
 use Rattle.ta_core.proofs.Answering.{answers}
 use Rattle.ta_core.proofs.ta.Ta.answer.Goals as goal
 

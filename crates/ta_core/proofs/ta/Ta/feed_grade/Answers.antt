@@ -1,9 +1,10 @@
-use Rattle.std.proofs.Common.{◌≡◌, ℕ, length, get_or, subst, sym, ap, ◌∙◌}
+use Rattle.std.proofs.Common.{◌≡◌, ℕ, get_or, subst, sym, ap, ◌∙◌}
 use Rattle.ta_core.specs.Reading.{Reading, first_or_zero, grade_added, need_at}
 use Rattle.ta_core.specs.Shown.{reading_of}
-use Rattle.ta_core.specs.Machine.{Machine, MakesItsRun, MayBeNextGrade}
+use Rattle.access_log.specs.Machine.{Machine, MayBeNextGrade}
+use Rattle.ta_core.specs.Machine.{MakesItsRun}
 use Rattle.ta_core.proofs.Runs.{kept_makes}
-use Rattle.ta_core.proofs.Calls.{along, first-at, ready_grade, grade_kept, grade_taken}
+use Rattle.ta_core.proofs.Calls.{along, first-at, ready_grade, grade_kept}
 use Rattle.ta_core.proofs.ta.Ta.feed_grade.Goals as goal
 
 pub tell-requires-clause-grades : goal.tell-requires-clause-grades

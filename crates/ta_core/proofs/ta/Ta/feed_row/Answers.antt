@@ -1,10 +1,9 @@
-use Rattle.std.proofs.Common.{◌≡◌, ◌<◌, ◌⊎◌, inl, inr, ℕ, Bool, true, false, not, length, Contains, subst, sym, ap, ◌∙◌, refl, arith}
-use Rattle.ranked_list.specs.declared.row.Row.{Row}
-use Rattle.monotone_fn.specs.Value.{value}
+use Rattle.std.proofs.Common.{◌≡◌, ◌<◌, ◌⊎◌, inl, inr, Bool, not, length, Contains, subst, sym, ap, ◌∙◌, arith}
 use Rattle.topk_theory.specs.Transcript.{seen_objects}
 use Rattle.ta_core.specs.Reading.{Reading, row_added, need_at}
 use Rattle.ta_core.specs.Shown.{reading_of}
-use Rattle.ta_core.specs.Machine.{Machine, MakesItsRun, MayBeNextRow}
+use Rattle.access_log.specs.Machine.{Machine, MayBeNextRow}
+use Rattle.ta_core.specs.Machine.{MakesItsRun}
 use Rattle.ta_core.proofs.Runs.{kept_makes}
 use Rattle.ta_core.proofs.Calls.{along, unseen_if_new, seen_if_old, ready_row, row_kept, row_taken}
 use Rattle.ta_core.proofs.ta.Ta.feed_row.Goals as goal

@@ -1,7 +1,7 @@
-use Rattle.std.proofs.Common.{◌≡◌, ℕ, [], subst, sym, ap, ◌∙◌, arith}
+use Rattle.std.proofs.Common.{◌≡◌, [], subst, sym, ap, ◌∙◌, arith}
 use Rattle.monotone_fn.specs.Shape.{list_count}
 use Rattle.access_log.specs.Log.{Log}
-use Rattle.ta_core.specs.Reading.{Reading, row_begun}
+use Rattle.ta_core.specs.Reading.{Reading}
 use Rattle.ta_core.specs.Shown.{reading_of}
 use Rattle.ta_core.specs.Kept.{IsKept}
 use Rattle.ta_core.proofs.Feeds.{kept_start}
