@@ -1,0 +1,5 @@
+pub mod Place
+pub mod Quiet
+pub mod OnTable
+pub mod Kept
+pub mod Machine
