@@ -1,8 +1,7 @@
 -- What reading answers.
-use Rattle.std.proofs.Common.{◌≡◌, ℕ, ◌≤◌, List, length, Result, Ok, Err, refl, sym, ap, ◌∙◌, subst}
+use Rattle.std.proofs.Common.{ℕ, ◌≤◌, List, length, Result, Ok, Err, sym, subst}
 use Rattle.monotone_fn.specs.Shown.{tree_of}
 use Rattle.monotone_fn.specs.Shape.{NumbersLists}
-use Rattle.query_text.specs.Query.{printed, IsLawful}
 use Rattle.query_text.specs.Reading.{Reads, Spells}
 use Rattle.query_text.specs.Draft.{names_of}
 use Rattle.query_text.specs.Reached.{IsDraftOf, WordsRead}

@@ -1,15 +1,14 @@
 -- What is printed of a lawful query is read as that query.
-use Rattle.std.proofs.Common.{◌≡◌, ◌≢◌, ℕ, zero, suc, ◌+◌, ◌-◌, ◌^◌, ◌<◌, ◌≤◌, Bool, true, false, cond, List, [], ◌∷◌, ◌++◌, length, map, get_or, Option, Some, None, option_map, nat_lt, refl, sym, ap, ◌∙◌, subst, ⊎_elim, ◌⊎◌, inl, inr, arith, append_assoc, codes, Result, Ok, Err}
-use Rattle.std.specs.List.{list_any, All, AllPairs, position_from}
+use Rattle.std.proofs.Common.{◌≡◌, ◌≢◌, ℕ, zero, suc, ◌+◌, ◌^◌, ◌<◌, ◌≤◌, Bool, true, false, cond, List, [], ◌∷◌, ◌++◌, length, Option, Some, None, option_map, nat_lt, refl, sym, ap, ◌∙◌, subst, inl, inr, arith, append_assoc, codes, Result, Ok, Err}
+use Rattle.std.specs.List.{All, AllPairs, position_from}
 use Rattle.std.specs.Option.{IfSome}
 use Rattle.std.specs.Str.{bytes_eq}
 use Rattle.std.specs.Str.Parse.{digits_value}
 use Rattle.std.specs.Fmt.{decimal}
-use Rattle.std.proofs.lemmas.Bool.{cond-true, cond-false, false≢true, ltb-true, false_from_ne_true}
-use Rattle.std.proofs.lemmas.List.{append-nil, length-append}
+use Rattle.std.proofs.lemmas.Bool.{cond-true, cond-false, ltb-true, false_from_ne_true}
+use Rattle.std.proofs.lemmas.List.{length-append}
 use Rattle.std.proofs.lemmas.List.Elements.{All-head, All-tail}
 use Rattle.std.proofs.lemmas.Fmt.{decimal_injective}
-use Rattle.line_text.specs.Numbers.{is_number, number_of}
 use Rattle.line_text.specs.Names.{IsName}
 use Rattle.line_text.proofs.NumberLaws.{number_of-decimal, number_of-some}
 use Rattle.monotone_fn.specs.Tree.{Tree, Trees, Terms}
@@ -19,16 +18,16 @@ use Rattle.monotone_fn.specs.declared.fault.ExprFault.TheVariants.{TooManyNodes 
 use Rattle.monotone_fn.specs.declared.limits.TheConstants.{MAX_VALUE}
 use Rattle.monotone_fn.specs.declared.costs.Costs.{Costs}
 use Rattle.query_text.specs.Written.{Written, Arguments, IsNumber, IsWeight, IsWritten, AreArguments, HasArgument}
-use Rattle.query_text.specs.Pieces.{Piece, text_of, IsInRange, AreInRange, names_in, lists_in, each_once, AreFine, IsNumberFault, IsNameFault}
-use Rattle.query_text.specs.Shape.{Shape, IsShape, IsText, spelled, count_piece, weight_pieces, expr_pieces, argument_pieces, further_pieces, algorithm_pieces, cost_pieces, room_pieces, pieces_of}
-use Rattle.query_text.specs.Query.{written, arguments, weighted, name_of, cost_digits, shape_of, printed, lists_of, lists_among, lists_under, names_given, HasTree, HasTerm, IsPlain, ArePlain, AreWeighed, IsCount, IsLawful}
-use Rattle.query_text.specs.Reading.{Reads, IsReadBack, Spells}
+use Rattle.query_text.specs.Pieces.{Piece, IsInRange, AreInRange, names_in, lists_in, each_once, IsNumberFault, IsNameFault}
+use Rattle.query_text.specs.Shape.{IsShape, expr_pieces, argument_pieces, further_pieces, algorithm_pieces, cost_pieces, room_pieces, pieces_of}
+use Rattle.query_text.specs.Query.{written, arguments, weighted, name_of, cost_digits, shape_of, printed, lists_of, lists_among, lists_under, HasTree, HasTerm, IsPlain, ArePlain, AreWeighed, IsCount, IsLawful}
+use Rattle.query_text.specs.Reading.{Reads, IsReadBack}
 use Rattle.query_text.specs.declared.query.Query.{Query}
 use Rattle.query_text.specs.declared.operator.Operator.{Operator}
 use Rattle.query_text.specs.declared.operator.Operator.TheVariants.{Min, Max, Sum, Median, Wsum}
 use Rattle.query_text.specs.declared.fault.QueryFault.{QueryFault}
 use Rattle.query_text.specs.declared.fault.QueryFault.TheVariants as faults
-use Rattle.query_text.specs.declared.limits.TheConstants.{MAX_NUMBER, MAX_WEIGHT, MAX_LISTS, MAX_LINE}
+use Rattle.query_text.specs.declared.limits.TheConstants.{MAX_NUMBER, MAX_WEIGHT}
 use Rattle.query_text.proofs.WordLaws.{same_bytes, bytes_same}
 use Rattle.query_text.proofs.CompleteLaws.{one_shape}
 use Rattle.query_text.proofs.StateLaws.{names_in-append, once-append, once-extends}

@@ -1,25 +1,25 @@
 -- Each text of the shape is read as its syntax tree.
-use Rattle.std.proofs.Common.{◌≡◌, ℕ, ◌<◌, ◌≤◌, ◌+◌, Bool, true, false, cond, ◌&&◌, ◌||◌, eqb, List, [], ◌∷◌, ◌++◌, length, Option, Some, None, is_some, ◌⊎◌, inl, inr, refl, sym, ap, ◌∙◌, subst, ⊎_elim, append_assoc, codes, eq-eqb}
-use Rattle.std.specs.List.{list_any, list_all, flat_map}
-use Rattle.std.specs.Str.{bytes_eq, all_ascii_digits}
+use Rattle.std.proofs.Common.{◌≡◌, ℕ, Bool, true, false, cond, ◌&&◌, eqb, List, [], ◌∷◌, ◌++◌, Option, Some, None, is_some, refl, sym, ap, ◌∙◌, append_assoc, codes, eq-eqb}
+use Rattle.std.specs.List.{list_all}
+use Rattle.std.specs.Str.{all_ascii_digits}
 use Rattle.std.specs.Char.{is_ascii_digit, is_ascii_alphabetic}
-use Rattle.std.proofs.lemmas.Bool.{and_parts, and_left, and_right, or_cases, or_from, false≢true, or_left, or_right, cond-true, cond-false, false_from_ne_true, cases_Bool}
+use Rattle.std.proofs.lemmas.Bool.{and_left, and_right, or_from, false≢true, or_left, false_from_ne_true}
 use Rattle.std.proofs.lemmas.List.{append-nil}
 use Rattle.std.proofs.lemmas.Grind.{flat_map-append}
 use Rattle.std.proofs.lemmas.Option.{same_Some}
 use Rattle.std.specs.Option.{IfSome}
 use Rattle.line_text.specs.Numbers.{is_empty, is_number}
 use Rattle.line_text.specs.Names.{is_name, is_name_byte}
-use Rattle.query_text.specs.Written.{Written, Arguments, IsNumber, HasNoWeight, IsWeight, IsWritten, AreArguments, HasArgument}
+use Rattle.query_text.specs.Written.{Written, Arguments, IsNumber, IsWeight, IsWritten, AreArguments}
 use Rattle.query_text.specs.Pieces.{Piece, piece_text, text_of}
-use Rattle.query_text.specs.Shape.{Shape, IsShape, spelled, opening, algorithm_word, weight_pieces, expr_pieces, argument_pieces, further_pieces, front_pieces, algorithm_pieces, cost_pieces, room_pieces, pieces_of}
-use Rattle.query_text.specs.Words.{Class, opened_by, begins, is_whole, class_at}
-use Rattle.query_text.specs.Front.{Argument, Frame, Head, Front, class_of, next, shape_at, reads, begun, opened, all_done, arguments_from, operand_read, argument_read, is_weighted, shape_from, IsCost, IsRoom}
+use Rattle.query_text.specs.Shape.{Shape, IsShape, spelled, opening, algorithm_word, weight_pieces, expr_pieces, argument_pieces, further_pieces, algorithm_pieces, cost_pieces, room_pieces}
+use Rattle.query_text.specs.Words.{Class, opened_by, begins, is_whole}
+use Rattle.query_text.specs.Front.{Argument, Frame, Head, Front, class_of, reads, begun, opened, arguments_from, operand_read, is_weighted, shape_from, IsCost, IsRoom}
 use Rattle.query_text.specs.declared.algorithm.Algorithm.{Algorithm}
-use Rattle.query_text.specs.declared.algorithm.Algorithm.TheVariants.{Ta}
+use Rattle.query_text.specs.declared.algorithm.Algorithm.TheVariants.{Ta, Nra}
 use Rattle.query_text.specs.declared.operator.Operator.{Operator}
 use Rattle.query_text.specs.declared.operator.Operator.TheVariants.{Min, Max, Sum, Median, Wsum}
-use Rattle.query_text.proofs.WordLaws.{reads-word, Stops, opened_word, same_bytes}
+use Rattle.query_text.proofs.WordLaws.{reads-word, Stops, opened_word}
 
 -- no byte goes on with the word
 stops_always : (c : Class) (w t : List ℕ) → ((x : ℕ) → begins c (w ++ x ∷ []) ≡ false) → Stops c w t
@@ -285,6 +285,7 @@ options_read h (Some c) (Some r) cost room =
 algorithm_read : (k : List ℕ) (e : Written) (a : Algorithm) (t : List ℕ)
     → reads (Front.at_algorithm k e) [] (algorithm_word a ++ t) ≡ reads (Front.at_options (record { k = k; expr = e; algorithm = a })) [] t
 algorithm_read k e Ta t = reads-word (Front.at_algorithm k e) (codes "ta") t refl (stops_always (class_of (Front.at_algorithm k e)) (codes "ta") t (λ x. refl))
+algorithm_read k e Nra t = reads-word (Front.at_algorithm k e) (codes "nra") t refl (stops_always (class_of (Front.at_algorithm k e)) (codes "nra") t (λ x. refl))
 
 cost_fine : (c : Option (List ℕ × List ℕ)) → IfSome c (λ cost. IsNumber cost.0 × IsNumber cost.1) → IsCost c
 cost_fine None h = tt

@@ -1,34 +1,21 @@
 -- What a draft shows with one more word.
-use Rattle.std.proofs.Common.{◌≡◌, ◌≢◌, ℕ, zero, suc, ◌+◌, ◌<◌, ◌≤◌, ◌^◌, Bool, true, false, cond, List, [], ◌∷◌, ◌++◌, length, map, reverse, Option, Some, None, is_some, unwrap_or, option_map, refl, sym, ap, ◌∙◌, subst, ⊎_elim, inl, inr, arith, rules, append_assoc, codes}
-use Rattle.std.specs.List.{list_any, find}
-use Rattle.std.specs.Str.{bytes_eq}
-use Rattle.std.specs.Str.Parse.{digits_value}
+use Rattle.std.proofs.Common.{◌≡◌, ℕ, ◌≤◌, true, false, List, [], ◌∷◌, ◌++◌, map, Option, Some, None, unwrap_or, option_map, refl, sym, ap, ◌∙◌, subst, arith}
 use Rattle.std.specs.Fmt.{decimal}
-use Rattle.std.proofs.lemmas.Bool.{cond-true, cond-false, false≢true, cases_Bool}
-use Rattle.std.proofs.lemmas.List.{append-nil, map-append, reverse-append}
-use Rattle.line_text.specs.Numbers.{is_number, number_of}
-use Rattle.line_text.proofs.NumberLaws.{decimal-number_of, number_of-some}
-use Rattle.monotone_fn.specs.Tree.{Tree, Trees, Terms, trees, terms}
+use Rattle.std.proofs.lemmas.Bool.{cond-true, cond-false}
+use Rattle.std.proofs.lemmas.List.{map-append}
+use Rattle.monotone_fn.specs.Tree.{Tree, trees, terms}
 use Rattle.monotone_fn.specs.Shown.{tree_of, term_of}
 use Rattle.monotone_fn.specs.declared.node.Node.{Node}
-use Rattle.monotone_fn.specs.declared.node.Node.TheVariants as nodes
 use Rattle.monotone_fn.specs.declared.node.Term.{Term}
-use Rattle.monotone_fn.specs.declared.costs.Costs.{Costs}
-use Rattle.query_text.specs.Bytes.{bytes_of}
 use Rattle.query_text.specs.Written.{Written, Arguments, IsWeight}
-use Rattle.query_text.specs.Pieces.{Piece, IsInRange, names_in, with_member, each_once_after}
-use Rattle.query_text.specs.Query.{written, arguments, weighted, name_of, cost_digits, IsPlain, ArePlain, AreWeighed, HasTree, HasTerm}
-use Rattle.query_text.specs.Words.{opened_by, is_whole}
+use Rattle.query_text.specs.Query.{written, arguments, weighted, IsPlain, ArePlain, AreWeighed, HasTree, HasTerm}
 use Rattle.query_text.specs.Front.{Argument, Front, Head, stage_of, class_of, next, shape_from, arguments_from, is_weighted, piece_at, operand_piece, operand_read, argument_read, begun, opened, all_done, algorithm_of, IsFine}
 use Rattle.query_text.specs.Front as front
-use Rattle.query_text.specs.Draft.{plain_argument, weighted_argument, done_of, frame_of, IsWeightPlain, IsFramePlain, AreFramesPlain, AddsArgument, Closes, names_of, frames_in, expr_in, head_in, unset, priced, front_of, IsDraftPlain, GoesOn, Takes}
+use Rattle.query_text.specs.Draft.{plain_argument, weighted_argument, done_of, frame_of, IsWeightPlain, AddsArgument, Closes}
 use Rattle.query_text.specs.declared.frame.Frame.{Frame}
-use Rattle.query_text.specs.declared.draft.Draft.{Draft}
 use Rattle.query_text.specs.declared.operator.Operator.{Operator}
-use Rattle.query_text.specs.declared.operator.Operator.TheVariants.{Min, Max, Sum, Median, Wsum}
-use Rattle.query_text.specs.declared.stage.Stage.{Stage}
-use Rattle.query_text.specs.declared.stage.Stage.TheVariants as stages
-use Rattle.query_text.specs.declared.limits.TheConstants.{MAX_NUMBER, MAX_WEIGHT, MAX_LISTS}
+use Rattle.query_text.specs.declared.operator.Operator.TheVariants.{Wsum}
+use Rattle.query_text.specs.declared.limits.TheConstants.{MAX_WEIGHT}
 use Rattle.query_text.proofs.CompleteLaws.{no_weight, weighted_some}
 use Rattle.query_text.proofs.FrontLaws.{weighted_is}
 

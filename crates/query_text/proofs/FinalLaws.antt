@@ -1,36 +1,34 @@
 -- A draft of a whole line is a lawful query whose text is the line.
-use Rattle.std.proofs.Common.{◌≡◌, ◌≢◌, ℕ, zero, suc, ◌+◌, ◌-◌, ◌*◌, ◌^◌, ◌<◌, ◌≤◌, max, Bool, true, false, cond, ◌||◌, List, [], ◌∷◌, ◌++◌, length, map, get_or, Option, Some, None, is_some, option_map, refl, sym, ap, ◌∙◌, subst, ⊎_elim, ◌⊎◌, inl, inr, arith, rules, append_assoc, codes}
-use Rattle.std.specs.List.{list_any, All, AllPairs, Contains}
+use Rattle.std.proofs.Common.{◌≡◌, ◌≢◌, ℕ, zero, suc, ◌^◌, ◌<◌, ◌≤◌, Bool, true, false, cond, List, [], ◌∷◌, ◌++◌, length, map, get_or, Option, Some, None, is_some, option_map, refl, sym, ap, ◌∙◌, subst, arith, codes}
+use Rattle.std.specs.List.{list_any, All, AllPairs}
 use Rattle.std.specs.Option.{IfSome}
 use Rattle.std.specs.Str.{bytes_eq}
 use Rattle.std.specs.Str.Parse.{digits_value}
 use Rattle.std.specs.Fmt.{decimal}
-use Rattle.std.proofs.lemmas.Bool.{cond-true, cond-false, false≢true, true≢false, or_cases, or_parts, or_left, or_right, cases_Bool}
-use Rattle.std.proofs.lemmas.List.{append-nil, map-append, length-append}
-use Rattle.std.proofs.lemmas.List.Elements.{All-cons, All-nil, All-append}
+use Rattle.std.proofs.lemmas.Bool.{false≢true, or_parts}
+use Rattle.std.proofs.lemmas.List.{append-nil, map-append}
+use Rattle.std.proofs.lemmas.List.Elements.{All-cons, All-nil}
 use Rattle.std.proofs.lemmas.List.Quantifiers.{all_pairs_push}
-use Rattle.line_text.specs.Numbers.{is_number, number_of}
 use Rattle.line_text.specs.Names.{IsName}
 use Rattle.line_text.proofs.NumberLaws.{number_of-decimal, number_of-some}
 use Rattle.monotone_fn.specs.Tree.{Tree, Trees, Terms}
 use Rattle.monotone_fn.specs.Shown.{tree_of}
 use Rattle.monotone_fn.specs.declared.costs.Costs.{Costs}
-use Rattle.query_text.specs.Written.{Written, Arguments, IsNumber, IsWritten, AreArguments}
+use Rattle.query_text.specs.Written.{Written, Arguments, IsWritten, AreArguments}
 use Rattle.query_text.specs.Pieces.{Piece, text_of, IsInRange, AreInRange, names_in, lists_in, with_member, each_once_after, each_once, AreFine}
-use Rattle.query_text.specs.Shape.{Shape, IsShape, spelled, count_piece, weight_pieces, expr_pieces, argument_pieces, further_pieces, front_pieces, algorithm_pieces, cost_pieces, room_pieces, pieces_of}
+use Rattle.query_text.specs.Shape.{Shape, IsShape, spelled, count_piece, weight_pieces, expr_pieces, argument_pieces, further_pieces, algorithm_pieces, cost_pieces, room_pieces, pieces_of}
 use Rattle.query_text.specs.Query.{written, arguments, weighted, name_of, cost_digits, shape_of, printed, lists_of, lists_among, lists_under, names_given, IsPlain, IsCount, IsLawful}
-use Rattle.query_text.specs.Front.{Front, Head, stage_of, shape_at, pieces_before, IsFine, shape_from}
-use Rattle.query_text.specs.Draft.{names_of, head_in, unset, priced, front_of, IsDraftPlain}
-use Rattle.query_text.specs.Reached.{may_end, front_text, Drafts, IsDraftOf}
+use Rattle.query_text.specs.Front.{Front, stage_of, shape_at, shape_from}
+use Rattle.query_text.specs.Draft.{names_of, head_in, unset, priced, front_of}
+use Rattle.query_text.specs.Reached.{may_end, IsDraftOf}
 use Rattle.query_text.specs.Finish.{query_in, IsSmall}
 use Rattle.query_text.specs.declared.draft.Draft.{Draft}
-use Rattle.query_text.specs.declared.query.Query.{Query}
 use Rattle.query_text.specs.declared.stage.Stage.{Stage}
 use Rattle.query_text.specs.declared.stage.Stage.TheVariants as stages
 use Rattle.query_text.specs.declared.operator.Operator.{Operator}
 use Rattle.query_text.specs.declared.operator.Operator.TheVariants.{Min, Max, Sum, Median, Wsum}
-use Rattle.query_text.specs.declared.limits.TheConstants.{MAX_NUMBER, MAX_WEIGHT, MAX_LISTS}
-use Rattle.query_text.proofs.WordLaws.{same_bytes, bytes_same}
+use Rattle.query_text.specs.declared.limits.TheConstants.{MAX_LISTS}
+use Rattle.query_text.proofs.WordLaws.{bytes_same}
 use Rattle.query_text.proofs.FrontLaws.{whole_at}
 use Rattle.query_text.proofs.ReachLaws.{ends_at}
 use Rattle.query_text.proofs.StateLaws.{names_in-append}

@@ -1,17 +1,16 @@
 -- A word adds its piece to a front, and keeps it well formed.
-use Rattle.std.proofs.Common.{◌≡◌, ◌≢◌, ℕ, Bool, true, false, cond, ◌&&◌, ◌||◌, List, [], ◌∷◌, ◌++◌, Option, Some, None, is_some, refl, sym, ap, ◌∙◌, subst, ⊎_elim, arith, rules, append_assoc, codes, map, unwrap_or, IfSome}
+use Rattle.std.proofs.Common.{◌≡◌, ℕ, Bool, true, false, cond, ◌||◌, List, [], ◌∷◌, ◌++◌, Option, Some, None, is_some, refl, sym, ap, ◌∙◌, subst, ⊎_elim, append_assoc, codes, map, unwrap_or, IfSome}
 use Rattle.std.specs.List.{list_any, flat_map, find}
 use Rattle.std.specs.Str.{bytes_eq}
-use Rattle.std.proofs.lemmas.Bool.{and_parts, or_cases, false≢true, cond-true, cond-false, cases_Bool}
+use Rattle.std.proofs.lemmas.Bool.{or_cases, false≢true}
 use Rattle.std.proofs.lemmas.List.{append-nil}
 use Rattle.std.proofs.lemmas.Grind.{flat_map-append}
-use Rattle.line_text.specs.Numbers.{is_number}
 use Rattle.line_text.specs.Names.{is_name}
-use Rattle.query_text.specs.Written.{Written, Arguments, IsNumber, HasNoWeight, IsWeight, IsWritten, AreArguments, HasArgument}
+use Rattle.query_text.specs.Written.{Written, IsNumber, HasNoWeight, IsWeight, IsWritten, AreArguments, HasArgument}
 use Rattle.query_text.specs.Pieces.{Piece, piece_text, text_of}
-use Rattle.query_text.specs.Shape.{Shape, opening, algorithm_word, algorithms, weight_pieces, expr_pieces, argument_pieces, further_pieces, front_pieces, algorithm_pieces, cost_pieces, room_pieces, pieces_of, IsShape}
-use Rattle.query_text.specs.Words.{Class, opened_by, begins, is_whole, class_at}
-use Rattle.query_text.specs.Front.{Argument, Frame, Head, Front, stage_of, frames_of, is_inside, class_of, done_pieces, frame_pieces, open_pieces, pieces_before, next, shape_at, begun, opened, all_done, arguments_from, operand_read, argument_read, operand_piece, piece_at, algorithm_of, is_weighted, AreDone, AreOpen, AreWeighing, IsHead, IsCost, IsRoom, IsFine, shape_from, head_pieces}
+use Rattle.query_text.specs.Shape.{Shape, opening, algorithm_word, algorithms, weight_pieces, expr_pieces, argument_pieces, further_pieces, front_pieces, algorithm_pieces, cost_pieces, pieces_of, IsShape}
+use Rattle.query_text.specs.Words.{opened_by, is_whole}
+use Rattle.query_text.specs.Front.{Argument, Frame, Front, stage_of, class_of, done_pieces, frame_pieces, open_pieces, pieces_before, next, shape_at, begun, opened, all_done, arguments_from, operand_read, argument_read, operand_piece, piece_at, is_weighted, AreDone, AreOpen, IsCost, IsRoom, IsFine, head_pieces}
 use Rattle.query_text.specs.declared.algorithm.Algorithm.{Algorithm}
 use Rattle.query_text.specs.declared.algorithm.Algorithm.TheVariants.{Ta}
 use Rattle.std.proofs.lemmas.Option.{same_Some}

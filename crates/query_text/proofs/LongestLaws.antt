@@ -1,14 +1,13 @@
 -- The longest front of a text that begins a word.
-use Rattle.std.proofs.Common.{◌≡◌, ◌≢◌, ℕ, zero, suc, ◌+◌, ◌<◌, ◌≤◌, Bool, true, false, cond, ◌&&◌, ◌||◌, eqb, List, [], ◌∷◌, ◌++◌, length, get_or, take, drop, max, min, Option, Some, None, is_some, refl, sym, ap, ◌∙◌, subst, ⊎_elim, arith, rules, eq-eqb, ne_eqb, eqb-true, add-one, codes, ◌⊎◌, inl, inr}
-use Rattle.std.specs.List.{list_any, list_all, prefix_len}
+use Rattle.std.proofs.Common.{◌≡◌, ℕ, zero, suc, ◌+◌, ◌<◌, ◌≤◌, Bool, true, false, cond, ◌&&◌, ◌||◌, eqb, List, [], ◌∷◌, ◌++◌, length, get_or, take, drop, max, min, is_some, refl, sym, ap, ◌∙◌, subst, ⊎_elim, arith, eq-eqb, ne_eqb, add-one, ◌⊎◌, inl, inr}
+use Rattle.std.specs.List.{list_all, prefix_len}
 use Rattle.std.specs.Str.{all_ascii_digits}
 use Rattle.std.specs.Char.{is_ascii_digit, is_ascii_alphabetic}
-use Rattle.std.proofs.lemmas.Bool.{and_parts, and_from, and_left, and_right, or_cases, or_left, or_right, or_parts, or_from, false≢true, cond-true, cond-false, cases_Bool, cases_eq, cases_lt, false_from_ne_true, lt-ltb, le-ltb, ltb-true}
-use Rattle.std.proofs.lemmas.List.{append-nil, take_more, length-take}
-use Rattle.line_text.specs.Numbers.{is_empty, is_number}
+use Rattle.std.proofs.lemmas.Bool.{and_from, and_left, and_right, or_cases, or_left, or_right, or_parts, or_from, false≢true, cond-false, cases_lt, false_from_ne_true, lt-ltb, le-ltb}
+use Rattle.std.proofs.lemmas.List.{take_more, length-take}
+use Rattle.line_text.specs.Numbers.{is_empty}
 use Rattle.line_text.specs.Names.{is_name, is_name_byte}
-use Rattle.query_text.specs.Shape.{opening}
-use Rattle.query_text.specs.Words.{Class, opened_by, is_front, begins, is_whole, class_at, IsLongest, IsLongestName}
+use Rattle.query_text.specs.Words.{Class, opened_by, is_front, begins, IsLongest, IsLongestName}
 use Rattle.query_text.proofs.WordLaws.{begins-closed, opened_word}
 use Rattle.query_text.proofs.CompleteLaws.{opening_ends}
 

@@ -1,6 +1,6 @@
 -- The lists of a lawful query are numbered as an expression wants them.
-use Rattle.std.proofs.Common.{◌≡◌, ◌≢◌, ℕ, zero, suc, ◌+◌, ◌<◌, ◌≤◌, max, Bool, true, false, cond, List, [], ◌∷◌, ◌++◌, length, map, get_or, refl, sym, ap, ◌∙◌, subst, ⊎_elim, ◌⊎◌, inl, inr, arith}
-use Rattle.std.specs.List.{list_any, AllPairs, Contains, All}
+use Rattle.std.proofs.Common.{◌≡◌, ◌≢◌, ℕ, zero, suc, ◌<◌, ◌≤◌, Bool, true, false, cond, List, [], ◌∷◌, ◌++◌, length, map, refl, sym, ap, subst, ⊎_elim, ◌⊎◌, inl, inr, arith}
+use Rattle.std.specs.List.{list_any, AllPairs, Contains}
 use Rattle.std.specs.Str.{bytes_eq}
 use Rattle.std.proofs.lemmas.Bool.{cases_order}
 use Rattle.monotone_fn.specs.Tree.{Tree, Trees, Terms}
@@ -8,7 +8,6 @@ use Rattle.monotone_fn.specs.Shape.{nodes_of, nodes_in, nodes_under, list_count,
 use Rattle.query_text.specs.Pieces.{with_member, each_once_after, each_once}
 use Rattle.query_text.specs.Query.{name_of, lists_of, lists_among, lists_under, names_given, HasTree, HasTerm, IsPlain, ArePlain, AreWeighed}
 use Rattle.query_text.specs.declared.limits.TheConstants.{MAX_LISTS}
-use Rattle.query_text.proofs.WordLaws.{same_bytes}
 use Rattle.query_text.proofs.FinalLaws.{Each}
 
 -- a list has a member

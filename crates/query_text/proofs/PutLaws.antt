@@ -1,6 +1,6 @@
 -- Texts that are written one behind another.
-use Rattle.std.proofs.Common.{◌≡◌, ℕ, zero, suc, ◌+◌, ◌*◌, ◌<◌, ◌≤◌, max, Bool, true, false, cond, List, [], ◌∷◌, ◌++◌, length, take, map, Option, Some, None, option_map, unwrap_or, Result, Ok, Err, IsErr, OnOk, OnErr, refl, sym, ap, ◌∙◌, subst, arith, append_assoc, codes, get_or, add-one}
-use Rattle.std.specs.List.{slice_get, flat_map}
+use Rattle.std.proofs.Common.{◌≡◌, ℕ, zero, suc, ◌+◌, ◌≤◌, List, [], ◌∷◌, ◌++◌, length, take, map, Option, Some, None, option_map, unwrap_or, Result, Ok, Err, refl, sym, ap, ◌∙◌, subst, arith, append_assoc, codes}
+use Rattle.std.specs.List.{slice_get}
 use Rattle.std.specs.Io.KnownBytes.{Appends}
 use Rattle.std.specs.Fmt.{decimal}
 use Rattle.std.proofs.KnownBytes.{Appends-trans}
@@ -9,13 +9,11 @@ use Rattle.std.proofs.Math.Dec.{eqb-suc-zero}
 use Rattle.std.proofs.lemmas.List.{append-nil, take_more, length-take, length-map}
 use Rattle.std.proofs.lemmas.Option.{unwrap_or-slice_get, slice_get_within, get_or_from_slice_get, slice_get-map}
 use Rattle.std.proofs.lemmas.Grind.{flat_map-append}
-use Rattle.tk_io.specs.Faults.{HasCause}
-use Rattle.tk_io.specs.Whole.{TookFront}
 use Rattle.monotone_fn.specs.Tree.{Tree, trees, terms}
 use Rattle.monotone_fn.specs.Shape.{depth, depth_in, depth_under}
 use Rattle.query_text.specs.Pieces.{Piece, piece_text, text_of}
 use Rattle.query_text.specs.Shape.{weight_pieces, expr_pieces, argument_pieces, further_pieces, algorithm_word, algorithm_pieces, cost_pieces, room_pieces}
-use Rattle.query_text.specs.Query.{written, arguments, weighted, name_of, cost_digits, printed}
+use Rattle.query_text.specs.Query.{written, name_of, cost_digits, printed}
 use Rattle.query_text.specs.declared.query.Query.{Query}
 use Rattle.query_text.specs.Front.{Argument, arguments_from}
 use Rattle.query_text.specs.Draft.{plain_argument, weighted_argument}

@@ -1,11 +1,10 @@
 -- How a reader goes on, and where it is refused.
-use Rattle.std.proofs.Common.{◌≡◌, ◌≢◌, ℕ, zero, suc, ◌+◌, ◌<◌, ◌≤◌, Bool, true, false, cond, List, [], ◌∷◌, ◌++◌, length, take, drop, Option, Some, None, is_some, refl, sym, ap, ◌∙◌, subst, ⊎_elim, arith, append_assoc, codes}
-use Rattle.std.proofs.lemmas.Bool.{cond-true, cond-false, false≢true, true≢false}
+use Rattle.std.proofs.Common.{◌≡◌, ℕ, suc, ◌+◌, ◌<◌, true, false, List, [], ◌∷◌, ◌++◌, length, take, Option, Some, None, is_some, refl, sym, ap, ◌∙◌, subst, arith, append_assoc}
+use Rattle.std.proofs.lemmas.Bool.{cond-false, false≢true, true≢false}
 use Rattle.std.proofs.lemmas.List.{append-nil, length-append}
-use Rattle.query_text.specs.Pieces.{Piece, text_of}
-use Rattle.query_text.specs.Shape.{Shape, IsShape, IsText, Begins, IsSyntaxFault, spelled, pieces_of}
-use Rattle.query_text.specs.Words.{Class, begins, is_whole, class_at}
-use Rattle.query_text.specs.Front.{Front, Frame, stage_of, class_of, next, shape_at, reads, pieces_before, IsFine}
+use Rattle.query_text.specs.Shape.{Shape, IsText, Begins, IsSyntaxFault}
+use Rattle.query_text.specs.Words.{Class, begins, is_whole}
+use Rattle.query_text.specs.Front.{Front, stage_of, class_of, next, shape_at, reads, IsFine}
 use Rattle.query_text.specs.Reached.{may_end, front_text, Follows}
 use Rattle.query_text.proofs.WordLaws.{Stops, reads-word, reads-stuck, reads-short, never_empty}
 use Rattle.query_text.proofs.FrontLaws.{text-next}

@@ -1,22 +1,21 @@
 -- A reader's step, and where it ends.
-use Rattle.std.proofs.Common.{◌≡◌, ◌≢◌, ℕ, zero, suc, ◌+◌, ◌-◌, ◌<◌, ◌≤◌, Bool, true, false, cond, List, [], ◌∷◌, ◌++◌, length, take, drop, map, Option, Some, None, is_some, refl, sym, ap, ◌∙◌, subst, ⊎_elim, arith, append_assoc, codes, Result, Ok, Err}
+use Rattle.std.proofs.Common.{◌≡◌, ℕ, zero, suc, ◌+◌, ◌<◌, ◌≤◌, Bool, true, false, cond, List, [], ◌∷◌, ◌++◌, length, take, drop, map, Option, Some, None, is_some, refl, sym, ap, ◌∙◌, subst, arith, append_assoc, codes, Err}
 use Rattle.std.specs.Str.{bytes_eq}
-use Rattle.std.proofs.lemmas.Bool.{cond-true, cond-false, false≢true, true≢false}
+use Rattle.std.proofs.lemmas.Bool.{false≢true}
 use Rattle.std.proofs.lemmas.List.{append-nil, length-append, take-append-drop, length-take, length-drop}
-use Rattle.query_text.specs.Pieces.{Piece, text_of, AreFine, IsNumberFault, IsNameFault}
-use Rattle.query_text.specs.Shape.{Shape, IsSyntaxFault, spelled}
+use Rattle.query_text.specs.Pieces.{Piece, text_of, IsNumberFault, IsNameFault}
+use Rattle.query_text.specs.Shape.{Shape, IsSyntaxFault}
 use Rattle.query_text.specs.Words.{Class, opened_by, begins, is_whole, class_at, IsLongest}
-use Rattle.query_text.specs.Front.{Front, Frame, stage_of, frames_of, is_inside, class_of, next, shape_at, pieces_before, is_weighted, operand_read, argument_read, begun, opened, all_done, arguments_from, IsFine}
-use Rattle.query_text.specs.Course.{Standing, course_view, standing_of, is_open, at, argument_stage, behind_word, behind_operand, standing_next}
-use Rattle.query_text.specs.Draft.{names_of, front_of, unopened, IsDraftPlain, Takes, Misses}
-use Rattle.query_text.specs.Reached.{may_end, front_text, Follows, Drafts, IsState, Reached, IsDraftOf, IsPieceFault, StepTakes, WordsRead}
+use Rattle.query_text.specs.Front.{Front, Frame, stage_of, frames_of, is_inside, class_of, next, shape_at, pieces_before, is_weighted, operand_read, argument_read, begun, opened, all_done, IsFine}
+use Rattle.query_text.specs.Course.{course_view, standing_of, is_open, at, argument_stage, behind_word, behind_operand, standing_next}
+use Rattle.query_text.specs.Draft.{names_of, unopened, IsDraftPlain}
+use Rattle.query_text.specs.Reached.{may_end, front_text, Follows, IsState, Reached, IsDraftOf, IsPieceFault, StepTakes, WordsRead}
 use Rattle.query_text.specs.declared.course.Course.{Course}
 use Rattle.query_text.specs.declared.draft.Draft.{Draft}
 use Rattle.query_text.specs.declared.operator.Operator.{Operator}
 use Rattle.query_text.specs.declared.stage.Stage.TheVariants as stages
 use Rattle.query_text.specs.declared.fault.QueryFault.{QueryFault}
 use Rattle.query_text.specs.declared.fault.QueryFault.TheVariants as faults
-use Rattle.query_text.specs.declared.limits.TheConstants.{MAX_LISTS}
 use Rattle.query_text.proofs.WordLaws.{Stops}
 use Rattle.query_text.proofs.FrontLaws.{text-next, fine-next, whole_at}
 use Rattle.query_text.proofs.ReachLaws.{ends_at, follows-next, Fits, refused, take-more}

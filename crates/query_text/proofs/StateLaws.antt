@@ -1,14 +1,12 @@
 -- What a draft means with one more word, and the first fault.
-use Rattle.std.proofs.Common.{◌≡◌, ◌≢◌, ℕ, zero, suc, ◌+◌, ◌<◌, ◌≤◌, Bool, true, false, cond, ◌||◌, List, [], ◌∷◌, ◌++◌, length, Option, Some, None, is_some, refl, sym, ap, ◌∙◌, subst, ⊎_elim, arith, append_assoc, codes}
+use Rattle.std.proofs.Common.{◌≡◌, ℕ, ◌<◌, ◌≤◌, Bool, true, false, cond, List, [], ◌∷◌, ◌++◌, length, Option, Some, None, refl, sym, ap, ◌∙◌, subst, arith, append_assoc}
 use Rattle.std.specs.List.{list_any}
 use Rattle.std.specs.Str.{bytes_eq}
-use Rattle.std.proofs.lemmas.Bool.{cond-true, cond-false, false≢true, or_cases}
-use Rattle.std.proofs.lemmas.List.{append-nil, length-append}
-use Rattle.line_text.specs.Numbers.{is_number}
+use Rattle.std.proofs.lemmas.List.{append-nil}
 use Rattle.query_text.specs.Pieces.{Piece, text_of, IsInRange, AreInRange, names_in, lists_in, with_member, each_once_after, AreFine, IsNumberFault, IsNameFault}
-use Rattle.query_text.specs.Words.{Class, opened_by, is_whole, class_at}
-use Rattle.query_text.specs.Front.{Front, Frame, stage_of, class_of, next, pieces_before, piece_at, operand_piece, IsFine}
-use Rattle.query_text.specs.Draft.{names_of, front_of, IsDraftPlain, GoesOn, Takes, Misses, IsOutside}
+use Rattle.query_text.specs.Words.{opened_by, is_whole}
+use Rattle.query_text.specs.Front.{Front, stage_of, class_of, next, pieces_before, operand_piece, IsFine}
+use Rattle.query_text.specs.Draft.{names_of, front_of, GoesOn, Takes, Misses, IsOutside}
 use Rattle.query_text.specs.Reached.{front_text, Drafts, IsState}
 use Rattle.query_text.specs.declared.draft.Draft.{Draft}
 use Rattle.query_text.specs.declared.operator.Operator.{Operator}

@@ -1,33 +1,26 @@
 -- A draft takes a word of each stage.
-use Rattle.std.proofs.Common.{◌≡◌, ◌≢◌, ℕ, zero, suc, ◌+◌, ◌<◌, ◌≤◌, ◌^◌, Bool, true, false, cond, List, [], ◌∷◌, ◌++◌, length, map, reverse, Option, Some, None, is_some, unwrap_or, option_map, refl, sym, ap, ◌∙◌, subst, ⊎_elim, arith, rules, append_assoc, codes}
-use Rattle.std.specs.List.{list_any, find}
+use Rattle.std.proofs.Common.{◌≡◌, ℕ, ◌<◌, ◌≤◌, ◌^◌, Bool, true, false, cond, List, [], ◌∷◌, ◌++◌, length, map, reverse, Option, Some, None, option_map, refl, sym, ap, ◌∙◌, subst, arith, codes}
 use Rattle.std.specs.Str.{bytes_eq}
 use Rattle.std.specs.Str.Parse.{digits_value}
 use Rattle.std.specs.Fmt.{decimal}
-use Rattle.std.proofs.lemmas.Bool.{cond-true, cond-false, false≢true, cases_Bool}
-use Rattle.std.proofs.lemmas.List.{append-nil, map-append, reverse-append}
-use Rattle.line_text.specs.Numbers.{is_number, number_of}
+use Rattle.std.proofs.lemmas.List.{reverse-append}
+use Rattle.line_text.specs.Numbers.{number_of}
 use Rattle.line_text.proofs.NumberLaws.{decimal-number_of, number_of-some}
 use Rattle.monotone_fn.specs.Shown.{tree_of}
-use Rattle.monotone_fn.specs.Tree.{Tree}
-use Rattle.monotone_fn.specs.declared.node.Node.{Node}
 use Rattle.monotone_fn.specs.declared.node.Node.TheVariants as nodes
 use Rattle.monotone_fn.specs.declared.costs.Costs.{Costs}
 use Rattle.query_text.specs.Bytes.{bytes_of}
-use Rattle.query_text.specs.Written.{Written, IsWeight}
+use Rattle.query_text.specs.Written.{Written}
 use Rattle.query_text.specs.Pieces.{Piece, IsInRange, names_in, with_member, each_once_after}
 use Rattle.query_text.specs.Query.{written, name_of, cost_digits, IsPlain}
-use Rattle.query_text.specs.Shape.{algorithm_word, algorithms}
-use Rattle.query_text.specs.Words.{opened_by, is_whole}
+use Rattle.query_text.specs.Words.{opened_by}
 use Rattle.query_text.specs.Front.{Argument, Front, Head, stage_of, class_of, next, shape_from, arguments_from, is_weighted, piece_at, operand_piece, operand_read, argument_read, begun, opened, all_done, algorithm_of, IsFine}
 use Rattle.query_text.specs.Front as front
-use Rattle.query_text.specs.Draft.{done_of, frame_of, IsFramePlain, AreFramesPlain, AddsArgument, Closes, names_of, frames_in, expr_in, head_in, unset, unopened, priced, front_of, IsDraftPlain, GoesOn, Takes}
+use Rattle.query_text.specs.Draft.{frame_of, IsFramePlain, AreFramesPlain, AddsArgument, Closes, names_of, frames_in, expr_in, head_in, unset, unopened, priced, front_of, Takes}
 use Rattle.query_text.specs.declared.frame.Frame.{Frame}
 use Rattle.query_text.specs.declared.draft.Draft.{Draft}
 use Rattle.query_text.specs.declared.algorithm.Algorithm.{Algorithm}
-use Rattle.query_text.specs.declared.algorithm.Algorithm.TheVariants.{Ta}
 use Rattle.query_text.specs.declared.operator.Operator.{Operator}
-use Rattle.query_text.specs.declared.stage.Stage.{Stage}
 use Rattle.query_text.specs.declared.stage.Stage.TheVariants as stages
 use Rattle.query_text.specs.declared.limits.TheConstants.{MAX_NUMBER, MAX_WEIGHT, MAX_LISTS}
 

@@ -1,16 +1,13 @@
 -- Each well-formed front begins some query text.
-use Rattle.std.proofs.Common.{◌≡◌, ℕ, Bool, true, false, cond, ◌&&◌, ◌||◌, eqb, eqb-true, List, [], ◌∷◌, ◌++◌, Option, Some, None, is_some, refl, sym, ap, ◌∙◌, subst, ⊎_elim, append_assoc, codes}
+use Rattle.std.proofs.Common.{◌≡◌, ℕ, true, eqb, eqb-true, List, [], ◌∷◌, ◌++◌, Option, Some, refl, sym, ap, ◌∙◌, subst, ⊎_elim, append_assoc, codes}
 use Rattle.std.specs.List.{list_any}
-use Rattle.std.specs.Str.{bytes_eq}
 use Rattle.std.proofs.lemmas.Bool.{and_parts, or_cases, false≢true, or_left, or_right}
 use Rattle.std.proofs.lemmas.List.{append-nil}
-use Rattle.line_text.specs.Numbers.{is_empty, is_number}
-use Rattle.line_text.specs.Names.{is_name}
 use Rattle.query_text.specs.Written.{Written}
-use Rattle.query_text.specs.Pieces.{Piece, text_of}
-use Rattle.query_text.specs.Shape.{Shape, IsShape, Begins, spelled, pieces_of}
-use Rattle.query_text.specs.Words.{Class, opened_by, is_front, begins, is_whole, class_at}
-use Rattle.query_text.specs.Front.{Argument, Frame, Head, Front, class_of, pieces_before, next, shape_at, all_done, arguments_from, IsFine}
+use Rattle.query_text.specs.Pieces.{text_of}
+use Rattle.query_text.specs.Shape.{Shape, Begins}
+use Rattle.query_text.specs.Words.{Class, is_front, begins, is_whole}
+use Rattle.query_text.specs.Front.{Frame, Head, Front, class_of, pieces_before, next, shape_at, all_done, arguments_from, IsFine}
 use Rattle.query_text.proofs.WordLaws.{bytes_same}
 use Rattle.query_text.proofs.FrontLaws.{text-next, fine-next, whole_at}
 

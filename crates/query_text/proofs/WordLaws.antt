@@ -1,16 +1,17 @@
 -- A front of what begins a word begins one too, and a word is read whole.
-use Rattle.std.proofs.Common.{◌≡◌, ◌≢◌, ℕ, suc, ◌+◌, ◌<◌, ◌≤◌, Bool, true, false, cond, ◌&&◌, ◌||◌, eqb, List, [], ◌∷◌, ◌++◌, length, take, drop, Option, Some, None, is_some, refl, sym, ap, ◌∙◌, subst, ⊎_elim, arith, rules, eq-eqb, eqb-true, append_assoc}
+use Rattle.std.proofs.Common.{◌≡◌, ℕ, ◌<◌, Bool, true, false, cond, ◌&&◌, ◌||◌, eqb, List, [], ◌∷◌, ◌++◌, length, map, Some, None, is_some, refl, sym, ap, ◌∙◌, subst, ⊎_elim, arith, eq-eqb, append_assoc}
 use Rattle.std.specs.List.{list_any, list_all, find}
 use Rattle.std.specs.Str.{bytes_eq, all_ascii_digits}
 use Rattle.std.specs.Char.{is_ascii_digit, is_ascii_alphabetic}
-use Rattle.std.proofs.lemmas.Bool.{and_parts, and_from, or_cases, or_left, or_right, or_parts, or_from, false≢true, cond-true, cond-false, ltb-true, lt-ltb}
+use Rattle.std.proofs.lemmas.Bool.{and_parts, and_from, or_cases, or_left, or_right, false≢true, cond-true, cond-false, ltb-true, lt-ltb}
 use Rattle.std.proofs.lemmas.List.{append-nil, length-append}
 use Rattle.std.proofs.lemmas.Slice.Eq.{bytes_eq-Decides}
 use Rattle.line_text.specs.Numbers.{is_empty, is_number}
 use Rattle.line_text.specs.Names.{is_name, is_name_byte}
-use Rattle.query_text.specs.Shape.{opening, Shape}
+use Rattle.query_text.specs.Shape.{algorithm_word, opening}
 use Rattle.query_text.specs.Words.{Class, operators, opened_by, is_front, begins, is_whole, class_at}
-use Rattle.query_text.specs.Front.{Front, class_of, next, shape_at, reads, stage_of, frames_of, is_inside}
+use Rattle.query_text.specs.Front.{Front, class_of, next, reads, stage_of, frames_of, is_inside}
+use Rattle.query_text.specs.declared.algorithm.Algorithm.{Algorithm}
 use Rattle.query_text.specs.declared.operator.Operator.{Operator}
 use Rattle.query_text.specs.declared.operator.Operator.TheVariants.{Min, Max, Sum, Median, Wsum}
 use Rattle.query_text.specs.declared.stage.Stage.{Stage}
@@ -18,6 +19,17 @@ use Rattle.query_text.specs.declared.stage.Stage.TheVariants as stages
 
 pub same_bytes : (xs ys : List ℕ) → bytes_eq xs ys ≡ true → xs ≡ ys
 same_bytes xs ys h = (bytes_eq-Decides xs ys).0 h
+
+-- a word is in the table where it is that of an algorithm
+pub algorithm_found : (w : List ℕ) (xs : List Algorithm)
+    → is_some (find (λ a. bytes_eq w (algorithm_word a)) xs) ≡ list_any (bytes_eq w) (map algorithm_word xs)
+algorithm_found w [] = refl
+algorithm_found w (a ∷ xs) = by_test (bytes_eq w (algorithm_word a)) (algorithm_found w xs)
+  where
+    by_test : (b : Bool) → is_some (find (λ x. bytes_eq w (algorithm_word x)) xs) ≡ list_any (bytes_eq w) (map algorithm_word xs)
+        → is_some (cond b (Some a) (find (λ x. bytes_eq w (algorithm_word x)) xs)) ≡ (b || list_any (bytes_eq w) (map algorithm_word xs))
+    by_test true h = refl
+    by_test false h = h
 
 pub bytes_same : (xs ys : List ℕ) → xs ≡ ys → bytes_eq xs ys ≡ true
 bytes_same xs ys h = (bytes_eq-Decides xs ys).1 h

@@ -1,5 +1,5 @@
 -- The syntax of a query text, word by word: which piece comes next, and which operators are open.
-use Rattle.std.specs.Prelude.{◌≡◌, ℕ, Bool, true, false, List, [], ◌∷◌, codes, Option, Some, None, reverse, map, if◌then◌else◌}
+use Rattle.std.specs.Prelude.{ℕ, Bool, true, false, List, [], ◌∷◌, codes, Option, Some, None, reverse, map, if◌then◌else◌}
 use Rattle.std.specs.Str.{bytes_eq}
 use Rattle.query_text.specs.Words.{opened_by}
 use Rattle.query_text.specs.Front.{Front, stage_of, frames_of, is_weighted}

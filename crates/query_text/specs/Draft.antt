@@ -1,15 +1,13 @@
 -- What the words of a query text mean, as far as they are read.
-use Rattle.std.specs.Prelude.{◌≡◌, ℕ, ◌<◌, ◌≤◌, Bool, true, List, [], ◌∷◌, ◌++◌, length, map, reverse, Option, Some, None, option_map, if◌then◌else◌}
+use Rattle.std.specs.Prelude.{◌≡◌, ℕ, ◌<◌, ◌≤◌, true, List, [], ◌∷◌, ◌++◌, length, map, reverse, Option, Some, None, option_map, if◌then◌else◌}
 use Rattle.std.specs.Str.{bytes_eq}
 use Rattle.std.specs.Fmt.{decimal}
 use Rattle.line_text.specs.Numbers.{is_number}
-use Rattle.monotone_fn.specs.Tree.{Tree, Trees, trees, terms}
+use Rattle.monotone_fn.specs.Tree.{Tree, trees, terms}
 use Rattle.monotone_fn.specs.Shown.{tree_of, term_of}
-use Rattle.monotone_fn.specs.declared.node.Node.{Node}
-use Rattle.monotone_fn.specs.declared.node.Term.{Term}
 use Rattle.monotone_fn.specs.declared.costs.Costs.{Costs}
 use Rattle.query_text.specs.Bytes.{bytes_of}
-use Rattle.query_text.specs.Written.{Written, Arguments, IsWeight}
+use Rattle.query_text.specs.Written.{Written, IsWeight}
 use Rattle.query_text.specs.Pieces.{Piece, IsInRange, names_in, with_member, each_once_after}
 use Rattle.query_text.specs.Query.{written, cost_digits, IsPlain, ArePlain, AreWeighed}
 use Rattle.query_text.specs.Words.{is_whole}
@@ -17,7 +15,6 @@ use Rattle.query_text.specs.Front.{Argument, Front, Head, stage_of, class_of, ne
 use Rattle.query_text.specs.Front as front
 use Rattle.query_text.specs.declared.frame.Frame.{Frame}
 use Rattle.query_text.specs.declared.draft.Draft.{Draft}
-use Rattle.query_text.specs.declared.operator.Operator.{Operator}
 use Rattle.query_text.specs.declared.stage.Stage.{Stage}
 use Rattle.query_text.specs.declared.stage.Stage.TheVariants as stages
 use Rattle.query_text.specs.declared.fault.QueryFault.{QueryFault}

@@ -1,5 +1,5 @@
 -- The query of a draft.
-use Rattle.std.specs.Prelude.{◌≡◌, ℕ, ◌<◌, ◌^◌, Option, Some, None, Result, Ok, Err, IfSome}
+use Rattle.std.specs.Prelude.{◌≡◌, ◌<◌, ◌^◌, Result, Ok, Err, IfSome}
 use Rattle.monotone_fn.specs.Shown.{tree_of}
 use Rattle.monotone_fn.specs.Limits.{IsExpr, Makes}
 use Rattle.monotone_fn.specs.declared.fault.ExprFault.TheVariants.{TooManyNodes as ManyNodes, TooDeep as Deep, TooBig as Big}

@@ -1,5 +1,5 @@
 -- Queries: what is printed of one, and which are lawful.
-use Rattle.std.specs.Prelude.{◌≡◌, ◌≢◌, ◌<◌, ◌≤◌, ℕ, map, List, [], ◌∷◌, ◌++◌, length, All, AllPairs, Option, Some, None, IfSome, option_map, slice_index_or}
+use Rattle.std.specs.Prelude.{◌≡◌, ◌≢◌, ◌<◌, ◌≤◌, ℕ, map, List, [], ◌∷◌, ◌++◌, length, All, AllPairs, Some, None, IfSome, option_map, slice_index_or}
 use Rattle.std.specs.Str.{bytes_eq}
 use Rattle.std.specs.Fmt.{decimal}
 use Rattle.line_text.specs.Names.{IsName}

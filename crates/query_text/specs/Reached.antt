@@ -1,5 +1,5 @@
 -- Where a reader of a query line stands, and what it knows.
-use Rattle.std.specs.Prelude.{◌≡◌, ℕ, ◌<◌, ◌≤◌, Bool, true, false, List, [], ◌∷◌, ◌++◌, length, take, drop, ◌+◌, Option, Some, None, Result, Ok, Err}
+use Rattle.std.specs.Prelude.{◌≡◌, ℕ, ◌≤◌, Bool, true, false, List, [], ◌∷◌, ◌++◌, length, take, drop, ◌+◌, Option, Some, None, Result, Ok, Err}
 use Rattle.query_text.specs.Pieces.{Piece, text_of, lists_in, AreFine, IsNumberFault, IsNameFault}
 use Rattle.query_text.specs.Shape.{Shape, IsShape, IsSyntaxFault, spelled, pieces_of}
 use Rattle.query_text.specs.Words.{class_at, is_whole, IsLongest}

@@ -9,14 +9,30 @@ ghost use Rattle.query_text.specs.Shape.{algorithm_word, algorithms};
 pub enum Algorithm {
     /// The threshold algorithm, `ta`.
     Ta,
+    /// The algorithm without random access, `nra`.
+    Nra,
+}
+
+/// The algorithms that a query may name.
+const ALGORITHMS: [Algorithm; 2] = [Algorithm::Ta, Algorithm::Nra];
+
+impl Algorithm {
+    /// The word that names it in a query.
+    pub(crate) fn word(self) -> &'static [u8]
+        ensures { result.now ≡ algorithm_word self }
+    {
+        match self {
+            Algorithm::Ta => b"ta",
+            Algorithm::Nra => b"nra",
+        }
+    }
 }
 
 /// The algorithm of a word, if it is the word of one.
 pub(crate) fn algorithm_of(word: &[u8]) -> Option<Algorithm>
     ensures { result ≡ find (λ algorithm. bytes_eq word.now (algorithm_word algorithm)) algorithms }
 {
-    if word == b"ta".as_slice() {
-        return Some(Algorithm::Ta);
-    }
-    None
+    ALGORITHMS
+        .into_iter()
+        .find(|algorithm| word == algorithm.word())
 }

@@ -1,9 +1,10 @@
 //! Query text: one line for each query, read and printed.
 //!
 //! ```text
-//! query = "top " number " by " expr " using " algorithm [ " cost " number " " number ] [ " room " number ]
-//! expr  = name | operator "(" expr { "," expr } ")" | "wsum(" term { "," term } ")"
-//! term  = number "*" expr
+//! query     = "top " number " by " expr " using " algorithm [ " cost " number " " number ] [ " room " number ]
+//! expr      = name | operator "(" expr { "," expr } ")" | "wsum(" term { "," term } ")"
+//! term      = number "*" expr
+//! algorithm = "ta" | "nra"
 //! ```
 //!
 //! A number is `0`, or a digit 1 to 9 followed by digits. A name is 1 to 32 bytes: an ASCII letter,

@@ -164,9 +164,7 @@ fn put_algorithm<K: Sink>(
 ) -> Result<(), Failed>
     ensures { Puts (K.held out.old) (K.held out.new) (K.faults out.old) (K.faults out.new) so_far result (algorithm_word algorithm) }
 {
-    match algorithm {
-        Algorithm::Ta => put(out, so_far, b"ta"),
-    }
+    put(out, so_far, algorithm.word())
 }
 
 /// Writes the costs, if there are any, behind what was written so far.

@@ -45,12 +45,16 @@ fn is_read(rt: &impl Abort, alloc: Global, line: &[u8]) -> Result<(), Fail> {
 
 #[test]
 fn syntax_faults(rt: HostRuntime) {
-    let rows: [(&[u8], u32); 22] = [
+    let rows: [(&[u8], u32); 27] = [
         (b"", 0),
         (b"top 01 by A using ta", 5),
         (b"top 1 by", 8),
         (b"top 1 by foo(A) using ta", 12),
-        (b"top 1 by A using nra", 17),
+        (b"top 1 by A using n", 18),
+        (b"top 1 by A using nr", 19),
+        (b"top 1 by A using ca", 17),
+        (b"top 1 by A using tb", 18),
+        (b"top 1 by A using nt", 18),
         (b"top 1 by A using ta ", 20),
         (b"top 0 by A using ta ", 20),
         (b"top 1 by A  using ta", 11),
@@ -65,6 +69,7 @@ fn syntax_faults(rt: HostRuntime) {
         (b"top 1 by sum(2*A) using ta", 13),
         (b"top 1 by wsum(A) using ta", 14),
         (b"top 1 by wsum(2*A,B) using ta", 18),
+        (b"top 1 by wsum(01*A) using ta", 15),
         (b"top 1 by _a using ta", 9),
         (b"top 1 by A using ta\n", 19),
         (b"top 1 by aaaaaaaaaaaaaaaaaaaaaaaaaaaaaaaaa using ta", 41),
@@ -147,8 +152,9 @@ fn limits_of_lines_and_expressions(rt: HostRuntime) -> Result<(), Fail> {
 
 #[test]
 fn reads_and_prints(rt: HostRuntime) -> Result<(), Fail> {
-    let lines: [&[u8]; 7] = [
+    let lines: [&[u8]; 8] = [
         b"top 1 by A using ta",
+        b"top 1 by A using nra",
         b"top 1000000 by min using ta cost 1 1",
         b"top 3 by max(min,sum,median,wsum,max) using ta cost 1000000 1000000 room 1000000",
         b"top 2 by wsum(0*A,2*median(B_2,A),9223372036852*B_2) using ta room 1",
@@ -158,6 +164,19 @@ fn reads_and_prints(rt: HostRuntime) -> Result<(), Fail> {
     ];
     for line in lines {
         is_read(&rt, rt.alloc(), line)?;
+    }
+    Ok(())
+}
+
+#[test]
+fn a_query_names_its_algorithm(rt: HostRuntime) -> Result<(), Fail> {
+    let rows: [(&[u8], Algorithm); 2] = [
+        (b"top 1 by A using ta", Algorithm::Ta),
+        (b"top 1 by A using nra", Algorithm::Nra),
+    ];
+    for (line, algorithm) in rows {
+        let query = read(rt.alloc(), line).ok().ok_or("read")?;
+        assert!(rt; query.algorithm == algorithm);
     }
     Ok(())
 }

@@ -6,6 +6,7 @@ ghost use Rattle.std.specs.Char.{is_ascii_digit};
 ghost use Rattle.line_text.specs.Names.{is_name_byte};
 ghost use Rattle.query_text.specs.Words.{Class, begins, is_whole, class_at, IsLongest, IsLongestName};
 
+use super::algorithm::{Algorithm, algorithm_of};
 use super::operator::opened_by;
 use super::stage::Stage;
 use line_text::is_name_byte;
@@ -85,7 +86,7 @@ pub(crate) fn longest(stage: Stage, inside: bool, text: &[u8]) -> usize
         Stage::Operand => operand_len(text),
         Stage::Behind => behind_len(inside, text),
         Stage::Times => common(b"*", text),
-        Stage::Algorithm => common(b"ta", text),
+        Stage::Algorithm => algorithm_len(text),
         Stage::Options => common(b" cost ", text).max(common(b" room ", text)),
         Stage::Between => common(b" ", text),
         Stage::Priced => common(b" room ", text),
@@ -94,6 +95,13 @@ pub(crate) fn longest(stage: Stage, inside: bool, text: &[u8]) -> usize
         }
         Stage::Done => 0,
     }
+}
+
+/// How many bytes of a text begin the word of an algorithm.
+fn algorithm_len(text: &[u8]) -> usize
+    ensures { IsLongest (class_at Stage.Algorithm false) text.now result }
+{
+    common(Algorithm::Ta.word(), text).max(common(Algorithm::Nra.word(), text))
 }
 
 /// How many bytes of a text begin what may stand behind an operand.
@@ -117,7 +125,7 @@ pub(crate) fn is_whole(stage: Stage, inside: bool, word: &[u8]) -> bool
         Stage::By => word == b" by ".as_slice(),
         Stage::Behind => is_whole_behind(inside, word),
         Stage::Times => word == b"*".as_slice(),
-        Stage::Algorithm => word == b"ta".as_slice(),
+        Stage::Algorithm => algorithm_of(word).is_some(),
         Stage::Options => word == b" cost ".as_slice() || word == b" room ".as_slice(),
         Stage::Between => word == b" ".as_slice(),
         Stage::Priced => word == b" room ".as_slice(),

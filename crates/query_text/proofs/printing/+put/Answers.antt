@@ -1,4 +1,4 @@
-use Rattle.std.proofs.Common.{subst, sym, ap, ◌∙◌, ◌++◌, codes, arith, rules}
+use Rattle.std.proofs.Common.{subst, sym, codes, arith, rules}
 use Rattle.monotone_fn.specs.Shown.{tree_of, term_of}
 use Rattle.query_text.specs.Printing.{Puts}
 use Rattle.query_text.proofs.PutLaws.{puts_then, nodes_step, nodes_end, terms_step, terms_end, depth_at, depth_of_term}

@@ -1,4 +1,4 @@
-use Rattle.std.proofs.Common.{◌≡◌, ◌+◌, ◌*◌, ◌≤◌, ◌++◌, take, map, codes}
+use Rattle.std.proofs.Common.{◌+◌, ◌*◌, ◌++◌, take, map, codes}
 use Rattle.monotone_fn.specs.Tree.{trees, terms}
 use Rattle.monotone_fn.specs.Shape.{depth, depth_in, depth_under}
 use Rattle.monotone_fn.specs.Shown.{tree_of}

@@ -1,4 +1,4 @@
-use Rattle.std.proofs.Common.{subst, sym, ap, ◌∙◌}
+use Rattle.std.proofs.Common.{subst, ap, ◌∙◌}
 use Rattle.std.specs.List.{slice_get}
 use Rattle.query_text.specs.Printing.{Puts}
 use Rattle.query_text.proofs.PutLaws.{name_past}

@@ -1,4 +1,4 @@
-use Rattle.std.proofs.Common.{subst, sym, ap, ◌∙◌, ◌++◌, codes}
+use Rattle.std.proofs.Common.{subst, ◌∙◌, ◌++◌, codes}
 use Rattle.std.specs.Fmt.{decimal}
 use Rattle.query_text.specs.Pieces.{text_of}
 use Rattle.query_text.specs.Shape.{expr_pieces, algorithm_word}

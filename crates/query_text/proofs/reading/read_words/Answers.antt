@@ -1,4 +1,4 @@
-use Rattle.std.proofs.Common.{refl, sym, ap, subst, ◌∙◌, arith, take, drop, length}
+use Rattle.std.proofs.Common.{sym, ap, subst, ◌∙◌, arith, take, drop}
 use Rattle.query_text.specs.Reached.{Reached}
 use Rattle.query_text.proofs.ReadLaws.{reach_start, reach-next, reach_refused, reach_draft, reach_fault}
 use Rattle.query_text.proofs.reading.read_words.Goals as goal

@@ -1,7 +1,5 @@
-use Rattle.std.proofs.Common.{◌-◌, ◌+◌, ◌≤◌, length}
+use Rattle.std.proofs.Common.{◌-◌, length}
 use Rattle.query_text.specs.Reached.{Reached}
-use Rattle.query_text.proofs.ReachLaws.{refused}
-use Rattle.query_text.proofs.StateLaws.{drafts-next}
 use Rattle.query_text.proofs.reading.read_words.Given as goal
 
 abbrev pub invariant-loop-at : goal.invariant-loop-at

@@ -1,4 +1,4 @@
-use Rattle.std.proofs.Common.{refl, sym, ap, subst, ◌∙◌}
+use Rattle.std.proofs.Common.{refl, sym, ◌∙◌}
 use Rattle.std.proofs.lemmas.Bool.{cond-true}
 use Rattle.query_text.proofs.TakeLaws.{takes_times}
 use Rattle.query_text.proofs.draft.Draft.take_times.Goals as goal
