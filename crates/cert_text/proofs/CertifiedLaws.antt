@@ -1,17 +1,17 @@
 -- What is written of an answer is a certificate.
-use Rattle.std.proofs.Common.{◌≡◌, ℕ, ◌+◌, ◌*◌, ◌<◌, ◌≤◌, ◌^◌, max, zero, suc, not, List, [], ◌∷◌, length, map, fold, filter_map, Option, Some, None, refl, sym, ap, subst, ◌∙◌, arith, count_by}
-use Rattle.std.specs.List.{All, cons_option}
+use Rattle.std.proofs.Common.{◌≡◌, ℕ, ◌+◌, ◌*◌, ◌<◌, ◌≤◌, ◌^◌, zero, suc, not, List, [], ◌∷◌, length, filter_map, Option, Some, None, refl, sym, ap, subst, ◌∙◌, arith}
+use Rattle.std.specs.List.{cons_option}
 use Rattle.std.proofs.Math.Nat.{mul-le-mul}
 use Rattle.std.proofs.lemmas.List.Sums.{count_by-le-length}
 use Rattle.std.proofs.lemmas.List.Elements.{All-weaker}
 use Rattle.line_text.specs.Lines.{lines}
 use Rattle.topk_theory.specs.declared.access.Access.{Access}
-use Rattle.topk_theory.specs.Transcript.{depth, depth_of, sorted_row, is_sorted, sorted_count, random_count, cost, list_of}
+use Rattle.topk_theory.specs.Transcript.{depth, depth_of, sorted_row, is_sorted, sorted_count, random_count}
 use Rattle.access_log.specs.declared.answer.Answer.{Answer}
 use Rattle.query_text.specs.declared.query.Query.{Query}
 use Rattle.cert_text.specs.declared.outcome.Outcome.TheVariants.{Answered}
-use Rattle.cert_text.specs.Certificate.{IsAccess, IsCertificate, certificate_lines}
-use Rattle.cert_text.specs.Outcome.{costs_of, certificate_of, outcome_text, HasCost, IsCertified}
+use Rattle.cert_text.specs.Certificate.{IsAccess, IsCertificate}
+use Rattle.cert_text.specs.Outcome.{costs_of, certificate_of, outcome_text, IsCertified}
 use Rattle.cert_text.specs.Reading.{Spells}
 use Rattle.cert_text.proofs.CountLaws.{list_count_names}
 use Rattle.cert_text.proofs.FigureLaws.{depth_more}

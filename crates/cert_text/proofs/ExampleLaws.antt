@@ -1,5 +1,5 @@
 -- There is a query, and so there is a certificate.
-use Rattle.std.proofs.Common.{◌≡◌, ◌≢◌, ℕ, ◌<◌, ◌≤◌, List, [], ◌∷◌, length, codes, None, Ok, refl, sym, subst, arith}
+use Rattle.std.proofs.Common.{◌≡◌, ℕ, ◌<◌, ◌≤◌, List, [], ◌∷◌, length, codes, None, Ok, refl, sym, subst, arith}
 use Rattle.std.specs.List.{Contains}
 use Rattle.std.proofs.lemmas.List.Elements.{All-nil, All-cons}
 use Rattle.line_text.specs.Names.{IsName}
@@ -14,7 +14,6 @@ use Rattle.monotone_fn.specs.declared.limits.TheConstants.{MAX_VALUE}
 use Rattle.cert_text.specs.Certificate.{number_line, query_line, count_line, stop_line}
 use Rattle.cert_text.specs.Judging.{Leads, SpellsQueried}
 use Rattle.cert_text.specs.Reading.{Spells}
-use Rattle.cert_text.proofs.JudgingLaws.{Steps}
 use Rattle.cert_text.proofs.LineLaws.{number_in-line}
 use Rattle.cert_text.proofs.QueryLength.{length-printed}
 use Rattle.cert_text.proofs.SpellLaws.{nothing, whole, counted_spelled, steps_number}

@@ -1,5 +1,5 @@
 -- What is printed of a transcript, computed.
-use Rattle.std.proofs.Common.{◌≡◌, ℕ, ◌+◌, max, List, [], ◌∷◌, ◌++◌, map, fold, get_or, Option, Some, None, Bor, option_map, unwrap_or, refl, sym, ap, ◌∙◌, arith}
+use Rattle.std.proofs.Common.{◌≡◌, ℕ, ◌+◌, max, List, [], ◌∷◌, map, fold, get_or, Option, Some, None, Bor, option_map, unwrap_or, refl, ap, ◌∙◌, arith}
 use Rattle.std.specs.List.{slice_get, range_with_len}
 use Rattle.std.proofs.lemmas.Option.{unwrap_or-slice_get}
 use Rattle.std.proofs.lemmas.List.Sums.{fold-append}

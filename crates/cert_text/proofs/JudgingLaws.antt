@@ -1,10 +1,10 @@
 -- Judging line by line.
-use Rattle.std.proofs.Common.{◌≡◌, ℕ, suc, ◌+◌, ◌<◌, ◌≤◌, List, [], ◌∷◌, ◌++◌, length, take, Result, Ok, Err, refl, sym, ap, subst, ◌∙◌, arith}
+use Rattle.std.proofs.Common.{◌≡◌, ℕ, suc, ◌+◌, List, [], ◌∷◌, ◌++◌, take, Result, Ok, Err, sym, ap, subst, ◌∙◌, arith}
 use Rattle.line_text.specs.Lines.{lines}
 use Rattle.line_text.proofs.LineLaws.{lines-nil}
 use Rattle.cert_text.specs.declared.fault.CertFault.{CertFault}
 use Rattle.cert_text.specs.declared.fault.CertFault.TheVariants.{BadLine, Memory}
-use Rattle.cert_text.specs.Judging.{Spelled, Leads, IsFault, Judges, Finds}
+use Rattle.cert_text.specs.Judging.{Leads, IsFault, Judges, Finds}
 
 -- no value is spelled by lines that begin with this one
 pub judges_here : {X : Type 0} (S : List (List ℕ) → X → Type 0) (line : List ℕ) (ls : List (List ℕ)) → Leads S []

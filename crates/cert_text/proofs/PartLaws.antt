@@ -1,6 +1,6 @@
 -- What the reading of one line means.
-use Rattle.std.proofs.Common.{◌≡◌, ◌≢◌, ℕ, ◌<◌, ◌≤◌, ◌^◌, Bool, true, false, cond, List, [], ◌∷◌, ◌++◌, length, get_or, codes, Option, Some, None, refl, sym, ap, subst, ◌∙◌, arith, le-leb, lt-ltb, le-ltb, ◌&&◌, nat_lt, nat_le}
-use Rattle.std.specs.List.{All, position, list_all}
+use Rattle.std.proofs.Common.{◌≡◌, ◌≢◌, ℕ, ◌<◌, ◌≤◌, ◌^◌, Bool, true, false, cond, List, [], ◌∷◌, ◌++◌, length, Option, Some, None, refl, sym, ap, subst, ◌∙◌, arith, le-leb, lt-ltb, le-ltb, ◌&&◌, nat_lt, nat_le}
+use Rattle.std.specs.List.{All, list_all}
 use Rattle.std.specs.Str.{bytes_eq}
 use Rattle.std.specs.Char.{is_ascii_alphabetic}
 use Rattle.std.specs.Fmt.{decimal}
@@ -11,14 +11,14 @@ use Rattle.std.proofs.lemmas.List.Sums.{position_or_len_is}
 use Rattle.std.proofs.lemmas.List.Quantifiers.{position-Some}
 use Rattle.std.proofs.lemmas.List.Elements.{All-weaker, All-nil, All-cons, All-get_or}
 use Rattle.std.proofs.lemmas.Slice.Eq.{bytes_eq-Decides}
-use Rattle.line_text.specs.Cuts.{cut_at, rest_after}
-use Rattle.line_text.specs.Names.{is_name, is_name_byte, IsName}
+use Rattle.line_text.specs.Cuts.{cut_at}
+use Rattle.line_text.specs.Names.{is_name_byte, IsName}
 use Rattle.line_text.specs.Numbers.{number_up_to}
-use Rattle.line_text.proofs.CutLaws.{cut_at-append, cut_at-some, rest_after-some}
+use Rattle.line_text.proofs.CutLaws.{cut_at-append, cut_at-some}
 use Rattle.line_text.proofs.NumberLaws.{up_to-decimal, decimal-up_to, up_to-some, decimal_bytes}
 use Rattle.query_text.specs.Query.{name_of}
 use Rattle.cert_text.specs.Judging.{AreNames}
-use Rattle.cert_text.specs.Parts.{number_within, number_before, list_named, top_32, top_64}
+use Rattle.cert_text.specs.Parts.{number_within, number_before, list_named}
 
 -- what a step of reading took
 pub bind_some : {A B : Type 0} (o : Option A) (f : A → Option B) (y : B) → option_and_then f o ≡ Some y → (x : A) × (o ≡ Some x) × (f x ≡ Some y)

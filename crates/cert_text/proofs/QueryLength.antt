@@ -1,5 +1,5 @@
 -- The text of a lawful query is no longer than a query line may be.
-use Rattle.std.proofs.Common.{◌≡◌, ℕ, ◌+◌, ◌*◌, ◌<◌, ◌≤◌, ◌^◌, ◌⊎◌, inl, inr, Bool, true, false, ◌&&◌, List, [], ◌∷◌, ◌++◌, length, codes, nat_lt, Option, Some, None, IfSome, option_map, refl, sym, ap, ◌∙◌, ⊎_elim, arith, length-append}
+use Rattle.std.proofs.Common.{◌≡◌, ℕ, ◌+◌, ◌*◌, ◌<◌, ◌≤◌, ◌&&◌, List, [], ◌∷◌, ◌++◌, length, codes, nat_lt, Option, Some, None, IfSome, option_map, ap, ◌∙◌, ⊎_elim, arith, length-append}
 use Rattle.std.specs.List.{All, list_all}
 use Rattle.std.specs.Char.{is_ascii_alphabetic}
 use Rattle.std.specs.Fmt.{decimal}
@@ -15,11 +15,11 @@ use Rattle.monotone_fn.specs.Limits.{IsExpr}
 use Rattle.monotone_fn.specs.declared.costs.Costs.{Costs}
 use Rattle.query_text.specs.Written.{Written, Arguments}
 use Rattle.query_text.specs.Pieces.{Piece, piece_text, text_of}
-use Rattle.query_text.specs.Shape.{weight_pieces, expr_pieces, argument_pieces, further_pieces, front_pieces, algorithm_word, algorithm_pieces, cost_pieces, room_pieces, spelled}
-use Rattle.query_text.specs.Query.{name_of, written, arguments, weighted, cost_digits, shape_of, printed, IsPlain, ArePlain, AreWeighed, IsCount, IsLawful}
+use Rattle.query_text.specs.Shape.{weight_pieces, expr_pieces, argument_pieces, further_pieces, front_pieces, algorithm_word, algorithm_pieces, cost_pieces, room_pieces}
+use Rattle.query_text.specs.Query.{name_of, written, arguments, weighted, cost_digits, printed, IsPlain, ArePlain, AreWeighed, IsCount, IsLawful}
 use Rattle.query_text.specs.declared.query.Query.{Query}
 use Rattle.query_text.specs.declared.algorithm.Algorithm.{Algorithm}
-use Rattle.query_text.specs.declared.algorithm.Algorithm.TheVariants.{Ta}
+use Rattle.query_text.specs.declared.algorithm.Algorithm.TheVariants.{Ta, Nra}
 use Rattle.query_text.specs.declared.limits.TheConstants.{MAX_LINE, MAX_WEIGHT}
 
 -- how long the text of pieces is
@@ -103,6 +103,7 @@ mutual
 
 word_short : (algorithm : Algorithm) → length (algorithm_word algorithm) ≤ 8
 word_short Ta = omega arith
+word_short Nra = omega arith
 
 algorithm_size : (algorithm : Algorithm) → size (algorithm_pieces algorithm) ≤ 15
 algorithm_size algorithm = omega (arith, length-append (algorithm_word algorithm) [], word_short algorithm)

@@ -1,18 +1,15 @@
 -- Each line of a certificate, judged before the lines that follow it.
-use Rattle.std.proofs.Common.{◌≡◌, ◌≢◌, ℕ, ◌<◌, ◌≤◌, ◌^◌, List, [], ◌∷◌, ◌++◌, length, map, codes, Option, Some, None, Ok, refl, sym, ap, subst, ◌∙◌, arith, ◌+◌, append-nil, append_assoc}
-use Rattle.std.specs.List.{All}
+use Rattle.std.proofs.Common.{◌≡◌, ◌≢◌, ℕ, List, [], ◌∷◌, ◌++◌, length, map, codes, Some, None, refl, sym, ap, subst, ◌∙◌, arith, ◌+◌, append-nil, append_assoc}
 use Rattle.std.proofs.lemmas.Option.{same_Some}
 use Rattle.std.proofs.lemmas.List.Elements.{All-nil, All-cons, All-head, All-tail}
 use Rattle.ranked_list.specs.declared.item.Item.{Item}
 use Rattle.topk_theory.specs.declared.access.Access.{Access}
 use Rattle.query_text.specs.declared.query.Query.{Query}
-use Rattle.query_text.specs.Query.{printed}
-use Rattle.query_text.specs.Reading.{Reads}
 use Rattle.cert_text.specs.declared.certificate.Certificate.{Certificate}
 use Rattle.cert_text.specs.declared.parts.Figures.{Figures}
-use Rattle.cert_text.specs.Certificate.{number_line, query_line, count_line, answer_line, stop_line, access_line, access_lines, certificate_lines, IsItem, IsAccess}
+use Rattle.cert_text.specs.Certificate.{number_line, query_line, count_line, answer_line, stop_line, access_line, access_lines, IsItem, IsAccess}
 use Rattle.cert_text.specs.Parts.{number_in, count_in, item_in, figures_in, access_in}
-use Rattle.cert_text.specs.Judging.{Leads, AreNames, AreFigures, Found, FindsQuery, SpellsNone, SpellsAccesses, SpellsFound, SpellsCounted, SpellsQueried}
+use Rattle.cert_text.specs.Judging.{Leads, AreNames, Found, FindsQuery, SpellsNone, SpellsAccesses, SpellsFound, SpellsCounted, SpellsQueried}
 use Rattle.cert_text.specs.Reading.{Spells}
 use Rattle.cert_text.proofs.LineLaws.{number_in-line, number_in-some, count_in-line, count_in-some, item_in-line, item_in-some, figures_in-line, figures_in-some, access_in-line, access_in-some, access_in-end, item_in-stop, figures_in-answer}
 use Rattle.cert_text.proofs.JudgingLaws.{Steps, Carries, carries_none, carries_more}

@@ -1,13 +1,12 @@
 -- One text written after another.
-use Rattle.std.proofs.Common.{◌≡◌, inl, inr, ℕ, drop, ◌≤◌, ◌<◌, ◌+◌, List, [], ◌∷◌, ◌++◌, length, take, get_or, map, Option, Some, None, Result, Ok, Err, OnOk, OnErr, IsErr, refl, sym, ap, ◌∙◌, subst, append_assoc, append-nil, arith}
+use Rattle.std.proofs.Common.{◌≡◌, inl, inr, ℕ, drop, ◌≤◌, ◌<◌, ◌+◌, List, [], ◌∷◌, ◌++◌, length, take, get_or, map, Option, Some, None, Result, Ok, Err, IsErr, refl, sym, ap, ◌∙◌, subst, append_assoc, append-nil, arith}
 use Rattle.std.specs.List.{flat_map, slice_get}
 use Rattle.line_text.specs.Lines.{unlines}
 use Rattle.std.proofs.lemmas.Option.{slice_get_within, get_or_from_slice_get, slice_get_cases}
 use Rattle.std.proofs.lemmas.List.{take_more, map-append, take-append-drop, take_all}
 use Rattle.std.proofs.lemmas.Grind.{flat_map-append}
 use Rattle.std.specs.Io.KnownBytes.{Appends}
-use Rattle.tk_io.specs.Faults.{HasCause, Rose}
-use Rattle.tk_io.specs.Whole.{TookFront}
+use Rattle.tk_io.specs.Faults.{Rose}
 use Rattle.cert_text.specs.Certificate.{spaced}
 use Rattle.cert_text.specs.Writing.{Writes, further}
 

@@ -1,5 +1,5 @@
 -- What one line of a certificate says, where it says it, as the crate's inner functions read it.
-use Rattle.std.specs.Prelude.{ℕ, Bool, true, false, List, codes, Option, Some, None, option_and_then, if◌then◌else◌, nat_le, position}
+use Rattle.std.specs.Prelude.{ℕ, List, codes, Option, Some, None, option_and_then, if◌then◌else◌, nat_le, position}
 use Rattle.std.specs.Str.{bytes_eq}
 use Rattle.line_text.specs.Cuts.{cut_at, rest_after}
 use Rattle.line_text.specs.Numbers.{number_up_to}

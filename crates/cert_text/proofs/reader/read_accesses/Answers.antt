@@ -1,4 +1,4 @@
-use Rattle.std.proofs.Common.{◌≡◌, ◌≢◌, ℕ, ◌+◌, [], ◌∷◌, ◌++◌, codes, sym, ◌∙◌, ap, arith, rules}
+use Rattle.std.proofs.Common.{◌≡◌, ◌≢◌, ◌+◌, [], ◌∷◌, ◌++◌, codes, sym, arith}
 use Rattle.line_text.specs.Lines.{lines}
 use Rattle.cert_text.specs.Judging.{SpellsNone, SpellsAccesses}
 use Rattle.cert_text.proofs.JudgingLaws.{finds_same, finds_here, judged_here, judged_end}

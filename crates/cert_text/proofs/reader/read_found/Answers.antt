@@ -1,6 +1,6 @@
 use Rattle.std.specs.Global.{Vec}
 use Rattle.topk_theory.specs.declared.access.Access.{Access}
-use Rattle.std.proofs.Common.{◌≡◌, ℕ, ◌+◌, [], ◌∷◌, ◌++◌, Ok, sym, ◌∙◌, ap, arith, rules}
+use Rattle.std.proofs.Common.{◌≡◌, ◌+◌, [], ◌∷◌, ◌++◌, Ok, sym, arith}
 use Rattle.std.proofs.lemmas.Result.{err_from_is_err_and}
 use Rattle.line_text.specs.Lines.{lines}
 use Rattle.cert_text.specs.Judging.{SpellsAccesses, SpellsFound, found_of}

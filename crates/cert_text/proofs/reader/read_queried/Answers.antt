@@ -1,4 +1,4 @@
-use Rattle.std.proofs.Common.{ℕ, ◌+◌, Ok, refl, sym}
+use Rattle.std.proofs.Common.{ℕ, ◌+◌, Ok, refl}
 use Rattle.std.proofs.lemmas.Result.{err_from_is_err_and}
 use Rattle.line_text.specs.Lines.{lines}
 use Rattle.query_text.specs.declared.query.Query.{Query}

@@ -1,4 +1,4 @@
-use Rattle.std.proofs.Common.{ℕ, List, [], ◌∷◌, ◌++◌, map, codes}
+use Rattle.std.proofs.Common.{[], ◌∷◌, ◌++◌, map, codes}
 use Rattle.std.specs.Fmt.{decimal}
 use Rattle.cert_text.specs.Outcome.{refused_words}
 use Rattle.cert_text.specs.Writing.{further, word_text}

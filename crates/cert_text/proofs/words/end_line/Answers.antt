@@ -1,4 +1,4 @@
-use Rattle.std.proofs.Common.{ℕ, [], ◌∷◌, map}
+use Rattle.std.proofs.Common.{[], ◌∷◌, map}
 use Rattle.cert_text.specs.Writing.{further, word_text}
 use Rattle.cert_text.proofs.WritingLaws.{Writes-fail, Writes-then}
 use Rattle.cert_text.proofs.words.end_line.Goals as goal

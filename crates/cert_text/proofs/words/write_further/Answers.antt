@@ -1,4 +1,4 @@
-use Rattle.std.proofs.Common.{ℕ, [], ◌∷◌}
+use Rattle.std.proofs.Common.{[], ◌∷◌}
 use Rattle.cert_text.specs.Writing.{word_text}
 use Rattle.cert_text.proofs.WritingLaws.{Writes-fail, Writes-then}
 use Rattle.cert_text.proofs.words.write_further.Goals as goal

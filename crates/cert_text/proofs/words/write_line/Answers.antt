@@ -1,4 +1,4 @@
-use Rattle.std.proofs.Common.{ℕ, [], ◌∷◌, ◌++◌, map, append_assoc}
+use Rattle.std.proofs.Common.{[], ◌∷◌, ◌++◌, map, append_assoc}
 use Rattle.cert_text.specs.Writing.{further, word_text}
 use Rattle.cert_text.proofs.WritingLaws.{spaced-cons, Writes-fail, Writes-then}
 use Rattle.cert_text.proofs.words.write_line.Goals as goal

@@ -1,4 +1,4 @@
-use Rattle.std.proofs.Common.{ℕ, List, [], ◌∷◌, ◌++◌, map}
+use Rattle.std.proofs.Common.{[], ◌∷◌, ◌++◌, map}
 use Rattle.line_text.specs.Lines.{unlines}
 use Rattle.cert_text.specs.Certificate.{number_line, query_line, count_line, answer_line, access_lines}
 use Rattle.cert_text.specs.Outcome.{figures_line}

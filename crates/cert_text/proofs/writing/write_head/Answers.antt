@@ -1,4 +1,4 @@
-use Rattle.std.proofs.Common.{ℕ, List, [], ◌∷◌, ◌++◌, append-nil}
+use Rattle.std.proofs.Common.{[], ◌∷◌, ◌++◌, append-nil}
 use Rattle.line_text.specs.Lines.{unlines}
 use Rattle.cert_text.specs.Certificate.{number_line, query_line, count_line}
 use Rattle.cert_text.proofs.WritingLaws.{Writes-as, Writes-fail, Writes-then}

@@ -1,4 +1,4 @@
-use Rattle.std.proofs.Common.{ℕ, [], ◌∷◌, ◌++◌, codes}
+use Rattle.std.proofs.Common.{[], ◌∷◌, ◌++◌, codes}
 use Rattle.query_text.specs.Query.{printed}
 use Rattle.cert_text.proofs.WritingLaws.{Writes-fail, Writes-then}
 use Rattle.cert_text.proofs.writing.write_query_line.Goals as goal

@@ -1,4 +1,4 @@
-use Rattle.std.proofs.Common.{ℕ, List, [], ◌∷◌, ◌++◌, map, codes, ap}
+use Rattle.std.proofs.Common.{[], ◌∷◌, ◌++◌, map, codes}
 use Rattle.line_text.specs.Lines.{unlines}
 use Rattle.cert_text.specs.Certificate.{access_line, access_lines}
 use Rattle.cert_text.specs.Outcome.{figures_line}
