@@ -1,5 +1,5 @@
 -- What becomes of a query over the lists that it names.
-use Rattle.std.proofs.Common.{◌≡◌, ℕ, ◌<◌, ◌≤◌, ◌^◌, min, inl, inr, List, [], ◌∷◌, length, All, Contains, Option, Some, None, Ok, Err, IfSome, unwrap_or, refl, sym, ap, ◌∙◌, subst, arith}
+use Rattle.std.proofs.Common.{◌≡◌, ℕ, ◌<◌, ◌≤◌, ◌^◌, min, List, [], length, All, Contains, Option, Some, None, Ok, IfSome, unwrap_or, sym, ap, ◌∙◌, subst, arith}
 use Rattle.ranked_list.specs.declared.row.Row.{Row}
 use Rattle.ranked_list.specs.declared.item.Item.{Item}
 use Rattle.ranked_list.specs.Table.{IsTable, IsRanked, objects}
@@ -9,34 +9,32 @@ use Rattle.monotone_fn.specs.Value.{value}
 use Rattle.monotone_fn.specs.Shape.{list_count}
 use Rattle.topk_theory.specs.declared.access.Access.{Access}
 use Rattle.topk_theory.specs.Aggregate.{IsTop}
-use Rattle.topk_theory.specs.Transcript.{Agrees, list_at, seen_objects}
+use Rattle.topk_theory.specs.Transcript.{Agrees, seen_objects}
 use Rattle.topk_theory.specs.Fixes.{Fixes}
-use Rattle.topk_theory.specs.Threshold.{IsAsked, ta_run, ta_answer, item_objects}
-use Rattle.topk_theory.proofs.AgreementLists.{contains_at, all_from_members, member_of_all}
+use Rattle.topk_theory.specs.Threshold.{IsAsked, item_objects}
+use Rattle.topk_theory.proofs.AgreementLists.{all_from_members, member_of_all}
 use Rattle.topk_theory.proofs.AgreementRows.{list_at_length}
 use Rattle.topk_theory.proofs.Agreement.{agrees_none}
 use Rattle.access_log.specs.Log.{Log}
 use Rattle.access_log.specs.declared.answer.Answer.{Answer}
 use Rattle.query_text.specs.declared.query.Query.{Query}
-use Rattle.query_text.specs.declared.algorithm.Algorithm.{Algorithm}
-use Rattle.query_text.specs.declared.algorithm.Algorithm.TheVariants.{Ta}
-use Rattle.query_text.specs.Query.{IsLawful, IsCount}
+use Rattle.query_text.specs.Query.{IsCount}
 use Rattle.query_text.specs.Reading.{Reads}
 use Rattle.cert_text.specs.declared.outcome.Outcome.TheVariants.{Answered, Refused}
 use Rattle.cert_text.specs.declared.refusal.Refusal.{Refusal}
 use Rattle.cert_text.specs.declared.refusal.Refusal.TheVariants.{LongLine, Syntax, Number, TooManyLists, TooManyNodes, TooDeep, TooBig, UnknownList, KAboveCount, Strangers, RoomFull}
 use Rattle.cert_text.specs.Refusal.{refused_lists}
-use Rattle.cert_text.specs.Outcome.{HasCost, costs_of}
-use Rattle.ta_core.specs.Machine.{Machine}
+use Rattle.access_log.specs.Machine.{Machine}
 use Rattle.topk_top.specs.Driving.{AnswersOver, run_sees}
 use Rattle.topk_top.specs.Named.{count_of, AreNamed}
-use Rattle.topk_top.specs.OneAnswer.{run_by, items_by, one_run, one_answer, IsOverRoom, IsOneAnswer}
+use Rattle.topk_top.specs.OneAnswer.{run_by, items_by, one_run, HasTrueBounds, IsOneAnswer}
 use Rattle.topk_top.specs.Becomes.{RefusesText}
 use Rattle.topk_top.specs.Outcomes.{IsMachineFor, BecomesOf}
 use Rattle.topk_top.proofs.Feeding.{monotone}
 use Rattle.topk_top.proofs.Naming.{named_lists_are, named_many}
 use Rattle.topk_top.proofs.ListCount.{lists_counted}
 use Rattle.topk_top.proofs.RunLength.{run_short}
+use Rattle.topk_top.proofs.Bounded.{items_true}
 
 -- some lists of a table are a table
 table_within : (n : ℕ) (lists D : List (List Row)) → IsTable n lists → ((rows : List Row) → Contains D rows → Contains lists rows) → IsTable n D
@@ -82,27 +80,21 @@ machine_agrees c q t D bundle reads named fits made =
     (subst (λ n. Agrees t.log.lists n D []) (sym made.count)
     (subst (λ m. Agrees m (count_of c) D []) many (agrees_none (count_of c) D table)))
 
--- the algorithm's run and items; there is one algorithm
-run_is : (algorithm : Algorithm) (V : List ℕ → ℕ) (k : ℕ) (D : List (List Row)) → ta_run V k D ≡ run_by algorithm V k D
-run_is Ta V k D = refl
-
-items_are : (algorithm : Algorithm) (V : List ℕ → ℕ) (k : ℕ) (D : List (List Row)) → ta_answer V k D ≡ items_by algorithm V k D
-items_are Ta V k D = refl
-
-machine_run : (q : Query) (n : ℕ) (t : Machine) (D : List (List Row)) → IsMachineFor q n t → ta_run (value t.expr) t.k D ≡ one_run q D
+-- what the query's machine makes is what the query's one run and one answer are
+machine_run : (q : Query) (n : ℕ) (t : Machine) (D : List (List Row)) → IsMachineFor q n t → run_by q.algorithm (value t.expr) t.k D ≡ one_run q D
 machine_run q n t D made =
-    ap (λ e. ta_run (value e) t.k D) made.expr ∙ ap (λ k. ta_run (value q.expr) k D) made.k ∙ run_is q.algorithm (value q.expr) q.k D
+    ap (λ e. run_by q.algorithm (value e) t.k D) made.expr ∙ ap (λ k. run_by q.algorithm (value q.expr) k D) made.k
 
-machine_items : (q : Query) (n : ℕ) (t : Machine) (D : List (List Row)) → IsMachineFor q n t → ta_answer (value t.expr) t.k D ≡ items_by q.algorithm (value q.expr) q.k D
+machine_items : (q : Query) (n : ℕ) (t : Machine) (D : List (List Row)) → IsMachineFor q n t → items_by q.algorithm (value t.expr) t.k D ≡ items_by q.algorithm (value q.expr) q.k D
 machine_items q n t D made =
-    ap (λ e. ta_answer (value e) t.k D) made.expr ∙ ap (λ k. ta_answer (value q.expr) k D) made.k ∙ items_are q.algorithm (value q.expr) q.k D
+    ap (λ e. items_by q.algorithm (value e) t.k D) made.expr ∙ ap (λ k. items_by q.algorithm (value q.expr) k D) made.k
 
-machine_sees : (q : Query) (n : ℕ) (t : Machine) (D : List (List Row)) → IsMachineFor q n t → length (run_sees D t) ≡ length (seen_objects (one_run q D))
+machine_sees : (q : Query) (n : ℕ) (t : Machine) (D : List (List Row)) → IsMachineFor q n t → length (run_sees q.algorithm D t) ≡ length (seen_objects (one_run q D))
 machine_sees q n t D made = ap (λ A. length (seen_objects A)) (machine_run q n t D made)
 
 -- what is answered over the lists is the one answer
-one_answered : (q : Query) (n : ℕ) (t : Machine) (D : List (List Row)) (answer : Answer) → IsMachineFor q n t → length D ≡ list_count q.expr → AnswersOver D t answer → IsOneAnswer q n D answer
-one_answered q n t D answer made many over =
+one_answered : (q : Query) (n : ℕ) (t : Machine) (D : List (List Row)) (answer : Answer) → IsMachineFor q n t → IsAsked q.k n D → length D ≡ list_count q.expr → AnswersOver q.algorithm D t answer → IsOneAnswer q n D answer
+one_answered q n t D answer made asked many over =
     let Y = item_objects answer.items in
     let items : answer.items ≡ items_by q.algorithm (value q.expr) q.k D = over.items ∙ machine_items q n t D made in
     let lists : answer.transcript.lists ≡ length D = ap (λ (log : Log). log.lists) over.run ∙ made.lists ∙ sym many in
@@ -116,6 +108,7 @@ one_answered q n t D answer made many over =
           ∙ ap (λ c. answer_with (items_by q.algorithm (value q.expr) q.k D) (length D) c A) count
           ∙ ap (λ a. answer_with (items_by q.algorithm (value q.expr) q.k D) (length D) n a) run;
       top = subst (λ e. IsTop (value e) q.k D Y) made.expr (subst (λ k. IsTop (value t.expr) k D Y) made.k over.top);
+      bounds = subst (All (HasTrueBounds (value q.expr) D)) (sym items) (items_true q.algorithm (value q.expr) q.k n D (monotone q.expr) asked);
       agrees = subst (λ m. Agrees m n D A) lists (subst (λ c. Agrees answer.transcript.lists c D A) count over.agrees);
       fixed =
           subst (λ c. Fixes (value q.expr) q.k (length D) c A Y) made.count
@@ -139,16 +132,16 @@ room_stated None n full e l = absurd (omega arith)
 room_stated (Some other) n full e l = let same : other ≡ full = omega arith in ap Some same
 
 -- a query is answered
-pub becomes_answered : (c : Content) (q : Query) (t : Machine) (D : List (List Row)) (answer : Answer) → IsBundle c → Reads c.query (Ok q) → AreNamed c q.names D → q.k ≤ count_of c → IsMachineFor q (count_of c) t → AnswersOver D t answer → BecomesOf c q (Answered answer)
+pub becomes_answered : (c : Content) (q : Query) (t : Machine) (D : List (List Row)) (answer : Answer) → IsBundle c → Reads c.query (Ok q) → AreNamed c q.names D → q.k ≤ count_of c → IsMachineFor q (count_of c) t → AnswersOver q.algorithm D t answer → BecomesOf c q (Answered answer)
 becomes_answered c q t D answer bundle reads named fits made over =
     let n = count_of c in
     let asked = named_asked c q D bundle reads named fits in
-    let one = one_answered q n t D answer made (named_counted c q D reads named) over in
+    let one = one_answered q n t D answer made asked (named_counted c q D reads named) over in
     let costs = cost_small q.cost reads.0.lawful.cost in
     let few : length D ≤ 8 = omega (arith, named_many c q.names D named, reads.0.lawful.few) in
-    let same : answer.transcript.accesses ≡ ta_run (value t.expr) t.k D = ap (λ (log : Log). log.accesses) over.run in
-    let short : length (ta_run (value t.expr) t.k D) < 2 ^ 40 =
-    run_short (value t.expr) t.k n D (monotone t.expr) (subst (λ k. IsAsked k n D) (sym made.k) asked) few (bundle_counted c bundle).1 in
+    let same : answer.transcript.accesses ≡ run_by q.algorithm (value t.expr) t.k D = ap (λ (log : Log). log.accesses) over.run in
+    let short : length (run_by q.algorithm (value t.expr) t.k D) < 2 ^ 40 =
+    run_short q.algorithm (value t.expr) t.k n D (monotone t.expr) (subst (λ k. IsAsked k n D) (sym made.k) asked) few (bundle_counted c bundle).1 in
     record {
       becomes = (
         reads,
@@ -158,7 +151,7 @@ becomes_answered c q t D answer bundle reads named fits made over =
             named,
             fits,
             λ room over_room.
-                let sees : length (run_sees D t) ≡ length (seen_objects (one_run q D)) = machine_sees q n t D made in
+                let sees : length (run_sees q.algorithm D t) ≡ length (seen_objects (one_run q D)) = machine_sees q n t D made in
                 let less : min (unwrap_or q.room n) n ≤ room = room_less q.room n room over_room.stated in
                 omega (arith, over_room.passed, over.roomy, made.room),
           ),
@@ -170,7 +163,7 @@ becomes_answered c q t D answer bundle reads named fits made over =
 
 -- a query is refused for its room
 pub becomes_room_full : (c : Content) (q : Query) (t : Machine) (D : List (List Row)) (room : ℕ) → Reads c.query (Ok q) → AreNamed c q.names D → q.k ≤ count_of c → IsMachineFor q (count_of c) t
-    → (room ≡ t.room) × (room < t.log.count) × (room < length (run_sees D t)) → BecomesOf c q (Refused (RoomFull room))
+    → (room ≡ t.room) × (room < t.log.count) × (room < length (run_sees q.algorithm D t)) → BecomesOf c q (Refused (RoomFull room))
 becomes_room_full c q t D room reads named fits made full =
     let short : room < count_of c = omega (arith, full.1, made.count) in
     record {

@@ -6,7 +6,7 @@ use Rattle.tk_io.specs.Faults.{HasCause}
 use Rattle.tk_io.specs.Whole.{TookFront}
 use Rattle.cert_text.specs.declared.outcome.Outcome.{Outcome}
 use Rattle.cert_text.specs.declared.outcome.Outcome.TheVariants.{Answered, Refused}
-use Rattle.topk_top.specs.Reply.{Replies, outcome_status}
+use Rattle.topk_top.specs.Reply.{outcome_status}
 use Rattle.topk_top.specs.Ends.{Call, Owes, Ends, Says}
 use Rattle.topk_top.specs.declared.status.Status.{Status}
 use Rattle.topk_top.specs.declared.status.Status.TheVariants.{Done, Partial, BadWords, BadCatalog, ReadFault, WriteFault, OpenFault, PortFault, Memory, LongInput, BadInput}

@@ -2,8 +2,10 @@
 mod Ending
 mod Lists
 mod Feeding
+mod Engines
 mod Grading
 mod RunLength
+mod Bounded
 mod Naming
 mod ListCount
 mod Answering

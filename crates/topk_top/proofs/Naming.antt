@@ -1,15 +1,14 @@
 -- Names looked up, and the lists that they name.
-use Rattle.std.proofs.Common.{◌≡◌, ◌≢◌, ℕ, zero, suc, ◌+◌, ◌<◌, ◌≤◌, Bool, true, false, cond, not, nat_lt, inl, inr, List, [], ◌∷◌, ◌++◌, length, map, take, All, Contains, Option, Some, None, slice_get, slice_index_or, refl, sym, ap, ◌∙◌, subst, arith}
+use Rattle.std.proofs.Common.{◌≡◌, ℕ, zero, suc, ◌+◌, ◌<◌, ◌≤◌, Bool, true, false, cond, not, nat_lt, inl, inr, List, [], ◌∷◌, ◌++◌, length, map, take, Contains, Some, None, slice_get, refl, sym, ap, ◌∙◌, subst, arith}
 use Rattle.std.specs.Prelude.{zip}
-use Rattle.std.specs.List.{AllZip, position, prefix_len}
+use Rattle.std.specs.List.{position, prefix_len}
 use Rattle.std.specs.Global.{Vec}
 use Rattle.std.specs.Str.{bytes_eq}
 use Rattle.std.proofs.lemmas.Bool.{false≢true, ltb-true, ltb-false}
 use Rattle.std.proofs.lemmas.Slice.Eq.{bytes_eq-Decides}
 use Rattle.ranked_list.specs.declared.row.Row.{Row}
 use Rattle.ranked_list.specs.Bundle.{Content}
-use Rattle.query_text.specs.Query.{name_of}
-use Rattle.topk_theory.proofs.AgreementLists.{contains_nil, contains_here, contains_there, contains_cases, all_from_members, slice_get_reads, slice_get_in_range, slice_get_contains}
+use Rattle.topk_theory.proofs.AgreementLists.{contains_nil, contains_here, contains_there, contains_cases, all_from_members, slice_get_reads, slice_get_in_range}
 use Rattle.topk_top.specs.Named.{AreNamed, IsFirstUnknown}
 
 -- the bytes of names

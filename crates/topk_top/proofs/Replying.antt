@@ -1,5 +1,5 @@
 -- A reply as the code keeps it is what its input is replied to.
-use Rattle.std.proofs.Common.{◌≡◌, ℕ, List, inl, inr, refl, sym, ap}
+use Rattle.std.proofs.Common.{ℕ, List, inl, inr, refl, ap}
 use Rattle.cert_text.specs.Outcome.{outcome_text}
 use Rattle.topk_top.specs.declared.one.Reply.{Reply}
 use Rattle.topk_top.specs.declared.one.Reply.TheVariants.{NoBundle, Line}

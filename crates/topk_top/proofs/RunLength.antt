@@ -1,17 +1,21 @@
--- How long the threshold algorithm's run is at most.
-use Rattle.std.proofs.Common.{◌≡◌, ℕ, zero, suc, ◌+◌, ◌-◌, ◌*◌, ◌^◌, ◌<◌, ◌≤◌, Bool, true, false, cond, not, List, [], ◌∷◌, ◌++◌, length, map, filter, nat_lt, inl, inr, ◌==◌, refl, sym, ap, subst, ◌∙◌, arith, length-append}
+-- How long a run is at most.
+use Rattle.std.proofs.Common.{◌≡◌, ℕ, zero, suc, ◌+◌, ◌-◌, ◌*◌, ◌^◌, ◌<◌, ◌≤◌, Bool, true, false, cond, not, List, [], ◌∷◌, ◌++◌, length, map, filter, nat_lt, ◌==◌, refl, arith, length-append}
 use Rattle.std.specs.List.{list_any, flat_map}
-use Rattle.std.proofs.lemmas.Bool.{cases_Bool}
 use Rattle.std.proofs.lemmas.List.{length-map}
 use Rattle.std.proofs.Math.Nat.{mul-le-mul_left}
 use Rattle.ranked_list.specs.declared.row.Row.{Row}
 use Rattle.ranked_list.specs.Table.{place_in, grade_in}
 use Rattle.topk_theory.specs.declared.access.Access.{Access}
-use Rattle.topk_theory.specs.declared.access.Access.TheVariants.{Sorted, Random}
+use Rattle.topk_theory.specs.declared.access.Access.TheVariants.{Random}
 use Rattle.topk_theory.specs.Aggregate.{IsMonotone}
 use Rattle.topk_theory.specs.Transcript.{each_once, each_once_after}
 use Rattle.topk_theory.specs.Threshold.{IsAsked, row_at, stands, new_objects, sorted_block, random_block, ta_block, ta_run_to, ta_run, ta_depth}
+use Rattle.topk_theory.specs.NoRandom.{nra_run_to, nra_run, nra_depth}
 use Rattle.topk_theory.proofs.ThresholdLaws.{least_depth}
+use Rattle.topk_theory.proofs.NoRandomLaws.{nra_depth_is_least}
+use Rattle.query_text.specs.declared.algorithm.Algorithm.{Algorithm}
+use Rattle.query_text.specs.declared.algorithm.Algorithm.TheVariants.{Ta, Nra}
+use Rattle.topk_top.specs.OneAnswer.{run_by}
 
 sorted_long : (list depth : ℕ) (D : List (List Row)) → length (sorted_block list depth D) ≡ length D
 sorted_long list depth [] = refl
@@ -70,9 +74,8 @@ run_to_long D (suc depth) =
     let here : length (ta_block D (suc depth)) ≤ length D + length D * length D = block_long D (suc depth) in
     omega (arith, length-append (ta_run_to D depth) (ta_block D (suc depth)))
 
--- a run over 8 lists of 200,000 objects at most has fewer than 2^40 accesses
-pub run_short : (V : List ℕ → ℕ) (k n : ℕ) (D : List (List Row)) → IsMonotone V → IsAsked k n D → length D ≤ 8 → n ≤ 200000 → length (ta_run V k D) < 2 ^ 40
-run_short V k n D monotone asked few counted =
+ta_short : (V : List ℕ → ℕ) (k n : ℕ) (D : List (List Row)) → IsMonotone V → IsAsked k n D → length D ≤ 8 → n ≤ 200000 → length (ta_run V k D) < 2 ^ 40
+ta_short V k n D monotone asked few counted =
     let deep : ta_depth V k D ≤ n = (least_depth V k n D monotone asked).within in
     let m = length D in
     let long : length (ta_run V k D) ≤ ta_depth V k D * (m + m * m) = run_to_long D (ta_depth V k D) in
@@ -80,3 +83,22 @@ run_short V k n D monotone asked few counted =
     let block : m + m * m ≤ 72 = omega arith in
     let most : ta_depth V k D * (m + m * m) ≤ ta_depth V k D * 72 = mul-le-mul_left (ta_depth V k D) block in
     omega arith
+
+rows_long : (D : List (List Row)) (depth : ℕ) → length (nra_run_to D depth) ≤ depth * length D
+rows_long D zero = omega arith
+rows_long D (suc depth) =
+    let before : length (nra_run_to D depth) ≤ depth * length D = rows_long D depth in
+    let here : length (sorted_block 0 (suc depth) D) ≡ length D = sorted_long 0 (suc depth) D in
+    omega (arith, length-append (nra_run_to D depth) (sorted_block 0 (suc depth) D))
+
+nra_short : (V : List ℕ → ℕ) (k n : ℕ) (D : List (List Row)) → IsMonotone V → IsAsked k n D → length D ≤ 8 → n ≤ 200000 → length (nra_run V k D) < 2 ^ 40
+nra_short V k n D monotone asked few counted =
+    let deep : nra_depth V k D ≤ n = (nra_depth_is_least V k n D monotone asked).within in
+    let long : length (nra_run V k D) ≤ nra_depth V k D * length D = rows_long D (nra_depth V k D) in
+    let most : nra_depth V k D * length D ≤ nra_depth V k D * 8 = mul-le-mul_left (nra_depth V k D) few in
+    omega arith
+
+-- a run over 8 lists of 200,000 objects at most has fewer than 2^40 accesses
+pub run_short : (a : Algorithm) (V : List ℕ → ℕ) (k n : ℕ) (D : List (List Row)) → IsMonotone V → IsAsked k n D → length D ≤ 8 → n ≤ 200000 → length (run_by a V k D) < 2 ^ 40
+run_short Ta V k n D monotone asked few counted = ta_short V k n D monotone asked few counted
+run_short Nra V k n D monotone asked few counted = nra_short V k n D monotone asked few counted

@@ -3,8 +3,7 @@ use Rattle.std.specs.Prelude.{◌≡◌, ◌<◌, ◌≤◌, ℕ, List, Option, 
 use Rattle.ranked_list.specs.declared.row.Row.{Row}
 use Rattle.ranked_list.specs.Bundle.{Content}
 use Rattle.query_text.specs.declared.query.Query.{Query}
-use Rattle.query_text.specs.declared.fault.QueryFault.{QueryFault}
-use Rattle.query_text.specs.declared.fault.QueryFault.TheVariants.{LongLine as Long, Syntax as BadSyntax, Number as BadNumber, TooManyLists as ManyLists, TooManyNodes as ManyNodes, TooDeep as Deep, TooBig as Big, Memory as NoMemory}
+use Rattle.query_text.specs.declared.fault.QueryFault.TheVariants.{LongLine as Long, Syntax as BadSyntax, Number as BadNumber, TooManyLists as ManyLists, TooManyNodes as ManyNodes, TooDeep as Deep, TooBig as Big}
 use Rattle.query_text.specs.Reading.{Reads}
 use Rattle.cert_text.specs.declared.outcome.Outcome.{Outcome}
 use Rattle.cert_text.specs.declared.outcome.Outcome.TheVariants.{Answered, Refused}

@@ -5,16 +5,20 @@ use Rattle.monotone_fn.specs.Value.{value}
 use Rattle.topk_theory.specs.Aggregate.{IsTop}
 use Rattle.topk_theory.specs.Transcript.{seen_objects}
 use Rattle.topk_theory.specs.Fixes.{Fixes}
-use Rattle.topk_theory.specs.Threshold.{ta_run, ta_answer, item_objects}
+use Rattle.topk_theory.specs.Threshold.{item_objects}
 use Rattle.access_log.specs.Log.{AgreesWith}
 use Rattle.access_log.specs.declared.answer.Answer.{Answer}
-use Rattle.ta_core.specs.Machine.{Machine, IsAnswer}
-use Rattle.ta_core.specs.declared.fault.CoreFault.{CoreFault}
-use Rattle.ta_core.specs.declared.fault.CoreFault.TheVariants.{Strangers, RoomFull, Memory}
+use Rattle.access_log.specs.Machine.{Machine, IsAnswerBy}
+use Rattle.access_log.specs.declared.core_fault.CoreFault.{CoreFault}
+use Rattle.access_log.specs.declared.core_fault.CoreFault.TheVariants.{Strangers, RoomFull, Memory}
+use Rattle.query_text.specs.declared.algorithm.Algorithm.{Algorithm}
+use Rattle.topk_top.specs.declared.engine.Engine.{Engine}
+use Rattle.topk_top.specs.OneAnswer.{run_by, items_by}
+use Rattle.topk_top.specs.Engines.{algorithm_of, machine_of}
 
--- the objects that the machine's run sees on the table
-abbrev pub run_sees : List (List Row) → Machine → List ℕ
-run_sees D t = seen_objects (ta_run (value t.expr) t.k D)
+-- the objects that a machine's run by an algorithm sees on the table
+abbrev pub run_sees : Algorithm → List (List Row) → Machine → List ℕ
+run_sees algorithm D t = seen_objects (run_by algorithm (value t.expr) t.k D)
 
 -- the machine is the first one some accesses on: the table agrees with these, and the objects that they saw have room
 pub record IsDriven (D : List (List Row)) (first now : Machine) : Type 0 where
@@ -26,33 +30,38 @@ pub record IsDriven (D : List (List Row)) (first now : Machine) : Type 0 where
   pub agrees : AgreesWith D now.log
   pub roomy : length (seen_objects now.log.accesses) ≤ now.room
 
--- the machine is one access on, which its run has after those before
-pub record IsStep (D : List (List Row)) (before after : Machine) : Type 0 where
+-- the machine is one access on, which its run by the algorithm has after those before
+pub record IsStep (algorithm : Algorithm) (D : List (List Row)) (before after : Machine) : Type 0 where
   pub driven : IsDriven D before after
   pub one_more : length after.log.accesses ≡ length before.log.accesses + 1
-  pub within : length before.log.accesses < length (ta_run (value before.expr) before.k D)
+  pub within : length before.log.accesses < length (run_by algorithm (value before.expr) before.k D)
 
--- why a machine has no answer over a table: its room is less than the count, and than the objects that its run sees, or memory was refused
-abbrev pub StopsDriving : List (List Row) → Machine → CoreFault → Type 0
-StopsDriving D t (RoomFull room) = (room ≡ t.room) × (room < t.log.count) × (room < length (run_sees D t))
-StopsDriving D t (Strangers object count) = ⊥
-StopsDriving D t Memory = Unit {0}
+-- the engine is of the same algorithm, and its machine a step on
+pub record Steps (D : List (List Row)) (before after : Engine) : Type 0 where
+  pub algorithm : algorithm_of after ≡ algorithm_of before
+  pub step : IsStep (algorithm_of before) D (machine_of before) (machine_of after)
+
+-- why a machine has no answer over a table: its room is less than the count and less than the number of objects that its run sees, or memory was refused
+abbrev pub StopsDriving : Algorithm → List (List Row) → Machine → CoreFault → Type 0
+StopsDriving algorithm D t (RoomFull room) = (room ≡ t.room) × (room < t.log.count) × (room < length (run_sees algorithm D t))
+StopsDriving algorithm D t (Strangers object count) = ⊥
+StopsDriving algorithm D t Memory = Unit {0}
 
 -- the machine's run over the table is made, and its answer found: a top k, which the run fixes
-pub record AnswersOver (D : List (List Row)) (t : Machine) (answer : Answer) : Type 0 where
-  pub items : answer.items ≡ ta_answer (value t.expr) t.k D
-  pub run : answer.transcript ≡ record t.log { accesses = ta_run (value t.expr) t.k D }
+pub record AnswersOver (algorithm : Algorithm) (D : List (List Row)) (t : Machine) (answer : Answer) : Type 0 where
+  pub items : answer.items ≡ items_by algorithm (value t.expr) t.k D
+  pub run : answer.transcript ≡ record t.log { accesses = run_by algorithm (value t.expr) t.k D }
   pub agrees : AgreesWith D answer.transcript
-  pub roomy : length (run_sees D t) ≤ t.room
+  pub roomy : length (run_sees algorithm D t) ≤ t.room
   pub top : IsTop (value t.expr) t.k D (item_objects answer.items)
   pub fixed : Fixes (value t.expr) t.k t.log.lists t.log.count answer.transcript.accesses (item_objects answer.items)
 
--- what comes of driving a machine over a table
-abbrev pub Drives : List (List Row) → Machine → Result Answer CoreFault → Type 0
-Drives D t (Ok answer) = AnswersOver D t answer
-Drives D t (Err fault) = StopsDriving D t fault
+-- what comes of driving a machine by an algorithm over a table
+abbrev pub Drives : Algorithm → List (List Row) → Machine → Result Answer CoreFault → Type 0
+Drives algorithm D t (Ok answer) = AnswersOver algorithm D t answer
+Drives algorithm D t (Err fault) = StopsDriving algorithm D t fault
 
 -- what a machine that needs nothing more answers
-abbrev pub Finishes : Machine → Result Answer CoreFault → Type 0
-Finishes t (Ok answer) = IsAnswer t answer.items × (answer.transcript ≡ t.log)
-Finishes t (Err fault) = fault ≡ Memory
+abbrev pub Finishes : Algorithm → Machine → Result Answer CoreFault → Type 0
+Finishes algorithm t (Ok answer) = IsAnswerBy (items_by algorithm) t answer.items × (answer.transcript ≡ t.log)
+Finishes algorithm t (Err fault) = fault ≡ Memory

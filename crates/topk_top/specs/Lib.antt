@@ -1,9 +1,10 @@
 -- How a top call ends, and what it writes.
 pub mod Codes
 pub mod Grades
-pub mod Driving
 pub mod Named
 pub mod OneAnswer
+pub mod Engines
+pub mod Driving
 pub mod Becomes
 pub mod Reply
 pub mod Ends

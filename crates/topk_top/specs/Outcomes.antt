@@ -1,19 +1,19 @@
 -- Replies as the code keeps them.
-use Rattle.std.specs.Prelude.{◌≡◌, min, ℕ, List, [], Option, None, Some, length, unwrap_or}
+use Rattle.std.specs.Prelude.{◌≡◌, min, ℕ, List, [], Some, unwrap_or}
 use Rattle.line_text.specs.Lines.{lines}
-use Rattle.ranked_list.specs.declared.row.Row.{Row}
 use Rattle.ranked_list.specs.Bundle.{Content, Spells, IsFirstFault}
 use Rattle.monotone_fn.specs.Shape.{list_count}
 use Rattle.query_text.specs.declared.query.Query.{Query}
 use Rattle.cert_text.specs.declared.outcome.Outcome.{Outcome}
-use Rattle.cert_text.specs.declared.outcome.Outcome.TheVariants.{Answered, Refused}
-use Rattle.cert_text.specs.Outcome.{IsOutcome, outcome_text}
-use Rattle.ta_core.specs.Machine.{Machine}
+use Rattle.cert_text.specs.Outcome.{IsOutcome, costs_of, outcome_text}
+use Rattle.access_log.specs.Machine.{Machine}
 use Rattle.topk_top.specs.declared.status.Status.{Status}
 use Rattle.topk_top.specs.declared.status.Status.TheVariants.{BadInput}
 use Rattle.topk_top.specs.declared.one.Line.{Line}
 use Rattle.topk_top.specs.declared.one.Reply.{Reply}
 use Rattle.topk_top.specs.declared.one.Reply.TheVariants.{NoBundle, Line as LineReply}
+use Rattle.topk_top.specs.declared.engine.Engine.{Engine}
+use Rattle.topk_top.specs.Engines.{algorithm_of, machine_of}
 use Rattle.topk_top.specs.Named.{count_of}
 use Rattle.topk_top.specs.Becomes.{Becomes}
 use Rattle.topk_top.specs.Reply.{bundle_refused_text, outcome_status}
@@ -53,6 +53,11 @@ pub record IsMachineFor (q : Query) (n : ℕ) (t : Machine) : Type 0 where
   pub expr : t.expr ≡ q.expr
   pub k : t.k ≡ q.k
   pub room : t.room ≡ min (unwrap_or q.room n) n
+  pub costs : t.costs ≡ costs_of q
   pub lists : t.log.lists ≡ list_count q.expr
   pub count : t.log.count ≡ n
   pub none : t.log.accesses ≡ []
+
+-- the engine of a query: its algorithm's machine
+abbrev pub IsEngineFor : Query → ℕ → Engine → Type 0
+IsEngineFor q n engine = (algorithm_of engine ≡ q.algorithm) × IsMachineFor q n (machine_of engine)

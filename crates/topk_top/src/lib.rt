@@ -3,6 +3,7 @@
 
 mod call;
 mod drive;
+mod engine;
 mod named;
 mod one;
 mod source;

@@ -1,20 +1,21 @@
 //! The command `one`: a bundle and its query.
 
-ghost use Rattle.std.specs.Prelude.{◌≡◌, ◌≤◌, ℕ, List, Ok, Err, IfOk};
+ghost use Rattle.std.specs.Prelude.{◌≡◌, ℕ, List, Ok, Err, IfOk};
 ghost use Rattle.ranked_list.specs.Bundle.{content, IsBundle};
 ghost use Rattle.query_text.specs.Reading.{Reads};
 ghost use Rattle.topk_top.specs.Named.{count_of};
 ghost use Rattle.topk_top.specs.Becomes.{Becomes, RefusesText};
-ghost use Rattle.topk_top.specs.Outcomes.{BecomesOf, IsLineOf, IsMachineFor, IsReply};
+ghost use Rattle.topk_top.specs.Outcomes.{BecomesOf, IsLineOf, IsReply};
 
 use super::Memory;
 use super::drive::drive;
+use super::engine::Engine;
 use super::named::{NamingFault, named_lists};
+use access_log::CoreFault;
 use cert_text::{Outcome, Refusal};
-use query_text::{Costs, Query, QueryFault, read};
+use query_text::{Query, QueryFault, read};
 use ranked_list::{Bundle, BundleFault, read_bundle};
 use std::alloc::Global;
-use ta_core::{CoreFault, Ta};
 
 /// What is replied to an input.
 #[derive(Debug, Drop)]
@@ -116,27 +117,11 @@ fn outcome_of(alloc: Global, bundle: &Bundle, query: &Query) -> Result<Outcome, 
             n: count,
         }));
     }
-    let machine = machine_for(alloc, query, count)?;
-    match drive(alloc, machine, &mut sources) {
+    let engine = Engine::make(alloc, query, count)?;
+    match drive(alloc, engine, &mut sources) {
         Ok(answer) => Ok(Outcome::Answered(answer)),
         Err(CoreFault::RoomFull { room }) => Ok(Outcome::Refused(Refusal::RoomFull { room })),
         Err(CoreFault::Strangers { .. }) => unreachable!(),
         Err(CoreFault::Memory) => Err(Memory),
     }
-}
-
-/// The machine of a query over lists of so many rows.
-fn machine_for(alloc: Global, query: &Query, count: u32) -> Result<Ta, Memory>
-    requires query { (line : List ℕ) × Reads line (Ok query.now) }
-    requires fits { query.now.k ≤ count }
-    requires counted { count ≤ 200000 }
-    ensures { IfOk result (IsMachineFor query.now count) }
-{
-    let expr = query.expr.copy(alloc).map_err(|_| Memory)?;
-    let room = query.room.unwrap_or(count);
-    let costs = query.cost.unwrap_or(Costs {
-        sorted: 1,
-        random: 1,
-    });
-    Ta::make(alloc, expr, query.k, count, room, costs).map_err(|_| Memory)
 }

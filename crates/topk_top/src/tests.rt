@@ -99,12 +99,42 @@ fn answers_queries(rt: HostRuntime) -> Result<(), Fail> {
 }
 
 #[test]
+fn answers_without_random_access(rt: HostRuntime) -> Result<(), Fail> {
+    let rows = [
+        (
+            LISTS,
+            "top 1 by sum(A,B) using nra",
+            "answer 2 1500 1500\nstop depth 2 sorted 4 random 0 cost 4\ns A 1 900\ns B 2 700\ns A 2 800\ns B 3 600\nend\n",
+        ),
+        (
+            "list A\n1,900\n2,100\n3,0\nlist B\n2,300\n3,200\n1,100\n",
+            "top 1 by sum(A,B) using nra",
+            "answer 1 900 1100\nstop depth 2 sorted 4 random 0 cost 4\ns A 1 900\ns B 2 300\ns A 2 100\ns B 3 200\nend\n",
+        ),
+        (
+            "list A\n1,10\n2,8\n3,0\nlist B\n3,10\n2,8\n1,0\n",
+            "top 1 by min(A,B) using nra",
+            "answer 2 8 8\nstop depth 2 sorted 4 random 0 cost 4\ns A 1 10\ns B 3 10\ns A 2 8\ns B 2 8\nend\n",
+        ),
+    ];
+    for (lists, query, rest) in rows {
+        let input = format!(in rt.alloc(); "{lists}query {query}\n")?;
+        let text = format!(in rt.alloc(); "certificate 1\nquery {query}\ncount 3\n{rest}")?;
+        let (status, out) = outcome_of(rt.alloc(), &input)?;
+        assert_eq!(rt; status, Status::Done, "{query}");
+        assert_eq!(rt; out.taken(), text.as_bytes(), "{query}");
+    }
+    Ok(())
+}
+
+#[test]
 fn refuses_inputs(rt: HostRuntime) -> Result<(), Fail> {
     let rows = [
         ("query top 4 by sum(A,B) using ta", "1 KAboveCount 4 3"),
         ("query top 1 by sum(A,C,D) using ta", "1 UnknownList C"),
         ("query top 4 by sum(C,A) using ta", "1 UnknownList C"),
         ("query top 1 by sum(A,B) using ta room 2", "1 RoomFull 2"),
+        ("query top 1 by sum(A,B) using nra room 2", "1 RoomFull 2"),
         (
             "query top 4 by sum(A,B) using ta room 1",
             "1 KAboveCount 4 3",
