@@ -9,9 +9,9 @@ use Rattle.ranked_list.specs.Table.{IsTable, grade_in, top_grade}
 use Rattle.topk_theory.specs.declared.access.Access.{Access}
 use Rattle.topk_theory.specs.declared.access.Access.TheVariants.{Sorted, Random}
 use Rattle.topk_theory.specs.Aggregate.{objects_of}
-use Rattle.topk_theory.specs.Transcript.{each_once, Agrees, Begins, Gives, list_at, list_of, object_of, grade_of, sorted_row, random_row, given_row, sorted_rows, random_rows, given_rows, sorted_object, named_objects, seen_objects, depth_of, bottom_of, last_grade}
+use Rattle.topk_theory.specs.Transcript.{Told, whole, IsDrawn, Grows, each_once, Agrees, Begins, Gives, list_at, list_of, object_of, grade_of, sorted_row, random_row, given_row, sorted_rows, random_rows, given_rows, sorted_object, named_objects, seen_objects, depth_of, bottom_of, last_grade}
 use Rattle.topk_theory.specs.Bounds.{known_grade, grade_among}
-use Rattle.topk_theory.proofs.AgreementLists.{contains_nil, contains_here, contains_there, contains_cases, contains_map, contains_map_from, all_from_members, member_of_all, slice_get_contains, slice_get_in_range, slice_get_reads, begins_splits, begins_front, begins_reads, begins_more, filter_map_push_some, filter_map_push_none, filter_map_through, distinct_fits}
+use Rattle.topk_theory.proofs.AgreementLists.{contains_nil, contains_here, contains_there, contains_cases, contains_map, contains_map_from, all_from_members, member_of_all, slice_get_contains, slice_get_in_range, slice_get_reads, begins_splits, begins_front, begins_reads, begins_more, begins_get, begins_trans, filter_map_push_some, filter_map_push_none, filter_map_through, distinct_fits}
 use Rattle.topk_theory.proofs.AgreementNames.{each_once_within, each_once_complete, each_once_distinct, each_once_push_old, each_once_push_new}
 use Rattle.topk_theory.proofs.AgreementRows.{grade_in_row, object_of_row, grade_among_row, grade_among_append_some, grade_among_append_none, objects_distinct, list_at_ranked, list_at_length, objects_from_each}
 
@@ -99,68 +99,129 @@ random_rows_append list A B = filter_map-append (random_row list) A B
 pub given_rows_append : (list : ℕ) (A B : List Access) → given_rows list (A ++ B) ≡ given_rows list A ++ given_rows list B
 given_rows_append list A B = filter_map-append (given_row list) A B
 
--- a table that agrees with a transcript agrees with each front of it
-pub agrees_front : (m n : ℕ) (D : List (List Row)) (A B : List Access) → Agrees m n D (A ++ B) → Agrees m n D A
-agrees_front m n D A B h = record {
-  lists = h.lists;
-  table = h.table;
-  in_range = all_from_members (λ access. list_of access < m) A (λ a c. member_of_all (λ access. list_of access < m) (A ++ B) a h.in_range (Contains-append_left A B a c));
-  sorted = λ list l. begins_front (sorted_rows list A) (sorted_rows list B) (list_at D list) (subst (λ rows. Begins rows (list_at D list)) (sorted_rows_append list A B) (h.sorted list l));
-  random = λ list l. all_from_members (Contains (list_at D list)) (random_rows list A) (λ row c.
-      member_of_all (Contains (list_at D list)) (random_rows list (A ++ B)) row (h.random list l)
-      (subst (λ rows. Contains rows row) (sym (random_rows_append list A B)) (Contains-append_left (random_rows list A) (random_rows list B) row c)));
+-- what is drawn from lists, of which more is told, is drawn from these
+pub drawn_more : (m : ℕ) (T U : Told) (A : List Access) → Grows m T U → IsDrawn m T A → IsDrawn m U A
+drawn_more m T U A grows h = record {
+  in_range = h.in_range;
+  sorted = λ list l. begins_trans (sorted_rows list A) (list_at T.rows list) (list_at U.rows list) (h.sorted list l) (grows.rows list l);
+  random = λ list l. all_from_members (Contains (list_at U.known list)) (random_rows list A)
+      (λ row c. grows.known list l row (member_of_all (Contains (list_at T.known list)) (random_rows list A) row (h.random list l) c));
 }
 
--- each access of a transcript reads one of the m lists
-pub agrees_in_range : (m n : ℕ) (D : List (List Row)) (A : List Access) (a : Access) → Agrees m n D A → Contains A a → list_of a < m
-agrees_in_range m n D A a h c = member_of_all (λ access. list_of access < m) A a h.in_range c
+pub gives_more : (m : ℕ) (T U : Told) (A : List Access) (a : Access) → Grows m T U → list_of a < m → Gives T A a → Gives U A a
+gives_more m T U A (Sorted list object grade) grows l g = begins_get (list_at T.rows list) (list_at U.rows list) (depth_of list A) _ (grows.rows list l) g
+gives_more m T U A (Random list object grade) grows l g = grows.known list l _ g
+
+-- each front of what is drawn is drawn
+pub drawn_front : (m : ℕ) (T : Told) (A B : List Access) → IsDrawn m T (A ++ B) → IsDrawn m T A
+drawn_front m T A B h = record {
+  in_range = all_from_members (λ access. list_of access < m) A (λ a c. member_of_all (λ access. list_of access < m) (A ++ B) a h.in_range (Contains-append_left A B a c));
+  sorted = λ list l. begins_front (sorted_rows list A) (sorted_rows list B) (list_at T.rows list) (subst (λ rows. Begins rows (list_at T.rows list)) (sorted_rows_append list A B) (h.sorted list l));
+  random = λ list l. all_from_members (Contains (list_at T.known list)) (random_rows list A) (λ row c.
+      member_of_all (Contains (list_at T.known list)) (random_rows list (A ++ B)) row (h.random list l)
+      (subst (λ rows. Contains rows row) (sym (random_rows_append list A B)) (Contains-append_left (random_rows list A) (random_rows list B) row c)));
+}
 
 pub contains_middle : {X : Type 0} → (xs : List X) (y : X) (ys : List X) → Contains (xs ++ y ∷ ys) y
 contains_middle xs y ys = Contains-append_right xs (y ∷ ys) y (contains_here y ys)
 
--- each access of a transcript is given by the table after those before it
-pub agrees_gives : (m n : ℕ) (D : List (List Row)) (A : List Access) (a : Access) (B : List Access) → Agrees m n D (A ++ a ∷ B) → Gives D A a
-agrees_gives m n D A (Sorted list object grade) B h =
+-- each access that is drawn reads one of the m lists, and is given after those before it
+pub drawn_in_range : (m : ℕ) (T : Told) (A : List Access) (a : Access) → IsDrawn m T A → Contains A a → list_of a < m
+drawn_in_range m T A a h c = member_of_all (λ access. list_of access < m) A a h.in_range c
+
+pub drawn_gives : (m : ℕ) (T : Told) (A : List Access) (a : Access) (B : List Access) → IsDrawn m T (A ++ a ∷ B) → Gives T A a
+drawn_gives m T A (Sorted list object grade) B h =
     let row : Row = record { object = object; grade = grade } in
     let rest : List Row = filter_map (sorted_row list) B in
     let e : sorted_rows list (A ++ Sorted list object grade ∷ B) ≡ sorted_rows list A ++ row ∷ rest =
     filter_map_through (sorted_row list) A (Sorted list object grade) B ∙ ap (λ o. sorted_rows list A ++ cons_option o rest) (same_list list row) in
-    begins_reads (sorted_rows list A) row rest (list_at D list)
-    (subst (λ rows. Begins rows (list_at D list)) e (h.sorted list (agrees_in_range m n D _ _ h (contains_middle A (Sorted list object grade) B))))
-agrees_gives m n D A (Random list object grade) B h =
+    begins_reads (sorted_rows list A) row rest (list_at T.rows list)
+    (subst (λ rows. Begins rows (list_at T.rows list)) e (h.sorted list (drawn_in_range m T _ _ h (contains_middle A (Sorted list object grade) B))))
+drawn_gives m T A (Random list object grade) B h =
     let row : Row = record { object = object; grade = grade } in
     let rest : List Row = filter_map (random_row list) B in
     let e : random_rows list (A ++ Random list object grade ∷ B) ≡ random_rows list A ++ row ∷ rest =
     filter_map_through (random_row list) A (Random list object grade) B ∙ ap (λ o. random_rows list A ++ cons_option o rest) (same_list list row) in
-    member_of_all (Contains (list_at D list)) (random_rows list (A ++ Random list object grade ∷ B)) row
-    (h.random list (agrees_in_range m n D _ _ h (contains_middle A (Random list object grade) B)))
+    member_of_all (Contains (list_at T.known list)) (random_rows list (A ++ Random list object grade ∷ B)) row
+    (h.random list (drawn_in_range m T _ _ h (contains_middle A (Random list object grade) B)))
     (subst (λ rows. Contains rows row) (sym e) (contains_middle (random_rows list A) row rest))
 
+-- one more access that is given is drawn too
+drawn_sorted : (m : ℕ) (T : Told) (A : List Access) (list object grade : ℕ) → IsDrawn m T A → Gives T A (Sorted list object grade) → (at : ℕ) → at < m → Begins (sorted_rows at (A ++ Sorted list object grade ∷ [])) (list_at T.rows at)
+drawn_sorted m T A list object grade h g at l =
+    elim (cases_eq list at) [
+      | inl e ↦ subst (λ k. Begins (sorted_rows k (A ++ Sorted list object grade ∷ [])) (list_at T.rows k)) e
+          (subst (λ rows. Begins rows (list_at T.rows list)) (sym (sorted_rows_sorted list A object grade))
+          (begins_more (sorted_rows list A) (list_at T.rows list) _ (h.sorted list (subst (λ k. k < m) (sym e) l)) g))
+      | inr n ↦ subst (λ rows. Begins rows (list_at T.rows at)) (sym (sorted_rows_other at list A object grade n)) (h.sorted at l)
+    ]
+
+drawn_random : (m : ℕ) (T : Told) (A : List Access) (list object grade : ℕ) → IsDrawn m T A → Gives T A (Random list object grade) → (at : ℕ) → at < m → All (Contains (list_at T.known at)) (random_rows at (A ++ Random list object grade ∷ []))
+drawn_random m T A list object grade h g at l =
+    elim (cases_eq list at) [
+      | inl e ↦ subst (λ k. All (Contains (list_at T.known k)) (random_rows k (A ++ Random list object grade ∷ []))) e
+          (subst (λ rows. All (Contains (list_at T.known list)) rows) (sym (random_rows_random list A object grade))
+          (All-push (Contains (list_at T.known list)) (random_rows list A) _ (h.random list (subst (λ k. k < m) (sym e) l)) g))
+      | inr n ↦ subst (λ rows. All (Contains (list_at T.known at)) rows) (sym (random_rows_other at list A object grade n)) (h.random at l)
+    ]
+
+pub drawn_push : (m : ℕ) (T : Told) (A : List Access) (a : Access) → IsDrawn m T A → list_of a < m → Gives T A a → IsDrawn m T (A ++ a ∷ [])
+drawn_push m T A (Sorted list object grade) h l g = record {
+  in_range = All-push (λ access. list_of access < m) A (Sorted list object grade) h.in_range l;
+  sorted = drawn_sorted m T A list object grade h g;
+  random = λ at k. subst (λ rows. All (Contains (list_at T.known at)) rows) (sym (random_rows_sorted at list A object grade)) (h.random at k);
+}
+drawn_push m T A (Random list object grade) h l g = record {
+  in_range = All-push (λ access. list_of access < m) A (Random list object grade) h.in_range l;
+  sorted = λ at k. subst (λ rows. Begins rows (list_at T.rows at)) (sym (sorted_rows_random at list A object grade)) (h.sorted at k);
+  random = drawn_random m T A list object grade h g;
+}
+
+-- nothing is drawn from whatever is told
+pub drawn_none : (m : ℕ) (T : Told) → IsDrawn m T []
+drawn_none m T = record {
+  in_range = λ k d l. absurd (omega arith);
+  sorted = λ list l. refl;
+  random = λ list l. λ k d p. absurd (omega arith);
+}
+
+-- a table that agrees with a transcript agrees with each front of it
+pub agrees_front : (m n : ℕ) (D : List (List Row)) (A B : List Access) → Agrees m n D (A ++ B) → Agrees m n D A
+agrees_front m n D A B h = record { lists = h.lists; table = h.table; drawn = drawn_front m (whole D) A B h.drawn }
+
+-- each access of a transcript reads one of the m lists
+pub agrees_in_range : (m n : ℕ) (D : List (List Row)) (A : List Access) (a : Access) → Agrees m n D A → Contains A a → list_of a < m
+agrees_in_range m n D A a h c = drawn_in_range m (whole D) A a h.drawn c
+
+-- each access of a transcript is given by the table after those before it
+pub agrees_gives : (m n : ℕ) (D : List (List Row)) (A : List Access) (a : Access) (B : List Access) → Agrees m n D (A ++ a ∷ B) → Gives (whole D) A a
+agrees_gives m n D A a B h = drawn_gives m (whole D) A a B h.drawn
+
 -- what an access that a table gives says of its row
-pub gives_row : (D : List (List Row)) (A : List Access) (a : Access) → Gives D A a → Contains (list_at D (list_of a)) (row_of a)
+pub gives_row : (D : List (List Row)) (A : List Access) (a : Access) → Gives (whole D) A a → Contains (list_at D (list_of a)) (row_of a)
 gives_row D A (Sorted list object grade) g = slice_get_contains (list_at D list) (depth_of list A) _ g
 gives_row D A (Random list object grade) g = g
 
-pub gives_place : (n : ℕ) (D : List (List Row)) (A : List Access) (list object grade : ℕ) → IsTable n D → list < length D → Gives D A (Sorted list object grade) → depth_of list A < n
+pub gives_place : (n : ℕ) (D : List (List Row)) (A : List Access) (list object grade : ℕ) → IsTable n D → list < length D → Gives (whole D) A (Sorted list object grade) → depth_of list A < n
 gives_place n D A list object grade t l g =
     let p : depth_of list A < length (list_at D list) = slice_get_in_range (list_at D list) (depth_of list A) _ g in
     let e : length (list_at D list) ≡ n = list_at_length n D list t l in
     omega arith
 
-pub gives_at : (D : List (List Row)) (A : List Access) (list object grade : ℕ) (d : Row) → Gives D A (Sorted list object grade) → slice_index_or (list_at D list) (depth_of list A) d ≡ record { object = object; grade = grade }
+pub gives_at : (D : List (List Row)) (A : List Access) (list object grade : ℕ) (d : Row) → Gives (whole D) A (Sorted list object grade) → slice_index_or (list_at D list) (depth_of list A) d ≡ record { object = object; grade = grade }
 gives_at D A list object grade d g = slice_get_reads (list_at D list) (depth_of list A) _ d g
 
-pub gives_grade : (n : ℕ) (D : List (List Row)) (A : List Access) (a : Access) → IsTable n D → list_of a < length D → Gives D A a → grade_in (list_at D (list_of a)) (object_of a) ≡ grade_of a
+pub gives_grade : (n : ℕ) (D : List (List Row)) (A : List Access) (a : Access) → IsTable n D → list_of a < length D → Gives (whole D) A a → grade_in (list_at D (list_of a)) (object_of a) ≡ grade_of a
 gives_grade n D A a t l g = grade_in_row (list_at D (list_of a)) (object_of a) (grade_of a) (list_at_ranked n D (list_of a) t l) (gives_row D A a g)
 
-pub gives_object : (n : ℕ) (D : List (List Row)) (A : List Access) (a : Access) → IsTable n D → list_of a < length D → Gives D A a → Contains (objects_of D) (object_of a)
+pub gives_object : (n : ℕ) (D : List (List Row)) (A : List Access) (a : Access) → IsTable n D → list_of a < length D → Gives (whole D) A a → Contains (objects_of D) (object_of a)
 gives_object n D A a t l g = objects_from_each n D (list_of a) (object_of a) t l (object_of_row (list_at D (list_of a)) (row_of a) (gives_row D A a g))
 
 -- a list of a table has rows, so an access that the table gives reads one of its lists
 list_at_past : (D : List (List Row)) (list : ℕ) → length D ≤ list → list_at D list ≡ []
 list_at_past D list l = get_or_past D list [] l
 
-pub gives_in_range : (D : List (List Row)) (A : List Access) (a : Access) → Gives D A a → list_of a < length D
+pub gives_in_range : (D : List (List Row)) (A : List Access) (a : Access) → Gives (whole D) A a → list_of a < length D
 gives_in_range D A a g =
     elim (cases_lt (list_of a) (length D)) [
       | inl l ↦ l
@@ -168,49 +229,16 @@ gives_in_range D A a g =
     ]
 
 -- one more access that the table gives still agrees
-agrees_sorted : (m n : ℕ) (D : List (List Row)) (A : List Access) (list object grade : ℕ) → Agrees m n D A → Gives D A (Sorted list object grade) → (at : ℕ) → at < m → Begins (sorted_rows at (A ++ Sorted list object grade ∷ [])) (list_at D at)
-agrees_sorted m n D A list object grade h g at l =
-    elim (cases_eq list at) [
-      | inl e ↦ subst (λ k. Begins (sorted_rows k (A ++ Sorted list object grade ∷ [])) (list_at D k)) e
-          (subst (λ rows. Begins rows (list_at D list)) (sym (sorted_rows_sorted list A object grade))
-          (begins_more (sorted_rows list A) (list_at D list) _ (h.sorted list (subst (λ k. k < m) (sym e) l)) g))
-      | inr n ↦ subst (λ rows. Begins rows (list_at D at)) (sym (sorted_rows_other at list A object grade n)) (h.sorted at l)
-    ]
-
-agrees_random : (m n : ℕ) (D : List (List Row)) (A : List Access) (list object grade : ℕ) → Agrees m n D A → Gives D A (Random list object grade) → (at : ℕ) → at < m → All (Contains (list_at D at)) (random_rows at (A ++ Random list object grade ∷ []))
-agrees_random m n D A list object grade h g at l =
-    elim (cases_eq list at) [
-      | inl e ↦ subst (λ k. All (Contains (list_at D k)) (random_rows k (A ++ Random list object grade ∷ []))) e
-          (subst (λ rows. All (Contains (list_at D list)) rows) (sym (random_rows_random list A object grade))
-          (All-push (Contains (list_at D list)) (random_rows list A) _ (h.random list (subst (λ k. k < m) (sym e) l)) g))
-      | inr n ↦ subst (λ rows. All (Contains (list_at D at)) rows) (sym (random_rows_other at list A object grade n)) (h.random at l)
-    ]
-
-pub agrees_push : (m n : ℕ) (D : List (List Row)) (A : List Access) (a : Access) → Agrees m n D A → Gives D A a → Agrees m n D (A ++ a ∷ [])
-agrees_push m n D A (Sorted list object grade) h g = record {
+pub agrees_push : (m n : ℕ) (D : List (List Row)) (A : List Access) (a : Access) → Agrees m n D A → Gives (whole D) A a → Agrees m n D (A ++ a ∷ [])
+agrees_push m n D A a h g = record {
   lists = h.lists;
   table = h.table;
-  in_range = All-push (λ access. list_of access < m) A (Sorted list object grade) h.in_range (subst (λ k. list < k) h.lists (gives_in_range D A (Sorted list object grade) g));
-  sorted = agrees_sorted m n D A list object grade h g;
-  random = λ at l. subst (λ rows. All (Contains (list_at D at)) rows) (sym (random_rows_sorted at list A object grade)) (h.random at l);
-}
-agrees_push m n D A (Random list object grade) h g = record {
-  lists = h.lists;
-  table = h.table;
-  in_range = All-push (λ access. list_of access < m) A (Random list object grade) h.in_range (subst (λ k. list < k) h.lists (gives_in_range D A (Random list object grade) g));
-  sorted = λ at l. subst (λ rows. Begins rows (list_at D at)) (sym (sorted_rows_random at list A object grade)) (h.sorted at l);
-  random = agrees_random m n D A list object grade h g;
+  drawn = drawn_push m (whole D) A a h.drawn (subst (λ k. list_of a < k) h.lists (gives_in_range D A a g)) g;
 }
 
 -- each table agrees with the empty transcript
 pub agrees_none : (n : ℕ) (D : List (List Row)) → IsTable n D → Agrees (length D) n D []
-agrees_none n D t = record {
-  lists = refl;
-  table = t;
-  in_range = λ k d l. absurd (omega arith);
-  sorted = λ list l. refl;
-  random = λ list l. λ k d p. absurd (omega arith);
-}
+agrees_none n D t = record { lists = refl; table = t; drawn = drawn_none (length D) (whole D) }
 
 -- a known grade is the grade of the table
 abbrev pub From : ℕ → List Access → Row → Type 0
@@ -354,7 +382,7 @@ seen_count m n D A p h =
 pub depth_fits : (m n : ℕ) (D : List (List Row)) (A : List Access) (list : ℕ) → Agrees m n D A → list < m → depth_of list A ≤ n
 depth_fits m n D A list h l =
     let whole = list_at D list in
-    let split : whole ≡ sorted_rows list A ++ drop (length (sorted_rows list A)) whole = begins_splits (sorted_rows list A) whole (h.sorted list l) in
+    let split : whole ≡ sorted_rows list A ++ drop (length (sorted_rows list A)) whole = begins_splits (sorted_rows list A) whole (h.drawn.sorted list l) in
     let size : length whole ≡ n = list_at_length n D list h.table (subst (λ k. list < k) (sym h.lists) l) in
     let parts : length whole ≡ length (sorted_rows list A ++ drop (length (sorted_rows list A)) whole) = ap length split in
     omega (arith, length-append (sorted_rows list A) (drop (length (sorted_rows list A)) whole))

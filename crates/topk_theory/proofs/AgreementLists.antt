@@ -1,7 +1,8 @@
 -- Members of lists, fronts of lists, and what one more member changes.
 use Rattle.std.proofs.Common.{◌≡◌, ◌≢◌, ℕ, zero, suc, ◌<◌, ◌≤◌, ◌⊎◌, inl, inr, List, [], ◌∷◌, ◌++◌, length, map, take, drop, All, AllPairs, Contains, Option, Some, None, slice_get, slice_index_or, filter_map, refl, sym, ap, subst, ◌∙◌, arith, append_assoc, append-nil, length-append, take-append-drop, take_at}
-use Rattle.std.specs.List.{cons_option}
-use Rattle.std.proofs.lemmas.List.Elements.{filter_map-append}
+use Rattle.std.specs.List.{AllZip, cons_option}
+use Rattle.std.proofs.lemmas.List.Elements.{filter_map-append, length_all_zip, AllZip-get_or}
+use Rattle.monotone_fn.specs.Value.{NoSmaller}
 use Rattle.topk_theory.specs.Transcript.{Begins}
 
 -- members by the first and the rest
@@ -103,6 +104,25 @@ begins_more (f ∷ front) (w ∷ whole) y h e =
     let first : w ≡ f = cc in
     let rest : take (length front) whole ≡ front = cc in
     same_cons w f (take (length (front ++ y ∷ [])) whole) (front ++ y ∷ []) first (begins_more front whole y rest e)
+
+-- a longer list has what a front of it has, and begins with what the front begins with
+slice_get_front : {X : Type 0} → (front rest : List X) (k : ℕ) (x : X) → slice_get front k ≡ Some x → slice_get (front ++ rest) k ≡ Some x
+slice_get_front [] rest k x e = absurd (cc)
+slice_get_front (y ∷ front) rest zero x e = e
+slice_get_front (y ∷ front) rest (suc k) x e = slice_get_front front rest k x e
+
+pub begins_get : {X : Type 0} → (front whole : List X) (k : ℕ) (x : X) → Begins front whole → slice_get front k ≡ Some x → slice_get whole k ≡ Some x
+begins_get front whole k x h e = rw (begins_splits front whole h) (slice_get_front front (drop (length front) whole) k x e)
+
+pub begins_trans : {X : Type 0} → (front middle whole : List X) → Begins front middle → Begins middle whole → Begins front whole
+begins_trans front middle whole h k = begins_front front (drop (length front) middle) whole (subst (λ xs. Begins xs whole) (begins_splits front middle h) k)
+
+-- what is no greater in each place is no smaller the other way round
+pub no_smaller : (lesser greater : List ℕ) → AllZip ◌≤◌ lesser greater → NoSmaller lesser greater
+no_smaller lesser greater h = record {
+  same_length = length_all_zip ◌≤◌ lesser greater h;
+  each = λ i l. AllZip-get_or ◌≤◌ lesser greater i 0 0 h l;
+}
 
 -- what a filter gives of one more member
 pub filter_map_push : {X Y : Type 0} → (h : X → Option Y) (xs : List X) (x : X) → filter_map h (xs ++ x ∷ []) ≡ filter_map h xs ++ cons_option (h x) []

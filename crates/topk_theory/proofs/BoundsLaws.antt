@@ -7,9 +7,10 @@ use Rattle.ranked_list.specs.Table.{IsRanked, grade_in, top_grade}
 use Rattle.topk_theory.specs.declared.access.Access.{Access}
 use Rattle.topk_theory.specs.declared.access.Access.TheVariants.{Sorted, Random}
 use Rattle.topk_theory.specs.Transcript.{last_grade, sorted_rows, given_rows, list_at, list_numbers, bottom_of, Agrees}
-use Rattle.topk_theory.specs.Aggregate.{grades_of, aggregate, IsMonotone}
+use Rattle.monotone_fn.specs.Value.{NoSmaller, IsMonotone}
+use Rattle.topk_theory.specs.Aggregate.{grades_of, aggregate}
 use Rattle.topk_theory.specs.Bounds.{grade_among, known_grade, low, high}
-use Rattle.topk_theory.proofs.AgreementLists.{begins_splits}
+use Rattle.topk_theory.proofs.AgreementLists.{begins_splits, no_smaller}
 use Rattle.topk_theory.proofs.AgreementRows.{list_at_ranked}
 use Rattle.topk_theory.proofs.Agreement.{known_grade_is}
 
@@ -74,7 +75,7 @@ drop_next (suc n) [] rows D e = absurd (let f : ⊥ = cc in f)
 drop_next (suc n) (r ∷ all) rows D e = drop_next n all rows D e
 
 -- values of a function over a list's places are its values over the list
-map_places : (f : List Row → ℕ) (D : List (List Row)) (start : ℕ) (all : List (List Row)) → drop start all ≡ D → map f D ≡ map (λ list. f (list_at all list)) (range_with_len start (length D))
+pub map_places : (f : List Row → ℕ) (D : List (List Row)) (start : ℕ) (all : List (List Row)) → drop start all ≡ D → map f D ≡ map (λ list. f (list_at all list)) (range_with_len start (length D))
 map_places f [] start all e = refl
 map_places f (rows ∷ D) start all e =
     let here : list_at all start ≡ rows = at_drop start all rows D e in
@@ -86,8 +87,8 @@ zip_places : (f g : ℕ → ℕ) (start count : ℕ) → ((k : ℕ) → k < star
 zip_places f g start zero h = tt
 zip_places f g start (suc count) h = (h start (omega arith), zip_places f g (start + 1) count (λ k lt. h k (omega arith)))
 
-pub zip_numbers : (f g : ℕ → ℕ) (m : ℕ) → ((k : ℕ) → k < m → f k ≤ g k) → AllZip ◌≤◌ (map f (list_numbers m)) (map g (list_numbers m))
-zip_numbers f g m h = zip_places f g 0 m (λ k lt. h k (omega arith))
+pub zip_numbers : (f g : ℕ → ℕ) (m : ℕ) → ((k : ℕ) → k < m → f k ≤ g k) → NoSmaller (map f (list_numbers m)) (map g (list_numbers m))
+zip_numbers f g m h = no_smaller _ _ (zip_places f g 0 m (λ k lt. h k (omega arith)))
 
 -- the grades of an object, by the numbers of the lists
 pub grades_by_number : (m : ℕ) (D : List (List Row)) (object : ℕ) → length D ≡ m → grades_of D object ≡ map (λ list. grade_in (list_at D list) object) (list_numbers m)
@@ -111,7 +112,7 @@ list_above m n D A object list agrees lt =
       | inl none ↦ (
           let front = sorted_rows list A in
           let rest = drop (length front) (list_at D list) in
-          let split : list_at D list ≡ front ++ rest = begins_splits front (list_at D list) (agrees.sorted list lt) in
+          let split : list_at D list ≡ front ++ rest = begins_splits front (list_at D list) (agrees.drawn.sorted list lt) in
           let ranked : IsRanked (list_at D list) = list_at_ranked n D list agrees.table (let e = agrees.lists in omega arith) in
           let falls : Falls top_grade (front ++ rest) = subst (λ rows. Falls top_grade rows) split (Falls-from_ranked (list_at D list) ranked) in
           let below = unknown_below top_grade front rest object falls (sorted_none list object A none) in

@@ -1,5 +1,5 @@
 -- The eight kinds: where one holds no table agrees with the longer transcript, and where none does one is built.
-use Rattle.std.proofs.Common.{◌≡◌, ◌≢◌, ℕ, zero, suc, ◌+◌, ◌-◌, ◌<◌, ◌≤◌, inl, inr, not, List, [], ◌∷◌, ◌++◌, length, map, take, drop, filter, All, AllPairs, Contains, refl, sym, ap, subst, subst₂, ◌∙◌, arith, min, length-append, length-take, append_assoc, append-nil, take-append-drop}
+use Rattle.std.proofs.Common.{◌≡◌, ◌≢◌, ℕ, zero, suc, ◌+◌, ◌-◌, ◌<◌, ◌≤◌, inl, inr, not, List, [], ◌∷◌, ◌++◌, length, map, take, drop, All, AllPairs, Contains, refl, sym, ap, subst, subst₂, ◌∙◌, arith, min, length-append, length-take, append_assoc, append-nil, take-append-drop}
 use Rattle.std.specs.List.{range_with_len, slice_index_or}
 use Rattle.std.proofs.lemmas.Bool.{cases_Bool, not-true}
 use Rattle.std.proofs.lemmas.List.FromFn.{length-range_with_len, get_or-range_with_len}
@@ -13,13 +13,14 @@ use Rattle.topk_theory.specs.Aggregate.{objects_of}
 use Rattle.topk_theory.specs.Transcript.{Agrees, list_of, object_of, sorted_rows, random_rows, named_objects, bottom_of, last_grade}
 use Rattle.topk_theory.specs.Fixes.{IsObjectSet}
 use Rattle.topk_theory.specs.Consistent.{Kind, IsOfKind, SomeAgrees, HasNoFault}
+use Rattle.topk_theory.specs.Adversary.{completed, unnamed, object_set}
 use Rattle.topk_theory.specs.Consistent.Kind.{no_such_list, above_top, too_many_objects, rises, repeats, clashes, falls_short, above_bottom}
 use Rattle.topk_theory.proofs.AgreementLists.{contains_here, contains_there, contains_map_from, all_from_members, member_of_all, distinct_fits, distinct_head, distinct_tail}
 use Rattle.topk_theory.proofs.AgreementNames.{has, has_contains, has_not, each_once_within}
 use Rattle.topk_theory.proofs.AgreementRows.{object_of_row}
 use Rattle.topk_theory.proofs.Agreement.{agrees_front, named_distinct, named_objects_new, contains_middle, sorted_rows_sorted, sorted_rows_random, random_rows_random, random_rows_sorted, bottom_of_sorted}
 use Rattle.topk_theory.proofs.ConsistentRows.{AreCoherent, ranked_capped, behind_below_last, ranked_parts_apart, filter_has, filter_from}
-use Rattle.topk_theory.proofs.ConsistentTable.{IsCoherent, coherent_none, coherent_push, agrees_coherent, given_split, MayComplete, completed, completed_agrees, completed_objects}
+use Rattle.topk_theory.proofs.ConsistentTable.{IsCoherent, coherent_none, coherent_push, agrees_coherent, given_split, MayComplete, completed_agrees, completed_objects}
 
 -- where the longer transcript is coherent its last access is of no kind
 free_sorted : (m n : ℕ) (A : List Access) (list object grade : ℕ) → IsCoherent m n (A ++ Sorted list object grade ∷ []) → AreCoherent (sorted_rows list A ++ record { object = object; grade = grade } ∷ []) (random_rows list A) → (kind : Kind) → ¬ IsOfKind m n A (Sorted list object grade) kind
@@ -116,7 +117,7 @@ distinct_take (suc k) (x ∷ xs) d =
     (all_from_members (λ y. x ≢ y) (take k xs) (λ y c. distinct_head x xs y d (take_within k xs y c)))
     (distinct_take k xs (distinct_tail x xs d))
 
-range_distinct : (n : ℕ) → AllPairs (λ (x : ℕ) (y : ℕ). x ≢ y) (range_with_len 0 n)
+pub range_distinct : (n : ℕ) → AllPairs (λ (x : ℕ) (y : ℕ). x ≢ y) (range_with_len 0 n)
 range_distinct n = λ i j d l m.
     let size : length (range_with_len 0 n) ≡ n = length-range_with_len 0 n in
     let a : slice_index_or (range_with_len 0 n) i d ≡ 0 + i = get_or-range_with_len 0 n i d (omega arith) in
@@ -129,12 +130,6 @@ range_below n x c =
     let at : c.0 < length (range_with_len 0 n) = c.1 in
     let e : x ≡ 0 + c.0 = sym c.2 ∙ get_or-range_with_len 0 n c.0 x (omega arith) in
     omega arith
-
-abbrev unnamed : ℕ → List ℕ → List ℕ
-unnamed n names = filter (λ o. not (has o names)) (range_with_len 0 n)
-
-abbrev pub object_set : ℕ → List ℕ → List ℕ
-object_set n names = names ++ take (n - length names) (unnamed n names)
 
 unnamed_many : (n : ℕ) (names : List ℕ) → n ≤ length names + length (unnamed n names)
 unnamed_many n names =

@@ -1,5 +1,5 @@
 -- One list of a transcript: the rows that were read from it in order, and those that were looked up. When some ranked list has them, and how one is built.
-use Rattle.std.proofs.Common.{◌≡◌, ◌≢◌, ℕ, suc, ◌<◌, ◌≤◌, ◌⊎◌, inl, inr, Bool, true, false, not, cond, ◌==◌, ◌||◌, ◌&&◌, nat_lt, List, [], ◌∷◌, ◌++◌, length, map, filter, All, AllPairs, Contains, refl, sym, ap, subst, ◌∙◌, arith, eqb-true, ltb-true, ltb-false}
+use Rattle.std.proofs.Common.{◌≡◌, ◌≢◌, ℕ, suc, ◌<◌, ◌≤◌, ◌⊎◌, inl, inr, Bool, true, false, not, ◌==◌, ◌&&◌, nat_lt, List, [], ◌∷◌, ◌++◌, length, filter, All, AllPairs, Contains, refl, sym, ap, subst, ◌∙◌, arith, eqb-true, ltb-true, ltb-false}
 use Rattle.std.proofs.lemmas.Bool.{cases_Bool, cases_lt, cases_eq, cond-true, cond-false, or_cases, and_parts, or_parts, not-true, true≢false}
 use Rattle.std.proofs.lemmas.List.{length-map}
 use Rattle.std.proofs.lemmas.List.Elements.{Contains-append_left, Contains-append_right, Contains-append_cases, Contains-push, Contains-push_cases}
@@ -8,6 +8,7 @@ use Rattle.ranked_list.specs.declared.row.Row.{Row}
 use Rattle.ranked_list.specs.Table.{IsRanked, objects, grade_in, top_grade}
 use Rattle.topk_theory.specs.Transcript.{last_grade}
 use Rattle.topk_theory.specs.Consistent.{HasOther, HasAbove}
+use Rattle.topk_theory.specs.Adversary.{is_above, put_row, by_grade, graded, unread, filled}
 use Rattle.topk_theory.proofs.AgreementLists.{contains_nil, contains_here, contains_there, contains_cases, contains_map, contains_map_from, all_from_members, member_of_all, distinct_fits, distinct_head, distinct_tail}
 use Rattle.topk_theory.proofs.AgreementNames.{has, has_contains, has_not, not_has}
 use Rattle.topk_theory.proofs.AgreementRows.{row_is, ranked_tail, ranked_head_apart, grade_in_row, object_of_row, objects_distinct}
@@ -214,24 +215,13 @@ coherent_looked read looked object grade h top same_read same_looked below = rec
     ]
 
 -- rows in the order of their grades falling, and of their objects rising among equal grades
-abbrev pub is_above : Row → Row → Bool
-is_above row other = nat_lt other.grade row.grade || (row.grade == other.grade && nat_lt row.object other.object)
-
-abbrev pub put_row : Row → List Row → List Row
-put_row row [] = row ∷ []
-put_row row (other ∷ rows) = cond (is_above row other) (row ∷ other ∷ rows) (other ∷ put_row row rows)
-
-abbrev pub by_grade : List Row → List Row
-by_grade [] = []
-by_grade (row ∷ rows) = put_row row (by_grade rows)
-
-put_here : (row other : Row) (rows : List Row) → is_above row other ≡ true → put_row row (other ∷ rows) ≡ row ∷ other ∷ rows
+pub put_here : (row other : Row) (rows : List Row) → is_above row other ≡ true → put_row row (other ∷ rows) ≡ row ∷ other ∷ rows
 put_here row other rows e = cond-true (is_above row other) (row ∷ other ∷ rows) (other ∷ put_row row rows) e
 
-put_later : (row other : Row) (rows : List Row) → is_above row other ≡ false → put_row row (other ∷ rows) ≡ other ∷ put_row row rows
+pub put_later : (row other : Row) (rows : List Row) → is_above row other ≡ false → put_row row (other ∷ rows) ≡ other ∷ put_row row rows
 put_later row other rows e = cond-false (is_above row other) (row ∷ other ∷ rows) (other ∷ put_row row rows) e
 
-put_members : (row : Row) (rows : List Row) (x : Row) → Contains (put_row row rows) x → (row ≡ x) ⊎ Contains rows x
+pub put_members : (row : Row) (rows : List Row) (x : Row) → Contains (put_row row rows) x → (row ≡ x) ⊎ Contains rows x
 put_members row [] x c = contains_cases row [] x c
 put_members row (other ∷ rows) x c =
     elim (cases_Bool (is_above row other)) [
@@ -319,19 +309,8 @@ by_grade_ranked (row ∷ rows) d a =
     (a 0 row (omega arith))
     (λ other c. let in_rows = by_grade_members rows other c in λ same. d 0 (suc in_rows.0) other (omega arith) (omega (arith, in_rows.1)) (same ∙ sym (ap (λ (z : Row). z.object) in_rows.2)))
 
--- the rows of objects that have these grades
-abbrev pub graded : (ℕ → ℕ) → List ℕ → List Row
-graded G os = map (λ o. record { object = o; grade = G o }) os
-
--- the objects that no row has
-abbrev pub unread : List Row → List ℕ → List ℕ
-unread read O = filter (λ o. not (has o (objects read))) O
-
--- the rows that were read, and then the other objects of O with grades of G
-abbrev pub filled : (ℕ → ℕ) → List ℕ → List Row → List Row
-filled G O read = read ++ by_grade (graded G (unread read O))
-
-graded_distinct : (G : ℕ → ℕ) (os : List ℕ) → AllPairs (λ (x : ℕ) (y : ℕ). x ≢ y) os → AllPairs (λ (above : Row) (below : Row). above.object ≢ below.object) (graded G os)
+-- the rows of objects that have these grades, and a list that is filled with them
+pub graded_distinct : (G : ℕ → ℕ) (os : List ℕ) → AllPairs (λ (x : ℕ) (y : ℕ). x ≢ y) os → AllPairs (λ (above : Row) (below : Row). above.object ≢ below.object) (graded G os)
 graded_distinct G [] d = λ i j e l m. absurd (omega arith)
 graded_distinct G (o ∷ os) d =
     AllPairs-cons (λ (above : Row) (below : Row). above.object ≢ below.object) (record { object = o; grade = G o }) (graded G os)

@@ -1,5 +1,5 @@
 -- When some table agrees with a transcript, list by list, and the table that is built where one does.
-use Rattle.std.proofs.Common.{◌≡◌, ℕ, zero, suc, ◌+◌, ◌<◌, ◌≤◌, ◌⊎◌, inl, inr, cond, ◌==◌, List, [], ◌∷◌, ◌++◌, length, map, drop, All, Contains, Option, Some, None, unwrap_or, refl, sym, ap, subst, subst₂, ◌∙◌, arith, eqb-true, eq-eqb, length-append}
+use Rattle.std.proofs.Common.{◌≡◌, ℕ, zero, suc, ◌+◌, ◌<◌, ◌≤◌, ◌⊎◌, inl, inr, cond, ◌==◌, List, [], ◌∷◌, ◌++◌, length, drop, All, Contains, Option, Some, None, unwrap_or, refl, sym, ap, subst, subst₂, ◌∙◌, arith, eqb-true, eq-eqb, length-append}
 use Rattle.std.specs.List.{cons_option, range_with_len}
 use Rattle.std.proofs.lemmas.Bool.{cases_Bool, cases_lt, cases_eq, cond-true, cond-false}
 use Rattle.std.proofs.lemmas.List.FromFn.{length-range_with_len, get_or-range_with_len, get_or-map-range_with_len, length-map-range_with_len}
@@ -13,12 +13,13 @@ use Rattle.topk_theory.specs.Transcript.{Agrees, Begins, list_at, list_of, objec
 use Rattle.topk_theory.specs.Bounds.{known_grade}
 use Rattle.topk_theory.specs.Fixes.{IsObjectSet, IsOver}
 use Rattle.topk_theory.specs.Consistent.{Kind, IsOfKind}
+use Rattle.topk_theory.specs.Adversary.{filled, chosen, completed}
 use Rattle.topk_theory.specs.Consistent.Kind.{no_such_list, above_top, too_many_objects, rises, repeats, clashes, falls_short, above_bottom}
 use Rattle.topk_theory.proofs.AgreementLists.{contains_nil, contains_here, contains_there, contains_cases, contains_map_from, all_from_members, member_of_all, begins_with, begins_splits}
 use Rattle.topk_theory.proofs.AgreementNames.{has, has_contains, has_not}
 use Rattle.topk_theory.proofs.AgreementRows.{grade_in_row, object_of_row, grade_among_row, grade_among_none, list_at_ranked}
 use Rattle.topk_theory.proofs.Agreement.{row_of, given_from, known_cases, named_contains, named_count, named_objects_old, named_objects_new, agrees_in_range, known_grade_is, sorted_rows_sorted, sorted_rows_other, sorted_rows_random, random_rows_random, random_rows_other, random_rows_sorted}
-use Rattle.topk_theory.proofs.ConsistentRows.{AreCoherent, ranked_nil, ranked_coherent, coherent_read, coherent_looked, filled, filled_other, filled_ranked, filled_objects, filled_has_objects, filled_length, filled_looked}
+use Rattle.topk_theory.proofs.ConsistentRows.{AreCoherent, ranked_nil, ranked_coherent, coherent_read, coherent_looked, filled_other, filled_ranked, filled_objects, filled_has_objects, filled_length, filled_looked}
 
 -- the rows that accesses gave are those that were read and those that were looked up
 given_here : (list : ℕ) (a : Access) (A : List Access) (row : Row) → Contains (given_rows list (a ∷ A)) row → ((list_of a ≡ list) × (row_of a ≡ row)) ⊎ Contains (given_rows list A) row
@@ -121,15 +122,15 @@ named_fits m n D (a ∷ A) h = let l : list_of a < m = agrees_in_range m n D (a 
 -- where a table agrees all of it holds
 pub agrees_coherent : (m n : ℕ) (D : List (List Row)) (A : List Access) → Agrees m n D A → IsCoherent m n A
 agrees_coherent m n D A h = record {
-  in_range = h.in_range;
+  in_range = h.drawn.in_range;
   fits = named_fits m n D A h;
   each = λ list l.
       let whole = list_at D list in
       let read = sorted_rows list A in
-      let split : whole ≡ read ++ drop (length read) whole = begins_splits read whole (h.sorted list l) in
+      let split : whole ≡ read ++ drop (length read) whole = begins_splits read whole (h.drawn.sorted list l) in
       ranked_coherent read (drop (length read) whole) (random_rows list A)
       (subst IsRanked split (list_at_ranked n D list h.table (subst (λ k. list < k) (sym h.lists) l)))
-      (λ row c. subst (λ rows. Contains rows row) split (member_of_all (Contains whole) (random_rows list A) row (h.random list l) c));
+      (λ row c. subst (λ rows. Contains rows row) split (member_of_all (Contains whole) (random_rows list A) row (h.drawn.random list l) c));
 }
 
 -- it stays where one more access is of no kind
@@ -184,12 +185,6 @@ coherent_push m n A a h free = record {
 }
 
 -- the table over O in which each known grade stands, and each unknown one is as chosen
-abbrev pub chosen : (ℕ → ℕ → ℕ) → List Access → ℕ → ℕ → ℕ
-chosen choose A list object = unwrap_or (known_grade A object list) (choose list object)
-
-abbrev pub completed : (ℕ → ℕ → ℕ) → List ℕ → ℕ → List Access → List (List Row)
-completed choose O m A = map (λ list. filled (chosen choose A list) O (sorted_rows list A)) (list_numbers m)
-
 pub completed_at : (choose : ℕ → ℕ → ℕ) (O : List ℕ) (m : ℕ) (A : List Access) (list : ℕ) → list < m → list_at (completed choose O m A) list ≡ filled (chosen choose A list) O (sorted_rows list A)
 completed_at choose O m A list l = get_or-map-range_with_len (λ k. filled (chosen choose A k) O (sorted_rows k A)) 0 m list list [] l (omega arith)
 
@@ -265,13 +260,15 @@ pub completed_agrees : (choose : ℕ → ℕ → ℕ) (O : List ℕ) (m n : ℕ)
 completed_agrees choose O m n A h = record {
   lists = length-map-range_with_len (λ list. filled (chosen choose A list) O (sorted_rows list A)) 0 m;
   table = completed_table choose O m n A h;
-  in_range = h.coherent.in_range;
-  sorted = λ list l. subst (λ rows. Begins (sorted_rows list A) rows) (sym (completed_at choose O m A list l)) (begins_with (sorted_rows list A) _);
-  random = λ list l. subst (λ rows. All (Contains rows) (random_rows list A)) (sym (completed_at choose O m A list l))
-      (all_from_members (Contains (filled (chosen choose A list) O (sorted_rows list A))) (random_rows list A) (λ row c.
-      filled_looked (chosen choose A list) O (sorted_rows list A) (random_rows list A) row (h.coherent.each list l) c
-      (h.named row.object (given_named list A row (random_given list A row c)))
-      (λ unread. chosen_known choose A list row (h.coherent.each list l) c unread)));
+  drawn = record {
+    in_range = h.coherent.in_range;
+    sorted = λ list l. subst (λ rows. Begins (sorted_rows list A) rows) (sym (completed_at choose O m A list l)) (begins_with (sorted_rows list A) _);
+    random = λ list l. subst (λ rows. All (Contains rows) (random_rows list A)) (sym (completed_at choose O m A list l))
+        (all_from_members (Contains (filled (chosen choose A list) O (sorted_rows list A))) (random_rows list A) (λ row c.
+        filled_looked (chosen choose A list) O (sorted_rows list A) (random_rows list A) row (h.coherent.each list l) c
+        (h.named row.object (given_named list A row (random_given list A row c)))
+        (λ unread. chosen_known choose A list row (h.coherent.each list l) c unread)));
+  };
 }
 
 -- its objects are those of O, and each grade is the known one or else the chosen one

@@ -1,14 +1,16 @@
 -- What the algorithm without random access does on a whole table.
 use Rattle.std.proofs.Common.{◌≡◌, ◌≤◌, ◌<◌, ◌+◌, ◌-◌, ℕ, zero, suc, true, List, [], ◌∷◌, length, take, refl, sym, ap, subst, ◌∙◌, arith, get_or}
 use Rattle.std.specs.List.{All, Contains}
+use Rattle.std.proofs.Math.Seq.{take-length}
 use Rattle.std.proofs.lemmas.List.{length-map, length-take-le, get_or-map}
 use Rattle.std.proofs.lemmas.List.Elements.{All-append, All-nil, All-cons}
 use Rattle.ranked_list.specs.declared.row.Row.{Row}
 use Rattle.ranked_list.specs.declared.item.Item.{Item}
 use Rattle.ranked_list.specs.Table.{IsTable}
-use Rattle.best_k.specs.Order.{AreDistinct, IsBefore}
+use Rattle.topk_theory.specs.Order.{AreDistinct, IsBefore}
 use Rattle.topk_theory.specs.declared.access.Access.{Access}
-use Rattle.topk_theory.specs.Aggregate.{IsMonotone, IsTop, objects_of}
+use Rattle.monotone_fn.specs.Value.{IsMonotone}
+use Rattle.topk_theory.specs.Aggregate.{IsTop, objects_of}
 use Rattle.topk_theory.specs.Transcript.{Agrees, Begins, list_of, list_at, seen_objects}
 use Rattle.topk_theory.specs.Bounds.{bounded}
 use Rattle.topk_theory.specs.Threshold.{IsAsked, item_objects, sorted_block}
@@ -18,14 +20,14 @@ use Rattle.topk_theory.proofs.AgreementRows.{list_at_length}
 use Rattle.topk_theory.proofs.BoundsLaws.{low_holds, high_holds}
 use Rattle.topk_theory.proofs.ThresholdDepth.{least_from-start, least_from-end, least_from-passes, least_from-before}
 use Rattle.topk_theory.proofs.NoRandomRun.{run_rows, run_random}
-use Rattle.topk_theory.proofs.NoRandomQuiet.{full_quiet}
+use Rattle.topk_theory.proofs.NoRandomQuiet.{GivesAll, full_quiet}
 use Rattle.topk_theory.proofs.NoRandomTop.{object_of_seen, quiet_top}
-use Rattle.best_k.proofs.FirstK.{first_k-is}
-use Rattle.best_k.proofs.InOrder.{length-in_order}
-use Rattle.best_k.proofs.OrderLaws.{IsBefore-irreflexive}
+use Rattle.topk_theory.proofs.FirstK.{first_k-is}
+use Rattle.topk_theory.proofs.InOrder.{length-in_order}
+use Rattle.topk_theory.proofs.OrderLaws.{IsBefore-irreflexive}
 
 -- the items of distinct objects are of distinct objects
-items_distinct : (V : List ℕ → ℕ) (m : ℕ) (A : List Access) → AreDistinct (seen_items V m A)
+pub items_distinct : (V : List ℕ → ℕ) (m : ℕ) (A : List Access) → AreDistinct (seen_items V m A)
 items_distinct V m A = λ i j d lt in_range same.
     let size : length (seen_items V m A) ≡ length (seen_objects A) = length-map (seen_objects A) (bounded V m A) in
     let at_i : get_or (seen_items V m A) i d ≡ bounded V m A (get_or (seen_objects A) i 0) = get_or-map (bounded V m A) (seen_objects A) i 0 d (omega arith) in
@@ -33,7 +35,7 @@ items_distinct V m A = λ i j d lt in_range same.
     seen_distinct A i j 0 lt (omega arith) (sym (ap (λ (item : Item). item.object) at_i) ∙ same ∙ ap (λ (item : Item). item.object) at_j)
 
 -- so are those of the first k
-first_distinct : (V : List ℕ → ℕ) (k m : ℕ) (A : List Access) → AreDistinct (first_seen V k m A)
+pub first_distinct : (V : List ℕ → ℕ) (k m : ℕ) (A : List Access) → AreDistinct (first_seen V k m A)
 first_distinct V k m A = λ i j d lt in_range same.
     let first = first_k-is k (seen_items V m A) (items_distinct V m A) in
     let one : Item = get_or (first_seen V k m A) i d in
@@ -43,7 +45,7 @@ first_distinct V k m A = λ i j d lt in_range same.
     let equal : one ≡ two = one_is ∙ ap (bounded V m A) same ∙ sym two_is in
     IsBefore-irreflexive one (subst (λ other. IsBefore one other) (sym equal) (first.ordered i j d lt in_range))
 
-block_in_range : (base depth m : ℕ) (D : List (List Row)) → base + length D ≤ m → All (λ (access : Access). list_of access < m) (sorted_block base depth D)
+pub block_in_range : (base depth m : ℕ) (D : List (List Row)) → base + length D ≤ m → All (λ (access : Access). list_of access < m) (sorted_block base depth D)
 block_in_range base depth m [] le = All-nil (λ (access : Access). list_of access < m)
 block_in_range base depth m (rows ∷ D) le =
     All-cons (λ (access : Access). list_of access < m) _ (sorted_block (base + 1) depth D) (omega arith) (block_in_range (base + 1) depth m D (omega arith))
@@ -52,19 +54,25 @@ run_in_range : (depth : ℕ) (D : List (List Row)) → All (λ (access : Access)
 run_in_range zero D = All-nil (λ (access : Access). list_of access < length D)
 run_in_range (suc depth) D = All-append (λ (access : Access). list_of access < length D) (nra_run_to D depth) (sorted_block 0 (suc depth) D) (run_in_range depth D) (block_in_range 0 (suc depth) (length D) D (omega arith))
 
-begins_by_take : (depth : ℕ) (rows front : List Row) → depth ≤ length rows → front ≡ take depth rows → Begins front rows
+pub begins_by_take : (depth : ℕ) (rows front : List Row) → depth ≤ length rows → front ≡ take depth rows → Begins front rows
 begins_by_take depth rows front le e =
     let size : length front ≡ depth = ap length e ∙ length-take-le depth rows le in
     ap (λ k. take k rows) size ∙ sym e
+
+-- the depth of all rows gives every list whole
+full_rows : (n : ℕ) (D : List (List Row)) → IsTable n D → GivesAll D (nra_run_to D n)
+full_rows n D table list lt = run_rows n n D list table (omega arith) lt ∙ ap (λ k. take k (list_at D list)) (sym (list_at_length n D list table lt)) ∙ take-length (list_at D list)
 
 -- what it reads is what the table gives
 pub run_agrees : (n depth : ℕ) (D : List (List Row)) → IsTable n D → depth ≤ n → Agrees (length D) n D (nra_run_to D depth)
 run_agrees n depth D table le = record {
   lists = refl;
   table = table;
-  in_range = run_in_range depth D;
-  sorted = λ list lt. begins_by_take depth (list_at D list) _ (let e = list_at_length n D list table lt in omega arith) (run_rows n depth D list table le lt);
-  random = λ list lt. subst (λ rows. All (Contains (list_at D list)) rows) (sym (run_random depth D list)) (All-nil (Contains (list_at D list)));
+  drawn = record {
+    in_range = run_in_range depth D;
+    sorted = λ list lt. begins_by_take depth (list_at D list) _ (let e = list_at_length n D list table lt in omega arith) (run_rows n depth D list table le lt);
+    random = λ list lt. subst (λ rows. All (Contains (list_at D list)) rows) (sym (run_random depth D list)) (All-nil (Contains (list_at D list)));
+  };
 }
 
 -- the depth is the least at which it is quiet
@@ -77,7 +85,7 @@ nra_depth_is_least V k n D monotone asked =
     let k_fits = asked.fits in
     let last : 1 + more ≡ n = omega arith in
     let A = nra_run_to D n in
-    let quiet : passes (1 + more) ≡ true = subst (λ d. passes d ≡ true) (sym last) (full_quiet V k n D monotone asked.table asked.lists k_one k_fits (length-in_order (seen_items V (length D) A)) (first_k-is k (seen_items V (length D) A) (items_distinct V (length D) A))) in
+    let quiet : passes (1 + more) ≡ true = subst (λ d. passes d ≡ true) (sym last) (full_quiet V k n D (nra_run_to D n) monotone asked.table (full_rows n D asked.table) asked.lists k_one k_fits (length-in_order (seen_items V (length D) A)) (first_k-is k (seen_items V (length D) A) (items_distinct V (length D) A))) in
     let to = least_from-end passes more 1 in
     record {
       from_one = least_from-start passes more 1;

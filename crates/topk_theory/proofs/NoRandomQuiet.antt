@@ -1,31 +1,30 @@
--- At the depth of all rows everything is known, so the algorithm without random access is quiet there.
-use Rattle.std.proofs.Common.{◌≡◌, ◌≤◌, ◌<◌, ◌==◌, ◌-◌, ◌||◌, inl, inr, ℕ, true, false, not, cond, List, [], ◌∷◌, length, take, Option, Some, None, unwrap_or, refl, sym, ap, subst, ◌∙◌, arith, get_or, leb}
+-- Where every list was given whole everything is known, so an algorithm that tests for quiet stops there.
+use Rattle.std.proofs.Common.{◌≡◌, ◌≤◌, ◌<◌, ◌==◌, ◌-◌, ◌||◌, inl, inr, ℕ, true, false, not, cond, List, [], ◌∷◌, length, Option, Some, None, unwrap_or, refl, sym, ap, subst, ◌∙◌, arith, get_or, leb}
 use Rattle.std.specs.List.{filter_map, cons_option, Contains, list_any, list_all, slice_get}
 use Rattle.std.specs.Option.{option_map}
 use Rattle.std.proofs.lemmas.Bool.{cases_Bool, cases_lt, eq-eqb, le-leb, le-ltb, ltb-false, and_from, or_right, true≢false}
 use Rattle.std.proofs.lemmas.List.{length-take-le, get_or-take, length-map}
-use Rattle.std.proofs.Math.Seq.{take-length}
 use Rattle.std.proofs.lemmas.List.Sums.{list_all-from_AllPass}
 use Rattle.std.proofs.lemmas.Option.{slice_get-get_or}
 use Rattle.ranked_list.specs.declared.row.Row.{Row}
 use Rattle.ranked_list.specs.declared.item.Item.{Item}
 use Rattle.ranked_list.specs.Table.{IsTable, objects}
-use Rattle.best_k.specs.Order.{IsBefore, IsFirstK, in_order, first_k, kth_low}
+use Rattle.topk_theory.specs.Order.{IsBefore, IsFirstK, in_order, first_k, kth_low}
 use Rattle.topk_theory.specs.declared.access.Access.{Access}
 use Rattle.topk_theory.specs.declared.access.Access.TheVariants.{Sorted, Random}
-use Rattle.topk_theory.specs.Aggregate.{IsMonotone, objects_of}
+use Rattle.monotone_fn.specs.Value.{IsMonotone}
+use Rattle.topk_theory.specs.Aggregate.{objects_of}
 use Rattle.topk_theory.specs.Transcript.{sorted_rows, sorted_object, seen_objects, list_at, bottom_of}
 use Rattle.topk_theory.specs.Bounds.{known_grade, bounded, low, high}
-use Rattle.topk_theory.specs.NoRandom.{seen_items, first_seen, is_viable, is_quiet, exceeds, nra_run_to}
+use Rattle.topk_theory.specs.NoRandom.{seen_items, first_seen, is_viable, is_quiet, exceeds}
 use Rattle.topk_theory.proofs.AgreementLists.{contains_here, contains_there, contains_cases, contains_nil, contains_at, contains_map, all_from_members, distinct_fits}
 use Rattle.topk_theory.proofs.AgreementNames.{each_once_complete}
-use Rattle.topk_theory.proofs.AgreementRows.{grade_among_none, objects_in_each, list_at_length}
+use Rattle.topk_theory.proofs.AgreementRows.{grade_among_none, objects_in_each}
 use Rattle.topk_theory.proofs.Agreement.{objects_of_distinct, objects_of_count}
 use Rattle.topk_theory.proofs.BoundsLaws.{zip_numbers, sorted_none}
-use Rattle.topk_theory.proofs.NoRandomRun.{run_rows}
 
 -- what a list gave under sorted access is seen
-sorted_is_seen : (list object : ℕ) (A : List Access) → Contains (objects (sorted_rows list A)) object → Contains (filter_map sorted_object A) object
+pub sorted_is_seen : (list object : ℕ) (A : List Access) → Contains (objects (sorted_rows list A)) object → Contains (filter_map sorted_object A) object
 sorted_is_seen list object [] c = absurd (contains_nil object c)
 sorted_is_seen list object (Sorted other o g ∷ A) c =
     elim (other == list) as (λ b. Contains (objects (cons_option (cond b (Some (record { object = o; grade = g })) None) (sorted_rows list A))) object → Contains (o ∷ filter_map sorted_object A) object) [
@@ -37,22 +36,22 @@ sorted_is_seen list object (Sorted other o g ∷ A) c =
     ] c
 sorted_is_seen list object (Random other o g ∷ A) c = sorted_is_seen list object A c
 
--- the depth of all rows
-full_rows : (n : ℕ) (D : List (List Row)) (list : ℕ) → IsTable n D → list < length D → sorted_rows list (nra_run_to D n) ≡ list_at D list
-full_rows n D list table lt = run_rows n n D list table (omega arith) lt ∙ ap (λ k. take k (list_at D list)) (sym (list_at_length n D list table lt)) ∙ take-length (list_at D list)
+-- a transcript that gives every list whole
+abbrev pub GivesAll : List (List Row) → List Access → Type 0
+GivesAll D A = (list : ℕ) → list < length D → sorted_rows list A ≡ list_at D list
 
-full_known : (n : ℕ) (D : List (List Row)) (list object : ℕ) → IsTable n D → list < length D → Contains (objects_of D) object → (known_grade (nra_run_to D n) object list ≡ None) → ⊥
-full_known n D list object table lt here none =
-    grade_among_none (sorted_rows list (nra_run_to D n)) object (sorted_none list object (nra_run_to D n) none) (subst (λ rows. Contains (objects rows) object) (sym (full_rows n D list table lt)) (objects_in_each n D list object table lt here))
+full_known : (n : ℕ) (D : List (List Row)) (A : List Access) (list object : ℕ) → IsTable n D → GivesAll D A → list < length D → Contains (objects_of D) object → (known_grade A object list ≡ None) → ⊥
+full_known n D A list object table full lt here none =
+    grade_among_none (sorted_rows list A) object (sorted_none list object A none) (subst (λ rows. Contains (objects rows) object) (sym (full list lt)) (objects_in_each n D list object table lt here))
 
 -- every object of the table is seen there
-full_seen : (n : ℕ) (D : List (List Row)) (object : ℕ) → IsTable n D → 0 < length D → Contains (objects_of D) object → Contains (seen_objects (nra_run_to D n)) object
-full_seen n D object table some here =
-    each_once_complete (filter_map sorted_object (nra_run_to D n)) object (sorted_is_seen 0 object (nra_run_to D n) (subst (λ rows. Contains (objects rows) object) (sym (full_rows n D 0 table some)) (objects_in_each n D 0 object table some here)))
+pub full_seen : (n : ℕ) (D : List (List Row)) (A : List Access) (object : ℕ) → IsTable n D → GivesAll D A → 0 < length D → Contains (objects_of D) object → Contains (seen_objects A) object
+full_seen n D A object table full some here =
+    each_once_complete (filter_map sorted_object A) object (sorted_is_seen 0 object A (subst (λ rows. Contains (objects rows) object) (sym (full 0 some)) (objects_in_each n D 0 object table some here)))
 
-full_count : (n : ℕ) (D : List (List Row)) → IsTable n D → 0 < length D → n ≤ length (seen_objects (nra_run_to D n))
-full_count n D table some =
-    let all = distinct_fits (objects_of D) (seen_objects (nra_run_to D n)) (objects_of_distinct n D table) (λ o c. full_seen n D o table some c) in
+full_count : (n : ℕ) (D : List (List Row)) (A : List Access) → IsTable n D → GivesAll D A → 0 < length D → n ≤ length (seen_objects A)
+full_count n D A table full some =
+    let all = distinct_fits (objects_of D) (seen_objects A) (objects_of_distinct n D table) (λ o c. full_seen n D A o table full some c) in
     let count = objects_of_count n D table some in
     omega arith
 
@@ -61,9 +60,9 @@ same_where_known : (known : Option ℕ) (bottom : ℕ) → (known ≡ None → �
 same_where_known None bottom some = absurd (some refl)
 same_where_known (Some grade) bottom some = omega arith
 
-full_bounds : (V : List ℕ → ℕ) (n : ℕ) (D : List (List Row)) (object : ℕ) → IsMonotone V → IsTable n D → Contains (objects_of D) object → high V (length D) (nra_run_to D n) object ≤ low V (length D) (nra_run_to D n) object
-full_bounds V n D object monotone table here =
-    monotone _ _ (zip_numbers (λ list. unwrap_or (known_grade (nra_run_to D n) object list) (bottom_of list (nra_run_to D n))) (λ list. unwrap_or (known_grade (nra_run_to D n) object list) 0) (length D) (λ list lt. same_where_known (known_grade (nra_run_to D n) object list) (bottom_of list (nra_run_to D n)) (full_known n D list object table lt here)))
+full_bounds : (V : List ℕ → ℕ) (n : ℕ) (D : List (List Row)) (A : List Access) (object : ℕ) → IsMonotone V → IsTable n D → GivesAll D A → Contains (objects_of D) object → high V (length D) A object ≤ low V (length D) A object
+full_bounds V n D A object monotone table full here =
+    monotone _ _ (zip_numbers (λ list. unwrap_or (known_grade A object list) (bottom_of list A)) (λ list. unwrap_or (known_grade A object list) 0) (length D) (λ list lt. same_where_known (known_grade A object list) (bottom_of list A) (full_known n D A list object table full lt here)))
 
 exceeds_less : (found : Option ℕ) (number less : ℕ) → less ≤ number → exceeds found number ≡ false → exceeds found less ≡ false
 exceeds_less None number less le e = e
@@ -91,22 +90,21 @@ outside_low k items outside one enough first here out =
     let le : outside.low ≤ last.low = not_before outside last (first.none_ahead last outside inside here out) in
     ap (λ o. exceeds (option_map (λ (item : Item). item.low) o) outside.low) found ∙ le-ltb last.low outside.low le
 
--- the depth of all rows is quiet
-pub full_quiet : (V : List ℕ → ℕ) (k n : ℕ) (D : List (List Row)) → IsMonotone V → IsTable n D → 0 < length D → 1 ≤ k → k ≤ n → length (in_order (seen_items V (length D) (nra_run_to D n))) ≡ length (seen_items V (length D) (nra_run_to D n)) → IsFirstK k (seen_items V (length D) (nra_run_to D n)) (first_seen V k (length D) (nra_run_to D n)) → is_quiet V k (length D) D (nra_run_to D n) ≡ true
-full_quiet V k n D monotone table some one fits whole first =
-    let A = nra_run_to D n in
+-- such a transcript is quiet
+pub full_quiet : (V : List ℕ → ℕ) (k n : ℕ) (D : List (List Row)) (A : List Access) → IsMonotone V → IsTable n D → GivesAll D A → 0 < length D → 1 ≤ k → k ≤ n → length (in_order (seen_items V (length D) A)) ≡ length (seen_items V (length D) A) → IsFirstK k (seen_items V (length D) A) (first_seen V k (length D) A) → is_quiet V k (length D) D A ≡ true
+full_quiet V k n D A monotone table full some one fits whole first =
     let m = length D in
-    let count : n ≤ length (seen_objects A) = full_count n D table some in
+    let count : n ≤ length (seen_objects A) = full_count n D A table full some in
     let made : length (seen_items V m A) ≡ length (seen_objects A) = length-map (seen_objects A) (bounded V m A) in
     let each : (object : ℕ) → Contains (objects_of D) object → (list_any (λ (item : Item). item.object == object) (first_seen V k m A) || not (is_viable V k m A object)) ≡ true = λ object here.
     elim (cases_Bool (list_any (λ (item : Item). item.object == object) (first_seen V k m A))) [
       | inl t ↦ ap (λ b. b || not (is_viable V k m A object)) t
       | inr f ↦ (
           let item : Item = bounded V m A object in
-          let held : Contains (seen_items V m A) item = contains_map (bounded V m A) (seen_objects A) object (full_seen n D object table some here) in
+          let held : Contains (seen_items V m A) item = contains_map (bounded V m A) (seen_objects A) object (full_seen n D A object table full some here) in
           let out : Contains (first_seen V k m A) item → ⊥ = λ c. true≢false (sym (item_has (first_seen V k m A) item c) ∙ f) in
           let low_out : exceeds (kth_low k (seen_items V m A)) item.low ≡ false = outside_low k (seen_items V m A) item one (omega arith) first held out in
-          let meet = full_bounds V n D object monotone table here in
+          let meet = full_bounds V n D A object monotone table full here in
           let high_out : is_viable V k m A object ≡ false = exceeds_less (kth_low k (seen_items V m A)) item.low item.high meet low_out in
           or_right (list_any (λ (item : Item). item.object == object) (first_seen V k m A)) (not (is_viable V k m A object)) (ap not high_out))
     ] in

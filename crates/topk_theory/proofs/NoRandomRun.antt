@@ -19,7 +19,7 @@ block_past list base depth (rows ∷ lists) lt =
     let other : (base == list) ≡ false = ne_eqb base list (λ e. omega arith) in
     rw other (block_past list (base + 1) depth lists (omega arith))
 
-block_at : (k base depth : ℕ) (lists : List (List Row)) → k < length lists → sorted_rows (base + k) (sorted_block base depth lists) ≡ row_at (list_at lists k) depth ∷ []
+pub block_at : (k base depth : ℕ) (lists : List (List Row)) → k < length lists → sorted_rows (base + k) (sorted_block base depth lists) ≡ row_at (list_at lists k) depth ∷ []
 block_at k base depth [] lt = absurd (omega arith)
 block_at zero base depth (rows ∷ lists) lt =
     let same : (base == (base + 0)) ≡ true = eq-eqb base (base + 0) (omega arith) in
@@ -29,7 +29,7 @@ block_at (suc k) base depth (rows ∷ lists) lt =
     let next : base + suc k ≡ (base + 1) + k = omega arith in
     rw other (subst (λ l. sorted_rows l (sorted_block (base + 1) depth lists) ≡ row_at (list_at lists k) depth ∷ []) (sym next) (block_at k (base + 1) depth lists (omega arith)))
 
-block_random : (list base depth : ℕ) (lists : List (List Row)) → random_rows list (sorted_block base depth lists) ≡ []
+pub block_random : (list base depth : ℕ) (lists : List (List Row)) → random_rows list (sorted_block base depth lists) ≡ []
 block_random list base depth [] = refl
 block_random list base depth (rows ∷ lists) = block_random list (base + 1) depth lists
 
@@ -51,7 +51,7 @@ run_random (suc depth) D list =
     random_rows_append list (nra_run_to D depth) (sorted_block 0 (suc depth) D) ∙ ap (λ t. t ++ random_rows list (sorted_block 0 (suc depth) D)) (run_random depth D list) ∙ block_random list 0 (suc depth) D
 
 -- no access is a random one
-block_asks : (list depth : ℕ) (D : List (List Row)) → random_count (sorted_block list depth D) ≡ 0
+pub block_asks : (list depth : ℕ) (D : List (List Row)) → random_count (sorted_block list depth D) ≡ 0
 block_asks list depth [] = refl
 block_asks list depth (rows ∷ D) =
     let more : random_count (sorted_block (list + 1) depth D) ≡ 0 = block_asks (list + 1) depth D in

@@ -9,7 +9,7 @@ use Rattle.std.proofs.lemmas.Option.{slice_get_within, get_or_from_slice_get}
 use Rattle.std.specs.Option.{option_map}
 use Rattle.ranked_list.specs.declared.row.Row.{Row}
 use Rattle.ranked_list.specs.declared.item.Item.{Item}
-use Rattle.best_k.specs.Order.{IsBefore, IsFirstK, AreDistinct, in_order, first_k, kth_low}
+use Rattle.topk_theory.specs.Order.{IsBefore, IsFirstK, AreDistinct, in_order, first_k, kth_low}
 use Rattle.topk_theory.specs.declared.access.Access.{Access}
 use Rattle.topk_theory.specs.Aggregate.{IsTop, objects_of, aggregate}
 use Rattle.topk_theory.specs.Transcript.{seen_objects}

@@ -3,10 +3,11 @@ use Rattle.std.proofs.Common.{◌≡◌, ℕ, zero, suc, ◌+◌, ◌-◌, ◌<�
 use Rattle.std.proofs.lemmas.Bool.{cases_Bool, cases_order, le-leb, lt-ltb, ltb-true, ltb-false}
 use Rattle.ranked_list.specs.declared.row.Row.{Row}
 use Rattle.ranked_list.specs.Table.{objects, IsRanked, IsTable, place_in, grade_in}
-use Rattle.topk_theory.specs.Aggregate.{objects_of, grades_of, aggregate, IsMonotone}
+use Rattle.monotone_fn.specs.Value.{IsMonotone}
+use Rattle.topk_theory.specs.Aggregate.{objects_of, grades_of, aggregate}
 use Rattle.topk_theory.specs.Threshold.{row_at, stands, objects_to, threshold_at, ta_stop, least_from, ta_depth, IsLeastDepth}
 use Rattle.topk_theory.proofs.AgreementLists.{contains_nil, contains_here, member_of_all}
-use Rattle.topk_theory.proofs.ThresholdLists.{filter_all, count_all, any_from_member, member_from_any, none_from_any, all_zip_map}
+use Rattle.topk_theory.proofs.ThresholdLists.{filter_all, count_all, any_from_member, member_from_any, none_from_any, no_smaller_map}
 use Rattle.topk_theory.proofs.ThresholdTables.{no_row, place_in-lt, grade_in-at_place, length-objects}
 
 -- the least number that passes a test
@@ -102,14 +103,14 @@ grade_below n D rows object depth t h o positive below =
 pub unseen_at_most : (V : List ℕ → ℕ) (n : ℕ) (D : List (List Row)) (object depth : ℕ) → IsMonotone V → IsTable n D → Contains (objects_of D) object → 1 ≤ depth → stands D depth object ≡ false → aggregate V D object ≤ threshold_at V D depth
 unseen_at_most V n D object depth monotone t o positive unseen =
     monotone (grades_of D object) (map (λ (rows : List Row). (row_at rows depth).grade) D)
-    (all_zip_map (λ (rows : List Row). grade_in rows object) (λ (rows : List Row). (row_at rows depth).grade) D
+    (no_smaller_map (λ (rows : List Row). grade_in rows object) (λ (rows : List Row). (row_at rows depth).grade) D
     (λ rows h. grade_below n D rows object depth t h o positive (ltb-false (place_in rows object) depth (none_from_any (λ (rows : List Row). nat_lt (place_in rows object) depth) D rows unseen h))))
 
 -- an object that stands in each list down to a depth has at least that aggregate
 pub seen_at_least : (V : List ℕ → ℕ) (n : ℕ) (D : List (List Row)) (object depth : ℕ) → IsMonotone V → IsTable n D → Contains (objects_of D) object → depth ≤ n → ((rows : List Row) → Contains D rows → place_in rows object < depth) → threshold_at V D depth ≤ aggregate V D object
 seen_at_least V n D object depth monotone t o within above =
     monotone (map (λ (rows : List Row). (row_at rows depth).grade) D) (grades_of D object)
-    (all_zip_map (λ (rows : List Row). (row_at rows depth).grade) (λ (rows : List Row). grade_in rows object) D
+    (no_smaller_map (λ (rows : List Row). (row_at rows depth).grade) (λ (rows : List Row). grade_in rows object) D
     (λ rows h. grade_above n D rows object depth t h o within (above rows h)))
 
 pub stands_within : (D : List (List Row)) (rows : List Row) (depth object : ℕ) → Contains D rows → place_in rows object < depth → stands D depth object ≡ true

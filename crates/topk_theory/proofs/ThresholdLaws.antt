@@ -2,7 +2,8 @@
 use Rattle.std.proofs.Common.{ℕ, List, length, map, All, Contains, subst}
 use Rattle.ranked_list.specs.declared.row.Row.{Row}
 use Rattle.ranked_list.specs.declared.item.Item.{Item}
-use Rattle.topk_theory.specs.Aggregate.{objects_of, IsMonotone, IsTop}
+use Rattle.monotone_fn.specs.Value.{IsMonotone}
+use Rattle.topk_theory.specs.Aggregate.{objects_of, IsTop}
 use Rattle.topk_theory.specs.Transcript.{Agrees, IsTame, seen_objects}
 use Rattle.topk_theory.specs.Threshold.{IsAsked, IsLeastDepth, stands, objects_to, scored, ta_depth, ta_run, ta_answer, item_objects}
 use Rattle.topk_theory.proofs.AgreementLists.{contains_map_from, all_from_members, member_of_all}

@@ -4,7 +4,8 @@ use Rattle.std.specs.List.{list_any, AllZip, flat_map}
 use Rattle.std.proofs.lemmas.Bool.{cases_Bool, true≢false, or_cases, or_left, or_right, or_from, or_parts}
 use Rattle.std.proofs.lemmas.List.Sums.{length-filter}
 use Rattle.std.proofs.lemmas.List.Elements.{Contains-append_cases}
-use Rattle.topk_theory.proofs.AgreementLists.{contains_nil, contains_here, contains_there, contains_cases}
+use Rattle.monotone_fn.specs.Value.{NoSmaller}
+use Rattle.topk_theory.proofs.AgreementLists.{contains_nil, contains_here, contains_there, contains_cases, no_smaller}
 
 pub filter_here : {X : Type 0} (p : X → Bool) (x : X) (xs : List X) → p x ≡ true → filter p (x ∷ xs) ≡ x ∷ filter p xs
 filter_here p x xs t = ap (λ b. cond b (x ∷ filter p xs) (filter p xs)) t
@@ -109,9 +110,12 @@ any_from_none p [] h = refl
 any_from_none p (x ∷ xs) h = or_from (p x) (list_any p xs) (h x (contains_here x xs)) (any_from_none p xs (λ y k. h y (contains_there x xs y k)))
 
 -- two lists of numbers made from one list are compared place by place
-pub all_zip_map : {X : Type 0} (f g : X → ℕ) (xs : List X) → ((x : X) → Contains xs x → f x ≤ g x) → AllZip ◌≤◌ (map f xs) (map g xs)
+all_zip_map : {X : Type 0} (f g : X → ℕ) (xs : List X) → ((x : X) → Contains xs x → f x ≤ g x) → AllZip ◌≤◌ (map f xs) (map g xs)
 all_zip_map f g [] h = tt
 all_zip_map f g (x ∷ xs) h = (h x (contains_here x xs), all_zip_map f g xs (λ y k. h y (contains_there x xs y k)))
+
+pub no_smaller_map : {X : Type 0} (f g : X → ℕ) (xs : List X) → ((x : X) → Contains xs x → f x ≤ g x) → NoSmaller (map f xs) (map g xs)
+no_smaller_map f g xs h = no_smaller (map f xs) (map g xs) (all_zip_map f g xs h)
 
 -- members of a list that is made piece by piece
 pub contains_flat_map : {X Y : Type 0} (f : X → List Y) (xs : List X) (y : Y) → Contains (flat_map f xs) y → (x : X) × Contains xs x × Contains (f x) y

@@ -226,14 +226,16 @@ pub run_agrees : (n : ℕ) (D : List (List Row)) (depth : ℕ) → IsTable n D �
 run_agrees n D depth t within = record {
   lists = refl;
   table = t;
-  in_range = all_from_members (λ access. list_of access < length D) (ta_run_to D depth) (λ a h. given_in_range D a (run_given n D depth a t within h));
-  sorted = λ list l.
-      let e : sorted_rows list (ta_run_to D depth) ≡ take depth (list_at D list) = run_rows n D list depth t l within in
-      let long : length (list_at D list) ≡ n = list_at_length n D list t l in
-      subst (λ rows. Begins rows (list_at D list)) (sym e) (ap (λ p. take p (list_at D list)) (length-take-le depth (list_at D list) (omega arith)));
-  random = λ list l. all_from_members (Contains (list_at D list)) (random_rows list (ta_run_to D depth)) (λ row h.
-      let from = contains_from_filter_map (random_row list) (ta_run_to D depth) row h in
-      given_random D list from.0 row (run_given n D depth from.0 t within from.1) from.2);
+  drawn = record {
+    in_range = all_from_members (λ access. list_of access < length D) (ta_run_to D depth) (λ a h. given_in_range D a (run_given n D depth a t within h));
+    sorted = λ list l.
+        let e : sorted_rows list (ta_run_to D depth) ≡ take depth (list_at D list) = run_rows n D list depth t l within in
+        let long : length (list_at D list) ≡ n = list_at_length n D list t l in
+        subst (λ rows. Begins rows (list_at D list)) (sym e) (ap (λ p. take p (list_at D list)) (length-take-le depth (list_at D list) (omega arith)));
+    random = λ list l. all_from_members (Contains (list_at D list)) (random_rows list (ta_run_to D depth)) (λ row h.
+        let from = contains_from_filter_map (random_row list) (ta_run_to D depth) row h in
+        given_random D list from.0 row (run_given n D depth from.0 t within from.1) from.2);
+  };
 }
 
 -- what a sorted access gives is seen

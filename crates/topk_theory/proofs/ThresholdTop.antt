@@ -6,15 +6,16 @@ use Rattle.std.proofs.lemmas.List.Kept.{AllPairs-cons, AllPairs-filter}
 use Rattle.ranked_list.specs.declared.row.Row.{Row}
 use Rattle.ranked_list.specs.declared.item.Item.{Item}
 use Rattle.ranked_list.specs.Table.{IsTable}
-use Rattle.best_k.specs.Order.{IsBefore, IsFirstK, AreDistinct}
-use Rattle.topk_theory.specs.Aggregate.{objects_of, aggregate, IsMonotone, IsTop}
+use Rattle.topk_theory.specs.Order.{IsBefore, IsFirstK, AreDistinct}
+use Rattle.monotone_fn.specs.Value.{IsMonotone}
+use Rattle.topk_theory.specs.Aggregate.{objects_of, aggregate, IsTop}
 use Rattle.topk_theory.specs.Threshold.{stands, objects_to, threshold_at, ta_stop, ta_depth, scored, ta_answer, item_objects}
 use Rattle.topk_theory.proofs.AgreementLists.{contains_cases, contains_at, contains_map, contains_map_from, all_from_members, member_of_all, distinct_fits}
 use Rattle.topk_theory.proofs.AgreementNames.{has, has_contains, has_not}
 use Rattle.topk_theory.proofs.Agreement.{objects_of_distinct}
 use Rattle.topk_theory.proofs.ThresholdLists.{contains_filter, contains_from_filter, length-map}
 use Rattle.topk_theory.proofs.ThresholdDepth.{unseen_at_most, ta_depth_is_least}
-use Rattle.best_k.proofs.FirstK.{first_k-is}
+use Rattle.topk_theory.proofs.FirstK.{first_k-is}
 
 object_at : (items : List Item) (k : ℕ) (d : Item) (e : ℕ) → k < length items → slice_index_or (item_objects items) k e ≡ (slice_index_or items k d).object
 object_at [] k d e l = absurd (omega arith)

@@ -11,6 +11,7 @@ use Rattle.topk_theory.specs.Bounds.{known_grade, low, high, threshold}
 use Rattle.topk_theory.specs.Fixes.{IsObjectSet, IsOver, FixesOver, Fixes}
 use Rattle.topk_theory.specs.Threshold.{threshold_at, ta_depth, ta_run, ta_answer}
 use Rattle.topk_theory.specs.NoRandom.{nra_depth, nra_run, nra_answer}
+use Rattle.topk_theory.specs.Combined.{phase_length, ca_run, ca_answer}
 use Rattle.topk_theory.specs.Consistent.{Kind, too_many_objects, rises, repeats, clashes, falls_short, above_bottom, IsOfKind, IsFirstKind}
 
 abbrev row : ℕ → ℕ → Row
@@ -239,7 +240,7 @@ three-random (suc zero) below (suc k) d inside = absurd (omega arith)
 three-random (suc (suc list)) below k d inside = absurd (omega arith)
 
 three-agrees : Agrees 2 3 three three_run
-three-agrees = record { lists = refl; table = three-table; in_range = grind arith; sorted = grind arith; random = three-random }
+three-agrees = record { lists = refl; table = three-table; drawn = record { in_range = grind arith; sorted = grind arith; random = three-random } }
 
 -- object 2 is the best of it by sum, over the objects 1, 2 and 3
 three-top : IsTop sum 1 three (2 ∷ [])
@@ -260,3 +261,24 @@ not-eight = grind arith
 
 none-open : ¬ Fixes sum 1 1 1 [] (9 ∷ [])
 none-open fixes = not-eight ((fixes (8 ∷ []) (record { sized = refl; distinct = grind arith }) (grind arith)).members 0 0 (lit< tt))
+
+-- the combined algorithm: both seen objects have the high 1600 at depth 1, and the smaller is asked for
+combined-run : ca_run sum 1 1 three ≡ Sorted 0 1 900 ∷ Sorted 1 2 700 ∷ Random 1 1 500 ∷ Sorted 0 2 800 ∷ Sorted 1 3 600 ∷ []
+combined-run = refl
+
+combined-answer : ca_answer sum 1 1 three ≡ item 2 1500 1500 ∷ []
+combined-answer = refl
+
+-- where a random phase comes after two rows alone, no object that misses a grade is viable by then
+combined-later : ca_run sum 1 (phase_length 1 2) three ≡ Sorted 0 1 900 ∷ Sorted 1 2 700 ∷ Sorted 0 2 800 ∷ Sorted 1 3 600 ∷ []
+combined-later = refl
+
+-- where none comes the finish asks for what is missing, in the order of the bounds
+combined-finish : ca_run sum 3 (phase_length 1 9) three ≡ Sorted 0 1 900 ∷ Sorted 1 2 700 ∷ Sorted 0 2 800 ∷ Sorted 1 3 600 ∷ Random 1 1 500 ∷ Random 0 3 100 ∷ []
+combined-finish = refl
+
+combined-three : ca_answer sum 3 (phase_length 1 9) three ≡ item 2 1500 1500 ∷ item 1 1400 1400 ∷ item 3 700 700 ∷ []
+combined-three = refl
+
+combined-lengths : phase_length 3 10 ∷ phase_length 10 3 ∷ phase_length 1 1 ∷ [] ≡ 3 ∷ 1 ∷ 1 ∷ []
+combined-lengths = refl

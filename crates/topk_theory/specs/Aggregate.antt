@@ -1,12 +1,7 @@
 -- The aggregate of an object in a table, and its best k. V gives the value of a query's expression at a list of grades.
 use Rattle.std.specs.Prelude.{◌≡◌, ◌≢◌, ◌≤◌, ℕ, List, [], ◌∷◌, length, map, All, AllPairs, Contains}
-use Rattle.std.specs.List.{AllZip}
 use Rattle.ranked_list.specs.declared.row.Row.{Row}
 use Rattle.ranked_list.specs.Table.{objects, grade_in}
-
--- grades that are no smaller in each place give a value that is no smaller
-abbrev pub IsMonotone : (List ℕ → ℕ) → Type 0
-IsMonotone V = (lesser greater : List ℕ) → AllZip ◌≤◌ lesser greater → V lesser ≤ V greater
 
 -- the objects of a table: those of its first list
 abbrev pub objects_of : List (List Row) → List ℕ

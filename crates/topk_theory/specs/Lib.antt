@@ -1,3 +1,4 @@
+pub mod Order
 pub mod Aggregate
 pub mod Transcript
 pub mod Bounds
@@ -6,3 +7,6 @@ pub mod Threshold
 pub mod NoRandom
 pub mod Consistent
 pub mod Machine
+pub mod Asked
+pub mod Combined
+pub mod Adversary

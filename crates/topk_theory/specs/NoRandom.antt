@@ -3,7 +3,7 @@ use Rattle.std.specs.Prelude.{ℕ, zero, suc, ◌-◌, ◌==◌, ◌≡◌, ◌<
 use Rattle.std.specs.List.{list_any, list_all}
 use Rattle.ranked_list.specs.declared.row.Row.{Row}
 use Rattle.ranked_list.specs.declared.item.Item.{Item}
-use Rattle.best_k.specs.Order.{first_k, kth_low}
+use Rattle.topk_theory.specs.Order.{first_k, kth_low}
 use Rattle.topk_theory.specs.declared.access.Access.{Access}
 use Rattle.topk_theory.specs.Aggregate.{objects_of}
 use Rattle.topk_theory.specs.Transcript.{seen_objects}

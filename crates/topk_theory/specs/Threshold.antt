@@ -4,7 +4,7 @@ use Rattle.std.specs.List.{slice_index_or, list_any, flat_map}
 use Rattle.ranked_list.specs.declared.row.Row.{Row}
 use Rattle.ranked_list.specs.declared.item.Item.{Item}
 use Rattle.ranked_list.specs.Table.{IsTable, place_in, grade_in}
-use Rattle.best_k.specs.Order.{first_k}
+use Rattle.topk_theory.specs.Order.{first_k}
 use Rattle.topk_theory.specs.declared.access.Access.{Access}
 use Rattle.topk_theory.specs.declared.access.Access.TheVariants.{Sorted, Random}
 use Rattle.topk_theory.specs.Aggregate.{objects_of, aggregate}

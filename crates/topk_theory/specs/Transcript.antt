@@ -53,13 +53,31 @@ list_at D list = slice_index_or D list []
 abbrev pub Begins : {X : Type 0} → List X → List X → Type 0
 Begins front whole = take (length front) whole ≡ front
 
--- the table agrees with the transcript: it has m lists of n rows, the sorted accesses of each list gave its first rows, and each random access gave a row of its list
+-- what is told of lists: of each its first rows, in their order, and the rows of it whose grades are known
+pub record Told : Type 0 where
+  pub rows : List (List Row)
+  pub known : List (List Row)
+
+-- whole lists are told: of each all rows, and each row is known
+abbrev pub whole : List (List Row) → Told
+whole D = record { rows = D; known = D }
+
+-- the accesses are drawn from what is told of m lists: the sorted ones of each gave its first rows, and each random one a row that is known
+pub record IsDrawn (m : ℕ) (T : Told) (A : List Access) : Type 0 where
+  pub in_range : All (λ access. list_of access < m) A
+  pub sorted : (list : ℕ) → list < m → Begins (sorted_rows list A) (list_at T.rows list)
+  pub random : (list : ℕ) → list < m → All (Contains (list_at T.known list)) (random_rows list A)
+
+-- of m lists more is told: the rows of each go on, and what is known stays known
+pub record Grows (m : ℕ) (T U : Told) : Type 0 where
+  pub rows : (list : ℕ) → list < m → Begins (list_at T.rows list) (list_at U.rows list)
+  pub known : (list : ℕ) → list < m → (row : Row) → Contains (list_at T.known list) row → Contains (list_at U.known list) row
+
+-- the table agrees with the transcript: it has m lists of n rows, and the accesses are drawn from them
 pub record Agrees (m n : ℕ) (D : List (List Row)) (A : List Access) : Type 0 where
   pub lists : length D ≡ m
   pub table : IsTable n D
-  pub in_range : All (λ access. list_of access < m) A
-  pub sorted : (list : ℕ) → list < m → Begins (sorted_rows list A) (list_at D list)
-  pub random : (list : ℕ) → list < m → All (Contains (list_at D list)) (random_rows list A)
+  pub drawn : IsDrawn m (whole D) A
 
 -- the members of a list, each where it comes first
 abbrev pub each_once_after : List ℕ → List ℕ → List ℕ
@@ -92,10 +110,10 @@ list_numbers m = range_with_len 0 m
 abbrev pub depth_of : ℕ → List Access → ℕ
 depth_of list A = length (sorted_rows list A)
 
--- the table gives this access after those of A: a sorted one the next row of its list, a random one some row of it
-abbrev pub Gives : List (List Row) → List Access → Access → Type 0
-Gives D A (Sorted list object grade) = slice_get (list_at D list) (depth_of list A) ≡ Some (record { object = object; grade = grade })
-Gives D A (Random list object grade) = Contains (list_at D list) (record { object = object; grade = grade })
+-- this access is given after those of A: a sorted one is the next row of its list, a random one some row of it that is known
+abbrev pub Gives : Told → List Access → Access → Type 0
+Gives T A (Sorted list object grade) = slice_get (list_at T.rows list) (depth_of list A) ≡ Some (record { object = object; grade = grade })
+Gives T A (Random list object grade) = Contains (list_at T.known list) (record { object = object; grade = grade })
 
 abbrev pub depth : ℕ → List Access → ℕ
 depth m A = fold max 0 (map (λ list. depth_of list A) (list_numbers m))

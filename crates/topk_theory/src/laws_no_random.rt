@@ -3,7 +3,8 @@
 ghost use Rattle.std.specs.Prelude.{◌≡◌, ◌≤◌, ℕ, List, length};
 ghost use Rattle.ranked_list.specs.declared.row.Row.{Row};
 ghost use Rattle.topk_theory.specs.declared.access.Access.{Access};
-ghost use Rattle.topk_theory.specs.Aggregate.{IsMonotone, IsTop, aggregate};
+ghost use Rattle.monotone_fn.specs.Value.{IsMonotone};
+ghost use Rattle.topk_theory.specs.Aggregate.{IsTop, aggregate};
 ghost use Rattle.topk_theory.specs.Transcript.{Agrees, random_count};
 ghost use Rattle.topk_theory.specs.Bounds.{low, high};
 ghost use Rattle.topk_theory.specs.Threshold.{IsAsked, item_objects};

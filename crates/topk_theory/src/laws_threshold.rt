@@ -2,7 +2,8 @@
 
 ghost use Rattle.std.specs.Prelude.{ℕ, List, All, Contains, length};
 ghost use Rattle.ranked_list.specs.declared.row.Row.{Row};
-ghost use Rattle.topk_theory.specs.Aggregate.{IsMonotone, IsTop};
+ghost use Rattle.monotone_fn.specs.Value.{IsMonotone};
+ghost use Rattle.topk_theory.specs.Aggregate.{IsTop};
 ghost use Rattle.topk_theory.specs.Transcript.{Agrees, IsTame, seen_objects};
 ghost use Rattle.topk_theory.specs.Threshold.{IsAsked, IsLeastDepth, ta_depth, ta_run, ta_answer, item_objects};
 

@@ -1,11 +1,11 @@
 //! Laws of transcripts: when a table agrees with one.
 
-ghost use Rattle.std.specs.Prelude.{◌≡◌, ◌<◌, ◌≤◌, ◌↔◌, ℕ, List, [], ◌∷◌, ◌++◌, All, Contains};
+ghost use Rattle.std.specs.Prelude.{◌≡◌, ◌<◌, ◌≤◌, ◌↔◌, ℕ, List, [], ◌∷◌, ◌++◌, length, All, Contains};
 ghost use Rattle.ranked_list.specs.declared.row.Row.{Row};
-ghost use Rattle.ranked_list.specs.Table.{grade_in};
+ghost use Rattle.ranked_list.specs.Table.{IsTable, grade_in};
 ghost use Rattle.topk_theory.specs.declared.access.Access.{Access};
 ghost use Rattle.topk_theory.specs.Aggregate.{objects_of};
-ghost use Rattle.topk_theory.specs.Transcript.{Agrees, Gives, list_at, object_of, named_objects};
+ghost use Rattle.topk_theory.specs.Transcript.{Told, Grows, IsDrawn, Agrees, whole, Gives, list_at, object_of, named_objects};
 ghost use Rattle.topk_theory.specs.Bounds.{known_grade};
 ghost use Rattle.topk_theory.specs.Consistent.{Kind, IsOfKind, IsFirstKind, SomeAgrees, HasNoFault};
 
@@ -13,7 +13,15 @@ ghost use Rattle.topk_theory.specs.Consistent.{Kind, IsOfKind, IsFirstKind, Some
 /// that one after them.
 pub fn tables_agree_access_by_access()
     ensures { (m n : ℕ) (D : List (List Row)) (A : List Access) (access : Access)
-        → Agrees m n D (A ++ access ∷ []) ↔ (Agrees m n D A × Gives D A access) }
+        → Agrees m n D (A ++ access ∷ []) ↔ (Agrees m n D A × Gives (whole D) A access) }
+{}
+
+/// What is drawn from lists stays so when more of them is told. Drawn from the whole lists of a table,
+/// it is what the table agrees with.
+pub fn what_is_drawn_stays_drawn()
+    ensures more { (m : ℕ) (T U : Told) (A : List Access) → Grows m T U → IsDrawn m T A → IsDrawn m U A }
+    ensures whole { (n : ℕ) (D : List (List Row)) (A : List Access) → IsTable n D
+        → Agrees (length D) n D A ↔ IsDrawn (length D) (whole D) A }
 {}
 
 /// The objects that a transcript names are those of each table that agrees with it, and each grade
