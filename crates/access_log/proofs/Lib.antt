@@ -1,5 +1,8 @@
-pub mod Bounding
-pub mod Keeping
-pub mod KindTests
-pub mod Refusing
-pub mod Scanning
+pub mod AheadKept
+pub mod EndsKept
+pub mod FirstKind
+pub mod MachineLaws
+pub mod ObjectsKept
+pub mod Pushing
+pub mod Readers
+pub mod RecordKept

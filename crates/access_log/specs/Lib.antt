@@ -1,4 +1,5 @@
 pub mod Log
 pub mod Refusal
-pub mod Scan
+pub mod Kept
+pub mod Tests
 pub mod Machine

@@ -4,7 +4,7 @@ use super::transcript::Transcript;
 use ranked_list::Items;
 
 /// The answer of a query, with the accesses that it made.
-#[derive(Debug, Drop)]
+#[derive(Drop)]
 pub struct Answer {
     pub items: Items,
     pub transcript: Transcript,

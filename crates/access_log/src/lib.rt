@@ -3,17 +3,23 @@
 //! what it ends with, and why it refuses a row.
 #![tactic(auto)]
 
+mod ahead;
 mod answer;
 mod core_fault;
+mod ends;
 mod fault;
-mod names;
-mod scan;
+mod first_kind;
+mod kinds;
+mod objects;
+mod record;
+mod room;
 mod transcript;
 
 pub use answer::Answer;
 pub use core_fault::CoreFault;
 pub use fault::PushFault;
 pub use ranked_list::{Item, Items};
+use std::alloc::{AllocError, AllocFailed};
 pub use topk_theory::Access;
 pub use transcript::{MAX_COUNT, MAX_LISTS, Transcript};
 
@@ -21,5 +27,26 @@ pub use transcript::{MAX_COUNT, MAX_LISTS, Transcript};
 #[derive(Clone, Copy, Debug, PartialEq, Eq)]
 pub struct Memory;
 
-#[cfg(test)]
-mod tests;
+impl From<AllocError> for Memory {
+    fn from(_: AllocError) -> Memory {
+        Memory
+    }
+}
+
+impl<T: Drop> From<AllocFailed<T>> for Memory {
+    fn from(_: AllocFailed<T>) -> Memory {
+        Memory
+    }
+}
+
+impl From<room_map::Memory> for Memory {
+    fn from(_: room_map::Memory) -> Memory {
+        Memory
+    }
+}
+
+impl From<indexed_heap::Memory> for Memory {
+    fn from(_: indexed_heap::Memory) -> Memory {
+        Memory
+    }
+}

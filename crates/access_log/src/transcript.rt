@@ -1,7 +1,12 @@
 //! Transcripts.
 
+use super::Memory;
+use super::ends::Ends;
 use super::fault::PushFault;
-use super::{Memory, names, scan};
+use super::first_kind::first_kind;
+use super::objects::Objects;
+use super::record::NONE_KNOWN;
+use super::room::{make_room, spare_after};
 use monotone_fn::{Costs, Expr};
 use std::alloc::Global;
 use std::marker::Model;
@@ -15,66 +20,106 @@ pub const MAX_COUNT: u32 = 200_000;
 
 /// The accesses that a query made, in their order, with the grades that they gave. Some table of
 /// its lists and its number of objects always agrees with it. Contracts see it as a `Log`.
-#[derive(Debug, Drop)]
+///
+/// Beside the accesses it keeps what its calls answer, so that none scans them: a record for each
+/// object, found by a look-up, and the ends of the lists.
+#[derive(Drop)]
 pub struct Transcript {
     lists: u8,
     count: u32,
     accesses: Vec<Access>,
-    named: Vec<u32>,
-    seen: Vec<u32>,
+    objects: Objects,
+    ends: Ends,
+    spare_objects: u32,
+    spare_accesses: u64,
 }
 
 impl Model for Transcript {
-    ghost use Rattle.access_log.specs.Log.{Log, IsKept};
+    ghost use Rattle.std.specs.Prelude.{vec_capacity};
+    ghost use Rattle.access_log.specs.Log.{Log};
 
     ghost Value = { Log };
 
-    ghost view = { λ a. record { lists = a.lists; count = a.count; accesses = a.accesses.items } };
+    ghost use Rattle.access_log.specs.Kept.{IsKept};
 
-    ghost invariant = { λ a. IsKept a.lists a.count a.accesses.items a.named.items a.seen.items };
+    ghost view = { λ a. record { lists = a.lists; count = a.count; accesses = a.accesses.items; spare_objects = a.spare_objects; spare_accesses = a.spare_accesses } };
+
+    ghost invariant = { λ a. IsKept a.lists a.count a.accesses.items (vec_capacity a.accesses) a.objects a.ends a.spare_objects a.spare_accesses };
 }
 
 impl Transcript {
-    ghost use Rattle.std.specs.Prelude.{◌≡◌, ◌==◌, ◌+◌, ◌*◌, ◌<◌, ◌≤◌, ◌^◌, ◌↔◌, [], length, slice_get, Contains, IsTrue, IfOk, OnOk, OnErr, IfErr};
-    ghost use Rattle.topk_theory.specs.Transcript.{depth_of, bottom_of, seen_objects, sorted_count, random_count, cost};
-    ghost use Rattle.topk_theory.specs.Bounds.{low, high};
+    ghost use Rattle.std.specs.Prelude.{◌≡◌, ◌==◌, ◌+◌, ◌*◌, ◌<◌, ◌≤◌, ◌^◌, ◌↔◌, [], map, max, length, nat_eq, position, slice_get, Contains, Some, IsTrue, IfOk, OnOk, OnErr, IfErr};
+    ghost use Rattle.topk_theory.specs.Transcript.{list_numbers, depth_of, bottom_of, named_objects, seen_objects, sorted_count, random_count, cost};
+    ghost use Rattle.topk_theory.specs.Bounds.{known_grade, low, high};
     ghost use Rattle.monotone_fn.specs.Shape.{list_count};
     ghost use Rattle.monotone_fn.specs.Value.{value};
+    ghost use Rattle.monotone_fn.specs.Limits.{AreGrades, AreGradesWhereKnown};
     ghost use Rattle.access_log.specs.Log.{with_access, IsConsistent, IsWithinLimits};
     ghost use Rattle.access_log.specs.Refusal.{Refuses};
 
-    /// No access yet, of so many lists of `count` objects each. Takes no memory yet.
+    /// No access yet, of so many lists of `count` objects each, and no room reserved.
     pub fn make(alloc: Global, lists: u8, count: u32) -> Result<Transcript, Memory>
         requires { IsWithinLimits lists count }
-        ensures { IfOk result (λ t. t ≡ record { lists = lists; count = count; accesses = [] }) }
+        ensures { IfOk result (λ t. t ≡ record { lists = lists; count = count; accesses = []; spare_objects = 0; spare_accesses = 0 }) }
     {
+        let objects = Objects::make(alloc, lists)?;
         Ok(Transcript {
             lists,
             count,
             accesses: Vec::new(alloc),
-            named: Vec::new(alloc),
-            seen: Vec::new(alloc),
+            objects,
+            ends: Ends::start(),
+            spare_objects: 0,
+            spare_accesses: 0,
         })
     }
 
+    /// Reserves room for at least so many more objects and accesses, for which `push` then wants no
+    /// memory. Where memory is refused nothing has changed.
+    pub fn reserve(&mut self, objects: u32, accesses: u64) -> Result<(), Memory>
+        requires { length (named_objects self.old.accesses) + objects ≤ MAX_COUNT }
+        ensures ok { OnOk result (self.new
+            ≡ record self.old { spare_objects = max self.old.spare_objects objects; spare_accesses = max self.old.spare_accesses accesses }) }
+        ensures err { OnErr result (self.new ≡ self.old) }
+    {
+        let room = self.objects.names.len() + objects;
+        self.objects.widen(room)?;
+        self.accesses.reserve(accesses as usize)?;
+        self.spare_objects = self.spare_objects.max(objects);
+        self.spare_accesses = self.spare_accesses.max(accesses);
+        Ok(())
+    }
+
     /// Adds an access, where some table agrees with it after the others. Where it is refused nothing
-    /// has changed.
+    /// has changed. Memory is wanted only where no room is reserved.
     pub fn push(&mut self, access: Access) -> Result<(), PushFault>
         ensures ok { OnOk result (self.new ≡ with_access self.old access) }
         ensures agrees { OnOk result (IsConsistent self.new) }
         ensures err { OnErr result (self.new ≡ self.old) }
         ensures cause { IfErr result (Refuses self.old access) }
     {
-        let kind = scan::first_kind(self.lists, self.count, &self.accesses, &self.named, access);
+        let place = self.objects.place(access.object());
+        let kind = first_kind(
+            self.lists,
+            self.count,
+            &self.objects,
+            &self.ends,
+            place,
+            access,
+        );
         if let Some(kind) = kind {
             let at = self.accesses.len() as u64 + 1;
             return Err(PushFault::Inconsistent { at, kind });
         }
-        let added = names::add(&mut self.accesses, &mut self.named, &mut self.seen, access);
-        match added {
-            Ok(()) => Ok(()),
-            Err(_) => Err(PushFault::Memory),
-        }
+        let Ok(()) = make_room(&mut self.accesses, &mut self.objects, place) else {
+            return Err(PushFault::Memory);
+        };
+        self.accesses.push_reserved(access);
+        self.objects.note(place, access);
+        self.ends.note(access);
+        self.spare_objects = spare_after(self.spare_objects, place);
+        self.spare_accesses = self.spare_accesses.saturating_sub(1);
+        Ok(())
     }
 
     /// How many sorted accesses read the list.
@@ -82,7 +127,7 @@ impl Transcript {
         requires { list < self.now.lists }
         ensures { result ≡ depth_of list self.now.accesses }
     {
-        scan::depth_of(&self.accesses, list) as u32
+        self.ends.depths[list as usize]
     }
 
     /// The last grade that a sorted access read from the list, and the greatest grade before the
@@ -91,21 +136,59 @@ impl Transcript {
         requires { list < self.now.lists }
         ensures { result ≡ bottom_of list self.now.accesses }
     {
-        scan::bottom_of(&self.accesses, list)
+        self.ends.bottoms[list as usize]
+    }
+
+    /// The bottoms of the lists, by their numbers.
+    pub fn bottoms(&self) -> &[u32]
+        ensures bottoms { result.now ≡ map (λ list. bottom_of list self.now.accesses) (list_numbers self.now.lists) }
+        ensures capped { AreGrades result.now }
+    {
+        &self.ends.bottoms[..self.lists as usize]
     }
 
     /// Whether a sorted access gave the object.
     pub fn is_seen(&self, object: u32) -> bool
         ensures { IsTrue result ↔ Contains (seen_objects self.now.accesses) object }
     {
-        self.seen.contains(&object)
+        self.place_of(object).is_some()
     }
 
     /// How many objects sorted accesses gave.
     pub fn seen(&self) -> u32
         ensures { result ≡ length (seen_objects self.now.accesses) }
     {
-        self.seen.len() as u32
+        self.objects.sights.len() as u32
+    }
+
+    /// The place of an object in the order of first sight, from 0; None where no sorted access gave it.
+    pub fn place_of(&self, object: u32) -> Option<u32>
+        ensures { result ≡ position (nat_eq object) (seen_objects self.now.accesses) }
+    {
+        match self.objects.place(object) {
+            Some(place) => self.objects.records[place as usize].sight,
+            None => None,
+        }
+    }
+
+    /// The object at a place in the order of first sight, from 0.
+    pub fn object_at(&self, place: u32) -> u32
+        requires { place < length (seen_objects self.now.accesses) }
+        ensures { slice_get (seen_objects self.now.accesses) place ≡ Some result }
+    {
+        self.objects.sights[place as usize]
+    }
+
+    /// The known grades of an object, by the numbers of the lists.
+    pub fn known(&self, object: u32) -> &[Option<u32>]
+        ensures known { result.now ≡ map (λ list. known_grade self.now.accesses object list) (list_numbers self.now.lists) }
+        ensures capped { AreGradesWhereKnown result.now }
+    {
+        let lists = self.lists as usize;
+        match self.objects.place(object) {
+            Some(place) => &self.objects.records[place as usize].known[..lists],
+            None => &NONE_KNOWN[..lists],
+        }
     }
 
     /// The least aggregate that the object may have: the value with 0 in place of each unknown grade.
@@ -113,8 +196,7 @@ impl Transcript {
         requires { list_count expr.now ≡ self.now.lists }
         ensures { result ≡ low (value expr.now) self.now.lists self.now.accesses object }
     {
-        let known = scan::known_grades(&self.accesses, self.lists, object);
-        expr.eval_low(&known[..self.lists as usize])
+        expr.eval_low(self.known(object))
     }
 
     /// The greatest aggregate that the object may have: the value with its list's bottom in place of
@@ -123,24 +205,21 @@ impl Transcript {
         requires { list_count expr.now ≡ self.now.lists }
         ensures { result ≡ high (value expr.now) self.now.lists self.now.accesses object }
     {
-        let lists = self.lists as usize;
-        let known = scan::known_grades(&self.accesses, self.lists, object);
-        let bottoms = scan::bottoms(&self.accesses, self.lists);
-        expr.eval_high(&known[..lists], &bottoms[..lists])
+        expr.eval_high(self.known(object), self.bottoms())
     }
 
     /// How many accesses were sorted.
     pub fn sorted(&self) -> u64
         ensures { result ≡ sorted_count self.now.accesses }
     {
-        scan::sorted_count(&self.accesses) as u64
+        self.ends.sorted
     }
 
     /// How many accesses were random.
     pub fn random(&self) -> u64
         ensures { result ≡ random_count self.now.accesses }
     {
-        scan::random_count(&self.accesses) as u64
+        self.accesses.len() as u64 - self.ends.sorted
     }
 
     /// What the accesses cost.

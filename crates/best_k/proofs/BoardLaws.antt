@@ -1,334 +1,251 @@
--- What a board holds against what it keeps.
-use Rattle.std.proofs.Common.{◌≡◌, ◌≢◌, ◌==◌, ℕ, ◌-◌, ◌≤◌, Bool, true, false, not, cond, ◌&&◌, ◌||◌, List, [], ◌∷◌, length, take, map, Option, Some, None, IsTrue, refl, sym, ap, ◌∙◌, subst, arith}
-use Rattle.std.specs.declared.cmp.Ordering.{Ordering}
-use Rattle.std.specs.declared.cmp.Ordering.TheVariants.{Less, Equal, Greater}
-use Rattle.std.specs.Ordering.{is_eq, nat_cmp, ordering_then, ordering_reverse, match_ordering}
-use Rattle.std.specs.Cmp.{tied_itself, eq_by_cmp_equiv}
-use Rattle.std.specs.List.{AllByRecursion, list_any, slice_get}
-use Rattle.std.specs.List.Sorted.{IsStrictlySortedBy}
-use Rattle.std.specs.Map.{lookup, keys_of}
-use Rattle.std.specs.Option.{option_map}
-use Rattle.std.specs.BTreeMap.{is_at, insert_entry}
-use Rattle.std.proofs.lemmas.Bool.{false≢true, eq-eqb, ne_eqb, eqb-true, and_parts, false_from_ne_true}
-use Rattle.std.proofs.lemmas.Cmp.{nat_cmp_total}
-use Rattle.std.proofs.lemmas.List.{take-map}
-use Rattle.std.proofs.lemmas.List.Elements.{All-from_recursion, recursion_from_All, All-take}
-use Rattle.std.proofs.lemmas.List.Folds.{list_any_none}
-use Rattle.std.proofs.lemmas.List.Kept.{AllPairs-cons}
-use Rattle.std.proofs.lemmas.List.Sorted.{All-permutation, list_any-IsPermutation}
-use Rattle.std.proofs.lemmas.Map.Keys.{sorted_head, sorted_tail}
-use Rattle.std.proofs.lemmas.Map.Lookups.{exact_unsigned}
-use Rattle.std.proofs.lemmas.Option.{none-some, same_Some, slice_get-map}
+-- What a board answers, by the ranks of the places.
+use Rattle.std.proofs.Common.{◌≡◌, ◌≢◌, ◌==◌, ◌⊎◌, inl, inr, ℕ, zero, suc, ◌+◌, ◌-◌, ◌<◌, ◌≤◌, Bool, true, false, ◌||◌, min, List, [], ◌∷◌, Option, Some, None, length, take, get_or, is_some, refl, sym, ap, ◌∙◌, subst, arith}
+use Rattle.std.specs.declared.cmp.Ordering.TheVariants.{Greater}
+use Rattle.std.specs.declared.cmp.Reverse.{Reverse}
+use Rattle.std.specs.List.{AllPairs, Contains, count_by, slice_get}
+use Rattle.std.specs.List.Sorted.{IsPermutation}
+use Rattle.std.specs.Option.{option_map, MatchOption}
+use Rattle.std.specs.Ordering.{ordering_reverse}
+use Rattle.std.proofs.lemmas.Bool.{cases_eq, cases_order, eq-eqb, ne_eqb}
+use Rattle.std.proofs.lemmas.List.{take_all, get_or_default}
+use Rattle.std.proofs.lemmas.List.Sorted.{Contains-permutation, IsPermutation-sym, list_any-IsPermutation, length_permutation}
+use Rattle.std.proofs.lemmas.Option.{none-some, same_Some, slice_get_past, slice_get_within, slice_get-get_or, get_or_from_slice_get}
 use Rattle.ranked_list.specs.declared.item.Item.{Item}
+use Rattle.indexed_heap.specs.Ranks.{rank_at}
+use Rattle.topk_theory.specs.Order.{item_cmp, IsBefore, AreDistinct, in_order, first_k, kth_low, lows, IsFirstK, IsKthLargest}
+use Rattle.topk_theory.proofs.OrderLaws.{items_total, less_from_before}
+use Rattle.topk_theory.proofs.InOrder.{in_order-permutes, length-in_order, in_order-ordered}
+use Rattle.topk_theory.proofs.FirstK.{first_k-is, first_k-only}
+use Rattle.topk_theory.proofs.KthLow.{kth_low-counts}
+use Rattle.topk_theory.proofs.AgreementLists.{all_from_members}
 use Rattle.best_k.specs.declared.rank.Rank.{Rank}
-use Rattle.best_k.specs.declared.rank.Bounds.{Bounds}
-use Rattle.best_k.specs.Order.{item_cmp, AreDistinct, in_order, first_k, kth_low}
-use Rattle.best_k.specs.Held.{Held, put_item, has_object}
-use Rattle.best_k.specs.Rank.{item_of, rank_of, rank_cmp, has_rank}
-use Rattle.best_k.specs.Kept.{KeepsRanks, bounded_item, items_of, has_bounds}
-use Rattle.best_k.proofs.OrderLaws.{items_total}
-use Rattle.std.proofs.lemmas.Map.Views.{tells_apart}
-use Rattle.best_k.proofs.Ranks.{exact_ranks, take-all}
-use Rattle.best_k.proofs.Sorted.{less_than_all}
-use Rattle.best_k.proofs.InOrder.{has_item, Ascend, Ascend-nil, Ascend-cons, in_order-ascends, has-in_order, length-in_order, in_order-permutes, ascending_one}
+use Rattle.best_k.specs.Rank.{item_of}
+use Rattle.best_k.specs.Held.{risen, has_object}
+use Rattle.best_k.specs.Halves.{joined, either, IsHalved, IsLast, HasFewer}
+use Rattle.best_k.specs.Kept.{items_in, AreRanksOf}
+use Rattle.best_k.proofs.HeldLaws.{AreDistinct-from_rising}
+use Rattle.best_k.proofs.Joining.{at-joined, count-joined, some_counted}
+use Rattle.best_k.proofs.Rising.{risen-rises, risen-permutes, in_items, from_items, length-items_in, items_distinct, HaveOnePlace}
 
--- ids in order
-abbrev Rise : List (ℕ × Bounds) → Type 0
-Rise entries = IsStrictlySortedBy nat_cmp (keys_of entries)
+slice_get-take : {T : Type 0} (n : ℕ) (xs : List T) (i : ℕ) → i < n → slice_get (take n xs) i ≡ slice_get xs i
+slice_get-take zero xs i below = absurd (omega arith)
+slice_get-take (suc n) [] i below = refl
+slice_get-take (suc n) (x ∷ xs) zero below = refl
+slice_get-take (suc n) (x ∷ xs) (suc i) below = slice_get-take n xs i (omega arith)
 
--- an object is before each of these
-abbrev IsBelow : ℕ → List (ℕ × Bounds) → Type 0
-IsBelow object entries = AllByRecursion (λ key. nat_cmp object key ≡ Less) (keys_of entries)
+-- the ranks of the first are ranks of a place
+pub top_joined : (k : ℕ) (top : List (Option Rank)) (rest : List (Option (Reverse Rank))) → IsHalved k top rest → (place : ℕ) (rank : Rank) → rank_at top place ≡ Some rank → rank_at (joined top rest) place ≡ Some rank
+top_joined k top rest halved place rank at = at-joined top rest halved.same_room place ∙ ap (λ (r : Option Rank). either r (rank_at rest place)) at
 
--- ---- a test of items is one of their numbers
-is_eq-then : (r s : Ordering) → is_eq (ordering_then r s) ≡ (is_eq r && is_eq s)
-is_eq-then Less s = refl
-is_eq-then Equal s = refl
-is_eq-then Greater s = refl
-
--- numbers that compare as less differ
-apart : (a b : ℕ) → nat_cmp a b ≡ Less → a ≡ b → ⊥
-apart a b less same = false≢true (ap is_eq (sym less ∙ ap (nat_cmp a) (sym same) ∙ tied_itself nat_cmp_total a))
-
-is_eq-nat_cmp : (a b : ℕ) → is_eq (nat_cmp a b) ≡ (a == b)
-is_eq-nat_cmp a b =
-    elim (nat_cmp a b) as (λ r. nat_cmp a b ≡ r → is_eq r ≡ (a == b)) [
-      | Less ↦ λ e. sym (ne_eqb a b (apart a b e))
-      | Equal ↦ λ e. sym (eq-eqb a b (exact_unsigned a b e))
-      | Greater ↦ λ e. sym (ne_eqb a b (λ same. apart b a (nat_cmp_total.antisymm b a ∙ ap ordering_reverse e) (sym same)))
-    ] refl
-
-is_eq-item_cmp : (a b : Item) → is_eq (item_cmp a b) ≡ (((b.low == a.low) && (b.high == a.high)) && (a.object == b.object))
-is_eq-item_cmp a b =
-    is_eq-then (ordering_then (nat_cmp b.low a.low) (nat_cmp b.high a.high)) (nat_cmp a.object b.object)
-    ∙ ap (λ t. t && is_eq (nat_cmp a.object b.object)) (is_eq-then (nat_cmp b.low a.low) (nat_cmp b.high a.high))
-    ∙ ap (λ t. (t && is_eq (nat_cmp b.high a.high)) && is_eq (nat_cmp a.object b.object)) (is_eq-nat_cmp b.low a.low)
-    ∙ ap (λ t. ((b.low == a.low) && t) && is_eq (nat_cmp a.object b.object)) (is_eq-nat_cmp b.high a.high)
-    ∙ ap (λ t. ((b.low == a.low) && (b.high == a.high)) && t) (is_eq-nat_cmp a.object b.object)
-
-and-true : (b : Bool) → (b && true) ≡ b
-and-true true = refl
-and-true false = refl
-
-and-false : (b : Bool) → (b && false) ≡ false
-and-false true = refl
-and-false false = refl
-
-or-false : (b : Bool) → (b || false) ≡ b
-or-false true = refl
-or-false false = refl
-
--- ---- items of the entries of a map
--- an object that is before each has no item
-has-below : (item : Item) (entries : List (ℕ × Bounds)) → IsBelow item.object entries → has_item (items_of entries) item ≡ false
-has-below item [] below = refl
-has-below item (e ∷ entries) below =
-    let other : is_eq (item_cmp item (bounded_item e)) ≡ false =
-    is_eq-item_cmp item (bounded_item e)
-    ∙ ap (λ t. ((e.1.low == item.low) && (e.1.high == item.high)) && t) (sym (is_eq-nat_cmp item.object e.0) ∙ ap is_eq below.0)
-    ∙ and-false ((e.1.low == item.low) && (e.1.high == item.high)) in
-    ap (λ b. b || has_item (items_of entries) item) other ∙ has-below item entries below.1
-
--- an item is there where the look-up finds its bounds
-pub has-items_of : (item : Item) (entries : List (ℕ × Bounds)) → Rise entries → has_item (items_of entries) item ≡ has_bounds (rank_of item) (lookup (is_at (nat_cmp item.object)) entries)
-has-items_of item [] up = refl
-has-items_of item (e ∷ entries) up =
-    let same = (e.1.low == item.low) && (e.1.high == item.high) in
-    let test : is_eq (item_cmp item (bounded_item e)) ≡ (same && is_eq (nat_cmp item.object e.0)) =
-    is_eq-item_cmp item (bounded_item e) ∙ ap (λ t. same && t) (sym (is_eq-nat_cmp item.object e.0)) in
-    ap (λ b. b || has_item (items_of entries) item) test
-    ∙ elim (nat_cmp item.object e.0) as (λ r. nat_cmp item.object e.0 ≡ r → ((same && is_eq r) || has_item (items_of entries) item) ≡ has_bounds (rank_of item) (cond (is_eq r) (Some e.1) (lookup (is_at (nat_cmp item.object)) entries))) [
-      | Less ↦ λ _. ap (λ b. b || has_item (items_of entries) item) (and-false same) ∙ has-items_of item entries (sorted_tail nat_cmp e.0 (keys_of entries) up)
-      | Equal ↦ λ tie.
-          let below : IsBelow item.object entries = subst (λ (key : ℕ). IsBelow key entries) (sym (exact_unsigned item.object e.0 tie)) (sorted_head nat_cmp e.0 (keys_of entries) up) in
-          ap (λ b. (same && true) || b) (has-below item entries below) ∙ or-false (same && true) ∙ and-true same
-      | Greater ↦ λ _. ap (λ b. b || has_item (items_of entries) item) (and-false same) ∙ has-items_of item entries (sorted_tail nat_cmp e.0 (keys_of entries) up)
-    ] refl
-
--- ---- the ranks are the items in order
-items-ascend : (ranks : List Rank) → IsStrictlySortedBy rank_cmp ranks → Ascend (map item_of ranks)
-items-ascend [] up = Ascend-nil
-items-ascend (rank ∷ ranks) up =
-    Ascend-cons (item_of rank) (map item_of ranks) (all ranks (sorted_head rank_cmp rank ranks up)) (items-ascend ranks (sorted_tail rank_cmp rank ranks up))
+-- a place that has a rank has it among the first or among the others
+side_of : (k : ℕ) (top : List (Option Rank)) (rest : List (Option (Reverse Rank))) → IsHalved k top rest → (place : ℕ) (rank : Rank) → rank_at (joined top rest) place ≡ Some rank → (rank_at top place ≡ Some rank) ⊎ ((other : Reverse Rank) × (rank_at rest place ≡ Some other) × (other.0 ≡ rank))
+side_of k top rest halved place rank at = by_case (rank_at top place) (rank_at rest place) refl refl
   where
-    all : (rest : List Rank) → AllByRecursion (λ other. rank_cmp rank other ≡ Less) rest → AllByRecursion (λ other. item_cmp (item_of rank) other ≡ Less) (map item_of rest)
-    all [] above = tt
-    all (next ∷ rest) above = (above.0, all rest above.1)
+    whole : either (rank_at top place) (rank_at rest place) ≡ Some rank
+    whole = sym (at-joined top rest halved.same_room place) ∙ at
 
-has-items : (ranks : List Rank) (item : Item) → has_item (map item_of ranks) item ≡ has_rank ranks (rank_of item)
-has-items [] item = refl
-has-items (rank ∷ ranks) item = ap (λ b. is_eq (item_cmp item (item_of rank)) || b) (has-items ranks item)
+    by_case : (a : Option Rank) (b : Option (Reverse Rank)) → rank_at top place ≡ a → rank_at rest place ≡ b → (rank_at top place ≡ Some rank) ⊎ ((other : Reverse Rank) × (rank_at rest place ≡ Some other) × (other.0 ≡ rank))
+    by_case (Some a) b is is' = inl (is ∙ sym (ap (λ (r : Option Rank). either r (rank_at rest place)) is) ∙ whole)
+    by_case None (Some b) is is' =
+        inr (b, is', same_Some b.0 rank (sym (ap (λ (r : Option Rank). either r (rank_at rest place)) is ∙ ap (either None) is') ∙ whole))
+    by_case None None is is' = absurd (none-some rank (sym (ap (λ (r : Option Rank). either r (rank_at rest place)) is ∙ ap (either None) is') ∙ whole))
 
-pub AreDistinct-items_of : (entries : List (ℕ × Bounds)) → Rise entries → AreDistinct (items_of entries)
-AreDistinct-items_of [] up = λ i j d below within. absurd (omega arith)
-AreDistinct-items_of (e ∷ entries) up =
-    AllPairs-cons (λ (a : Item) (b : Item). a.object ≢ b.object) (bounded_item e) (items_of entries)
-    (All-from_recursion (λ (other : Item). e.0 ≢ other.object) (items_of entries) (apart_from entries (sorted_head nat_cmp e.0 (keys_of entries) up)))
-    (AreDistinct-items_of entries (sorted_tail nat_cmp e.0 (keys_of entries) up))
+-- ---- places and objects
+-- distinct keys have one place each
+pub one_place : (keys : List ℕ) → AllPairs (λ (a : ℕ) (b : ℕ). a ≢ b) keys → (p q object : ℕ) → slice_get keys p ≡ Some object → slice_get keys q ≡ Some object → p ≡ q
+one_place keys distinct p q object at at' =
+    let within = slice_get_within keys p object at in
+    let within' = slice_get_within keys q object at' in
+    let here = get_or_from_slice_get keys p object object at in
+    let there = get_or_from_slice_get keys q object object at' in
+    elim (cases_order p q) as (λ _. p ≡ q) [
+      | inl e ↦ e
+      | inr apart ↦ elim apart as (λ _. p ≡ q) [
+        | inl less ↦ absurd (distinct p q object less within' (here ∙ sym there))
+        | inr more ↦ absurd (distinct q p object more within (there ∙ sym here))
+      ]
+    ]
+
+pub HaveOnePlace-joined : (places : List ℕ) (ranks : List (Option Rank)) → AllPairs (λ (a : ℕ) (b : ℕ). a ≢ b) places → AreRanksOf places ranks → HaveOnePlace ranks
+HaveOnePlace-joined places ranks distinct are = λ p q a b at at' same.
+    one_place places distinct p q a.object (are.own p a at) (are.own q b at' ∙ ap (λ (o : ℕ). Some o) (sym same))
+
+pub has_it : (object : ℕ) (ranks : List (Option Rank)) (place : ℕ) (rank : Rank) → rank_at ranks place ≡ Some rank → rank.object ≡ object → has_object object (items_in ranks) ≡ true
+has_it object [] place rank at same = absurd (none-some rank at)
+has_it object (None ∷ ranks) zero rank at same = absurd (none-some rank at)
+has_it object (None ∷ ranks) (suc place) rank at same = has_it object ranks place rank at same
+has_it object (Some first ∷ ranks) zero rank at same =
+    ap (λ b. b || has_object object (items_in ranks)) (eq-eqb first.object object (ap (λ (r : Rank). r.object) (same_Some first rank at) ∙ same))
+has_it object (Some first ∷ ranks) (suc place) rank at same =
+    ap (λ b. (first.object == object) || b) (has_it object ranks place rank at same) ∙ or_true (first.object == object)
   where
-    apart_from : (rest : List (ℕ × Bounds)) → IsBelow e.0 rest → AllByRecursion (λ (other : Item). e.0 ≢ other.object) (items_of rest)
-    apart_from [] below = tt
-    apart_from (next ∷ rest) below = (λ same. apart e.0 next.0 below.0 same, apart_from rest below.1)
+    or_true : (b : Bool) → (b || true) ≡ true
+    or_true true = refl
+    or_true false = refl
 
-pub ranks_in_order : (k : ℕ) (entries : List (ℕ × Bounds)) (ranks : List Rank) → KeepsRanks k entries ranks → map item_of ranks ≡ in_order (items_of entries)
-ranks_in_order k entries ranks keeps =
-    ascending_one (map item_of ranks) (in_order (items_of entries)) (items-ascend ranks keeps.sorted)
-    (in_order-ascends (items_of entries) (AreDistinct-items_of entries keeps.rising))
-    (λ item.
-    has-items ranks item ∙ keeps.each (rank_of item)
-    ∙ sym (has-items_of item entries keeps.rising) ∙ sym (has-in_order (items_of entries) item))
+pub lacks_it : (object : ℕ) (ranks : List (Option Rank)) → ((place : ℕ) (rank : Rank) → rank_at ranks place ≡ Some rank → rank.object ≢ object) → has_object object (items_in ranks) ≡ false
+lacks_it object [] apart = refl
+lacks_it object (None ∷ ranks) apart = lacks_it object ranks (λ place. apart (suc place))
+lacks_it object (Some first ∷ ranks) apart =
+    ap (λ b. b || has_object object (items_in ranks)) (ne_eqb first.object object (apart 0 first refl)) ∙ lacks_it object ranks (λ place. apart (suc place))
 
--- ---- the answers
--- the k-th rank's low is the k-th low
-pub kth_low-kept : (k : ℕ) (entries : List (ℕ × Bounds)) (ranks : List Rank) → KeepsRanks k entries ranks → option_map (λ (rank : Rank). rank.low) (slice_get ranks (k - 1)) ≡ kth_low k (items_of entries)
-kth_low-kept k entries ranks keeps =
-    by_rank (slice_get ranks (k - 1))
-    ∙ ap (option_map (λ (item : Item). item.low)) (sym (slice_get-map item_of ranks (k - 1)) ∙ ap (λ (items : List Item). slice_get items (k - 1)) (ranks_in_order k entries ranks keeps))
-  where
-    by_rank : (kth : Option Rank) → option_map (λ (rank : Rank). rank.low) kth ≡ option_map (λ (item : Item). item.low) (option_map item_of kth)
-    by_rank None = refl
-    by_rank (Some rank) = refl
+-- ---- the items, of which the first k are those of the first
+module _ (k : ℕ) (top : List (Option Rank)) (rest : List (Option (Reverse Rank))) (halved : IsHalved k top rest) (apart : HaveOnePlace (joined top rest)) where
+  top_apart : HaveOnePlace top
+  top_apart = λ p q a b at at' same. apart p q a b (top_joined k top rest halved p a at) (top_joined k top rest halved q b at') same
 
--- the items of the first k ranks are the first k items
-pub first_k-kept : (k : ℕ) (entries : List (ℕ × Bounds)) (ranks : List Rank) → KeepsRanks k entries ranks → map item_of (take k ranks) ≡ first_k k (items_of entries)
-first_k-kept k entries ranks keeps = sym (take-map item_of k ranks) ∙ ap (take k) (ranks_in_order k entries ranks keeps)
+  pub items_apart : AreDistinct (risen (items_in (joined top rest)))
+  items_apart = AreDistinct-from_rising (risen (items_in (joined top rest))) (risen-rises (items_in (joined top rest)))
 
--- a look-up finds nothing of an object that is before each
-lookup-below : (object : ℕ) (entries : List (ℕ × Bounds)) → IsBelow object entries → lookup (is_at (nat_cmp object)) entries ≡ None
-lookup-below object [] below = refl
-lookup-below object (e ∷ entries) below =
-    ap (λ r. cond (is_eq r) (Some e.1) (lookup (is_at (nat_cmp object)) entries)) below.0 ∙ lookup-below object entries below.1
+  permuted : IsPermutation (items_in (joined top rest)) (risen (items_in (joined top rest)))
+  permuted = risen-permutes (items_in (joined top rest)) (items_distinct (joined top rest) apart)
 
--- an item of another object is told apart by either test
-other_item : (item : Item) (e : ℕ × Bounds) → is_eq (nat_cmp item.object e.0) ≡ false → (is_eq (item_cmp item (bounded_item e)) ≡ false) × ((e.0 == item.object) ≡ false)
-other_item item e other =
-    let differ : (item.object == e.0) ≡ false = sym (is_eq-nat_cmp item.object e.0) ∙ other in (
-      is_eq-item_cmp item (bounded_item e) ∙ ap (λ t. ((e.1.low == item.low) && (e.1.high == item.high)) && t) differ
-          ∙ and-false ((e.1.low == item.low) && (e.1.high == item.high)),
-      ne_eqb e.0 item.object (λ same. false≢true (sym differ ∙ eq-eqb item.object e.0 (sym same))),
-    )
+  pub length-items : length (risen (items_in (joined top rest))) ≡ count_by is_some top + count_by is_some rest
+  length-items =
+      length_permutation (items_in (joined top rest)) (risen (items_in (joined top rest))) permuted ∙ length-items_in (joined top rest)
+      ∙ count-joined top rest halved.same_room halved.apart
 
--- the test of an object finds its item and no other
-abbrev Tells : ℕ → Item → Item → Type 0
-Tells object item other = is_eq (item_cmp item other) ≡ (other.object == object)
+  member_in : (place : ℕ) (rank : Rank) → rank_at (joined top rest) place ≡ Some rank → Contains (risen (items_in (joined top rest))) (item_of rank)
+  member_in place rank at =
+      Contains-permutation (items_in (joined top rest)) (risen (items_in (joined top rest))) (item_of rank) permuted (in_items (joined top rest) place rank at)
 
-tells_below : (item : Item) (entries : List (ℕ × Bounds)) → IsBelow item.object entries → AllByRecursion (Tells item.object item) (items_of entries)
-tells_below item [] below = tt
-tells_below item (e ∷ entries) below =
-    let other = other_item item e (ap is_eq below.0) in
-    (other.0 ∙ sym other.1, tells_below item entries below.1)
+  member_from : (item : Item) → Contains (risen (items_in (joined top rest))) item → (place : ℕ) × (rank : Rank) × (rank_at (joined top rest) place ≡ Some rank) × (item_of rank ≡ item)
+  member_from item there =
+      from_items (joined top rest) item
+      (Contains-permutation (risen (items_in (joined top rest))) (items_in (joined top rest)) item (IsPermutation-sym (items_in (joined top rest)) (risen (items_in (joined top rest))) permuted) there)
 
-tells : (object : ℕ) (bounds : Bounds) (entries : List (ℕ × Bounds)) → Rise entries → lookup (is_at (nat_cmp object)) entries ≡ Some bounds → AllByRecursion (Tells object (bounded_item (object, bounds))) (items_of entries)
-tells object bounds [] up found = absurd (none-some bounds found)
-tells object bounds (e ∷ entries) up found =
-    let item = bounded_item (object, bounds) in
-    let above = sorted_head nat_cmp e.0 (keys_of entries) up in
-    let rest = sorted_tail nat_cmp e.0 (keys_of entries) up in
-    elim (nat_cmp object e.0) as (λ r. nat_cmp object e.0 ≡ r → cond (is_eq r) (Some e.1) (lookup (is_at (nat_cmp object)) entries) ≡ Some bounds → AllByRecursion (Tells object item) (items_of (e ∷ entries))) [
-      | Less ↦ λ less later.
-          let other = other_item item e (ap is_eq less) in
-          (other.0 ∙ sym other.1, tells object bounds entries rest later)
-      | Equal ↦ λ tie here.
-          let same : object ≡ e.0 = exact_unsigned object e.0 tie in
-          let itself : Tells object item item = ap is_eq (tied_itself items_total item) ∙ sym (eq-eqb object object refl) in (
-            subst (λ (b : Bounds). Tells object item (bounded_item (e.0, b))) (sym (same_Some e.1 bounds here)) (subst (λ (key : ℕ). Tells object item (bounded_item (key, bounds))) same itself),
-            tells_below item entries (subst (λ (key : ℕ). IsBelow key entries) (sym same) above),
-          )
-      | Greater ↦ λ greater later.
-          let other = other_item item e (ap is_eq greater) in
-          (other.0 ∙ sym other.1, tells object bounds entries rest later)
-    ] refl found
+  first_in : (place : ℕ) (rank : Rank) → rank_at top place ≡ Some rank → Contains (in_order (items_in top)) (item_of rank)
+  first_in place rank at =
+      Contains-permutation (items_in top) (in_order (items_in top)) (item_of rank) (in_order-permutes (items_in top)) (in_items top place rank at)
 
-list_any-agree : (p q : Item → Bool) (items : List Item) → AllByRecursion (λ item. p item ≡ q item) items → list_any p items ≡ list_any q items
-list_any-agree p q [] all = refl
-list_any-agree p q (item ∷ items) all = ap (λ b. b || list_any p items) all.0 ∙ ap (λ b. q item || b) (list_any-agree p q items all.1)
+  first_from : (item : Item) → Contains (in_order (items_in top)) item → (place : ℕ) × (rank : Rank) × (rank_at top place ≡ Some rank) × (item_of rank ≡ item)
+  first_from item there =
+      from_items top item (Contains-permutation (in_order (items_in top)) (items_in top) item (IsPermutation-sym (items_in top) (in_order (items_in top)) (in_order-permutes (items_in top))) there)
 
--- what holds of each item holds of each of the first k
-all_first_k : (P : Item → Type 0) (k : ℕ) (items : List Item) → AllByRecursion P items → AllByRecursion P (first_k k items)
-all_first_k P k items all =
-    recursion_from_All P (first_k k items)
-    (All-take P k (in_order items) (All-permutation P items (in_order items) (in_order-permutes items) (All-from_recursion P items all)))
+  length-first : length (in_order (items_in top)) ≡ count_by is_some top
+  length-first = length-in_order (items_in top) ∙ length-items_in top
 
--- an object with bounds is among the first k where its rank is
-pub top_of-Some : (k : ℕ) (entries : List (ℕ × Bounds)) (ranks : List Rank) (object : ℕ) (bounds : Bounds) (rank : Rank) (top : Bool) → KeepsRanks k entries ranks → lookup (is_at (nat_cmp object)) entries ≡ Some bounds → rank ≡ rank_of (bounded_item (object, bounds)) → (IsTrue (has_rank ranks rank) → top ≡ has_rank (take k ranks) rank) → top ≡ has_object object (first_k k (items_of entries))
-top_of-Some k entries ranks object bounds rank top keeps found is answers =
-    let item = bounded_item (object, bounds) in
-    let there : has_rank ranks rank ≡ true =
-    ap (has_rank ranks) is ∙ keeps.each (rank_of item) ∙ ap (has_bounds (rank_of item)) found
-    ∙ ap (λ b. b && (bounds.high == bounds.high)) (eq-eqb bounds.low bounds.low refl) ∙ eq-eqb bounds.high bounds.high refl in
-    answers there ∙ ap (has_rank (take k ranks)) is ∙ sym (has-items (take k ranks) item)
-    ∙ ap (λ (items : List Item). has_item items item) (first_k-kept k entries ranks keeps)
-    ∙ list_any-agree (is_at (item_cmp item)) (λ (other : Item). other.object == object) (first_k k (items_of entries))
-    (all_first_k (Tells object item) k (items_of entries) (tells object bounds entries keeps.rising found))
+  fewest : count_by is_some top ≡ min k (length (risen (items_in (joined top rest))))
+  fewest =
+      let all = length-items in
+      let few = halved.few in
+      elim (some_counted rest) as (λ _. count_by is_some top ≡ min k (length (risen (items_in (joined top rest))))) [
+        | inl none ↦ omega arith
+        | inr found ↦ let full = halved.full found.0 found.1 found.2 in omega arith
+      ]
 
-absent : (object : ℕ) (entries : List (ℕ × Bounds)) → lookup (is_at (nat_cmp object)) entries ≡ None → AllByRecursion (λ (item : Item). (item.object == object) ≡ false) (items_of entries)
-absent object [] none = tt
-absent object (e ∷ entries) none =
-    elim (is_eq (nat_cmp object e.0)) as (λ b. is_eq (nat_cmp object e.0) ≡ b → cond b (Some e.1) (lookup (is_at (nat_cmp object)) entries) ≡ None → AllByRecursion (λ (item : Item). (item.object == object) ≡ false) (items_of (e ∷ entries))) [
-      | true ↦ λ _ some. absurd (none-some e.1 (sym some))
-      | false ↦ λ other later. ((other_item (bounded_item (object, e.1)) e other).1, absent object entries later)
-    ] refl none
+  -- what stands before another stands after none that is no later than it
+  not_ahead : (inside outside : Item) → item_cmp inside outside ≢ Greater → IsBefore outside inside → ⊥
+  not_ahead inside outside upto before = upto (items_total.antisymm inside outside ∙ ap ordering_reverse (less_from_before outside inside before))
 
--- one without is not
-pub top_of-None : (k : ℕ) (entries : List (ℕ × Bounds)) (object : ℕ) → lookup (is_at (nat_cmp object)) entries ≡ None → false ≡ has_object object (first_k k (items_of entries))
-top_of-None k entries object none =
-    sym (list_any_none (λ (item : Item). item.object == object) (first_k k (items_of entries))
-    (All-from_recursion (λ (item : Item). (item.object == object) ≡ false) (first_k k (items_of entries))
-    (all_first_k (λ (item : Item). (item.object == object) ≡ false) k (items_of entries) (absent object entries none))))
+  is_first : IsFirstK k (risen (items_in (joined top rest))) (in_order (items_in top))
+  is_first = record {
+    ordered = in_order-ordered (items_in top) (items_distinct top top_apart);
+    size = length-first ∙ fewest;
+    held = all_from_members (Contains (risen (items_in (joined top rest)))) (in_order (items_in top)) (λ item there.
+        let found = first_from item there in
+        subst (Contains (risen (items_in (joined top rest)))) found.3 (member_in found.0 found.1 (top_joined k top rest halved found.0 found.1 found.2)));
+    none_ahead = λ inside outside within there beyond before.
+        let a = first_from inside within in
+        let b = member_from outside there in
+        elim (side_of k top rest halved b.0 b.1 b.2) as (λ _. ⊥) [
+          | inl at ↦ beyond (subst (Contains (in_order (items_in top))) b.3 (first_in b.0 b.1 at))
+          | inr other ↦
+              let upto = halved.before a.0 b.0 a.1 other.0 a.2 other.1 in
+              let outside_is : item_of other.0.0 ≡ outside = ap item_of other.2 ∙ b.3 in
+              not_ahead inside outside
+              (subst (λ (i : Item). item_cmp i outside ≢ Greater) a.3 (subst (λ (o : Item). item_cmp (item_of a.1) o ≢ Greater) outside_is upto)) before
+        ];
+  }
+
+  pub first_is : in_order (items_in top) ≡ first_k k (risen (items_in (joined top rest)))
+  first_is = first_k-only k (risen (items_in (joined top rest))) (in_order (items_in top)) items_apart is_first
+
+  pub first_distinct : AreDistinct (items_in top)
+  first_distinct = items_distinct top top_apart
+
+  pub first_k-holds : IsFirstK k (risen (items_in (joined top rest))) (first_k k (risen (items_in (joined top rest))))
+  first_k-holds = first_k-is k (risen (items_in (joined top rest))) items_apart
+
+  -- ---- the k-th low
+  nothing_left : HasFewer k top → length (risen (items_in (joined top rest))) < k
+  nothing_left fewer =
+      let all = length-items in
+      elim (some_counted rest) as (λ _. length (risen (items_in (joined top rest))) < k) [
+        | inl none ↦ omega arith
+        | inr found ↦ let full = halved.full found.0 found.1 found.2 in absurd (omega arith)
+      ]
+
+  last_at : (last : Rank) → IsLast k top last → slice_get (in_order (items_in top)) (k - 1) ≡ Some (item_of last)
+  last_at last is =
+      let few = halved.few in
+      let whole = is.whole in
+      let positive = halved.positive in
+      let size = length-first in
+      let within : k - 1 < length (in_order (items_in top)) = omega arith in
+      let there = first_in is.there.0 last is.there.1 in
+      slice_get-get_or (in_order (items_in top)) (k - 1) (item_of last) within ∙ ap (λ (i : Item). Some i) (is_it there within (cases_eq there.0 (k - 1)))
+    where
+      is_it : (there : Contains (in_order (items_in top)) (item_of last)) → k - 1 < length (in_order (items_in top)) → (there.0 ≡ k - 1) ⊎ (there.0 ≢ k - 1) → get_or (in_order (items_in top)) (k - 1) (item_of last) ≡ item_of last
+      is_it there within (inl e) = ap (λ p. get_or (in_order (items_in top)) p (item_of last)) (sym e) ∙ there.2
+      is_it there within (inr other) =
+          let few = halved.few in
+          let size = length-first in
+          let inside = there.1 in
+          let earlier : there.0 < k - 1 = omega arith in
+          let ordered = in_order-ordered (items_in top) (items_distinct top top_apart) in
+          let before = ordered there.0 (k - 1) (item_of last) earlier within in
+          let found = first_from (get_or (in_order (items_in top)) (k - 1) (item_of last)) (k - 1, within, get_or_default (in_order (items_in top)) (k - 1) (get_or (in_order (items_in top)) (k - 1) (item_of last)) (item_of last) within) in
+          let upto = is.none_after found.0 found.1 found.2 in
+          absurd (not_ahead (get_or (in_order (items_in top)) (k - 1) (item_of last)) (item_of last) (subst (λ (i : Item). item_cmp i (item_of last) ≢ Greater) found.3 upto)
+          (subst (λ (i : Item). IsBefore i (get_or (in_order (items_in top)) (k - 1) (item_of last))) there.2 before))
+
+  pub kth_is : (last : Option Rank) → MatchOption last (HasFewer k top) (IsLast k top) → option_map (λ (rank : Rank). rank.low) last ≡ kth_low k (risen (items_in (joined top rest)))
+  kth_is None fewer =
+      let left = nothing_left fewer in
+      let size = length-in_order (risen (items_in (joined top rest))) in
+      let past : length (in_order (risen (items_in (joined top rest)))) ≤ k - 1 = omega arith in
+      sym (ap (option_map (λ (item : Item). item.low)) (slice_get_past (in_order (risen (items_in (joined top rest)))) (k - 1) past))
+  kth_is (Some last) is =
+      let positive = halved.positive in
+      let below : k - 1 < k = omega arith in
+      sym (ap (option_map (λ (item : Item). item.low))
+      (sym (slice_get-take k (in_order (risen (items_in (joined top rest)))) (k - 1) below) ∙ ap (λ (items : List Item). slice_get items (k - 1)) (sym first_is) ∙ last_at last is))
+
+  -- the low of the last is the k-th largest, and without a last they are fewer
+  pub kth_counts : (last : Option Rank) → MatchOption last (HasFewer k top) (IsLast k top) → MatchOption (option_map (λ (rank : Rank). rank.low) last) (length (risen (items_in (joined top rest))) < k) (IsKthLargest k (lows (risen (items_in (joined top rest)))))
+  kth_counts last is =
+      subst (λ (low : Option ℕ). MatchOption low (length (risen (items_in (joined top rest))) < k) (IsKthLargest k (lows (risen (items_in (joined top rest)))))) (sym (kth_is last is))
+      (kth_low-counts k (risen (items_in (joined top rest))) halved.positive items_apart)
+
+  -- ---- whether an object is among the first k
+  has_first : (object : ℕ) → has_object object (first_k k (risen (items_in (joined top rest)))) ≡ has_object object (items_in top)
+  has_first object =
+      ap (has_object object) (sym first_is)
+      ∙ sym (list_any-IsPermutation (λ (item : Item). item.object == object) (items_in top) (in_order (items_in top)) (in_order-permutes (items_in top)))
+
+  pub top_is : (keys : List ℕ) (object place : ℕ) → AllPairs (λ (a : ℕ) (b : ℕ). a ≢ b) keys → AreRanksOf keys (joined top rest) → slice_get keys place ≡ Some object → is_some (rank_at top place) ≡ has_object object (first_k k (risen (items_in (joined top rest))))
+  top_is keys object place distinct are at = by_case (rank_at top place) refl ∙ sym (has_first object)
+    where
+      by_case : (rank : Option Rank) → rank_at top place ≡ rank → is_some (rank_at top place) ≡ has_object object (items_in top)
+      by_case (Some rank) is =
+          ap is_some is
+          ∙ sym (has_it object top place rank is (same_Some rank.object object (sym (are.own place rank (top_joined k top rest halved place rank is)) ∙ at)))
+      by_case None is =
+          ap is_some is
+          ∙ sym (lacks_it object top (λ other rank at' same.
+          let e = one_place keys distinct other place object (are.own other rank (top_joined k top rest halved other rank at') ∙ ap (λ (o : ℕ). Some o) same) at in
+          none-some rank (sym (ap (rank_at top) e ∙ is) ∙ at')))
+
+  pub no_top : (keys : List ℕ) (object : ℕ) → AreRanksOf keys (joined top rest) → ((place : ℕ) → slice_get keys place ≡ Some object → ⊥) → false ≡ has_object object (first_k k (risen (items_in (joined top rest))))
+  no_top keys object are absent =
+      sym (has_first object
+      ∙ lacks_it object top (λ place rank at same. absent place (are.own place rank (top_joined k top rest halved place rank at) ∙ ap (λ (o : ℕ). Some o) same)))
 
 -- of no more than k items each is among the first k
 pub has_object-all : (object k : ℕ) (items : List Item) → length items ≤ k → has_object object (first_k k items) ≡ has_object object items
 has_object-all object k items few =
-    ap (has_object object) (take-all (in_order items) k (omega (arith, length-in_order items)))
+    let size = length-in_order items in
+    let fits : length (in_order items) ≤ k = omega arith in
+    ap (has_object object) (take_all k (in_order items) fits)
     ∙ sym (list_any-IsPermutation (λ (item : Item). item.object == object) items (in_order items) (in_order-permutes items))
-
--- ---- putting an item
--- the same item again changes nothing
-pub put_item-same : (object : ℕ) (bounds : Bounds) (entries : List (ℕ × Bounds)) → Rise entries → lookup (is_at (nat_cmp object)) entries ≡ Some bounds → put_item (bounded_item (object, bounds)) (items_of entries) ≡ items_of entries
-put_item-same object bounds [] up found = absurd (none-some bounds found)
-put_item-same object bounds (e ∷ entries) up found =
-    let item = bounded_item (object, bounds) in
-    let above = sorted_head nat_cmp e.0 (keys_of entries) up in
-    elim (nat_cmp object e.0) as (λ r. nat_cmp object e.0 ≡ r → cond (is_eq r) (Some e.1) (lookup (is_at (nat_cmp object)) entries) ≡ Some bounds → match_ordering r (item ∷ items_of (e ∷ entries)) (item ∷ items_of entries) (bounded_item e ∷ put_item item (items_of entries)) ≡ items_of (e ∷ entries)) [
-      | Less ↦ λ less later.
-          absurd (none-some bounds (sym (lookup-below object entries (keys_after object e.0 entries less above)) ∙ later))
-      | Equal ↦ λ tie here.
-          ap (λ (key : ℕ). bounded_item (key, bounds) ∷ items_of entries) (exact_unsigned object e.0 tie)
-          ∙ ap (λ (b : Bounds). bounded_item (e.0, b) ∷ items_of entries) (sym (same_Some e.1 bounds here))
-      | Greater ↦ λ _ later. ap (λ (items : List Item). bounded_item e ∷ items) (put_item-same object bounds entries (sorted_tail nat_cmp e.0 (keys_of entries) up) later)
-    ] refl found
-  where
-    keys_after : (a b : ℕ) (rest : List (ℕ × Bounds)) → nat_cmp a b ≡ Less → IsBelow b rest → IsBelow a rest
-    keys_after a b rest less below = less_than_all nat_cmp_total a b (keys_of rest) less below
-
--- an inserted entry puts its item
-pub items_of-insert_entry : (object : ℕ) (bounds : Bounds) (entries : List (ℕ × Bounds)) → items_of (insert_entry nat_cmp entries object bounds) ≡ put_item (bounded_item (object, bounds)) (items_of entries)
-items_of-insert_entry object bounds [] = refl
-items_of-insert_entry object bounds (e ∷ entries) =
-    let item = bounded_item (object, bounds) in
-    elim (nat_cmp object e.0) as (λ r. nat_cmp object e.0 ≡ r → items_of (match_ordering r ((object, bounds) ∷ e ∷ entries) ((e.0, bounds) ∷ entries) (e ∷ insert_entry nat_cmp entries object bounds)) ≡ match_ordering r (item ∷ items_of (e ∷ entries)) (item ∷ items_of entries) (bounded_item e ∷ put_item item (items_of entries))) [
-      | Less ↦ λ _. refl
-      | Equal ↦ λ tie. ap (λ (key : ℕ). bounded_item (key, bounds) ∷ items_of entries) (sym (exact_unsigned object e.0 tie))
-      | Greater ↦ λ _. ap (λ (items : List Item). bounded_item e ∷ items) (items_of-insert_entry object bounds entries)
-    ] refl
-
--- what a look-up finds has a rank's bounds where the rank is there
-pub found_bounds : (rank : Rank) (found : Option Bounds) → has_bounds rank found ≡ true → found ≡ Some (record { low = rank.low; high = rank.high })
-found_bounds rank None e = absurd (false≢true e)
-found_bounds rank (Some bounds) e =
-    let both = and_parts (bounds.low == rank.low) (bounds.high == rank.high) e in
-    let low = eqb-true bounds.low rank.low both.0 in
-    let high = eqb-true bounds.high rank.high both.1 in
-    λ i. Some (record { low = low i; high = high i })
-
--- a board's value, with its items as `put_item` leaves them
-pub put_value : (board : Held) (k after : ℕ) (items put : List Item) (item : Item) → record { k = k; items = items } ≡ board → after ≡ k → put ≡ put_item item items → ◌≡◌ {A = Held} (record { k = after; items = put }) (record { k = board.k; items = put_item item board.items })
-put_value board k after items put item is same_k same_items =
-    subst (λ (v : Held). ◌≡◌ {A = Held} (record { k = after; items = put }) (record { k = v.k; items = put_item item v.items })) is
-    (λ i. record { k = same_k i; items = same_items i })
-
--- the new rank is there where it isn't the old one
-replaced_test : (old new : Bool) → (old ≡ true → new ≡ false) → (not old && (new || old)) ≡ new
-replaced_test true new h = sym (h refl)
-replaced_test false new h = or-false new
-
--- the rank of an object with bounds, as a test of the two
-same_rank : (object : ℕ) (bounds : Bounds) (rank : Rank) → is_eq (rank_cmp (rank_of (bounded_item (object, bounds))) rank) ≡ (has_bounds rank (Some bounds) && is_eq (nat_cmp object rank.object))
-same_rank object bounds rank =
-    (eq_by_cmp_equiv items_total).symm (bounded_item (object, bounds)) (item_of rank)
-    ∙ is_eq-item_cmp (item_of rank) (bounded_item (object, bounds))
-    ∙ ap (λ t. has_bounds rank (Some bounds) && t) (sym (is_eq-nat_cmp rank.object object) ∙ sym ((eq_by_cmp_equiv nat_cmp_total).symm object rank.object))
-
--- the ranks after a replacement, at one rank: of its object (here) or of another
-each_replaced : (object : ℕ) (old bounds : Bounds) (rank : Rank) (had : Bool) (before : Option Bounds) (here : Bool) → had ≡ has_bounds rank before → (here ≡ true → before ≡ Some old) → (has_bounds rank (Some bounds) ≡ true → here ≡ true → had ≡ false) → (not (has_bounds rank (Some old) && here) && ((has_bounds rank (Some bounds) && here) || had)) ≡ has_bounds rank (cond here (Some bounds) before)
-each_replaced object old bounds rank had before true is found new =
-    let o = has_bounds rank (Some old) in
-    let n = has_bounds rank (Some bounds) in
-    let held : had ≡ o = is ∙ ap (has_bounds rank) (found refl) in
-    ap (λ t. not t && ((n && true) || had)) (and-true o) ∙ ap (λ t. not o && (t || had)) (and-true n)
-    ∙ ap (λ t. not o && (n || t)) held
-    ∙ replaced_test o n (λ yes'. false_from_ne_true n (λ also. false≢true (sym (new also refl) ∙ held ∙ yes')))
-each_replaced object old bounds rank had before false is found new =
-    let o = has_bounds rank (Some old) in
-    let n = has_bounds rank (Some bounds) in
-    ap (λ t. not t && ((n && false) || had)) (and-false o) ∙ ap (λ t. t || had) (and-false n) ∙ is
-
--- with its object's old rank taken out and the new one put in, the ranks are those of the new bounds
-pub keeps-replaced : (k : ℕ) (entries after : List (ℕ × Bounds)) (ranks added removed : List Rank) (object : ℕ) (old bounds : Bounds) → KeepsRanks k entries ranks → has_rank ranks (rank_of (bounded_item (object, bounds))) ≡ false → ((rank : Rank) → has_rank added rank ≡ (is_eq (rank_cmp (rank_of (bounded_item (object, bounds))) rank) || has_rank ranks rank)) → ((rank : Rank) → has_rank removed rank ≡ (not (is_eq (rank_cmp (rank_of (bounded_item (object, old))) rank)) && has_rank added rank)) → IsStrictlySortedBy rank_cmp removed → Rise after → lookup (is_at (nat_cmp object)) entries ≡ Some old → ((q : ℕ) → lookup (is_at (nat_cmp q)) after ≡ cond (is_eq (nat_cmp object q)) (Some bounds) (lookup (is_at (nat_cmp q)) entries)) → KeepsRanks k after removed
-keeps-replaced k entries after ranks added removed object old bounds keeps new adds removes sorted rising found updates = record {
-  positive = keeps.positive;
-  rising = rising;
-  sorted = sorted;
-  each = λ rank.
-      let here = is_eq (nat_cmp object rank.object) in
-      let same : here ≡ true → object ≡ rank.object = λ e. tells_apart exact_unsigned object rank.object e in
-      let step = each_replaced object old bounds rank (has_rank ranks rank) (lookup (is_at (nat_cmp rank.object)) entries) here (keeps.each rank)
-      (λ e. ap (λ (o : ℕ). lookup (is_at (nat_cmp o)) entries) (sym (same e)) ∙ found)
-      (λ n e.
-      let one : rank_of (bounded_item (object, bounds)) ≡ rank = tells_apart exact_ranks (rank_of (bounded_item (object, bounds))) rank (same_rank object bounds rank ∙ ap (λ t. t && here) n ∙ e) in
-      ap (has_rank ranks) (sym one) ∙ new) in
-      removes rank ∙ ap (λ t. not (is_eq (rank_cmp (rank_of (bounded_item (object, old))) rank)) && t) (adds rank)
-      ∙ ap (λ t. not t && (is_eq (rank_cmp (rank_of (bounded_item (object, bounds))) rank) || has_rank ranks rank)) (same_rank object old rank)
-      ∙ ap (λ t. not (has_bounds rank (Some old) && here) && (t || has_rank ranks rank)) (same_rank object bounds rank)
-      ∙ step ∙ ap (has_bounds rank) (sym (updates rank.object));
-}

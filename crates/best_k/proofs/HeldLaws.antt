@@ -1,5 +1,5 @@
 -- What putting an item does to the items of the objects, and that these settle the order.
-use Rattle.std.proofs.Common.{◌≡◌, ◌==◌, ℕ, zero, suc, ◌<◌, Bool, true, false, cond, List, [], ◌∷◌, Some, refl, sym, ap, ◌∙◌, arith}
+use Rattle.std.proofs.Common.{◌≡◌, ◌==◌, ℕ, zero, suc, ◌+◌, ◌<◌, ◌≤◌, Bool, true, false, cond, List, [], ◌∷◌, length, Some, refl, sym, ap, ◌∙◌, arith}
 use Rattle.std.specs.declared.cmp.Ordering.TheVariants.{Less, Equal, Greater}
 use Rattle.std.specs.Ordering.{nat_cmp, match_ordering}
 use Rattle.std.specs.List.{All, Contains}
@@ -11,8 +11,8 @@ use Rattle.std.proofs.lemmas.Map.Made.{Contains-tail}
 use Rattle.std.proofs.lemmas.Option.{none-some, same_Some}
 use Rattle.ranked_list.specs.declared.item.Item.{Item}
 use Rattle.best_k.specs.Held.{IsRising, put_item, item_at}
-use Rattle.best_k.specs.Order.{AreDistinct, in_order}
-use Rattle.best_k.proofs.InOrder.{AreDistinct-rest, AreDistinct-first, in_order-same}
+use Rattle.topk_theory.specs.Order.{AreDistinct, in_order}
+use Rattle.topk_theory.proofs.InOrder.{AreDistinct-rest, AreDistinct-first, in_order-same}
 
 -- where a test of one key holds, so does that of an equal one
 tied_keys : {A : Type 0} (t u : Bool) (x : A) (y : A) (z : A) → u ≡ t → cond t x z ≡ cond t x (cond u y z)
@@ -117,3 +117,13 @@ in_order-looked_up items others apart apart' same =
       λ there. (Contains-from_item_at item.object items item (sym (same item.object) ∙ item_at-from_Contains others item apart' there)).0,
       λ there. (Contains-from_item_at item.object others item (same item.object ∙ item_at-from_Contains items item apart there)).0,
     ))
+
+-- one item more at most
+pub length-put_item : (item : Item) (items : List Item) → length (put_item item items) ≤ length items + 1
+length-put_item item [] = omega arith
+length-put_item item (held ∷ others) =
+    elim (nat_cmp item.object held.object) as (λ r. length (match_ordering r (item ∷ held ∷ others) (item ∷ others) (held ∷ put_item item others)) ≤ length (held ∷ others) + 1) [
+      | Less ↦ omega arith
+      | Equal ↦ omega arith
+      | Greater ↦ omega (arith, length-put_item item others)
+    ]

@@ -1,10 +1,7 @@
-pub mod OrderLaws
-pub mod InOrder
-pub mod FirstK
-pub mod KthLow
 pub mod HeldLaws
-pub mod Sorted
-pub mod Ranks
+pub mod Halving
+pub mod Joining
+pub mod Rising
 pub mod BoardLaws
-pub mod Taken
-pub mod Sorts
+pub mod Placing
+pub mod KeptLaws

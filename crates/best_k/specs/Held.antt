@@ -1,12 +1,13 @@
 -- What a board holds: for each object the item that was put last.
-use Rattle.std.specs.Prelude.{◌==◌, ◌<◌, ℕ, Bool, Option, List, [], ◌∷◌, AllPairs, find, not, filter}
+use Rattle.std.specs.Prelude.{◌==◌, ◌<◌, ℕ, Bool, Option, List, [], ◌∷◌, AllPairs, find}
 use Rattle.std.specs.List.{list_any}
 use Rattle.std.specs.Ordering.{nat_cmp, match_ordering}
 use Rattle.ranked_list.specs.declared.item.Item.{Item}
 
--- how many are wanted, and the items held, one for each object, by rising id
+-- how many are wanted, how many objects there is room for, and the items held, one for each object, by rising id
 pub record Held : Type 0 where
   pub k : ℕ
+  pub room : ℕ
   pub items : List Item
 
 -- the item of an object with this low and this high
@@ -23,9 +24,10 @@ put_item item [] = item ∷ []
 put_item item (held ∷ others) =
     match_ordering (nat_cmp item.object held.object) (item ∷ held ∷ others) (item ∷ others) (held ∷ put_item item others)
 
--- the items without the object's
-abbrev pub without : ℕ → List Item → List Item
-without object items = filter (λ (item : Item). not (item.object == object)) items
+-- the items by rising id
+abbrev pub risen : List Item → List Item
+risen [] = []
+risen (item ∷ items) = put_item item (risen items)
 
 -- the object's item, if it has one
 abbrev pub item_at : ℕ → List Item → Option Item

@@ -1,41 +1,27 @@
--- What a board and its ranking keep.
-use Rattle.std.specs.Prelude.{◌≡◌, ◌≤◌, ◌-◌, ◌==◌, ◌&&◌, ℕ, Bool, false, Option, Some, None, List, map, slice_get}
-use Rattle.std.specs.List.Sorted.{IsStrictlySortedBy}
-use Rattle.std.specs.Ordering.{nat_cmp}
-use Rattle.std.specs.Map.{lookup, keys_of}
-use Rattle.std.specs.BTreeMap.{is_at}
+-- What a board keeps.
+use Rattle.std.specs.Prelude.{◌≡◌, ◌<◌, ℕ, true, Option, Some, None, List, [], ◌∷◌, length, is_some, slice_get}
+use Rattle.std.specs.declared.cmp.Reverse.{Reverse}
 use Rattle.ranked_list.specs.declared.item.Item.{Item}
+use Rattle.indexed_heap.specs.Ranks.{rank_at}
+use Rattle.room_map.specs.Keys.{Keys, FitsRoom}
 use Rattle.best_k.specs.declared.rank.Rank.{Rank}
-use Rattle.best_k.specs.declared.rank.Bounds.{Bounds}
-use Rattle.best_k.specs.Rank.{rank_cmp, has_rank}
+use Rattle.best_k.specs.Rank.{item_of}
+use Rattle.best_k.specs.Halves.{joined, IsHalved}
 
--- ranks in order, of which the k-th is at hand
-pub record Ranked : Type 0 where
-  pub k : ℕ
-  pub ranks : List Rank
+-- the items of the places that have a rank
+abbrev pub items_in : List (Option Rank) → List Item
+items_in [] = []
+items_in (None ∷ ranks) = items_in ranks
+items_in (Some rank ∷ ranks) = item_of rank ∷ items_in ranks
 
--- the ranks are in order, and `kth` is the k-th of them
-pub record KeepsKth (k : ℕ) (ranks : List Rank) (kth : Option Rank) : Type 0 where
-  pub positive : 1 ≤ k
-  pub sorted : IsStrictlySortedBy rank_cmp ranks
-  pub at_hand : kth ≡ slice_get ranks (k - 1)
+-- each place that an object has, and no other, has a rank of this object
+pub record AreRanksOf (keys : List ℕ) (ranks : List (Option Rank)) : Type 0 where
+  pub own : (place : ℕ) (rank : Rank) → rank_at ranks place ≡ Some rank → slice_get keys place ≡ Some rank.object
+  pub each : (place : ℕ) → place < length keys → is_some (rank_at ranks place) ≡ true
 
--- the item of an object with these bounds
-abbrev pub bounded_item : ℕ × Bounds → Item
-bounded_item e = record { object = e.0; low = e.1.low; high = e.1.high }
-
--- the items of the objects and their bounds
-abbrev pub items_of : List (ℕ × Bounds) → List Item
-items_of entries = map bounded_item entries
-
--- whether these are the rank's bounds
-abbrev pub has_bounds : Rank → Option Bounds → Bool
-has_bounds rank None = false
-has_bounds rank (Some bounds) = (bounds.low == rank.low) && (bounds.high == rank.high)
-
--- the ranks are those of the objects with their bounds
-pub record KeepsRanks (k : ℕ) (entries : List (ℕ × Bounds)) (ranks : List Rank) : Type 0 where
-  pub positive : 1 ≤ k
-  pub rising : IsStrictlySortedBy nat_cmp (keys_of entries)
-  pub sorted : IsStrictlySortedBy rank_cmp ranks
-  pub each : (rank : Rank) → has_rank ranks rank ≡ has_bounds rank (lookup (is_at (nat_cmp rank.object)) entries)
+-- the ranks are those of the objects that have a place, and they are parted
+pub record IsKept (places : Keys) (k : ℕ) (top : List (Option Rank)) (rest : List (Option (Reverse Rank))) : Type 0 where
+  pub fits : FitsRoom places
+  pub size : length top ≡ places.room
+  pub halved : IsHalved k top rest
+  pub ranks : AreRanksOf places.keys (joined top rest)

@@ -1,4 +1,4 @@
-pub mod Order
 pub mod Held
 pub mod Rank
+pub mod Halves
 pub mod Kept

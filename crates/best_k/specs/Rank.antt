@@ -1,11 +1,8 @@
 -- Ranks, as a board keeps them: items that compare in the board's order.
-use Rattle.std.specs.Prelude.{Bool, List}
-use Rattle.std.specs.List.{list_any}
 use Rattle.std.specs.declared.cmp.Ordering.{Ordering}
-use Rattle.std.specs.BTreeMap.{is_at}
 use Rattle.ranked_list.specs.declared.item.Item.{Item}
 use Rattle.best_k.specs.declared.rank.Rank.{Rank}
-use Rattle.best_k.specs.Order.{item_cmp}
+use Rattle.topk_theory.specs.Order.{item_cmp}
 
 -- the item of a rank
 abbrev pub item_of : Rank → Item
@@ -18,7 +15,3 @@ rank_of item = record { low = item.low; high = item.high; object = item.object }
 -- ranks compare as their items
 abbrev pub rank_cmp : Rank → Rank → Ordering
 rank_cmp a b = item_cmp (item_of a) (item_of b)
-
--- whether the rank is one of them
-abbrev pub has_rank : List Rank → Rank → Bool
-has_rank ranks rank = list_any (is_at (rank_cmp rank)) ranks

@@ -1,23 +1,28 @@
 //! The board: what was put last of each object, and the first k of it.
 
-ghost use Rattle.std.specs.Prelude.{◌≡◌, ◌≤◌, ◌<◌, [], length, List, IfOk, OnOk, OnErr, MatchOption};
+ghost use Rattle.std.specs.Prelude.{◌≡◌, ◌≤◌, ◌<◌, [], ◌∷◌, ◌++◌, false, length, List, IfOk, MatchOption, MatchBool, slice_get, nat_eq, Some};
+ghost use Rattle.std.specs.List.{list_any};
 ghost use Rattle.ranked_list.specs.declared.item.Item.{Item};
-ghost use Rattle.best_k.specs.Order.{first_k, kth_low, IsFirstK, IsKthLargest, lows};
-ghost use Rattle.best_k.specs.Held.{item_with, put_item, without, has_object};
+ghost use Rattle.room_map.specs.Keys.{FitsRoom};
+ghost use Rattle.topk_theory.specs.Order.{first_k, kth_low, IsFirstK, IsKthLargest, lows};
+ghost use Rattle.best_k.specs.Held.{item_with, put_item, has_object};
+ghost use Rattle.best_k.specs.Kept.{items_in};
 
 use super::Memory;
-use super::rank::Bounds;
+use super::order::put_in_order;
+use super::rank::Rank;
 use super::ranking::Ranking;
+use indexed_heap::IndexedHeap;
 use ranked_list::{Item, Items};
+use room_map::RoomMap;
 use std::alloc::Global;
-use std::collections::BTreeMap;
 use std::marker::Model;
 
 /// The objects seen so far, each with the low and the high that were put last. Objects are ranked by
 /// low falling, then high falling, then id rising.
-#[derive(Debug, Drop)]
+#[derive(Drop)]
 pub struct Board {
-    bounds: BTreeMap<u32, Bounds>,
+    places: RoomMap,
     ranking: Ranking,
     /// Room for the answer.
     answer: Vec<Item>,
@@ -25,61 +30,49 @@ pub struct Board {
 
 impl Model for Board {
     ghost use Rattle.std.specs.Prelude.{◌≡◌, []};
-    ghost use Rattle.best_k.specs.Held.{Held};
-    ghost use Rattle.best_k.specs.Kept.{items_of, KeepsRanks};
+    ghost use Rattle.best_k.specs.Held.{Held, risen};
+    ghost use Rattle.best_k.specs.Halves.{joined};
+    ghost use Rattle.best_k.specs.Kept.{items_in, IsKept};
 
     ghost Value = { Held };
 
-    ghost view = { λ a. record { k = a.ranking.k; items = items_of a.bounds.entries } };
+    ghost view = { λ a. record { k = a.ranking.k; room = a.places.room; items = risen (items_in (joined a.ranking.top a.ranking.rest)) } };
 
-    ghost invariant = { λ a. KeepsRanks a.ranking.k a.bounds.entries a.ranking.ranks × (a.answer.items ≡ []) };
+    ghost invariant = { λ a. IsKept a.places a.ranking.k a.ranking.top a.ranking.rest × (a.answer.items ≡ []) };
 }
 
 impl Board {
-    /// A board without objects, for the first `k`. Reserves the answer for at most `room` objects.
+    /// A board without objects, for the first `k`, with room for `room` objects, at most 200,000. No other
+    /// call but `first` takes memory.
     pub fn make(alloc: Global, k: u32, room: u32) -> Result<Board, Memory>
-        requires { 1 ≤ k }
+        requires positive { 1 ≤ k }
+        requires room { room ≤ 200000 }
         ensures same_k { IfOk result (λ board. board.k ≡ k) }
+        ensures same_room { IfOk result (λ board. board.room ≡ room) }
         ensures empty { IfOk result (λ board. board.items ≡ []) }
     {
-        let answer = Vec::with_capacity(alloc, k.min(room) as usize).map_err(|_| Memory)?;
+        let Ok(answer) = Vec::with_capacity(alloc, k.min(room) as usize) else {
+            return Err(Memory);
+        };
+        let Ok(places) = RoomMap::make(alloc, room) else {
+            return Err(Memory);
+        };
+        let ranking = Ranking::make(alloc, k, room)?;
         Ok(Board {
-            bounds: BTreeMap::new(alloc),
-            ranking: Ranking::make(alloc, k),
+            places,
+            ranking,
             answer,
         })
     }
 
-    /// Adds an object with its bounds, or replaces the bounds that it had. Where memory is refused
-    /// nothing has changed.
-    pub fn put(&mut self, object: u32, low: u64, high: u64) -> Result<(), Memory>
-        ensures ok { OnOk result (self.new
-            ≡ record self.old { items = put_item (item_with object low high) self.old.items }) }
-        ensures err { OnErr result (self.new ≡ self.old) }
+    /// Adds an object with its bounds, or replaces the bounds that it had. Takes no memory.
+    pub fn put(&mut self, object: u32, low: u64, high: u64)
+        requires { has_object object self.old.items ≡ false → length self.old.items < self.old.room }
+        ensures { self.new
+            ≡ record self.old { items = put_item (item_with object low high) self.old.items } }
     {
-        let bounds = Bounds { low, high };
-        let rank = bounds.rank_of(object);
-        if !self.ranking.insert(rank)? {
-            return Ok(());
-        }
-        match self.bounds.insert(object, bounds) {
-            Ok(Some(old)) => self.ranking.remove(old.rank_of(object)),
-            Ok(None) => {}
-            Err(_) => {
-                self.ranking.remove(rank);
-                return Err(Memory);
-            }
-        }
-        Ok(())
-    }
-
-    /// Takes an object off. Where it isn't there nothing changes. Takes no memory.
-    pub fn remove(&mut self, object: u32)
-        ensures { self.new ≡ record self.old { items = without object self.old.items } }
-    {
-        if let Some(bounds) = self.bounds.remove(&object) {
-            self.ranking.remove(bounds.rank_of(object));
-        }
+        let place = place_for(&mut self.places, object);
+        self.ranking.put(place, Rank { low, high, object });
     }
 
     /// The k-th largest low, None while fewer than k objects are there.
@@ -88,7 +81,10 @@ impl Board {
         ensures by_count { MatchOption result (length self.now.items < self.now.k)
             (IsKthLargest self.now.k (lows self.now.items)) }
     {
-        self.ranking.kth().map(|rank| rank.low)
+        match self.ranking.last() {
+            Some(last) => Some(last.low),
+            None => None,
+        }
     }
 
     /// Whether an object is one of the first k. While no more than k were put, each of them is.
@@ -97,8 +93,8 @@ impl Board {
         ensures all_of_few { length self.now.items ≤ self.now.k
             → result ≡ has_object object self.now.items }
     {
-        match self.bounds.get(&object) {
-            Some(bounds) => self.ranking.is_top(bounds.rank_of(object)),
+        match self.places.place(object) {
+            Some(place) => self.ranking.top.contains(place),
             None => false,
         }
     }
@@ -111,12 +107,47 @@ impl Board {
             → others ≡ items) }
     {
         let Board {
-            bounds,
+            places,
             ranking,
             answer,
         } = self;
-        drop(bounds);
-        let items = ranking.first(answer)?;
+        drop(places);
+        let Ranking { k: _, top, rest } = ranking;
+        drop(rest);
+        let mut items = items_of(&top, answer)?;
+        drop(top);
+        put_in_order(&mut items);
         Ok(Items::from_vec(items))
     }
+}
+
+/// The place of an object, which is added where it isn't there.
+fn place_for(places: &mut RoomMap, object: u32) -> u32
+    requires fits { FitsRoom places.old }
+    requires room { list_any (nat_eq object) places.old.keys ≡ false → length places.old.keys < places.old.room }
+    ensures at { slice_get places.new.keys result ≡ Some object }
+    ensures fits { FitsRoom places.new }
+    ensures same_room { places.new.room ≡ places.old.room }
+    ensures added { MatchBool (list_any (nat_eq object) places.old.keys)
+        (places.new.keys ≡ places.old.keys) (places.new.keys ≡ places.old.keys ++ object ∷ []) }
+{
+    match places.place(object) {
+        Some(place) => place,
+        None => places.add(object),
+    }
+}
+
+/// Adds the items of the ranks to `items`, which is empty.
+fn items_of(top: &IndexedHeap<Rank>, mut items: Vec<Item>) -> Result<Vec<Item>, Memory>
+    requires { items.items ≡ [] }
+    ensures { IfOk result (λ items. items.items ≡ items_in top.now) }
+{
+    for place in 0..top.room() {
+        if let Some(rank) = top.get(place) {
+            let Ok(()) = items.push(rank.item()) else {
+                return Err(Memory);
+            };
+        }
+    }
+    Ok(items)
 }

@@ -5,8 +5,6 @@ mod board;
 mod order;
 mod rank;
 mod ranking;
-#[cfg(test)]
-mod tests;
 
 pub use board::Board;
 pub use order::put_in_order;

@@ -1,7 +1,7 @@
 //! Items put in the order of a board.
 
 ghost use Rattle.std.specs.Prelude.{◌≡◌};
-ghost use Rattle.best_k.specs.Order.{in_order, AreDistinct};
+ghost use Rattle.topk_theory.specs.Order.{in_order, AreDistinct};
 
 use super::rank::Rank;
 use ranked_list::Item;

@@ -67,23 +67,3 @@ impl Rank {
         }
     }
 }
-
-/// The bounds of an object.
-#[derive(Clone, Copy, Debug, PartialEq, Eq)]
-pub(crate) struct Bounds {
-    pub low: u64,
-    pub high: u64,
-}
-
-impl Bounds {
-    /// The rank of an object with these bounds.
-    pub(crate) fn rank_of(self, object: u32) -> Rank
-        ensures { result ≡ record { low = self.low; high = self.high; object = object } }
-    {
-        Rank {
-            low: self.low,
-            high: self.high,
-            object,
-        }
-    }
-}

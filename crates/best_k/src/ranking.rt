@@ -1,160 +1,105 @@
-//! Ranks in order, with the k-th at hand.
+//! The ranks of objects by place, parted into the first k of them and the others.
 
-ghost use Rattle.std.specs.Prelude.{◌≡◌, ◌≤◌, ◌-◌, [], suc, ℕ, false, not, ◌||◌, ◌&&◌, take, map, slice_get, IfOk, OnOk, OnErr, IsTrue, List};
-ghost use Rattle.std.specs.Ordering.{is_eq};
-ghost use Rattle.std.specs.List.Sorted.{IsStrictlySortedBy};
-ghost use Rattle.std.specs.Set.{remove_key};
-ghost use Rattle.std.specs.BTreeMap.{is_at};
-ghost use Rattle.std.specs.BTreeSet.{insert_key};
-ghost use Rattle.best_k.specs.declared.rank.Rank.{Rank};
-ghost use Rattle.best_k.specs.Rank.{item_of, rank_cmp, has_rank};
+ghost use Rattle.std.specs.Prelude.{◌≡◌, ◌≤◌, ◌<◌, ℕ, Some, None, length, replicate, slice_set, is_some, IfOk, MatchOption};
+ghost use Rattle.indexed_heap.specs.Ranks.{rank_at};
+ghost use Rattle.best_k.specs.Halves.{IsHalved, IsHalvedBut, IsLast, HasFewer, joined};
 
 use super::Memory;
 use super::rank::Rank;
-use ranked_list::Item;
+use indexed_heap::IndexedHeap;
 use std::alloc::Global;
-use std::collections::BTreeSet;
-use std::marker::Model;
-use std::ops::Bound;
+use std::cmp::Reverse;
 
-/// Ranks in order, with the k-th at hand.
-#[derive(Debug, Drop)]
+/// Ranks by place: the first k of them, of which the last is at hand, and the others, of which the first is
+/// at hand.
+#[derive(Drop)]
 pub(crate) struct Ranking {
-    k: u32,
-    ranks: BTreeSet<Rank>,
-    kth: Option<Rank>,
-}
-
-impl Model for Ranking {
-    ghost use Rattle.best_k.specs.Kept.{Ranked, KeepsKth};
-
-    ghost Value = { Ranked };
-
-    ghost view = { λ a. record { k = a.k; ranks = a.ranks.keys } };
-
-    ghost invariant = { λ a. KeepsKth a.k a.ranks.keys a.kth };
+    pub k: u32,
+    pub top: IndexedHeap<Rank>,
+    pub rest: IndexedHeap<Reverse<Rank>>,
 }
 
 impl Ranking {
-    pub(crate) fn make(alloc: Global, k: u32) -> Ranking
-        requires { 1 ≤ k }
-        ensures same_k { result.k ≡ k }
-        ensures empty { result.ranks ≡ [] }
+    /// No ranks, with room for the places below `room`.
+    pub(crate) fn make(alloc: Global, k: u32, room: u32) -> Result<Ranking, Memory>
+        requires positive { 1 ≤ k }
+        requires room { room ≤ 200000 }
+        ensures same_k { IfOk result (λ ranking. ranking.k ≡ k) }
+        ensures halved { IfOk result (λ ranking. IsHalved ranking.k ranking.top ranking.rest) }
+        ensures empty { IfOk result (λ ranking. joined ranking.top ranking.rest ≡ replicate room None) }
     {
-        Ranking {
-            k,
-            ranks: BTreeSet::new(alloc),
-            kth: None,
-        }
-    }
-
-    /// The k-th of the ranks, None where they are fewer.
-    pub(crate) fn kth(&self) -> Option<Rank>
-        ensures { result ≡ slice_get self.now.ranks (self.now.k - 1) }
-    {
-        self.kth
-    }
-
-    /// Whether a rank is among the first k, where it is one of the ranks.
-    pub(crate) fn is_top(&self, rank: Rank) -> bool
-        ensures { IsTrue (has_rank self.now.ranks rank) → result ≡ has_rank (take self.now.k self.now.ranks) rank }
-    {
-        match self.kth {
-            Some(kth) => rank <= kth,
-            None => true,
-        }
-    }
-
-    /// Adds a rank, and answers whether it is new. Where memory is refused nothing has changed.
-    pub(crate) fn insert(&mut self, rank: Rank) -> Result<bool, Memory>
-        ensures new { IfOk result (λ new. new ≡ not (has_rank self.old.ranks rank)) }
-        ensures added { OnOk result ((other : Rank) → has_rank self.new.ranks other
-            ≡ (is_eq (rank_cmp rank other) || has_rank self.old.ranks other)) }
-        ensures same_k { self.new.k ≡ self.old.k }
-        ensures sorted { IsStrictlySortedBy rank_cmp self.new.ranks }
-        ensures err { OnErr result (self.new ≡ self.old) }
-    {
-        let Ok(new) = self.ranks.insert(rank) else {
+        let Ok(top) = IndexedHeap::make(alloc, room) else {
             return Err(Memory);
         };
-        if !new {
-            return Ok(false);
-        }
-        self.kth = kth_with(&self.ranks, self.k, self.kth, rank);
-        Ok(true)
+        let Ok(rest) = IndexedHeap::make(alloc, room) else {
+            return Err(Memory);
+        };
+        Ok(Ranking { k, top, rest })
     }
 
-    /// Takes a rank out, which is one of the ranks.
-    pub(crate) fn remove(&mut self, rank: Rank)
-        requires { IsTrue (has_rank self.old.ranks rank) }
-        ensures removed { (other : Rank) → has_rank self.new.ranks other
-            ≡ (not (is_eq (rank_cmp rank other)) && has_rank self.old.ranks other) }
+    /// Gives a place a rank, in place of the one that it had.
+    pub(crate) fn put(&mut self, place: u32, rank: Rank)
+        requires halved { IsHalved self.old.k self.old.top self.old.rest }
+        requires within { place < length self.old.top }
         ensures same_k { self.new.k ≡ self.old.k }
-        ensures sorted { IsStrictlySortedBy rank_cmp self.new.ranks }
+        ensures halved { IsHalved self.new.k self.new.top self.new.rest }
+        ensures joined { joined self.new.top self.new.rest
+            ≡ slice_set (joined self.old.top self.old.rest) place (Some rank) }
     {
-        self.kth = kth_without(&self.ranks, self.kth, rank);
-        self.ranks.remove(&rank);
-    }
-
-    /// Adds the items of the first k ranks to `items`, in order.
-    pub(crate) fn first(&self, mut items: Vec<Item>) -> Result<Vec<Item>, Memory>
-        requires { items.items ≡ [] }
-        ensures { IfOk result (λ items. items.items ≡ map item_of (take self.now.k self.now.ranks)) }
-    {
-        for rank in &self.ranks {
-            if items.len() == self.k as usize {
-                break;
-            }
-            items.push(rank.item()).map_err(|_| Memory)?;
+        if self.top.contains(place) {
+            self.top.put(place, rank);
+        } else {
+            self.rest.put(place, Reverse(rank));
         }
-        Ok(items)
+        self.settle();
+    }
+
+    /// Parts the ranks anew after the rank of one place has changed.
+    fn settle(&mut self)
+        requires { (changed : ℕ) × IsHalvedBut changed self.old.k self.old.top self.old.rest }
+        ensures same_k { self.new.k ≡ self.old.k }
+        ensures halved { IsHalved self.new.k self.new.top self.new.rest }
+        ensures joined { joined self.new.top self.new.rest ≡ joined self.old.top self.old.rest }
+    {
+        let Some(best) = self.rest.greatest() else {
+            return;
+        };
+        if self.top.len() < self.k {
+            raise(&mut self.top, &mut self.rest, best.key, best.rank.0);
+            return;
+        }
+        let Some(last) = self.top.greatest() else {
+            return;
+        };
+        if best.rank.0 < last.rank {
+            raise(&mut self.top, &mut self.rest, best.key, best.rank.0);
+            self.top.remove(last.key);
+            self.rest.put(last.key, Reverse(last.rank));
+        }
+    }
+
+    /// The last of the first k ranks, None where they are fewer.
+    pub(crate) fn last(&self) -> Option<Rank>
+        requires { 1 ≤ self.now.k }
+        ensures { MatchOption result (HasFewer self.now.k self.now.top) (IsLast self.now.k self.now.top) }
+    {
+        if self.top.len() < self.k {
+            return None;
+        }
+        let Some(last) = self.top.greatest() else {
+            return None;
+        };
+        Some(last.rank)
     }
 }
 
-/// The k-th of the ranks, one of which was added when `kth` was the k-th of the others.
-fn kth_with(ranks: &BTreeSet<Rank>, k: u32, kth: Option<Rank>, added: Rank) -> Option<Rank>
-    requires { 1 ≤ k }
-    ensures { (others : List Rank) → IsStrictlySortedBy rank_cmp others
-        → has_rank others added ≡ false
-        → ranks.now.keys ≡ insert_key rank_cmp others added
-        → kth ≡ slice_get others (k - 1)
-        → result ≡ slice_get ranks.now.keys (k - 1) }
+/// Moves the rank of a place from the others to the first.
+fn raise(top: &mut IndexedHeap<Rank>, rest: &mut IndexedHeap<Reverse<Rank>>, place: u32, rank: Rank)
+    requires top { place < length top.old }
+    requires rest { place < length rest.old }
+    ensures top { top.new ≡ slice_set top.old place (Some rank) }
+    ensures rest { rest.new ≡ slice_set rest.old place None }
 {
-    match kth {
-        Some(kth) if added < kth => last_before(ranks, kth),
-        None if ranks.len() == k as usize => ranks.last().copied(),
-        _ => kth,
-    }
-}
-
-/// The k-th of the ranks without one of them, where `kth` is the k-th of all.
-fn kth_without(ranks: &BTreeSet<Rank>, kth: Option<Rank>, removed: Rank) -> Option<Rank>
-    requires sorted { IsStrictlySortedBy rank_cmp ranks.now.keys }
-    requires there { IsTrue (has_rank ranks.now.keys removed) }
-    ensures { (k : ℕ) → kth ≡ slice_get ranks.now.keys k
-        → result ≡ slice_get (remove_key (is_at (rank_cmp removed)) ranks.now.keys) k }
-{
-    match kth {
-        Some(kth) if removed <= kth => first_after(ranks, kth),
-        _ => kth,
-    }
-}
-
-/// The rank before one of the ranks.
-fn last_before(ranks: &BTreeSet<Rank>, rank: Rank) -> Option<Rank>
-    ensures { (place : ℕ) → slice_get ranks.now.keys (suc place) ≡ Some rank
-        → result ≡ slice_get ranks.now.keys place }
-{
-    ranks.range(..rank).next_back().copied()
-}
-
-/// The rank after one of the ranks.
-fn first_after(ranks: &BTreeSet<Rank>, rank: Rank) -> Option<Rank>
-    ensures { (place : ℕ) → slice_get ranks.now.keys place ≡ Some rank
-        → result ≡ slice_get ranks.now.keys (suc place) }
-{
-    ranks
-        .range((Bound::Excluded(rank), Bound::Unbounded))
-        .next()
-        .copied()
+    rest.remove(place);
+    top.put(place, rank);
 }

@@ -1,7 +1,7 @@
 use Rattle.std.proofs.Common.{◌≡◌, rules}
 use Rattle.std.proofs.lemmas.Fn.{always_returns_same}
 use Rattle.best_k.specs.Rank.{rank_of}
-use Rattle.best_k.proofs.Sorts.{sorted_in_order}
+use Rattle.topk_theory.proofs.SortedItems.{sorted_in_order}
 use Rattle.best_k.proofs.order.put_in_order.Goals as goal
 
 pub returns : goal.returns

@@ -1,12 +1,19 @@
 use Rattle.std.proofs.Common.{sym, ap, ◌∙◌}
 use Rattle.best_k.specs.Held.{Held, has_object}
-use Rattle.best_k.specs.Order.{first_k}
-use Rattle.best_k.proofs.BoardLaws.{top_of-Some, top_of-None, has_object-all}
+use Rattle.topk_theory.specs.Order.{first_k}
+use Rattle.best_k.proofs.BoardLaws.{top_is, no_top, has_object-all, HaveOnePlace-joined}
+use Rattle.best_k.proofs.Placing.{position_at, position_none, none_at}
+use Rattle.best_k.specs.Halves.{joined}
 use Rattle.best_k.proofs.board.Board.is_top.Goals as goal
 
 pub returns-in-Some-clause-by_order : goal.returns-in-Some-clause-by_order
 returns-in-Some-clause-by_order c =
-    top_of-Some c.self.inside.ranking.k c.self.inside.bounds.entries c.self.inside.ranking.ranks c.args.object c.in-Some.bounds.now c.rank_of.result c.is_top.result c.self.invariant.0 (sym c.in-Some.ensures.value) c.rank_of.ensures c.is_top.ensures
+    let ranking = c.self.inside.ranking in
+    let kept = c.self.invariant.0 in
+    let keys = c.self.inside.places.keys in
+    let apart = HaveOnePlace-joined keys (joined ranking.top ranking.rest) kept.fits.distinct kept.ranks in
+    c.contains.ensures
+    ∙ top_is ranking.k ranking.top ranking.rest kept.halved apart keys c.args.object c.in-Some.place kept.fits.distinct kept.ranks (position_at c.args.object keys c.in-Some.place (sym c.place.ensures ∙ c.in-Some.is))
     ∙ ap (λ (v : Held). has_object c.args.object (first_k v.k v.items)) c.self.view_is
 
 pub returns-in-Some-clause-all_of_few : goal.returns-in-Some-clause-all_of_few
@@ -15,7 +22,12 @@ returns-in-Some-clause-all_of_few c = λ few.
 
 pub returns-in-None-clause-by_order : goal.returns-in-None-clause-by_order
 returns-in-None-clause-by_order c =
-    top_of-None c.self.inside.ranking.k c.self.inside.bounds.entries c.args.object (sym c.in-None.ensures.value)
+    let ranking = c.self.inside.ranking in
+    let kept = c.self.invariant.0 in
+    let keys = c.self.inside.places.keys in
+    let apart = HaveOnePlace-joined keys (joined ranking.top ranking.rest) kept.fits.distinct kept.ranks in
+    let none = position_none c.args.object keys (sym c.place.ensures ∙ c.in-None.is) in
+    no_top ranking.k ranking.top ranking.rest kept.halved apart keys c.args.object kept.ranks (λ place at. none_at c.args.object keys place none at)
     ∙ ap (λ (v : Held). has_object c.args.object (first_k v.k v.items)) c.self.view_is
 
 pub returns-in-None-clause-all_of_few : goal.returns-in-None-clause-all_of_few

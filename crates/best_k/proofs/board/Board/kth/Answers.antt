@@ -1,24 +1,35 @@
-use Rattle.std.proofs.Common.{◌≡◌, ◌<◌, ℕ, Option, length, sym, ap, ◌∙◌, subst, rules}
-use Rattle.std.specs.Option.{option_map, MatchOption}
-use Rattle.best_k.specs.declared.rank.Rank.{Rank}
+use Rattle.std.proofs.Common.{◌<◌, Some, None, length, ap, ◌∙◌, subst}
 use Rattle.best_k.specs.Held.{Held}
-use Rattle.best_k.specs.Order.{kth_low, lows, IsKthLargest}
-use Rattle.best_k.proofs.KthLow.{kth_low-counts}
-use Rattle.best_k.proofs.BoardLaws.{kth_low-kept, AreDistinct-items_of}
-use Rattle.best_k.specs.Kept.{items_of}
+use Rattle.best_k.specs.Halves.{joined}
+use Rattle.topk_theory.specs.Order.{kth_low, lows, IsKthLargest}
+use Rattle.best_k.proofs.BoardLaws.{kth_is, kth_counts, HaveOnePlace-joined}
 use Rattle.best_k.proofs.board.Board.kth.Goals as goal
 
-pub returns-clause-by_order : goal.returns-clause-by_order
-returns-clause-by_order c =
-    let mapped : c.map.result ≡ option_map (λ (rank : Rank). rank.low) c.kth.result = search rules in
-    mapped ∙ ap (option_map (λ (rank : Rank). rank.low)) c.kth.ensures
-    ∙ kth_low-kept c.self.inside.ranking.k c.self.inside.bounds.entries c.self.inside.ranking.ranks c.self.invariant.0
-    ∙ ap (λ (v : Held). kth_low v.k v.items) c.self.view_is
+pub returns-in-Some-clause-by_order : goal.returns-in-Some-clause-by_order
+returns-in-Some-clause-by_order c =
+    let ranking = c.self.inside.ranking in
+    let kept = c.self.invariant.0 in
+    let apart = HaveOnePlace-joined c.self.inside.places.keys (joined ranking.top ranking.rest) kept.fits.distinct kept.ranks in
+    kth_is ranking.k ranking.top ranking.rest kept.halved apart (Some c.in-Some.last) c.in-Some.ensures ∙ ap (λ (v : Held). kth_low v.k v.items) c.self.view_is
 
-pub returns-clause-by_count : goal.returns-clause-by_count
-returns-clause-by_count c =
-    let entries = c.self.inside.bounds.entries in
-    let keeps = c.self.invariant.0 in
-    subst (λ (r : Option ℕ). MatchOption r (length c.args.self.now.items < c.args.self.now.k) (IsKthLargest c.args.self.now.k (lows c.args.self.now.items))) (sym (returns-clause-by_order c))
-    (subst (λ (v : Held). MatchOption (kth_low v.k v.items) (length v.items < v.k) (IsKthLargest v.k (lows v.items))) c.self.view_is
-    (kth_low-counts c.self.inside.ranking.k (items_of entries) keeps.positive (AreDistinct-items_of entries keeps.rising)))
+pub returns-in-Some-clause-by_count : goal.returns-in-Some-clause-by_count
+returns-in-Some-clause-by_count c =
+    let ranking = c.self.inside.ranking in
+    let kept = c.self.invariant.0 in
+    let apart = HaveOnePlace-joined c.self.inside.places.keys (joined ranking.top ranking.rest) kept.fits.distinct kept.ranks in
+    subst (λ (v : Held). IsKthLargest v.k (lows v.items) c.in-Some.last.low) c.self.view_is
+    (kth_counts ranking.k ranking.top ranking.rest kept.halved apart (Some c.in-Some.last) c.in-Some.ensures)
+
+pub returns-in-None-clause-by_order : goal.returns-in-None-clause-by_order
+returns-in-None-clause-by_order c =
+    let ranking = c.self.inside.ranking in
+    let kept = c.self.invariant.0 in
+    let apart = HaveOnePlace-joined c.self.inside.places.keys (joined ranking.top ranking.rest) kept.fits.distinct kept.ranks in
+    kth_is ranking.k ranking.top ranking.rest kept.halved apart None c.in-None.ensures ∙ ap (λ (v : Held). kth_low v.k v.items) c.self.view_is
+
+pub returns-in-None-clause-by_count : goal.returns-in-None-clause-by_count
+returns-in-None-clause-by_count c =
+    let ranking = c.self.inside.ranking in
+    let kept = c.self.invariant.0 in
+    let apart = HaveOnePlace-joined c.self.inside.places.keys (joined ranking.top ranking.rest) kept.fits.distinct kept.ranks in
+    subst (λ (v : Held). length v.items < v.k) c.self.view_is (kth_counts ranking.k ranking.top ranking.rest kept.halved apart None c.in-None.ensures)

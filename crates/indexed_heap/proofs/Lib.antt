@@ -1,0 +1,4 @@
+pub mod TreeLaws
+pub mod Greatest
+pub mod Keeping
+pub mod Widening

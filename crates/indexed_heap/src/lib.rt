@@ -1,0 +1,16 @@
+//! A finite map from keys to ranks, whose greatest rank is at hand. The keys are the numbers below a room that is
+//! taken once: from then on no change takes memory, and each costs at most the logarithm of the room.
+#![tactic(auto)]
+
+mod heap;
+mod tree;
+
+pub use heap::IndexedHeap;
+pub use tree::Ranked;
+
+/// No memory was left.
+#[derive(Clone, Copy, Debug, PartialEq, Eq)]
+pub struct Memory;
+
+/// The greatest room of a heap, in keys.
+pub const MAX_ROOM: u32 = 200_000;
