@@ -1,9 +1,8 @@
--- The loop that gives each item its bounds, and the bottoms under which the threshold stands.
+-- The loop that gives each item its bounds, and the bottoms at which the threshold is.
 use Rattle.std.proofs.Common.{◌≡◌, ℕ, zero, suc, ◌+◌, ◌<◌, ◌≤◌, List, [], ◌∷◌, ◌++◌, length, map, take, drop, get_or, set, refl, ap, ◌∙◌, arith}
-use Rattle.monotone_fn.specs.Limits.{AreGrades}
-use Rattle.topk_theory.specs.Transcript.{bottom_of, named_objects, seen_objects, list_numbers}
-use Rattle.access_log.specs.Log.{Log, IsConsistent, IsWithinLimits}
-use Rattle.access_log.proofs.Bounding.{bottoms_capped}
+use Rattle.std.proofs.lemmas.List.FromFn.{length-range_with_len}
+use Rattle.topk_theory.specs.Transcript.{list_numbers}
+use Rattle.topk_theory.proofs.ThresholdLists.{length-map}
 
 -- the first of a list are changed: the next one stands there unchanged, and is changed in its place
 pub next_unchanged : {X : Type 0} (f : X → X) (old : List X) (i : ℕ) (d : X) → i < length old → get_or (map f (take i old) ++ drop i old) i d ≡ get_or old i d
@@ -22,10 +21,9 @@ changed_more f old now i d y l same is =
     let unchanged : get_or now i d ≡ get_or old i d = ap (λ xs. get_or xs i d) same ∙ next_unchanged f old i d l in
     ap (λ z. set now i z) (is ∙ ap f unchanged) ∙ ap (λ xs. set xs i (f (get_or old i d))) same ∙ set_next f old i d l ∙ ap (λ j. map f (take j old) ++ drop j old) next
 
--- the bottoms of a consistent log are grades
-pub capped : (log : Log) (bottoms : List ℕ) → IsWithinLimits log.lists log.count → IsConsistent log → bottoms ≡ map (λ list. bottom_of list log.accesses) (list_numbers log.lists) → AreGrades bottoms
-capped log bottoms limits consistent same =
-    bottoms_capped log.lists log.count log.accesses log.accesses (named_objects log.accesses) (seen_objects log.accesses) bottoms (record { limits = limits; names = refl; sights = refl; agrees = consistent }) refl same
+-- there is a bottom for each list
+pub one_each : (f : ℕ → ℕ) (xs : List ℕ) (m : ℕ) → xs ≡ map f (list_numbers m) → length xs ≡ m
+one_each f xs m is = ap length is ∙ length-map f (list_numbers m) ∙ length-range_with_len 0 m
 
 pub all_changed : {X : Type 0} (f : X → X) (old : List X) (i : ℕ) → length old ≤ i → map f (take i old) ++ drop i old ≡ map f old
 all_changed f [] zero l = refl

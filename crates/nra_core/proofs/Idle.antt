@@ -8,7 +8,7 @@ use Rattle.std.proofs.lemmas.List.Sums.{AllPass-from_list_all, list_all-from_All
 use Rattle.ranked_list.specs.declared.row.Row.{Row}
 use Rattle.ranked_list.specs.declared.item.Item.{Item}
 use Rattle.ranked_list.specs.Table.{IsTable}
-use Rattle.best_k.specs.Order.{AreDistinct, in_order}
+use Rattle.topk_theory.specs.Order.{AreDistinct, in_order}
 use Rattle.topk_theory.specs.declared.access.Access.{Access}
 use Rattle.topk_theory.specs.Aggregate.{objects_of}
 use Rattle.topk_theory.specs.Transcript.{Agrees, object_of, given_rows, bottom_of, list_numbers, seen_objects, named_objects}

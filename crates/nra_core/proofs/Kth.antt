@@ -4,7 +4,7 @@ use Rattle.std.specs.List.{slice_get, list_all}
 use Rattle.std.specs.Option.{option_map}
 use Rattle.std.proofs.lemmas.Bool.{cases_lt, or_left, or_right, lt-ltb, le-ltb, le-leb, lt-leb}
 use Rattle.ranked_list.specs.declared.item.Item.{Item}
-use Rattle.best_k.specs.Order.{in_order}
+use Rattle.topk_theory.specs.Order.{in_order}
 use Rattle.topk_theory.specs.declared.access.Access.{Access}
 use Rattle.topk_theory.specs.Transcript.{seen_objects}
 use Rattle.topk_theory.specs.Bounds.{threshold}

@@ -1,4 +1,3 @@
-pub mod Rows
 pub mod Seen
 pub mod Idle
 pub mod Kth
@@ -7,5 +6,3 @@ pub mod Steps
 pub mod Runs
 pub mod Feeds
 pub mod Answering
-pub mod TestFeeds
-pub mod TestTrees

@@ -5,20 +5,19 @@ use Rattle.std.proofs.lemmas.List.Elements.{Contains-append_left, Contains-appen
 use Rattle.std.proofs.lemmas.Bool.{le-ltb}
 use Rattle.std.proofs.lemmas.List.Quantifiers.{all_pairs_push}
 use Rattle.ranked_list.specs.declared.item.Item.{Item}
-use Rattle.best_k.specs.Order.{IsBefore, AreDistinct, in_order}
-use Rattle.best_k.proofs.OrderLaws.{IsBefore-irreflexive}
-use Rattle.best_k.proofs.InOrder.{has-in_order, has_from_Contains, Contains-from_has, in_order-ordered, in_order-same, length-in_order}
+use Rattle.topk_theory.specs.Order.{IsBefore, AreDistinct, in_order}
+use Rattle.topk_theory.proofs.OrderLaws.{IsBefore-irreflexive}
+use Rattle.topk_theory.proofs.InOrder.{has-in_order, has_from_Contains, Contains-from_has, in_order-ordered, in_order-same, length-in_order}
 use Rattle.topk_theory.specs.declared.access.Access.{Access}
 use Rattle.topk_theory.specs.declared.access.Access.TheVariants.{Sorted}
-use Rattle.topk_theory.specs.Transcript.{object_of, seen_objects, named_objects}
+use Rattle.topk_theory.specs.Transcript.{seen_objects}
 use Rattle.topk_theory.specs.Bounds.{bounded}
 use Rattle.topk_theory.specs.Threshold.{item_objects}
 use Rattle.topk_theory.specs.NoRandom.{seen_items}
 use Rattle.topk_theory.proofs.AgreementLists.{contains_nil, contains_here, contains_at, contains_cases, contains_map, contains_map_from}
-use Rattle.topk_theory.proofs.AgreementNames.{each_once_within, each_once_complete}
 use Rattle.topk_theory.proofs.Agreement.{seen_distinct, seen_objects_old, seen_objects_new}
-use Rattle.topk_theory.proofs.ThresholdRun.{seen_from_access, seen_more}
 use Rattle.topk_theory.proofs.NoRandomTop.{object_of_seen}
+use Rattle.machine_base.specs.Base.{TellsNew}
 use Rattle.nra_core.specs.Quiet.{AreOfSeen, items_after}
 
 -- ---- distinct objects
@@ -105,10 +104,10 @@ distinct_more items item apart fresh =
     (λ p d l same. fresh (subst (λ o. Contains (item_objects items) o) same (contains_map (λ (x : Item). x.object) items (get_or items p d) (contains_at items p d l))))
 
 -- a row's object is seen then, whether it is new or not
-pub held_more : (A : List Access) (items : List Item) (list object grade : ℕ) (is_new : Bool) → AreOfSeen A items → (is_new ≡ true → ¬ Contains (seen_objects A) object) → (is_new ≡ false → Contains (seen_objects A) object) → AreOfSeen (A ++ Sorted list object grade ∷ []) (told items object is_new)
-held_more A items list object grade true held unseen seen =
+pub seen_held : (A : List Access) (items : List Item) (list object grade : ℕ) (is_new : Bool) → AreOfSeen A items → TellsNew A object is_new → AreOfSeen (A ++ Sorted list object grade ∷ []) (told items object is_new)
+seen_held A items list object grade true held new =
     let item : Item = record { object = object; low = 0; high = 0 } in
-    let fresh : ¬ Contains (seen_objects A) object = unseen refl in
+    let fresh : ¬ Contains (seen_objects A) object = new.unseen refl in
     let then : seen_objects (A ++ Sorted list object grade ∷ []) ≡ seen_objects A ++ object ∷ [] = seen_objects_new A list object grade fresh in
     record {
       distinct = distinct_more items item held.distinct (λ c. fresh ((held.seen object).0 c));
@@ -123,8 +122,8 @@ held_more A items list object grade true held unseen seen =
         ]),
       );
     }
-held_more A items list object grade false held unseen seen =
-    let same : seen_objects (A ++ Sorted list object grade ∷ []) ≡ seen_objects A = seen_objects_old A list object grade (seen refl) in
+seen_held A items list object grade false held new =
+    let same : seen_objects (A ++ Sorted list object grade ∷ []) ≡ seen_objects A = seen_objects_old A list object grade (new.seen refl) in
     record {
       distinct = held.distinct;
       seen = λ other. (
@@ -133,24 +132,11 @@ held_more A items list object grade false held unseen seen =
       );
     }
 
--- what is named is seen, with a row as before
-pub named_more : (A : List Access) (list object grade : ℕ) → ((o : ℕ) → Contains (named_objects A) o → Contains (seen_objects A) o) → (o : ℕ) → Contains (named_objects (A ++ Sorted list object grade ∷ [])) o → Contains (seen_objects (A ++ Sorted list object grade ∷ [])) o
-named_more A list object grade before o c =
-    let a : Access = Sorted list object grade in
-    let from = contains_map_from object_of (A ++ a ∷ []) o (each_once_within (map object_of (A ++ a ∷ [])) o c) in
-    elim (Contains-append_cases A (a ∷ []) from.0 from.1) [
-      | inl there ↦ seen_more A (a ∷ []) o (before o (each_once_complete (map object_of A) o (subst (λ x. Contains (map object_of A) x) from.2 (contains_map object_of A from.0 there))))
-      | inr last ↦ elim (contains_cases a [] from.0 last) [
-        | inl e ↦ subst (λ x. Contains (seen_objects (A ++ a ∷ [])) x) (ap object_of e ∙ from.2) (seen_from_access (A ++ a ∷ []) list object grade (Contains-append_right A (a ∷ []) a (contains_here a [])))
-        | inr n ↦ absurd (contains_nil from.0 n)
-      ]
-    ]
-
 -- the items after a row, which is the last of its depth or not
 pub held_after : (V : List ℕ → ℕ) (m : ℕ) (A : List Access) (list : ℕ) (items : List Item) → AreOfSeen A items → AreOfSeen A (items_after V m A list items)
 held_after V m A list items held =
     elim (nat_lt (list + 1) m) as (λ b. AreOfSeen A (cond b items (in_order (seen_items V m A)))) [ true ↦ held | false ↦ in_order_of_seen V m A ]
 
-pub after_last : (V : List ℕ → ℕ) (m c : ℕ) (A : List Access) (list : ℕ) (items now : List Item) → m ≡ c → c ≤ list + 1 → now ≡ in_order (seen_items V m A) → now ≡ items_after V c A list items
-after_last V m c A list items now same whole sorted =
-    sorted ∙ ap (λ l. in_order (seen_items V l A)) same ∙ sym (ap (λ b. cond b items (in_order (seen_items V c A))) (le-ltb (list + 1) c whole))
+pub after_last : (V : List ℕ → ℕ) (m : ℕ) (A : List Access) (list : ℕ) (items now : List Item) → m ≤ list + 1 → now ≡ in_order (seen_items V m A) → now ≡ items_after V m A list items
+after_last V m A list items now whole sorted =
+    sorted ∙ sym (ap (λ b. cond b items (in_order (seen_items V m A))) (le-ltb (list + 1) m whole))

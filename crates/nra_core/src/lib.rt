@@ -2,17 +2,9 @@
 //! time. It answers from sorted access alone, with true bounds in place of exact aggregates.
 #![tactic(auto)]
 
-mod fault;
 mod nra;
 mod place;
 mod quiet;
 
-pub use access_log::CoreFault;
+pub use machine_base::{CoreFault, Memory, Need};
 pub use nra::Nra;
-
-/// No memory was left.
-#[derive(Clone, Copy, Debug, PartialEq, Eq)]
-pub struct Memory;
-
-#[cfg(test)]
-mod tests;

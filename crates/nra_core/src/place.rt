@@ -3,7 +3,7 @@
 ghost use Rattle.std.specs.Prelude.{◌≡◌};
 ghost use Rattle.nra_core.specs.Place.{need_at};
 
-use ranked_list::Need;
+use machine_base::Need;
 
 /// The list that is read next, and its depth, from 1.
 #[derive(Clone, Copy, Debug)]

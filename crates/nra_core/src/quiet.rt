@@ -3,16 +3,15 @@
 ghost use Rattle.std.specs.Prelude.{◌≡◌, ◌≤◌, map, drop, nat_le};
 ghost use Rattle.std.specs.List.{list_all};
 ghost use Rattle.ranked_list.specs.declared.item.Item.{Item};
-ghost use Rattle.best_k.specs.Order.{in_order};
+ghost use Rattle.topk_theory.specs.Order.{in_order};
 ghost use Rattle.monotone_fn.specs.Shape.{list_count};
 ghost use Rattle.monotone_fn.specs.Value.{value};
 ghost use Rattle.topk_theory.specs.Bounds.{bounded, threshold};
 ghost use Rattle.topk_theory.specs.NoRandom.{seen_items};
-ghost use Rattle.access_log.specs.Log.{IsConsistent};
 ghost use Rattle.nra_core.specs.Quiet.{low_at, is_quiet_seen};
 
 use access_log::{Item, Transcript};
-use monotone_fn::{Expr, MAX_LISTS};
+use monotone_fn::Expr;
 
 /// Gives each item its object's bounds.
 pub(crate) fn bound(expr: &Expr, transcript: &Transcript, items: &mut [Item])
@@ -27,16 +26,10 @@ pub(crate) fn bound(expr: &Expr, transcript: &Transcript, items: &mut [Item])
 
 /// The value at the bottoms of the lists, which is the high of every object that wasn't seen.
 fn threshold(expr: &Expr, transcript: &Transcript) -> u64
-    requires lists { transcript.now.lists ≡ list_count expr.now }
-    requires agrees { IsConsistent transcript.now }
+    requires { transcript.now.lists ≡ list_count expr.now }
     ensures { result ≡ threshold (value expr.now) transcript.now.lists transcript.now.accesses }
 {
-    let lists = transcript.lists();
-    let mut bottoms = [0; MAX_LISTS];
-    for list in 0..lists {
-        bottoms[list as usize] = transcript.bottom(list);
-    }
-    expr.eval(&bottoms[..lists as usize])
+    expr.eval(transcript.bottoms())
 }
 
 /// The low of the k-th item, if there are so many.
@@ -59,7 +52,6 @@ fn are_others_within(items: &[Item], k: u32, bound: u64) -> bool
 pub(crate) fn is_quiet(expr: &Expr, transcript: &Transcript, items: &[Item], k: u32) -> bool
     requires asked { 1 ≤ k }
     requires lists { transcript.now.lists ≡ list_count expr.now }
-    requires agrees { IsConsistent transcript.now }
     requires ordered { items.now ≡ in_order (seen_items (value expr.now) transcript.now.lists transcript.now.accesses) }
     ensures { result ≡ is_quiet_seen (value expr.now) k transcript.now.lists transcript.now.count transcript.now.accesses }
 {

@@ -2,7 +2,7 @@
 
 ghost use Rattle.std.specs.Prelude.{◌≡◌, ◌≤◌, ◌==◌, ◌||◌, IfOk, not, length, map};
 ghost use Rattle.std.specs.List.{list_any, list_all};
-ghost use Rattle.best_k.specs.Order.{kth_low};
+ghost use Rattle.topk_theory.specs.Order.{kth_low};
 ghost use Rattle.topk_theory.specs.Bounds.{high};
 ghost use Rattle.topk_theory.specs.NoRandom.{seen_items, first_seen, exceeds, is_quiet, nra_run_to, nra_depth, nra_run, nra_answer};
 ghost use Rattle.monotone_fn.specs.Shape.{list_count};

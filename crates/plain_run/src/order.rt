@@ -1,7 +1,7 @@
 //! The first of some items, by low falling, then by high falling, then by the object's number rising.
 
 ghost use Rattle.std.specs.Prelude.{◌≡◌};
-ghost use Rattle.best_k.specs.Order.{AreDistinct, in_order, first_k, kth_low};
+ghost use Rattle.topk_theory.specs.Order.{AreDistinct, in_order, first_k, kth_low};
 
 use best_k::put_in_order;
 use ranked_list::Item;

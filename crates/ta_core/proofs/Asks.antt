@@ -1,7 +1,7 @@
 -- The end of a row, its random accesses, and the beginning of the next one: the machine stays on the run.
 use Rattle.std.proofs.Common.{◌≡◌, ◌≢◌, ℕ, zero, suc, ◌+◌, ◌-◌, ◌<◌, ◌≤◌, inl, inr, Bool, true, false, not, cond, List, [], ◌∷◌, ◌++◌, length, map, take, drop, filter, AllPairs, Contains, slice_index_or, slice_index, refl, sym, ap, subst, ◌∙◌, arith, append_assoc, append-nil, length-append, eq-eqb, nat_lt}
 use Rattle.std.specs.List.{flat_map}
-use Rattle.std.proofs.lemmas.Bool.{cases_lt, cases_order, ltb-false, not-true, true≢false}
+use Rattle.std.proofs.lemmas.Bool.{cases_lt, ltb-false, not-true}
 use Rattle.std.proofs.lemmas.List.{drop-map, take_all, drop_all}
 use Rattle.std.proofs.Math.Seq.{take-suc, drop-cons}
 use Rattle.std.proofs.lemmas.List.Kept.{AllPairs-filter}
@@ -9,20 +9,23 @@ use Rattle.ranked_list.specs.declared.row.Row.{Row}
 use Rattle.ranked_list.specs.Table.{IsTable, place_in, grade_in}
 use Rattle.topk_theory.specs.declared.access.Access.{Access}
 use Rattle.topk_theory.specs.declared.access.Access.TheVariants.{Sorted, Random}
-use Rattle.topk_theory.specs.Aggregate.{objects_of, grades_of, aggregate, IsMonotone}
+use Rattle.monotone_fn.specs.Value.{IsMonotone}
+use Rattle.topk_theory.specs.Aggregate.{objects_of, grades_of, aggregate}
 use Rattle.topk_theory.specs.Transcript.{Agrees, list_at, seen_objects, each_once}
-use Rattle.topk_theory.specs.Threshold.{row_at, stands, sorted_block, new_objects, random_block, ta_block, ta_run_to, ta_stop}
+use Rattle.topk_theory.specs.Threshold.{IsAsked, row_at, stands, sorted_block, new_objects, random_block, ta_block, ta_run_to, ta_stop, ta_depth}
 use Rattle.topk_theory.proofs.AgreementLists.{contains_here, contains_there, contains_map_from, distinct_tail}
 use Rattle.topk_theory.proofs.AgreementNames.{each_once_within, each_once_distinct}
 use Rattle.topk_theory.proofs.AgreementRows.{list_at_contains}
 use Rattle.topk_theory.proofs.Agreement.{agrees_gives, gives_grade}
 use Rattle.topk_theory.proofs.ThresholdLists.{contains_from_filter, none_from_any, length-map}
 use Rattle.topk_theory.proofs.ThresholdTables.{no_row, place_in-lt, object-at_place}
-use Rattle.topk_theory.proofs.ThresholdDepth.{list_holds, table_holds, stops_at_last}
+use Rattle.topk_theory.proofs.ThresholdDepth.{list_holds, table_holds}
 use Rattle.topk_theory.proofs.ThresholdRun.{row_object, random_block_lower}
 use Rattle.ta_core.specs.Reading.{Reading, grades_in_row, filled, filled_first, first_or_zero, with_new, row_added, grade_added, row_begun}
 use Rattle.ta_core.specs.OnTable.{objects_at, bottoms_at, OnRow, asks, AreFirstGrades, OnAsks}
-use Rattle.ta_core.proofs.Rows.{added}
+use Rattle.machine_base.proofs.Depths.{next_reached}
+use Rattle.machine_base.proofs.Rows.{read_none}
+use Rattle.ta_core.proofs.Rows.{own, added}
 use Rattle.ta_core.proofs.Fills.{skips, row_grades}
 
 drop_more : {X : Type 0} (xs : List X) (j k : ℕ) → drop k (drop j xs) ≡ drop (j + k) xs
@@ -216,24 +219,12 @@ object_settles V k n D A r object waiting on is whole = record {
 pub row_is_made : (V : List ℕ → ℕ) (k n : ℕ) (D : List (List Row)) (A : List Access) (r : Reading) → OnAsks V k n D A r → r.waiting ≡ [] → A ≡ ta_run_to D r.depth
 row_is_made V k n D A r on is = sym (append-nil A) ∙ ap (λ ws. A ++ asks D r.depth ws r.grades) (sym is) ∙ on.ahead
 
-pub row_follows : (V : List ℕ → ℕ) (k n : ℕ) (D : List (List Row)) (A : List Access) (r : Reading) → IsMonotone V → IsTable n D → 0 < length D → k ≤ n → OnAsks V k n D A r → r.waiting ≡ [] → ta_stop V k D r.depth ≡ false → OnRow V k n D A (row_begun (r.depth + 1))
-row_follows V k n D A r monotone t l fits on is goes = record {
-  at = record {
-    positive = omega arith;
-    within = elim (cases_lt r.depth n) [
-      | inl lt ↦ omega arith
-      | inr ge ↦ let last : r.depth ≡ n = omega (arith, on.at.within) in absurd (true≢false (sym (stops_at_last V k n D monotone t l fits) ∙ ap (ta_stop V k D) (sym last) ∙ goes))
-    ];
-    unstopped = λ above positive below. elim (cases_order above r.depth) [
-      | inl e ↦ ap (ta_stop V k D) e ∙ goes
-      | inr apart ↦ elim apart [ inl lt ↦ on.at.unstopped above positive lt | inr gt ↦ absurd (omega arith) ]
-    ];
-  };
-  unread = l;
+pub row_follows : (V : List ℕ → ℕ) (k n : ℕ) (D : List (List Row)) (A : List Access) (r : Reading) → IsMonotone V → IsAsked k n D → OnAsks V k n D A r → r.waiting ≡ [] → ta_stop V k D r.depth ≡ false → OnRow V k n D A (row_begun (r.depth + 1))
+row_follows V k n D A r monotone asked on is goes = record {
+  at = next_reached (ta_stop V k D) n (ta_depth V k D) r.depth (own V k n D monotone asked) on.at goes;
+  unread = asked.lists;
   objects_are = refl;
   bottoms_are = refl;
   waiting_are = refl;
-  made =
-      let up : r.depth ≡ r.depth + 1 - 1 = omega arith in
-      row_is_made V k n D A r on is ∙ ap (ta_run_to D) up ∙ sym (append-nil (ta_run_to D (r.depth + 1 - 1)));
+  made = row_is_made V k n D A r on is ∙ read_none (ta_run_to D) D r.depth;
 }

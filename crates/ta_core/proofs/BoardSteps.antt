@@ -1,5 +1,5 @@
 -- What the board holds: it follows the transcript, and tells where the algorithm stops.
-use Rattle.std.proofs.Common.{◌≡◌, ◌≢◌, ℕ, suc, ◌<◌, ◌≤◌, ◌⊎◌, inl, inr, Bool, true, false, not, cond, ◌==◌, List, [], ◌∷◌, ◌++◌, length, map, filter, AllPairs, Contains, refl, sym, ap, subst, ◌∙◌, arith, nat_le, nat_lt, count_by, min}
+use Rattle.std.proofs.Common.{◌≡◌, ◌≢◌, ℕ, suc, ◌<◌, ◌≤◌, ◌⊎◌, inl, inr, Bool, true, false, cond, ◌==◌, List, [], ◌∷◌, ◌++◌, length, map, filter, AllPairs, Contains, refl, sym, ap, subst, ◌∙◌, arith, nat_le, nat_lt, count_by, min}
 use Rattle.std.specs.declared.cmp.Ordering.TheVariants.{Less, Equal, Greater}
 use Rattle.std.specs.Ordering.{match_ordering}
 use Rattle.std.proofs.lemmas.Bool.{cases_Bool, cases_lt, cases_order, true≢false, le-leb, leb-true, lt-leb, lt-ltb, le-ltb, eq-eqb, ne_eqb}
@@ -9,8 +9,8 @@ use Rattle.std.proofs.lemmas.List.Kept.{AllPairs-cons, AllPairs-filter}
 use Rattle.ranked_list.specs.declared.row.Row.{Row}
 use Rattle.ranked_list.specs.declared.item.Item.{Item}
 use Rattle.ranked_list.specs.Table.{IsTable}
-use Rattle.best_k.specs.Order.{AreDistinct, IsKthLargest, IsFirstK, lows}
-use Rattle.best_k.specs.Held.{put_item, without}
+use Rattle.topk_theory.specs.Order.{AreDistinct, IsKthLargest, IsFirstK, lows}
+use Rattle.best_k.specs.Held.{put_item}
 use Rattle.topk_theory.specs.declared.access.Access.{Access}
 use Rattle.topk_theory.specs.declared.access.Access.TheVariants.{Sorted, Random}
 use Rattle.topk_theory.specs.Aggregate.{objects_of, aggregate}
@@ -19,7 +19,7 @@ use Rattle.topk_theory.specs.Threshold.{stands, objects_to, ta_stop, threshold_a
 use Rattle.topk_theory.proofs.AgreementLists.{contains_nil, contains_here, contains_there, contains_cases, contains_map, contains_map_from, all_from_members, distinct_fits, distinct_head, member_of_all}
 use Rattle.topk_theory.proofs.AgreementNames.{has, has_contains, has_not}
 use Rattle.topk_theory.proofs.Agreement.{objects_of_distinct}
-use Rattle.topk_theory.proofs.ThresholdLists.{contains_filter, contains_from_filter, count_map, length-map, filter_all, filter_here, filter_gone}
+use Rattle.topk_theory.proofs.ThresholdLists.{contains_filter, contains_from_filter, count_map, length-map, filter_here, filter_gone}
 use Rattle.topk_theory.proofs.ThresholdTop.{objects_from_distinct, scored_distinct, scored_member}
 use Rattle.topk_theory.proofs.ThresholdRun.{seen_from_access, access_from_seen, seen_more, run_sees, seen_stands}
 use Rattle.ta_core.specs.Reading.{with_new, enough}
@@ -323,23 +323,27 @@ board_first V k n D depth items first t within on is =
       none_ahead = λ inside outside c o n. is.none_ahead inside outside c (from outside o) n;
     }
 
--- an item that is put and taken off again
-not_without : (object : ℕ) (items : List Item) → ((x : Item) → Contains items x → x.object ≢ object) → without object items ≡ items
-not_without object items n = filter_all (λ (i : Item). not (i.object == object)) items (λ x h. ap not (ne_eqb x.object object (n x h)))
+-- the objects of a board that were seen are no more than were seen
+pub place_filled : (seen : List ℕ) (items : List Item) → AreDistinct items → ((item : Item) → Contains items item → Contains seen item.object) → length items ≤ length seen
+place_filled seen items distinct of_seen =
+    let fits : length (item_objects items) ≤ length seen =
+    distinct_fits (item_objects items) seen (objects_from_distinct items distinct)
+    (λ o c. let k = contains_map_from (λ (i : Item). i.object) items o c in subst (λ z. Contains seen z) k.2 (of_seen k.0 k.1)) in
+    let long : length (item_objects items) ≡ length items = length-map (λ (i : Item). i.object) items in
+    omega arith
 
-without_first : (item : Item) (items : List Item) → ((x : Item) → Contains items x → x.object ≢ item.object) → without item.object (item ∷ items) ≡ items
-without_first item items n =
-    filter_gone (λ (i : Item). not (i.object == item.object)) item items (ap not (eq-eqb item.object item.object refl)) ∙ not_without item.object items n
-
-pub put_without : (item : Item) (items : List Item) → ((x : Item) → Contains items x → x.object ≢ item.object) → without item.object (put_item item items) ≡ items
-put_without item [] n = without_first item [] n
-put_without item (held ∷ items) n =
-    elim (cases_order item.object held.object) [
-      | inl e ↦ absurd (n held (contains_here held items) (sym e))
-      | inr apart ↦ elim apart [
-        | inl l ↦ ap (without item.object) (put_less item held items l) ∙ without_first item (held ∷ items) n
-        | inr g ↦ ap (without item.object) (put_greater item held items g)
-            ∙ filter_here (λ (i : Item). not (i.object == item.object)) held (put_item item items) (ap not (ne_eqb held.object item.object (n held (contains_here held items))))
-            ∙ ap (λ rest. held ∷ rest) (put_without item items (λ x h. n x (contains_there held items x h)))
-      ]
-    ]
+-- and fewer, where one that was seen isn't there
+pub place_left : (seen : List ℕ) (items : List Item) (object : ℕ) → AreDistinct items → ((item : Item) → Contains items item → Contains seen item.object × (item.object ≢ object)) → Contains seen object → length items < length seen
+place_left seen items object distinct others is_seen =
+    let apart : AllPairs (λ (a : ℕ) (b : ℕ). a ≢ b) (object ∷ item_objects items) =
+    AllPairs-cons (λ (a : ℕ) (b : ℕ). a ≢ b) object (item_objects items)
+    (all_from_members (λ (o : ℕ). object ≢ o) (item_objects items) (λ o c e. let k = contains_map_from (λ (i : Item). i.object) items o c in (others k.0 k.1).1 (k.2 ∙ sym e)))
+    (objects_from_distinct items distinct) in
+    let fits : length (object ∷ item_objects items) ≤ length seen =
+    distinct_fits (object ∷ item_objects items) seen apart
+    (λ o c. elim (contains_cases object (item_objects items) o c) [
+      | inl e ↦ subst (λ z. Contains seen z) e is_seen
+      | inr there ↦ let k = contains_map_from (λ (i : Item). i.object) items o there in subst (λ z. Contains seen z) k.2 (others k.0 k.1).0
+    ]) in
+    let long : length (item_objects items) ≡ length items = length-map (λ (i : Item). i.object) items in
+    omega arith

@@ -1,31 +1,29 @@
 -- What the calls of a machine need to know of it.
-use Rattle.std.proofs.Common.{◌≡◌, ◌≢◌, ℕ, ◌<◌, ◌≤◌, ◌⊎◌, ◌↔◌, inl, inr, Bool, true, false, not, List, [], ◌∷◌, length, Contains, IsTrue, get_or, refl, sym, ap, subst, ◌∙◌, arith}
-use Rattle.std.proofs.lemmas.Bool.{cases_Bool, cases_lt, true≢false, false≢true}
+use Rattle.std.proofs.Common.{◌≡◌, ℕ, ◌<◌, ◌≤◌, inl, inr, Bool, false, List, [], ◌∷◌, ◌++◌, length, Contains, get_or, refl, sym, ap, subst, ◌∙◌, arith}
+use Rattle.std.proofs.lemmas.Bool.{cases_Bool, cases_lt}
 use Rattle.ranked_list.specs.declared.row.Row.{Row}
 use Rattle.ranked_list.specs.declared.item.Item.{Item}
+use Rattle.ranked_list.specs.declared.need.Need.{Need}
+use Rattle.ranked_list.specs.declared.need.Need.TheVariants.{Done}
 use Rattle.best_k.specs.Held.{Held}
-use Rattle.monotone_fn.specs.Tree.{Tree}
-use Rattle.monotone_fn.specs.declared.costs.Costs.{Costs}
-use Rattle.monotone_fn.specs.Shape.{list_count}
-use Rattle.monotone_fn.specs.Value.{value}
 use Rattle.monotone_fn.specs.Limits.{AreGrades}
+use Rattle.topk_theory.specs.declared.access.Access.{Access}
 use Rattle.topk_theory.specs.declared.access.Access.TheVariants.{Sorted, Random}
 use Rattle.topk_theory.specs.Transcript.{seen_objects}
-use Rattle.topk_theory.specs.Consistent.{Kind, IsOfKind}
+use Rattle.topk_theory.specs.Consistent.{Kind, IsOfKind, SomeAgrees}
 use Rattle.topk_theory.specs.Consistent.Kind.{above_top, too_many_objects}
-use Rattle.topk_theory.proofs.AgreementLists.{contains_here}
-use Rattle.access_log.specs.Log.{Log, AgreesWith, IsConsistent, with_access}
-use Rattle.ta_core.specs.Reading.{Reading, first_or_zero, with_new, row_added, grade_added, items_after, followed, need_at}
-use Rattle.ta_core.specs.Kept.{IsKept}
-use Rattle.access_log.specs.Machine.{Machine, MayBeNextRow, MayBeNextGrade, HasRoomFor, Takes, row_access, grade_access}
-use Rattle.ta_core.specs.Machine.{MakesItsRun}
-use Rattle.ta_core.proofs.BoardSteps.{waits_from}
-use Rattle.ta_core.proofs.Runs.{need_in_row, need_after_row, need_when_done, kept_depth}
+use Rattle.topk_theory.proofs.AgreementLists.{member_of_all}
+use Rattle.access_log.specs.Log.{Log}
+use Rattle.access_log.specs.Machine.{MachineState, MayBeNextRow, MayBeNextGrade, HasRoomFor, Takes, row_access, grade_access}
+use Rattle.machine_base.specs.declared.base.Base.{Base}
+use Rattle.machine_base.specs.Base.{shown, IsTold, TellsNew}
+use Rattle.machine_base.proofs.Held.{carried, some_before, takes}
+use Rattle.ta_core.specs.Reading.{Reading, first_or_zero, with_new, row_added, grade_added, need_at}
+use Rattle.ta_core.specs.Kept.{IsKept, Keeps}
+use Rattle.ta_core.proofs.BoardSteps.{waits_from, place_filled, place_left}
+use Rattle.ta_core.proofs.Runs.{need_in_row, need_after_row, need_when_done, kept_depth, first_is_member}
 use Rattle.ta_core.proofs.Sound.{sound_row, sound_grade, fed_row}
-use Rattle.ta_core.proofs.Feeds.{kept_row, kept_grade}
-
-pub along : (t u : Machine) → t ≡ u → MakesItsRun u → MakesItsRun t
-along t u e run = subst MakesItsRun (sym e) run
+use Rattle.ta_core.proofs.Feeds.{board_then, reading_then, kept_row, kept_grade}
 
 -- a row that may be next
 pub next_row_is : (log : Log) (r : Reading) (row : Row) → MayBeNextRow log (need_at log.lists r) row → (r.done ≡ false) × (length r.objects < log.lists) × (row.grade ≤ 1000000)
@@ -56,122 +54,132 @@ next_grade_is log r grade may =
       ]
     ]
 
--- a test of what is seen, and its contrary
-pub unseen_if_new : (b : Bool) (P : Type 0) → (IsTrue b ↔ P) → not b ≡ true → ¬ P
-unseen_if_new true P h e = λ p. false≢true e
-unseen_if_new false P h e = λ p. false≢true (h.1 p)
-
-pub seen_if_old : (b : Bool) (P : Type 0) → (IsTrue b ↔ P) → not b ≡ false → P
-seen_if_old true P h e = h.0 refl
-seen_if_old false P h e = absurd (true≢false e)
-
 -- what is on the board is seen and doesn't wait
-pub kept_board : (e : Tree) (k room : ℕ) (log : Log) (board : Held) (r : Reading) → IsKept e k room log board r → (item : Item) → Contains board.items item → Contains (seen_objects log.accesses) item.object × (¬ Contains r.waiting item.object)
-kept_board e k room log board r kept item h =
-    let D = kept.agreeing.0 in
-    let agrees : AgreesWith D log = kept.agreeing.1 in
-    let on = (kept.on_table D agrees).board.only item h in
+kept_board : (base : Base) (board : Held) (r : Reading) → Keeps base board r → (item : Item) → Contains board.items item → Contains (seen_objects base.transcript.accesses) item.object × (¬ Contains r.waiting item.object)
+kept_board base board r kept item h =
+    let some = kept.base.agreeing in
+    let on = (kept.on_table some.0 some.1).board.only item h in
     (on.0, on.1)
 
-first_is_member : (ws : List ℕ) → 0 < length ws → Contains ws (first_or_zero ws)
-first_is_member [] l = absurd (omega arith)
-first_is_member (w ∷ ws) l = contains_here w ws
+-- an object that waits has a place on the board: it was seen and isn't there
+place_waiting : (base : Base) (board : Held) (r : Reading) (object : ℕ) → Keeps base board r → Contains r.waiting object → length board.items < board.room
+place_waiting base board r object kept waits =
+    let seen : List ℕ = seen_objects base.transcript.accesses in
+    let some = kept.base.agreeing in
+    let on = (kept.on_table some.0 some.1).board in
+    let fits : length board.items < length seen =
+    place_left seen board.items object on.distinct (λ item h. let k = kept_board base board r kept item h in (k.0, λ e. k.1 (subst (λ z. Contains r.waiting z) (sym e) waits)))
+    (member_of_all (Contains seen) r.waiting object kept.sound.waiting_seen waits) in
+    omega (arith, kept.same_room, kept.base.roomy)
 
-pub absent_row : (e : Tree) (k room : ℕ) (log : Log) (board : Held) (r : Reading) (object : ℕ) (is_new : Bool) → IsKept e k room log board r → (is_new ≡ true → ¬ Contains (seen_objects log.accesses) object) → 0 < length (with_new r.waiting object is_new) → (item : Item) → Contains board.items item → item.object ≢ first_or_zero (with_new r.waiting object is_new)
-absent_row e k room log board r object is_new kept fresh waits item h = λ same.
-    let on = kept_board e k room log board r kept item h in
+-- an object that is scored has a place on the board: the new one has room, and one that waited was seen
+place_row : (base : Base) (board : Held) (r : Reading) (object : ℕ) (is_new : Bool) → Keeps base board r → TellsNew base.transcript.accesses object is_new → HasRoomFor (shown base Done) object → 0 < length (with_new r.waiting object is_new) → length board.items < board.room
+place_row base board r object is_new kept new follows waits =
+    let seen : List ℕ = seen_objects base.transcript.accesses in
     elim (waits_from r.waiting object is_new (first_or_zero (with_new r.waiting object is_new)) (first_is_member (with_new r.waiting object is_new) waits)) [
-      | inl before ↦ on.1 (subst (λ z. Contains r.waiting z) (sym same) before)
-      | inr new ↦ fresh new.0 (subst (λ z. Contains (seen_objects log.accesses) z) (same ∙ sym new.1) on.0)
+      | inl before ↦ place_waiting base board r (first_or_zero (with_new r.waiting object is_new)) kept before
+      | inr fresh ↦ elim follows [
+        | inl old ↦ absurd (new.unseen fresh.0 old)
+        | inr spare ↦
+            let some = kept.base.agreeing in
+            let on = (kept.on_table some.0 some.1).board in
+            let fits : length board.items ≤ length seen = place_filled seen board.items on.distinct (λ item h. (kept_board base board r kept item h).0) in
+            omega (arith, kept.same_room)
+      ]
     ]
-
-pub absent_grade : (e : Tree) (k room : ℕ) (log : Log) (board : Held) (r : Reading) → IsKept e k room log board r → 0 < length r.waiting → (item : Item) → Contains board.items item → item.object ≢ first_or_zero r.waiting
-absent_grade e k room log board r kept waits item h = λ same.
-    (kept_board e k room log board r kept item h).1 (subst (λ z. Contains r.waiting z) (sym same) (first_is_member r.waiting waits))
 
 pub first-at : (ws : List ℕ) → first_or_zero ws ≡ get_or ws 0 0
 first-at [] = refl
 first-at (w ∷ ws) = refl
 
--- what the transcript and the board need of a reading before an access is told
-pub record IsReady (e : Tree) (board : Held) (r : Reading) : Type 0 where
+-- what the transcript and the board need of a reading of m lists before an access is told
+pub record IsReady (m : ℕ) (board : Held) (r : Reading) : Type 0 where
   pub grades : AreGrades r.grades
   pub bottoms : AreGrades r.bottoms
-  pub waits : length r.grades ≡ list_count e → 0 < length r.waiting
-  pub absent : length r.grades ≡ list_count e → (item : Item) → Contains board.items item → item.object ≢ first_or_zero r.waiting
+  pub same : length r.bottoms ≡ length r.objects
+  pub waits : length r.grades ≡ m → 0 < length r.waiting
+  pub room : length r.grades ≡ m → length board.items < board.room
   pub deep : r.depth ≤ 200000
 
-pub ready_row : (e : Tree) (k room : ℕ) (log : Log) (board : Held) (r told : Reading) (row : Row) (is_new : Bool) → IsKept e k room log board r → MayBeNextRow log (need_at log.lists r) row → (is_new ≡ true → ¬ Contains (seen_objects log.accesses) row.object) → told ≡ row_added log.lists r row is_new → IsReady e board told
-ready_row e k room log board r told row is_new kept may unseen is =
-    let next = next_row_is log r row may in
-    let sound = sound_row log.lists log.accesses r row is_new kept.sound next.1 (kept.rest.in_row next.1) next.2 unseen in
-    let fed = fed_row log.lists r row is_new kept.some_list next.1 kept.sound.same_length in
-    subst (IsReady e board) (sym is) (record {
+pub ready_row : (base : Base) (board : Held) (r told : Reading) (row : Row) (is_new : Bool) → Keeps base board r → MayBeNextRow base.transcript (need_at base.transcript.lists r) row → TellsNew base.transcript.accesses row.object is_new → HasRoomFor (shown base Done) row.object → told ≡ row_added base.transcript.lists r row is_new → IsReady base.transcript.lists board told
+ready_row base board r told row is_new kept may new follows is =
+    let m : ℕ = base.transcript.lists in
+    let next = next_row_is base.transcript r row may in
+    let sound = sound_row m base.transcript.accesses r row is_new kept.sound next.1 (kept.rest.in_row next.1) next.2 new.unseen in
+    let fed = fed_row m r row is_new kept.base.some_list next.1 kept.sound.same_length in
+    subst (IsReady m board) (sym is) (record {
       grades = sound.grades_capped;
       bottoms = sound.bottoms_capped;
-      waits = λ whole. fed.enough_waits (whole ∙ sym kept.lists);
-      absent = λ whole item h. absent_row e k room log board r row.object is_new kept unseen (fed.enough_waits (whole ∙ sym kept.lists)) item h;
-      deep = omega (arith, kept_depth e k room log board r kept next.0, kept.counted);
+      same = sound.same_length;
+      waits = fed.enough_waits;
+      room = λ full. place_row base board r row.object is_new kept new follows (fed.enough_waits full);
+      deep = omega (arith, kept_depth base board r kept next.0, kept.base.counted);
     })
 
-pub ready_grade : (e : Tree) (k room : ℕ) (log : Log) (board : Held) (r told : Reading) (grade : ℕ) → IsKept e k room log board r → MayBeNextGrade log (need_at log.lists r) grade → told ≡ grade_added r grade → IsReady e board told
-ready_grade e k room log board r told grade kept may is =
-    let next = next_grade_is log r grade may in
+pub ready_grade : (base : Base) (board : Held) (r told : Reading) (grade : ℕ) → Keeps base board r → MayBeNextGrade base.transcript (need_at base.transcript.lists r) grade → told ≡ grade_added r grade → IsReady base.transcript.lists board told
+ready_grade base board r told grade kept may is =
+    let m : ℕ = base.transcript.lists in
+    let next = next_grade_is base.transcript r grade may in
     let rest = kept.rest.after_row next.0 next.1 in
-    let sound = sound_grade log.lists log.accesses r grade kept.sound rest.0 next.2 in
-    subst (IsReady e board) (sym is) (record {
+    let sound = sound_grade m base.transcript.accesses r grade kept.sound rest.0 next.2 in
+    subst (IsReady m board) (sym is) (record {
       grades = sound.grades_capped;
       bottoms = sound.bottoms_capped;
-      waits = λ whole. rest.0;
-      absent = λ whole item h. absent_grade e k room log board r kept rest.0 item h;
-      deep = omega (arith, kept_depth e k room log board r kept next.0, kept.counted);
+      same = sound.same_length;
+      waits = λ full. rest.0;
+      room = λ full. place_waiting base board r (first_or_zero r.waiting) kept (first_is_member r.waiting rest.0);
+      deep = omega (arith, kept_depth base board r kept next.0, kept.base.counted);
     })
 
--- what the machine keeps once a row or a grade is told
-pub row_kept : (e : Tree) (k room : ℕ) (log after : Log) (board board' : Held) (r told then : Reading) (row : Row) (list : ℕ) (is_new : Bool) → IsKept e k room log board r → MayBeNextRow log (need_at log.lists r) row → (is_new ≡ true → ¬ Contains (seen_objects log.accesses) row.object) → (is_new ≡ false → Contains (seen_objects log.accesses) row.object) → told ≡ row_added log.lists r row is_new → list ≡ length r.objects → after ≡ with_access log (Sorted list row.object row.grade) → IsConsistent after → board' ≡ record board { items = items_after (value e) (list_count e) board.items told } → then ≡ followed (value e) board'.k (list_count e) board'.items told → IsKept e k room after board' then
-row_kept e k room log after board board' r told then row list is_new kept may unseen seen is_told is_list is_after consistent is_board is_then =
-    let next = next_row_is log r row may in
-    subst (IsKept e k room after board') (sym (is_then ∙ ap (followed (value e) board'.k (list_count e) board'.items) is_told))
-    (kept_row e k room log after board board' r row is_new kept next.0 next.1 next.2 unseen seen
-    (is_after ∙ ap (λ l. with_access log (Sorted l row.object row.grade)) is_list) consistent
-    (is_board ∙ ap (λ s. record { k = board.k; items = items_after (value e) (list_count e) board.items s }) is_told))
+-- what the machine keeps once an access is told: the board and the reading are those that follow
+kept_after : (before after : Base) (a : Access) (board board' : Held) (told then : Reading) → IsTold a before after → IsKept before.expr before.k before.room before.transcript.lists before.transcript.count (before.transcript.accesses ++ a ∷ []) (board_then before.expr before.transcript.lists board told) (reading_then before.expr before.transcript.lists (board_then before.expr before.transcript.lists board told) told)
+    → board' ≡ board_then before.expr before.transcript.lists board told → then ≡ reading_then after.expr after.transcript.lists board' told → Keeps after board' then
+kept_after before after a board board' told then tells kept is_board is_then =
+    let m : ℕ = before.transcript.lists in
+    let then_is : then ≡ reading_then before.expr m board' told =
+    is_then ∙ ap (λ e. reading_then e after.transcript.lists board' told) tells.expr ∙ ap (λ c. reading_then before.expr c board' told) tells.log.lists in
+    carried (λ e k room c n B. IsKept e k room c n B board' then) a before after tells
+    (subst (IsKept before.expr before.k before.room m before.transcript.count (before.transcript.accesses ++ a ∷ []) board') (sym then_is)
+    (subst (λ (b : Held). IsKept before.expr before.k before.room m before.transcript.count (before.transcript.accesses ++ a ∷ []) b (reading_then before.expr m b told)) (sym is_board) kept))
 
-pub grade_kept : (e : Tree) (k room : ℕ) (log after : Log) (board board' : Held) (r told then : Reading) (grade list object : ℕ) → IsKept e k room log board r → MayBeNextGrade log (need_at log.lists r) grade → told ≡ grade_added r grade → list ≡ length r.grades → object ≡ first_or_zero r.waiting → after ≡ with_access log (Random list object grade) → IsConsistent after → board' ≡ record board { items = items_after (value e) (list_count e) board.items told } → then ≡ followed (value e) board'.k (list_count e) board'.items told → IsKept e k room after board' then
-grade_kept e k room log after board board' r told then grade list object kept may is_told is_list is_object is_after consistent is_board is_then =
-    let next = next_grade_is log r grade may in
-    subst (IsKept e k room after board') (sym (is_then ∙ ap (followed (value e) board'.k (list_count e) board'.items) is_told))
-    (kept_grade e k room log after board board' r grade kept next.0 next.1 next.2
-    (is_after ∙ ap (λ l. with_access log (Random l object grade)) is_list ∙ ap (λ o. with_access log (Random (length r.grades) o grade)) is_object) consistent
-    (is_board ∙ ap (λ s. record { k = board.k; items = items_after (value e) (list_count e) board.items s }) is_told))
+pub row_kept : (before after : Base) (board board' : Held) (r told then : Reading) (row : Row) (list : ℕ) (is_new : Bool) → Keeps before board r → MayBeNextRow before.transcript (need_at before.transcript.lists r) row → TellsNew before.transcript.accesses row.object is_new → HasRoomFor (shown before Done) row.object → told ≡ row_added before.transcript.lists r row is_new → list ≡ length r.objects
+    → IsTold (Sorted list row.object row.grade) before after → SomeAgrees after.transcript.lists after.transcript.count after.transcript.accesses → board' ≡ board_then before.expr before.transcript.lists board told → then ≡ reading_then after.expr after.transcript.lists board' told → Keeps after board' then
+row_kept before after board board' r told then row list is_new kept may new follows is_told is_list tells some is_board is_then =
+    let next = next_row_is before.transcript r row may in
+    let a : Access = Sorted (length r.objects) row.object row.grade in
+    let tells' : IsTold a before after = subst (λ l. IsTold (Sorted l row.object row.grade) before after) is_list tells in
+    let m : ℕ = before.transcript.lists in
+    kept_after before after a board board' told then tells'
+    (subst (λ s. IsKept before.expr before.k before.room m before.transcript.count (before.transcript.accesses ++ a ∷ []) (board_then before.expr m board s) (reading_then before.expr m (board_then before.expr m board s) s)) (sym is_told)
+    (kept_row before.expr before.k before.room m before.transcript.count before.transcript.accesses board r row is_new kept next.0 next.1 next.2 new follows (some_before a before after tells' some)))
+    is_board is_then
+
+pub grade_kept : (before after : Base) (board board' : Held) (r told then : Reading) (grade list object : ℕ) → Keeps before board r → MayBeNextGrade before.transcript (need_at before.transcript.lists r) grade → told ≡ grade_added r grade → list ≡ length r.grades → object ≡ first_or_zero r.waiting
+    → IsTold (Random list object grade) before after → SomeAgrees after.transcript.lists after.transcript.count after.transcript.accesses → board' ≡ board_then before.expr before.transcript.lists board told → then ≡ reading_then after.expr after.transcript.lists board' told → Keeps after board' then
+grade_kept before after board board' r told then grade list object kept may is_told is_list is_object tells some is_board is_then =
+    let next = next_grade_is before.transcript r grade may in
+    let a : Access = Random (length r.grades) (first_or_zero r.waiting) grade in
+    let tells' : IsTold a before after = subst (λ o. IsTold (Random (length r.grades) o grade) before after) is_object (subst (λ l. IsTold (Random l object grade) before after) is_list tells) in
+    let m : ℕ = before.transcript.lists in
+    kept_after before after a board board' told then tells'
+    (subst (λ s. IsKept before.expr before.k before.room m before.transcript.count (before.transcript.accesses ++ a ∷ []) (board_then before.expr m board s) (reading_then before.expr m (board_then before.expr m board s) s)) (sym is_told)
+    (kept_grade before.expr before.k before.room m before.transcript.count before.transcript.accesses board r grade kept next.0 next.1 next.2 (some_before a before after tells' some)))
+    is_board is_then
 
 -- what is told of a row and of a grade
-abbrev machine_of : Tree → ℕ → ℕ → Costs → Log → Reading → Machine
-machine_of e k room costs log r = record { expr = e; k = k; room = room; costs = costs; log = log; need = need_at log.lists r }
+pub row_taken : (before after : Base) (r : Reading) (need : Need) (row : Row) (list : ℕ) (t : MachineState) → shown before (need_at before.transcript.lists r) ≡ t → MayBeNextRow before.transcript (need_at before.transcript.lists r) row → HasRoomFor (shown before (need_at before.transcript.lists r)) row.object → list ≡ length r.objects → IsTold (Sorted list row.object row.grade) before after → HasRoomFor t row.object × Takes (row_access t.need row) t (shown after need)
+row_taken before after r need row list t is may room_for is_list tells =
+    let now = need_at before.transcript.lists r in
+    let next = next_row_is before.transcript r row may in
+    let access : row_access now row ≡ Sorted list row.object row.grade = ap (λ n. row_access n row) (need_in_row before.transcript.lists r next.0 next.1) ∙ ap (λ l. Sorted l row.object row.grade) (sym is_list) in
+    subst (λ (s : MachineState). HasRoomFor s row.object × Takes (row_access s.need row) s (shown after need)) is
+    (room_for, takes (row_access now row) before after now need (subst (λ a. IsTold a before after) (sym access) tells))
 
-pub row_taken : (e : Tree) (k room : ℕ) (costs : Costs) (log after : Log) (r then : Reading) (row : Row) (list : ℕ) (before : Machine) → machine_of e k room costs log r ≡ before → MayBeNextRow log (need_at log.lists r) row → (Contains (seen_objects log.accesses) row.object ⊎ (length (seen_objects log.accesses) < room)) → list ≡ length r.objects → after ≡ with_access log (Sorted list row.object row.grade) → HasRoomFor before row.object × Takes (row_access before.need row) before (machine_of e k room costs after then)
-row_taken e k room costs log after r then row list before is may room_for is_list is_after =
-    let next = next_row_is log r row may in
-    let access : row_access (need_at log.lists r) row ≡ Sorted (length r.objects) row.object row.grade = ap (λ need. row_access need row) (need_in_row log.lists r next.0 next.1) in
-    subst (λ (t : Machine). HasRoomFor t row.object × Takes (row_access t.need row) t (machine_of e k room costs after then)) is (
-      room_for,
-      record {
-        expr = refl;
-        k = refl;
-        room = refl;
-        costs = refl;
-        log = is_after ∙ ap (λ l. with_access log (Sorted l row.object row.grade)) is_list ∙ ap (with_access log) (sym access);
-      },
-    )
-
-pub grade_taken : (e : Tree) (k room : ℕ) (costs : Costs) (log after : Log) (r then : Reading) (grade list object : ℕ) (before : Machine) → machine_of e k room costs log r ≡ before → MayBeNextGrade log (need_at log.lists r) grade → list ≡ length r.grades → object ≡ first_or_zero r.waiting → after ≡ with_access log (Random list object grade) → Takes (grade_access before.need grade) before (machine_of e k room costs after then)
-grade_taken e k room costs log after r then grade list object before is may is_list is_object is_after =
-    let next = next_grade_is log r grade may in
-    let access : grade_access (need_at log.lists r) grade ≡ Random (length r.grades) (first_or_zero r.waiting) grade = ap (λ need. grade_access need grade) (need_after_row log.lists r next.0 next.1) in
-    subst (λ (t : Machine). Takes (grade_access t.need grade) t (machine_of e k room costs after then)) is
-    (record {
-      expr = refl;
-      k = refl;
-      room = refl;
-      costs = refl;
-      log = is_after ∙ ap (λ l. with_access log (Random l object grade)) is_list ∙ ap (λ o. with_access log (Random (length r.grades) o grade)) is_object ∙ ap (with_access log) (sym access);
-    })
+pub grade_taken : (before after : Base) (r : Reading) (need : Need) (grade list object : ℕ) (t : MachineState) → shown before (need_at before.transcript.lists r) ≡ t → MayBeNextGrade before.transcript (need_at before.transcript.lists r) grade → list ≡ length r.grades → object ≡ first_or_zero r.waiting → IsTold (Random list object grade) before after → Takes (grade_access t.need grade) t (shown after need)
+grade_taken before after r need grade list object t is may is_list is_object tells =
+    let now = need_at before.transcript.lists r in
+    let next = next_grade_is before.transcript r grade may in
+    let access : grade_access now grade ≡ Random list object grade =
+    ap (λ n. grade_access n grade) (need_after_row before.transcript.lists r next.0 next.1) ∙ ap (λ l. Random l (first_or_zero r.waiting) grade) (sym is_list) ∙ ap (λ o. Random list o grade) (sym is_object) in
+    subst (λ (s : MachineState). Takes (grade_access s.need grade) s (shown after need)) is
+    (takes (grade_access now grade) before after now need (subst (λ a. IsTold a before after) (sym access) tells))

@@ -1,49 +1,43 @@
 -- What a machine keeps from its beginning on, through each row and each grade.
-use Rattle.std.proofs.Common.{◌≡◌, ◌≢◌, ℕ, suc, ◌+◌, ◌<◌, ◌≤◌, inl, inr, Bool, true, false, List, [], ◌∷◌, ◌++◌, length, Contains, slice_index, slice_index_or, refl, sym, ap, subst, ◌∙◌, arith, length-append}
+use Rattle.std.proofs.Common.{◌≡◌, ◌≢◌, ℕ, suc, ◌+◌, ◌<◌, ◌≤◌, ◌⊎◌, inl, inr, Bool, true, false, List, [], ◌∷◌, ◌++◌, length, Contains, slice_index, slice_index_or, refl, sym, ap, subst, ◌∙◌, arith, length-append}
 use Rattle.std.proofs.lemmas.Bool.{cases_lt}
 use Rattle.std.proofs.lemmas.List.Elements.{All-nil}
 use Rattle.ranked_list.specs.declared.row.Row.{Row}
 use Rattle.ranked_list.specs.declared.item.Item.{Item}
-use Rattle.best_k.specs.Held.{Held, put_item, without}
+use Rattle.best_k.specs.Held.{Held}
 use Rattle.monotone_fn.specs.Tree.{Tree}
-use Rattle.monotone_fn.specs.Value.{value}
-use Rattle.monotone_fn.specs.Shape.{list_count, NumbersLists}
+use Rattle.monotone_fn.specs.Value.{value, IsMonotone}
+use Rattle.monotone_fn.proofs.Laws.{value-monotone}
 use Rattle.topk_theory.specs.declared.access.Access.{Access}
 use Rattle.topk_theory.specs.declared.access.Access.TheVariants.{Sorted, Random}
-use Rattle.topk_theory.specs.Aggregate.{IsMonotone}
 use Rattle.topk_theory.specs.Transcript.{Agrees, seen_objects}
-use Rattle.topk_theory.specs.Threshold.{IsAsked}
+use Rattle.topk_theory.specs.Threshold.{IsAsked, ta_stop}
 use Rattle.topk_theory.proofs.AgreementLists.{contains_nil, member_of_all}
 use Rattle.topk_theory.proofs.AgreementNames.{each_once_within}
 use Rattle.topk_theory.proofs.Agreement.{agrees_front}
-use Rattle.topk_theory.proofs.Consistent.{empty_agrees}
-use Rattle.access_log.specs.Log.{Log, AgreesWith, IsConsistent, with_access}
+use Rattle.topk_theory.specs.Consistent.{SomeAgrees}
+use Rattle.machine_base.specs.Base.{IsHeld, TellsNew}
+use Rattle.machine_base.proofs.Held.{held_asked, held_more}
+use Rattle.machine_base.proofs.Depths.{first_reached}
 use Rattle.ta_core.specs.Reading.{Reading, first_or_zero, with_new, row_added, grade_added, items_after, row_begun, followed}
 use Rattle.ta_core.specs.OnTable.{OnRow, OnAsks, OnBoard, OnTable}
-use Rattle.ta_core.specs.Kept.{IsSound, IsKept}
+use Rattle.ta_core.specs.Kept.{IsSound, IsAtRest, IsKept}
 use Rattle.ta_core.proofs.Rows.{row_goes_on}
 use Rattle.ta_core.proofs.Asks.{row_is_last, grade_goes_on}
-use Rattle.ta_core.proofs.BoardSteps.{board_after_row, board_after_grade, put_without}
+use Rattle.ta_core.proofs.BoardSteps.{board_after_row, board_after_grade}
 use Rattle.ta_core.proofs.Steps.{row_of_reading, asks_of_reading, on_row, row_follows_on, asks_follow_on}
 use Rattle.ta_core.proofs.Sound.{sound_row, sound_grade, IsFed, fed_row, fed_grade, sound_followed}
-use Rattle.ta_core.proofs.Runs.{monotone, asked_of, first_member}
+use Rattle.ta_core.proofs.Runs.{first_member, first_is_member}
 
 -- at the beginning
-pub kept_start : (e : Tree) (k room count : ℕ) (board : Held) → NumbersLists e → 1 ≤ k → k ≤ count → count ≤ 200000 → 1 ≤ room → room ≤ count → board.k ≡ k → board.items ≡ [] → IsKept e k room (record { lists = list_count e; count = count; accesses = [] }) board (row_begun 1)
-kept_start e k room count board lists asked fits counted roomy room_fits same_k empty = record {
-  lists = refl;
-  some_list = lists.some;
-  few_lists = lists.few;
-  asked = asked;
-  fits = fits;
-  counted = counted;
-  roomy = roomy;
-  room_fits = room_fits;
+pub kept_start : (e : Tree) (k room m n : ℕ) (board : Held) → IsHeld e k room m n [] → board.k ≡ k → board.room ≡ room → board.items ≡ [] → IsKept e k room m n [] board (row_begun 1)
+kept_start e k room m n board held same_k same_room empty = record {
+  base = held;
   same_k = same_k;
+  same_room = same_room;
   sound = record {
     waiting_seen = All-nil (Contains (seen_objects []));
     objects_seen = All-nil (Contains (seen_objects []));
-    named_seen = λ o h. absurd (contains_nil o (each_once_within [] o h));
     same_length = refl;
     within = omega arith;
     few = omega arith;
@@ -51,12 +45,11 @@ kept_start e k room count board lists asked fits counted roomy room_fits same_k 
     grades_capped = All-nil (λ g. g ≤ 1000000);
     later = λ x h. absurd (contains_nil x h);
   };
-  rest = record { in_row = λ l. refl; after_row = λ o l. absurd (omega (arith, lists.some)) };
-  agreeing = empty_agrees (list_count e) count;
+  rest = record { in_row = λ l. refl; after_row = λ o l. absurd (omega (arith, held.some_list)) };
   on_table = λ D agrees. record {
-    reading = on_row (value e) k count D [] (row_begun 1) refl (record {
-      at = record { positive = omega arith; within = omega arith; unstopped = λ above positive below. absurd (omega arith) };
-      unread = omega (arith, lists.some, agrees.lists);
+    reading = on_row (value e) k n D [] (row_begun 1) refl (record {
+      at = first_reached (ta_stop (value e) k D) n (omega (arith, held.posed.positive, held.posed.fits));
+      unread = omega (arith, held.some_list, agrees.lists);
       objects_are = refl;
       bottoms_are = refl;
       waiting_are = refl;
@@ -97,94 +90,66 @@ table_grade V k n D A r items grade up asked open' whole same waits short other 
     asks_follow_on V k n D (A ++ a ∷ []) (grade_added r grade) items up asked open' (λ e. waits) sees on_then
     (board_after_grade V D A r.waiting items (length r.grades) (first_or_zero r.waiting) grade on.board)
 
--- a machine that is fed a row
-pub kept_row : (e : Tree) (k room : ℕ) (log after : Log) (board board' : Held) (r : Reading) (row : Row) (is_new : Bool) → IsKept e k room log board r → r.done ≡ false → length r.objects < log.lists → row.grade ≤ 1000000 → (is_new ≡ true → ¬ Contains (seen_objects log.accesses) row.object) → (is_new ≡ false → Contains (seen_objects log.accesses) row.object) → after ≡ with_access log (Sorted (length r.objects) row.object row.grade) → IsConsistent after → board' ≡ record board { items = items_after (value e) (list_count e) board.items (row_added log.lists r row is_new) } → IsKept e k room after board' (followed (value e) board'.k (list_count e) board'.items (row_added log.lists r row is_new))
-kept_row e k room log after board board' r row is_new kept open' short capped unseen seen is_after consistent is_board =
+-- the board with the items after an access, and what follows of the reading told
+abbrev pub board_then : Tree → ℕ → Held → Reading → Held
+board_then e m board told = record board { items = items_after (value e) m board.items told }
+
+abbrev pub reading_then : Tree → ℕ → Held → Reading → Reading
+reading_then e m board told = followed (value e) board.k m board.items told
+
+-- what is kept after one more access, where it is sound whatever the table, and on each table that agrees
+kept_with : (e : Tree) (k room m n : ℕ) (A : List Access) (a : Access) (board : Held) (told : Reading) → board.k ≡ k → board.room ≡ room → IsHeld e k room m n (A ++ a ∷ []) → (let items : List Item = items_after (value e) m board.items told in IsSound m (A ++ a ∷ []) (followed (value e) k m items told) × IsAtRest m (followed (value e) k m items told))
+    → ((D : List (List Row)) → Agrees m n D (A ++ a ∷ []) → OnTable (value e) k n D (A ++ a ∷ []) (followed (value e) k (length D) (items_after (value e) (length D) board.items told) told) (items_after (value e) (length D) board.items told))
+    → IsKept e k room m n (A ++ a ∷ []) (board_then e m board told) (reading_then e m (board_then e m board told) told)
+kept_with e k room m n A a board told same_k same_room held sound on_table =
     let V = value e in
-    let m : ℕ = log.lists in
-    let n : ℕ = log.count in
-    let A : List Access = log.accesses in
+    let items : List Item = items_after V m board.items told in
+    subst (λ c. IsKept e k room m n (A ++ a ∷ []) (record { k = c; room = board.room; items = items }) (followed V c m items told)) (sym same_k)
+    (record {
+      base = held;
+      same_k = refl;
+      same_room = same_room;
+      sound = sound.0;
+      rest = sound.1;
+      on_table = λ D agrees.
+          subst (λ c. OnTable V k n D (A ++ a ∷ []) (followed V k c (items_after V c board.items told) told) (items_after V c board.items told)) agrees.lists (on_table D agrees);
+    })
+
+-- a machine that is fed a row
+pub kept_row : (e : Tree) (k room m n : ℕ) (A : List Access) (board : Held) (r : Reading) (row : Row) (is_new : Bool) → IsKept e k room m n A board r → r.done ≡ false → length r.objects < m → row.grade ≤ 1000000 → TellsNew A row.object is_new → Contains (seen_objects A) row.object ⊎ (length (seen_objects A) < room) → SomeAgrees m n (A ++ Sorted (length r.objects) row.object row.grade ∷ [])
+    → IsKept e k room m n (A ++ Sorted (length r.objects) row.object row.grade ∷ []) (board_then e m board (row_added m r row is_new)) (reading_then e m (board_then e m board (row_added m r row is_new)) (row_added m r row is_new))
+kept_row e k room m n A board r row is_new kept open' short capped new follows some =
+    let V = value e in
     let a : Access = Sorted (length r.objects) row.object row.grade in
     let r' : Reading = row_added m r row is_new in
-    let items : List Item = items_after V m board.items r' in
     let none : length r.grades ≡ 0 = kept.rest.in_row short in
-    let sound : IsSound m (A ++ a ∷ []) r' = sound_row m A r row is_new kept.sound short none capped unseen in
-    let fed : IsFed m r' = fed_row m r row is_new kept.some_list short kept.sound.same_length in
-    let told = sound_followed V k m (A ++ a ∷ []) items r' kept.some_list open' sound fed in
-    let log' : Log = with_access log a in
-    let kept' : IsKept e k room log' (record { k = k; items = items }) (followed V k m items r') = record {
-      lists = kept.lists;
-      some_list = kept.some_list;
-      few_lists = kept.few_lists;
-      asked = kept.asked;
-      fits = kept.fits;
-      counted = kept.counted;
-      roomy = kept.roomy;
-      room_fits = kept.room_fits;
-      same_k = refl;
-      sound = told.0;
-      rest = told.1;
-      agreeing = subst IsConsistent is_after consistent;
-      on_table = λ D agrees.
-          let wide : length D ≡ m = agrees.lists in
-          let before : AgreesWith D log = agrees_front m n D A (a ∷ []) agrees in
-          let asked = asked_of e k room log board r D kept before in
-          subst (λ c. OnTable V k n D (A ++ a ∷ []) (followed V k c (items_after V c board.items (row_added c r row is_new)) (row_added c r row is_new)) (items_after V c board.items (row_added c r row is_new))) wide
-          (table_row V k n D A r board.items row is_new (monotone e) asked open' (omega arith) none kept.sound.same_length
-          (λ o h. member_of_all (Contains (seen_objects (A ++ a ∷ []))) r'.waiting o sound.waiting_seen h)
-          (kept.on_table D before) (subst (λ c. Agrees c n D (A ++ a ∷ [])) (sym wide) agrees) unseen seen);
-    } in
-    let board_is : board' ≡ record { k = k; items = items } =
-    is_board ∙ ap (λ c. record { k = c; items = items_after V (list_count e) board.items r' }) kept.same_k ∙ ap (λ c. record { k = k; items = items_after V c board.items r' }) (sym kept.lists) in
-    subst (λ l. IsKept e k room l board' (followed V board'.k (list_count e) board'.items r')) (sym is_after)
-    (subst (λ (b : Held). IsKept e k room log' b (followed V b.k (list_count e) b.items r')) (sym board_is)
-    (subst (λ c. IsKept e k room log' (record { k = k; items = items }) (followed V k c items r')) kept.lists kept'))
+    let sound : IsSound m (A ++ a ∷ []) r' = sound_row m A r row is_new kept.sound short none capped new.unseen in
+    let fed : IsFed m r' = fed_row m r row is_new kept.base.some_list short kept.sound.same_length in
+    kept_with e k room m n A a board r' kept.same_k kept.same_room (held_more e k room m n A a kept.base follows some) (sound_followed V k m (A ++ a ∷ []) (items_after V m board.items r') r' kept.base.some_list open' sound fed)
+    (λ D agrees.
+    let wide : length D ≡ m = agrees.lists in
+    let before : Agrees m n D A = agrees_front m n D A (a ∷ []) agrees in
+    let then = table_row V k n D A r board.items row is_new (value-monotone e) (held_asked e k room m n A D kept.base before) open' (omega arith) none kept.sound.same_length
+    (λ o h. member_of_all (Contains (seen_objects (A ++ a ∷ []))) r'.waiting o sound.waiting_seen h)
+    (kept.on_table D before) (subst (λ c. Agrees c n D (A ++ a ∷ [])) (sym wide) agrees) new.unseen new.seen in
+    subst (λ c. OnTable V k n D (A ++ a ∷ []) (followed V k (length D) (items_after V (length D) board.items (row_added c r row is_new)) (row_added c r row is_new)) (items_after V (length D) board.items (row_added c r row is_new))) wide then)
 
 -- a machine that is fed a grade
-pub kept_grade : (e : Tree) (k room : ℕ) (log after : Log) (board board' : Held) (r : Reading) (grade : ℕ) → IsKept e k room log board r → r.done ≡ false → log.lists ≤ length r.objects → grade ≤ 1000000 → after ≡ with_access log (Random (length r.grades) (first_or_zero r.waiting) grade) → IsConsistent after → board' ≡ record board { items = items_after (value e) (list_count e) board.items (grade_added r grade) } → IsKept e k room after board' (followed (value e) board'.k (list_count e) board'.items (grade_added r grade))
-kept_grade e k room log after board board' r grade kept open' whole capped is_after consistent is_board =
+pub kept_grade : (e : Tree) (k room m n : ℕ) (A : List Access) (board : Held) (r : Reading) (grade : ℕ) → IsKept e k room m n A board r → r.done ≡ false → m ≤ length r.objects → grade ≤ 1000000 → SomeAgrees m n (A ++ Random (length r.grades) (first_or_zero r.waiting) grade ∷ [])
+    → IsKept e k room m n (A ++ Random (length r.grades) (first_or_zero r.waiting) grade ∷ []) (board_then e m board (grade_added r grade)) (reading_then e m (board_then e m board (grade_added r grade)) (grade_added r grade))
+kept_grade e k room m n A board r grade kept open' whole capped some =
     let V = value e in
-    let m : ℕ = log.lists in
-    let n : ℕ = log.count in
-    let A : List Access = log.accesses in
     let a : Access = Random (length r.grades) (first_or_zero r.waiting) grade in
     let r' : Reading = grade_added r grade in
-    let items : List Item = items_after V m board.items r' in
     let rest = kept.rest.after_row open' whole in
     let long : length r.objects ≡ m = omega (arith, kept.sound.within) in
     let sound : IsSound m (A ++ a ∷ []) r' = sound_grade m A r grade kept.sound rest.0 capped in
     let fed : IsFed m r' = fed_grade m r grade long kept.sound.same_length rest.0 rest.1 in
-    let told = sound_followed V k m (A ++ a ∷ []) items r' kept.some_list open' sound fed in
-    let log' : Log = with_access log a in
-    let kept' : IsKept e k room log' (record { k = k; items = items }) (followed V k m items r') = record {
-      lists = kept.lists;
-      some_list = kept.some_list;
-      few_lists = kept.few_lists;
-      asked = kept.asked;
-      fits = kept.fits;
-      counted = kept.counted;
-      roomy = kept.roomy;
-      room_fits = kept.room_fits;
-      same_k = refl;
-      sound = told.0;
-      rest = told.1;
-      agreeing = subst IsConsistent is_after consistent;
-      on_table = λ D agrees.
-          let wide : length D ≡ m = agrees.lists in
-          let before : AgreesWith D log = agrees_front m n D A (a ∷ []) agrees in
-          let asked = asked_of e k room log board r D kept before in
-          subst (λ c. OnTable V k n D (A ++ a ∷ []) (followed V k c (items_after V c board.items r') r') (items_after V c board.items r')) wide
-          (table_grade V k n D A r board.items grade (monotone e) asked open' (omega arith) kept.sound.same_length rest.0 (omega (arith, rest.1)) rest.2
-          (λ o h. member_of_all (Contains (seen_objects (A ++ a ∷ []))) r.waiting o sound.waiting_seen h)
-          (kept.on_table D before) (subst (λ c. Agrees c n D (A ++ a ∷ [])) (sym wide) agrees));
-    } in
-    let board_is : board' ≡ record { k = k; items = items } =
-    is_board ∙ ap (λ c. record { k = c; items = items_after V (list_count e) board.items r' }) kept.same_k ∙ ap (λ c. record { k = k; items = items_after V c board.items r' }) (sym kept.lists) in
-    subst (λ l. IsKept e k room l board' (followed V board'.k (list_count e) board'.items r')) (sym is_after)
-    (subst (λ (b : Held). IsKept e k room log' b (followed V b.k (list_count e) b.items r')) (sym board_is)
-    (subst (λ c. IsKept e k room log' (record { k = k; items = items }) (followed V k c items r')) kept.lists kept'))
-
--- an item that is put where its object has none and taken off again leaves the board as it was
-pub undone : (board put taken : Held) (item : Item) → ((x : Item) → Contains board.items x → x.object ≢ item.object) → put ≡ record board { items = put_item item board.items } → taken ≡ record put { items = without item.object put.items } → taken ≡ board
-undone board put taken item absent is_put is_taken =
-    is_taken ∙ ap (λ (b : Held). record b { items = without item.object b.items }) is_put ∙ ap (λ items. record board { items = items }) (put_without item board.items absent)
+    let seen : Contains (seen_objects A) (first_or_zero r.waiting) = member_of_all (Contains (seen_objects A)) r.waiting (first_or_zero r.waiting) kept.sound.waiting_seen (first_is_member r.waiting rest.0) in
+    kept_with e k room m n A a board r' kept.same_k kept.same_room (held_more e k room m n A a kept.base seen some) (sound_followed V k m (A ++ a ∷ []) (items_after V m board.items r') r' kept.base.some_list open' sound fed)
+    (λ D agrees.
+    let wide : length D ≡ m = agrees.lists in
+    let before : Agrees m n D A = agrees_front m n D A (a ∷ []) agrees in
+    table_grade V k n D A r board.items grade (value-monotone e) (held_asked e k room m n A D kept.base before) open' (omega arith) kept.sound.same_length rest.0 (omega (arith, rest.1)) rest.2
+    (λ o h. member_of_all (Contains (seen_objects (A ++ a ∷ []))) r.waiting o sound.waiting_seen h)
+    (kept.on_table D before) (subst (λ c. Agrees c n D (A ++ a ∷ [])) (sym wide) agrees))

@@ -9,5 +9,3 @@ pub mod Sound
 pub mod Feeds
 pub mod Calls
 pub mod Answering
-mod TestFeeds
-mod TestTrees

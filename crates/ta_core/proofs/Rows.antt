@@ -1,7 +1,6 @@
 -- One more row: the machine stays on the run.
-use Rattle.std.proofs.Common.{◌≡◌, ℕ, suc, ◌+◌, ◌-◌, ◌<◌, ◌≤◌, ◌⊎◌, inl, inr, Bool, true, false, not, cond, ◌==◌, List, [], ◌∷◌, ◌++◌, length, take, filter, Contains, slice_index_or, Some, None, refl, sym, ap, subst, ◌∙◌, arith, append_assoc, append-nil, length-append}
-use Rattle.std.specs.List.{cons_option}
-use Rattle.std.proofs.lemmas.Bool.{cases_Bool, ne_eqb, not_from_true, not_from_false}
+use Rattle.std.proofs.Common.{◌≡◌, ℕ, suc, ◌+◌, ◌-◌, ◌<◌, ◌≤◌, ◌⊎◌, inl, inr, Bool, true, false, not, List, [], ◌∷◌, ◌++◌, length, take, filter, Contains, slice_index_or, sym, ap, subst, ◌∙◌, arith, append-nil, length-append}
+use Rattle.std.proofs.lemmas.Bool.{cases_Bool, not_from_true, not_from_false}
 use Rattle.std.proofs.lemmas.List.Elements.{Contains-append_right, Contains-append_cases, filter-append}
 use Rattle.std.proofs.lemmas.List.{length-take-le, map-append}
 use Rattle.std.proofs.Math.Seq.{take-suc}
@@ -10,16 +9,20 @@ use Rattle.ranked_list.specs.Table.{objects, IsTable, place_in}
 use Rattle.topk_theory.specs.declared.access.Access.{Access}
 use Rattle.topk_theory.specs.declared.access.Access.TheVariants.{Sorted}
 use Rattle.topk_theory.specs.Aggregate.{objects_of}
-use Rattle.topk_theory.specs.Transcript.{Agrees, list_at, object_of, depth_of, sorted_rows, seen_objects, each_once}
-use Rattle.topk_theory.specs.Threshold.{row_at, stands, sorted_block, ta_run_to}
+use Rattle.topk_theory.specs.Transcript.{Agrees, list_at, object_of, seen_objects, each_once}
+use Rattle.monotone_fn.specs.Value.{IsMonotone}
+use Rattle.topk_theory.specs.Threshold.{IsAsked, row_at, stands, sorted_block, ta_stop, ta_depth, ta_run_to}
+use Rattle.topk_theory.proofs.ThresholdLaws.{least_depth}
 use Rattle.topk_theory.proofs.AgreementLists.{contains_at, contains_map, contains_map_from}
 use Rattle.topk_theory.proofs.AgreementNames.{has, has_contains, has_not, each_once_complete, each_once_within, each_once_push_old, each_once_push_new}
-use Rattle.topk_theory.proofs.AgreementRows.{list_at_contains, list_at_length}
-use Rattle.topk_theory.proofs.Agreement.{sorted_rows_append, agrees_gives, gives_at}
+use Rattle.topk_theory.proofs.AgreementRows.{list_at_contains}
 use Rattle.topk_theory.proofs.ThresholdLists.{filter_here, filter_gone}
 use Rattle.topk_theory.proofs.ThresholdTables.{no_row, object-at_place}
 use Rattle.topk_theory.proofs.ThresholdDepth.{list_sized, table_holds, stands_from}
 use Rattle.topk_theory.proofs.ThresholdRun.{list_number, run_rows, sorted_members, contains_sorted, seen_from_access, access_from_seen, seen_more, run_sees, seen_stands}
+use Rattle.machine_base.specs.Depths.{read_to}
+use Rattle.machine_base.proofs.Depths.{IsOwn}
+use Rattle.machine_base.proofs.Rows.{ReadsRows, given_next, read_more}
 use Rattle.ta_core.specs.Reading.{Reading, with_new, row_added}
 use Rattle.ta_core.specs.OnTable.{objects_at, bottoms_at, OnRow}
 
@@ -27,40 +30,14 @@ use Rattle.ta_core.specs.OnTable.{objects_at, bottoms_at, OnRow}
 pub take_one_more : (D : List (List Row)) (j : ℕ) → j < length D → take (suc j) D ≡ take j D ++ list_at D j ∷ []
 take_one_more D j l = take-suc D j [] l
 
-pub sorted_block-append : (start depth : ℕ) (xs ys : List (List Row)) → sorted_block start depth (xs ++ ys) ≡ sorted_block start depth xs ++ sorted_block (start + length xs) depth ys
-sorted_block-append start depth [] ys = ap (λ s. sorted_block s depth ys) (omega arith)
-sorted_block-append start depth (rows ∷ xs) ys =
-    ap (λ rest. Sorted start (row_at rows depth).object (row_at rows depth).grade ∷ rest)
-    (sorted_block-append (start + 1) depth xs ys ∙ ap (λ s. sorted_block (start + 1) depth xs ++ sorted_block s depth ys) (omega arith))
+-- the run reads the rows of each list, and ends at the algorithm's own depth
+pub reads_rows : (n : ℕ) (D : List (List Row)) → IsTable n D → ReadsRows (ta_run_to D) n D
+reads_rows n D t = λ depth list within l. run_rows n D list depth t l within
 
--- a list behind those of a block is not read by it
-pub block_of_later : (list start depth : ℕ) (D : List (List Row)) → start + length D ≤ list → sorted_rows list (sorted_block start depth D) ≡ []
-block_of_later list start depth [] l = refl
-block_of_later list start depth (rows ∷ D) l = not_read (start == list) (ne_eqb start list (λ e. absurd (omega arith))) ∙ block_of_later list (start + 1) depth D (omega arith)
-  where
-    not_read : (b : Bool) → (start == list) ≡ false → sorted_rows list (sorted_block start depth (rows ∷ D)) ≡ sorted_rows list (sorted_block (start + 1) depth D)
-    not_read b f = ap (λ t. cons_option (cond t (Some (row_at rows depth)) None) (sorted_rows list (sorted_block (start + 1) depth D))) f
-
--- what is read and seen in a row
-abbrev pub read_to : List (List Row) → ℕ → ℕ → List Access
-read_to D depth j = ta_run_to D (depth - 1) ++ sorted_block 0 depth (take j D)
-
-pub read_depth : (n : ℕ) (D : List (List Row)) (depth j : ℕ) → IsTable n D → 1 ≤ depth → depth ≤ n → j < length D → depth_of j (read_to D depth j) ≡ depth - 1
-read_depth n D depth j t positive within l =
-    let rows = list_at D j in
-    let long : length rows ≡ n = list_at_length n D j t l in
-    let front : length (take j D) ≡ j = length-take-le j D (omega arith) in
-    ap length (sorted_rows_append j (ta_run_to D (depth - 1)) (sorted_block 0 depth (take j D))
-    ∙ ap (λ above. above ++ sorted_rows j (sorted_block 0 depth (take j D))) (run_rows n D j (depth - 1) t l (omega arith))
-    ∙ ap (λ below. take (depth - 1) rows ++ below) (block_of_later j 0 depth (take j D) (omega arith))
-    ∙ append-nil (take (depth - 1) rows))
-    ∙ length-take-le (depth - 1) rows (omega arith)
-
--- the row that a table gives next
-pub given_next : (n : ℕ) (D : List (List Row)) (depth j object grade : ℕ) → 1 ≤ depth → depth ≤ n → j < length D → Agrees (length D) n D (read_to D depth j ++ Sorted j object grade ∷ []) → row_at (list_at D j) depth ≡ record { object = object; grade = grade }
-given_next n D depth j object grade positive within l agrees =
-    ap (λ p. slice_index_or (list_at D j) p no_row) (sym (read_depth n D depth j agrees.table positive within l))
-    ∙ gives_at D (read_to D depth j) j object grade no_row (agrees_gives (length D) n D (read_to D depth j) (Sorted j object grade) [] agrees)
+pub own : (V : List ℕ → ℕ) (k n : ℕ) (D : List (List Row)) → IsMonotone V → IsAsked k n D → IsOwn (ta_stop V k D) n (ta_depth V k D)
+own V k n D monotone asked =
+    let least = least_depth V k n D monotone asked in
+    record { from_one = least.from_one; within = least.within; ends = least.stops; least = least.least }
 
 -- an object that stands is one of the table's
 pub stands_object : (n : ℕ) (D : List (List Row)) (depth object : ℕ) → IsTable n D → depth ≤ n → stands D depth object ≡ true → Contains (objects_of D) object
@@ -71,9 +48,9 @@ stands_object n D depth object t within s =
     table_holds n D from.0 object t from.1
     (subst (λ o. Contains (objects from.0) o) (object-at_place from.0 object no_row place) (contains_map (λ (row : Row). row.object) from.0 (slice_index_or from.0 (place_in from.0 object) no_row) (contains_at from.0 (place_in from.0 object) no_row place)))
 
-pub seen_in_row : (n : ℕ) (D : List (List Row)) (depth j object : ℕ) → IsTable n D → 1 ≤ depth → depth ≤ n → Contains (seen_objects (read_to D depth j)) object → (stands D (depth - 1) object ≡ true) ⊎ Contains (objects_at depth (take j D)) object
+pub seen_in_row : (n : ℕ) (D : List (List Row)) (depth j object : ℕ) → IsTable n D → 1 ≤ depth → depth ≤ n → Contains (seen_objects (read_to (ta_run_to D) D depth j)) object → (stands D (depth - 1) object ≡ true) ⊎ Contains (objects_at depth (take j D)) object
 seen_in_row n D depth j object t positive within h =
-    let from = access_from_seen (read_to D depth j) object h in
+    let from = access_from_seen (read_to (ta_run_to D) D depth j) object h in
     elim (Contains-append_cases (ta_run_to D (depth - 1)) (sorted_block 0 depth (take j D)) (Sorted from.0 object from.1) from.2) [
       | inl run ↦ inl (seen_stands n D (depth - 1) object t (omega arith) (seen_from_access (ta_run_to D (depth - 1)) from.0 object from.1 run))
       | inr block ↦
@@ -82,16 +59,16 @@ seen_in_row n D depth j object t positive within h =
           inr (subst (λ o. Contains (objects_at depth (take j D)) o) (sym same) (contains_map (λ (rows : List Row). (row_at rows depth).object) (take j D) (list_at (take j D) k.0) (list_at_contains (take j D) k.0 k.1)))
     ]
 
-pub row_sees : (D : List (List Row)) (depth j object : ℕ) → Contains (objects_at depth (take j D)) object → Contains (seen_objects (read_to D depth j)) object
+pub row_sees : (D : List (List Row)) (depth j object : ℕ) → Contains (objects_at depth (take j D)) object → Contains (seen_objects (read_to (ta_run_to D) D depth j)) object
 row_sees D depth j object h =
     let from = contains_map_from (λ (rows : List Row). (row_at rows depth).object) (take j D) object h in
     let number = list_number (take j D) from.0 from.1 in
     let row : Row = row_at (list_at (take j D) number.0) depth in
     let same : row.object ≡ object = ap (λ rows. (row_at rows depth).object) number.2 ∙ from.2 in
-    subst (λ o. Contains (seen_objects (read_to D depth j)) o) same
-    (seen_from_access (read_to D depth j) (0 + number.0) row.object row.grade (Contains-append_right (ta_run_to D (depth - 1)) (sorted_block 0 depth (take j D)) (Sorted (0 + number.0) row.object row.grade) (contains_sorted 0 number.0 depth (take j D) number.1)))
+    subst (λ o. Contains (seen_objects (read_to (ta_run_to D) D depth j)) o) same
+    (seen_from_access (read_to (ta_run_to D) D depth j) (0 + number.0) row.object row.grade (Contains-append_right (ta_run_to D (depth - 1)) (sorted_block 0 depth (take j D)) (Sorted (0 + number.0) row.object row.grade) (contains_sorted 0 number.0 depth (take j D) number.1)))
 
-pub stands_sees : (n : ℕ) (D : List (List Row)) (depth j object : ℕ) → IsTable n D → depth ≤ n → stands D (depth - 1) object ≡ true → Contains (seen_objects (read_to D depth j)) object
+pub stands_sees : (n : ℕ) (D : List (List Row)) (depth j object : ℕ) → IsTable n D → depth ≤ n → stands D (depth - 1) object ≡ true → Contains (seen_objects (read_to (ta_run_to D) D depth j)) object
 stands_sees n D depth j object t within s =
     seen_more (ta_run_to D (depth - 1)) (sorted_block 0 depth (take j D)) object (run_sees n D (depth - 1) object t s (stands_object n D (depth - 1) object t (omega arith) s))
 
@@ -119,7 +96,7 @@ pub record Added (n : ℕ) (D : List (List Row)) (A : List Access) (r : Reading)
   pub objects_are : r.objects ++ row.object ∷ [] ≡ objects_at r.depth (take (suc (length r.objects)) D)
   pub bottoms_are : r.bottoms ++ row.grade ∷ [] ≡ bottoms_at r.depth (take (suc (length r.objects)) D)
   pub waiting_are : with_new r.waiting row.object is_new ≡ filter (λ object. not (stands D (r.depth - 1) object)) (each_once (r.objects ++ row.object ∷ []))
-  pub made : A ++ Sorted (length r.objects) row.object row.grade ∷ [] ≡ ta_run_to D (r.depth - 1) ++ sorted_block 0 r.depth (take (suc (length r.objects)) D)
+  pub made : A ++ Sorted (length r.objects) row.object row.grade ∷ [] ≡ read_to (ta_run_to D) D r.depth (suc (length r.objects))
 
 pub added : (V : List ℕ → ℕ) (k n : ℕ) (D : List (List Row)) (A : List Access) (r : Reading) (row : Row) (is_new : Bool) → OnRow V k n D A r → Agrees (length D) n D (A ++ Sorted (length r.objects) row.object row.grade ∷ []) → (is_new ≡ true → ¬ Contains (seen_objects A) row.object) → (is_new ≡ false → Contains (seen_objects A) row.object) → Added n D A r row is_new
 added V k n D A r row is_new on agrees unseen seen =
@@ -133,7 +110,7 @@ added V k n D A r row is_new on agrees unseen seen =
     let front : length (take j D) ≡ j = length-take-le j D (omega arith) in
     let positive : 1 ≤ d = on.at.positive in
     let within : d ≤ n = on.at.within in
-    let given : row_at rows d ≡ row = given_next n D d j row.object row.grade positive within l (subst (λ B. Agrees (length D) n D (B ++ Sorted j row.object row.grade ∷ [])) on.made agrees) in
+    let given : row_at rows d ≡ row = given_next (ta_run_to D) n D d j row.object row.grade (reads_rows n D t) positive within l (subst (λ B. Agrees (length D) n D (B ++ Sorted j row.object row.grade ∷ [])) on.made agrees) in
     record {
       objects_are = ap (λ os. os ++ row.object ∷ []) on.objects_are
           ∙ ap (λ (x : Row). objects_at d (take j D) ++ x.object ∷ []) (sym given)
@@ -155,7 +132,7 @@ added V k n D A r row is_new on agrees unseen seen =
             ∙ ap (λ ws. ws ++ row.object ∷ []) on.waiting_are
             ∙ sym (new_with_unseen p r.objects row.object fresh (not_from_false (stands D (d - 1) row.object) low))
         | inr no' ↦
-            let is_seen : Contains (seen_objects (read_to D d j)) row.object = subst (λ B. Contains (seen_objects B) row.object) on.made (seen no') in
+            let is_seen : Contains (seen_objects (read_to (ta_run_to D) D d j)) row.object = subst (λ B. Contains (seen_objects B) row.object) on.made (seen no') in
             ap (λ b. with_new r.waiting row.object b) no'
             ∙ on.waiting_are
             ∙ sym (new_with_seen p r.objects row.object (elim (seen_in_row n D d j row.object t positive within is_seen) [
@@ -164,11 +141,7 @@ added V k n D A r row is_new on agrees unseen seen =
             ]))
       ];
       made = ap (λ B. B ++ Sorted j row.object row.grade ∷ []) on.made
-          ∙ append_assoc (ta_run_to D (d - 1)) (sorted_block 0 d (take j D)) (Sorted j row.object row.grade ∷ [])
-          ∙ ap (λ (x : Row). ta_run_to D (d - 1) ++ (sorted_block 0 d (take j D) ++ Sorted j x.object x.grade ∷ [])) (sym given)
-          ∙ ap (λ s. ta_run_to D (d - 1) ++ (sorted_block 0 d (take j D) ++ Sorted s (row_at rows d).object (row_at rows d).grade ∷ [])) (omega arith)
-          ∙ ap (λ rest. ta_run_to D (d - 1) ++ rest) (sym (sorted_block-append 0 d (take j D) (rows ∷ [])))
-          ∙ ap (λ lists. ta_run_to D (d - 1) ++ sorted_block 0 d lists) (sym more);
+          ∙ read_more (ta_run_to D) n D d j row.object row.grade (reads_rows n D t) positive within l (subst (λ B. Agrees (length D) n D (B ++ Sorted j row.object row.grade ∷ [])) on.made agrees);
     }
 
 -- a row of which lists are left
@@ -182,5 +155,5 @@ row_goes_on V k n D A r row is_new on agrees unseen seen short =
       objects_are = a.objects_are ∙ ap (λ j. objects_at r.depth (take j D)) long;
       bottoms_are = a.bottoms_are ∙ ap (λ j. bottoms_at r.depth (take j D)) long;
       waiting_are = a.waiting_are;
-      made = a.made ∙ ap (λ j. ta_run_to D (r.depth - 1) ++ sorted_block 0 r.depth (take j D)) long;
+      made = a.made ∙ ap (read_to (ta_run_to D) D r.depth) long;
     }

@@ -1,43 +1,27 @@
 -- A machine that keeps what it keeps makes its run.
 use Rattle.std.proofs.Common.{◌≡◌, ◌≢◌, ℕ, ◌<◌, ◌≤◌, inl, inr, true, false, cond, List, [], ◌∷◌, length, Contains, slice_index, refl, sym, ap, subst, ◌∙◌, arith, nat_lt}
 use Rattle.std.proofs.lemmas.Bool.{cases_Bool, cases_lt, lt-ltb, le-ltb}
-use Rattle.std.proofs.lemmas.List.Elements.{length_all_zip, AllZip-get_or}
 use Rattle.ranked_list.specs.declared.row.Row.{Row}
 use Rattle.ranked_list.specs.declared.need.Need.TheVariants.{Row as RowAt, Grade, Done}
 use Rattle.best_k.specs.Held.{Held}
-use Rattle.monotone_fn.specs.declared.costs.Costs.{Costs}
-use Rattle.monotone_fn.specs.Tree.{Tree}
 use Rattle.monotone_fn.specs.Value.{value}
 use Rattle.monotone_fn.proofs.Laws.{value-monotone}
-use Rattle.topk_theory.specs.Aggregate.{IsMonotone}
+use Rattle.topk_theory.specs.Asked.{threshold_run}
 use Rattle.topk_theory.specs.Transcript.{seen_objects}
-use Rattle.topk_theory.specs.Threshold.{IsAsked, ta_run}
+use Rattle.topk_theory.specs.Threshold.{ta_run}
 use Rattle.topk_theory.specs.Machine.{IsAt, CanServe}
 use Rattle.topk_theory.proofs.AgreementLists.{contains_here, member_of_all}
-use Rattle.access_log.specs.Log.{Log, AgreesWith}
-use Rattle.ta_core.specs.Reading.{Reading, first_or_zero, need_at}
-use Rattle.ta_core.specs.Kept.{IsKept}
+use Rattle.access_log.specs.Log.{AgreesWith}
 use Rattle.access_log.specs.Machine.{IsOfSeen}
+use Rattle.machine_base.specs.declared.base.Base.{Base}
+use Rattle.machine_base.specs.Base.{shown}
+use Rattle.machine_base.proofs.Held.{held_asked}
+use Rattle.machine_base.proofs.Makes.{makes_run, at_end}
+use Rattle.ta_core.specs.Reading.{Reading, first_or_zero, need_at}
+use Rattle.ta_core.specs.Kept.{Keeps}
 use Rattle.ta_core.specs.Machine.{MakesItsRun}
-use Rattle.ta_core.proofs.NeedSteps.{row_needed, grade_needed, nothing_needed}
+use Rattle.ta_core.proofs.NeedSteps.{row_next, grade_needed}
 use Rattle.ta_core.proofs.Steps.{row_of_reading, asks_of_reading, made_of_reading}
-
--- expressions are monotone
-pub monotone : (e : Tree) → IsMonotone (value e)
-monotone e lesser greater h =
-    value-monotone e lesser greater (record {
-      same_length = length_all_zip ◌≤◌ lesser greater h;
-      each = λ i l. AllZip-get_or ◌≤◌ lesser greater i 0 0 h l;
-    })
-
--- a table that agrees is asked
-pub asked_of : (e : Tree) (k room : ℕ) (log : Log) (board : Held) (r : Reading) (D : List (List Row)) → IsKept e k room log board r → AgreesWith D log → IsAsked k log.count D
-asked_of e k room log board r D kept agrees = record {
-  table = agrees.table;
-  lists = omega (arith, kept.some_list, agrees.lists);
-  positive = kept.asked;
-  fits = kept.fits;
-}
 
 -- what is needed, by where the reading is
 pub need_in_row : (m : ℕ) (r : Reading) → r.done ≡ false → length r.objects < m → need_at m r ≡ RowAt (length r.objects) r.depth
@@ -58,58 +42,66 @@ pub first_member : (xs : List ℕ) → 0 < length xs → (x : ℕ) × (rest : Li
 first_member [] l = absurd (omega arith)
 first_member (x ∷ rest) l = (x, rest, refl)
 
-needed : (e : Tree) (k room : ℕ) (log : Log) (board : Held) (r : Reading) (D : List (List Row)) → IsKept e k room log board r → AgreesWith D log → IsAt (ta_run (value e) k D) log.accesses (need_at log.lists r) × CanServe D (need_at log.lists r)
-needed e k room log board r D kept agrees =
-    let V = value e in
-    let A = log.accesses in
+needed : (base : Base) (board : Held) (r : Reading) (D : List (List Row)) → Keeps base board r → AgreesWith D base.transcript → IsAt (ta_run (value base.expr) base.k D) base.transcript.accesses (need_at base.transcript.lists r) × CanServe D (need_at base.transcript.lists r)
+needed base board r D kept agrees =
+    let V = value base.expr in
+    let k : ℕ = base.k in
+    let m : ℕ = base.transcript.lists in
+    let n : ℕ = base.transcript.count in
+    let A = base.transcript.accesses in
     let on = kept.on_table D agrees in
-    let asked = asked_of e k room log board r D kept agrees in
+    let asked = held_asked base.expr k base.room m n A D kept.base agrees in
     elim (cases_Bool r.done) [
       | inl done ↦
-          subst (λ need. IsAt (ta_run V k D) A need × CanServe D need) (sym (need_when_done log.lists r done))
-          (nothing_needed V k D A (made_of_reading V k log.count D A r done on.reading).run)
-      | inr open' ↦ elim (cases_lt (length r.objects) log.lists) [
+          subst (λ need. IsAt (ta_run V k D) A need × CanServe D need) (sym (need_when_done m r done))
+          (at_end (ta_run V k D) A D (made_of_reading V k n D A r done on.reading).run)
+      | inr open' ↦ elim (cases_lt (length r.objects) m) [
         | inl short ↦
-            subst (λ need. IsAt (ta_run V k D) A need × CanServe D need) (sym (need_in_row log.lists r open' short))
-            (row_needed V k log.count D A r (monotone e) asked (row_of_reading V k log.count D A r open' (omega (arith, agrees.lists)) on.reading))
+            subst (λ need. IsAt (ta_run V k D) A need × CanServe D need) (sym (need_in_row m r open' short))
+            (row_next V k n D A r (value-monotone base.expr) asked (row_of_reading V k n D A r open' (omega (arith, agrees.lists)) on.reading))
         | inr whole ↦
             let rest = kept.rest.after_row open' whole in
             let first = first_member r.waiting rest.0 in
             let same : first_or_zero r.waiting ≡ first.0 = ap first_or_zero first.2 in
             let other : slice_index r.objects (length r.grades) ≢ first.0 = λ e'. rest.2 (e' ∙ sym same) in
-            subst (λ need. IsAt (ta_run V k D) A need × CanServe D need) (sym (need_after_row log.lists r open' whole ∙ ap (Grade (length r.grades)) same))
-            (grade_needed V k log.count D A r first.0 first.1 (monotone e) asked (asks_of_reading V k log.count D A r open' (omega (arith, agrees.lists)) on.reading) first.2 (omega (arith, rest.1, agrees.lists)) other)
+            subst (λ need. IsAt (ta_run V k D) A need × CanServe D need) (sym (need_after_row m r open' whole ∙ ap (Grade (length r.grades)) same))
+            (grade_needed V k n D A r first.0 first.1 (value-monotone base.expr) asked (asks_of_reading V k n D A r open' (omega (arith, agrees.lists)) on.reading) first.2 (omega (arith, rest.1, agrees.lists)) other)
       ]
     ]
 
-tame_need : (e : Tree) (k room : ℕ) (log : Log) (board : Held) (r : Reading) → IsKept e k room log board r → IsOfSeen log (need_at log.lists r)
-tame_need e k room log board r kept =
+-- what waits was seen
+pub first_is_member : (ws : List ℕ) → 0 < length ws → Contains ws (first_or_zero ws)
+first_is_member [] l = absurd (omega arith)
+first_is_member (w ∷ ws) l = contains_here w ws
+
+pub first_seen : (base : Base) (board : Held) (r : Reading) → Keeps base board r → 0 < length r.waiting → Contains (seen_objects base.transcript.accesses) (first_or_zero r.waiting)
+first_seen base board r kept waits = member_of_all (Contains (seen_objects base.transcript.accesses)) r.waiting (first_or_zero r.waiting) kept.sound.waiting_seen (first_is_member r.waiting waits)
+
+tame_need : (base : Base) (board : Held) (r : Reading) → Keeps base board r → IsOfSeen base.transcript (need_at base.transcript.lists r)
+tame_need base board r kept =
+    let m : ℕ = base.transcript.lists in
     elim (cases_Bool r.done) [
-      | inl done ↦ subst (IsOfSeen log) (sym (need_when_done log.lists r done)) tt
-      | inr open' ↦ elim (cases_lt (length r.objects) log.lists) [
-        | inl short ↦ subst (IsOfSeen log) (sym (need_in_row log.lists r open' short)) tt
-        | inr whole ↦
-            let first = first_member r.waiting (kept.rest.after_row open' whole).0 in
-            let waits : Contains r.waiting (first_or_zero r.waiting) = subst (λ ws. Contains ws (first_or_zero ws)) (sym first.2) (contains_here first.0 first.1) in
-            subst (IsOfSeen log) (sym (need_after_row log.lists r open' whole)) (member_of_all (Contains (seen_objects log.accesses)) r.waiting (first_or_zero r.waiting) kept.sound.waiting_seen waits)
+      | inl done ↦ subst (IsOfSeen base.transcript) (sym (need_when_done m r done)) tt
+      | inr open' ↦ elim (cases_lt (length r.objects) m) [
+        | inl short ↦ subst (IsOfSeen base.transcript) (sym (need_in_row m r open' short)) tt
+        | inr whole ↦ subst (IsOfSeen base.transcript) (sym (need_after_row m r open' whole)) (first_seen base board r kept (kept.rest.after_row open' whole).0)
       ]
     ]
 
-pub kept_makes : (e : Tree) (k room : ℕ) (costs : Costs) (log : Log) (board : Held) (r : Reading) → IsKept e k room log board r → MakesItsRun (record { expr = e; k = k; room = room; costs = costs; log = log; need = need_at log.lists r })
-kept_makes e k room costs log board r kept = record {
-  consistent = kept.agreeing;
-  on_run = λ D agrees. (needed e k room log board r D kept agrees).0;
-  served = λ D agrees. (needed e k room log board r D kept agrees).1;
-  tame = tame_need e k room log board r kept;
-}
+pub kept_makes : (base : Base) (board : Held) (r : Reading) → Keeps base board r → MakesItsRun (shown base (need_at base.transcript.lists r))
+kept_makes base board r kept = makes_run threshold_run base (need_at base.transcript.lists r) kept.base (λ D agrees. needed base board r D kept agrees) (tame_need base board r kept)
 
 -- the depth is one of the tables', so it is small
-pub kept_depth : (e : Tree) (k room : ℕ) (log : Log) (board : Held) (r : Reading) → IsKept e k room log board r → r.done ≡ false → r.depth ≤ log.count
-kept_depth e k room log board r kept open' =
-    let D = kept.agreeing.0 in
-    let agrees : AgreesWith D log = kept.agreeing.1 in
+pub kept_depth : (base : Base) (board : Held) (r : Reading) → Keeps base board r → r.done ≡ false → r.depth ≤ base.transcript.count
+kept_depth base board r kept open' =
+    let V = value base.expr in
+    let m : ℕ = base.transcript.lists in
+    let n : ℕ = base.transcript.count in
+    let A = base.transcript.accesses in
+    let D = kept.base.agreeing.0 in
+    let agrees : AgreesWith D base.transcript = kept.base.agreeing.1 in
     let on = kept.on_table D agrees in
-    elim (cases_lt (length r.objects) log.lists) [
-      | inl short ↦ (row_of_reading (value e) k log.count D log.accesses r open' (omega (arith, agrees.lists)) on.reading).at.within
-      | inr whole ↦ (asks_of_reading (value e) k log.count D log.accesses r open' (omega (arith, agrees.lists)) on.reading).at.within
+    elim (cases_lt (length r.objects) m) [
+      | inl short ↦ (row_of_reading V base.k n D A r open' (omega (arith, agrees.lists)) on.reading).at.within
+      | inr whole ↦ (asks_of_reading V base.k n D A r open' (omega (arith, agrees.lists)) on.reading).at.within
     ]

@@ -1,30 +1,20 @@
 -- What a reading is whatever the table, after a row, after a grade and after what follows.
-use Rattle.std.proofs.Common.{◌≡◌, ◌≢◌, ℕ, zero, suc, ◌+◌, ◌-◌, ◌<◌, ◌≤◌, ◌⊎◌, inl, inr, Bool, true, false, cond, ◌==◌, List, [], ◌∷◌, ◌++◌, length, map, drop, Contains, slice_index, refl, sym, ap, subst, ◌∙◌, arith, length-append, length-drop, eq-eqb}
+use Rattle.std.proofs.Common.{◌≡◌, ◌≢◌, ℕ, zero, suc, ◌+◌, ◌-◌, ◌<◌, ◌≤◌, inl, inr, Bool, true, false, cond, ◌==◌, List, [], ◌∷◌, ◌++◌, length, drop, Contains, slice_index, refl, sym, ap, subst, ◌∙◌, arith, length-append, length-drop, eq-eqb}
 use Rattle.std.proofs.lemmas.Bool.{cases_Bool, cases_lt, cases_eq, ne_eqb, true≢false}
-use Rattle.std.proofs.lemmas.List.Elements.{Contains-append_cases, Contains-push, Contains-push_cases, All-push, All-append, All-drop, All-nil, All-cons, All-head, All-tail}
+use Rattle.std.proofs.lemmas.List.Elements.{Contains-push, Contains-push_cases, All-push, All-append, All-drop, All-nil, All-cons, All-head, All-tail}
 use Rattle.ranked_list.specs.declared.row.Row.{Row}
 use Rattle.ranked_list.specs.declared.item.Item.{Item}
 use Rattle.monotone_fn.specs.Limits.{AreGrades}
 use Rattle.topk_theory.specs.declared.access.Access.{Access}
 use Rattle.topk_theory.specs.declared.access.Access.TheVariants.{Sorted, Random}
-use Rattle.topk_theory.specs.Transcript.{object_of, seen_objects, named_objects}
-use Rattle.topk_theory.proofs.AgreementLists.{contains_nil, contains_here, contains_there, contains_cases, contains_map, contains_map_from, all_from_members, member_of_all}
-use Rattle.topk_theory.proofs.AgreementNames.{each_once_within, each_once_complete}
+use Rattle.topk_theory.specs.Transcript.{seen_objects}
+use Rattle.topk_theory.proofs.AgreementLists.{contains_nil, contains_here, contains_there, all_from_members, member_of_all}
 use Rattle.topk_theory.proofs.ThresholdRun.{seen_from_access, seen_more}
 use Rattle.ta_core.specs.Reading.{Reading, grades_in_row, filled, filled_first, first_or_zero, with_new, row_added, grade_added, moved, enough, followed}
 use Rattle.ta_core.specs.Kept.{IsSound, IsAtRest}
 use Rattle.ta_core.proofs.Fills.{length-grades_in_row, grades_in_row_end}
 use Rattle.ta_core.proofs.BoardSteps.{waits_from}
 use Rattle.ta_core.proofs.Steps.{settled_not, settled_scored, moved_on, moved_down}
-
--- one more access names one object more at most
-named_by : (A : List Access) (a : Access) (x : ℕ) → Contains (named_objects (A ++ a ∷ [])) x → Contains (named_objects A) x ⊎ (object_of a ≡ x)
-named_by A a x h =
-    let from = contains_map_from object_of (A ++ a ∷ []) x (each_once_within (map object_of (A ++ a ∷ [])) x h) in
-    elim (Contains-append_cases A (a ∷ []) from.0 from.1) [
-      | inl before ↦ inl (each_once_complete (map object_of A) x (subst (λ z. Contains (map object_of A) z) from.2 (contains_map object_of A from.0 before)))
-      | inr last ↦ elim (contains_cases a [] from.0 last) [ inl e ↦ inr (ap object_of e ∙ from.2) | inr n ↦ absurd (contains_nil from.0 n) ]
-    ]
 
 -- the grades that a row has are some of its own
 capped_in_row : (object : ℕ) (os bs : List ℕ) → AreGrades bs → AreGrades (grades_in_row object os bs)
@@ -83,10 +73,6 @@ sound_row m A r row is_new s short none capped fresh =
         | inl before ↦ more x (member_of_all (Contains (seen_objects A)) r.objects x s.objects_seen before)
         | inr here ↦ subst (λ z. Contains (seen_objects (A ++ a ∷ [])) z) here seen
       ]);
-      named_seen = λ x h. elim (named_by A a x h) [
-        | inl before ↦ more x (s.named_seen x before)
-        | inr here ↦ subst (λ z. Contains (seen_objects (A ++ a ∷ [])) z) here seen
-      ];
       same_length = omega (arith, os_long, bs_long, s.same_length);
       within = omega (arith, os_long);
       few = omega (arith, os_long, s.few, length-with_new r.waiting row.object is_new);
@@ -106,10 +92,6 @@ sound_grade m A r grade s waits capped =
     record {
       waiting_seen = all_from_members (Contains (seen_objects (A ++ a ∷ []))) r.waiting (λ x h. more x (member_of_all (Contains (seen_objects A)) r.waiting x s.waiting_seen h));
       objects_seen = all_from_members (Contains (seen_objects (A ++ a ∷ []))) r.objects (λ x h. more x (member_of_all (Contains (seen_objects A)) r.objects x s.objects_seen h));
-      named_seen = λ x h. elim (named_by A a x h) [
-        | inl before ↦ more x (s.named_seen x before)
-        | inr here ↦ more x (subst (λ z. Contains (seen_objects A) z) here (member_of_all (Contains (seen_objects A)) r.waiting (first_or_zero r.waiting) s.waiting_seen (first_waits r.waiting waits)))
-      ];
       same_length = s.same_length;
       within = s.within;
       few = s.few;
@@ -117,10 +99,6 @@ sound_grade m A r grade s waits capped =
       grades_capped = capped_filled r.objects r.bottoms (first_or_zero r.waiting) (r.grades ++ grade ∷ []) s.bottoms_capped (All-push (λ g. g ≤ 1000000) r.grades grade s.grades_capped capped);
       later = s.later;
     }
-  where
-    first_waits : (ws : List ℕ) → 0 < length ws → Contains ws (first_or_zero ws)
-    first_waits [] l = absurd (omega arith)
-    first_waits (w ∷ ws) l = contains_here w ws
 
 -- once an access is told, before what follows
 pub record IsFed (m : ℕ) (r : Reading) : Type 0 where
@@ -226,7 +204,7 @@ sound_moved m A stops r s positive open' in_row after_row =
     down : (b : Bool) → length r.objects ≡ m → length r.waiting ≡ 0 → IsSound m A (moved m b r) × IsAtRest m (moved m b r)
     down true e w =
         subst (λ z. IsSound m A z × IsAtRest m z) (sym (moved_down m true r e w)) (
-          record { waiting_seen = s.waiting_seen; objects_seen = s.objects_seen; named_seen = s.named_seen; same_length = s.same_length; within = s.within; few = s.few; bottoms_capped = s.bottoms_capped; grades_capped = s.grades_capped; later = s.later },
+          record { waiting_seen = s.waiting_seen; objects_seen = s.objects_seen; same_length = s.same_length; within = s.within; few = s.few; bottoms_capped = s.bottoms_capped; grades_capped = s.grades_capped; later = s.later },
           record { in_row = λ l. absurd (omega arith); after_row = λ o. absurd (true≢false o) },
         )
     down false e w =
@@ -234,7 +212,6 @@ sound_moved m A stops r s positive open' in_row after_row =
           record {
             waiting_seen = All-nil (Contains (seen_objects A));
             objects_seen = All-nil (Contains (seen_objects A));
-            named_seen = s.named_seen;
             same_length = refl;
             within = omega arith;
             few = omega arith;
@@ -258,7 +235,6 @@ sound_followed V k m A items r positive open' s fed =
           let sound : IsSound m A t = record {
             waiting_seen = All-drop (Contains (seen_objects A)) 1 r.waiting s.waiting_seen;
             objects_seen = s.objects_seen;
-            named_seen = s.named_seen;
             same_length = s.same_length;
             within = s.within;
             few = omega (arith, length-drop 1 r.waiting, s.few);

@@ -5,7 +5,8 @@ use Rattle.ranked_list.specs.declared.row.Row.{Row}
 use Rattle.ranked_list.specs.declared.item.Item.{Item}
 use Rattle.best_k.specs.Held.{put_item}
 use Rattle.topk_theory.specs.declared.access.Access.{Access}
-use Rattle.topk_theory.specs.Aggregate.{aggregate, IsMonotone}
+use Rattle.monotone_fn.specs.Value.{IsMonotone}
+use Rattle.topk_theory.specs.Aggregate.{aggregate}
 use Rattle.topk_theory.specs.Transcript.{seen_objects}
 use Rattle.topk_theory.specs.Threshold.{IsAsked, ta_stop, ta_run, ta_run_to, ta_depth, scored, row_at}
 use Rattle.topk_theory.proofs.AgreementLists.{contains_here}
@@ -14,7 +15,8 @@ use Rattle.ta_core.specs.Reading.{Reading, first_or_zero, items_after, settled, 
 use Rattle.ta_core.specs.OnTable.{OnRow, OnAsks, IsMade, OnReading, OnBoard, OnTable}
 use Rattle.ta_core.proofs.Asks.{all_grades, object_settles, row_is_made, row_follows}
 use Rattle.ta_core.proofs.BoardSteps.{board_after_put, board_tells_stop}
-use Rattle.ta_core.proofs.NeedSteps.{is_depth}
+use Rattle.machine_base.proofs.Depths.{is_own}
+use Rattle.ta_core.proofs.Rows.{own}
 
 -- where a reading is, by its length
 pub on_row : (V : List ℕ → ℕ) (k n : ℕ) (D : List (List Row)) (A : List Access) (r : Reading) → r.done ≡ false → OnRow V k n D A r → OnReading V k n D A r
@@ -96,7 +98,7 @@ row_moves V k n D A r items monotone asked open' on board =
           elim (cases_Bool (ta_stop V k D r.depth)) [
             | inl stops ↦
                 let last : moved m (enough k (V r.bottoms) items) r ≡ record r { done = true } = down ∙ ap (λ b. cond b (record r { done = true }) (row_begun (r.depth + 1))) stops in
-                let here : r.depth ≡ ta_depth V k D = is_depth V k n D r.depth monotone asked on.at stops in
+                let here : r.depth ≡ ta_depth V k D = is_own (ta_stop V k D) n (ta_depth V k D) r.depth (own V k n D monotone asked) on.at stops in
                 let run : A ≡ ta_run V k D = read ∙ ap (ta_run_to D) here in
                 subst (λ s. OnTable V k n D A s items) (sym last)
                 (record { reading = made V k n D A (record r { done = true }) refl (record { run = run; none = empty }); board = board })
@@ -104,7 +106,7 @@ row_moves V k n D A r items monotone asked open' on board =
                 let next : moved m (enough k (V r.bottoms) items) r ≡ row_begun (r.depth + 1) = down ∙ ap (λ b. cond b (record r { done = true }) (row_begun (r.depth + 1))) goes in
                 subst (λ s. OnTable V k n D A s items) (sym next)
                 (record {
-                  reading = on_row V k n D A (row_begun (r.depth + 1)) refl (row_follows V k n D A r monotone asked.table asked.lists asked.fits on empty goes);
+                  reading = on_row V k n D A (row_begun (r.depth + 1)) refl (row_follows V k n D A r monotone asked on empty goes);
                   board = subst (λ ws. OnBoard V D A ws items) empty board;
                 })
           ]

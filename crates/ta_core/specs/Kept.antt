@@ -3,13 +3,12 @@ use Rattle.std.specs.Prelude.{◌≡◌, ◌≢◌, ◌<◌, ◌≤◌, ℕ, fal
 use Rattle.ranked_list.specs.declared.row.Row.{Row}
 use Rattle.best_k.specs.Held.{Held}
 use Rattle.monotone_fn.specs.Tree.{Tree}
-use Rattle.monotone_fn.specs.Shape.{list_count}
 use Rattle.monotone_fn.specs.Value.{value}
 use Rattle.monotone_fn.specs.Limits.{AreGrades}
 use Rattle.topk_theory.specs.declared.access.Access.{Access}
-use Rattle.topk_theory.specs.Transcript.{Agrees, seen_objects, named_objects}
-use Rattle.topk_theory.specs.Consistent.{SomeAgrees}
-use Rattle.access_log.specs.Log.{Log}
+use Rattle.topk_theory.specs.Transcript.{Agrees, seen_objects}
+use Rattle.machine_base.specs.declared.base.Base.{Base}
+use Rattle.machine_base.specs.Base.{IsHeld}
 use Rattle.ta_core.specs.Reading.{Reading, first_or_zero}
 use Rattle.ta_core.specs.OnTable.{OnTable}
 
@@ -17,7 +16,6 @@ use Rattle.ta_core.specs.OnTable.{OnTable}
 pub record IsSound (m : ℕ) (A : List Access) (r : Reading) : Type 0 where
   pub waiting_seen : All (Contains (seen_objects A)) r.waiting
   pub objects_seen : All (Contains (seen_objects A)) r.objects
-  pub named_seen : (object : ℕ) → Contains (named_objects A) object → Contains (seen_objects A) object
   pub same_length : length r.bottoms ≡ length r.objects
   pub within : length r.objects ≤ m
   pub few : length r.waiting ≤ length r.objects
@@ -30,18 +28,14 @@ pub record IsAtRest (m : ℕ) (r : Reading) : Type 0 where
   pub in_row : length r.objects < m → length r.grades ≡ 0
   pub after_row : r.done ≡ false → m ≤ length r.objects → (0 < length r.waiting) × (length r.grades < m) × (slice_index r.objects (length r.grades) ≢ first_or_zero r.waiting)
 
--- what a machine keeps
-pub record IsKept (e : Tree) (k room : ℕ) (log : Log) (board : Held) (r : Reading) : Type 0 where
-  pub lists : log.lists ≡ list_count e
-  pub some_list : 1 ≤ log.lists
-  pub few_lists : log.lists ≤ 8
-  pub asked : 1 ≤ k
-  pub fits : k ≤ log.count
-  pub counted : log.count ≤ 200000
-  pub roomy : 1 ≤ room
-  pub room_fits : room ≤ log.count
+-- what is kept over m lists of n objects after the accesses A
+pub record IsKept (e : Tree) (k room m n : ℕ) (A : List Access) (board : Held) (r : Reading) : Type 0 where
+  pub base : IsHeld e k room m n A
   pub same_k : board.k ≡ k
-  pub sound : IsSound log.lists log.accesses r
-  pub rest : IsAtRest log.lists r
-  pub agreeing : SomeAgrees log.lists log.count log.accesses
-  pub on_table : (D : List (List Row)) → Agrees log.lists log.count D log.accesses → OnTable (value e) k log.count D log.accesses r board.items
+  pub same_room : board.room ≡ room
+  pub sound : IsSound m A r
+  pub rest : IsAtRest m r
+  pub on_table : (D : List (List Row)) → Agrees m n D A → OnTable (value e) k n D A r board.items
+
+abbrev pub Keeps : Base → Held → Reading → Type 0
+Keeps base board r = IsKept base.expr base.k base.room base.transcript.lists base.transcript.count base.transcript.accesses board r

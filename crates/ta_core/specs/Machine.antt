@@ -1,13 +1,13 @@
 -- What a machine of the threshold algorithm makes and answers.
 use Rattle.std.specs.Prelude.{List}
 use Rattle.ranked_list.specs.declared.item.Item.{Item}
-use Rattle.topk_theory.specs.Threshold.{ta_run, ta_answer}
-use Rattle.access_log.specs.Machine.{Machine, MakesRun, IsAnswerBy}
+use Rattle.topk_theory.specs.Asked.{threshold_run, threshold_answer}
+use Rattle.access_log.specs.Machine.{MachineState, MakesRun, IsAnswerBy}
 
 -- the machine makes the run of the threshold algorithm
-abbrev pub MakesItsRun : Machine → Type 0
-MakesItsRun t = MakesRun ta_run t
+abbrev pub MakesItsRun : MachineState → Type 0
+MakesItsRun t = MakesRun threshold_run t
 
 -- the items are the answer of the threshold algorithm
-abbrev pub IsAnswer : Machine → List Item → Type 0
-IsAnswer t items = IsAnswerBy ta_answer t items
+abbrev pub IsAnswer : MachineState → List Item → Type 0
+IsAnswer t items = IsAnswerBy threshold_answer t items

@@ -1,20 +1,15 @@
 -- Where a machine is in the run of the threshold algorithm on a table that agrees with its transcript.
-use Rattle.std.specs.Prelude.{◌≡◌, ◌≢◌, ◌<◌, ◌≤◌, ℕ, ◌-◌, false, not, List, [], ◌∷◌, ◌++◌, length, map, take, drop, filter, AllPairs, Contains, MatchBool, nat_lt}
+use Rattle.std.specs.Prelude.{◌≡◌, ◌≢◌, ◌<◌, ℕ, ◌-◌, false, not, List, [], ◌∷◌, ◌++◌, length, map, take, drop, filter, AllPairs, Contains, MatchBool, nat_lt}
 use Rattle.std.specs.List.{flat_map}
 use Rattle.ranked_list.specs.declared.row.Row.{Row}
 use Rattle.ranked_list.specs.declared.item.Item.{Item}
-use Rattle.best_k.specs.Order.{AreDistinct}
+use Rattle.topk_theory.specs.Order.{AreDistinct}
 use Rattle.topk_theory.specs.declared.access.Access.{Access}
 use Rattle.topk_theory.specs.Aggregate.{objects_of, grades_of}
 use Rattle.topk_theory.specs.Transcript.{each_once, seen_objects}
-use Rattle.topk_theory.specs.Threshold.{row_at, stands, sorted_block, random_block, ta_stop, ta_run_to, ta_run, scored}
+use Rattle.topk_theory.specs.Threshold.{row_at, stands, random_block, ta_stop, ta_run_to, ta_run, scored}
+use Rattle.machine_base.specs.Depths.{IsReached, read_to}
 use Rattle.ta_core.specs.Reading.{Reading}
-
--- the depth is one of the table's, and the algorithm stops at none above it
-pub record IsDepth (V : List ℕ → ℕ) (k n : ℕ) (D : List (List Row)) (depth : ℕ) : Type 0 where
-  pub positive : 1 ≤ depth
-  pub within : depth ≤ n
-  pub unstopped : (above : ℕ) → 1 ≤ above → above < depth → ta_stop V k D above ≡ false
 
 -- the objects and the grades of lists at a depth
 abbrev pub objects_at : ℕ → List (List Row) → List ℕ
@@ -25,12 +20,12 @@ bottoms_at depth lists = map (λ rows. (row_at rows depth).grade) lists
 
 -- in a row: its first lists are read, and those of its objects that are new wait
 pub record OnRow (V : List ℕ → ℕ) (k n : ℕ) (D : List (List Row)) (A : List Access) (r : Reading) : Type 0 where
-  pub at : IsDepth V k n D r.depth
+  pub at : IsReached (ta_stop V k D) n r.depth
   pub unread : length r.objects < length D
   pub objects_are : r.objects ≡ objects_at r.depth (take (length r.objects) D)
   pub bottoms_are : r.bottoms ≡ bottoms_at r.depth (take (length r.objects) D)
   pub waiting_are : r.waiting ≡ filter (λ object. not (stands D (r.depth - 1) object)) (each_once r.objects)
-  pub made : A ≡ ta_run_to D (r.depth - 1) ++ sorted_block 0 r.depth (take (length r.objects) D)
+  pub made : A ≡ read_to (ta_run_to D) D r.depth (length r.objects)
 
 -- the random accesses to come of the objects that wait, where these grades of the first are there
 abbrev pub asks : List (List Row) → ℕ → List ℕ → List ℕ → List Access
@@ -44,7 +39,7 @@ AreFirstGrades D (object ∷ waiting) grades = grades ≡ take (length grades) (
 
 -- the row is read, and what is missing of the grades of its new objects is to come
 pub record OnAsks (V : List ℕ → ℕ) (k n : ℕ) (D : List (List Row)) (A : List Access) (r : Reading) : Type 0 where
-  pub at : IsDepth V k n D r.depth
+  pub at : IsReached (ta_stop V k D) n r.depth
   pub objects_are : r.objects ≡ objects_at r.depth D
   pub bottoms_are : r.bottoms ≡ bottoms_at r.depth D
   pub new : (object : ℕ) → Contains r.waiting object → (stands D (r.depth - 1) object ≡ false) × Contains (objects_of D) object

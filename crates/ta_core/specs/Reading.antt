@@ -4,7 +4,7 @@ use Rattle.ranked_list.specs.declared.row.Row.{Row}
 use Rattle.ranked_list.specs.declared.item.Item.{Item}
 use Rattle.ranked_list.specs.declared.need.Need.{Need}
 use Rattle.ranked_list.specs.declared.need.Need.TheVariants.{Row as RowAt, Grade, Done}
-use Rattle.best_k.specs.Order.{lows}
+use Rattle.topk_theory.specs.Order.{lows}
 use Rattle.best_k.specs.Held.{put_item}
 
 -- the depth of the row, its objects and grades so far, its new objects whose grades are not all there yet,

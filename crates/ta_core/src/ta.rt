@@ -1,33 +1,27 @@
 //! The machine.
 
-ghost use Rattle.std.specs.Prelude.{◌≡◌, ◌≢◌, ◌<◌, ◌-◌, ◌^◌, ◌==◌, if◌then◌else◌, length, OnOk, OnErr, Contains};
-ghost use Rattle.ranked_list.specs.declared.item.Item.{Item};
+ghost use Rattle.std.specs.Prelude.{◌≡◌, ◌<◌, ◌-◌, ◌^◌, ◌==◌, if◌then◌else◌, length, OnOk, OnErr};
 ghost use Rattle.best_k.specs.Held.{Held};
-ghost use Rattle.monotone_fn.specs.Shape.{list_count};
 ghost use Rattle.monotone_fn.specs.Value.{value};
 ghost use Rattle.monotone_fn.specs.Limits.{AreGrades};
-ghost use Rattle.access_log.specs.Log.{with_access, IsConsistent};
-ghost use Rattle.ta_core.specs.Reading.{enough, items_after, followed, first_or_zero};
+ghost use Rattle.machine_base.specs.Base.{Holds, IsTold, MayFollow};
+ghost use Rattle.ta_core.specs.Reading.{enough, items_after, followed};
 ghost use Rattle.ta_core.specs.Shown.{reading_of};
 
-use super::Memory;
 use super::progress::Progress;
 use access_log::{Access, Answer, CoreFault, Transcript};
 use best_k::Board;
+use machine_base::{Base, Memory, Need};
 use monotone_fn::{Costs, Expr};
-use ranked_list::{Need, Row};
+use ranked_list::Row;
 use std::alloc::Global;
 use std::marker::Model;
 
 /// The threshold algorithm on one query. It says which access it needs next, and is fed what that
-/// access gave. Contracts see it as a `Machine`.
-#[derive(Debug, Drop)]
+/// access gave. Contracts see it as a `MachineState`.
+#[derive(Drop)]
 pub struct Ta {
-    expr: Expr,
-    k: u32,
-    room: u32,
-    costs: Costs,
-    transcript: Transcript,
+    base: Base,
     board: Board,
     progress: Progress,
 }
@@ -35,25 +29,25 @@ pub struct Ta {
 impl Model for Ta {
     ghost use Rattle.std.specs.Coded.{codes};
     ghost use Rattle.monotone_fn.specs.Code.{tree_code};
-    ghost use Rattle.access_log.specs.Machine.{Machine};
+    ghost use Rattle.access_log.specs.Machine.{MachineState};
 
-    ghost Value = { Machine };
+    ghost Value = { MachineState };
 
     ghost coded = { Prim.hlevel (codes, tree_code) };
 
     ghost use Rattle.ta_core.specs.Reading.{need_at};
     ghost use Rattle.ta_core.specs.Shown.{reading_of};
-    ghost use Rattle.ta_core.specs.Kept.{IsKept};
+    ghost use Rattle.machine_base.specs.Base.{shown};
+    ghost use Rattle.ta_core.specs.Kept.{Keeps};
 
-    ghost view = { λ a. record { expr = a.expr; k = a.k; room = a.room; costs = a.costs; log = a.transcript; need = need_at a.transcript.lists (reading_of a.progress) } };
+    ghost view = { λ a. shown a.base (need_at a.base.transcript.lists (reading_of a.progress)) };
 
-    ghost invariant = { λ a. IsKept a.expr a.k a.room a.transcript a.board (reading_of a.progress) };
+    ghost invariant = { λ a. Keeps a.base a.board (reading_of a.progress) };
 }
 
 impl Ta {
-    ghost use Rattle.std.specs.Prelude.{◌≡◌, ◌≤◌, min, [], IfOk};
-    ghost use Rattle.monotone_fn.specs.Shape.{list_count};
-    ghost use Rattle.access_log.specs.Machine.{MayBeNextRow, MayBeNextGrade, RowFed, GradeFed};
+    ghost use Rattle.std.specs.Prelude.{◌≡◌, ◌≤◌, IfOk};
+    ghost use Rattle.access_log.specs.Machine.{IsBegun, IsInRange, MayBeNextRow, MayBeNextGrade, RowFed, GradeFed, IsSameLog};
     ghost use Rattle.ta_core.specs.Machine.{MakesItsRun, IsAnswer};
 
     /// A machine for the first `k` of `count` objects, that sees `room` of them at most.
@@ -69,23 +63,14 @@ impl Ta {
         requires fits { k ≤ count }
         requires counted { count ≤ 200000 }
         requires roomy { 1 ≤ room }
-        ensures made { IfOk result (λ t. (t.expr ≡ expr) × (t.k ≡ k) × (t.room ≡ min room count) × (t.costs ≡ costs)
-            × (t.log ≡ record { lists = list_count expr; count = count; accesses = [] })) }
+        ensures begun { IfOk result (IsBegun expr k count room costs) }
         ensures run { IfOk result MakesItsRun }
     {
-        let room = room.min(count);
-        let Ok(transcript) = Transcript::make(alloc, expr.lists(), count) else {
-            return Err(Memory);
-        };
-        let Ok(board) = Board::make(alloc, k, room) else {
+        let Ok(board) = Board::make(alloc, k, room.min(count)) else {
             return Err(Memory);
         };
         Ok(Ta {
-            expr,
-            k,
-            room,
-            costs,
-            transcript,
+            base: Base::make(alloc, expr, k, count, room, costs)?,
             board,
             progress: Progress::at(1),
         })
@@ -95,8 +80,9 @@ impl Ta {
     pub fn need(&self) -> Need
         ensures need { result ≡ self.now.need }
         ensures run { MakesItsRun self.now }
+        ensures range { IsInRange self.now.log result }
     {
-        self.progress.need(self.transcript.lists())
+        self.progress.need(self.base.transcript.lists())
     }
 
     /// Tells the row that is needed. Where it is refused nothing has changed.
@@ -105,25 +91,18 @@ impl Ta {
         ensures fed { RowFed row self.old self.new result }
         ensures run { MakesItsRun self.new }
     {
-        let is_new = !self.transcript.is_seen(row.object);
-        if is_new && self.transcript.seen() >= self.room {
-            return Err(CoreFault::of_room(self.transcript.count(), self.room, row.object));
-        }
+        let is_new = self.base.test_room(row.object)?;
         let access = Access::Sorted {
             list: self.progress.objects.len() as u8,
             object: row.object,
             grade: row.grade,
         };
         let mut next = self.progress.copy();
-        next.add_row(self.transcript.lists(), row, is_new);
-        tell(
-            &self.expr,
-            &mut self.transcript,
-            &mut self.board,
-            access,
-            &next,
-        )?;
-        self.progress = follow(&self.expr, &self.board, next);
+        next.add_row(self.base.transcript.lists(), row, is_new);
+        let Ok(()) = tell(&mut self.base, &mut self.board, access, &next) else {
+            return Err(CoreFault::Memory);
+        };
+        self.progress = follow(&self.base, &self.board, next);
         Ok(())
     }
 
@@ -140,14 +119,10 @@ impl Ta {
         };
         let mut next = self.progress.copy();
         next.add_grade(grade);
-        tell(
-            &self.expr,
-            &mut self.transcript,
-            &mut self.board,
-            access,
-            &next,
-        )?;
-        self.progress = follow(&self.expr, &self.board, next);
+        let Ok(()) = tell(&mut self.base, &mut self.board, access, &next) else {
+            return Err(CoreFault::Memory);
+        };
+        self.progress = follow(&self.base, &self.board, next);
         Ok(())
     }
 
@@ -156,80 +131,63 @@ impl Ta {
         ensures log { result.now ≡ self.now.log }
         ensures run { MakesItsRun self.now }
     {
-        &self.transcript
+        &self.base.transcript
     }
 
     /// The costs that it was made with.
     pub fn costs(&self) -> Costs
         ensures { result ≡ self.now.costs }
     {
-        self.costs
+        self.base.costs
     }
 
     /// The answer, once nothing is needed: the first k objects by aggregate falling, then by id rising,
     /// each with its aggregate as both bounds, and the transcript.
     pub fn answer(self) -> Result<Answer, Memory>
         requires { self.need ≡ Need.Done }
+        ensures run { MakesItsRun self }
         ensures items { IfOk result (λ answer. IsAnswer self answer.items) }
-        ensures transcript { IfOk result (λ answer. answer.transcript ≡ self.log) }
+        ensures transcript { IfOk result (λ answer. IsSameLog answer.transcript self.log) }
     {
         let Ta {
-            expr: _,
-            k: _,
-            room: _,
-            costs: _,
-            transcript,
+            base,
             board,
             progress: _,
         } = self;
+        let transcript = base.into_transcript();
         match board.first() {
             Ok(items) => Ok(Answer { items, transcript }),
-            Err(_) => Err(Memory),
+            Err(_) => {
+                drop(transcript);
+                Err(Memory)
+            }
         }
     }
 }
 
 /// Tells an access: the transcript takes it, and an object that has all its grades then is put on the
 /// board. Where memory is refused nothing has changed.
-fn tell(
-    expr: &Expr,
-    transcript: &mut Transcript,
-    board: &mut Board,
-    access: Access,
-    next: &Progress,
-) -> Result<(), Memory>
-    requires lists { transcript.old.lists ≡ list_count expr.now }
+fn tell(base: &mut Base, board: &mut Board, access: Access, next: &Progress) -> Result<(), Memory>
+    requires held { Holds base.old }
+    requires follows { MayFollow base.old.room base.old.transcript.accesses access }
     requires grades { AreGrades next.now.grades.items }
-    requires waits { length next.now.grades.items ≡ list_count expr.now → 0 < length next.now.waiting.items }
-    requires absent { length next.now.grades.items ≡ list_count expr.now
-        → (item : Item) → Contains board.old.items item → item.object ≢ first_or_zero next.now.waiting.items }
-    ensures told { OnOk result (transcript.new ≡ with_access transcript.old access) }
-    ensures agrees { OnOk result (IsConsistent transcript.new) }
+    requires waits { length next.now.grades.items ≡ base.old.transcript.lists → 0 < length next.now.waiting.items }
+    requires room { length next.now.grades.items ≡ base.old.transcript.lists → length board.old.items < board.old.room }
+    ensures told { OnOk result (IsTold access base.old base.new) }
+    ensures held { Holds base.new }
     ensures put { OnOk result (board.new ≡ record board.old {
       items =
-          items_after (value expr.now) (list_count expr.now) board.old.items (reading_of next.now);
+          items_after (value base.old.expr) base.old.transcript.lists board.old.items (reading_of next.now);
     }) }
-    ensures unchanged { OnErr result (transcript.new ≡ transcript.old) }
+    ensures unchanged { OnErr result (base.new ≡ base.old) }
     ensures kept { OnErr result (board.new ≡ board.old) }
 {
-    if !next.is_scored(expr.lists()) {
-        return match transcript.push(access) {
-            Ok(()) => Ok(()),
-            Err(_) => Err(Memory),
-        };
+    base.tell(access)?;
+    if next.is_scored(base.transcript.lists()) {
+        let aggregate = base.expr.eval(next.grades.as_slice());
+        board.put(next.waiting[0], aggregate, aggregate);
     }
-    let object = next.waiting[0];
-    let aggregate = expr.eval(next.grades.as_slice());
-    let Ok(()) = board.put(object, aggregate, aggregate) else {
-        return Err(Memory);
-    };
-    match transcript.push(access) {
-        Ok(()) => Ok(()),
-        Err(_) => {
-            board.remove(object);
-            Err(Memory)
-        }
-    }
+    Ok(())
 }
 
 /// Whether at least k on the board have an aggregate of at least the bound.
@@ -244,20 +202,21 @@ fn has_enough(board: &Board, bound: u64) -> bool
 
 /// What follows an access that is told: the object that has all its grades waits no more, and a whole
 /// row is the last one, where the algorithm stops, or makes room for the next.
-fn follow(expr: &Expr, board: &Board, next: Progress) -> Progress
+fn follow(base: &Base, board: &Board, next: Progress) -> Progress
+    requires held { Holds base.now }
     requires bottoms { AreGrades next.bottoms.items }
     requires same { length next.bottoms.items ≡ length next.objects.items }
-    requires waits { length next.grades.items ≡ list_count expr.now → 0 < length next.waiting.items }
+    requires waits { length next.grades.items ≡ base.now.transcript.lists → 0 < length next.waiting.items }
     requires deep { next.depth < 2 ^ 32 - 1 }
-    ensures { reading_of result ≡ followed (value expr.now) board.now.k (list_count expr.now) board.now.items (reading_of next) }
+    ensures { reading_of result ≡ followed (value base.now.expr) board.now.k base.now.transcript.lists board.now.items (reading_of next) }
 {
-    let lists = expr.lists();
+    let lists = base.transcript.lists();
     let mut next = next;
     next.settle(lists);
     if !next.is_whole(lists) {
         return next;
     }
-    let threshold = expr.eval(next.bottoms.as_slice());
+    let threshold = base.expr.eval(next.bottoms.as_slice());
     if has_enough(board, threshold) {
         next.done = true;
         return next;

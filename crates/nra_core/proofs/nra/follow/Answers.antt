@@ -1,24 +1,27 @@
 use Rattle.std.proofs.Common.{sym, ap, subst, ◌∙◌, arith}
-use Rattle.best_k.specs.Order.{AreDistinct, in_order}
-use Rattle.monotone_fn.specs.Shape.{list_count}
+use Rattle.topk_theory.specs.Order.{AreDistinct, in_order}
 use Rattle.monotone_fn.specs.Value.{value}
 use Rattle.nra_core.proofs.Seen.{distinct_bounded, bounded_in_order, after_last}
 use Rattle.nra_core.proofs.nra.follow.Goals as goal
 
 pub put_in_order-requires : goal.put_in_order-requires
 put_in_order-requires c =
-    subst AreDistinct (sym c.bound.ensures) (distinct_bounded (value c.args.expr.now) c.args.transcript.now.lists c.args.transcript.now.accesses c.args.items.now c.requires.seen.distinct)
+    let b = c.args.base.now in
+    subst AreDistinct (sym c.bound.ensures) (distinct_bounded (value b.expr) b.transcript.lists b.transcript.accesses c.args.items.now c.requires.seen.distinct)
 
 pub is_quiet-requires-clause-ordered : goal.is_quiet-requires-clause-ordered
 is_quiet-requires-clause-ordered c =
-    c.put_in_order.ensures ∙ ap in_order c.bound.ensures ∙ bounded_in_order (value c.args.expr.now) c.args.transcript.now.lists c.args.transcript.now.accesses c.args.items.now c.requires.seen
+    let b = c.args.base.now in
+    c.put_in_order.ensures ∙ ap in_order c.bound.ensures ∙ bounded_in_order (value b.expr) b.transcript.lists b.transcript.accesses c.args.items.now c.requires.seen
 
 pub returns-then-is_quiet-clause-items : goal.returns-then-is_quiet-clause-items
 returns-then-is_quiet-clause-items c =
-    after_last (value c.args.expr.now) c.args.transcript.now.lists (list_count c.args.expr.now) c.args.transcript.now.accesses c.args.place.list c.args.items.now c.put_in_order.new.items c.requires.lists (omega (arith, c.if-place-lists.false, c.lists-lists.ensures.lists))
-    (c.put_in_order.ensures ∙ ap in_order c.bound.ensures ∙ bounded_in_order (value c.args.expr.now) c.args.transcript.now.lists c.args.transcript.now.accesses c.args.items.now c.requires.seen)
+    let b = c.args.base.now in
+    after_last (value b.expr) b.transcript.lists b.transcript.accesses c.args.place.list c.args.items.now c.put_in_order.new.items (omega (arith, c.if-place-lists.false, c.lists.ensures.lists))
+    (c.put_in_order.ensures ∙ ap in_order c.bound.ensures ∙ bounded_in_order (value b.expr) b.transcript.lists b.transcript.accesses c.args.items.now c.requires.seen)
 
 pub returns-clause-items : goal.returns-clause-items
 returns-clause-items c =
-    after_last (value c.args.expr.now) c.args.transcript.now.lists (list_count c.args.expr.now) c.args.transcript.now.accesses c.args.place.list c.args.items.now c.put_in_order.new.items c.requires.lists (omega (arith, c.if-place-lists.false, c.lists-lists.ensures.lists))
-    (c.put_in_order.ensures ∙ ap in_order c.bound.ensures ∙ bounded_in_order (value c.args.expr.now) c.args.transcript.now.lists c.args.transcript.now.accesses c.args.items.now c.requires.seen)
+    let b = c.args.base.now in
+    after_last (value b.expr) b.transcript.lists b.transcript.accesses c.args.place.list c.args.items.now c.put_in_order.new.items (omega (arith, c.if-place-lists.false, c.lists.ensures.lists))
+    (c.put_in_order.ensures ∙ ap in_order c.bound.ensures ∙ bounded_in_order (value b.expr) b.transcript.lists b.transcript.accesses c.args.items.now c.requires.seen)

@@ -1,6 +1,6 @@
 use Rattle.std.proofs.Common.{◌∙◌, map, ap}
 use Rattle.monotone_fn.specs.Value.{value}
-use Rattle.best_k.specs.Order.{first_k}
+use Rattle.topk_theory.specs.Order.{first_k}
 use Rattle.topk_theory.specs.Threshold.{scored, objects_to}
 use Rattle.plain_run.proofs.Apart.{scored_apart}
 use Rattle.plain_run.proofs.threshold.ta_answer.Goals as goal

@@ -2,14 +2,25 @@ use Rattle.std.proofs.Common.{◌≡◌, subst, ap, ◌∙◌}
 use Rattle.ranked_list.specs.declared.need.Need.TheVariants.{Done}
 use Rattle.ta_core.specs.Reading.{need_at}
 use Rattle.ta_core.specs.Shown.{reading_of}
-use Rattle.access_log.specs.Machine.{Machine}
-use Rattle.ta_core.specs.Machine.{IsAnswer}
+use Rattle.access_log.specs.Machine.{MachineState}
+use Rattle.ta_core.specs.Machine.{MakesItsRun, IsAnswer}
+use Rattle.ta_core.proofs.Runs.{kept_makes}
 use Rattle.ta_core.proofs.Answering.{answers}
 use Rattle.ta_core.proofs.ta.Ta.answer.Goals as goal
 
 pub returns-in-Ok-clause-items : goal.returns-in-Ok-clause-items
 returns-in-Ok-clause-items c =
     let a = c.self.inside in
-    let done : need_at a.transcript.lists (reading_of a.progress) ≡ Done = ap (λ (t : Machine). t.need) c.self.view_is ∙ c.requires in
-    subst (λ (t : Machine). IsAnswer t c.in-Ok.items) c.self.view_is
-    (answers a.expr a.k a.room a.costs a.transcript a.board (reading_of a.progress) c.in-Ok.items c.self.invariant done c.in-Ok.ensures.only)
+    let done : need_at a.base.transcript.lists (reading_of a.progress) ≡ Done = ap (λ (t : MachineState). t.need) c.self.view_is ∙ c.requires in
+    subst (λ (t : MachineState). IsAnswer t c.in-Ok.items) c.self.view_is
+    (answers a.base a.board (reading_of a.progress) c.in-Ok.items c.self.invariant done c.in-Ok.ensures.only)
+
+pub returns-in-Ok-clause-run : goal.returns-in-Ok-clause-run
+returns-in-Ok-clause-run c =
+    let a = c.self.inside in
+    subst MakesItsRun c.self.view_is (kept_makes a.base a.board (reading_of a.progress) c.self.invariant)
+
+pub returns-in-Err-clause-run : goal.returns-in-Err-clause-run
+returns-in-Err-clause-run c =
+    let a = c.self.inside in
+    subst MakesItsRun c.self.view_is (kept_makes a.base a.board (reading_of a.progress) c.self.invariant)

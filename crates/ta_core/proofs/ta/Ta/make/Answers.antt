@@ -1,6 +1,6 @@
-use Rattle.std.proofs.Common.{◌≡◌, [], subst, sym, ap, ◌∙◌, arith}
-use Rattle.monotone_fn.specs.Shape.{list_count}
-use Rattle.access_log.specs.Log.{Log}
+use Rattle.std.proofs.Common.{[], subst, sym, ◌∙◌}
+use Rattle.machine_base.specs.declared.base.Base.{Base}
+use Rattle.machine_base.specs.Base.{IsHeld}
 use Rattle.ta_core.specs.Reading.{Reading}
 use Rattle.ta_core.specs.Shown.{reading_of}
 use Rattle.ta_core.specs.Kept.{IsKept}
@@ -10,12 +10,14 @@ use Rattle.ta_core.proofs.ta.Ta.make.Goals as goal
 
 pub invariant_of-result : goal.invariant_of-result
 invariant_of-result c =
-    let empty : Log = record { lists = list_count c.args.expr; count = c.args.count; accesses = [] } in
-    let log : c.in-Ok.transcript ≡ empty = c.in-Ok.ensures ∙ ap (λ m. record { lists = m; count = c.args.count; accesses = [] }) c.lists.ensures.lists in
-    subst (λ (l : Log). IsKept c.args.expr c.args.k c.min-room.result l c.in-Ok-make.board (reading_of c.at.result)) (sym log)
-    (subst (λ (r : Reading). IsKept c.args.expr c.args.k c.min-room.result empty c.in-Ok-make.board r) (sym c.at.ensures)
-    (kept_start c.args.expr c.args.k c.min-room.result c.args.count c.in-Ok-make.board c.lists.ensures.made.lists c.requires.asked c.requires.fits c.requires.counted (omega (arith, c.min-room.ensures)) (omega (arith, c.min-room.ensures)) c.in-Ok-make.ensures.same_k c.in-Ok-make.ensures.empty))
+    let base : Base = c.in_ok-make.field-0 in
+    let m = base.transcript.lists in
+    let n = base.transcript.count in
+    let board = c.in-Ok.board in
+    let begun = c.in_ok-make.ensures.begun in
+    subst (λ A. IsKept base.expr base.k base.room m n A board (reading_of c.at.result)) (sym begun.none)
+    (subst (λ (r : Reading). IsKept base.expr base.k base.room m n [] board r) (sym c.at.ensures)
+    (kept_start base.expr base.k base.room m n board (subst (IsHeld base.expr base.k base.room m n) begun.none c.in_ok-make.ensures.held) (c.in-Ok.ensures.same_k ∙ sym begun.asked) (c.in-Ok.ensures.same_room ∙ c.min.ensures ∙ sym begun.in_force) c.in-Ok.ensures.empty))
 
 pub returns-clause-run : goal.returns-clause-run
-returns-clause-run c =
-    kept_makes c.args.expr c.args.k c.min-room.result c.args.costs c.in-Ok.transcript c.in-Ok-make.board (reading_of c.at.result) (invariant_of-result c)
+returns-clause-run c = kept_makes c.in_ok-make.field-0 c.in-Ok.board (reading_of c.at.result) (invariant_of-result c)

@@ -1,4 +1,8 @@
-use Rattle.std.proofs.Common.{subst}
+use Rattle.std.proofs.Common.{◌≡◌, subst, sym, ap, ◌∙◌}
+use Rattle.topk_theory.specs.Asked.{threshold_run}
+use Rattle.access_log.specs.Machine.{MachineState, IsInRange}
+use Rattle.access_log.proofs.MachineLaws.{in_range}
+use Rattle.ta_core.specs.Reading.{need_at}
 use Rattle.ta_core.specs.Machine.{MakesItsRun}
 use Rattle.ta_core.specs.Shown.{reading_of}
 use Rattle.ta_core.proofs.Runs.{kept_makes}
@@ -7,4 +11,11 @@ use Rattle.ta_core.proofs.ta.Ta.need.Goals as goal
 pub returns-clause-run : goal.returns-clause-run
 returns-clause-run c =
     let a = c.self.inside in
-    subst MakesItsRun c.self.view_is (kept_makes a.expr a.k a.room a.costs a.transcript a.board (reading_of a.progress) c.self.invariant)
+    subst MakesItsRun c.self.view_is (kept_makes a.base a.board (reading_of a.progress) c.self.invariant)
+
+pub returns-clause-range : goal.returns-clause-range
+returns-clause-range c =
+    let a = c.self.inside in
+    let same : c.need.result ≡ c.args.self.now.need =
+    c.need.ensures ∙ ap (λ m. need_at m (reading_of a.progress)) c.lists.ensures.lists ∙ ap (λ (t : MachineState). t.need) c.self.view_is in
+    subst (IsInRange c.args.self.now.log) (sym same) (in_range threshold_run c.args.self.now (returns-clause-run c))

@@ -1,0 +1,190 @@
+//! One driver for the machines of all algorithms, over lists that a test gives, which need be no table.
+
+ghost use Rattle.std.specs.Prelude.{◌≡◌, [], IfOk};
+ghost use Rattle.access_log.specs.Log.{IsWithinLimits};
+ghost use Rattle.access_log.specs.Machine.{MachineState, MayBeNextRow, MayBeNextGrade, IsOneMore, IsOfSeen, row_access, grade_access};
+ghost use Rattle.core_tests.specs.Wide.{IsWide};
+
+use access_log::{Access, Answer, CoreFault, Transcript};
+use monotone_fn::Costs;
+use nra_core::Nra;
+use query_text::{Algorithm, Query, read};
+use ranked_list::{Need, Row};
+use std::alloc::Global;
+use std::process::Abort;
+use std::test::Fail;
+use ta_core::Ta;
+
+/// The lists of a query, each a list of objects and grades.
+pub(crate) type Lists<'a> = &'a [&'a [(u32, u32)]];
+
+/// A machine that is driven.
+pub(crate) trait Driven: Sized {
+    ghost state: { Self → MachineState };
+
+    fn needed(&self) -> Need
+        ensures need { result ≡ (state self.now).need }
+        ensures tame { IsOfSeen (state self.now).log result };
+
+    /// How many lists there are.
+    fn lists(&self) -> u8
+        ensures lists { result ≡ (state self.now).log.lists }
+        ensures limits { IsWithinLimits result (state self.now).log.count };
+
+    fn take_row(&mut self, row: Row) -> Option<CoreFault>
+        requires { MayBeNextRow (state self.old).log (state self.old).need row }
+        ensures { result ≡ None
+            → IsOneMore (row_access (state self.old).need row) (state self.old).log (state self.new).log };
+
+    fn take_grade(&mut self, grade: u32) -> Result<Option<CoreFault>, Fail>
+        requires { MayBeNextGrade (state self.old).log (state self.old).need grade }
+        ensures { IfOk result (λ fault. fault ≡ None
+            → IsOneMore (grade_access (state self.old).need grade) (state self.old).log (state self.new).log) };
+
+    fn finish(self) -> Result<Answer, Fail>
+        requires { (state self).need ≡ Need.Done };
+}
+
+impl Driven for Ta {
+    ghost state = { λ t. t };
+
+    fn needed(&self) -> Need {
+        self.need()
+    }
+
+    fn lists(&self) -> u8 {
+        self.transcript().lists()
+    }
+
+    fn take_row(&mut self, row: Row) -> Option<CoreFault> {
+        self.feed_row(row).err()
+    }
+
+    fn take_grade(&mut self, grade: u32) -> Result<Option<CoreFault>, Fail> {
+        Ok(self.feed_grade(grade).err())
+    }
+
+    fn finish(self) -> Result<Answer, Fail> {
+        Ok(self.answer()?)
+    }
+}
+
+impl Driven for Nra {
+    ghost state = { λ t. t };
+
+    fn needed(&self) -> Need {
+        self.need()
+    }
+
+    fn lists(&self) -> u8 {
+        self.transcript().lists()
+    }
+
+    fn take_row(&mut self, row: Row) -> Option<CoreFault> {
+        self.feed_row(row).err()
+    }
+
+    fn take_grade(&mut self, _grade: u32) -> Result<Option<CoreFault>, Fail> {
+        Err("a row or the end")?
+    }
+
+    fn finish(self) -> Result<Answer, Fail> {
+        Ok(self.answer()?)
+    }
+}
+
+fn row_at(lists: Lists<'_>, list: u8, depth: u32) -> Option<Row> {
+    let rows = lists.get(list as usize)?;
+    let (object, grade) = *rows.get((depth as usize).checked_sub(1)?)?;
+    Some(Row { object, grade })
+}
+
+fn grade_of(lists: Lists<'_>, list: u8, object: u32) -> Option<u32> {
+    let rows = lists.get(list as usize)?;
+    rows.iter().find(|row| row.0 == object).map(|row| row.1)
+}
+
+/// Feeds a machine what it needs from the lists, and says why it refused it. What is fed is tried first
+/// on a transcript of many objects, for which none is one too many.
+fn feed<M: Driven>(
+    machine: &mut M,
+    wide: &mut Transcript,
+    lists: Lists<'_>,
+) -> Result<Option<CoreFault>, Fail>
+    requires { IsWide wide.old (M.state machine.old).log }
+    ensures { IfOk result (λ fault. fault ≡ None → IsWide wide.new (M.state machine.new).log) }
+{
+    match machine.needed() {
+        Need::Row { list, depth } => {
+            let row = row_at(lists, list, depth).ok_or("a row")?;
+            wide.push(Access::Sorted {
+                list,
+                object: row.object,
+                grade: row.grade,
+            })?;
+            Ok(machine.take_row(row))
+        }
+        Need::Grade { list, object } => {
+            let grade = grade_of(lists, list, object).ok_or("a grade")?;
+            wide.push(Access::Random {
+                list,
+                object,
+                grade,
+            })?;
+            machine.take_grade(grade)
+        }
+        Need::Done => Ok(None),
+    }
+}
+
+/// Feeds a machine from the lists until it answers or refuses a row.
+fn drive<M: Driven + Drop>(
+    alloc: Global,
+    machine: M,
+    lists: Lists<'_>,
+) -> Result<Result<Answer, CoreFault>, Fail>
+    requires { (M.state machine).log.accesses ≡ [] }
+{
+    let mut machine = machine;
+    let mut wide = Transcript::make(alloc, machine.lists(), 200_000)?;
+    for _step in 0..1000 {
+        if machine.needed() == Need::Done {
+            return Ok(Ok(machine.finish()?));
+        }
+        if let Some(fault) = feed(&mut machine, &mut wide, lists)? {
+            return Ok(Err(fault));
+        }
+    }
+    Err("an end")?
+}
+
+/// The outcome of a query's text over lists, the first of which has as many objects as are counted.
+pub(crate) fn run(
+    rt: &impl Abort,
+    alloc: Global,
+    text: &str,
+    lists: Lists<'_>,
+) -> Result<Result<Answer, CoreFault>, Fail> {
+    let count = lists.first().map_or(0, |rows| rows.len());
+    assert!(rt; count < 10, "a few objects");
+    let count = count as u32;
+    let Query {
+        k,
+        names: _,
+        expr,
+        algorithm,
+        cost,
+        room,
+    } = read(alloc, text.as_bytes())?;
+    let room = room.unwrap_or(count);
+    let costs = cost.unwrap_or(Costs {
+        sorted: 1,
+        random: 1,
+    });
+    assert!(rt; 1 <= k && k <= count, "k of them");
+    assert!(rt; 1 <= room, "room for one");
+    match algorithm {
+        Algorithm::Ta => drive(alloc, Ta::make(alloc, expr, k, count, room, costs)?, lists),
+        Algorithm::Nra => drive(alloc, Nra::make(alloc, expr, k, count, room, costs)?, lists),
+    }
+}

@@ -1,0 +1,13 @@
+//! Tests of transcripts and of the machines, row by row.
+#![tactic(auto)]
+
+#[cfg(test)]
+mod driver;
+#[cfg(test)]
+mod no_random;
+#[cfg(test)]
+mod rooms;
+#[cfg(test)]
+mod threshold;
+#[cfg(test)]
+mod transcripts;

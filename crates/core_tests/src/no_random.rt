@@ -1,0 +1,108 @@
+//! Queries by the algorithm without random access, worked out by hand.
+
+use super::driver::{Lists, run};
+use access_log::{Access, CoreFault};
+use std::process::Abort;
+use std::test::Fail;
+
+const THREE: Lists<'static> = &[
+    &[(1, 900), (2, 800), (3, 100)],
+    &[(2, 700), (3, 600), (1, 500)],
+];
+
+/// The first object of list A is ahead of all others before its grade in list B is known.
+const AHEAD: Lists<'static> = &[
+    &[(1, 900), (2, 100), (3, 0)],
+    &[(2, 300), (3, 200), (1, 100)],
+];
+
+/// At depth 2 the highs of the first objects fall to the low of the second one.
+const EQUAL: Lists<'static> = &[&[(1, 10), (2, 8), (3, 0)], &[(3, 10), (2, 8), (1, 0)]];
+
+const ALIKE: Lists<'static> = &[&[(3, 5), (1, 5), (2, 5)], &[(2, 5), (3, 5), (1, 5)]];
+
+/// Lists of two objects each, of three in all.
+const STRANGE: Lists<'static> = &[&[(1, 9), (2, 8)], &[(1, 7), (3, 6)]];
+
+/// Answers with their objects and bounds, and the depth of the two lists.
+#[test]
+fn answers_by_hand(rt: HostRuntime) -> Result<(), Fail> {
+    let cases: [(&str, Lists<'_>, &[(u32, u64, u64)], u32); 5] = [
+        ("top 1 by sum(A,B) using nra", THREE, &[(2, 1500, 1500)], 2),
+        ("top 1 by sum(A,B) using nra", AHEAD, &[(1, 900, 1100)], 2),
+        ("top 1 by min(A,B) using nra room 9", EQUAL, &[(2, 8, 8)], 2),
+        (
+            "top 3 by sum(A,B) using nra",
+            THREE,
+            &[(2, 1500, 1500), (1, 900, 1500), (3, 600, 1400)],
+            2,
+        ),
+        (
+            "top 2 by sum(A,B) using nra",
+            ALIKE,
+            &[(1, 10, 10), (2, 10, 10)],
+            3,
+        ),
+    ];
+    for (text, lists, expected, depth) in cases {
+        let outcome = run(&rt, rt.alloc(), text, lists)?;
+        let answer = outcome.ok().ok_or("an answer")?;
+        assert_eq!(rt; answer.items.len() as usize, expected.len(), "{text}");
+        for (place, (object, low, high)) in expected.iter().enumerate() {
+            assert!(rt; place < 10, "a few");
+            let item = answer.items.get(place as u32).ok_or("an item")?;
+            let told = (item.object, item.low, item.high);
+            assert_eq!(rt; told, (*object, *low, *high), "{text}");
+        }
+        let transcript = answer.transcript;
+        assert_eq!(rt; transcript.lists(), 2);
+        assert_eq!(rt;
+            (transcript.depth(0), transcript.depth(1)),
+            (depth, depth),
+            "{text}"
+        );
+        assert_eq!(rt; transcript.random(), 0, "{text}");
+    }
+    Ok(())
+}
+
+/// The accesses of one query in their order.
+#[test]
+fn reads_in_order(rt: HostRuntime) -> Result<(), Fail> {
+    let outcome = run(&rt, rt.alloc(), "top 1 by sum(A,B) using nra", THREE)?;
+    let transcript = outcome.ok().ok_or("an answer")?.transcript;
+    let expected = [(0, 1, 900), (1, 2, 700), (0, 2, 800), (1, 3, 600)];
+    assert_eq!(rt; transcript.len(), 4);
+    for (place, (list, object, grade)) in expected.iter().enumerate() {
+        let access = Access::Sorted {
+            list: *list,
+            object: *object,
+            grade: *grade,
+        };
+        assert_eq!(rt; transcript.get(place as u64), Some(access), "{place}");
+    }
+    Ok(())
+}
+
+/// A row that is one object too many: for the lists, and for the room that was stated.
+#[test]
+fn refuses_by_name(rt: HostRuntime) -> Result<(), Fail> {
+    let strangers = CoreFault::Strangers {
+        object: 3,
+        count: 2,
+    };
+    let cases = [
+        (
+            "top 1 by sum(A,B) using nra room 1",
+            THREE,
+            CoreFault::RoomFull { room: 1 },
+        ),
+        ("top 2 by sum(A,B) using nra", STRANGE, strangers),
+        ("top 2 by sum(A,B) using nra room 7", STRANGE, strangers),
+    ];
+    for (text, lists, expected) in cases {
+        let outcome = run(&rt, rt.alloc(), text, lists)?;
+        assert_eq!(rt; outcome.err(), Some(expected), "{text}");
+    }
+    Ok(())
+}

@@ -1,0 +1,54 @@
+//! Room that is taken beforehand, and the records that a transcript keeps.
+
+use access_log::{Access, Transcript};
+use room_map::RoomMap;
+use std::test::Fail;
+
+/// A transcript of two lists, for which room was reserved.
+#[test]
+fn keeps_objects_in_the_order_of_first_sight(rt: HostRuntime) -> Result<(), Fail> {
+    let accesses = [
+        Access::Random {
+            list: 1,
+            object: 7,
+            grade: 4,
+        },
+        Access::Sorted {
+            list: 0,
+            object: 5,
+            grade: 9,
+        },
+        Access::Sorted {
+            list: 1,
+            object: 7,
+            grade: 4,
+        },
+    ];
+    let mut log = Transcript::make(rt.alloc(), 2, 3)?;
+    log.reserve(2, 3)?;
+    for access in accesses {
+        log.push(access)?;
+    }
+    assert_eq!(rt; log.seen(), 2);
+    assert_eq!(rt; (log.object_at(0), log.object_at(1)), (5, 7));
+    assert_eq!(rt; (log.place_of(7), log.place_of(6)), (Some(1), None));
+    assert_eq!(rt; log.known(7), [None, Some(4)].as_slice());
+    assert_eq!(rt; log.known(6), [None, None].as_slice());
+    assert_eq!(rt; log.bottoms(), [9, 4].as_slice());
+    Ok(())
+}
+
+/// Keys keep their places where the map is widened.
+#[test]
+fn keeps_places_of_keys(rt: HostRuntime) -> Result<(), Fail> {
+    let mut map = RoomMap::make(rt.alloc(), 1)?;
+    assert!(rt; map.is_empty());
+    assert_eq!(rt; map.add(30), 0);
+    map.widen(2)?;
+    assert_eq!(rt; map.place(20), None);
+    assert_eq!(rt; map.add(20), 1);
+    assert_eq!(rt; (map.place(30), map.place(20)), (Some(0), Some(1)));
+    assert_eq!(rt; (map.key(0), map.key(1)), (30, 20));
+    assert_eq!(rt; map.len(), 2);
+    Ok(())
+}

@@ -1,0 +1,198 @@
+//! Transcripts worked out by hand: what is taken, what is refused and why, and what the readers say.
+
+ghost use Rattle.std.specs.Prelude.{◌≡◌, length, IfOk};
+ghost use Rattle.monotone_fn.specs.Shape.{list_count};
+
+use access_log::{Access, PushFault, Transcript};
+use monotone_fn::{Costs, Expr};
+use query_text::read;
+use std::alloc::Global;
+use std::process::Abort;
+use std::test::Fail;
+
+const fn sorted(list: u8, object: u32, grade: u32) -> Access {
+    Access::Sorted {
+        list,
+        object,
+        grade,
+    }
+}
+
+const fn random(list: u8, object: u32, grade: u32) -> Access {
+    Access::Random {
+        list,
+        object,
+        grade,
+    }
+}
+
+/// Two accesses of two lists of `count` objects are taken, and the third is refused as this kind,
+/// or taken where it is 0.
+fn ends(
+    rt: &impl Abort,
+    alloc: Global,
+    count: u32,
+    accesses: &[Access; 3],
+    kind: u8,
+) -> Result<(), Fail> {
+    assert!(rt; 0 < count && count < 10, "a few objects");
+    let mut log = Transcript::make(alloc, 2, count)?;
+    log.push(accesses[0])?;
+    log.push(accesses[1])?;
+    let expected = if kind == 0 {
+        Ok(())
+    } else {
+        Err(PushFault::Inconsistent { at: 3, kind })
+    };
+    assert_eq!(rt; log.push(accesses[2]), expected, "{count} {accesses:?}");
+    let length = if kind == 0 { 3 } else { 2 };
+    assert_eq!(rt; log.len(), length, "{count} {accesses:?}");
+    Ok(())
+}
+
+/// Each kind on each sort of access, and two kinds at once, of which the first is given.
+#[test]
+fn gives_the_first_kind(rt: HostRuntime) -> Result<(), Fail> {
+    let cases = [
+        // taken: the grade stays, another list, a known grade again
+        (2, [sorted(0, 5, 9), sorted(0, 6, 8), random(0, 6, 8)], 0),
+        (2, [sorted(0, 5, 9), random(0, 6, 9), sorted(0, 6, 9)], 0),
+        (3, [sorted(0, 5, 9), random(0, 6, 8), sorted(0, 7, 8)], 0),
+        (
+            2,
+            [
+                random(0, 5, 9),
+                random(1, 6, 1_000_000),
+                random(0, 6, 1_000_000),
+            ],
+            0,
+        ),
+        // no such list
+        (2, [sorted(0, 5, 9), sorted(1, 5, 9), sorted(2, 5, 9)], 1),
+        (2, [sorted(0, 5, 9), sorted(1, 5, 9), random(2, 5, 9)], 1),
+        (
+            2,
+            [sorted(0, 5, 9), sorted(1, 5, 9), sorted(2, 5, 1_000_001)],
+            1,
+        ),
+        // above the greatest grade
+        (
+            2,
+            [sorted(0, 5, 9), sorted(1, 5, 9), sorted(0, 6, 1_000_001)],
+            2,
+        ),
+        (
+            2,
+            [sorted(0, 5, 9), sorted(1, 5, 9), random(1, 6, 1_000_001)],
+            2,
+        ),
+        (
+            2,
+            [sorted(0, 5, 9), sorted(0, 6, 8), random(1, 7, 1_000_001)],
+            2,
+        ),
+        // one object too many
+        (2, [sorted(0, 5, 9), sorted(0, 6, 8), sorted(0, 7, 7)], 3),
+        (2, [sorted(0, 5, 9), random(1, 6, 8), random(1, 7, 7)], 3),
+        (2, [sorted(0, 5, 9), sorted(0, 6, 8), sorted(0, 7, 9)], 3),
+        // the grade rises
+        (2, [sorted(0, 5, 9), sorted(1, 5, 10), sorted(0, 6, 10)], 4),
+        (2, [sorted(0, 5, 9), sorted(0, 6, 8), sorted(0, 5, 9)], 4),
+        // the object comes again
+        (2, [sorted(0, 5, 9), sorted(0, 6, 8), sorted(0, 5, 8)], 5),
+        // another grade
+        (2, [sorted(0, 5, 9), random(0, 6, 8), sorted(0, 6, 7)], 6),
+        (2, [sorted(0, 5, 9), sorted(0, 6, 8), random(0, 6, 9)], 6),
+        (2, [sorted(0, 5, 9), random(0, 6, 8), random(0, 6, 7)], 6),
+        (2, [random(0, 6, 8), random(0, 7, 9), sorted(0, 6, 7)], 6),
+        (2, [sorted(0, 5, 9), random(0, 6, 8), random(0, 6, 10)], 6),
+        // an object with a greater grade is passed over
+        (3, [sorted(0, 5, 9), random(0, 6, 8), sorted(0, 7, 7)], 7),
+        // above the bottom
+        (2, [sorted(1, 5, 9), sorted(0, 5, 9), random(0, 6, 10)], 8),
+    ];
+    for (count, accesses, kind) in &cases {
+        ends(&rt, rt.alloc(), *count, accesses, *kind)?;
+    }
+    Ok(())
+}
+
+/// One list of two objects.
+#[test]
+fn refuses_what_no_table_gives(rt: HostRuntime) -> Result<(), Fail> {
+    let mut log = Transcript::make(rt.alloc(), 1, 2)?;
+    log.push(sorted(0, 5, 9))?;
+    let fault = PushFault::Inconsistent { at: 2, kind: 8 };
+    assert_eq!(rt; log.push(random(0, 6, 10)), Err(fault));
+    log.push(sorted(0, 6, 8))?;
+    let refused = [
+        (sorted(0, 7, 7), 3),
+        (sorted(0, 5, 8), 5),
+        (random(0, 6, 9), 6),
+    ];
+    for (access, kind) in refused {
+        let fault = PushFault::Inconsistent { at: 3, kind };
+        assert_eq!(rt; log.push(access), Err(fault));
+    }
+    assert_eq!(rt; log.len(), 2);
+    Ok(())
+}
+
+/// The sum of the grades in two lists.
+fn sum_of_two(rt: &impl Abort, alloc: Global) -> Result<Expr, Fail>
+    ensures { IfOk result (λ expr. list_count expr ≡ 2) }
+{
+    let query = read(alloc, b"top 1 by sum(A,B) using ta")?;
+    assert_eq!(rt; query.expr.lists(), 2);
+    Ok(query.expr)
+}
+
+/// Five accesses of two lists of three objects.
+fn five_accesses(alloc: Global) -> Result<Transcript, Fail>
+    ensures { IfOk result (λ log. (log.lists ≡ 2) × (length log.accesses ≡ 5)) }
+{
+    let mut log = Transcript::make(alloc, 2, 3)?;
+    log.push(sorted(0, 5, 9))?;
+    log.push(sorted(1, 6, 8))?;
+    log.push(random(1, 5, 4))?;
+    log.push(sorted(0, 6, 7))?;
+    log.push(random(1, 7, 1))?;
+    Ok(log)
+}
+
+#[test]
+fn reads_what_came(rt: HostRuntime) -> Result<(), Fail> {
+    let log = five_accesses(rt.alloc())?;
+    assert!(rt; !log.is_empty());
+    assert_eq!(rt; (log.lists(), log.count(), log.len()), (2, 3, 5));
+    assert_eq!(rt; (log.depth(0), log.depth(1)), (2, 1));
+    assert_eq!(rt; (log.bottom(0), log.bottom(1)), (7, 8));
+    assert_eq!(rt;
+        (log.seen(), log.is_seen(6), log.is_seen(7)),
+        (2, true, false)
+    );
+    assert_eq!(rt; (log.sorted(), log.random()), (3, 2));
+    let costs = Costs {
+        sorted: 3,
+        random: 10,
+    };
+    assert_eq!(rt; log.cost(&costs), 29);
+    assert_eq!(rt; log.get(2), Some(random(1, 5, 4)));
+    assert_eq!(rt; log.get(5), None);
+    Ok(())
+}
+
+#[test]
+fn bounds_aggregates(rt: HostRuntime) -> Result<(), Fail> {
+    let sum = sum_of_two(&rt, rt.alloc())?;
+    let empty = Transcript::make(rt.alloc(), 2, 3)?;
+    assert_eq!(rt; (empty.low(&sum, 5), empty.high(&sum, 5)), (0, 2_000_000));
+    let log = five_accesses(rt.alloc())?;
+    for (object, low, high) in [(5, 13, 13), (6, 15, 15), (7, 1, 8), (8, 0, 15)] {
+        assert_eq!(rt;
+            (log.low(&sum, object), log.high(&sum, object)),
+            (low, high)
+        );
+    }
+    Ok(())
+}

@@ -1,0 +1,4 @@
+pub mod Depths
+pub mod Held
+pub mod Makes
+pub mod Rows

@@ -1,0 +1,13 @@
+use Rattle.std.proofs.Common.{refl}
+use Rattle.access_log.proofs.MachineLaws.{one_more}
+use Rattle.machine_base.specs.declared.base.Base.{Base}
+use Rattle.machine_base.specs.Base.{IsTold}
+use Rattle.machine_base.proofs.Held.{holds_more}
+use Rattle.machine_base.proofs.base.Base.tell.Goals as goal
+
+pub returns-in-Ok-clause-held : goal.returns-in-Ok-clause-held
+returns-in-Ok-clause-held c =
+    let before : Base = c.args.self.now in
+    let after : Base = record before { transcript = c.push.new.self } in
+    let told : IsTold c.args.access before after = record { expr = refl; k = refl; room = refl; costs = refl; log = one_more before.transcript after.transcript c.args.access c.in-Ok.ensures.ok } in
+    holds_more c.args.access before after told c.requires.held c.requires.follows c.in-Ok.ensures.agrees

@@ -1,0 +1,88 @@
+//! What every machine holds.
+
+ghost use Rattle.std.specs.Prelude.{◌≡◌, ◌≤◌, IfOk, IfErr, OnOk, OnErr};
+ghost use Rattle.access_log.specs.Machine.{IsBegun, HasRoomFor};
+ghost use Rattle.machine_base.specs.Base.{shown, Holds, IsTold, MayFollow, TellsNew, HasNoRoom};
+
+use access_log::{Access, CoreFault, Memory, Transcript};
+use monotone_fn::{Costs, Expr};
+use ranked_list::Need;
+use std::alloc::Global;
+
+/// What a machine holds of its query and of its accesses, whatever its algorithm: the expression, how
+/// many objects are asked, how many it may see, the costs of accesses, and the accesses so far.
+#[derive(Drop)]
+pub struct Base {
+    pub expr: Expr,
+    pub k: u32,
+    pub room: u32,
+    pub costs: Costs,
+    pub transcript: Transcript,
+}
+
+impl Base {
+    /// For the first `k` of `count` objects, of which `room` may be seen at most, before any access.
+    pub fn make(
+        alloc: Global,
+        expr: Expr,
+        k: u32,
+        count: u32,
+        room: u32,
+        costs: Costs,
+    ) -> Result<Base, Memory>
+        requires asked { 1 ≤ k }
+        requires fits { k ≤ count }
+        requires counted { count ≤ 200000 }
+        requires roomy { 1 ≤ room }
+        ensures begun { IfOk result (λ base. IsBegun expr k count room costs (shown base Need.Done)) }
+        ensures held { IfOk result Holds }
+    {
+        let Ok(transcript) = Transcript::make(alloc, expr.lists(), count) else {
+            return Err(Memory);
+        };
+        Ok(Base {
+            expr,
+            k,
+            room: room.min(count),
+            costs,
+            transcript,
+        })
+    }
+
+    /// Whether an object is new. Where it is, and there is no room for one more, it is a stranger if the
+    /// room is the count, and else the room is full.
+    pub fn test_room(&self, object: u32) -> Result<bool, CoreFault>
+        requires { Holds self.now }
+        ensures new { IfOk result (TellsNew self.now.transcript.accesses object) }
+        ensures fits { OnOk result (HasRoomFor (shown self.now Need.Done) object) }
+        ensures full { IfErr result (HasNoRoom object self.now) }
+    {
+        let is_new = !self.transcript.is_seen(object);
+        if is_new && self.transcript.seen() >= self.room {
+            return Err(CoreFault::of_room(self.transcript.count(), self.room, object));
+        }
+        Ok(is_new)
+    }
+
+    /// Tells an access, with which some table still agrees: else it answers `Memory` too, as where
+    /// memory is refused. Then nothing has changed.
+    pub fn tell(&mut self, access: Access) -> Result<(), Memory>
+        requires held { Holds self.old }
+        requires follows { MayFollow self.old.room self.old.transcript.accesses access }
+        ensures told { OnOk result (IsTold access self.old self.new) }
+        ensures held { Holds self.new }
+        ensures unchanged { OnErr result (self.new ≡ self.old) }
+    {
+        match self.transcript.push(access) {
+            Ok(()) => Ok(()),
+            Err(_) => Err(Memory),
+        }
+    }
+
+    /// The accesses, where the machine is given up.
+    pub fn into_transcript(self) -> Transcript
+        ensures { result ≡ self.transcript }
+    {
+        self.transcript
+    }
+}
