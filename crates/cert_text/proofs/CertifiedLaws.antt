@@ -15,7 +15,7 @@ use Rattle.cert_text.specs.Outcome.{costs_of, certificate_of, outcome_text, IsCe
 use Rattle.cert_text.specs.Reading.{Spells}
 use Rattle.cert_text.proofs.CountLaws.{list_count_names}
 use Rattle.cert_text.proofs.FigureLaws.{depth_more}
-use Rattle.cert_text.proofs.QueryLength.{length-printed}
+use Rattle.query_text.proofs.LengthLaws.{length-printed}
 use Rattle.cert_text.proofs.TextLaws.{lines-certificate}
 
 cons_few : {X : Type 0} (o : Option X) (xs : List X) → length (cons_option o xs) ≤ suc (length xs)

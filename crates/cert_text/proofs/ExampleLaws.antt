@@ -15,7 +15,7 @@ use Rattle.cert_text.specs.Certificate.{number_line, query_line, count_line, sto
 use Rattle.cert_text.specs.Judging.{Leads, SpellsQueried}
 use Rattle.cert_text.specs.Reading.{Spells}
 use Rattle.cert_text.proofs.LineLaws.{number_in-line}
-use Rattle.cert_text.proofs.QueryLength.{length-printed}
+use Rattle.query_text.proofs.LengthLaws.{length-printed}
 use Rattle.cert_text.proofs.SpellLaws.{nothing, whole, counted_spelled, steps_number}
 
 -- the best object of one list

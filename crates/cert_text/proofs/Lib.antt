@@ -5,7 +5,6 @@ pub mod LineLaws
 pub mod JudgingLaws
 pub mod SpellLaws
 pub mod QueryLaws
-pub mod QueryLength
 pub mod ExampleLaws
 pub mod CertificateLaws
 pub mod CountLaws

@@ -21,7 +21,7 @@ read_same : (text : List ℕ) (query other : Query) → IsReadBack text (Ok quer
 read_same text query other back reads same =
     let spells = reads.0 in
     ⊎_elim (λ e. cc) (λ e. absurd cc)
-    (back other spells.lawful reads.1 spells.short same)
+    (back other spells.lawful reads.1 same)
 
 -- what is read is what the line spells, and nothing else is
 pub query_found : (line text : List ℕ) (query : Query) → rest_after (codes "query ") line ≡ Some text → Reads text (Ok query) → IsReadBack text (Ok query) → FindsQuery line (Some query)
@@ -37,7 +37,7 @@ pub query_refused : (line text : List ℕ) (fault : QueryFault) → rest_after (
 query_refused line text fault cut refused back = λ other is reads.
     let spells = reads.0 in
     ⊎_elim (λ e. absurd cc) (λ e. refused cc)
-    (back other spells.lawful reads.1 spells.short (query_line_text line text other cut is))
+    (back other spells.lawful reads.1 (query_line_text line text other cut is))
 
 -- a line that doesn't begin with the word is the line of no query
 pub query_wordless : (line : List ℕ) → rest_after (codes "query ") line ≡ None → FindsQuery line None

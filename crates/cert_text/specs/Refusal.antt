@@ -4,7 +4,7 @@ use Rattle.std.specs.List.{flat_map}
 use Rattle.std.specs.Fmt.{decimal}
 use Rattle.query_text.specs.Query.{name_of}
 use Rattle.cert_text.specs.declared.refusal.Refusal.{Refusal}
-use Rattle.cert_text.specs.declared.refusal.Refusal.TheVariants.{LongLine, Syntax, Number, TooManyLists, TooManyNodes, TooDeep, TooBig, UnknownList, KAboveCount, Strangers, RoomFull}
+use Rattle.cert_text.specs.declared.refusal.Refusal.TheVariants.{ManyQueries, LongLine, Syntax, Number, TooManyLists, TooManyNodes, TooDeep, TooBig, UnknownList, NotOpened, TooLarge, CountsDiffer, KAboveCount, NoRandom, Strangers, RoomFull}
 
 -- a field of a refusal: a number, or a list by its number in the query
 pub data Field : Type 0 where
@@ -13,6 +13,7 @@ pub data Field : Type 0 where
 
 -- the name of a refusal, and its fields in order
 abbrev pub refusal_row : Refusal → List ℕ × List Field
+refusal_row (ManyQueries limit) = (codes "ManyQueries", Field.number limit ∷ [])
 refusal_row (LongLine limit) = (codes "LongLine", Field.number limit ∷ [])
 refusal_row (Syntax at) = (codes "Syntax", Field.number at ∷ [])
 refusal_row (Number at) = (codes "Number", Field.number at ∷ [])
@@ -21,7 +22,11 @@ refusal_row (TooManyNodes nodes) = (codes "TooManyNodes", Field.number nodes ∷
 refusal_row (TooDeep depth) = (codes "TooDeep", Field.number depth ∷ [])
 refusal_row (TooBig node) = (codes "TooBig", Field.number node ∷ [])
 refusal_row (UnknownList l) = (codes "UnknownList", Field.list l ∷ [])
+refusal_row (NotOpened l) = (codes "NotOpened", Field.list l ∷ [])
+refusal_row (TooLarge l count) = (codes "TooLarge", Field.list l ∷ Field.number count ∷ [])
+refusal_row (CountsDiffer l n other m) = (codes "CountsDiffer", Field.list l ∷ Field.number n ∷ Field.list other ∷ Field.number m ∷ [])
 refusal_row (KAboveCount k n) = (codes "KAboveCount", Field.number k ∷ Field.number n ∷ [])
+refusal_row (NoRandom l) = (codes "NoRandom", Field.list l ∷ [])
 refusal_row (Strangers object count) = (codes "Strangers", Field.number object ∷ Field.number count ∷ [])
 refusal_row (RoomFull room) = (codes "RoomFull", Field.number room ∷ [])
 

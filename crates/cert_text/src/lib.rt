@@ -29,6 +29,3 @@ pub use certificate::{Certificate, read_certificate};
 pub use fault::CertFault;
 pub use outcome::{Outcome, write_outcome};
 pub use refusal::Refusal;
-
-#[cfg(test)]
-mod tests;

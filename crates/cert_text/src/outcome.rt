@@ -6,16 +6,16 @@ ghost use Rattle.std.specs.Io.KnownBytes.{Appends};
 ghost use Rattle.tk_io.specs.Faults.{HasCause};
 ghost use Rattle.tk_io.specs.Whole.{TookFront};
 ghost use Rattle.cert_text.specs.Outcome.{outcome_text, IsOutcome};
-ghost use Rattle.cert_text.specs.Writing.{Writes};
+ghost use Rattle.tk_io.specs.Pieces.{Puts};
 
-use super::refusal::{Refusal, write_refusal};
-use super::writing::write_certificate;
+use super::refusal::{Refusal, put_refusal};
+use super::writing::put_certificate;
 use access_log::Answer;
 use query_text::Query;
-use tk_io::{Failed, Sink};
+use tk_io::{Failed, Pieces, Sink};
 
 /// What became of a query line.
-#[derive(Debug, Drop)]
+#[derive(Drop)]
 pub enum Outcome {
     /// It was answered.
     Answered(Answer),
@@ -23,30 +23,31 @@ pub enum Outcome {
     Refused(Refusal),
 }
 
-/// Writes the text of an outcome.
-fn write_text_of<K: Sink>(
+/// Puts the text of an outcome behind the bytes that wait.
+fn put_outcome<K: Sink>(
     out: &mut K,
+    pieces: &mut Pieces,
     line: u64,
     query: Option<&Query>,
     count: u32,
     outcome: &Outcome,
-) -> Result<(), Failed>
+)
     requires { IsOutcome (option_copied query) outcome.now }
-    ensures { Writes (outcome_text line (option_copied query.entry) count outcome.now)
-        (K.held out.old) (K.held out.new) (K.faults out.old) (K.faults out.new) result }
+    ensures { Puts (K.held out.old) (K.held out.new) (K.faults out.old) (K.faults out.new) pieces.old pieces.new
+        (outcome_text line (option_copied query.entry) count outcome.now) }
 {
     match outcome {
         Outcome::Answered(answer) => match query {
-            Some(query) => write_certificate(out, line, query, count, answer),
+            Some(query) => put_certificate(out, pieces, line, query, count, answer),
             None => unreachable!(),
         },
-        Outcome::Refused(refusal) => write_refusal(out, line, query, *refusal),
+        Outcome::Refused(refusal) => put_refusal(out, pieces, line, query, *refusal),
     }
 }
 
 /// Writes the outcome of the query line with this number, over lists of `count` objects: the
-/// certificate of an answer, or the line of a refusal. After a failure a front of it was written.
-/// Takes no memory.
+/// certificate of an answer, or the line of a refusal. It goes out in pieces of `tk_io::PIECE` bytes.
+/// After a failure a front of it was written. Takes no memory.
 ///
 /// An answer comes with its query; the query's costs are at most 1,000,000 each and the accesses
 /// fewer than 2^40. A refusal that names a list comes with the query that names it.
@@ -64,5 +65,7 @@ pub fn write_outcome<K: Sink>(
         (outcome_text line (option_copied query.entry) count outcome.now)) }
     ensures cause { HasCause (K.faults out.old) (K.faults out.new) result }
 {
-    write_text_of(out, line, query, count, outcome)
+    let mut pieces = Pieces::make();
+    put_outcome(out, &mut pieces, line, query, count, outcome);
+    pieces.end(out)
 }

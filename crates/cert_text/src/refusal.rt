@@ -3,18 +3,22 @@
 ghost use Rattle.std.specs.Prelude.{◌≡◌, ◌++◌, ◌∷◌, [], map};
 ghost use Rattle.std.specs.Fmt.{decimal};
 ghost use Rattle.std.specs.Option.{option_copied};
+ghost use Rattle.tk_io.specs.Pieces.{Puts};
 ghost use Rattle.query_text.specs.Query.{name_of};
-ghost use Rattle.cert_text.specs.Outcome.{names_of, refused_line, refused_words};
-ghost use Rattle.cert_text.specs.Writing.{Writes, word_text};
+ghost use Rattle.cert_text.specs.Outcome.{names_of, refused_line};
+ghost use Rattle.cert_text.specs.Refusal.{field_word, refusal_row};
+ghost use Rattle.cert_text.specs.Writing.{further, word_text};
 
-use super::words::{Word, end_line, write_bytes, write_words};
+use super::words::{Word, end_line, put_words};
 use super::writing::name_of;
 use query_text::Query;
-use tk_io::{Failed, Sink};
+use tk_io::{Pieces, Sink};
 
 /// Why a query line isn't answered.
 #[derive(Clone, Copy, Debug, PartialEq, Eq)]
 pub enum Refusal {
+    /// The input has more query lines than `limit`, and this is one past them.
+    ManyQueries { limit: u32 },
     /// The line has more bytes than `limit`.
     LongLine { limit: u32 },
     /// The line isn't of the shape of query text. Its first `at` bytes are the longest front of it
@@ -32,8 +36,16 @@ pub enum Refusal {
     TooBig { node: u32 },
     /// There is no list of this name. `list` is the list's number in the query.
     UnknownList { list: u8 },
+    /// This list, by its number in the query, couldn't be opened.
+    NotOpened { list: u8 },
+    /// This list, by its number in the query, states `count` objects, which are too many.
+    TooLarge { list: u8, count: u64 },
+    /// The lists differ in their counts: `list` states `n` objects and `other` states `m`.
+    CountsDiffer { list: u8, n: u32, other: u8, m: u32 },
     /// More objects are asked for than the lists have: `k` of `n`.
     KAboveCount { k: u32, n: u32 },
+    /// The algorithm makes random accesses, and this list, by its number in the query, offers none.
+    NoRandom { list: u8 },
     /// This object is one more than the `count` objects that the lists have.
     Strangers { object: u32, count: u32 },
     /// The answer needs more objects at once than the query has room for.
@@ -41,23 +53,13 @@ pub enum Refusal {
 }
 
 /// The name of a list of a query by its number.
-fn listed(query: Option<&Query>, list: u8) -> &[u8]
-    ensures { result.now ≡ name_of (names_of (option_copied query.entry)) list }
+fn listed<'t>(query: Option<&'t Query>, list: u8) -> Word<'t>
+    ensures { word_text result ≡ name_of (names_of (option_copied query.entry)) list }
 {
     match query {
-        Some(query) => name_of(&query.names, list),
-        None => b"",
+        Some(query) => Word::Text(name_of(&query.names, list)),
+        None => Word::Text(b""),
     }
-}
-
-/// Writes the line of a refused query line: its number, the refusal's name and the fields.
-fn write_row<K: Sink>(out: &mut K, line: u64, name: &[u8], fields: &[Word]) -> Result<(), Failed>
-    ensures { Writes (refused_words line name.now (map word_text fields.now) ++ 10 ∷ [])
-        (K.held out.old) (K.held out.new) (K.faults out.old) (K.faults out.new) result }
-{
-    write_bytes(out, b"refused")?;
-    write_words(out, &[Word::Number(line), Word::Text(name)])?;
-    end_line(out, fields)
 }
 
 /// A field of 32 bits.
@@ -67,47 +69,88 @@ fn number(field: u32) -> Word<'static>
     Word::Number(u64::from(field))
 }
 
-/// Writes the line of a refusal of the query line with this number.
-pub(crate) fn write_refusal<K: Sink>(
+/// The name of a refusal.
+fn refusal_name(refusal: Refusal) -> &'static [u8]
+    ensures { result.now ≡ (refusal_row refusal).0 }
+{
+    match refusal {
+        Refusal::ManyQueries { .. } => b"ManyQueries",
+        Refusal::LongLine { .. } => b"LongLine",
+        Refusal::Syntax { .. } => b"Syntax",
+        Refusal::Number { .. } => b"Number",
+        Refusal::TooManyLists { .. } => b"TooManyLists",
+        Refusal::TooManyNodes { .. } => b"TooManyNodes",
+        Refusal::TooDeep { .. } => b"TooDeep",
+        Refusal::TooBig { .. } => b"TooBig",
+        Refusal::UnknownList { .. } => b"UnknownList",
+        Refusal::NotOpened { .. } => b"NotOpened",
+        Refusal::TooLarge { .. } => b"TooLarge",
+        Refusal::CountsDiffer { .. } => b"CountsDiffer",
+        Refusal::KAboveCount { .. } => b"KAboveCount",
+        Refusal::NoRandom { .. } => b"NoRandom",
+        Refusal::Strangers { .. } => b"Strangers",
+        Refusal::RoomFull { .. } => b"RoomFull",
+    }
+}
+
+/// Puts the fields of a refusal, each after a space, and the end of the line behind the bytes that wait.
+fn put_fields<K: Sink>(out: &mut K, pieces: &mut Pieces, query: Option<&Query>, refusal: Refusal)
+    ensures { Puts (K.held out.old) (K.held out.new) (K.faults out.old) (K.faults out.new) pieces.old pieces.new
+        (further (map (field_word (names_of (option_copied query.entry))) (refusal_row refusal).1) ++ 10 ∷ []) }
+{
+    match refusal {
+        Refusal::ManyQueries { limit } => end_line(out, pieces, &[number(limit)]),
+        Refusal::LongLine { limit } => end_line(out, pieces, &[number(limit)]),
+        Refusal::Syntax { at } => end_line(out, pieces, &[number(at)]),
+        Refusal::Number { at } => end_line(out, pieces, &[number(at)]),
+        Refusal::TooManyLists { at } => end_line(out, pieces, &[number(at)]),
+        Refusal::TooManyNodes { nodes } => end_line(out, pieces, &[Word::Number(nodes)]),
+        Refusal::TooDeep { depth } => end_line(out, pieces, &[Word::Number(depth)]),
+        Refusal::TooBig { node } => end_line(out, pieces, &[number(node)]),
+        Refusal::UnknownList { list } => end_line(out, pieces, &[listed(query, list)]),
+        Refusal::NotOpened { list } => end_line(out, pieces, &[listed(query, list)]),
+        Refusal::TooLarge { list, count } => end_line(
+            out,
+            pieces,
+            &[listed(query, list), Word::Number(count)],
+        ),
+        Refusal::CountsDiffer { list, n, other, m } => {
+            end_line(
+                out,
+                pieces,
+                &[
+                    listed(query, list),
+                    number(n),
+                    listed(query, other),
+                    number(m),
+                ],
+            )
+        }
+        Refusal::KAboveCount { k, n } => end_line(out, pieces, &[number(k), number(n)]),
+        Refusal::NoRandom { list } => end_line(out, pieces, &[listed(query, list)]),
+        Refusal::Strangers { object, count } => end_line(
+            out,
+            pieces,
+            &[number(object), number(count)],
+        ),
+        Refusal::RoomFull { room } => end_line(out, pieces, &[number(room)]),
+    }
+}
+
+/// Puts the line of a refusal of the query line with this number behind the bytes that wait:
+/// `refused`, the number, the refusal's name and its fields.
+pub(crate) fn put_refusal<K: Sink>(
     out: &mut K,
+    pieces: &mut Pieces,
     line: u64,
     query: Option<&Query>,
     refusal: Refusal,
-) -> Result<(), Failed>
-    ensures { Writes (refused_line line (names_of (option_copied query.entry)) refusal ++ 10 ∷ [])
-        (K.held out.old) (K.held out.new) (K.faults out.old) (K.faults out.new) result }
+)
+    ensures { Puts (K.held out.old) (K.held out.new) (K.faults out.old) (K.faults out.new) pieces.old pieces.new
+        (refused_line line (names_of (option_copied query.entry)) refusal ++ 10 ∷ []) }
 {
-    match refusal {
-        Refusal::LongLine { limit } => write_row(out, line, b"LongLine", &[number(limit)]),
-        Refusal::Syntax { at } => write_row(out, line, b"Syntax", &[number(at)]),
-        Refusal::Number { at } => write_row(out, line, b"Number", &[number(at)]),
-        Refusal::TooManyLists { at } => write_row(out, line, b"TooManyLists", &[number(at)]),
-        Refusal::TooManyNodes { nodes } => write_row(
-            out,
-            line,
-            b"TooManyNodes",
-            &[Word::Number(nodes)],
-        ),
-        Refusal::TooDeep { depth } => write_row(out, line, b"TooDeep", &[Word::Number(depth)]),
-        Refusal::TooBig { node } => write_row(out, line, b"TooBig", &[number(node)]),
-        Refusal::UnknownList { list } => write_row(
-            out,
-            line,
-            b"UnknownList",
-            &[Word::Text(listed(query, list))],
-        ),
-        Refusal::KAboveCount { k, n } => write_row(
-            out,
-            line,
-            b"KAboveCount",
-            &[number(k), number(n)],
-        ),
-        Refusal::Strangers { object, count } => write_row(
-            out,
-            line,
-            b"Strangers",
-            &[number(object), number(count)],
-        ),
-        Refusal::RoomFull { room } => write_row(out, line, b"RoomFull", &[number(room)]),
-    }
+    pieces.put(out, b"refused");
+    let name = Word::Text(refusal_name(refusal));
+    put_words(out, pieces, &[Word::Number(line), name]);
+    put_fields(out, pieces, query, refusal);
 }

@@ -1,12 +1,11 @@
-//! Lines of words, written.
+//! Lines of words, put behind what waits to be written.
 
-ghost use Rattle.std.specs.Prelude.{ℕ, ◌++◌, ◌∷◌, [], List, map};
-ghost use Rattle.std.specs.List.{flat_map};
+ghost use Rattle.std.specs.Prelude.{◌++◌, ◌∷◌, [], map};
+ghost use Rattle.tk_io.specs.Pieces.{Puts};
 ghost use Rattle.cert_text.specs.Certificate.{spaced};
-ghost use Rattle.cert_text.specs.Writing.{Writes, word_text, further};
+ghost use Rattle.cert_text.specs.Writing.{word_text, further};
 
-use itoa::Buffer;
-use tk_io::{Failed, Sink, write_text};
+use tk_io::{Pieces, Sink};
 
 /// A word of a line.
 #[derive(Clone, Copy)]
@@ -17,62 +16,45 @@ pub(crate) enum Word<'t> {
     Number(u64),
 }
 
-/// Writes these bytes.
-pub(crate) fn write_bytes<K: Sink>(out: &mut K, bytes: &[u8]) -> Result<(), Failed>
-    ensures { Writes bytes.now
-        (K.held out.old) (K.held out.new) (K.faults out.old) (K.faults out.new) result }
-{
-    write_text(out, bytes)
-}
-
-/// Writes a word.
-fn write_word<K: Sink>(out: &mut K, word: Word) -> Result<(), Failed>
-    ensures { Writes (word_text word.entry)
-        (K.held out.old) (K.held out.new) (K.faults out.old) (K.faults out.new) result }
+/// Puts a word behind the bytes that wait.
+fn put_word<K: Sink>(out: &mut K, pieces: &mut Pieces, word: Word)
+    ensures { Puts (K.held out.old) (K.held out.new) (K.faults out.old) (K.faults out.new) pieces.old pieces.new (word_text word.entry) }
 {
     match word {
-        Word::Text(text) => write_bytes(out, text),
-        Word::Number(number) => {
-            let mut digits = Buffer::new();
-            write_bytes(out, digits.format(number).as_bytes())
-        }
+        Word::Text(text) => pieces.put(out, text),
+        Word::Number(number) => pieces.put_number(out, number),
     }
 }
 
-/// Writes a space and a word.
-fn write_further<K: Sink>(out: &mut K, word: Word) -> Result<(), Failed>
-    ensures { Writes (32 ∷ word_text word.entry)
-        (K.held out.old) (K.held out.new) (K.faults out.old) (K.faults out.new) result }
+/// Puts a space and a word behind the bytes that wait.
+fn put_further<K: Sink>(out: &mut K, pieces: &mut Pieces, word: Word)
+    ensures { Puts (K.held out.old) (K.held out.new) (K.faults out.old) (K.faults out.new) pieces.old pieces.new (32 ∷ word_text word.entry) }
 {
-    write_bytes(out, b" ")?;
-    write_word(out, word)
+    pieces.put(out, b" ");
+    put_word(out, pieces, word);
 }
 
-/// Writes a space and a word for each word.
-pub(crate) fn write_words<K: Sink>(out: &mut K, words: &[Word]) -> Result<(), Failed>
-    ensures { Writes (further (map word_text words.now))
-        (K.held out.old) (K.held out.new) (K.faults out.old) (K.faults out.new) result }
+/// Puts a space and a word for each word behind the bytes that wait.
+pub(crate) fn put_words<K: Sink>(out: &mut K, pieces: &mut Pieces, words: &[Word])
+    ensures { Puts (K.held out.old) (K.held out.new) (K.faults out.old) (K.faults out.new) pieces.old pieces.new (further (map word_text words.now)) }
 {
     for word in words {
-        write_further(out, *word)?;
+        put_further(out, pieces, *word);
     }
-    Ok(())
 }
 
-/// Writes the words after the first of a line, and ends it.
-pub(crate) fn end_line<K: Sink>(out: &mut K, words: &[Word]) -> Result<(), Failed>
-    ensures { Writes (further (map word_text words.now) ++ 10 ∷ [])
-        (K.held out.old) (K.held out.new) (K.faults out.old) (K.faults out.new) result }
+/// Puts the words after the first of a line and its end behind the bytes that wait.
+pub(crate) fn end_line<K: Sink>(out: &mut K, pieces: &mut Pieces, words: &[Word])
+    ensures { Puts (K.held out.old) (K.held out.new) (K.faults out.old) (K.faults out.new) pieces.old pieces.new (further (map word_text words.now) ++ 10 ∷ []) }
 {
-    write_words(out, words)?;
-    write_bytes(out, b"\n")
+    put_words(out, pieces, words);
+    pieces.put(out, b"\n");
 }
 
-/// Writes the line of a first word and further words.
-pub(crate) fn write_line<K: Sink>(out: &mut K, first: &[u8], words: &[Word]) -> Result<(), Failed>
-    ensures { Writes (spaced (first.now ∷ map word_text words.now) ++ 10 ∷ [])
-        (K.held out.old) (K.held out.new) (K.faults out.old) (K.faults out.new) result }
+/// Puts the line of a first word and further words behind the bytes that wait.
+pub(crate) fn put_line<K: Sink>(out: &mut K, pieces: &mut Pieces, first: &[u8], words: &[Word])
+    ensures { Puts (K.held out.old) (K.held out.new) (K.faults out.old) (K.faults out.new) pieces.old pieces.new (spaced (first.now ∷ map word_text words.now) ++ 10 ∷ []) }
 {
-    write_bytes(out, first)?;
-    end_line(out, words)
+    pieces.put(out, first);
+    end_line(out, pieces, words);
 }

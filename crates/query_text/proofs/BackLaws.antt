@@ -22,12 +22,13 @@ use Rattle.query_text.specs.Pieces.{Piece, IsInRange, AreInRange, names_in, list
 use Rattle.query_text.specs.Shape.{IsShape, expr_pieces, argument_pieces, further_pieces, algorithm_pieces, cost_pieces, room_pieces, pieces_of}
 use Rattle.query_text.specs.Query.{written, arguments, weighted, name_of, cost_digits, shape_of, printed, lists_of, lists_among, lists_under, HasTree, HasTerm, IsPlain, ArePlain, AreWeighed, IsCount, IsLawful}
 use Rattle.query_text.specs.Reading.{Reads, IsReadBack}
+use Rattle.query_text.proofs.LengthLaws.{length-printed}
 use Rattle.query_text.specs.declared.query.Query.{Query}
 use Rattle.query_text.specs.declared.operator.Operator.{Operator}
 use Rattle.query_text.specs.declared.operator.Operator.TheVariants.{Min, Max, Sum, Median, Wsum}
 use Rattle.query_text.specs.declared.fault.QueryFault.{QueryFault}
 use Rattle.query_text.specs.declared.fault.QueryFault.TheVariants as faults
-use Rattle.query_text.specs.declared.limits.TheConstants.{MAX_NUMBER, MAX_WEIGHT}
+use Rattle.query_text.specs.declared.limits.TheConstants.{MAX_LINE, MAX_NUMBER, MAX_WEIGHT}
 use Rattle.query_text.proofs.WordLaws.{same_bytes, bytes_same}
 use Rattle.query_text.proofs.CompleteLaws.{one_shape}
 use Rattle.query_text.proofs.StateLaws.{names_in-append, once-append, once-extends}
@@ -301,24 +302,28 @@ nowhere_big (u ∷ ns) i n small h = by_test (nat_lt MAX_VALUE (top_value u)) re
 no_big : (t : Tree) (n : ℕ) → IsExpr t → Makes t (Err (Big n)) → ⊥
 no_big t n e m = nowhere_big (nodes_of t) 1 n e.small m.2
 
+-- the text of a lawful query isn't longer than a line may be
+not_longer : (line : List ℕ) (q : Query) → IsLawful q → IsExpr q.expr → printed q ≡ line → MAX_LINE < length line → ⊥
+not_longer line q lawful expr text long = omega (arith, length-printed q lawful expr, ap length text)
+
 -- what is read of a lawful query's text is that query
 pub read_back : (line : List ℕ) (r : Result Query QueryFault) → Reads line r → IsReadBack line r
 unfolding printed
-read_back line (Ok p) reads q lawful expr fits text = inl (ap Ok (printed_same p q reads.0.lawful lawful (reads.0.text ∙ sym text)))
-read_back line (Err (faults.LongLine l)) reads q lawful expr fits text = absurd (omega (arith, reads.0, fits, ap length text))
-read_back line (Err (faults.Syntax a)) reads q lawful expr fits text =
+read_back line (Ok p) reads q lawful expr text = inl (ap Ok (printed_same p q reads.0.lawful lawful (reads.0.text ∙ sym text)))
+read_back line (Err (faults.LongLine l)) reads q lawful expr text = absurd (not_longer line q lawful expr text reads.0)
+read_back line (Err (faults.Syntax a)) reads q lawful expr text =
     absurd (reads.1.refused (record { shape = shape_of q; sound = lawful_shape q lawful; same = text }))
-read_back line (Err (faults.Number a)) reads q lawful expr fits text =
+read_back line (Err (faults.Number a)) reads q lawful expr text =
     absurd (no_number_fault q a lawful (subst (λ s. IsNumberFault (pieces_of s) a) (one_shape reads.shape (shape_of q) reads.sound (lawful_shape q lawful) (reads.text ∙ sym text)) reads.fault))
-read_back line (Err (faults.TooManyLists a)) reads q lawful expr fits text =
+read_back line (Err (faults.TooManyLists a)) reads q lawful expr text =
     absurd (no_name_fault q a lawful (subst (λ s. IsNameFault (pieces_of s) a) (one_shape reads.shape (shape_of q) reads.sound (lawful_shape q lawful) (reads.text ∙ sym text)) reads.fault))
-read_back line (Err (faults.TooManyNodes n)) reads q lawful expr fits text =
+read_back line (Err (faults.TooManyNodes n)) reads q lawful expr text =
     let same : reads.query ≡ q = printed_same reads.query q reads.spells.lawful lawful (reads.spells.text ∙ sym text) in
     absurd (no_many q.expr n expr (subst (λ p. Makes p.expr (Err (ManyNodes n))) same reads.refused))
-read_back line (Err (faults.TooDeep n)) reads q lawful expr fits text =
+read_back line (Err (faults.TooDeep n)) reads q lawful expr text =
     let same : reads.query ≡ q = printed_same reads.query q reads.spells.lawful lawful (reads.spells.text ∙ sym text) in
     absurd (no_deep q.expr n expr (subst (λ p. Makes p.expr (Err (Deep n))) same reads.refused))
-read_back line (Err (faults.TooBig n)) reads q lawful expr fits text =
+read_back line (Err (faults.TooBig n)) reads q lawful expr text =
     let same : reads.query ≡ q = printed_same reads.query q reads.spells.lawful lawful (reads.spells.text ∙ sym text) in
     absurd (no_big q.expr n expr (subst (λ p. Makes p.expr (Err (Big n))) same reads.refused))
-read_back line (Err faults.Memory) reads q lawful expr fits text = inr refl
+read_back line (Err faults.Memory) reads q lawful expr text = inr refl

@@ -13,4 +13,5 @@ pub mod FinalLaws
 pub mod NumberingLaws
 pub mod AnswerLaws
 pub mod PutLaws
+pub mod LengthLaws
 pub mod BackLaws

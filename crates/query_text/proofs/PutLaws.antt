@@ -1,10 +1,8 @@
 -- Texts that are written one behind another.
-use Rattle.std.proofs.Common.{◌≡◌, ℕ, zero, suc, ◌+◌, ◌≤◌, List, [], ◌∷◌, ◌++◌, length, take, map, Option, Some, None, option_map, unwrap_or, Result, Ok, Err, refl, sym, ap, ◌∙◌, subst, arith, append_assoc, codes}
+use Rattle.std.proofs.Common.{◌≡◌, ℕ, zero, suc, ◌+◌, ◌≤◌, List, [], ◌∷◌, ◌++◌, length, take, map, Some, None, option_map, unwrap_or, refl, sym, ap, ◌∙◌, arith, append_assoc, codes}
 use Rattle.std.specs.List.{slice_get}
-use Rattle.std.specs.Io.KnownBytes.{Appends}
 use Rattle.std.specs.Fmt.{decimal}
-use Rattle.std.proofs.KnownBytes.{Appends-trans}
-use Rattle.std.proofs.lemmas.Bool.{false≢true, cond-false}
+use Rattle.std.proofs.lemmas.Bool.{cond-false}
 use Rattle.std.proofs.Math.Dec.{eqb-suc-zero}
 use Rattle.std.proofs.lemmas.List.{append-nil, take_more, length-take, length-map}
 use Rattle.std.proofs.lemmas.Option.{unwrap_or-slice_get, slice_get_within, get_or_from_slice_get, slice_get-map}
@@ -17,30 +15,8 @@ use Rattle.query_text.specs.Query.{written, name_of, cost_digits, printed}
 use Rattle.query_text.specs.declared.query.Query.{Query}
 use Rattle.query_text.specs.Front.{Argument, arguments_from}
 use Rattle.query_text.specs.Draft.{plain_argument, weighted_argument}
-use Rattle.query_text.specs.Printing.{Puts, nodes_text, terms_text, comma_text, cost_text, room_text}
+use Rattle.query_text.specs.Printing.{nodes_text, terms_text, comma_text, cost_text, room_text}
 use Rattle.query_text.proofs.DraftLaws.{arguments_plain, arguments_weighted}
-
--- one text and then another
-pub puts_then : {T U V E F G : Type 0} (hb hm hn : Option (List ℕ)) (fb fm fn : ℕ) (before : Result T E) (mid : Result U F) (now : Result V G) (x y : List ℕ)
-    → Puts hb hm fb fm before mid x → Puts hm hn fm fn mid now y → Puts hb hn fb fn before now (x ++ y)
-unfolding Puts
-puts_then hb hm hn fb fm fn (Ok t) (Ok u) (Ok v) x y first second =
-    (Appends-trans hb hm hn x y first.0 second.0, tt, record { later = omega (arith, first.2.stays, second.2.later); failed = tt; stays = second.2.stays ∙ first.2.stays })
-puts_then hb hm hn fb fm fn (Ok t) (Ok u) (Err e) x y first second =
-    let front = second.1 in (
-      tt,
-      (x ++ front.0, front.1, ap (λ z. x ++ z) front.2 ∙ sym (append_assoc x front.0 front.1), Appends-trans hb hm hn x front.0 first.0 front.3),
-      record { later = omega (arith, first.2.stays, second.2.later); failed = omega (arith, first.2.stays, second.2.failed); stays = tt },
-    )
-puts_then hb hm hn fb fm fn (Ok t) (Err e) (Ok v) x y first second = absurd (false≢true second.0)
-puts_then hb hm hn fb fm fn (Ok t) (Err e) (Err e2) x y first second =
-    let front = first.1 in (
-      tt,
-      (front.0, front.1 ++ y, ap (λ z. z ++ y) front.2 ∙ append_assoc front.0 front.1 y, subst (λ h. Appends hb h front.0) (sym second.1) front.3),
-      record { later = omega (arith, first.2.later, second.2); failed = omega (arith, first.2.failed, second.2); stays = tt },
-    )
-puts_then hb hm hn fb fm fn (Err e) (Ok u) now x y first second = absurd (false≢true first.0)
-puts_then hb hm hn fb fm fn (Err e) (Err e2) now x y first second = (second.0, second.1 ∙ first.1, second.2 ∙ first.2)
 
 -- a list without the member at a place
 pub name_past : (names : List (List ℕ)) (list : ℕ) → None ≡ slice_get names list → [] ≡ name_of names list

@@ -1,18 +1,10 @@
 -- What is written of a query.
-use Rattle.std.specs.Prelude.{◌≡◌, ℕ, List, [], ◌++◌, codes, Option, Result, Ok, Err, IsErr, OnOk, OnErr, option_map, decimal, ◌==◌, if◌then◌else◌}
-use Rattle.std.specs.Io.KnownBytes.{Appends}
-use Rattle.tk_io.specs.Faults.{HasCause}
-use Rattle.tk_io.specs.Whole.{TookFront}
+use Rattle.std.specs.Prelude.{ℕ, List, [], ◌++◌, codes, Option, option_map, decimal, ◌==◌, if◌then◌else◌}
 use Rattle.monotone_fn.specs.Tree.{Trees, Terms}
 use Rattle.monotone_fn.specs.declared.costs.Costs.{Costs}
 use Rattle.query_text.specs.Pieces.{text_of}
 use Rattle.query_text.specs.Shape.{argument_pieces, cost_pieces, room_pieces}
 use Rattle.query_text.specs.Query.{arguments, weighted, cost_digits}
-
--- a text is written behind what was written before, unless that failed: what is held and the counts of faults before and now
-unfoldable pub Puts : {T U E F : Type 0} → Option (List ℕ) → Option (List ℕ) → ℕ → ℕ → Result T E → Result U F → List ℕ → Type 0
-Puts held held_now faults faults_now (Ok done) now text = OnOk now (Appends held held_now text) × OnErr now (TookFront held held_now text) × HasCause faults faults_now now
-Puts held held_now faults faults_now (Err failed) now text = IsErr now × (held_now ≡ held) × (faults_now ≡ faults)
 
 -- an operator over expressions, and a weighted sum
 abbrev pub nodes_text : List (List ℕ) → List ℕ → Trees → List ℕ

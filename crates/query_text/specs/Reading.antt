@@ -42,6 +42,6 @@ Reads line (Err (TooDeep depth)) = IsTreeRefused line (λ query. Makes query.exp
 Reads line (Err (TooBig node)) = IsTreeRefused line (λ query. Makes query.expr (Err (Big node)))
 Reads line (Err Memory) = Unit {0}
 
--- where the line is the text of a lawful query that fits, reading answers that query, unless memory is refused
+-- where the line is the text of a lawful query whose expression is within the limits, reading answers that query, unless memory is refused
 abbrev pub IsReadBack : List ℕ → Result Query QueryFault → Type 0
-IsReadBack line result = (query : Query) → IsLawful query → IsExpr query.expr → length (printed query) ≤ MAX_LINE → printed query ≡ line → (result ≡ Ok query) ⊎ (result ≡ Err Memory)
+IsReadBack line result = (query : Query) → IsLawful query → IsExpr query.expr → printed query ≡ line → (result ≡ Ok query) ⊎ (result ≡ Err Memory)

@@ -32,13 +32,10 @@ pub use fault::QueryFault;
 pub use limits::{MAX_LINE, MAX_NUMBER, MAX_WEIGHT};
 pub use monotone_fn::Costs;
 pub use names::Names;
-pub use printing::{print, write_query};
+pub use printing::{print, put_query};
 pub use query::Query;
 pub use reading::read;
 
 /// No memory was left.
 #[derive(Clone, Copy, Debug, PartialEq, Eq)]
 pub struct Memory;
-
-#[cfg(test)]
-mod tests;

@@ -1,3 +1,4 @@
 -- Lemmas on streams.
+pub mod Putting
 mod Reading
 mod Writing

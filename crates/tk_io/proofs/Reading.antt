@@ -1,10 +1,10 @@
 -- What reads of bytes give.
-use Rattle.std.proofs.Common.{◌≡◌, ℕ, ◌+◌, ◌-◌, ◌<◌, ◌≤◌, min, List, [], ◌++◌, Option, length, take, drop, arith, sym, ap, ◌∙◌}
+use Rattle.std.proofs.Common.{◌≡◌, ℕ, ◌+◌, ◌-◌, ◌<◌, ◌≤◌, min, List, [], ◌++◌, Option, length, take, drop, arith, sym, ap, ◌∙◌, length-append}
 use Rattle.std.proofs.Math.Seq.{take-append_seam}
 use Rattle.std.proofs.Math.ListN.{drop_of_length-le}
 use Rattle.std.proofs.lemmas.List.{take-append-drop, length-take-le, length-drop, drop-drop, take_rest}
 use Rattle.std.specs.Io.KnownBytes.{Consumes}
-use Rattle.std.proofs.KnownBytes.{Consumes-trans}
+use Rattle.std.proofs.KnownBytes.{Consumes-kept, Consumes-trans}
 use Rattle.tk_io.specs.Whole.{StopsPiece, StopsReading}
 use Rattle.tk_io.specs.declared.whole.ReadError.{ReadError}
 use Rattle.tk_io.specs.declared.whole.ReadError.TheVariants.{Failed, Long, Memory}
@@ -29,14 +29,15 @@ reads_front bytes into new at piece count within some counts copied kept =
     )
 
 -- one more piece that stopped stops the whole
-pub stops_reading : (limit : ℕ) (before mid now : Option (List ℕ)) (text piece : List ℕ) (faults_before faults_mid faults_now : ℕ)
-    (error : ReadError) → faults_mid ≡ faults_before → Consumes before mid text → Consumes mid now piece
-    → StopsPiece faults_mid faults_now error → StopsReading limit before now faults_before faults_now error
-stops_reading limit before mid now text piece f g h Failed same given more stop =
-    ((text ++ piece, Consumes-trans before mid now text piece given more), omega arith)
-stops_reading limit before mid now text piece f g h Long same given more stop = absurd stop
-stops_reading limit before mid now text piece f g h Memory same given more stop =
-    ((text ++ piece, Consumes-trans before mid now text piece given more), omega arith)
+pub stops_reading : (limit most : ℕ) (before mid now : Option (List ℕ)) (text piece : List ℕ) (faults_before faults_mid faults_now : ℕ)
+    (error : ReadError) → faults_mid ≡ faults_before → Consumes before mid text → length text ≤ limit → length text + most ≤ limit + 1
+    → Consumes mid now piece → length piece ≤ most → StopsPiece mid now faults_mid faults_now error
+    → StopsReading limit before now faults_before faults_now error
+stops_reading limit most before mid now text piece f g h Failed same given within fits more short stop =
+    ((text, within, Consumes-kept before mid now text given stop.0), omega arith)
+stops_reading limit most before mid now text piece f g h Long same given within fits more short stop = absurd stop
+stops_reading limit most before mid now text piece f g h Memory same given within fits more short stop =
+    ((text ++ piece, omega (arith, length-append text piece), Consumes-trans before mid now text piece given more), omega arith)
 
 -- the same of a slice of what a vector holds
 pub reads_left : (seen bytes into new : List ℕ) (at piece least count : ℕ) → seen ≡ bytes → at ≤ length bytes → 0 < piece

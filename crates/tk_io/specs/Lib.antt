@@ -1,4 +1,6 @@
--- What streams do to their bytes and to their counts of faults.
+-- The words of the contracts.
 pub mod Faults
 pub mod InMemory
+pub mod Outside
+pub mod Pieces
 pub mod Whole

@@ -5,6 +5,7 @@ mod copies;
 mod intake;
 mod mem_intake;
 mod mem_sink;
+mod pieces;
 mod sink;
 mod std_intake;
 mod std_sink;
@@ -13,6 +14,7 @@ mod whole;
 pub use intake::Intake;
 pub use mem_intake::MemIntake;
 pub use mem_sink::MemSink;
+pub use pieces::{PIECE, Pieces};
 pub use sink::Sink;
 pub use std_intake::StdIntake;
 pub use std_sink::StdSink;
@@ -25,6 +27,3 @@ pub struct Failed;
 /// No memory was left.
 #[derive(Clone, Copy, Debug, PartialEq, Eq)]
 pub struct Memory;
-
-#[cfg(test)]
-mod tests;

@@ -1,13 +1,16 @@
 //! A real stream to read.
 
 ghost use Rattle.std.specs.Prelude.{◌≡◌};
+ghost use Rattle.std.specs.Io.{ReadsAtMost};
+ghost use Rattle.std.specs.Io.KnownBytes.{ReadConsumes};
 
 use super::{Failed, Intake};
 use std::io::{ErrorKind, Read};
 use std::marker::Model;
 
-/// Bytes that std reads from the outside. It tells no content: this is the trusted edge, and one
-/// test reads through it. Contracts see it as its count of faults.
+/// Bytes that std reads from the outside. What is left is what the reader has left, where the reader
+/// tells it. std's readers of files, pipes and terminals tell nothing: they are the trusted edge.
+/// Contracts see it as the reader and the count of faults.
 #[derive(Drop)]
 pub struct StdIntake<R: Read + Drop> {
     reader: R,
@@ -15,42 +18,53 @@ pub struct StdIntake<R: Read + Drop> {
 }
 
 impl<R: Read + Drop> Model for StdIntake<R> {
-    ghost use Rattle.std.specs.Prelude.{ℕ};
+    ghost use Rattle.tk_io.specs.Outside.{Outside, outside_code};
 
-    ghost Value = { ℕ };
+    ghost Value = { Outside R };
 
-    ghost view = { λ s. s.faults };
+    ghost coded = { outside_code R.code };
+
+    ghost view = { λ s. record { stream = s.reader; faults = s.faults } };
 }
 
 impl<R: Read + Drop> StdIntake<R> {
     /// The stream that this reader reads. It had no fault yet.
     pub fn make(reader: R) -> StdIntake<R>
-        ensures { result ≡ 0 }
+        ensures { result ≡ record { stream = reader; faults = 0 } }
     {
         StdIntake { reader, faults: 0 }
     }
 }
 
 impl<R: Read + Drop> Intake for StdIntake<R> {
-    ghost use Rattle.std.specs.Prelude.{None};
+    ghost left = { λ s. R.remaining s.stream };
 
-    ghost left = { λ _. None };
+    ghost faults = { λ s. s.faults };
 
-    ghost faults = { λ s. s };
-
-    /// Reads once, and again where the call was interrupted.
+    /// Reads once, and again where the call was interrupted. Any other error is a fault.
     fn read(&mut self, into: &mut [u8]) -> Result<usize, Failed> {
-        for _ in 0..u64::MAX {
-            match self.reader.read(into) {
-                Ok(count) => return Ok(count),
-                Err(error) => {
-                    if error.kind() != ErrorKind::Interrupted {
-                        break;
-                    }
+        let read = read_once(&mut self.reader, into);
+        if read.is_err() {
+            self.faults = self.faults.saturating_add(1);
+        }
+        read
+    }
+}
+
+/// Reads once, and again where the call was interrupted.
+fn read_once<R: Read>(reader: &mut R, into: &mut [u8]) -> Result<usize, Failed>
+    ensures bound { ReadsAtMost result into.new }
+    ensures bytes { ReadConsumes (R.remaining reader.old) (R.remaining reader.new) result into.new }
+{
+    for _ in 0..u64::MAX {
+        match reader.read(into) {
+            Ok(count) => return Ok(count),
+            Err(error) => {
+                if error.kind() != ErrorKind::Interrupted {
+                    break;
                 }
             }
         }
-        self.faults = self.faults.saturating_add(1);
-        Err(Failed)
     }
+    Err(Failed)
 }

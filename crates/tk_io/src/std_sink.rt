@@ -1,13 +1,16 @@
 //! A real stream to write to.
 
-ghost use Rattle.std.specs.Prelude.{◌≡◌};
+ghost use Rattle.std.specs.Prelude.{◌≡◌, ◌<◌, length, IfOk};
+ghost use Rattle.std.specs.Io.{WritesAtMost};
+ghost use Rattle.std.specs.Io.KnownBytes.{WriteAppends};
 
 use super::{Failed, Sink};
 use std::io::{ErrorKind, Write};
 use std::marker::Model;
 
-/// Bytes that std writes to the outside. It tells no content: this is the trusted edge, and one test
-/// writes through it. Contracts see it as its count of faults.
+/// Bytes that std writes to the outside. What it holds is what the writer took, where the writer tells
+/// it. std's writers to files, pipes and terminals tell nothing: they are the trusted edge. Contracts
+/// see it as the writer and the count of faults.
 #[derive(Drop)]
 pub struct StdSink<W: Write + Drop> {
     writer: W,
@@ -15,48 +18,60 @@ pub struct StdSink<W: Write + Drop> {
 }
 
 impl<W: Write + Drop> Model for StdSink<W> {
-    ghost use Rattle.std.specs.Prelude.{ℕ};
+    ghost use Rattle.tk_io.specs.Outside.{Outside, outside_code};
 
-    ghost Value = { ℕ };
+    ghost Value = { Outside W };
 
-    ghost view = { λ s. s.faults };
+    ghost coded = { outside_code W.code };
+
+    ghost view = { λ s. record { stream = s.writer; faults = s.faults } };
 }
 
 impl<W: Write + Drop> StdSink<W> {
     /// The stream that this writer writes. It had no fault yet.
     pub fn make(writer: W) -> StdSink<W>
-        ensures { result ≡ 0 }
+        ensures { result ≡ record { stream = writer; faults = 0 } }
     {
         StdSink { writer, faults: 0 }
     }
 }
 
 impl<W: Write + Drop> Sink for StdSink<W> {
-    ghost use Rattle.std.specs.Prelude.{None};
+    ghost held = { λ s. W.contents s.stream };
 
-    ghost held = { λ _. None };
+    ghost faults = { λ s. s.faults };
 
-    ghost faults = { λ s. s };
-
-    /// Writes once, and again where the call was interrupted. A write that takes nothing of a piece
-    /// counts as a fault.
+    /// Writes once, and again where the call was interrupted. Any other error is a fault, and so is a
+    /// write that takes nothing of a piece.
     fn write(&mut self, bytes: &[u8]) -> Result<usize, Failed> {
-        for _ in 0..u64::MAX {
-            match self.writer.write(bytes) {
-                Ok(count) => {
-                    if count == 0 && !bytes.is_empty() {
-                        break;
-                    }
-                    return Ok(count);
+        let written = write_once(&mut self.writer, bytes);
+        if written.is_err() {
+            self.faults = self.faults.saturating_add(1);
+        }
+        written
+    }
+}
+
+/// Writes once, and again where the call was interrupted.
+fn write_once<W: Write>(writer: &mut W, bytes: &[u8]) -> Result<usize, Failed>
+    ensures bound { WritesAtMost result bytes.now }
+    ensures moves { 0 < length bytes.now → IfOk result (λ count. 0 < count) }
+    ensures taken { WriteAppends (W.contents writer.old) (W.contents writer.new) result bytes.now }
+{
+    for _ in 0..u64::MAX {
+        match writer.write(bytes) {
+            Ok(count) => {
+                if count == 0 && !bytes.is_empty() {
+                    break;
                 }
-                Err(error) => {
-                    if error.kind() != ErrorKind::Interrupted {
-                        break;
-                    }
+                return Ok(count);
+            }
+            Err(error) => {
+                if error.kind() != ErrorKind::Interrupted {
+                    break;
                 }
             }
         }
-        self.faults = self.faults.saturating_add(1);
-        Err(Failed)
     }
+    Err(Failed)
 }

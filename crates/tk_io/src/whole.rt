@@ -1,6 +1,6 @@
 //! Whole texts through streams.
 
-ghost use Rattle.std.specs.Prelude.{◌≡◌, ◌≤◌, ◌++◌, List, ℕ, length, IfOk, IfErr, OnOk, OnErr};
+ghost use Rattle.std.specs.Prelude.{◌≡◌, ◌≤◌, ◌<◌, ◌+◌, ◌++◌, List, ℕ, length, IfOk, IfErr, OnOk, OnErr};
 ghost use Rattle.std.specs.Io.KnownBytes.{Appends, Consumes, IsAtEnd};
 ghost use Rattle.tk_io.specs.Faults.{HasCause};
 ghost use Rattle.tk_io.specs.Whole.{GaveAll, StopsReading, StopsPiece, TookFront};
@@ -22,7 +22,9 @@ pub enum ReadError {
 /// The most bytes that one read is asked for.
 const PIECE: usize = 8192;
 
-/// Reads a stream to its end, of at most `limit` bytes. After an error some bytes may have been read.
+/// Reads a stream to its end, of at most `limit` bytes. No more than one byte beyond the limit is
+/// asked for, so a stream that gives more is too long whatever becomes of it. After an error some
+/// bytes may have been read.
 pub fn read_text<R: Intake>(alloc: Global, input: &mut R, limit: u64) -> Result<Vec<u8>, ReadError>
     ensures counts { R.faults input.old ≤ R.faults input.new }
     ensures whole { IfOk result (λ text. GaveAll limit (R.left input.old) (R.left input.new) text.items) }
@@ -32,26 +34,43 @@ pub fn read_text<R: Intake>(alloc: Global, input: &mut R, limit: u64) -> Result<
 {
     let mut text = Vec::new(alloc);
     while text.len() as u64 <= limit {
-        if read_piece(input, &mut text)? == 0 {
+        let most = asked(limit, text.len() as u64);
+        if read_piece(input, &mut text, most)? == 0 {
             return Ok(text);
         }
     }
     Err(ReadError::Long)
 }
 
-/// Reads once, and puts what came at the end of the text. 0 is the end of the stream.
-fn read_piece<R: Intake>(input: &mut R, text: &mut Vec<u8>) -> Result<usize, ReadError>
-    ensures given { (piece : List ℕ) × Consumes (R.left input.old) (R.left input.new) piece
+/// How many bytes the next read is asked for, after `count` bytes: at most one beyond the limit.
+fn asked(limit: u64, count: u64) -> usize
+    ensures some { 0 < result }
+    ensures piece { result ≤ PIECE }
+    ensures within { count ≤ limit → count + result ≤ limit + 1 }
+{
+    let left = limit.saturating_sub(count);
+    left.min(PIECE as u64 - 1) as usize + 1
+}
+
+/// Reads once, at most `most` bytes, and puts what came at the end of the text. 0 is the end of the
+/// stream.
+fn read_piece<R: Intake>(input: &mut R, text: &mut Vec<u8>, most: usize) -> Result<usize, ReadError>
+    requires some { 0 < most }
+    requires piece { most ≤ PIECE }
+    ensures given { (piece : List ℕ) × Consumes (R.left input.old) (R.left input.new) piece × (length piece ≤ most)
         × IfOk result (λ count. (length piece ≡ count) × (text.new.items ≡ text.old.items ++ piece)) }
     ensures ended { IfOk result (λ count. count ≡ 0 → IsAtEnd (R.left input.new)) }
     ensures counts { R.faults input.old ≤ R.faults input.new }
-    ensures stopped { IfErr result (StopsPiece (R.faults input.old) (R.faults input.new)) }
+    ensures stopped { IfErr result (StopsPiece (R.left input.old) (R.left input.new) (R.faults input.old) (R.faults input.new)) }
     ensures quiet { OnOk result (R.faults input.new ≡ R.faults input.old) }
 {
     let mut piece = [0; PIECE];
-    let count = input.read(&mut piece).map_err(|_| ReadError::Failed)?;
-    text.extend_from_slice(&piece[..count])
-        .map_err(|_| ReadError::Memory)?;
+    let Ok(count) = input.read(&mut piece[..most]) else {
+        return Err(ReadError::Failed);
+    };
+    let Ok(()) = text.extend_from_slice(&piece[..count]) else {
+        return Err(ReadError::Memory);
+    };
     Ok(count)
 }
 

@@ -6,17 +6,17 @@ use Rattle.query_text.specs.Pieces.{text_of}
 use Rattle.query_text.specs.Shape.{argument_pieces}
 use Rattle.query_text.specs.Front.{arguments_from}
 use Rattle.query_text.specs.Draft.{plain_argument, weighted_argument}
-use Rattle.query_text.specs.Printing.{Puts}
+use Rattle.tk_io.specs.Pieces.{Puts}
 use Rattle.query_text.proofs.printing.+put.Given as goal
 
 abbrev pub invariant-put_nodes-loop-place : goal.invariant-put_nodes-loop-place
 invariant-put_nodes-loop-place g l =
-    Puts (g.K.Sink.held l.fn.out) (g.K.Sink.held l.out) (g.K.Sink.faults l.fn.out) (g.K.Sink.faults l.out) l.fn.so_far l.state
+    Puts (g.K.Sink.held l.fn.out) (g.K.Sink.held l.out) (g.K.Sink.faults l.fn.out) (g.K.Sink.faults l.out) l.fn.pieces l.pieces
     (l.opening ++ text_of (argument_pieces (arguments_from (take l.place (map (plain_argument l.names) l.nodes)))))
 
 abbrev pub invariant-put_terms-loop-place : goal.invariant-put_terms-loop-place
 invariant-put_terms-loop-place g l =
-    Puts (g.K.Sink.held l.fn.out) (g.K.Sink.held l.out) (g.K.Sink.faults l.fn.out) (g.K.Sink.faults l.out) l.fn.so_far l.state
+    Puts (g.K.Sink.held l.fn.out) (g.K.Sink.held l.out) (g.K.Sink.faults l.fn.out) (g.K.Sink.faults l.out) l.fn.pieces l.pieces
     (codes "wsum(" ++ text_of (argument_pieces (arguments_from (take l.place (map (weighted_argument l.names) l.weighted)))))
 
 abbrev pub decreases-put_expr : goal.decreases-put_expr

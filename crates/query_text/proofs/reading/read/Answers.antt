@@ -1,4 +1,6 @@
-use Rattle.std.proofs.Common.{arith, Err}
+use Rattle.std.proofs.Common.{arith, Err, refl}
+use Rattle.query_text.specs.declared.fault.QueryFault.TheVariants.{LongLine}
+use Rattle.query_text.specs.declared.limits.TheConstants.{MAX_LINE}
 use Rattle.query_text.proofs.AnswerLaws.{draft_numbered, reads_finish, reads_fault}
 use Rattle.query_text.proofs.BackLaws.{read_back}
 use Rattle.query_text.proofs.reading.read.Goals as goal
@@ -8,6 +10,9 @@ finish-requires-clause-numbered c = draft_numbered c.args.bytes.now c.in-Ok.draf
 
 pub returns-clause-reads : goal.returns-clause-reads
 returns-clause-reads c = reads_finish c.args.bytes.now c.in-Ok.draft c.finish.result (omega arith) c.in-Ok.ensures c.finish.ensures.small c.finish.ensures.made
+
+pub returns-then-bytes-clause-again : goal.returns-then-bytes-clause-again
+returns-then-bytes-clause-again c = read_back c.args.bytes.now (Err (LongLine MAX_LINE)) (c.if-bytes.true, refl)
 
 pub returns-in-Err-clause-again : goal.returns-in-Err-clause-again
 returns-in-Err-clause-again c = read_back c.args.bytes.now (Err c.in-Err.fault) (reads_fault c.args.bytes.now c.in-Err.fault (omega arith) c.in-Err.ensures)

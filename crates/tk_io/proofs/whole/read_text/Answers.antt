@@ -9,4 +9,6 @@ returns-in_err-read_piece-clause-counts g c = omega (arith, c.in_err-read_piece.
 pub returns-in_err-read_piece-clause-stopped : goal.returns-in_err-read_piece-clause-stopped
 returns-in_err-read_piece-clause-stopped g c =
     let p = err_from_is_err_and c.from_residual.result c.from_residual.ensures.1 in
-    rw (p.1, p.2) (stops_reading _ _ _ _ _ _ _ _ _ _ c.loop-input.invariant.0 c.loop-input.invariant.1 c.in_err-read_piece.ensures.given.1 c.in_err-read_piece.ensures.stopped)
+    let given = c.in_err-read_piece.ensures.given in
+    rw (p.1, p.2) (stops_reading c.args.limit c.asked-most.result _ _ _ c.loop-text.text.items given.0 _ _ _ _ c.loop-text.invariant.0 c.loop-text.invariant.1
+    (omega arith) (omega (arith, c.asked-most.ensures.within)) given.1 given.2 c.in_err-read_piece.ensures.stopped)

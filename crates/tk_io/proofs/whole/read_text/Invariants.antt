@@ -1,12 +1,13 @@
-use Rattle.std.proofs.Common.{◌≡◌, ◌+◌, ◌-◌, vec_len}
+use Rattle.std.proofs.Common.{◌≡◌, ◌+◌, ◌-◌, ◌≤◌, vec_len}
 use Rattle.std.specs.Io.KnownBytes.{Consumes}
 use Rattle.tk_io.proofs.whole.read_text.Given as goal
 
--- the text so far came from the stream, and no call failed
-abbrev pub invariant-loop-input : goal.invariant-loop-input
-invariant-loop-input g l =
+-- the text so far came from the stream, at most one byte more than the limit, and no call failed
+abbrev pub invariant-loop-text : goal.invariant-loop-text
+invariant-loop-text g l =
     (g.R.Intake.faults l.input ≡ g.R.Intake.faults l.fn.input)
     × Consumes (g.R.Intake.left l.fn.input) (g.R.Intake.left l.input) l.text.items
+    × (vec_len l.text ≤ l.limit + 1)
 
-abbrev pub decreases-loop-input : goal.decreases-loop-input
-decreases-loop-input g l = l.limit + 1 - vec_len l.text
+abbrev pub decreases-loop-text : goal.decreases-loop-text
+decreases-loop-text g l = l.limit + 1 - vec_len l.text

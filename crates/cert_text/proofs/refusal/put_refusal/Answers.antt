@@ -1,0 +1,21 @@
+use Rattle.std.proofs.Common.{[], ◌∷◌, ◌++◌, map, codes, ap, sym, subst, ◌∙◌}
+use Rattle.std.specs.Option.{option_copied}
+use Rattle.std.specs.Fmt.{decimal}
+use Rattle.tk_io.specs.Pieces.{Puts}
+use Rattle.tk_io.proofs.Putting.{puts_then}
+use Rattle.cert_text.specs.Outcome.{names_of, refused_words}
+use Rattle.cert_text.specs.Refusal.{field_word, refusal_row}
+use Rattle.cert_text.specs.Writing.{further}
+use Rattle.cert_text.proofs.WritingLaws.{refused_parts}
+use Rattle.cert_text.proofs.refusal.put_refusal.Goals as goal
+
+pub returns : goal.returns
+unfolding refused_words
+returns g c =
+    let fields = map (field_word (names_of (option_copied c.args.query))) (refusal_row c.args.refusal).1 in
+    let name = c.refusal_name.result.now in
+    let words = decimal c.args.line ∷ name ∷ [] in
+    subst (Puts (g.K.Sink.held c.args.out.now) (g.K.Sink.held c.put_fields.new.out) (g.K.Sink.faults c.args.out.now) (g.K.Sink.faults c.put_fields.new.out) c.args.pieces.now c.put_fields.new.pieces)
+    (sym (ap (λ n. refused_words c.args.line n fields ++ 10 ∷ []) (sym c.refusal_name.ensures) ∙ refused_parts (codes "refused") (decimal c.args.line) name fields))
+    (puts_then _ _ _ _ _ _ _ _ _ (codes "refused") (further words ++ (further fields ++ 10 ∷ [])) c.put.ensures.puts
+    (puts_then _ _ _ _ _ _ _ _ _ (further words) (further fields ++ 10 ∷ []) c.put_words.ensures c.put_fields.ensures))

@@ -1,0 +1,3 @@
+-- Lemmas on words.
+mod BareLaws
+mod CommandLaws

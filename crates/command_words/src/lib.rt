@@ -1,0 +1,17 @@
+//! The words of a command line, and the command that they are.
+//!
+//! The first word is the command's name. What may follow it is the command's own; the word `--` ends
+//! the options and stands for nothing itself. There is no help option.
+#![tactic(auto)]
+
+mod command;
+mod given;
+mod words;
+
+pub use command::{Command, WordsFault, read_command};
+pub use given::read_words;
+pub use words::Words;
+
+/// No memory was left.
+#[derive(Clone, Copy, Debug, PartialEq, Eq)]
+pub struct Memory;

@@ -1,0 +1,216 @@
+-- What texts in pieces do to their stream.
+use Rattle.std.proofs.Common.{◌≡◌, ℕ, ◌+◌, ◌<◌, ◌≤◌, Bool, true, false, cond, List, [], ◌++◌, Option, Some, None, Result, Ok, Err, OnOk, OnErr, length, take, drop, refl, sym, ap, subst, ◌∙◌, arith, append_assoc, append-nil, length-append, length-drop}
+use Rattle.std.proofs.Math.Seq.{take-add}
+use Rattle.std.proofs.lemmas.List.{take-append-drop, length-take-le, take_all}
+use Rattle.std.proofs.lemmas.Bool.{false≢true}
+use Rattle.std.specs.Result.{is_err}
+use Rattle.std.specs.Io.KnownBytes.{Appends, Keeps}
+use Rattle.std.proofs.KnownBytes.{Appends-nil, Appends-trans, Keeps-refl}
+use Rattle.tk_io.specs.Faults.{HasCause, Rose}
+use Rattle.tk_io.specs.Whole.{TookFront}
+use Rattle.tk_io.specs.Pieces.{Passes, Puts, WaitsWhole, Ends, Writes}
+
+-- after some of a text: what of it and of the bytes before it was sent and what waits, and that nothing was sent yet where all fits
+pub record Goes (piece : ℕ) (held held_now : Option (List ℕ)) (faults faults_now : ℕ) (waiting now text : List ℕ) (done : ℕ) : Type 0 where
+  pub within : done ≤ length text
+  pub passes : Passes held held_now (waiting ++ take done text) now
+  pub same : faults_now ≡ faults
+  pub waits : length waiting + length text ≤ piece → (now ≡ waiting ++ take done text) × Keeps held held_now
+
+pub goes_none : (piece : ℕ) (held : Option (List ℕ)) (faults : ℕ) (waiting text : List ℕ) → Goes piece held held faults faults waiting waiting text 0
+goes_none piece held faults waiting text = record {
+  within = omega arith;
+  passes = ([], Appends-nil held, append-nil waiting);
+  same = refl;
+  waits = λ _. (sym (append-nil waiting), Keeps-refl held);
+}
+
+-- all that waits is sent, since it fills a piece and more comes
+pub goes_sent : (piece : ℕ) (held mid now : Option (List ℕ)) (faults faults_mid faults_now : ℕ) (waiting full empty text : List ℕ) (done : ℕ)
+    → Goes piece held mid faults faults_mid waiting full text done → length full ≡ piece → done < length text → Appends mid now full → faults_now ≡ faults_mid → empty ≡ []
+    → Goes piece held now faults faults_now waiting empty text done
+goes_sent piece held mid now f g h waiting full empty text done goes is_full more sent same none = record {
+  within = goes.within;
+  passes = (goes.passes.0 ++ full, Appends-trans held mid now goes.passes.0 full goes.passes.1 sent, goes.passes.2 ∙ sym (append-nil (goes.passes.0 ++ full)) ∙ ap (λ xs. (goes.passes.0 ++ full) ++ xs) (sym none));
+  same = same ∙ goes.same;
+  waits = λ fits.
+      let w = goes.waits fits in
+      let long : length full ≡ length waiting + done = ap length w.0 ∙ length-append waiting (take done text) ∙ ap (λ n. length waiting + n) (length-take-le done text goes.within) in
+      absurd (omega arith);
+}
+
+-- some more of the text waits
+pub goes_filled : (piece : ℕ) (held held_now : Option (List ℕ)) (faults faults_now : ℕ) (waiting mid now text rest : List ℕ) (done count : ℕ)
+    → Goes piece held held_now faults faults_now waiting mid text done → rest ≡ drop done text → count ≤ length rest → now ≡ mid ++ take count rest
+    → Goes piece held held_now faults faults_now waiting now text (done + count)
+goes_filled piece held held_now f g waiting mid now text rest done count goes is_rest some filled =
+    let next : take (done + count) text ≡ take done text ++ take count rest = take-add done count text ∙ ap (λ xs. take done text ++ take count xs) (sym is_rest) in
+    let longer : waiting ++ take (done + count) text ≡ (waiting ++ take done text) ++ take count rest =
+    ap (λ xs. waiting ++ xs) next ∙ sym (append_assoc waiting (take done text) (take count rest)) in
+    let sent = goes.passes.0 in
+    record {
+      within = omega (arith, length-drop done text, ap length is_rest);
+      passes = (
+        sent,
+        goes.passes.1,
+        longer ∙ ap (λ xs. xs ++ take count rest) goes.passes.2 ∙ append_assoc sent mid (take count rest) ∙ ap (λ xs. sent ++ xs) (sym filled),
+      );
+      same = goes.same;
+      waits = λ fits. (filled ∙ ap (λ xs. xs ++ take count rest) (goes.waits fits).0 ∙ sym longer, (goes.waits fits).1);
+    }
+
+-- what is put where all of the text was taken
+pub goes_all : (piece : ℕ) (held held_now : Option (List ℕ)) (faults faults_now : ℕ) (waiting now text : List ℕ) (done : ℕ)
+    → Goes piece held held_now faults faults_now waiting now text done → length text ≤ done
+    → Puts held held_now faults faults_now (Some waiting) (Some now) text × WaitsWhole piece held held_now (Some waiting) (Some now) text
+unfolding Puts WaitsWhole
+goes_all piece held held_now f g waiting now text done goes past =
+    let all : take done text ≡ text = take_all done text past in (
+      ((goes.passes.0, goes.passes.1, ap (λ xs. waiting ++ xs) (sym all) ∙ goes.passes.2), goes.same),
+      λ fits. (ap Some ((goes.waits fits).0 ∙ ap (λ xs. waiting ++ xs) all), (goes.waits fits).1),
+    )
+
+-- a front of what waits is a front of all
+pub stops_front : (held mid now : Option (List ℕ)) (sent full bytes rest : List ℕ) → Appends held mid sent → bytes ≡ sent ++ full → TookFront mid now full → TookFront held now (bytes ++ rest)
+stops_front held mid now sent full bytes rest passed is front =
+    let all : bytes ≡ (sent ++ front.0) ++ front.1 = is ∙ ap (λ xs. sent ++ xs) front.2 ∙ sym (append_assoc sent front.0 front.1) in
+    (sent ++ front.0, front.1 ++ rest, ap (λ xs. xs ++ rest) all ∙ append_assoc (sent ++ front.0) front.1 rest, Appends-trans held mid now sent front.0 passed front.3)
+
+-- what is put where a write failed on the way
+pub goes_stopped : (piece : ℕ) (held mid now : Option (List ℕ)) (faults faults_mid faults_now : ℕ) (waiting full text : List ℕ) (done : ℕ)
+    → Goes piece held mid faults faults_mid waiting full text done → length full ≡ piece → done < length text → TookFront mid now full → faults_mid ≤ faults_now → Rose faults_mid faults_now
+    → Puts held now faults faults_now (Some waiting) None text × WaitsWhole piece held now (Some waiting) None text
+unfolding Puts WaitsWhole
+goes_stopped piece held mid now f g h waiting full text done goes is_full more front later rose =
+    let whole : (waiting ++ take done text) ++ drop done text ≡ waiting ++ text = append_assoc waiting (take done text) (drop done text) ∙ ap (λ xs. waiting ++ xs) (take-append-drop done text) in (
+      record {
+        front = subst (TookFront held now) whole (stops_front held mid now goes.passes.0 full (waiting ++ take done text) (drop done text) goes.passes.1 goes.passes.2 front);
+        later = omega (arith, goes.same, later);
+        rose = subst (λ n. Rose n h) goes.same rose;
+      },
+      λ fits.
+          let w = goes.waits fits in
+          let long : length full ≡ length waiting + done = ap length w.0 ∙ length-append waiting (take done text) ∙ ap (λ n. length waiting + n) (length-take-le done text goes.within) in
+          absurd (omega arith),
+    )
+
+-- nothing is put once a write has failed
+pub puts_failed : (piece : ℕ) (held : Option (List ℕ)) (faults : ℕ) (text : List ℕ) → Puts held held faults faults None None text × WaitsWhole piece held held None None text
+unfolding Puts WaitsWhole
+puts_failed piece held faults text = ((refl, refl, refl), tt)
+
+-- one text and then another
+pub puts_then : (hb hm hn : Option (List ℕ)) (fb fm fn : ℕ) (before mid now : Option (List ℕ)) (x y : List ℕ)
+    → Puts hb hm fb fm before mid x → Puts hm hn fm fn mid now y → Puts hb hn fb fn before now (x ++ y)
+unfolding Puts
+puts_then hb hm hn fb fm fn None None now x y first second = (second.0, second.1 ∙ first.1, second.2 ∙ first.2)
+puts_then hb hm hn fb fm fn None (Some m) now x y first second = absurd cc
+puts_then hb hm hn fb fm fn (Some w) None None x y first second = record {
+  front = (
+    first.front.0,
+    first.front.1 ++ y,
+    sym (append_assoc w x y) ∙ ap (λ z. z ++ y) first.front.2 ∙ append_assoc first.front.0 first.front.1 y,
+    subst (λ h. Appends hb h first.front.0) (sym second.1) first.front.3,
+  );
+  later = omega (arith, first.later, second.2);
+  rose = subst (λ n. Rose fb n) (sym second.2) first.rose;
+}
+puts_then hb hm hn fb fm fn (Some w) None (Some n) x y first second = absurd cc
+puts_then hb hm hn fb fm fn (Some w) (Some m) None x y first second =
+    let sent = first.0.0 in
+    let front = stops_front hb hm hn sent (m ++ y) (w ++ (x ++ y)) [] first.0.1 (sym (append_assoc w x y) ∙ ap (λ z. z ++ y) first.0.2 ∙ append_assoc sent m y) second.front in
+    record {
+      front = subst (TookFront hb hn) (append-nil (w ++ (x ++ y))) front;
+      later = omega (arith, first.1, second.later);
+      rose = subst (λ n. Rose n fn) first.1 second.rose;
+    }
+puts_then hb hm hn fb fm fn (Some w) (Some m) (Some n) x y first second =
+    let sent = first.0.0 in
+    let more = second.0.0 in (
+      (
+        sent ++ more,
+        Appends-trans hb hm hn sent more first.0.1 second.0.1,
+        sym (append_assoc w x y) ∙ ap (λ z. z ++ y) first.0.2 ∙ append_assoc sent m y ∙ ap (λ z. sent ++ z) second.0.2 ∙ sym (append_assoc sent more n),
+      ),
+      second.1 ∙ first.1,
+    )
+
+-- nothing at all is put
+pub puts_none : (held : Option (List ℕ)) (faults : ℕ) (now : Option (List ℕ)) → Puts held held faults faults now now []
+unfolding Puts
+puts_none held faults None = (refl, refl, refl)
+puts_none held faults (Some waiting) = (([], Appends-nil held, append-nil waiting), refl)
+
+-- a text that was put where nothing waited, and its end
+written_from_none : {T E : Type 0} (hb hm hn : Option (List ℕ)) (fb fm fn : ℕ) (mid : Option (List ℕ)) (result : Result T E) (text : List ℕ)
+    → Puts hb hm fb fm (Some []) mid text → Ends hm hn fm fn mid result → Writes hb hn fb fn result text
+unfolding Puts Ends
+written_from_none hb hm hn fb fm fn None (Ok done) text puts ends = absurd ends
+written_from_none hb hm hn fb fm fn None (Err failed) text puts ends = record {
+  whole = tt;
+  front = subst (λ h. TookFront hb h text) (sym ends.0) puts.front;
+  cause = record { later = omega (arith, puts.later, ends.1); failed = subst (λ n. Rose fb n) (sym ends.1) puts.rose; stays = tt };
+}
+written_from_none hb hm hn fb fm fn (Some w) (Ok done) text puts ends = record {
+  whole = subst (Appends hb hn) (sym puts.0.2) (Appends-trans hb hm hn puts.0.0 w puts.0.1 ends.0);
+  front = tt;
+  cause = record { later = omega (arith, puts.1, ends.1); failed = tt; stays = ends.1 ∙ puts.1 };
+}
+written_from_none hb hm hn fb fm fn (Some w) (Err failed) text puts ends = record {
+  whole = tt;
+  front = subst (TookFront hb hn) (append-nil text) (stops_front hb hm hn puts.0.0 w text [] puts.0.1 puts.0.2 ends.front);
+  cause = record { later = omega (arith, puts.1, ends.later); failed = subst (λ n. Rose n fn) puts.1 ends.rose; stays = tt };
+}
+
+-- the same where it is known that nothing waited
+pub puts_written : {T E : Type 0} (hb hm hn : Option (List ℕ)) (fb fm fn : ℕ) (before mid : Option (List ℕ)) (result : Result T E) (text : List ℕ)
+    → before ≡ Some [] → Puts hb hm fb fm before mid text → Ends hm hn fm fn mid result → Writes hb hn fb fn result text
+puts_written hb hm hn fb fm fn before mid result text none puts ends =
+    written_from_none hb hm hn fb fm fn mid result text (subst (λ p. Puts hb hm fb fm p mid text) none puts) ends
+
+-- the end of a text of which a write failed before
+pub ends_failed : (T : Type 0) {E : Type 0} (held : Option (List ℕ)) (faults : ℕ) (waiting : List ℕ) (failed : Bool) (self : Option (List ℕ)) (e : E)
+    → cond failed None (Some waiting) ≡ self → failed ≡ true → Ends {T = T} held held faults faults self (Err e)
+unfolding Ends
+ends_failed T held faults waiting true self e view is = subst (λ s. Ends {T = T} held held faults faults s (Err e)) view (refl, refl)
+ends_failed T held faults waiting false self e view is = absurd (false≢true is)
+
+-- the end of one of which none failed
+pub ends_sent : {T E : Type 0} (held held_now : Option (List ℕ)) (faults faults_now : ℕ) (waiting : List ℕ) (failed : Bool) (self : Option (List ℕ)) (result : Result T E)
+    → cond failed None (Some waiting) ≡ self → failed ≡ false → OnOk result (Appends held held_now waiting) → OnErr result (TookFront held held_now waiting) → HasCause faults faults_now result
+    → Ends held held_now faults faults_now self result
+unfolding Ends
+ends_sent {T} {E} held held_now f g waiting true self result view is whole front cause = absurd (false≢true (sym is))
+ends_sent {T} {E} held held_now f g waiting false self (Ok done) view is whole front cause = subst (λ s. Ends {T = T} {E = E} held held_now f g s (Ok done)) view (whole, cause.stays)
+ends_sent {T} {E} held held_now f g waiting false self (Err e) view is whole front cause =
+    subst (λ s. Ends {T = T} {E = E} held held_now f g s (Err e)) view (record { front = front; later = cause.later; rose = cause.failed })
+
+-- what is put, and that it waits where it fits
+abbrev pub PutsWhole : ℕ → Option (List ℕ) → Option (List ℕ) → ℕ → ℕ → Option (List ℕ) → Option (List ℕ) → List ℕ → Type 0
+PutsWhole piece held held_now faults faults_now before now text = Puts held held_now faults faults_now before now text × WaitsWhole piece held held_now before now text
+
+-- contracts see the bytes that wait where no write failed, and none where one did
+pub seen_waiting : (failed : Bool) (waiting : List ℕ) → failed ≡ false → Some waiting ≡ cond failed None (Some waiting)
+seen_waiting true waiting is = absurd (false≢true (sym is))
+seen_waiting false waiting is = refl
+
+pub seen_failed : (failed : Bool) (waiting : List ℕ) → failed ≡ true → None ≡ cond failed None (Some waiting)
+seen_failed true waiting is = refl
+seen_failed false waiting is = absurd (false≢true is)
+
+pub puts_seen : (piece : ℕ) (held held_now : Option (List ℕ)) (faults faults_now : ℕ) (before now seen seen_now : Option (List ℕ)) (text : List ℕ)
+    → before ≡ seen → now ≡ seen_now → PutsWhole piece held held_now faults faults_now before now text → PutsWhole piece held held_now faults faults_now seen seen_now text
+puts_seen piece held held_now f g before now seen seen_now text is is_now puts =
+    subst (λ n. PutsWhole piece held held_now f g seen n text) is_now (subst (λ b. PutsWhole piece held held_now f g b now text) is puts)
+
+-- an error is one
+pub failed_is : {T E : Type 0} (held : Option (List ℕ)) (held_now : Option (List ℕ)) (faults faults_now : ℕ) (bytes : List ℕ) (result : Result T E) → is_err result ≡ true
+    → OnErr result (TookFront held held_now bytes) → HasCause faults faults_now result → TookFront held held_now bytes × (faults ≤ faults_now) × Rose faults faults_now
+failed_is held held_now f g bytes (Ok x) is front cause = absurd (false≢true is)
+failed_is held held_now f g bytes (Err e) is front cause = (front, cause.later, cause.failed)
+
+-- a success is none
+pub sent_is : {T E : Type 0} (held held_now : Option (List ℕ)) (faults faults_now : ℕ) (bytes rest : List ℕ) (result : Result T E) → is_err result ≡ false
+    → OnOk result (Appends held held_now bytes) → OnOk result (rest ≡ []) → HasCause faults faults_now result → Appends held held_now bytes × (rest ≡ []) × (faults_now ≡ faults)
+sent_is held held_now f g bytes rest (Ok x) is sent none cause = (sent, none, cause.stays)
+sent_is held held_now f g bytes rest (Err e) is sent none cause = absurd (false≢true (sym is))
