@@ -1,0 +1,251 @@
+-- What a query line comes to, from what its query comes to over its lists.
+use Rattle.std.proofs.Common.{◌≡◌, ℕ, zero, suc, ◌<◌, ◌≤◌, inl, inr, true, false, is_none, List, [], ◌∷◌, length, map, All, Contains, Some, None, Ok, Err, IfSome, slice_index_or, refl, sym, ap, ◌∙◌, subst, arith}
+use Rattle.std.specs.List.{position}
+use Rattle.std.proofs.lemmas.Bool.{cases_lt}
+use Rattle.std.proofs.lemmas.List.{length-map}
+use Rattle.std.proofs.lemmas.List.Elements.{All-from_recursion, Contains-append_left}
+use Rattle.std.proofs.lemmas.List.Quantifiers.{position-Some}
+use Rattle.topk_theory.proofs.AgreementLists.{contains_cases, all_from_members, member_of_all}
+use Rattle.query_text.specs.declared.query.Query.{Query}
+use Rattle.query_text.specs.declared.fault.QueryFault.{QueryFault}
+use Rattle.query_text.specs.declared.fault.QueryFault.TheVariants.{LongLine, Syntax, Number, TooManyLists, TooManyNodes, TooDeep, TooBig, Memory}
+use Rattle.query_text.specs.Reading.{Reads}
+use Rattle.query_text.proofs.BackLaws.{read_back}
+use Rattle.cert_text.specs.declared.refusal.Refusal.{Refusal}
+use Rattle.cert_text.specs.declared.refusal.Refusal.TheVariants.{ManyQueries, UnknownList, KAboveCount}
+use Rattle.cert_text.specs.Refusal.{refused_lists}
+use Rattle.query_core.specs.declared.ready.Ready.{Ready}
+use Rattle.query_core.proofs.ListCount.{lists_counted}
+use Rattle.query_admission.specs.View.{View, AreListed}
+use Rattle.query_admission.specs.Causes.{most_queries, Line, Cause, admission_causes, text_refusal, Over, ListsGive, Gives, NoneOf}
+use Rattle.query_admission.specs.Admission.{IsRefused, IsAdmitted}
+use Rattle.query_admission.specs.Screening.{list_causes, Screens, Weighs}
+use Rattle.query_admission.specs.declared.admission.Weighed.TheVariants.{Ready as Fits, Refused as NotReady}
+use Rattle.query_admission.specs.declared.lists.Listed.{Listed}
+use Rattle.query_admission.proofs.Positions.{small_size, size_there}
+
+-- a line is read as one query, and where it's read as one it has no fault
+pub read_once : (bytes : List ℕ) (p q : Query) → Reads bytes (Ok p) → Reads bytes (Ok q) → p ≡ q
+read_once bytes p q is_p is_q =
+    elim (read_back bytes (Ok p) is_p q is_q.0.lawful is_q.1 is_q.0.text) [ inl same ↦ cc | inr other ↦ absurd cc ]
+
+no_memory : (fault : QueryFault) (refusal : Refusal) → fault ≡ Memory → text_refusal fault ≡ Some refusal → ⊥
+no_memory fault refusal is e = let none : text_refusal Memory ≡ Some refusal = subst (λ f. text_refusal f ≡ Some refusal) is e in absurd cc
+
+read_faultless : (bytes : List ℕ) (q : Query) (fault : QueryFault) (refusal : Refusal) → Reads bytes (Ok q) → text_refusal fault ≡ Some refusal → Reads bytes (Err fault) → ⊥
+read_faultless bytes q fault refusal is_q e bad =
+    elim (read_back bytes (Err fault) bad q is_q.0.lawful is_q.1 is_q.0.text) [
+      | inl other ↦ absurd cc
+      | inr none ↦ no_memory fault refusal (cc) e
+    ]
+
+-- the lists of a query are known one way
+pub lists_once : (xs ys : List Listed) → map Some xs ≡ map Some ys → xs ≡ ys
+lists_once [] [] e = refl
+lists_once [] (y ∷ ys) e = absurd cc
+lists_once (x ∷ xs) [] e = absurd cc
+lists_once (x ∷ xs) (y ∷ ys) e =
+    let here : x ≡ y = cc in
+    let rest : map Some xs ≡ map Some ys = cc in
+    ap (λ z. z ∷ xs) here ∙ ap (λ zs. y ∷ zs) (lists_once xs ys rest)
+
+pub listed_many : (view : View) (q : Query) (lists : List Listed) → AreListed view q lists → length q.names ≡ length lists
+listed_many view q lists listed = sym (length-map q.names view.listed) ∙ ap length listed ∙ length-map lists Some
+
+-- the query of a line and its lists
+pub record IsHere (x : Line) (q : Query) (lists : List Listed) : Type 0 where
+  pub few : x.number ≤ most_queries
+  pub reads : Reads x.bytes (Ok q)
+  pub listed : AreListed x.view q lists
+
+over_here : (x : Line) (q : Query) (lists : List Listed) (P : Query → List Listed → Type 0) → IsHere x q lists → Over x P → P q lists
+over_here x q lists P here over =
+    let same : over.query ≡ q = read_once x.bytes over.query q over.reads here.reads in
+    let listed : map Some over.lists ≡ map Some lists = sym over.listed ∙ ap (λ p. map x.view.listed p.names) same ∙ here.listed in
+    subst (P q) (lists_once over.lists lists listed) (subst (λ p. P p over.lists) same over.holds)
+
+-- the causes that lie in the lists
+abbrev IsOfLists : Cause → Type 0
+IsOfLists Cause.not_opened = Unit {0}
+IsOfLists Cause.too_large = Unit {0}
+IsOfLists Cause.counts_differ = Unit {0}
+IsOfLists Cause.k_above_count = Unit {0}
+IsOfLists Cause.no_random = Unit {0}
+IsOfLists cause = ⊥
+
+of_lists : (cause : Cause) → Contains list_causes cause → IsOfLists cause
+of_lists cause h = member_of_all IsOfLists list_causes cause (All-from_recursion IsOfLists list_causes (tt, (tt, (tt, (tt, (tt, tt)))))) h
+
+gives_here : (x : Line) (q : Query) (lists : List Listed) (cause : Cause) (refusal : Refusal) → IsHere x q lists → ListsGive q lists cause refusal → Gives x cause refusal
+gives_here x q lists Cause.many_queries refusal here h = absurd h
+gives_here x q lists Cause.text refusal here h = absurd h
+gives_here x q lists Cause.unknown_list refusal here h = absurd h
+gives_here x q lists Cause.room_full refusal here h = absurd h
+gives_here x q lists Cause.not_opened refusal here h = record { query = q; lists = lists; reads = here.reads; listed = here.listed; holds = h }
+gives_here x q lists Cause.too_large refusal here h = record { query = q; lists = lists; reads = here.reads; listed = here.listed; holds = h }
+gives_here x q lists Cause.counts_differ refusal here h = record { query = q; lists = lists; reads = here.reads; listed = here.listed; holds = h }
+gives_here x q lists Cause.k_above_count refusal here h = record { query = q; lists = lists; reads = here.reads; listed = here.listed; holds = h }
+gives_here x q lists Cause.no_random refusal here h = record { query = q; lists = lists; reads = here.reads; listed = here.listed; holds = h }
+
+gives_back : (x : Line) (q : Query) (lists : List Listed) (cause : Cause) (refusal : Refusal) → IsHere x q lists → IsOfLists cause → Gives x cause refusal → ListsGive q lists cause refusal
+gives_back x q lists Cause.many_queries refusal here of h = absurd of
+gives_back x q lists Cause.text refusal here of h = absurd of
+gives_back x q lists Cause.unknown_list refusal here of h = absurd of
+gives_back x q lists Cause.room_full refusal here of h = absurd of
+gives_back x q lists Cause.not_opened refusal here of h = over_here x q lists (λ p ls. ListsGive p ls Cause.not_opened refusal) here h
+gives_back x q lists Cause.too_large refusal here of h = over_here x q lists (λ p ls. ListsGive p ls Cause.too_large refusal) here h
+gives_back x q lists Cause.counts_differ refusal here of h = over_here x q lists (λ p ls. ListsGive p ls Cause.counts_differ refusal) here h
+gives_back x q lists Cause.k_above_count refusal here of h = over_here x q lists (λ p ls. ListsGive p ls Cause.k_above_count refusal) here h
+gives_back x q lists Cause.no_random refusal here of h = over_here x q lists (λ p ls. ListsGive p ls Cause.no_random refusal) here h
+
+-- the causes before those of the lists don't hold
+abbrev Never : Line → Cause → Type 0
+Never x cause = (refusal : Refusal) → ¬ Gives x cause refusal
+
+not_many : (x : Line) → x.number ≤ most_queries → Never x Cause.many_queries
+not_many x few = λ refusal h. absurd (omega (arith, h.1))
+
+not_text : (x : Line) (q : Query) → Reads x.bytes (Ok q) → Never x Cause.text
+not_text x q reads = λ refusal h. read_faultless x.bytes q h.0 refusal reads h.1 h.2
+
+known_somewhere : (lists : List Listed) (place : ℕ) → place < length (map Some lists) → is_none (slice_index_or (map Some lists) place None) ≡ false
+known_somewhere [] place l = absurd (omega arith)
+known_somewhere (list ∷ lists) zero l = refl
+known_somewhere (list ∷ lists) (suc place) l = known_somewhere lists place (omega arith)
+
+none_unknown : (lists : List Listed) (place : ℕ) → position is_none (map Some lists) ≡ Some place → ⊥
+none_unknown lists place e =
+    let found = position-Some is_none (map Some lists) place None e in
+    let known = known_somewhere lists place found.0 in
+    let here : is_none (slice_index_or (map Some lists) place None) ≡ true = found.1 in
+    absurd cc
+
+not_unknown : (x : Line) (q : Query) (lists : List Listed) → IsHere x q lists → Never x Cause.unknown_list
+not_unknown x q lists here = λ refusal h.
+    let same : h.query ≡ q = read_once x.bytes h.query q h.reads here.reads in
+    none_unknown lists h.holds.0 (subst (λ ks. position is_none ks ≡ Some h.holds.0) (ap (λ p. map x.view.listed p.names) same ∙ here.listed) h.holds.2)
+
+all_cons : (P : Cause → Type 0) (cause : Cause) (causes : List Cause) → P cause → All P causes → All P (cause ∷ causes)
+all_cons P cause causes here rest =
+    all_from_members P (cause ∷ causes) (λ other h. elim (contains_cases cause causes other h) [ inl same ↦ subst P same here | inr later ↦ member_of_all P causes other rest later ])
+
+none_before : (x : Line) (q : Query) (lists : List Listed) (earlier : List Cause) → IsHere x q lists → ((cause : Cause) → Contains earlier cause → IsOfLists cause) → NoneOf (ListsGive q lists) earlier
+    → NoneOf (Gives x) (Cause.many_queries ∷ Cause.text ∷ Cause.unknown_list ∷ earlier)
+none_before x q lists earlier here of none =
+    let rest : All (Never x) earlier = all_from_members (Never x) earlier
+    (λ cause h refusal gives. member_of_all (λ c. (any : Refusal) → ¬ ListsGive q lists c any) earlier cause none h refusal (gives_back x q lists cause refusal here (of cause h) gives)) in
+    all_cons (Never x) Cause.many_queries (Cause.text ∷ Cause.unknown_list ∷ earlier) (not_many x here.few)
+    (all_cons (Never x) Cause.text (Cause.unknown_list ∷ earlier) (not_text x q here.reads)
+    (all_cons (Never x) Cause.unknown_list earlier (not_unknown x q lists here) rest))
+
+-- a line too many, a fault of the text, and a name without a list
+pub refused_many : (x : Line) → most_queries < x.number → IsRefused admission_causes x (ManyQueries most_queries) None
+refused_many x many = record {
+  first = record {
+    cause = Cause.many_queries;
+    earlier = [];
+    later = Cause.text ∷ Cause.unknown_list ∷ list_causes;
+    order = refl;
+    gives = (refl, many);
+    first = All-from_recursion (Never x) [] tt;
+  };
+  reads = tt;
+  named = All-from_recursion (λ list. list < 0) [] tt;
+}
+
+faults_name_none : (fault : QueryFault) → IfSome (text_refusal fault) (λ refusal. refused_lists refusal ≡ [])
+faults_name_none (LongLine limit) = refl
+faults_name_none (Syntax at) = refl
+faults_name_none (Number at) = refl
+faults_name_none (TooManyLists at) = refl
+faults_name_none (TooManyNodes nodes) = refl
+faults_name_none (TooDeep depth) = refl
+faults_name_none (TooBig node) = refl
+faults_name_none Memory = tt
+
+text_names_none : (fault : QueryFault) (refusal : Refusal) → text_refusal fault ≡ Some refusal → refused_lists refusal ≡ []
+text_names_none fault refusal e = subst (λ o. IfSome o (λ r. refused_lists r ≡ [])) e (faults_name_none fault)
+
+pub refused_text : (x : Line) (fault : QueryFault) (refusal : Refusal) → x.number ≤ most_queries → text_refusal fault ≡ Some refusal → Reads x.bytes (Err fault) → IsRefused admission_causes x refusal None
+refused_text x fault refusal few e reads = record {
+  first = record {
+    cause = Cause.text;
+    earlier = Cause.many_queries ∷ [];
+    later = Cause.unknown_list ∷ list_causes;
+    order = refl;
+    gives = (fault, e, reads);
+    first = All-from_recursion (Never x) (Cause.many_queries ∷ []) (not_many x few, tt);
+  };
+  reads = tt;
+  named = subst (All (λ list. list < 0)) (sym (text_names_none fault refusal e)) (All-from_recursion (λ list. list < 0) [] tt);
+}
+
+pub refused_unknown : (x : Line) (q : Query) (refusal : Refusal) (list : ℕ) → x.number ≤ most_queries → Reads x.bytes (Ok q) → refusal ≡ UnknownList list → position is_none (map x.view.listed q.names) ≡ Some list → IsRefused admission_causes x refusal (Some q)
+refused_unknown x q refusal list few reads is unknown =
+    let within : list < length (map x.view.listed q.names) = (position-Some is_none (map x.view.listed q.names) list None unknown).0 in
+    let below : list < length q.names = omega (arith, within, length-map q.names x.view.listed) in
+    record {
+      first = record {
+        cause = Cause.unknown_list;
+        earlier = Cause.many_queries ∷ Cause.text ∷ [];
+        later = list_causes;
+        order = refl;
+        gives = record { query = q; reads = reads; holds = (list, is, unknown) };
+        first = All-from_recursion (Never x) (Cause.many_queries ∷ Cause.text ∷ []) (not_many x few, (not_text x q reads, tt));
+      };
+      reads = reads;
+      named = subst (λ r. All (λ l. l < length q.names) (refused_lists r)) (sym is) (All-from_recursion (λ l. l < length q.names) (list ∷ []) (below, tt));
+    }
+
+-- a cause that lies in the lists
+pub refused_lists_why : (x : Line) (q : Query) (lists : List Listed) (refusal : Refusal) → IsHere x q lists → Screens q lists (Err refusal) → IsRefused admission_causes x refusal (Some q)
+refused_lists_why x q lists refusal here why =
+    let f = why.0 in
+    let before : (cause : Cause) → Contains f.earlier cause → IsOfLists cause = λ cause h. of_lists cause (subst (λ cs. Contains cs cause) (sym f.order) (Contains-append_left f.earlier (f.cause ∷ f.later) cause h)) in
+    record {
+      first = record {
+        cause = f.cause;
+        earlier = Cause.many_queries ∷ Cause.text ∷ Cause.unknown_list ∷ f.earlier;
+        later = f.later;
+        order = ap (λ cs. Cause.many_queries ∷ Cause.text ∷ Cause.unknown_list ∷ cs) f.order;
+        gives = gives_here x q lists f.cause refusal here f.gives;
+        first = none_before x q lists f.earlier here before f.first;
+      };
+      reads = here.reads;
+      named = subst (λ n. All (λ list. list < n) (refused_lists refusal)) (sym (listed_many x.view q lists here.listed)) why.1;
+    }
+
+-- a query is ready
+pub ready_admitted : (x : Line) (ready : Ready) (lists : List Listed) → IsHere x ready.query lists → Screens ready.query lists (Ok ready.count) → map (λ list. list.source) lists ≡ ready.sources.items → IsAdmitted x ready
+ready_admitted x ready lists here screens sources =
+    let many = listed_many x.view ready.query lists here.listed in
+    let some : 0 < length lists = omega (arith, many, lists_counted ready.query here.reads.0.lawful, here.reads.1.lists.some) in
+    record {
+      unrefused = none_before x ready.query lists list_causes here of_lists screens.0;
+      sound = record {
+        lawful = here.reads.0.lawful;
+        expr = here.reads.1;
+        fits = elim (cases_lt ready.count ready.query.k) [
+          | inl less ↦ absurd (member_of_all (λ c. (any : Refusal) → ¬ ListsGive ready.query lists c any) list_causes Cause.k_above_count screens.0 (3, omega arith, refl) (KAboveCount ready.query.k ready.count) (ready.count, refl, screens.1, less))
+          | inr fits ↦ fits
+        ];
+        counted = small_size lists 0 ready.count screens.2 some (sym (size_there lists 0 some) ∙ screens.1);
+        sources = ap length (sym sources) ∙ length-map lists (λ (list : Listed). list.source) ∙ sym many;
+      };
+      reads = here.reads;
+      lists = lists;
+      listed = here.listed;
+      count = screens.1;
+      sources = sources;
+    }
+
+-- a query that was weighed over the lists of the line's view
+pub ready_weighed : (x : Line) (ready : Ready) → x.number ≤ most_queries → Reads x.bytes (Ok ready.query) → Weighs x.view ready.query (Fits ready.count ready.sources) → IsAdmitted x ready
+ready_weighed x ready few reads weighed = ready_admitted x ready weighed.0 (record { few = few; reads = reads; listed = weighed.1 }) weighed.2 weighed.3
+
+pub query_weighed : (x : Line) (q : Query) (refusal : Refusal) → x.number ≤ most_queries → Reads x.bytes (Ok q) → Weighs x.view q (NotReady refusal) → IsRefused admission_causes x refusal (Some q)
+query_weighed x q refusal few reads weighed =
+    elim weighed [
+      | inl unknown ↦ refused_unknown x q refusal unknown.0 few reads unknown.1 unknown.2
+      | inr screened ↦ refused_lists_why x q screened.0 refusal (record { few = few; reads = reads; listed = screened.1 }) screened.2
+    ]

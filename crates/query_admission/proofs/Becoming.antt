@@ -1,0 +1,114 @@
+-- What becomes of a line, from what admission answers and from what comes of its query.
+use Rattle.std.proofs.Common.{◌≡◌, ℕ, ◌<◌, ◌≤◌, List, [], ◌∷◌, ◌++◌, length, map, All, Option, Some, None, IfSome, unwrap_or, refl, sym, ap, ◌∙◌, subst, arith, append_assoc}
+use Rattle.std.proofs.lemmas.List.Elements.{All-from_recursion, All-push}
+use Rattle.ranked_list.specs.declared.row.Row.{Row}
+use Rattle.monotone_fn.specs.declared.costs.Costs.{Costs}
+use Rattle.access_log.specs.Log.{AgreesWith}
+use Rattle.access_log.specs.declared.answer.Answer.{Answer}
+use Rattle.query_text.specs.declared.query.Query.{Query}
+use Rattle.query_text.specs.Query.{IsCount}
+use Rattle.cert_text.specs.declared.refusal.Refusal.{Refusal}
+use Rattle.cert_text.specs.declared.refusal.Refusal.TheVariants.{RoomFull}
+use Rattle.cert_text.specs.declared.outcome.Outcome.TheVariants.{Answered, Refused}
+use Rattle.cert_text.specs.Outcome.{IsOutcome}
+use Rattle.query_core.specs.declared.ready.Ready.{Ready}
+use Rattle.query_core.specs.OneAnswer.{IsOverRoom, IsAnswered}
+use Rattle.query_core.specs.Driving.{AnswersOver}
+use Rattle.query_core.specs.Ready.{IsReady}
+use Rattle.query_core.proofs.Answering.{answered_short}
+use Rattle.query_admission.specs.View.{AreTold, count_of}
+use Rattle.query_admission.specs.Causes.{Line, Cause, admission_causes, Gives}
+use Rattle.query_admission.specs.Admission.{IsRefused, IsAdmitted}
+use Rattle.query_admission.specs.Becomes.{Becomes}
+use Rattle.query_admission.proofs.Admitting.{read_once, lists_once}
+
+-- what admission refuses is refused
+pub refused_line : (x : Line) (refusal : Refusal) (query : Option Query) (count : ℕ) → IsRefused admission_causes x refusal query → Becomes x query count (Refused refusal)
+refused_line x refusal query count refused =
+    let f = refused.first in
+    record {
+      first = record {
+        cause = f.cause;
+        earlier = f.earlier;
+        later = f.later ++ Cause.room_full ∷ [];
+        order = ap (λ cs. cs ++ Cause.room_full ∷ []) f.order ∙ append_assoc f.earlier (f.cause ∷ f.later) (Cause.room_full ∷ []);
+        gives = f.gives;
+        first = f.first;
+      };
+      reads = refused.reads;
+      named = refused.named;
+    }
+
+pub refused_writable : (query : Option Query) (x : Line) (causes : List Cause) (refusal : Refusal) → IsRefused causes x refusal query → IsOutcome query (Refused refusal)
+refused_writable None x causes refusal refused = refused.named
+refused_writable (Some q) x causes refusal refused = refused.named
+
+-- the rows of a query's lists are told one way
+told_once : (D E : List (List Row)) → map Some D ≡ map Some E → D ≡ E
+told_once [] [] e = refl
+told_once [] (rows ∷ E) e = absurd cc
+told_once (rows ∷ D) [] e = absurd cc
+told_once (rows ∷ D) (others ∷ E) e =
+    let here : rows ≡ others = cc in
+    let rest : map Some D ≡ map Some E = cc in
+    ap (λ r. r ∷ D) here ∙ ap (λ ds. others ∷ ds) (told_once D E rest)
+
+-- a query that is ready is refused for its room
+pub full_line : (x : Line) (ready : Ready) (D : List (List Row)) (room count : ℕ) → IsAdmitted x ready → AreTold x.view ready.query D → IsOverRoom ready.query ready.count D room → Becomes x (Some ready.query) count (Refused (RoomFull room))
+full_line x ready D room count admitted told over = record {
+  first = record {
+    cause = Cause.room_full;
+    earlier = admission_causes;
+    later = [];
+    order = refl;
+    gives = record {
+      query = ready.query;
+      lists = admitted.lists;
+      reads = admitted.reads;
+      listed = admitted.listed;
+      holds = (D, ready.count, room, refl, told, admitted.count, over);
+    };
+    first = admitted.unrefused;
+  };
+  reads = admitted.reads;
+  named = All-from_recursion (λ list. list < length ready.query.names) [] tt;
+}
+
+-- a query that is ready and fits its room isn't refused
+fits_room : (x : Line) (ready : Ready) (D : List (List Row)) → IsAdmitted x ready → AreTold x.view ready.query D → ((room : ℕ) → ¬ IsOverRoom ready.query ready.count D room) → (refusal : Refusal) → ¬ Gives x Cause.room_full refusal
+fits_room x ready D admitted told fits refusal over =
+    let q = ready.query in
+    let h = over.holds in
+    let same : over.query ≡ q = read_once x.bytes over.query q over.reads admitted.reads in
+    let listed : map Some over.lists ≡ map Some admitted.lists = sym over.listed ∙ (ap (λ p. map x.view.listed p.names) same ∙ admitted.listed) in
+    let lists : over.lists ≡ admitted.lists = lists_once over.lists admitted.lists listed in
+    let told_same : h.0 ≡ D = told_once h.0 D (sym h.4 ∙ (ap (λ p. map x.view.told p.names) same ∙ told)) in
+    let counts : Some h.1 ≡ Some ready.count = sym h.5 ∙ (ap count_of lists ∙ admitted.count) in
+    let count : h.1 ≡ ready.count = cc in
+    let over_q : IsOverRoom q h.1 h.0 h.2 = subst (λ p. IsOverRoom p h.1 h.0 h.2) same h.6 in
+    fits h.2 (subst (λ n. IsOverRoom q n D h.2) count (subst (λ E. IsOverRoom q h.1 E h.2) told_same over_q))
+
+one_more_cause : (P : Cause → Type 0) (causes : List Cause) (cause : Cause) → All P causes → P cause → All P (causes ++ cause ∷ [])
+one_more_cause P causes cause all here = All-push P causes cause all here
+
+-- a query that is ready is answered
+pub answered_line : (x : Line) (ready : Ready) (D : List (List Row)) (answer : Answer) → IsAdmitted x ready → AreTold x.view ready.query D → AnswersOver ready D answer → Becomes x (Some ready.query) ready.count (Answered answer)
+answered_line x ready D answer admitted told over = record {
+  unrefused = one_more_cause (λ cause. (refusal : Refusal) → ¬ Gives x cause refusal) admission_causes Cause.room_full admitted.unrefused (fits_room x ready D admitted told over.roomy);
+  reads = admitted.reads;
+  lists = admitted.lists;
+  listed = admitted.listed;
+  counted = admitted.count;
+  right = over.answered;
+  agrees = λ E e. subst (λ F. AgreesWith F answer.transcript) (sym (told_once E D (sym e ∙ told))) over.agrees;
+}
+
+-- what costs may be
+cost_small : (cost : Option Costs) → IfSome cost (λ c. IsCount c.sorted × IsCount c.random) → ((unwrap_or cost (record { sorted = 1; random = 1 })).sorted ≤ 1000000) × ((unwrap_or cost (record { sorted = 1; random = 1 })).random ≤ 1000000)
+cost_small None h = (omega arith, omega arith)
+cost_small (Some cost) h = (h.0.1, h.1.1)
+
+pub answered_writable : (ready : Ready) (answer : Answer) → IsReady ready → IsAnswered ready.query ready.count answer → IsOutcome (Some ready.query) (Answered answer)
+answered_writable ready answer is right =
+    let costs = cost_small ready.query.cost is.lawful.cost in
+    record { sorted = costs.0; random = costs.1; accesses = answered_short ready.query ready.count answer is.lawful is.expr.lists.some is.fits is.counted right }

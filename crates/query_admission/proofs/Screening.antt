@@ -1,0 +1,52 @@
+-- The first cause that lies in a query's lists.
+use Rattle.std.proofs.Common.{◌≡◌, ◌<◌, List, [], ◌∷◌, ◌++◌, length, All, Err, sym, subst}
+use Rattle.std.specs.List.{AllByRecursion}
+use Rattle.std.proofs.lemmas.List.Elements.{All-from_recursion}
+use Rattle.query_text.specs.declared.query.Query.{Query}
+use Rattle.cert_text.specs.declared.refusal.Refusal.{Refusal}
+use Rattle.cert_text.specs.Refusal.{refused_lists}
+use Rattle.query_admission.specs.View.{is_closed, is_large, differs, lacks_random}
+use Rattle.query_admission.specs.Causes.{Cause, ListsGive, NoneOf}
+use Rattle.query_admission.specs.Screening.{Screens, list_causes}
+use Rattle.query_admission.specs.declared.lists.Listed.{Listed}
+use Rattle.query_admission.proofs.Positions.{found_within}
+
+-- the lists that a refusal names are lists of the query
+pub lists_named : (q : Query) (lists : List Listed) (cause : Cause) (refusal : Refusal) → 0 < length lists → ListsGive q lists cause refusal → All (λ list. list < length lists) (refused_lists refusal)
+lists_named q lists Cause.many_queries refusal some h = absurd h
+lists_named q lists Cause.text refusal some h = absurd h
+lists_named q lists Cause.unknown_list refusal some h = absurd h
+lists_named q lists Cause.room_full refusal some h = absurd h
+lists_named q lists Cause.not_opened refusal some h =
+    subst (λ r. All (λ list. list < length lists) (refused_lists r)) (sym h.1)
+    (All-from_recursion (λ list. list < length lists) (h.0 ∷ []) (found_within is_closed lists h.0 h.2, tt))
+lists_named q lists Cause.too_large refusal some h =
+    subst (λ r. All (λ list. list < length lists) (refused_lists r)) (sym h.2)
+    (All-from_recursion (λ list. list < length lists) (h.0 ∷ []) (found_within is_large lists h.0 h.3, tt))
+lists_named q lists Cause.counts_differ refusal some h =
+    subst (λ r. All (λ list. list < length lists) (refused_lists r)) (sym h.3)
+    (All-from_recursion (λ list. list < length lists) (0 ∷ h.1 ∷ []) (some, (found_within (differs h.0) lists h.1 h.5, tt)))
+lists_named q lists Cause.k_above_count refusal some h =
+    subst (λ r. All (λ list. list < length lists) (refused_lists r)) (sym h.1) (All-from_recursion (λ list. list < length lists) [] tt)
+lists_named q lists Cause.no_random refusal some h =
+    subst (λ r. All (λ list. list < length lists) (refused_lists r)) (sym h.1)
+    (All-from_recursion (λ list. list < length lists) (h.0 ∷ []) (found_within lacks_random lists h.0 h.3, tt))
+
+-- a cause that holds after others that don't is the first
+pub first_cause : (q : Query) (lists : List Listed) (cause : Cause) (earlier later : List Cause) (refusal : Refusal) → list_causes ≡ earlier ++ cause ∷ later → 0 < length lists
+    → AllByRecursion (λ other. (any : Refusal) → ¬ ListsGive q lists other any) earlier → ListsGive q lists cause refusal → Screens q lists (Err refusal)
+first_cause q lists cause earlier later refusal order some none gives = (
+  record {
+    cause = cause;
+    earlier = earlier;
+    later = later;
+    order = order;
+    gives = gives;
+    first = All-from_recursion (λ other. (any : Refusal) → ¬ ListsGive q lists other any) earlier none;
+  },
+  lists_named q lists cause refusal some gives,
+)
+
+-- where none of them holds there is none
+pub no_cause : (q : Query) (lists : List Listed) → AllByRecursion (λ other. (any : Refusal) → ¬ ListsGive q lists other any) list_causes → NoneOf (ListsGive q lists) list_causes
+no_cause q lists none = All-from_recursion (λ other. (any : Refusal) → ¬ ListsGive q lists other any) list_causes none

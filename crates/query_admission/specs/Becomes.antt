@@ -1,0 +1,30 @@
+-- What becomes of a query line.
+use Rattle.std.specs.Prelude.{◌≡◌, ℕ, List, Option, None, Some, Ok}
+use Rattle.ranked_list.specs.declared.row.Row.{Row}
+use Rattle.access_log.specs.Log.{AgreesWith}
+use Rattle.access_log.specs.declared.answer.Answer.{Answer}
+use Rattle.query_text.specs.declared.query.Query.{Query}
+use Rattle.query_text.specs.Reading.{Reads}
+use Rattle.cert_text.specs.declared.outcome.Outcome.{Outcome}
+use Rattle.cert_text.specs.declared.outcome.Outcome.TheVariants.{Answered, Refused}
+use Rattle.query_core.specs.OneAnswer.{IsAnswered}
+use Rattle.query_admission.specs.View.{AreListed, AreTold, count_of}
+use Rattle.query_admission.specs.Causes.{Line, line_causes, Gives, NoneOf}
+use Rattle.query_admission.specs.Admission.{IsRefused}
+use Rattle.query_admission.specs.declared.lists.Listed.{Listed}
+
+-- nothing refuses the line, and its query is answered over lists of so many objects: the answer is right, and where the rows of its lists are told they agree with its transcript
+pub record AnswersLine (x : Line) (q : Query) (count : ℕ) (answer : Answer) : Type 0 where
+  pub unrefused : NoneOf (Gives x) line_causes
+  pub reads : Reads x.bytes (Ok q)
+  pub lists : List Listed
+  pub listed : AreListed x.view q lists
+  pub counted : count_of lists ≡ Some count
+  pub right : IsAnswered q count answer
+  pub agrees : (D : List (List Row)) → AreTold x.view q D → AgreesWith D answer.transcript
+
+-- what becomes of a line: the query that it spells, where it was read; the count of its lists, where it's answered; and the outcome
+abbrev pub Becomes : Line → Option Query → ℕ → Outcome → Type 0
+Becomes x query count (Refused refusal) = IsRefused line_causes x refusal query
+Becomes x (Some q) count (Answered answer) = AnswersLine x q count answer
+Becomes x None count (Answered answer) = ⊥

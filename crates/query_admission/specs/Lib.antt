@@ -1,0 +1,5 @@
+pub mod View
+pub mod Causes
+pub mod Admission
+pub mod Screening
+pub mod Becomes

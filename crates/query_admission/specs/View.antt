@@ -1,0 +1,46 @@
+-- Lists by their names, as far as they are known.
+use Rattle.std.specs.Prelude.{◌≡◌, ◌==◌, ℕ, Bool, false, not, nat_lt, is_none, List, map, Option, None, Some, slice_get, option_and_then}
+use Rattle.ranked_list.specs.declared.row.Row.{Row}
+use Rattle.query_text.specs.declared.query.Query.{Query}
+use Rattle.query_admission.specs.declared.lists.Listed.{Listed}
+
+-- the most objects of a list that a query may name
+abbrev pub most_objects : ℕ
+most_objects = 200000
+
+-- what is known by a name: what its list says of itself, None where no list has the name; and the list's rows, where they are told
+pub record View : Type 0 where
+  pub listed : List ℕ → Option Listed
+  pub told : List ℕ → Option (List Row)
+
+-- these are a query's lists in its order: what they say of themselves; their rows, where all are told
+abbrev pub AreListed : View → Query → List Listed → Type 0
+AreListed view q lists = map view.listed q.names ≡ map Some lists
+
+abbrev pub AreTold : View → Query → List (List Row) → Type 0
+AreTold view q D = map view.told q.names ≡ map Some D
+
+-- a stated size passes a test; one that isn't stated doesn't
+abbrev pub size_passes : (ℕ → Bool) → Option ℕ → Bool
+size_passes test None = false
+size_passes test (Some size) = test size
+
+-- the list wasn't opened; it states more objects than a list may have; it states another size than this; it offers no random access
+abbrev pub is_closed : Listed → Bool
+is_closed list = is_none list.size
+
+abbrev pub is_large : Listed → Bool
+is_large list = size_passes (nat_lt most_objects) list.size
+
+abbrev pub differs : ℕ → Listed → Bool
+differs n list = size_passes (λ size. not (size == n)) list.size
+
+abbrev pub lacks_random : Listed → Bool
+lacks_random list = not list.random
+
+-- the size that the list with this number states; the count of a query is that of its first list
+abbrev pub size_at : List Listed → ℕ → Option ℕ
+size_at lists list = option_and_then (λ l. l.size) (slice_get lists list)
+
+abbrev pub count_of : List Listed → Option ℕ
+count_of lists = size_at lists 0

@@ -1,0 +1,134 @@
+//! Admission of query lines.
+
+ghost use Rattle.std.specs.Prelude.{◌≡◌, ◌≤◌, ◌<◌, ℕ, List, length, map, Ok, Err, IfOk, MatchOption};
+ghost use Rattle.query_text.specs.Reading.{Reads};
+ghost use Rattle.query_admission.specs.Causes.{most_queries, text_refusal};
+ghost use Rattle.query_admission.specs.Admission.{Admits};
+ghost use Rattle.query_admission.specs.Screening.{Weighs};
+
+use super::Memory;
+use super::admitted::Admitted;
+use super::lists::{Listed, Lists};
+use super::screen::screen;
+use super::seek::{Sought, seek};
+use cert_text::Refusal;
+use query_core::Ready;
+use query_text::{Query, QueryFault, read};
+use std::alloc::Global;
+
+/// The most query lines of an input.
+pub const MAX_QUERIES: u64 = 64;
+
+/// What a query comes to over lists: ready with its count and the numbers of its sources, or refused.
+#[derive(Debug, Drop)]
+pub(crate) enum Weighed {
+    Ready { count: u32, sources: Vec<u32> },
+    Refused(Refusal),
+}
+
+/// What a query line comes to before it runs, over lists by name: the first refusal that holds, or
+/// its query, ready to run. `line` is the line's number in the input, from 1.
+///
+/// The refusals come in this order: a line too many, the faults of the text, and then over the
+/// lists that the query names, in its order, each by the first list that shows it: a name that no
+/// list has, a list that wasn't opened, one of more than 200,000 objects, one that states another
+/// size than the first, a `k` above that size, and a list without random access where the algorithm
+/// asks for grades.
+pub fn admit<L: Lists>(
+    alloc: Global,
+    lists: &L,
+    line: u64,
+    bytes: &[u8],
+) -> Result<Admitted, Memory>
+    ensures { IfOk result (Admits (record { view = L.view lists.now; number = line; bytes = bytes.now })) }
+{
+    if line > MAX_QUERIES {
+        return Ok(Admitted::Refused {
+            refusal: Refusal::ManyQueries {
+                limit: MAX_QUERIES as u32,
+            },
+            query: None,
+        });
+    }
+    match read(alloc, bytes) {
+        Ok(query) => admit_query(alloc, lists, query),
+        Err(fault) => match refusal_of(fault) {
+            Some(refusal) => Ok(Admitted::Refused {
+                refusal,
+                query: None,
+            }),
+            None => Err(Memory),
+        },
+    }
+}
+
+/// The refusal of a line whose text has this fault, or None for want of memory.
+fn refusal_of(fault: QueryFault) -> Option<Refusal>
+    ensures { result ≡ text_refusal fault }
+{
+    match fault {
+        QueryFault::LongLine { limit } => Some(Refusal::LongLine { limit }),
+        QueryFault::Syntax { at } => Some(Refusal::Syntax { at }),
+        QueryFault::Number { at } => Some(Refusal::Number { at }),
+        QueryFault::TooManyLists { at } => Some(Refusal::TooManyLists { at }),
+        QueryFault::TooManyNodes { nodes } => Some(Refusal::TooManyNodes { nodes }),
+        QueryFault::TooDeep { depth } => Some(Refusal::TooDeep { depth }),
+        QueryFault::TooBig { node } => Some(Refusal::TooBig { node }),
+        QueryFault::Memory => None,
+    }
+}
+
+/// What the query of a line comes to.
+fn admit_query<L: Lists>(alloc: Global, lists: &L, query: Query) -> Result<Admitted, Memory>
+    requires { (line : List ℕ) × Reads line (Ok query) }
+    ensures { (number : ℕ) → (bytes : List ℕ) → number ≤ most_queries → Reads bytes (Ok query)
+        → IfOk result (Admits (record { view = L.view lists.now; number = number; bytes = bytes })) }
+{
+    match weigh(alloc, lists, &query) {
+        Ok(Weighed::Ready { count, sources }) => Ok(Admitted::Ready(Ready {
+            query,
+            count,
+            sources,
+        })),
+        Ok(Weighed::Refused(refusal)) => Ok(Admitted::Refused {
+            refusal,
+            query: Some(query),
+        }),
+        Err(_) => Err(Memory),
+    }
+}
+
+/// Finds the lists of a query, and weighs it against what they say of themselves.
+fn weigh<L: Lists>(alloc: Global, lists: &L, query: &Query) -> Result<Weighed, Memory>
+    requires some { 0 < length query.now.names }
+    requires few { length query.now.names ≤ 8 }
+    ensures { IfOk result (Weighs (L.view lists.now) query.now) }
+{
+    let known = match seek(alloc, lists, &query.names) {
+        Ok(Sought::Known(known)) => known,
+        Ok(Sought::Unknown { list }) => {
+            return Ok(Weighed::Refused(Refusal::UnknownList { list }));
+        }
+        Err(_) => return Err(Memory),
+    };
+    match screen(query, &known) {
+        Ok(count) => match sources_of(alloc, &known) {
+            Ok(sources) => Ok(Weighed::Ready { count, sources }),
+            Err(_) => Err(Memory),
+        },
+        Err(refusal) => Ok(Weighed::Refused(refusal)),
+    }
+}
+
+/// The numbers of the sources of lists.
+fn sources_of(alloc: Global, lists: &[Listed]) -> Result<Vec<u32>, Memory>
+    ensures { IfOk result (λ sources. sources.items ≡ map (λ list. list.source) lists.now) }
+{
+    let mut sources = Vec::new(alloc);
+    for list in lists {
+        let Ok(()) = sources.push(list.source) else {
+            return Err(Memory);
+        };
+    }
+    Ok(sources)
+}

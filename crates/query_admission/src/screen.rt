@@ -1,0 +1,177 @@
+//! Why a query isn't admitted over the lists that it names.
+
+ghost use Rattle.std.specs.Prelude.{◌≡◌, ◌≤◌, ◌<◌, length, IfNone};
+ghost use Rattle.std.specs.List.{position};
+ghost use Rattle.query_text.specs.declared.query.Query.{Query as AnyQuery};
+ghost use Rattle.query_admission.specs.View.{is_closed, is_large, differs, lacks_random, count_of};
+ghost use Rattle.query_admission.specs.Causes.{Cause, ListsGive};
+ghost use Rattle.query_admission.specs.Screening.{Decides, Screens};
+
+use super::lists::{Listed, MAX_OBJECTS};
+use cert_text::Refusal;
+use query_core::asks_grades;
+use query_text::Query;
+
+/// Whether a list states more objects than a list may have.
+fn is_large(list: &Listed) -> bool
+    ensures { result ≡ is_large list.now }
+{
+    match list.size {
+        Some(size) => size > u64::from(MAX_OBJECTS),
+        None => false,
+    }
+}
+
+/// Whether a list states another size than this.
+fn differs(n: u64, list: &Listed) -> bool
+    ensures { result ≡ differs n list.now }
+{
+    match list.size {
+        Some(size) => size != n,
+        None => false,
+    }
+}
+
+/// The number of the first list that wasn't opened.
+fn first_closed(lists: &[Listed]) -> Option<usize>
+    ensures { result ≡ position is_closed lists.now }
+{
+    lists.iter().position(|list| list.size.is_none())
+}
+
+/// The number of the first list that is too large.
+fn first_large(lists: &[Listed]) -> Option<usize>
+    ensures { result ≡ position is_large lists.now }
+{
+    lists.iter().position(|list| is_large(list))
+}
+
+/// The number of the first list that states another size than this.
+fn first_differing(n: u64, lists: &[Listed]) -> Option<usize>
+    ensures { result ≡ position (differs n) lists.now }
+{
+    lists.iter().position(|list| differs(n, list))
+}
+
+/// The number of the first list without random access.
+fn first_lacking(lists: &[Listed]) -> Option<usize>
+    ensures { result ≡ position lacks_random lists.now }
+{
+    lists.iter().position(|list| !list.random)
+}
+
+/// The first list that wasn't opened, if there is one.
+fn not_opened(lists: &[Listed]) -> Option<Refusal>
+    requires { length lists.now ≤ 8 }
+    ensures why { (query : AnyQuery) → Decides (ListsGive query lists.now Cause.not_opened) result }
+    ensures none { IfNone result (position is_closed lists.now ≡ None) }
+{
+    let Some(list) = first_closed(lists) else {
+        return None;
+    };
+    Some(Refusal::NotOpened { list: list as u8 })
+}
+
+/// The first list that is too large, if there is one.
+fn too_large(lists: &[Listed]) -> Option<Refusal>
+    requires { length lists.now ≤ 8 }
+    ensures why { (query : AnyQuery) → Decides (ListsGive query lists.now Cause.too_large) result }
+    ensures none { IfNone result (position is_large lists.now ≡ None) }
+{
+    let Some(list) = first_large(lists) else {
+        return None;
+    };
+    let Some(count) = lists[list].size else {
+        unreachable!();
+    };
+    Some(Refusal::TooLarge {
+        list: list as u8,
+        count,
+    })
+}
+
+/// The count of a query: the size that its first list states.
+fn count_of(lists: &[Listed]) -> Option<u32>
+    requires { position is_large lists.now ≡ None }
+    ensures { result ≡ count_of lists.now }
+{
+    Some(lists.first()?.size? as u32)
+}
+
+/// The first list that states another size than the first, if there is one.
+fn counts_differ(lists: &[Listed]) -> Option<Refusal>
+    requires few { length lists.now ≤ 8 }
+    requires small { position is_large lists.now ≡ None }
+    ensures { (query : AnyQuery) → Decides (ListsGive query lists.now Cause.counts_differ) result }
+{
+    let Some(n) = count_of(lists) else {
+        return None;
+    };
+    let Some(other) = first_differing(u64::from(n), lists) else {
+        return None;
+    };
+    let Some(m) = lists[other].size else {
+        unreachable!();
+    };
+    Some(Refusal::CountsDiffer {
+        list: 0,
+        n,
+        other: other as u8,
+        m: m as u32,
+    })
+}
+
+/// Whether more objects are asked for than there are.
+fn k_above_count(query: &Query, lists: &[Listed]) -> Option<Refusal>
+    requires { position is_large lists.now ≡ None }
+    ensures { Decides (ListsGive query.now lists.now Cause.k_above_count) result }
+{
+    let Some(n) = count_of(lists) else {
+        return None;
+    };
+    if query.k > n {
+        return Some(Refusal::KAboveCount { k: query.k, n });
+    }
+    None
+}
+
+/// The first list without random access, where the query's algorithm makes random accesses.
+fn no_random(query: &Query, lists: &[Listed]) -> Option<Refusal>
+    requires { length lists.now ≤ 8 }
+    ensures { Decides (ListsGive query.now lists.now Cause.no_random) result }
+{
+    if !asks_grades(query.algorithm) {
+        return None;
+    }
+    let Some(list) = first_lacking(lists) else {
+        return None;
+    };
+    Some(Refusal::NoRandom { list: list as u8 })
+}
+
+/// The first cause for which a query isn't admitted over its lists, or the count of the query.
+pub(crate) fn screen(query: &Query, lists: &[Listed]) -> Result<u32, Refusal>
+    requires some { 0 < length lists.now }
+    requires few { length lists.now ≤ 8 }
+    ensures { Screens query.now lists.now result }
+{
+    if let Some(refusal) = not_opened(lists) {
+        return Err(refusal);
+    }
+    if let Some(refusal) = too_large(lists) {
+        return Err(refusal);
+    }
+    if let Some(refusal) = counts_differ(lists) {
+        return Err(refusal);
+    }
+    if let Some(refusal) = k_above_count(query, lists) {
+        return Err(refusal);
+    }
+    if let Some(refusal) = no_random(query, lists) {
+        return Err(refusal);
+    }
+    let Some(count) = count_of(lists) else {
+        unreachable!();
+    };
+    Ok(count)
+}

@@ -1,0 +1,38 @@
+//! The lists that a query names.
+
+ghost use Rattle.std.specs.Prelude.{◌≡◌, ◌≤◌, length, IfOk};
+ghost use Rattle.query_admission.specs.Screening.{IsSought};
+
+use super::Memory;
+use super::lists::{Listed, Lists};
+use query_text::Names;
+use std::alloc::Global;
+
+/// What is found of the lists of a query.
+#[derive(Debug, Drop)]
+pub(crate) enum Sought {
+    /// What each of them says of itself, in their order.
+    Known(Vec<Listed>),
+    /// No list has the name of the query's list of this number, and this is the first such.
+    Unknown { list: u8 },
+}
+
+/// Finds the lists of these names.
+pub(crate) fn seek<L: Lists>(alloc: Global, lists: &L, names: &Names) -> Result<Sought, Memory>
+    requires { length names.now ≤ 8 }
+    ensures { IfOk result (IsSought (L.view lists.now) names.now) }
+{
+    let mut known = Vec::new(alloc);
+    for list in 0..names.len() {
+        let Some(name) = names.get(list) else {
+            unreachable!();
+        };
+        let Some(found) = lists.find(name) else {
+            return Ok(Sought::Unknown { list: list as u8 });
+        };
+        let Ok(()) = known.push(found) else {
+            return Err(Memory);
+        };
+    }
+    Ok(Sought::Known(known))
+}

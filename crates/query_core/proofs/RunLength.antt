@@ -1,0 +1,105 @@
+-- How long a run is at most.
+use Rattle.std.proofs.Common.{◌≡◌, ℕ, zero, suc, ◌+◌, ◌-◌, ◌*◌, ◌^◌, ◌<◌, ◌≤◌, Bool, true, false, cond, not, List, [], ◌∷◌, ◌++◌, length, map, filter, nat_lt, ◌==◌, refl, arith, length-append}
+use Rattle.std.specs.List.{list_any, flat_map}
+use Rattle.std.proofs.lemmas.List.{length-map}
+use Rattle.std.proofs.Math.Nat.{mul-le-mul_left}
+use Rattle.ranked_list.specs.declared.row.Row.{Row}
+use Rattle.ranked_list.specs.Table.{place_in, grade_in}
+use Rattle.topk_theory.specs.declared.access.Access.{Access}
+use Rattle.topk_theory.specs.declared.access.Access.TheVariants.{Random}
+use Rattle.monotone_fn.specs.Value.{IsMonotone}
+use Rattle.topk_theory.specs.Asked.{Asked}
+use Rattle.topk_theory.specs.Transcript.{each_once, each_once_after}
+use Rattle.topk_theory.specs.Threshold.{IsAsked, row_at, stands, new_objects, sorted_block, random_block, ta_block, ta_run_to, ta_run, ta_depth}
+use Rattle.topk_theory.specs.NoRandom.{nra_run_to, nra_run, nra_depth}
+use Rattle.topk_theory.proofs.ThresholdLaws.{least_depth}
+use Rattle.topk_theory.proofs.NoRandomLaws.{nra_depth_is_least}
+use Rattle.query_text.specs.declared.algorithm.Algorithm.{Algorithm}
+use Rattle.query_text.specs.declared.algorithm.Algorithm.TheVariants.{Ta, Nra}
+use Rattle.query_core.specs.Algorithms.{run_by}
+
+sorted_long : (list depth : ℕ) (D : List (List Row)) → length (sorted_block list depth D) ≡ length D
+sorted_long list depth [] = refl
+sorted_long list depth (rows ∷ D) = let more : length (sorted_block (list + 1) depth D) ≡ length D = sorted_long (list + 1) depth D in omega arith
+
+random_long : (list depth object : ℕ) (D : List (List Row)) → length (random_block list depth object D) ≤ length D
+random_long list depth object [] = omega arith
+random_long list depth object (rows ∷ D) =
+    let more : length (random_block (list + 1) depth object D) ≤ length D = random_long (list + 1) depth object D in
+    let more_than : List Access → Type 0 = λ accesses. length accesses ≤ length (rows ∷ D) in
+    elim (nat_lt (place_in rows object) depth) as (λ b. more_than (cond b (random_block (list + 1) depth object D) (Random list object (grade_in rows object) ∷ random_block (list + 1) depth object D)))
+    [ true ↦ omega arith | false ↦ omega arith ]
+
+filter_long : (p : ℕ → Bool) (xs : List ℕ) → length (filter p xs) ≤ length xs
+filter_long p [] = omega arith
+filter_long p (x ∷ xs) =
+    let more : length (filter p xs) ≤ length xs = filter_long p xs in
+    let fits : List ℕ → Type 0 = λ ys. length ys ≤ length (x ∷ xs) in
+    elim (p x) as (λ b. fits (cond b (x ∷ filter p xs) (filter p xs))) [ true ↦ omega arith | false ↦ omega arith ]
+
+each_long : (before xs : List ℕ) → length (each_once_after before xs) ≤ length xs
+each_long before [] = omega arith
+each_long before (x ∷ xs) =
+    let same : length (each_once_after before xs) ≤ length xs = each_long before xs in
+    let more : length (each_once_after (before ++ x ∷ []) xs) ≤ length xs = each_long (before ++ x ∷ []) xs in
+    let fits : List ℕ → Type 0 = λ ys. length ys ≤ length (x ∷ xs) in
+    elim (list_any (λ y. y == x) before) as (λ b. fits (cond b (each_once_after before xs) (x ∷ each_once_after (before ++ x ∷ []) xs))) [ true ↦ omega arith | false ↦ omega arith ]
+
+flat_long : (f : ℕ → List Access) (most : ℕ) → ((x : ℕ) → length (f x) ≤ most) → (xs : List ℕ) → length (flat_map f xs) ≤ length xs * most
+flat_long f most each [] = omega arith
+flat_long f most each (x ∷ xs) =
+    let more : length (flat_map f xs) ≤ length xs * most = flat_long f most each xs in
+    let here : length (f x) ≤ most = each x in
+    omega (arith, length-append (f x) (flat_map f xs))
+
+new_few : (D : List (List Row)) (depth : ℕ) → length (new_objects D depth) ≤ length D
+new_few D depth =
+    let row = map (λ (rows : List Row). (row_at rows depth).object) D in
+    let within : length (new_objects D depth) ≤ length (each_once row) = filter_long (λ object. not (stands D (depth - 1) object)) (each_once row) in
+    let once : length (each_once row) ≤ length row = each_long [] row in
+    let all : length row ≡ length D = length-map D (λ (rows : List Row). (row_at rows depth).object) in
+    omega arith
+
+block_long : (D : List (List Row)) (depth : ℕ) → length (ta_block D depth) ≤ length D + length D * length D
+block_long D depth =
+    let rows : length (sorted_block 0 depth D) ≡ length D = sorted_long 0 depth D in
+    let asks : length (flat_map (λ object. random_block 0 depth object D) (new_objects D depth)) ≤ length (new_objects D depth) * length D =
+    flat_long (λ object. random_block 0 depth object D) (length D) (λ object. random_long 0 depth object D) (new_objects D depth) in
+    let few : length D * length (new_objects D depth) ≤ length D * length D = mul-le-mul_left (length D) (new_few D depth) in
+    omega (arith, length-append (sorted_block 0 depth D) (flat_map (λ object. random_block 0 depth object D) (new_objects D depth)))
+
+run_to_long : (D : List (List Row)) (depth : ℕ) → length (ta_run_to D depth) ≤ depth * (length D + length D * length D)
+run_to_long D zero = omega arith
+run_to_long D (suc depth) =
+    let before : length (ta_run_to D depth) ≤ depth * (length D + length D * length D) = run_to_long D depth in
+    let here : length (ta_block D (suc depth)) ≤ length D + length D * length D = block_long D (suc depth) in
+    omega (arith, length-append (ta_run_to D depth) (ta_block D (suc depth)))
+
+ta_short : (V : List ℕ → ℕ) (k n : ℕ) (D : List (List Row)) → IsMonotone V → IsAsked k n D → length D ≤ 8 → n ≤ 200000 → length (ta_run V k D) < 2 ^ 40
+ta_short V k n D monotone asked few counted =
+    let deep : ta_depth V k D ≤ n = (least_depth V k n D monotone asked).within in
+    let m = length D in
+    let long : length (ta_run V k D) ≤ ta_depth V k D * (m + m * m) = run_to_long D (ta_depth V k D) in
+    let square : m * m ≤ m * 8 = mul-le-mul_left m few in
+    let block : m + m * m ≤ 72 = omega arith in
+    let most : ta_depth V k D * (m + m * m) ≤ ta_depth V k D * 72 = mul-le-mul_left (ta_depth V k D) block in
+    omega arith
+
+rows_long : (D : List (List Row)) (depth : ℕ) → length (nra_run_to D depth) ≤ depth * length D
+rows_long D zero = omega arith
+rows_long D (suc depth) =
+    let before : length (nra_run_to D depth) ≤ depth * length D = rows_long D depth in
+    let here : length (sorted_block 0 (suc depth) D) ≡ length D = sorted_long 0 (suc depth) D in
+    omega (arith, length-append (nra_run_to D depth) (sorted_block 0 (suc depth) D))
+
+nra_short : (V : List ℕ → ℕ) (k n : ℕ) (D : List (List Row)) → IsMonotone V → IsAsked k n D → length D ≤ 8 → n ≤ 200000 → length (nra_run V k D) < 2 ^ 40
+nra_short V k n D monotone asked few counted =
+    let deep : nra_depth V k D ≤ n = (nra_depth_is_least V k n D monotone asked).within in
+    let long : length (nra_run V k D) ≤ nra_depth V k D * length D = rows_long D (nra_depth V k D) in
+    let most : nra_depth V k D * length D ≤ nra_depth V k D * 8 = mul-le-mul_left (nra_depth V k D) few in
+    omega arith
+
+-- a run over 8 lists of 200,000 objects at most has fewer than 2^40 accesses
+pub run_short : (a : Algorithm) (asked : Asked) (n : ℕ) (D : List (List Row)) → IsMonotone asked.value → IsAsked asked.k n D → length D ≤ 8 → n ≤ 200000 → length (run_by a asked D) < 2 ^ 40
+run_short Ta asked n D monotone is few counted = ta_short asked.value asked.k n D monotone is few counted
+run_short Nra asked n D monotone is few counted = nra_short asked.value asked.k n D monotone is few counted

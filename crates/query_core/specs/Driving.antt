@@ -1,0 +1,99 @@
+-- A machine that is fed from what is told of lists.
+use Rattle.std.specs.Prelude.{◌≡◌, ◌≤◌, ◌<◌, ◌+◌, ℕ, List, length, Result, Ok, Err}
+use Rattle.ranked_list.specs.declared.row.Row.{Row}
+use Rattle.ranked_list.specs.declared.need.Need.TheVariants.{Done}
+use Rattle.topk_theory.specs.Transcript.{Told, whole, IsDrawn, seen_objects}
+use Rattle.topk_theory.specs.Threshold.{IsAsked}
+use Rattle.access_log.specs.Log.{AgreesWith}
+use Rattle.access_log.specs.declared.answer.Answer.{Answer}
+use Rattle.access_log.specs.Machine.{MachineState, asked_of, IsSameLog, MakesRun, IsAnswerBy}
+use Rattle.access_log.specs.declared.core_fault.CoreFault.{CoreFault}
+use Rattle.access_log.specs.declared.core_fault.CoreFault.TheVariants.{Strangers, RoomFull, Memory}
+use Rattle.query_text.specs.declared.algorithm.Algorithm.{Algorithm}
+use Rattle.query_core.specs.declared.machine.Machine.{Machine}
+use Rattle.query_core.specs.declared.ready.Ready.{Ready}
+use Rattle.query_core.specs.Algorithms.{run_by, items_by}
+use Rattle.query_core.specs.OneAnswer.{IsOverRoom, IsAnswered}
+use Rattle.query_core.specs.Machines.{algorithm_of, state_of, MakesItsRun}
+
+-- the objects that a machine's run by an algorithm sees on a table
+abbrev pub run_sees : Algorithm → List (List Row) → MachineState → List ℕ
+run_sees algorithm D t = seen_objects (run_by algorithm (asked_of t) D)
+
+-- the machine is the first one some accesses on: what never changes is as it was
+pub record Continues (first now : MachineState) : Type 0 where
+  pub expr : now.expr ≡ first.expr
+  pub k : now.k ≡ first.k
+  pub room : now.room ≡ first.room
+  pub costs : now.costs ≡ first.costs
+  pub lists : now.log.lists ≡ first.log.lists
+  pub count : now.log.count ≡ first.log.count
+
+-- the accesses of a machine are drawn from what is told, and the objects that they saw have room
+pub record IsFedFrom (T : Told) (t : MachineState) : Type 0 where
+  pub drawn : IsDrawn t.log.lists T t.log.accesses
+  pub roomy : length (seen_objects t.log.accesses) ≤ t.room
+
+-- the machine took one more access, from what is told
+pub record TookOne (T : Told) (before after : MachineState) : Type 0 where
+  pub goes : Continues before after
+  pub fed : IsFedFrom T after
+  pub one_more : length after.log.accesses ≡ length before.log.accesses + 1
+
+-- the answer of a machine that came from a first one to the end of its run, fed from what is told: no table is spoken of
+pub record IsEnd (algorithm : Algorithm) (T : Told) (first : MachineState) (answer : Answer) : Type 0 where
+  pub last : MachineState
+  pub goes : Continues first last
+  pub fed : IsFedFrom T last
+  pub run : MakesRun (run_by algorithm) last
+  pub done : last.need ≡ Done
+  pub items : IsAnswerBy (items_by algorithm) last answer.items
+  pub log : IsSameLog answer.transcript last.log
+
+-- a machine can be driven over lists that are told whole: they are a table that is asked, and agree with its accesses so far
+pub record CanDrive (D : List (List Row)) (t : MachineState) : Type 0 where
+  pub asked : IsAsked t.k t.log.count D
+  pub agrees : AgreesWith D t.log
+  pub roomy : length (seen_objects t.log.accesses) ≤ t.room
+
+-- the machine is of the same algorithm and took one more access of the lists, which its run has there
+pub record Steps (D : List (List Row)) (before after : Machine) : Type 0 where
+  pub algorithm : algorithm_of after ≡ algorithm_of before
+  pub took : TookOne (whole D) (state_of before) (state_of after)
+  pub within : length (state_of before).log.accesses < length (run_by (algorithm_of before) (asked_of (state_of before)) D)
+
+-- the machine is the first one some accesses of the lists on, and needs nothing more
+pub record IsDriven (D : List (List Row)) (first last : Machine) : Type 0 where
+  pub algorithm : algorithm_of last ≡ algorithm_of first
+  pub goes : Continues (state_of first) (state_of last)
+  pub can : CanDrive D (state_of last)
+  pub done : (state_of last).need ≡ Done
+
+-- what a machine that needs nothing more answers
+abbrev pub Finishes : Machine → Result Answer CoreFault → Type 0
+Finishes machine (Ok answer) = MakesItsRun machine × IsAnswerBy (items_by (algorithm_of machine)) (state_of machine) answer.items × IsSameLog answer.transcript (state_of machine).log
+Finishes machine (Err fault) = fault ≡ Memory
+
+-- why a machine has no answer over a table: its room is less than the count and less than the number of objects that its run sees, or memory was refused
+abbrev pub StopsDriving : Algorithm → List (List Row) → MachineState → CoreFault → Type 0
+StopsDriving algorithm D t (RoomFull room) = (room ≡ t.room) × (room < t.log.count) × (room < length (run_sees algorithm D t))
+StopsDriving algorithm D t (Strangers object count) = ⊥
+StopsDriving algorithm D t Memory = Unit {0}
+
+-- what comes of driving a machine by an algorithm over a table
+abbrev pub Drives : Algorithm → List (List Row) → MachineState → Result Answer CoreFault → Type 0
+Drives algorithm D t (Ok answer) = IsEnd algorithm (whole D) t answer
+Drives algorithm D t (Err fault) = StopsDriving algorithm D t fault
+
+-- a query is answered over its lists D: the answer is right, D agrees with its transcript, and its room wasn't passed
+pub record AnswersOver (ready : Ready) (D : List (List Row)) (answer : Answer) : Type 0 where
+  pub answered : IsAnswered ready.query ready.count answer
+  pub agrees : AgreesWith D answer.transcript
+  pub roomy : (room : ℕ) → ¬ IsOverRoom ready.query ready.count D room
+
+-- what comes of running a query over its lists D: it is answered, or refused for its room, or memory was refused
+abbrev pub RunsOver : Ready → List (List Row) → Result Answer CoreFault → Type 0
+RunsOver ready D (Ok answer) = AnswersOver ready D answer
+RunsOver ready D (Err (RoomFull room)) = IsOverRoom ready.query ready.count D room
+RunsOver ready D (Err (Strangers object count)) = ⊥
+RunsOver ready D (Err Memory) = Unit {0}

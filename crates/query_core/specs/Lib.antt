@@ -1,0 +1,7 @@
+-- Queries that are ready to run, their machines, and what becomes of them over lists.
+pub mod Algorithms
+pub mod Ready
+pub mod OneAnswer
+pub mod Machines
+pub mod Grades
+pub mod Driving

@@ -1,0 +1,28 @@
+-- A machine of either algorithm.
+use Rattle.std.specs.Prelude.{◌≡◌, unwrap_or}
+use Rattle.query_text.specs.declared.algorithm.Algorithm.{Algorithm}
+use Rattle.query_text.specs.declared.algorithm.Algorithm.TheVariants.{Ta, Nra}
+use Rattle.access_log.specs.Machine.{MachineState, MakesRun, IsBegun}
+use Rattle.query_core.specs.declared.machine.Machine.{Machine}
+use Rattle.query_core.specs.declared.machine.Machine.TheVariants.{Ta as TaMachine, Nra as NraMachine}
+use Rattle.query_core.specs.declared.ready.Ready.{Ready}
+use Rattle.query_core.specs.Algorithms.{run_by}
+use Rattle.query_core.specs.OneAnswer.{costs_in_force}
+
+-- the algorithm of a machine, and what contracts see of its state
+abbrev pub algorithm_of : Machine → Algorithm
+algorithm_of (TaMachine t) = Ta
+algorithm_of (NraMachine t) = Nra
+
+abbrev pub state_of : Machine → MachineState
+state_of (TaMachine t) = t
+state_of (NraMachine t) = t
+
+-- the machine makes the run of its algorithm
+abbrev pub MakesItsRun : Machine → Type 0
+MakesItsRun machine = MakesRun (run_by (algorithm_of machine)) (state_of machine)
+
+-- the machine is of the query's algorithm, is asked what the query asks, may see as many objects as the query states or as there are, and has made no access yet
+pub record IsMachineFor (ready : Ready) (machine : Machine) : Type 0 where
+  pub algorithm : algorithm_of machine ≡ ready.query.algorithm
+  pub begun : IsBegun ready.query.expr ready.query.k ready.count (unwrap_or ready.query.room ready.count) (costs_in_force ready.query) (state_of machine)

@@ -1,0 +1,16 @@
+//! Laws of right answers.
+
+ghost use Rattle.std.specs.Prelude.{◌≡◌, ℕ, List};
+ghost use Rattle.ranked_list.specs.declared.row.Row.{Row};
+ghost use Rattle.access_log.specs.Log.{AgreesWith};
+ghost use Rattle.access_log.specs.declared.answer.Answer.{Answer as AnyAnswer};
+ghost use Rattle.query_text.specs.declared.query.Query.{Query};
+ghost use Rattle.query_core.specs.OneAnswer.{IsAnswered};
+
+/// Where a table agrees with the transcripts of two right answers of a query, these have the same
+/// items and the same accesses: of a right answer no access can be left out, and none put behind it.
+pub fn right_answers_are_one()
+    ensures { (q : Query) (n : ℕ) (one other : AnyAnswer) (D : List (List Row)) → IsAnswered q n one → IsAnswered q n other
+        → AgreesWith D one.transcript → AgreesWith D other.transcript
+        → (one.items ≡ other.items) × (one.transcript.accesses ≡ other.transcript.accesses) }
+{}

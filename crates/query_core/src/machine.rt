@@ -1,0 +1,130 @@
+//! A machine of the algorithm that a query names.
+
+ghost use Rattle.std.specs.Prelude.{◌≡◌, false, IfOk};
+ghost use Rattle.ranked_list.specs.declared.need.Need.{Need};
+ghost use Rattle.access_log.specs.Machine.{MayBeNextRow, MayBeNextGrade, RowFed, GradeFed, IsInRange, IsNoGrade, IsAnswerBy, IsSameLog};
+ghost use Rattle.query_core.specs.Algorithms.{asks_grades, items_by};
+ghost use Rattle.query_core.specs.Ready.{IsReady};
+ghost use Rattle.query_core.specs.Machines.{algorithm_of, state_of, MakesItsRun, IsMachineFor};
+
+use super::Memory;
+use super::ready::Ready;
+use access_log::{Answer, CoreFault, Transcript};
+use nra_core::Nra;
+use query_text::{Algorithm, Costs};
+use ranked_list::{Need, Row};
+use std::alloc::Global;
+use ta_core::Ta;
+
+/// A machine of the algorithm that a query names. It says which access it needs next, and is fed what
+/// that access gave.
+#[derive(Drop)]
+pub enum Machine {
+    /// Of the threshold algorithm.
+    Ta(Ta),
+    /// Of the algorithm without random access.
+    Nra(Nra),
+}
+
+impl Machine {
+    /// The machine of a query, with no access yet. The query's expression is copied. A query without
+    /// costs pays 1 for each access, and one without a room may see all objects.
+    pub fn make(alloc: Global, ready: &Ready) -> Result<Machine, Memory>
+        requires { IsReady ready.now }
+        ensures begun { IfOk result (IsMachineFor ready.now) }
+        ensures run { IfOk result MakesItsRun }
+    {
+        let query = &ready.query;
+        let Ok(expr) = query.expr.copy(alloc) else {
+            return Err(Memory);
+        };
+        let count = ready.count;
+        let room = query.room.unwrap_or(count);
+        let costs = query.cost.unwrap_or(Costs {
+            sorted: 1,
+            random: 1,
+        });
+        match query.algorithm {
+            Algorithm::Ta => match Ta::make(alloc, expr, query.k, count, room, costs) {
+                Ok(machine) => Ok(Machine::Ta(machine)),
+                Err(_) => Err(Memory),
+            },
+            Algorithm::Nra => match Nra::make(alloc, expr, query.k, count, room, costs) {
+                Ok(machine) => Ok(Machine::Nra(machine)),
+                Err(_) => Err(Memory),
+            },
+        }
+    }
+
+    /// What is needed next. Where the algorithm makes no random accesses that is never a grade.
+    pub fn need(&self) -> Need
+        ensures need { result ≡ (state_of self.now).need }
+        ensures run { MakesItsRun self.now }
+        ensures range { IsInRange (state_of self.now).log result }
+        ensures rows { asks_grades (algorithm_of self.now) ≡ false → IsNoGrade result }
+    {
+        match self {
+            Machine::Ta(machine) => machine.need(),
+            Machine::Nra(machine) => machine.need(),
+        }
+    }
+
+    /// Tells the row that is needed. Where it is refused nothing has changed.
+    pub fn feed_row(&mut self, row: Row) -> Result<(), CoreFault>
+        requires { MayBeNextRow (state_of self.old).log (state_of self.old).need row }
+        ensures same { algorithm_of self.new ≡ algorithm_of self.old }
+        ensures fed { RowFed row (state_of self.old) (state_of self.new) result }
+        ensures run { MakesItsRun self.new }
+    {
+        match self {
+            Machine::Ta(machine) => machine.feed_row(row),
+            Machine::Nra(machine) => machine.feed_row(row),
+        }
+    }
+
+    /// Tells the grade that is needed. `Memory` alone is answered, and then nothing has changed.
+    pub fn feed_grade(&mut self, grade: u32) -> Result<(), CoreFault>
+        requires { MayBeNextGrade (state_of self.old).log (state_of self.old).need grade }
+        ensures same { algorithm_of self.new ≡ algorithm_of self.old }
+        ensures fed { GradeFed grade (state_of self.old) (state_of self.new) result }
+        ensures run { MakesItsRun self.new }
+    {
+        match self {
+            Machine::Ta(machine) => machine.feed_grade(grade),
+            Machine::Nra(machine) => {
+                let _need = machine.need();
+                unreachable!()
+            }
+        }
+    }
+
+    /// The accesses so far.
+    pub fn transcript(&self) -> &Transcript
+        ensures log { result.now ≡ (state_of self.now).log }
+        ensures run { MakesItsRun self.now }
+    {
+        match self {
+            Machine::Ta(machine) => machine.transcript(),
+            Machine::Nra(machine) => machine.transcript(),
+        }
+    }
+
+    /// The answer, once nothing is needed, with the transcript.
+    pub fn answer(self) -> Result<Answer, Memory>
+        requires { (state_of self).need ≡ Need.Done }
+        ensures run { MakesItsRun self }
+        ensures items { IfOk result (λ answer. IsAnswerBy (items_by (algorithm_of self)) (state_of self) answer.items) }
+        ensures transcript { IfOk result (λ answer. IsSameLog answer.transcript (state_of self).log) }
+    {
+        match self {
+            Machine::Ta(machine) => match machine.answer() {
+                Ok(answer) => Ok(answer),
+                Err(_) => Err(Memory),
+            },
+            Machine::Nra(machine) => match machine.answer() {
+                Ok(answer) => Ok(answer),
+                Err(_) => Err(Memory),
+            },
+        }
+    }
+}

@@ -1,0 +1,15 @@
+//! Queries that are admitted.
+
+use query_text::Query;
+
+/// A query that is admitted over lists: contracts that take one ask for `IsReady`, which says that
+/// `k` is at most `count`, that `count` is at most 200,000, and that each list has its source.
+#[derive(Debug, Drop)]
+pub struct Ready {
+    /// The query.
+    pub query: Query,
+    /// How many objects each of its lists has.
+    pub count: u32,
+    /// The numbers of the sources of its lists, in the order of the lists.
+    pub sources: Vec<u32>,
+}

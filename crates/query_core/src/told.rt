@@ -1,0 +1,85 @@
+//! A list that is told, as a query reads it.
+
+ghost use Rattle.std.specs.Prelude.{◌≡◌, ◌-◌, ◌==◌, ℕ, nat_eq, slice_get, IfOk, OnOk, if◌then◌else◌};
+ghost use Rattle.std.specs.HashMap.{get};
+ghost use Rattle.topk_theory.specs.Bounds.{grade_among};
+
+use super::Memory;
+use ranked_list::{MemList, Row};
+use std::alloc::Global;
+use std::collections::HashMap;
+use std::marker::Model;
+
+/// A list that is read by depth, and by object. The grades by object are put together when the first
+/// is asked for. Contracts see the rows.
+#[derive(Debug, Drop)]
+pub struct ToldList<'a> {
+    rows: &'a MemList,
+    grades: Option<HashMap<u32, u32>>,
+}
+
+impl<'a> Model for ToldList<'a> {
+    ghost use Rattle.std.specs.Prelude.{List};
+    ghost use Rattle.ranked_list.specs.declared.row.Row.{Row};
+    ghost use Rattle.query_core.specs.Grades.{AreGradesOf};
+
+    ghost Value = { List Row };
+
+    ghost view = { λ a. a.rows.now };
+
+    ghost invariant = { λ a. AreGradesOf a.grades a.rows.now };
+}
+
+impl<'a> ToldList<'a> {
+    /// The whole list. Takes no memory.
+    pub fn of(rows: &'a MemList) -> ToldList<'a>
+        ensures { result ≡ rows.now }
+    {
+        ToldList { rows, grades: None }
+    }
+
+    /// The row at a depth from 1, or None below the last.
+    pub fn row(&self, depth: u32) -> Option<Row>
+        ensures { result ≡ slice_get self.now (depth - 1) }
+    {
+        self.rows.get(depth.saturating_sub(1))
+    }
+
+    /// The grade of an object, or None where the list hasn't the object.
+    pub fn grade(&mut self, alloc: Global, object: u32) -> Result<Option<u32>, Memory>
+        ensures same { self.new ≡ self.old }
+        ensures grade { IfOk result (λ grade. grade ≡ grade_among self.old object) }
+    {
+        if self.grades.is_none() {
+            self.grades = Some(grades_of(alloc, self.rows)?);
+        }
+        match &self.grades {
+            Some(grades) => Ok(grades.get(&object).copied()),
+            None => Ok(None),
+        }
+    }
+}
+
+/// The grades of a list by object.
+fn grades_of(alloc: Global, rows: &MemList) -> Result<HashMap<u32, u32>, Memory>
+    ensures { IfOk result (λ grades. (object : ℕ) → get nat_eq grades object ≡ grade_among rows.now object) }
+{
+    let mut grades = HashMap::new(alloc);
+    for place in (0..rows.len()).rev() {
+        if let Some(row) = rows.get(place) {
+            put(&mut grades, row)?;
+        }
+    }
+    Ok(grades)
+}
+
+/// Puts the grade of a row.
+fn put(grades: &mut HashMap<u32, u32>, row: Row) -> Result<(), Memory>
+    ensures { OnOk result ((object : ℕ) → get nat_eq grades.new object
+        ≡ (if row.object == object then Some row.grade else get nat_eq grades.old object)) }
+{
+    match grades.insert(row.object, row.grade) {
+        Ok(_) => Ok(()),
+        Err(_) => Err(Memory),
+    }
+}
