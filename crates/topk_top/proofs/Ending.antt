@@ -1,13 +1,16 @@
 -- A call that comes to its text ends with it, or with a write fault.
-use Rattle.std.proofs.Common.{◌≡◌, ℕ, List, Option, Result, Ok, Err, OnOk, OnErr, MatchResult, inl, inr, sym, subst}
+use Rattle.std.proofs.Common.{◌≡◌, ℕ, List, Option, Some, None, Result, Ok, Err, OnOk, OnErr, MatchResult, inl, inr, sym, subst}
 use Rattle.std.specs.Io.KnownBytes.{Appends}
 use Rattle.tk_io.specs.declared.Failed.{Failed}
 use Rattle.tk_io.specs.Faults.{HasCause}
 use Rattle.tk_io.specs.Whole.{TookFront}
 use Rattle.cert_text.specs.declared.outcome.Outcome.{Outcome}
 use Rattle.cert_text.specs.declared.outcome.Outcome.TheVariants.{Answered, Refused}
-use Rattle.topk_top.specs.Reply.{outcome_status}
-use Rattle.topk_top.specs.Ends.{Call, Owes, Ends, Says}
+use Rattle.command_words.specs.Commands.{command_of}
+use Rattle.command_words.specs.declared.command.Command.{Command}
+use Rattle.command_words.specs.declared.command.Command.TheVariants.{One, Judge}
+use Rattle.topk_top.specs.Reply.{Replies, outcome_status, words_refused_text}
+use Rattle.topk_top.specs.Ends.{Call, Streams, LeftAlone, ReadWhole, WroteNothing, WroteWhole, EndsAs, EndsReading, EndsRefused, Ends, Says}
 use Rattle.topk_top.specs.declared.status.Status.{Status}
 use Rattle.topk_top.specs.declared.status.Status.TheVariants.{Done, Partial, BadWords, BadCatalog, ReadFault, WriteFault, OpenFault, PortFault, Memory, LongInput, BadInput}
 
@@ -16,39 +19,46 @@ is_outcome_status : {A : Type 0} (outcome : Outcome) (status : Status) → statu
 is_outcome_status (Answered answer) status e done partial = done e
 is_outcome_status (Refused refusal) status e done partial = partial e
 
--- a status that is neither BadWords nor one of a reply owes no text
-owes_nothing : {A : Type 0} (c : Call) (status : Status) (text : List ℕ) → (status ≡ BadWords → A) → (status ≡ BadInput → A) → (status ≡ Done → A) → (status ≡ Partial → A)
-    → Owes c status text → A
-owes_nothing c status text words input done partial owed = elim owed [
-  | inl refused ↦ words refused.2
-  | inr replied ↦ elim replied.1.2 [
-    | inl bundle ↦ input bundle.status_is
-    | inr line ↦ is_outcome_status line.outcome status line.status_is done partial
-  ]
+-- a call, by its words and what its streams were before and after it
+abbrev pub call_at : List (List ℕ) → Streams → Streams → Call
+call_at words before after = record { words = words; before = before; after = after }
+
+abbrev pub streams_at : Option (List ℕ) → ℕ → Option (List ℕ) → ℕ → Streams
+streams_at left reads held writes = record { input = record { left = left; faults = reads }; output = record { held = held; faults = writes } }
+
+-- what is said where words are refused ends so
+pub ends_refused : (c : Call) (result : Status) → LeftAlone c → Says c.before.output.held c.after.output.held c.before.output.faults c.after.output.faults words_refused_text BadWords result → EndsRefused c result
+ends_refused c result alone said = elim said [
+  | inl whole ↦ subst (λ s. EndsRefused c s) (sym whole.0) (alone, record { held = whole.1; faults = whole.2 })
+  | inr front ↦ subst (λ s. EndsRefused c s) (sym front.0) (alone, record { held = front.1; faults = front.2 })
 ]
 
--- whoever wrote the owed text whole ends so
-ends_answered : (c : Call) (status : Status) (text : List ℕ) → Owes c status text
-    → Appends c.held_before c.held_after text → c.writes_after ≡ c.writes_before → Ends c status
-ends_answered c Done text owed written quiet = (text, owed, written, quiet)
-ends_answered c Partial text owed written quiet = (text, owed, written, quiet)
-ends_answered c BadWords text owed written quiet = (text, owed, written, quiet)
-ends_answered c BadInput text owed written quiet = (text, owed, written, quiet)
-ends_answered c BadCatalog text owed written quiet = owes_nothing c BadCatalog text (λ e. cc) (λ e. cc) (λ e. cc) (λ e. cc) owed
-ends_answered c ReadFault text owed written quiet = owes_nothing c ReadFault text (λ e. cc) (λ e. cc) (λ e. cc) (λ e. cc) owed
-ends_answered c WriteFault text owed written quiet = owes_nothing c WriteFault text (λ e. cc) (λ e. cc) (λ e. cc) (λ e. cc) owed
-ends_answered c OpenFault text owed written quiet = owes_nothing c OpenFault text (λ e. cc) (λ e. cc) (λ e. cc) (λ e. cc) owed
-ends_answered c PortFault text owed written quiet = owes_nothing c PortFault text (λ e. cc) (λ e. cc) (λ e. cc) (λ e. cc) owed
-ends_answered c Memory text owed written quiet = owes_nothing c Memory text (λ e. cc) (λ e. cc) (λ e. cc) (λ e. cc) owed
-ends_answered c LongInput text owed written quiet = owes_nothing c LongInput text (λ e. cc) (λ e. cc) (λ e. cc) (λ e. cc) owed
-
--- whoever came to the owed text and said it ends as the saying says
-pub ends_said : (c : Call) (status : Status) (text : List ℕ) (result : Status) → Owes c status text
-    → Says c.held_before c.held_after c.writes_before c.writes_after text status result → Ends c result
-ends_said c status text result owed said = elim said [
-  | inl whole ↦ subst (λ s. Ends c s) (sym whole.0) (ends_answered c status text owed whole.1 whole.2)
-  | inr front ↦ subst (λ s. Ends c s) (sym front.0) (status, text, owed, front.1, front.2)
+-- a reply that was written whole ends with its status
+ends_whole : (c : Call) (bytes : List ℕ) (status : Status) (text : List ℕ) → ReadWhole c bytes → Replies bytes status text → WroteWhole c text → EndsReading Replies c status
+ends_whole c bytes status text read replied wrote = elim replied [
+  | inl bundle ↦ subst (λ s. EndsReading Replies c s) (sym bundle.status_is) (bytes, text, read, subst (λ s. Replies bytes s text) bundle.status_is (inl bundle), wrote)
+  | inr line ↦ is_outcome_status line.outcome status line.status_is
+      (λ is. subst (λ s. EndsReading Replies c s) (sym is) (bytes, text, read, subst (λ s. Replies bytes s text) is (inr line), wrote))
+      (λ is. subst (λ s. EndsReading Replies c s) (sym is) (bytes, text, read, subst (λ s. Replies bytes s text) is (inr line), wrote))
 ]
+
+-- what is said in reply to the whole input ends so
+pub ends_replied : (c : Call) (bytes : List ℕ) (status result : Status) (text : List ℕ) → ReadWhole c bytes → Replies bytes status text
+    → Says c.before.output.held c.after.output.held c.before.output.faults c.after.output.faults text status result → EndsReading Replies c result
+ends_replied c bytes status result text read replied said = elim said [
+  | inl whole ↦ subst (λ s. EndsReading Replies c s) (sym whole.0) (ends_whole c bytes status text read replied (record { held = whole.1; faults = whole.2 }))
+  | inr front ↦ subst (λ s. EndsReading Replies c s) (sym front.0) (bytes, status, text, read, replied, record { held = front.1; faults = front.2 })
+]
+
+-- memory may be wanting before the words are known
+pub ends_without_memory : (command : Option Command) (c : Call) → LeftAlone c → WroteNothing c → EndsAs command c Memory
+ends_without_memory None c alone nothing = (alone, nothing)
+ends_without_memory (Some One) c alone nothing = (alone.faults, nothing)
+ends_without_memory (Some Judge) c alone nothing = (alone, nothing)
+
+-- a call ends as its command does
+pub ends_as : (command : Option Command) (c : Call) (status : Status) → command_of c.words ≡ command → EndsAs command c status → Ends c status
+ends_as command c status is ends = subst (λ o. EndsAs o c status) (sym is) ends
 
 -- a text that was written, or wasn't, is said
 pub said : {T : Type 0} → (before now : Option (List ℕ)) (faults_before faults_now : ℕ) (text : List ℕ) (status result : Status) (written : Result T Failed) → OnOk written (Appends before now text) → OnErr written (TookFront before now text) → HasCause faults_before faults_now written

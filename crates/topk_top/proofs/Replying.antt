@@ -1,6 +1,5 @@
 -- A reply as the code keeps it is what its input is replied to.
-use Rattle.std.proofs.Common.{ℕ, List, inl, inr, refl, ap}
-use Rattle.cert_text.specs.Outcome.{outcome_text}
+use Rattle.std.proofs.Common.{ℕ, List, inl, inr, refl}
 use Rattle.topk_top.specs.declared.one.Reply.{Reply}
 use Rattle.topk_top.specs.declared.one.Reply.TheVariants.{NoBundle, Line}
 use Rattle.topk_top.specs.Reply.{Replies}
@@ -12,8 +11,9 @@ replies_to bytes (Line line) h = inr (record {
   content = h.0;
   spelled = h.1;
   query = line.query;
+  count = line.count;
   outcome = line.outcome;
   becomes = h.2.becomes;
   status_is = refl;
-  text_is = ap (λ n. outcome_text 1 line.query n line.outcome) h.2.count;
+  text_is = refl;
 })

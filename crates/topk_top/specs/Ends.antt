@@ -1,28 +1,36 @@
--- How a top call ends, by its status.
-use Rattle.std.specs.Prelude.{◌≡◌, ℕ, List, [], ◌∷◌, ◌⊎◌, Option, codes}
+-- How a top call ends, by its words and its status.
+use Rattle.std.specs.Prelude.{◌≡◌, ℕ, List, ◌⊎◌, Option, Some, None}
 use Rattle.std.specs.Io.KnownBytes.{Appends, Keeps}
 use Rattle.tk_io.specs.Faults.{Rose}
-use Rattle.tk_io.specs.Whole.{GaveAll, GaveMore, TookFront}
+use Rattle.tk_io.specs.Whole.{GaveAll, GaveMore, GaveUpTo, TookFront}
+use Rattle.command_words.specs.Commands.{command_of}
+use Rattle.command_words.specs.declared.command.Command.{Command}
+use Rattle.command_words.specs.declared.command.Command.TheVariants.{One, Judge}
+use Rattle.topk_top.specs.Codes.{exit_code}
 use Rattle.topk_top.specs.Reply.{Replies, words_refused_text}
 use Rattle.topk_top.specs.declared.status.Status.{Status}
 use Rattle.topk_top.specs.declared.status.Status.TheVariants.{Done, Partial, BadWords, BadCatalog, ReadFault, WriteFault, OpenFault, PortFault, Memory, LongInput, BadInput}
 
--- a call: its words, what the input has left and the sink holds, where they tell it, and their counts of
--- faults, before the call and after it
+-- an input: what it has left, where it tells it, and its count of faults
+pub record Input : Type 0 where
+  pub left : Option (List ℕ)
+  pub faults : ℕ
+
+-- an output: what it holds, where it tells it, and its count of faults
+pub record Output : Type 0 where
+  pub held : Option (List ℕ)
+  pub faults : ℕ
+
+-- the streams of a call at one moment
+pub record Streams : Type 0 where
+  pub input : Input
+  pub output : Output
+
+-- a call: its words, and its streams before it and after it
 pub record Call : Type 0 where
   pub words : List (List ℕ)
-  pub left_before : Option (List ℕ)
-  pub left_after : Option (List ℕ)
-  pub reads_before : ℕ
-  pub reads_after : ℕ
-  pub held_before : Option (List ℕ)
-  pub held_after : Option (List ℕ)
-  pub writes_before : ℕ
-  pub writes_after : ℕ
-
--- the words are the one word `one`
-abbrev pub IsOne : List (List ℕ) → Type 0
-IsOne words = words ≡ codes "one" ∷ []
+  pub before : Streams
+  pub after : Streams
 
 -- the most bytes of an input
 abbrev pub input_limit : ℕ
@@ -30,42 +38,88 @@ input_limit = 134217728
 
 -- the input was left as it was
 pub record LeftAlone (c : Call) : Type 0 where
-  pub left : Keeps c.left_before c.left_after
-  pub faults : c.reads_after ≡ c.reads_before
+  pub left : Keeps c.before.input.left c.after.input.left
+  pub faults : c.after.input.faults ≡ c.before.input.faults
 
 -- the input gave these bytes, no more than the limit, and ended, and no read failed
 pub record ReadWhole (c : Call) (bytes : List ℕ) : Type 0 where
-  pub given : GaveAll input_limit c.left_before c.left_after bytes
-  pub faults : c.reads_after ≡ c.reads_before
+  pub given : GaveAll input_limit c.before.input.left c.after.input.left bytes
+  pub faults : c.after.input.faults ≡ c.before.input.faults
+
+-- a read failed, before the input gave more bytes than the limit
+pub record ReadFailed (c : Call) : Type 0 where
+  pub given : GaveUpTo input_limit c.before.input.left c.after.input.left
+  pub faults : Rose c.before.input.faults c.after.input.faults
+
+-- the input gave more bytes than the limit, and no read failed
+pub record ReadLong (c : Call) : Type 0 where
+  pub given : GaveMore input_limit c.before.input.left c.after.input.left
+  pub faults : c.after.input.faults ≡ c.before.input.faults
 
 -- nothing was written, and no write failed
 pub record WroteNothing (c : Call) : Type 0 where
-  pub held : Keeps c.held_before c.held_after
-  pub faults : c.writes_after ≡ c.writes_before
+  pub held : Keeps c.before.output.held c.after.output.held
+  pub faults : c.after.output.faults ≡ c.before.output.faults
 
--- a call with this status owes this text: the words are refused, or the input is read to its end and its bytes are replied to
-abbrev pub Owes : Call → Status → List ℕ → Type 0
-Owes c status text =
-    ((¬ IsOne c.words) × LeftAlone c × (status ≡ BadWords) × (text ≡ words_refused_text))
-    ⊎ (IsOne c.words × ((bytes : List ℕ) × ReadWhole c bytes × Replies bytes status text))
+-- the text was written whole, and no write failed
+pub record WroteWhole (c : Call) (text : List ℕ) : Type 0 where
+  pub held : Appends c.before.output.held c.after.output.held text
+  pub faults : c.after.output.faults ≡ c.before.output.faults
 
--- the text that is owed was written whole, and no write failed
-abbrev pub Answers : Call → Status → Type 0
-Answers c status = (text : List ℕ) × Owes c status text × Appends c.held_before c.held_after text × (c.writes_after ≡ c.writes_before)
+-- a front of the text was written, and a write failed
+pub record WroteFront (c : Call) (text : List ℕ) : Type 0 where
+  pub held : TookFront c.before.output.held c.after.output.held text
+  pub faults : Rose c.before.output.faults c.after.output.faults
+
+-- how words end that are no command
+abbrev pub EndsRefused : Call → Status → Type 0
+EndsRefused c BadWords = LeftAlone c × WroteWhole c words_refused_text
+EndsRefused c WriteFault = LeftAlone c × WroteFront c words_refused_text
+EndsRefused c Memory = LeftAlone c × WroteNothing c
+EndsRefused c Done = ⊥
+EndsRefused c Partial = ⊥
+EndsRefused c BadCatalog = ⊥
+EndsRefused c ReadFault = ⊥
+EndsRefused c OpenFault = ⊥
+EndsRefused c PortFault = ⊥
+EndsRefused c LongInput = ⊥
+EndsRefused c BadInput = ⊥
+
+-- what a command replies to the bytes of its input: the status and the text
+abbrev pub Replying : Type 1
+Replying = List ℕ → Status → List ℕ → Type 0
+
+-- the input was read to its end, and its reply with this status was written
+abbrev pub Replied : Replying → Call → Status → Type 0
+Replied replies c status = (bytes : List ℕ) × (text : List ℕ) × ReadWhole c bytes × replies bytes status text × WroteWhole c text
+
+-- how a command ends that reads its input and replies to it
+abbrev pub EndsReading : Replying → Call → Status → Type 0
+EndsReading replies c Done = Replied replies c Done
+EndsReading replies c Partial = Replied replies c Partial
+EndsReading replies c BadInput = Replied replies c BadInput
+EndsReading replies c WriteFault = (bytes : List ℕ) × (status : Status) × (text : List ℕ) × ReadWhole c bytes × replies bytes status text × WroteFront c text
+EndsReading replies c ReadFault = ReadFailed c × WroteNothing c
+EndsReading replies c LongInput = ReadLong c × WroteNothing c
+EndsReading replies c Memory = (c.after.input.faults ≡ c.before.input.faults) × WroteNothing c
+EndsReading replies c BadWords = ⊥
+EndsReading replies c BadCatalog = ⊥
+EndsReading replies c OpenFault = ⊥
+EndsReading replies c PortFault = ⊥
+
+-- how each command ends, and words that are none; a judge isn't there yet, so its words are refused
+abbrev pub EndsAs : Option Command → Call → Status → Type 0
+EndsAs None c status = EndsRefused c status
+EndsAs (Some One) c status = EndsReading Replies c status
+EndsAs (Some Judge) c status = EndsRefused c status
 
 -- how a call ends
 abbrev pub Ends : Call → Status → Type 0
-Ends c Done = Answers c Done
-Ends c Partial = Answers c Partial
-Ends c BadWords = Answers c BadWords
-Ends c BadInput = Answers c BadInput
-Ends c ReadFault = IsOne c.words × Rose c.reads_before c.reads_after × WroteNothing c
-Ends c LongInput = IsOne c.words × GaveMore input_limit c.left_before c.left_after × (c.reads_after ≡ c.reads_before) × WroteNothing c
-Ends c WriteFault = (status : Status) × (text : List ℕ) × Owes c status text × TookFront c.held_before c.held_after text × Rose c.writes_before c.writes_after
-Ends c Memory = IsOne c.words × (c.reads_after ≡ c.reads_before) × WroteNothing c
-Ends c BadCatalog = ⊥
-Ends c OpenFault = ⊥
-Ends c PortFault = ⊥
+Ends c status = EndsAs (command_of c.words) c status
+
+-- the exit status tells how the call ended
+abbrev pub ExitsBy : Call → ℕ → Type 0
+ExitsBy c code = (status : Status) × Ends c status × (code ≡ exit_code status)
 
 -- a text was written whole with its status, or a front of it with a write fault
 abbrev pub Says : Option (List ℕ) → Option (List ℕ) → ℕ → ℕ → List ℕ → Status → Status → Type 0

@@ -10,8 +10,8 @@ use Rattle.cert_text.specs.declared.outcome.Outcome.TheVariants.{Answered, Refus
 use Rattle.cert_text.specs.Outcome.{outcome_text}
 use Rattle.topk_top.specs.declared.status.Status.{Status}
 use Rattle.topk_top.specs.declared.status.Status.TheVariants.{Done, Partial, BadInput}
-use Rattle.topk_top.specs.Named.{count_of}
-use Rattle.topk_top.specs.Becomes.{Becomes}
+use Rattle.query_admission.specs.Becomes.{Becomes}
+use Rattle.topk_top.specs.Bundled.{bundle_line}
 
 -- `refused words`
 abbrev pub words_refused_text : List ℕ
@@ -39,10 +39,11 @@ pub record RepliesToBundle (bytes : List ℕ) (status : Status) (text : List ℕ
   pub content : Content
   pub spelled : Spells (lines bytes) content
   pub query : Option Query
+  pub count : ℕ
   pub outcome : Outcome
-  pub becomes : Becomes content query outcome
+  pub becomes : Becomes (bundle_line content) query count outcome
   pub status_is : status ≡ outcome_status outcome
-  pub text_is : text ≡ outcome_text 1 query (count_of content) outcome
+  pub text_is : text ≡ outcome_text 1 query count outcome
 
 -- the status and the text that an input of these bytes is replied to with
 abbrev pub Replies : List ℕ → Status → List ℕ → Type 0

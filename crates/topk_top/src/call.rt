@@ -1,14 +1,15 @@
 //! The top call.
 
-ghost use Rattle.std.specs.Prelude.{◌≡◌, ◌≤◌, ◌↔◌, IsTrue, MatchResult};
+ghost use Rattle.std.specs.Prelude.{◌≡◌, ◌≤◌, ℕ, List, MatchResult};
 ghost use Rattle.cert_text.specs.Outcome.{IsOutcome, outcome_text};
-ghost use Rattle.topk_top.specs.Reply.{outcome_status};
-ghost use Rattle.topk_top.specs.Ends.{Call, Ends, IsOne, Says};
+ghost use Rattle.topk_top.specs.Reply.{Replies, outcome_status};
+ghost use Rattle.topk_top.specs.Ends.{Call, Ends, EndsReading, Says};
 ghost use Rattle.topk_top.specs.Outcomes.{reply_text, reply_status, IsWritable};
 
 use super::one::{Line, Reply, reply_to};
-use super::{Status, Words};
+use super::status::Status;
 use cert_text::{Outcome, write_outcome};
+use command_words::{Command, Words, WordsFault, read_command};
 use std::alloc::Global;
 use tk_io::{Failed, Intake, ReadError, Sink, read_text, write_text};
 
@@ -18,29 +19,51 @@ pub const INPUT_LIMIT: u64 = 134_217_728;
 /// What is written where the words are no command.
 const WORDS_REFUSED: &[u8] = b"refused words\n";
 
-/// Does what the words say with the input, and writes one text.
+/// Does what the words say, and writes one text.
 ///
-/// The one command is `one`. It reads a bundle, answers its query over the lists that the query names,
-/// and writes the certificate of the answer or the line of a refusal: `refused bundle LINE` where the
-/// input is no bundle, else the first refusal that holds of the query line.
+/// `one` reads a bundle from the input, answers its query over the lists that the query names, and
+/// writes the certificate of the answer or the line of a refusal: `refused bundle LINE` where the
+/// input is no bundle, else the first refusal that holds of the query line. Words that are no command
+/// are answered with `refused words`, and `judge` so too until there is a judge.
 pub fn top<R: Intake, K: Sink>(alloc: Global, words: &Words, input: &mut R, out: &mut K) -> Status
     ensures reads { R.faults input.old ≤ R.faults input.new }
     ensures writes { K.faults out.old ≤ K.faults out.new }
     ensures ends { Ends (record {
       words = words.now;
-      left_before = R.left input.old;
-      left_after = R.left input.new;
-      reads_before = R.faults input.old;
-      reads_after = R.faults input.new;
-      held_before = K.held out.old;
-      held_after = K.held out.new;
-      writes_before = K.faults out.old;
-      writes_after = K.faults out.new;
+      before = record {
+        input = record { left = R.left input.old; faults = R.faults input.old };
+        output = record { held = K.held out.old; faults = K.faults out.old };
+      };
+      after = record {
+        input = record { left = R.left input.new; faults = R.faults input.new };
+        output = record { held = K.held out.new; faults = K.faults out.new };
+      };
     }) result }
 {
-    if !is_one(words) {
-        return say(out, WORDS_REFUSED, Status::BadWords);
+    match read_command(alloc, words) {
+        Ok(Command::One) => one(alloc, input, out),
+        Ok(Command::Judge) => say(out, WORDS_REFUSED, Status::BadWords),
+        Err(WordsFault::BadWords) => say(out, WORDS_REFUSED, Status::BadWords),
+        Err(WordsFault::Memory) => Status::Memory,
     }
+}
+
+/// Answers the query of the bundle that the input is.
+fn one<R: Intake, K: Sink>(alloc: Global, input: &mut R, out: &mut K) -> Status
+    ensures reads { R.faults input.old ≤ R.faults input.new }
+    ensures writes { K.faults out.old ≤ K.faults out.new }
+    ensures ends { (words : List (List ℕ)) → EndsReading Replies (record {
+      words = words;
+      before = record {
+        input = record { left = R.left input.old; faults = R.faults input.old };
+        output = record { held = K.held out.old; faults = K.faults out.old };
+      };
+      after = record {
+        input = record { left = R.left input.new; faults = R.faults input.new };
+        output = record { held = K.held out.new; faults = K.faults out.new };
+      };
+    }) result }
+{
     match read_text(alloc, input, INPUT_LIMIT) {
         Ok(text) => match reply_to(alloc, &text) {
             Ok(reply) => write_reply(out, &reply),
@@ -49,16 +72,6 @@ pub fn top<R: Intake, K: Sink>(alloc: Global, words: &Words, input: &mut R, out:
         Err(ReadError::Failed) => Status::ReadFault,
         Err(ReadError::Long) => Status::LongInput,
         Err(ReadError::Memory) => Status::Memory,
-    }
-}
-
-/// Whether the words are the one word `one`.
-fn is_one(words: &Words) -> bool
-    ensures { IsTrue result ↔ IsOne words.now }
-{
-    match words.get(0) {
-        Some(word) => words.len() == 1 && word == "one",
-        None => false,
     }
 }
 

@@ -1,22 +1,17 @@
 //! The top call: words and an input in, one text and a status out.
 #![tactic(auto)]
 
+mod bundled;
 mod call;
-mod drive;
-mod engine;
-mod named;
 mod one;
-mod source;
+mod real;
 mod status;
-mod words;
 
 pub use call::{INPUT_LIMIT, top};
+pub use command_words::{Words, WordsFault, read_words};
+pub use real::run;
 pub use status::Status;
-pub use words::Words;
 
 /// No memory was left.
 #[derive(Clone, Copy, Debug, PartialEq, Eq)]
 pub struct Memory;
-
-#[cfg(test)]
-mod tests;

@@ -1,27 +1,30 @@
-use Rattle.std.proofs.Common.{inl, inr, refl, subst}
-use Rattle.std.proofs.lemmas.Bool.{false≢true}
+use Rattle.std.proofs.Common.{Some, None, Err, refl, ap, ◌∙◌}
 use Rattle.std.proofs.KnownBytes.{Keeps-refl}
-use Rattle.topk_top.specs.Outcomes.{IsReply}
-use Rattle.topk_top.proofs.Ending.{ends_said}
-use Rattle.topk_top.proofs.Replying.{replies_to}
-use Rattle.topk_top.specs.declared.status.Status.TheVariants.{BadWords}
+use Rattle.command_words.specs.Commands.{command_of}
+use Rattle.command_words.specs.declared.command.Command.TheVariants.{One, Judge}
+use Rattle.topk_top.specs.declared.status.Status.TheVariants.{Memory}
+use Rattle.topk_top.proofs.Ending.{call_at, streams_at, ends_as, ends_refused, ends_without_memory}
 use Rattle.topk_top.proofs.call.top.Goals as goal
 
-pub returns-then-not-is_one-clause-ends : goal.returns-then-not-is_one-clause-ends
-returns-then-not-is_one-clause-ends g c =
-    ends_said _ BadWords _ _
-    (inl (λ one. false≢true (c.if-not-is_one.ensures.1 one), record { left = Keeps-refl _; faults = refl }, refl, refl))
-    c.say.ensures.says
+pub returns-in-Ok-One-clause-ends : goal.returns-in-Ok-One-clause-ends
+returns-in-Ok-One-clause-ends g c =
+    ends_as (Some One) (call_at c.args.words.now (streams_at (g.R.Intake.left c.args.input.now) (g.R.Intake.faults c.args.input.now) (g.K.Sink.held c.args.out.now) (g.K.Sink.faults c.args.out.now)) (streams_at (g.R.Intake.left c.one.new.input) (g.R.Intake.faults c.one.new.input) (g.K.Sink.held c.one.new.out) (g.K.Sink.faults c.one.new.out))) c.one.result
+    (c.in-Ok-One.ensures.read ∙ ap Some c.in-Ok-One.field-0-is) (c.one.ensures.ends c.args.words.now)
 
-pub returns-in-Ok-reply_to-clause-ends : goal.returns-in-Ok-reply_to-clause-ends
-returns-in-Ok-reply_to-clause-ends g c =
-    ends_said _ _ _ _
-    (inr (
-      c.if-not-is_one.ensures.0 refl,
-      (
-        c.in-Ok.text.items,
-        record { given = c.in-Ok.ensures.whole; faults = c.in-Ok.ensures.quiet },
-        replies_to c.in-Ok.text.items c.in-Ok-reply_to.reply (subst (λ bytes. IsReply bytes c.in-Ok-reply_to.reply) c.deref.ensures.value c.in-Ok-reply_to.ensures),
-      ),
-    ))
-    c.write_reply.ensures.says
+pub returns-in-Ok-Judge-clause-ends : goal.returns-in-Ok-Judge-clause-ends
+returns-in-Ok-Judge-clause-ends g c =
+    let call = (call_at c.args.words.now (streams_at (g.R.Intake.left c.args.input.now) (g.R.Intake.faults c.args.input.now) (g.K.Sink.held c.args.out.now) (g.K.Sink.faults c.args.out.now)) (streams_at (g.R.Intake.left c.args.input.now) (g.R.Intake.faults c.args.input.now) (g.K.Sink.held c.say.new.out) (g.K.Sink.faults c.say.new.out))) in
+    ends_as (Some Judge) call c.say.result (c.in-Ok-Judge.ensures.read ∙ ap Some c.in-Ok-Judge.field-0-is)
+    (ends_refused call c.say.result (record { left = Keeps-refl (g.R.Intake.left c.args.input.now); faults = refl }) c.say.ensures.says)
+
+pub returns-in-Err-BadWords-clause-ends : goal.returns-in-Err-BadWords-clause-ends
+returns-in-Err-BadWords-clause-ends g c =
+    let call = (call_at c.args.words.now (streams_at (g.R.Intake.left c.args.input.now) (g.R.Intake.faults c.args.input.now) (g.K.Sink.held c.args.out.now) (g.K.Sink.faults c.args.out.now)) (streams_at (g.R.Intake.left c.args.input.now) (g.R.Intake.faults c.args.input.now) (g.K.Sink.held c.say-in-Err-BadWords.new.out) (g.K.Sink.faults c.say-in-Err-BadWords.new.out))) in
+    ends_as None call c.say-in-Err-BadWords.result (c.in-Err-BadWords.ensures.refused (ap Err c.in-Err-BadWords.field-0-is))
+    (ends_refused call c.say-in-Err-BadWords.result (record { left = Keeps-refl (g.R.Intake.left c.args.input.now); faults = refl }) c.say-in-Err-BadWords.ensures.says)
+
+pub returns-in-Err-Memory-clause-ends : goal.returns-in-Err-Memory-clause-ends
+returns-in-Err-Memory-clause-ends g c =
+    ends_as (command_of c.args.words.now) (call_at c.args.words.now (streams_at (g.R.Intake.left c.args.input.now) (g.R.Intake.faults c.args.input.now) (g.K.Sink.held c.args.out.now) (g.K.Sink.faults c.args.out.now)) (streams_at (g.R.Intake.left c.args.input.now) (g.R.Intake.faults c.args.input.now) (g.K.Sink.held c.args.out.now) (g.K.Sink.faults c.args.out.now))) Memory refl
+    (ends_without_memory (command_of c.args.words.now) (call_at c.args.words.now (streams_at (g.R.Intake.left c.args.input.now) (g.R.Intake.faults c.args.input.now) (g.K.Sink.held c.args.out.now) (g.K.Sink.faults c.args.out.now)) (streams_at (g.R.Intake.left c.args.input.now) (g.R.Intake.faults c.args.input.now) (g.K.Sink.held c.args.out.now) (g.K.Sink.faults c.args.out.now)))
+    (record { left = Keeps-refl (g.R.Intake.left c.args.input.now); faults = refl }) (record { held = Keeps-refl (g.K.Sink.held c.args.out.now); faults = refl }))

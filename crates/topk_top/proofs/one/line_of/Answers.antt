@@ -1,14 +1,17 @@
-use Rattle.std.proofs.Common.{Err, subst}
-use Rattle.query_text.specs.Reading.{Reads}
-use Rattle.topk_top.proofs.Answering.{refused_text_lists}
+use Rattle.std.proofs.Common.{subst}
+use Rattle.ranked_list.specs.Bundle.{content}
+use Rattle.query_admission.specs.Causes.{admission_causes}
+use Rattle.query_admission.specs.Admission.{Admits, IsRefused}
+use Rattle.topk_top.specs.Bundled.{bundle_view}
+use Rattle.topk_top.proofs.Bundling.{line_refused}
 use Rattle.topk_top.proofs.one.line_of.Goals as goal
 
-pub returns-in_ok-refusal_of-in-Err : goal.returns-in_ok-refusal_of-in-Err
-returns-in_ok-refusal_of-in-Err c =
-    let line = c.args.bundle.now.query.items in
-    let refused = c.in_ok-refusal_of-in-Err.ensures line (subst (λ l. Reads l (Err c.in-Err.fault)) c.deref.ensures.value c.in-Err.ensures.reads) in
-    record {
-      count = c.count_of-count.ensures;
-      becomes = refused;
-      writable = refused_text_lists line c.in_ok-refusal_of-in-Err.field-0 0 refused;
-    }
+pub returns-in-Ok-Refused : goal.returns-in-Ok-Refused
+returns-in-Ok-Refused c =
+    let bundle = content c.args.bundle.now in
+    let refusal = c.in-Ok-Refused.refusal in
+    let query = c.in-Ok-Refused.query in
+    let refused = subst (Admits (record { view = bundle_view c.of.result; number = 1; bytes = c.deref.result.now })) c.in-Ok-Refused.field-0-is c.in-Ok-Refused.ensures in
+    line_refused bundle refusal query
+    (subst (λ d. IsRefused admission_causes (record { view = bundle_view d; number = 1; bytes = c.args.bundle.now.query.items }) refusal query) c.of.ensures
+    (subst (λ bytes. IsRefused admission_causes (record { view = bundle_view c.of.result; number = 1; bytes = bytes }) refusal query) c.deref.ensures.value refused))

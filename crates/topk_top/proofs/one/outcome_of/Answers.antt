@@ -1,48 +1,34 @@
-use Rattle.std.proofs.Common.{◌≤◌, sym, subst, arith}
+use Rattle.std.proofs.Common.{◌<◌, All, length, Err, sym, ap, ◌∙◌, subst}
 use Rattle.ranked_list.specs.Bundle.{content}
-use Rattle.access_log.specs.declared.core_fault.CoreFault.TheVariants.{RoomFull}
-use Rattle.topk_top.specs.Engines.{algorithm_of, machine_of}
-use Rattle.topk_top.specs.Driving.{AnswersOver, StopsDriving}
-use Rattle.topk_top.specs.Named.{AreNamed, count_of}
-use Rattle.topk_top.specs.Outcomes.{IsEngineFor}
-use Rattle.topk_top.proofs.Answering.{machine_asked, machine_agrees, becomes_answered, becomes_room_full}
+use Rattle.ranked_list.specs.Table.{IsTable}
+use Rattle.query_core.specs.Driving.{RunsOver}
+use Rattle.topk_top.specs.Bundled.{lists_at}
+use Rattle.topk_top.proofs.Bundling.{places_within, lists_table, lists_many, becomes_answered, becomes_full}
 use Rattle.topk_top.proofs.one.outcome_of.Goals as goal
 
-pub drive-requires-clause-asked : goal.drive-requires-clause-asked
-drive-requires-clause-asked c =
-    let q = c.args.query.now in
-    let bundle = content c.args.bundle.now in
-    let named = subst (AreNamed bundle q.names) (sym c.deref_mut.ensures.value) c.in-Ok.ensures.named in
-    let made = subst (λ n. IsEngineFor q n c.in_ok-engine.engine) c.count_of-count.ensures c.in_ok-engine.ensures in
-    let fits : q.k ≤ count_of bundle = omega (arith, c.if-query-count.false, c.count_of-count.ensures) in
-    machine_asked bundle q (machine_of c.in_ok-engine.engine) c.deref_mut.result.now c.requires.bundle c.requires.query named fits made.1
+pub told_lists-requires : goal.told_lists-requires
+told_lists-requires c =
+    subst (All (λ place. place < length c.args.bundle.now.lists.items)) (sym c.deref.ensures.value) (places_within (content c.args.bundle.now) c.args.ready.now c.requires.bundle c.requires.admitted)
 
-pub drive-requires-clause-agrees : goal.drive-requires-clause-agrees
-drive-requires-clause-agrees c =
-    let q = c.args.query.now in
+pub answer_over-requires-clause-table : goal.answer_over-requires-clause-table
+answer_over-requires-clause-table c =
     let bundle = content c.args.bundle.now in
-    let named = subst (AreNamed bundle q.names) (sym c.deref_mut.ensures.value) c.in-Ok.ensures.named in
-    let made = subst (λ n. IsEngineFor q n c.in_ok-engine.engine) c.count_of-count.ensures c.in_ok-engine.ensures in
-    let fits : q.k ≤ count_of bundle = omega (arith, c.if-query-count.false, c.count_of-count.ensures) in
-    machine_agrees bundle q (machine_of c.in_ok-engine.engine) c.deref_mut.result.now c.requires.bundle c.requires.query named fits made.1
+    let same = c.deref_mut.ensures.value ∙ (c.in-Ok.ensures ∙ ap (lists_at bundle) c.deref.ensures.value) in
+    subst (IsTable c.args.ready.now.count) (sym same) (lists_table bundle c.args.ready.now c.requires.bundle c.requires.admitted)
 
-pub returns-in-Ok-drive : goal.returns-in-Ok-drive
-returns-in-Ok-drive c =
-    let q = c.args.query.now in
+pub answer_over-requires-clause-lists : goal.answer_over-requires-clause-lists
+answer_over-requires-clause-lists c =
     let bundle = content c.args.bundle.now in
-    let named = subst (AreNamed bundle q.names) (sym c.deref_mut.ensures.value) c.in-Ok.ensures.named in
-    let made = subst (λ n. IsEngineFor q n c.in_ok-engine.engine) c.count_of-count.ensures c.in_ok-engine.ensures in
-    let fits : q.k ≤ count_of bundle = omega (arith, c.if-query-count.false, c.count_of-count.ensures) in
-    becomes_answered bundle q (machine_of c.in_ok-engine.engine) c.deref_mut.result.now c.in-Ok-drive.answer c.requires.bundle c.requires.query named fits made.1
-    (subst (λ a. AnswersOver a c.deref_mut.result.now (machine_of c.in_ok-engine.engine) c.in-Ok-drive.answer) made.0 c.in-Ok-drive.ensures)
+    let same = c.deref_mut.ensures.value ∙ (c.in-Ok.ensures ∙ ap (lists_at bundle) c.deref.ensures.value) in
+    ap length same ∙ lists_many bundle c.args.ready.now c.requires.admitted
+
+pub returns-in-Ok-answer_over : goal.returns-in-Ok-answer_over
+returns-in-Ok-answer_over c =
+    let bundle = content c.args.bundle.now in
+    becomes_answered bundle c.args.ready.now c.deref_mut.result.now c.in-Ok-answer_over.answer c.requires.admitted (c.deref_mut.ensures.value ∙ (c.in-Ok.ensures ∙ ap (lists_at bundle) c.deref.ensures.value)) c.in-Ok-answer_over.ensures
 
 pub returns-in-Err-RoomFull : goal.returns-in-Err-RoomFull
 returns-in-Err-RoomFull c =
-    let q = c.args.query.now in
     let bundle = content c.args.bundle.now in
-    let named = subst (AreNamed bundle q.names) (sym c.deref_mut.ensures.value) c.in-Ok.ensures.named in
-    let made = subst (λ n. IsEngineFor q n c.in_ok-engine.engine) c.count_of-count.ensures c.in_ok-engine.ensures in
-    let fits : q.k ≤ count_of bundle = omega (arith, c.if-query-count.false, c.count_of-count.ensures) in
-    becomes_room_full bundle q (machine_of c.in_ok-engine.engine) c.deref_mut.result.now c.in-Err-RoomFull.room c.requires.query named fits made.1
-    (subst (λ a. StopsDriving a c.deref_mut.result.now (machine_of c.in_ok-engine.engine) (RoomFull c.in-Err-RoomFull.room)) made.0
-    (subst (StopsDriving (algorithm_of c.in_ok-engine.engine) c.deref_mut.result.now (machine_of c.in_ok-engine.engine)) c.in-Err-RoomFull.field-0-is c.in-Err-RoomFull.ensures))
+    becomes_full bundle c.args.ready.now c.deref_mut.result.now c.in-Err-RoomFull.room c.requires.admitted (c.deref_mut.ensures.value ∙ (c.in-Ok.ensures ∙ ap (lists_at bundle) c.deref.ensures.value))
+    (subst (λ fault. RunsOver c.args.ready.now c.deref_mut.result.now (Err fault)) c.in-Err-RoomFull.field-0-is c.in-Err-RoomFull.ensures)

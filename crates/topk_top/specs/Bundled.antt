@@ -1,0 +1,33 @@
+-- The lists of a bundle as a query line knows them.
+use Rattle.std.specs.Prelude.{ℕ, true, List, length, map, Option, Some, option_map}
+use Rattle.std.specs.List.{position}
+use Rattle.std.specs.Str.{bytes_eq}
+use Rattle.ranked_list.specs.declared.row.Row.{Row}
+use Rattle.ranked_list.specs.Bundle.{Content}
+use Rattle.topk_theory.specs.Transcript.{list_at}
+use Rattle.query_admission.specs.View.{View}
+use Rattle.query_admission.specs.Causes.{Line}
+use Rattle.query_admission.specs.declared.lists.Listed.{Listed}
+
+-- where a name stands in a bundle
+abbrev pub place_of : Content → List ℕ → Option ℕ
+place_of c name = position (λ other. bytes_eq other name) c.names
+
+-- what the list at a place says of itself: the number of its rows, and that it offers random access
+abbrev pub listed_at : Content → ℕ → Listed
+listed_at c place = record { size = Some (length (list_at c.lists place)); random = true; source = place }
+
+-- the lists of a bundle by name: all are told, and all offer random access
+abbrev pub bundle_view : Content → View
+bundle_view c = record {
+  listed = λ name. option_map (listed_at c) (place_of c name);
+  told = λ name. option_map (list_at c.lists) (place_of c name);
+}
+
+-- the query line of a bundle, which is line 1
+abbrev pub bundle_line : Content → Line
+bundle_line c = record { view = bundle_view c; number = 1; bytes = c.query }
+
+-- the lists at these places of a bundle
+abbrev pub lists_at : Content → List ℕ → List (List Row)
+lists_at c places = map (list_at c.lists) places
