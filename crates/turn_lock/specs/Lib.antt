@@ -1,0 +1,5 @@
+pub mod Facts
+pub mod Known
+pub mod Rule
+pub mod Steps
+pub mod Seats

@@ -1,0 +1,132 @@
+// The moves of a pass on the table of a lock, over the seat that the pass is.
+ghost use Rattle.std.specs.Prelude.{◌≡◌, ℕ, ◌%◌, ◌^◌, ◌<◌, [], ◌∷◌, Some, None};
+ghost use Rattle.turn_lock.specs.declared.facts.Facts.{Facts};
+ghost use Rattle.turn_lock.specs.Known.{Agrees, Follows, holding, after_turn, without, split_off, joined};
+ghost use Rattle.turn_lock.specs.Rule.{resting};
+ghost use Rattle.turn_lock.specs.Seats.{IsSeatOf, IsSameSeat, Rests, InTurn, Waits, Took, MayGive, Gives, Counted, Gave};
+
+use crate::logged::Logged;
+use crate::rule::{Compare, Count, Cut, Draw, Glue, Offer, PassOn, Turns, Watch};
+use crate::view::View;
+use atomic_table::{Seat, Shared};
+use std::snapshot::Snapshot;
+use std::sync::Wait;
+use std::thread;
+
+/// The words of the table: the next ticket, the ticket that is served, and the length of the log.
+const TICKET: usize = 0;
+
+const SERVING: usize = 1;
+
+const LENGTH: usize = 2;
+
+pub type Desk<V> = Shared<Option<V>, View<<V as Logged>::Entry>, Snapshot<V>, Turns>;
+
+pub type Place<V> = Seat<Option<V>, View<<V as Logged>::Entry>>;
+
+// Waits until the ticket is served.
+fn wait_for<V: Logged, R: Wait>(rt: &R, desk: &Desk<V>, seat: &mut Place<V>, ticket: u64)
+    requires desk { IsSeatOf desk.now.table_id seat.old.table_id }
+    requires waits { Waits ticket seat.old.me }
+    ensures same { IsSameSeat seat.old seat.new }
+    ensures took { Took V.facts seat.old.me seat.new.me }
+{
+    for _ in rt.forever() {
+        if desk.load::<Watch>(seat, SERVING) == ticket {
+            return;
+        }
+        thread::yield_now();
+    }
+    unreachable!()
+}
+
+// Waits for a turn, and takes the value out.
+pub fn enter<V: Logged + Drop, R: Wait>(rt: &R, desk: &Desk<V>, seat: &mut Place<V>) -> V
+    requires desk { IsSeatOf desk.now.table_id seat.old.table_id }
+    requires rests { Rests seat.old.me }
+    ensures same { IsSameSeat seat.old seat.new }
+    ensures turn { InTurn seat.new.me × (seat.new.me.0.known ≡ holding (V.facts result) seat.old.me.0.known) }
+    ensures value { Agrees (V.facts result) seat.old.me.0.known }
+{
+    let ticket = desk.fetch_add::<Draw>(seat, TICKET, 1);
+    wait_for(rt, desk, seat, ticket);
+    match desk.exchange(seat, 0, None) {
+        Some(value) => value,
+        None => unreachable!(),
+    }
+}
+
+// Puts a value into the slot, and tells how long its log is.
+fn put<V: Logged + Drop>(desk: &Desk<V>, seat: &mut Place<V>, value: V) -> u64
+    requires desk { IsSeatOf desk.now.table_id seat.old.table_id }
+    requires turn { InTurn seat.old.me }
+    requires change { MayGive (V.facts value) seat.old.me.0.known }
+    ensures same { IsSameSeat seat.old seat.new }
+    ensures hand { seat.new.me ≡ (seat.old.me.0, (0, Some value) ∷ []) }
+    ensures gives { Gives V.facts result seat.new.me }
+{
+    let length = value.length();
+    drop(desk.exchange(seat, 0, Some(value)));
+    length
+}
+
+// Writes the length of the new log. From now on the value in the slot is in force.
+fn count<V: Logged>(desk: &Desk<V>, seat: &mut Place<V>, length: u64)
+    requires desk { IsSeatOf desk.now.table_id seat.old.table_id }
+    requires gives { Gives V.facts length seat.old.me }
+    ensures same { IsSameSeat seat.old seat.new }
+    ensures given { Gave V.facts seat.new.me }
+    ensures counted { Counted V.facts seat.old.me seat.new.me }
+{
+    desk.store::<Count>(seat, LENGTH, length);
+}
+
+// Serves the next ticket.
+fn pass_on<V: Logged>(desk: &Desk<V>, seat: &mut Place<V>)
+    requires desk { IsSeatOf desk.now.table_id seat.old.table_id }
+    requires given { Gave V.facts seat.old.me }
+    ensures same { IsSameSeat seat.old seat.new }
+    ensures rests { Rests seat.new.me }
+    ensures known { seat.new.me.0.known ≡ record seat.old.me.0.known { held = None } }
+{
+    desk.fetch_add::<PassOn>(seat, SERVING, 1);
+}
+
+// Puts a value home, and ends the turn.
+pub fn leave<V: Logged + Drop>(desk: &Desk<V>, seat: &mut Place<V>, value: V)
+    requires desk { IsSeatOf desk.now.table_id seat.old.table_id }
+    requires turn { InTurn seat.old.me }
+    requires change { MayGive (V.facts value) seat.old.me.0.known }
+    ensures same { IsSameSeat seat.old seat.new }
+    ensures rests { Rests seat.new.me }
+    ensures known { (f : Facts V.Entry) → seat.old.me.0.known.held ≡ Some f → seat.new.me.0.known ≡ after_turn f (V.facts value) seat.old.me.0.known }
+{
+    let length = put(desk, seat, value);
+    count(desk, seat, length);
+    pass_on(desk, seat);
+}
+
+// Splits a seat off, with so many parts.
+pub fn cut<V: Logged>(desk: &Desk<V>, seat: &mut Place<V>, parts: u64) -> Place<V>
+    requires desk { IsSeatOf desk.now.table_id seat.old.table_id }
+    requires rests { Rests seat.old.me }
+    requires room { (0 < parts) × (parts < seat.old.me.0.known.parts) }
+    ensures same { IsSameSeat seat.old seat.new }
+    ensures kept { Rests seat.new.me × (seat.new.me.0.known ≡ without parts seat.old.me.0.known) }
+    ensures given { (result.table_id ≡ seat.old.table_id) × Rests result.me × (result.me.0.known ≡ split_off parts seat.old.me.0.known) }
+{
+    desk.compare_exchange::<Offer>(seat, TICKET, parts, parts);
+    desk.split_seat::<Cut>(seat)
+}
+
+// Takes in what another seat knows.
+pub fn glue<V: Logged>(desk: &Desk<V>, seat: &mut Place<V>, other: Place<V>)
+    requires desk { IsSeatOf desk.now.table_id seat.old.table_id × (other.table_id ≡ seat.old.table_id) }
+    requires rests { Rests seat.old.me × Rests other.me }
+    ensures same { IsSameSeat seat.old seat.new }
+    ensures known { Rests seat.new.me × (seat.new.me.0.known ≡ joined seat.old.me.0.known other.me.0.known) }
+    ensures follows { Follows seat.old.me.0.known seat.new.me.0.known × Follows other.me.0.known seat.new.me.0.known }
+{
+    desk.join_seat::<Glue>(seat, other);
+    desk.load::<Compare>(seat, TICKET);
+}
