@@ -1,0 +1,140 @@
+//! The sources of a catalog.
+
+ghost use Rattle.std.specs.Prelude.{◌≡◌, ◌==◌, ◌<◌, ◌++◌, ◌∷◌, [], length, position, slice_get, option_map, OnOk, OnErr};
+ghost use Rattle.std.specs.Str.{bytes_eq};
+ghost use Rattle.catalog_text.specs.Listed.{listed, listed_parts};
+ghost use Rattle.catalog_text.specs.Placed.{PutsFirst};
+
+use super::fields::Parts;
+use indexmap::IndexMap;
+use std::alloc::Global;
+use std::marker::Model;
+use thiserror::Error;
+
+/// A source of a catalog.
+#[derive(Debug, Drop)]
+pub struct Entry {
+    /// The name of its list: 1 to 32 bytes, a letter and then letters, digits and `_`.
+    pub name: Vec<u8>,
+    /// Where it is: a file's path.
+    pub place: String,
+    /// Whether it allows random access.
+    pub random: bool,
+}
+
+/// Why a text is no catalog.
+#[derive(Clone, Copy, Debug, PartialEq, Eq, Error)]
+pub enum CatalogFault {
+    /// This record, counted from 1, is the first at fault, and its form is wrong.
+    #[error("record {line} of the catalog has a wrong form")]
+    CatalogLine { line: u64 },
+    /// This record, counted from 1, is the first at fault, and has the name of an earlier one.
+    #[error("record {line} of the catalog repeats a name")]
+    SameName { line: u64 },
+    /// No memory was left.
+    #[error("no memory was left")]
+    Memory,
+}
+
+/// The sources of a catalog in their order, which contracts see as a list.
+#[derive(Drop)]
+pub struct Catalog {
+    entries: Vec<Entry>,
+    /// Where each name first stands among the entries.
+    places: IndexMap<Vec<u8>, u32>,
+}
+
+impl Model for Catalog {
+    ghost use Rattle.std.specs.Prelude.{List, ◌≤◌, map, vec_len};
+    ghost use Rattle.catalog_text.specs.Catalog.{Listed};
+
+    ghost Value = { List Listed };
+
+    ghost use Rattle.catalog_text.specs.Listed.{listed};
+
+    ghost view = { λ c. map listed c.entries.items };
+
+    ghost use Rattle.catalog_text.specs.Placed.{IsPlaced};
+
+    ghost invariant = { λ c. (vec_len c.entries ≤ 64) × IsPlaced c.entries.items c.places };
+}
+
+impl Catalog {
+    /// A catalog without sources. Takes no memory yet.
+    pub(crate) fn make(alloc: Global) -> Catalog
+        ensures { result ≡ [] }
+    {
+        Catalog {
+            entries: Vec::new(alloc),
+            places: IndexMap::new(alloc),
+        }
+    }
+
+    /// Adds a source at the end.
+    pub(crate) fn push(&mut self, alloc: Global, parts: &Parts<'_>) -> Result<(), CatalogFault>
+        requires { length self.old < 64 }
+        ensures { OnOk result (self.new ≡ self.old ++ listed_parts parts.now ∷ []) }
+    {
+        let name = Vec::from_slice(alloc, parts.name)?;
+        let place = String::from_str(alloc, parts.place)?;
+        self.entries.reserve(1)?;
+        put_first(
+            alloc,
+            &mut self.places,
+            parts.name,
+            self.entries.len() as u32,
+        )?;
+        self.entries.push_reserved(Entry {
+            name,
+            place,
+            random: parts.random,
+        });
+        Ok(())
+    }
+
+    /// How many sources there are: at most 64.
+    pub fn len(&self) -> u32
+        ensures { result ≡ length self.now }
+    {
+        self.entries.len() as u32
+    }
+
+    /// Whether there are none.
+    pub fn is_empty(&self) -> bool
+        ensures { result ≡ (length self.now == 0) }
+    {
+        self.entries.is_empty()
+    }
+
+    /// The source at a place from 0, or None past the end.
+    pub fn get(&self, place: u32) -> Option<&Entry>
+        ensures { option_map (λ entry. listed entry.now) result ≡ slice_get self.now place }
+    {
+        self.entries.get(place as usize)
+    }
+
+    /// Where the source of a name stands, from 0.
+    pub fn find(&self, name: &[u8]) -> Option<u32>
+        ensures { result ≡ position (λ entry. bytes_eq entry.name name.now) self.now }
+    {
+        self.places.get(name).copied()
+    }
+}
+
+/// Puts the place of a name, unless it has one.
+fn put_first(
+    alloc: Global,
+    places: &mut IndexMap<Vec<u8>, u32>,
+    name: &[u8],
+    place: u32,
+) -> Result<(), CatalogFault>
+    ensures ok { OnOk result (PutsFirst places.old places.new name.now place) }
+    ensures err { OnErr result (places.new.entries ≡ places.old.entries) }
+{
+    if places.contains_key(name) {
+        return Ok(());
+    }
+    let key = Vec::from_slice(alloc, name)?;
+    places.insert(key, place)?;
+    Ok(())
+}

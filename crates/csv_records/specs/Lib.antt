@@ -1,0 +1,2 @@
+-- The records of a CSV text.
+pub mod Records

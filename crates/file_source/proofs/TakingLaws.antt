@@ -1,0 +1,69 @@
+-- Taking the records of a list file in, one after another.
+use Rattle.std.proofs.Common.{◌≡◌, ℕ, Bool, true, false, cond, not, ◌&&◌, ◌||◌, List, [], ◌∷◌, ◌++◌, map, Option, Some, None, refl, sym, ap, ◌∙◌}
+use Rattle.std.specs.Option.{is_none}
+use Rattle.std.specs.List.{list_any}
+use Rattle.std.proofs.lemmas.Bool.{both_ways}
+use Rattle.std.proofs.lemmas.List.{map-append}
+use Rattle.std.proofs.lemmas.List.Folds.{list_any-append}
+use Rattle.ranked_list.specs.declared.row.Row.{Row}
+use Rattle.file_source.specs.declared.list_file.Reading.{Reading}
+use Rattle.source_api.specs.Told.{first_grade}
+use Rattle.file_source.specs.ListFile.{rows_among, row_of, is_header, without_header}
+use Rattle.file_source.specs.Filed.{IsIndexed}
+use Rattle.file_source.specs.Taking.{IsTaken, Puts, has_some, kept_record}
+use Rattle.file_source.proofs.RecordLaws.{grade_push}
+
+-- the same reading, of which a record was read
+abbrev pub begun : Reading → Reading
+begun r = record r { started = true }
+
+or_is_none : (b : Bool) (row : Option Row) → (b || is_none row) ≡ (b || (is_none row || false))
+or_is_none true row = refl
+or_is_none false None = refl
+or_is_none false (Some row) = refl
+
+indexed_push : (before now : Reading) (row : Option Row) → IsIndexed before.records.items before.grades before.broken → Puts (begun before) now row
+    → IsIndexed now.records.items now.grades now.broken
+indexed_push before now row h p = record {
+  grades = λ object. p.grades object ∙ (ap (λ kept. kept_record kept row object) (h.grades object) ∙ (sym (grade_push before.records.items row object) ∙ ap (λ rs. first_grade (rows_among rs) object) (sym p.rows)));
+  broken = p.broken ∙ (ap (λ b. b || is_none row) h.broken ∙ (or_is_none (list_any is_none before.records.items) row ∙ (sym (list_any-append is_none before.records.items (row ∷ [])) ∙ ap (list_any is_none) (sym p.rows))));
+}
+
+has_more : (records : List (List (List ℕ))) (fields : List (List ℕ)) → has_some (records ++ fields ∷ []) ≡ true
+has_more [] fields = refl
+has_more (first ∷ records) fields = refl
+
+-- the header
+pub takes_header : (before : Reading) (records : List (List (List ℕ))) (fields : List (List ℕ)) → IsTaken before records → before.started ≡ false
+    → is_header fields ≡ true → IsTaken (begun before) (records ++ fields ∷ [])
+takes_header before [] fields h new header = record {
+  started = refl;
+  rows = h.rows ∙ ap (map row_of) (ap (λ b. cond b [] (fields ∷ [])) (sym header));
+  indexed = h.indexed;
+}
+takes_header before (first ∷ records) fields h new header = absurd (both_ways before.started new h.started)
+
+pushed : (records : List (List (List ℕ))) (fields : List (List ℕ)) → (has_some records ≡ false → is_header fields ≡ false)
+    → map row_of (without_header (records ++ fields ∷ [])) ≡ map row_of (without_header records) ++ row_of fields ∷ []
+pushed [] fields other = ap (map row_of) (ap (λ b. cond b [] (fields ∷ [])) (other refl))
+pushed (first ∷ records) fields other = by (is_header first)
+  where
+    by : (b : Bool)
+        → map row_of (cond b (records ++ fields ∷ []) (first ∷ (records ++ fields ∷ []))) ≡ map row_of (cond b records (first ∷ records)) ++ row_of fields ∷ []
+    by true = map-append row_of records (fields ∷ [])
+    by false = map-append row_of (first ∷ records) (fields ∷ [])
+
+-- another record
+pub takes_record : (before now : Reading) (records : List (List (List ℕ))) (fields : List (List ℕ)) → IsTaken before records
+    → Puts (begun before) now (row_of fields)
+    → (before.started ≡ false → is_header fields ≡ false) → IsTaken now (records ++ fields ∷ [])
+takes_record before now records fields h p other = record {
+  started = p.started ∙ sym (has_more records fields);
+  rows = p.rows ∙ (ap (λ rs. rs ++ row_of fields ∷ []) h.rows ∙ sym (pushed records fields (λ none. other (h.started ∙ none))));
+  indexed = indexed_push before now (row_of fields) h.indexed p;
+}
+
+-- what isn't skipped is no header at the beginning
+pub not_skipped : (started header skipped : Bool) → skipped ≡ (not started && header) → skipped ≡ false → started ≡ false → header ≡ false
+not_skipped true header skipped is off new = absurd (cc)
+not_skipped false header skipped is off new = sym is ∙ off

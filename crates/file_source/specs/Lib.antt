@@ -1,0 +1,6 @@
+-- What a list file holds, and what a source over it answers.
+pub mod FileAnswers
+pub mod FileLists
+pub mod Filed
+pub mod ListFile
+pub mod Taking

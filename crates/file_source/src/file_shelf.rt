@@ -1,0 +1,117 @@
+//! A shelf of files.
+
+ghost use Rattle.std.specs.Prelude.{◌≡◌, ◌≤◌, [], true, ℕ, List, vec_len, IfOk};
+ghost use Rattle.source_api.specs.declared.source.Trouble.TheVariants.{Garbled};
+ghost use Rattle.source_api.specs.Counting.{no_counts};
+ghost use Rattle.source_api.specs.Places.{counts_at, is_known, text_limit};
+
+use super::FileSource;
+use source_api::{Ledger, Shelf, TEXT_LIMIT, Trouble};
+use std::alloc::Global;
+use std::fs;
+use std::marker::Model;
+use std::rt::Files;
+use tk_io::{ReadError, StdIntake, read_text};
+
+/// The files of a place in the file system, read whole at each call. A place is a path, relative to
+/// the working directory. A file that is missing, a folder, or a file of more than 16,777,216 bytes
+/// is a call that failed. It tells no content: this is the trusted edge, and one test reads through
+/// it. Contracts see it as what it has counted, place by place.
+#[derive(Drop)]
+pub struct FileShelf<'a, R: Files> {
+    files: &'a R,
+    ledger: Ledger,
+}
+
+impl<'a, R: Files> Model for FileShelf<'a, R> {
+    ghost use Rattle.std.specs.Prelude.{List};
+    ghost use Rattle.source_api.specs.Places.{Noted};
+
+    ghost Value = { List Noted };
+
+    ghost view = { λ s. s.ledger };
+}
+
+impl<'a, R: Files> FileShelf<'a, R> {
+    /// The shelf of these files. It has counted nothing yet. Takes no memory.
+    pub fn make(alloc: Global, files: &'a R) -> FileShelf<'a, R>
+        ensures { result ≡ [] }
+    {
+        FileShelf {
+            files,
+            ledger: Ledger::make(alloc),
+        }
+    }
+}
+
+impl<'a, R: Files> Shelf for FileShelf<'a, R> {
+    ghost use Rattle.std.specs.Prelude.{None};
+    ghost use Rattle.source_api.specs.Places.{counts_at, is_known};
+
+    type Item = FileSource;
+
+    ghost texts = { λ _ _. None };
+
+    ghost lists = { λ _ _. None };
+
+    ghost at = { λ s. counts_at s };
+
+    ghost knows = { λ s. is_known s };
+
+    fn text(&mut self, alloc: Global, place: &str) -> Result<Vec<u8>, Trouble> {
+        match read_file(alloc, self.files, place) {
+            Ok(text) => Ok(text),
+            Err(Trouble::Memory) => Err(Trouble::Memory),
+            Err(_) => match self.ledger.count_text_fault(alloc, place) {
+                Ok(()) => Err(Trouble::Failed),
+                Err(_) => Err(Trouble::Memory),
+            },
+        }
+    }
+
+    fn take(&mut self, alloc: Global, place: &str) -> Result<FileSource, Trouble> {
+        match read_source(alloc, self.files, place) {
+            Ok(source) => match self.ledger.know(alloc, place) {
+                Ok(()) => Ok(source),
+                Err(_) => Err(Trouble::Memory),
+            },
+            Err(Trouble::Memory) => Err(Trouble::Memory),
+            Err(_) => match self.ledger.count_take_fault(alloc, place) {
+                Ok(()) => Err(Trouble::Failed),
+                Err(_) => Err(Trouble::Memory),
+            },
+        }
+    }
+
+    fn put_back(&mut self, place: &str, item: FileSource) {
+        self.ledger.add_source(place, item.counts());
+    }
+}
+
+/// Reads a file whole. A file that isn't there or can't be read, or one of more than 16,777,216
+/// bytes, is `Failed`. It never garbles.
+pub fn read_file<R: Files>(alloc: Global, files: &R, place: &str) -> Result<Vec<u8>, Trouble>
+    ensures within { IfOk result (λ text. vec_len text ≤ text_limit) }
+    ensures sound { result ≡ Err Garbled → ⊥ }
+{
+    let Ok(file) = fs::open(files, place) else {
+        return Err(Trouble::Failed);
+    };
+    let mut input = StdIntake::make(file);
+    match read_text(alloc, &mut input, TEXT_LIMIT) {
+        Ok(text) => Ok(text),
+        Err(ReadError::Memory) => Err(Trouble::Memory),
+        Err(_) => Err(Trouble::Failed),
+    }
+}
+
+/// Reads a list file whole, as a source.
+fn read_source<R: Files>(alloc: Global, files: &R, place: &str) -> Result<FileSource, Trouble>
+    ensures fresh { IfOk result (λ source. source.counts ≡ no_counts) }
+{
+    let text = read_file(alloc, files, place)?;
+    match FileSource::open(alloc, &text) {
+        Ok(source) => Ok(source),
+        Err(_) => Err(Trouble::Memory),
+    }
+}

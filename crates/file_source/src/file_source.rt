@@ -1,0 +1,152 @@
+//! A source over the bytes of a list file.
+
+ghost use Rattle.std.specs.Prelude.{◌≡◌, ◌≤◌, ◌<◌, ℕ, nat_eq, length, take, drop, map, vec_len, Some, None, Contains, MatchOption, IfOk, IfErr, IfSome, OnOk, OnErr};
+ghost use Rattle.std.specs.HashMap.{get};
+ghost use Rattle.source_api.specs.Counting.{no_counts, NoneFell, HasCause, GaveNothing, GaveRows, GaveGrade};
+ghost use Rattle.source_api.specs.Told.{IsPage, IsGrade, first_grade};
+ghost use Rattle.file_source.specs.ListFile.{list_records, rows_among, told_records};
+ghost use Rattle.file_source.specs.FileAnswers.{AnswersPage, AnswersGrade, after_page, after_grade};
+
+use super::Memory;
+use super::list_file::{Reading, read_list};
+use ranked_list::Row;
+use source_api::{Counts, Source, Trouble, part_of};
+use std::alloc::Global;
+use std::collections::HashMap;
+use std::marker::Model;
+
+/// A list file that was read whole.
+///
+/// Contracts see it as the record of its records, each as its row or None where it is no row, and of
+/// what it has counted. It never fails. It garbles where a call needs a record that is no row. It
+/// tells its list where each record is a row and no object comes twice.
+#[derive(Drop)]
+pub struct FileSource {
+    records: Vec<Option<Row>>,
+    grades: HashMap<u32, u32>,
+    broken: bool,
+    counts: Counts,
+}
+
+impl Model for FileSource {
+    ghost use Rattle.file_source.specs.Filed.{Filed, IsIndexed};
+
+    ghost Value = { Filed };
+
+    ghost view = { λ f. record { records = f.records.items; counts = f.counts } };
+
+    ghost invariant = { λ f. IsIndexed f.records.items f.grades f.broken };
+}
+
+impl FileSource {
+    /// The source of a list file: values separated by commas, one record a line. A first record of
+    /// the fields `object` and `grade` is a header. Any other record is a row where it has two fields,
+    /// each of 1 to 10 digits with a value up to 4,294,967,295.
+    pub fn open(alloc: Global, bytes: &[u8]) -> Result<FileSource, Memory>
+        ensures { IfOk result (λ f. f ≡ record { records = list_records bytes.now; counts = no_counts }) }
+    {
+        let Reading {
+            records,
+            grades,
+            broken,
+            ..
+        } = read_list(alloc, bytes)?;
+        Ok(FileSource {
+            records,
+            grades,
+            broken,
+            counts: Counts::none(),
+        })
+    }
+
+    /// What it has counted.
+    pub fn counts(&self) -> Counts
+        ensures { result ≡ self.now.counts }
+    {
+        self.counts
+    }
+}
+
+impl Source for FileSource {
+    ghost use Rattle.file_source.specs.FileLists.{told_list, told_has_each_once};
+
+    ghost list = { told_list };
+
+    ghost counts = { λ f. f.counts };
+
+    /// The number of records, rows or not. It never fails.
+    fn size(&mut self, _: Global) -> Result<u64, Trouble>
+        ensures answer { result ≡ Ok (length self.old.records) }
+        ensures same { self.new ≡ self.old }
+        ensures size { IfOk result (λ size. IfSome (told_records self.old.records) (λ rows. size ≡ length rows)) }
+    {
+        Ok(self.records.len() as u64)
+    }
+
+    /// The rows of all records that are asked for and are there.
+    fn page(&mut self, alloc: Global, from: u32, count: u32) -> Result<Vec<Row>, Trouble>
+        requires { 1 ≤ count }
+        ensures answer { AnswersPage (take count (drop from self.old.records)) result }
+        ensures after { self.new ≡ after_page result self.old }
+        ensures later { NoneFell self.old.counts self.new.counts }
+        ensures cause { IfErr result (HasCause self.old.counts self.new.counts) }
+        ensures given { IfOk result (λ page. GaveRows (vec_len page) self.old.counts self.new.counts) }
+        ensures gave_nothing { OnErr result (GaveNothing self.old.counts self.new.counts) }
+        ensures bound { IfOk result (λ page. vec_len page ≤ count) }
+        ensures page { IfOk result (λ page. IfSome (told_records self.old.records) (λ rows. IsPage rows from page.items)) }
+    {
+        let Ok(found) = rows_of(alloc, part_of(&self.records, from, count)) else {
+            return Err(Trouble::Memory);
+        };
+        let Some(page) = found else {
+            self.counts.count_trouble(Trouble::Garbled);
+            return Err(Trouble::Garbled);
+        };
+        self.counts.count_rows(page.len() as u64);
+        Ok(page)
+    }
+
+    /// The grade of the first row with the object. Where there is none the answer is garbled if some
+    /// record is no row. It takes no memory.
+    fn grade(&mut self, _: Global, object: u32) -> Result<Option<u32>, Trouble>
+        ensures answer { AnswersGrade self.old.records object result }
+        ensures after { self.new ≡ after_grade result self.old }
+        ensures later { NoneFell self.old.counts self.new.counts }
+        ensures cause { IfErr result (HasCause self.old.counts self.new.counts) }
+        ensures given { OnOk result (GaveGrade self.old.counts self.new.counts) }
+        ensures gave_nothing { OnErr result (GaveNothing self.old.counts self.new.counts) }
+        ensures grade { IfOk result (λ grade. IfSome (told_records self.old.records) (λ rows. IsGrade rows object grade)) }
+    {
+        let grade = self.grades.get(&object).copied();
+        if grade.is_none() && self.broken {
+            self.counts.count_trouble(Trouble::Garbled);
+            return Err(Trouble::Garbled);
+        }
+        self.counts.count_grade();
+        Ok(grade)
+    }
+
+    ghost distinct = { told_has_each_once };
+}
+
+/// The rows that these records are, or None where one of them is no row.
+fn rows_of(alloc: Global, records: &[Option<Row>]) -> Result<Option<Vec<Row>>, Memory>
+    ensures { IfOk result (λ found. MatchOption found (Contains records.now None) (λ rows. map Some rows.items ≡ records.now)) }
+{
+    let mut rows = Vec::with_capacity(alloc, records.len())?;
+    for record in records {
+        let Some(row) = record else {
+            return Ok(None);
+        };
+        rows.push(*row)?;
+    }
+    Ok(Some(rows))
+}
+
+/// Takes what may go to another thread.
+fn may_go<T: Send>(_: &T) {}
+
+/// That a source over a list file may go to another thread.
+fn source_may_go(source: &FileSource) {
+    may_go(source);
+}

@@ -1,0 +1,11 @@
+//! Ranked lists in files of comma-separated values.
+#![tactic(auto)]
+
+mod file_shelf;
+mod file_source;
+mod list_file;
+mod numbers;
+
+pub use file_shelf::{FileShelf, read_file};
+pub use file_source::FileSource;
+pub use source_api::Memory;

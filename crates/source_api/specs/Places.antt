@@ -1,0 +1,86 @@
+-- What a shelf counts, place by place.
+use Rattle.std.specs.Prelude.{◌≡◌, ◌≢◌, ℕ, ◌≤◌, Bool, true, List, [], ◌∷◌, if◌then◌else◌}
+use Rattle.std.specs.List.{list_any}
+use Rattle.std.specs.Str.{bytes_eq}
+use Rattle.tk_io.specs.Faults.{counted, Rose}
+use Rattle.source_api.specs.declared.counts.Counts.{Counts}
+use Rattle.source_api.specs.declared.ledger.PlaceCounts.{PlaceCounts}
+use Rattle.source_api.specs.declared.source.Trouble.{Trouble}
+use Rattle.source_api.specs.declared.source.Trouble.TheVariants.{Failed, Garbled, Memory}
+use Rattle.source_api.specs.Counting.{no_counts, added}
+
+-- nothing counted at a place yet
+abbrev pub nothing_at : PlaceCounts
+nothing_at = record { text_faults = 0; take_faults = 0; sources = no_counts }
+
+-- a place and what is counted there
+pub record Noted : Type 0 where
+  pub place : List ℕ
+  pub counts : PlaceCounts
+
+-- what is counted at a place
+abbrev pub counts_at : List Noted → List ℕ → PlaceCounts
+counts_at [] place = nothing_at
+counts_at (noted ∷ more) place = if bytes_eq noted.place place then noted.counts else counts_at more place
+
+-- whether counts of the place are kept
+abbrev pub is_known : List Noted → List ℕ → Bool
+is_known noted place = list_any (λ n. bytes_eq n.place place) noted
+
+-- the same at each place
+abbrev pub SameAtEach : {A : Type 0} → (List ℕ → A) → (List ℕ → A) → Type 0
+SameAtEach before now = (place : List ℕ) → now place ≡ before place
+
+-- the same at each place but one
+abbrev pub SameElsewhere : {A : Type 0} → List ℕ → (List ℕ → A) → (List ℕ → A) → Type 0
+SameElsewhere place before now = (other : List ℕ) → other ≢ place → now other ≡ before other
+
+-- of the counts at a place, that of failed texts alone may have gone up
+pub record CountsTexts (before now : PlaceCounts) : Type 0 where
+  pub later : before.text_faults ≤ now.text_faults
+  pub others : now ≡ record before { text_faults = now.text_faults }
+
+-- of the counts at a place, that of failed takes alone may have gone up
+pub record CountsTakes (before now : PlaceCounts) : Type 0 where
+  pub later : before.take_faults ≤ now.take_faults
+  pub others : now ≡ record before { take_faults = now.take_faults }
+
+-- a text fails only where its count of the place went up, or stands at its last value; it never garbles
+abbrev pub HasTextCause : PlaceCounts → PlaceCounts → Trouble → Type 0
+HasTextCause before now Failed = Rose before.text_faults now.text_faults
+HasTextCause before now Garbled = ⊥
+HasTextCause before now Memory = Unit {0}
+
+-- a take fails or garbles only where its count of the place went up, or stands at its last value
+abbrev pub HasTakeCause : PlaceCounts → PlaceCounts → Trouble → Type 0
+HasTakeCause before now Failed = Rose before.take_faults now.take_faults
+HasTakeCause before now Garbled = Rose before.take_faults now.take_faults
+HasTakeCause before now Memory = Unit {0}
+
+-- the counts of a source were added to those of its place
+abbrev pub with_source : Counts → PlaceCounts → PlaceCounts
+with_source counts before = record before { sources = added before.sources counts }
+
+-- the most bytes of a text
+abbrev pub text_limit : ℕ
+text_limit = 16777216
+
+-- one more call for the text of the place failed
+pub record IsTextFault (before now : List Noted) (place : List ℕ) : Type 0 where
+  pub known : (other : List ℕ) → is_known before other ≡ true → is_known now other ≡ true
+  pub elsewhere : SameElsewhere place (counts_at before) (counts_at now)
+  pub here : counts_at now place ≡ record (counts_at before place) { text_faults = counted (counts_at before place).text_faults }
+  pub later : (counts_at before place).text_faults ≤ (counts_at now place).text_faults
+
+-- one more call for the source of the place failed
+pub record IsTakeFault (before now : List Noted) (place : List ℕ) : Type 0 where
+  pub known : (other : List ℕ) → is_known before other ≡ true → is_known now other ≡ true
+  pub elsewhere : SameElsewhere place (counts_at before) (counts_at now)
+  pub here : counts_at now place ≡ record (counts_at before place) { take_faults = counted (counts_at before place).take_faults }
+  pub later : (counts_at before place).take_faults ≤ (counts_at now place).take_faults
+
+-- the place became known, if it wasn't, and nothing was counted
+pub record MakesKnown (before now : List Noted) (place : List ℕ) : Type 0 where
+  pub known : (other : List ℕ) → is_known before other ≡ true → is_known now other ≡ true
+  pub here : is_known now place ≡ true
+  pub same : SameAtEach (counts_at before) (counts_at now)

@@ -1,0 +1,63 @@
+//! A ranked list that is read by calls.
+
+ghost use Rattle.std.specs.Prelude.{◌≡◌, ◌≤◌, List, Option, length, vec_len, IfOk, IfErr, IfSome, OnErr, OnOk};
+ghost use Rattle.ranked_list.specs.declared.row.Row.{Row as RowOf};
+ghost use Rattle.source_api.specs.declared.counts.Counts.{Counts as CountsOf};
+ghost use Rattle.source_api.specs.Counting.{NoneFell, HasCause, GaveNothing, GaveRows, GaveGrade};
+ghost use Rattle.source_api.specs.Told.{HasEachOnce, IsPage, IsGrade};
+
+use ranked_list::Row;
+use std::alloc::Global;
+
+/// Why a call on a source or a shelf gave no answer.
+#[derive(Clone, Copy, Debug, PartialEq, Eq)]
+pub enum Trouble {
+    /// The outside failed, and the count of faults has gone up.
+    Failed,
+    /// What the outside gave isn't of the right form, and the count of garbles has gone up.
+    Garbled,
+    /// No memory was left.
+    Memory,
+}
+
+/// A ranked list, read a page at a time from the top, or by object.
+///
+/// `list` is its rows from the top down, where the source tells them. No call changes them, and a
+/// list that is told has no object twice. `counts` is what the source has counted over its calls.
+/// No count falls, and a count stands still at the last value of its type.
+pub trait Source: Send + Drop {
+    ghost list: { Self → Option (List RowOf) };
+
+    ghost counts: { Self → CountsOf };
+
+    /// How many rows the list has.
+    fn size(&mut self, alloc: Global) -> Result<u64, Trouble>
+        ensures list { list self.new ≡ list self.old }
+        ensures later { NoneFell (counts self.old) (counts self.new) }
+        ensures cause { IfErr result (HasCause (counts self.old) (counts self.new)) }
+        ensures given { GaveNothing (counts self.old) (counts self.new) }
+        ensures size { IfOk result (λ size. IfSome (list self.old) (λ rows. size ≡ length rows)) };
+
+    /// Rows after the first `from` of the list, at most `count` of them. Where the list is told there
+    /// is at least one unless the list has ended.
+    fn page(&mut self, alloc: Global, from: u32, count: u32) -> Result<Vec<Row>, Trouble>
+        requires { 1 ≤ count }
+        ensures list { list self.new ≡ list self.old }
+        ensures later { NoneFell (counts self.old) (counts self.new) }
+        ensures cause { IfErr result (HasCause (counts self.old) (counts self.new)) }
+        ensures given { IfOk result (λ page. GaveRows (vec_len page) (counts self.old) (counts self.new)) }
+        ensures gave_nothing { OnErr result (GaveNothing (counts self.old) (counts self.new)) }
+        ensures bound { IfOk result (λ page. vec_len page ≤ count) }
+        ensures page { IfOk result (λ page. IfSome (list self.old) (λ rows. IsPage rows from page.items)) };
+
+    /// The grade of an object, or None where the list hasn't the object.
+    fn grade(&mut self, alloc: Global, object: u32) -> Result<Option<u32>, Trouble>
+        ensures list { list self.new ≡ list self.old }
+        ensures later { NoneFell (counts self.old) (counts self.new) }
+        ensures cause { IfErr result (HasCause (counts self.old) (counts self.new)) }
+        ensures given { OnOk result (GaveGrade (counts self.old) (counts self.new)) }
+        ensures gave_nothing { OnErr result (GaveNothing (counts self.old) (counts self.new)) }
+        ensures grade { IfOk result (λ grade. IfSome (list self.old) (λ rows. IsGrade rows object grade)) };
+
+    ghost distinct: { (source : Self) → IfSome (list source) HasEachOnce };
+}
