@@ -1,0 +1,8 @@
+pub mod Log
+pub mod Asks
+pub mod State
+pub mod Events
+pub mod Looking
+pub mod Keeping
+pub mod Drawing
+pub mod History

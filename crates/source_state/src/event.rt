@@ -1,0 +1,30 @@
+//! What may happen to a source.
+
+use super::entry::FailKind;
+use ranked_list::PageRows;
+
+/// An event of a source: what queries want of it, and what came of it.
+#[derive(Drop)]
+pub enum Event {
+    /// The rows down to this depth are wanted.
+    Want { depth: u32 },
+    /// The grade of this object is asked for.
+    Ask { object: u32 },
+    /// The rows that follow those that were kept. Without rows the list is short.
+    Page { rows: PageRows },
+    /// The grade of an object whose ask is pending.
+    Grade { object: u32, grade: u32 },
+    /// The source hasn't the object, whose ask is pending.
+    Miss { object: u32 },
+    /// A call failed.
+    Fail { what: FailKind },
+}
+
+/// Whether an event set the row fault.
+#[derive(Clone, Copy, Debug, PartialEq, Eq)]
+pub enum Applied {
+    /// It didn't.
+    Done,
+    /// It did.
+    Broken,
+}
