@@ -17,7 +17,7 @@ pub enum NumberFault {
 }
 
 /// Whether each byte is a digit.
-fn are_digits(bytes: &[u8]) -> bool
+pub fn are_digits(bytes: &[u8]) -> bool
     ensures { result ≡ list_all is_ascii_digit bytes.now }
 {
     bytes.iter().all(|digit| digit.is_ascii_digit())
@@ -39,8 +39,8 @@ pub fn is_number(text: &[u8]) -> bool
     are_digits(rest)
 }
 
-/// The value of digits, or None where it is above the last value of `u64`.
-fn value_of(digits: &[u8]) -> Option<u64>
+/// The value of digits, leading zeros among them, or None where it is above the last value of `u64`.
+pub fn value_of_digits(digits: &[u8]) -> Option<u64>
     requires { all_ascii_digits digits.now ≡ true }
     ensures { SomeIff result (digits_value 10 digits.now < 2 ^ 64) (digits_value 10 digits.now) }
 {
@@ -58,7 +58,7 @@ pub fn read_number(text: &[u8]) -> Result<u64, NumberFault>
     if !is_number(text) {
         return Err(NumberFault::NoNumber);
     }
-    value_of(text).ok_or(NumberFault::TooLarge)
+    value_of_digits(text).ok_or(NumberFault::TooLarge)
 }
 
 /// The number that a text spells, where it spells one that is at most `most`.
@@ -68,36 +68,5 @@ pub fn number_up_to(text: &[u8], most: u64) -> Option<u64>
     match read_number(text) {
         Ok(number) if number <= most => Some(number),
         _ => None,
-    }
-}
-
-#[cfg(test)]
-mod tests {
-    use super::{NumberFault, is_number, number_up_to, read_number};
-
-    #[test]
-    fn reads_each_number_in_its_one_form(rt: HostRuntime) {
-        let cases: [(&str, Result<u64, NumberFault>); 12] = [
-            ("0", Ok(0)),
-            ("7", Ok(7)),
-            ("10", Ok(10)),
-            ("18446744073709551615", Ok(18_446_744_073_709_551_615)),
-            ("18446744073709551616", Err(NumberFault::TooLarge)),
-            ("99999999999999999999999", Err(NumberFault::TooLarge)),
-            ("", Err(NumberFault::NoNumber)),
-            ("01", Err(NumberFault::NoNumber)),
-            ("00", Err(NumberFault::NoNumber)),
-            ("+1", Err(NumberFault::NoNumber)),
-            ("1 ", Err(NumberFault::NoNumber)),
-            ("1a", Err(NumberFault::NoNumber)),
-        ];
-        for (text, number) in cases {
-            let bytes = text.as_bytes();
-            assert_eq!(rt; read_number(bytes), number, "of {text:?}");
-            let fault = number == Err(NumberFault::NoNumber);
-            assert_eq!(rt; is_number(bytes), !fault, "of {text:?}");
-        }
-        assert_eq!(rt; number_up_to(b"10", 10), Some(10));
-        assert_eq!(rt; number_up_to(b"10", 9), None);
     }
 }

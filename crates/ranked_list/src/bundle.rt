@@ -119,6 +119,3 @@ pub fn read_bundle(alloc: Global, bytes: &[u8]) -> Result<Bundle, BundleFault>
 {
     read_lines(alloc, bytes)
 }
-
-#[cfg(test)]
-mod tests;

@@ -1,6 +1,6 @@
 //! The small types over vectors, each call once.
 
-use crate::{Item, Items, PageRows, Row};
+use ranked_list::{Item, Items, PageRows, Row};
 use std::test::Fail;
 
 #[test]

@@ -1,6 +1,6 @@
 //! Bundles from outside, with the line at fault or none.
 
-use super::{Bundle, BundleFault, read_bundle};
+use ranked_list::{Bundle, BundleFault, read_bundle};
 use std::alloc::Global;
 use std::process::Abort;
 use std::test::Fail;

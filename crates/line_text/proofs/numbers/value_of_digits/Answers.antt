@@ -2,7 +2,7 @@ use Rattle.std.proofs.Common.{◌-◌, ◌+◌, ◌*◌, ap, get_or, sym, subst,
 use Rattle.std.specs.Str.Parse.{digits_value}
 use Rattle.std.proofs.lemmas.List.{take_all}
 use Rattle.line_text.proofs.NumberLaws.{digit_more, too_large}
-use Rattle.line_text.proofs.numbers.value_of.Goals as goal
+use Rattle.line_text.proofs.numbers.value_of_digits.Goals as goal
 
 pub overflow_sub-digit : goal.overflow_sub-digit
 overflow_sub-digit c =
