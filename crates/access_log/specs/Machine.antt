@@ -20,7 +20,7 @@ use Rattle.topk_theory.specs.Asked.{Asked, Run, Answering}
 use Rattle.topk_theory.specs.Machine.{IsAt, CanServe}
 use Rattle.access_log.specs.Log.{Log, AgreesWith, IsConsistent}
 use Rattle.access_log.specs.declared.core_fault.CoreFault.{CoreFault}
-use Rattle.access_log.specs.declared.core_fault.CoreFault.TheVariants.{Strangers, RoomFull, Memory}
+use Rattle.access_log.specs.declared.core_fault.CoreFault.TheVariants.{Strangers, RoomFull}
 
 -- the query, the room in force, the transcript, and what is needed next
 pub record MachineState : Type 0 where
@@ -138,14 +138,10 @@ abbrev pub RowFed : Row → MachineState → MachineState → {A : Type 0} → R
 RowFed row before after (Ok done) = HasRoomFor before row.object × Takes (row_access before.need row) before after
 RowFed row before after (Err (Strangers object count)) = (¬ HasRoomFor before row.object) × (before.room ≡ before.log.count) × (object ≡ row.object) × (count ≡ before.log.count) × (after ≡ before)
 RowFed row before after (Err (RoomFull room)) = (¬ HasRoomFor before row.object) × (before.room < before.log.count) × (room ≡ before.room) × (after ≡ before)
-RowFed row before after (Err Memory) = HasRoomFor before row.object × (after ≡ before)
 
 -- what becomes of a grade
-abbrev pub GradeFed : ℕ → MachineState → MachineState → {A : Type 0} → Result A CoreFault → Type 0
-GradeFed grade before after (Ok done) = Takes (grade_access before.need grade) before after
-GradeFed grade before after (Err Memory) = after ≡ before
-GradeFed grade before after (Err (Strangers object count)) = ⊥
-GradeFed grade before after (Err (RoomFull room)) = ⊥
+abbrev pub GradeFed : ℕ → MachineState → MachineState → Type 0
+GradeFed grade before after = Takes (grade_access before.need grade) before after
 
 -- the items are the algorithm's answer on every table that agrees with the transcript
 pub record AreExact (answer : Answering) (t : MachineState) (items : List Item) : Type 0 where

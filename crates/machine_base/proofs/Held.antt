@@ -1,8 +1,11 @@
 -- What a machine holds, at its beginning and with one more access.
-use Rattle.std.proofs.Common.{◌≡◌, ◌⊎◌, inl, inr, ℕ, ◌≤◌, List, [], ◌∷◌, ◌++◌, length, map, Contains, Err, refl, sym, ap, subst, ◌∙◌, arith, length-append}
-use Rattle.std.proofs.lemmas.Bool.{cases_Bool}
+use Rattle.std.proofs.Common.{◌≡◌, ◌≢◌, ◌==◌, ◌⊎◌, inl, inr, ℕ, ◌≤◌, true≢false, List, [], ◌∷◌, ◌++◌, length, map, AllPairs, Contains, Err, refl, sym, ap, subst, ◌∙◌, arith, length-append}
+use Rattle.std.proofs.lemmas.Bool.{cases_Bool, eq-eqb, eqb-true}
+use Rattle.std.proofs.lemmas.List.{map-append}
+use Rattle.std.proofs.lemmas.List.Quantifiers.{all_pairs_push}
 use Rattle.std.proofs.lemmas.List.Elements.{Contains-append_right, Contains-append_cases}
 use Rattle.ranked_list.specs.declared.row.Row.{Row}
+use Rattle.ranked_list.specs.Table.{objects}
 use Rattle.ranked_list.specs.declared.need.Need.{Need}
 use Rattle.ranked_list.specs.declared.need.Need.TheVariants.{Done}
 use Rattle.monotone_fn.specs.declared.costs.Costs.{Costs}
@@ -10,19 +13,19 @@ use Rattle.monotone_fn.specs.Tree.{Tree}
 use Rattle.monotone_fn.specs.Shape.{list_count, NumbersLists}
 use Rattle.topk_theory.specs.declared.access.Access.{Access}
 use Rattle.topk_theory.specs.declared.access.Access.TheVariants.{Sorted, Random}
-use Rattle.topk_theory.specs.Transcript.{Agrees, object_of, seen_objects, named_objects}
+use Rattle.topk_theory.specs.Transcript.{Agrees, object_of, random_rows, seen_objects, named_objects}
 use Rattle.topk_theory.specs.Consistent.{SomeAgrees}
 use Rattle.topk_theory.specs.Threshold.{IsAsked}
-use Rattle.topk_theory.proofs.AgreementLists.{contains_nil, contains_here, contains_cases, contains_map, contains_map_from}
-use Rattle.topk_theory.proofs.Agreement.{seen_objects_old, seen_objects_new, seen_objects_random}
+use Rattle.topk_theory.proofs.AgreementLists.{contains_nil, contains_here, contains_at, contains_cases, contains_map, contains_map_from}
+use Rattle.topk_theory.proofs.Agreement.{random_rows_random, random_rows_other, random_rows_sorted, seen_objects_old, seen_objects_new, seen_objects_random}
 use Rattle.topk_theory.proofs.AgreementNames.{has, has_contains, has_not, each_once_within, each_once_complete}
 use Rattle.topk_theory.proofs.Consistent.{empty_agrees}
 use Rattle.topk_theory.proofs.ThresholdRun.{seen_from_access, seen_more}
-use Rattle.access_log.specs.Machine.{MachineState, IsBegun, HasRoomFor, Takes, RowFed}
+use Rattle.access_log.specs.Machine.{MachineState, IsBegun, Takes, RowFed}
 use Rattle.access_log.specs.declared.core_fault.CoreFault.{CoreFault}
-use Rattle.access_log.specs.declared.core_fault.CoreFault.TheVariants.{Strangers, RoomFull, Memory}
+use Rattle.access_log.specs.declared.core_fault.CoreFault.TheVariants.{Strangers, RoomFull}
 use Rattle.machine_base.specs.declared.base.Base.{Base}
-use Rattle.machine_base.specs.Base.{shown, IsHeld, Holds, IsTold, MayFollow, HasNoRoom}
+use Rattle.machine_base.specs.Base.{shown, asked_of_list, IsHeld, Holds, IsTold, MayFollow, HasNoRoom}
 
 -- at the beginning
 pub held_start : (e : Tree) (k room count : ℕ) → NumbersLists e → 1 ≤ k → k ≤ count → count ≤ 200000 → 1 ≤ room → room ≤ count → IsHeld e k room (list_count e) count []
@@ -33,6 +36,7 @@ held_start e k room count lists asked fits counted roomy room_fits = record {
   counted = counted;
   named_seen = λ o c. absurd (contains_nil o (each_once_within [] o c));
   roomy = omega arith;
+  asked_once = λ list i j d lt in_range. absurd (omega arith);
   agreeing = empty_agrees (list_count e) count;
 }
 
@@ -50,7 +54,7 @@ seen_by : (room : ℕ) (A : List Access) (a : Access) → MayFollow room A a →
 seen_by room A (Sorted list object grade) follows =
     let a : Access = Sorted list object grade in
     seen_from_access (A ++ a ∷ []) list object grade (Contains-append_right A (a ∷ []) a (contains_here a []))
-seen_by room A (Random list object grade) tame = seen_more A (Random list object grade ∷ []) object tame
+seen_by room A (Random list object grade) follows = seen_more A (Random list object grade ∷ []) object follows.0
 
 pub named_more : (room : ℕ) (A : List Access) (a : Access) → MayFollow room A a → ((o : ℕ) → Contains (named_objects A) o → Contains (seen_objects A) o) → (o : ℕ) → Contains (named_objects (A ++ a ∷ [])) o → Contains (seen_objects (A ++ a ∷ [])) o
 named_more room A a follows before o h =
@@ -73,6 +77,26 @@ room_more room A (Sorted list object grade) follows few =
     ]
 room_more room A (Random list object grade) follows few = subst (λ (seen : List ℕ). length seen ≤ room) (sym (seen_objects_random A list object grade)) few
 
+-- no random access comes twice
+asked_push : (list : ℕ) (A : List Access) (object grade : ℕ) → asked_of_list list (A ++ Random list object grade ∷ []) ≡ asked_of_list list A ++ object ∷ []
+asked_push list A object grade =
+    ap (map (λ (row : Row). row.object)) (random_rows_random list A object grade) ∙ map-append (λ (row : Row). row.object) (random_rows list A) (record { object = object; grade = grade } ∷ [])
+
+pub once_more : (room : ℕ) (A : List Access) (a : Access) (list : ℕ) → MayFollow room A a → AllPairs (λ (one other : ℕ). one ≢ other) (asked_of_list list A) → AllPairs (λ (one other : ℕ). one ≢ other) (asked_of_list list (A ++ a ∷ []))
+once_more room A (Sorted other object grade) list follows once =
+    subst (λ (rows : List Row). AllPairs (λ (one other : ℕ). one ≢ other) (objects rows)) (sym (random_rows_sorted list other A object grade)) once
+once_more room A (Random other object grade) list follows once =
+    elim (cases_Bool (other == list)) [
+      | inl t ↦
+          let same : other ≡ list = eqb-true other list t in
+          let more : AllPairs (λ (one two : ℕ). one ≢ two) (asked_of_list list A ++ object ∷ []) = all_pairs_push (λ (one two : ℕ). one ≢ two) (asked_of_list list A) object once
+          (λ k d l e. follows.1 (subst (λ (at : ℕ). Contains (asked_of_list at A) object) (sym same) (subst (λ o. Contains (asked_of_list list A) o) e (contains_at (asked_of_list list A) k d l)))) in
+          subst (λ (at : ℕ). AllPairs (λ (one two : ℕ). one ≢ two) (asked_of_list list (A ++ Random at object grade ∷ []))) (sym same)
+          (subst (AllPairs (λ (one two : ℕ). one ≢ two)) (sym (asked_push list A object grade)) more)
+      | inr f ↦
+          subst (λ (rows : List Row). AllPairs (λ (one two : ℕ). one ≢ two) (objects rows)) (sym (random_rows_other list other A object grade (λ e. true≢false (sym (eq-eqb other list e) ∙ f)))) once
+    ]
+
 pub held_more : (e : Tree) (k room m n : ℕ) (A : List Access) (a : Access) → IsHeld e k room m n A → MayFollow room A a → SomeAgrees m n (A ++ a ∷ []) → IsHeld e k room m n (A ++ a ∷ [])
 held_more e k room m n A a held follows agreeing = record {
   posed = held.posed;
@@ -81,6 +105,7 @@ held_more e k room m n A a held follows agreeing = record {
   counted = held.counted;
   named_seen = named_more room A a follows held.named_seen;
   roomy = room_more room A a follows held.roomy;
+  asked_once = λ list. once_more room A a list follows (held.asked_once list);
   agreeing = agreeing;
 }
 
@@ -141,8 +166,3 @@ no_room A row base need t (Strangers object count) is full =
     subst (λ (s : MachineState). RowFed row s s {A = A} (Err (Strangers object count))) is (full.0, full.1, full.2, full.3, refl)
 no_room A row base need t (RoomFull room) is full =
     subst (λ (s : MachineState). RowFed row s s {A = A} (Err (RoomFull room))) is (full.0, full.1, full.2, refl)
-no_room A row base need t Memory is full = absurd full
-
--- where memory is refused nothing has changed
-pub no_memory : (object : ℕ) (before after : Base) (need : Base → Need) (t : MachineState) → shown before (need before) ≡ t → HasRoomFor (shown before Done) object → after ≡ before → HasRoomFor t object × (shown after (need after) ≡ t)
-no_memory object before after need t is fits same = (subst (λ (s : MachineState). HasRoomFor s object) is fits, ap (λ (b : Base). shown b (need b)) same ∙ is)

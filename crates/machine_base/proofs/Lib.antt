@@ -1,4 +1,5 @@
 pub mod Depths
 pub mod Held
 pub mod Makes
+pub mod Reserve
 pub mod Rows

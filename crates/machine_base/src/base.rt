@@ -1,8 +1,8 @@
 //! What every machine holds.
 
-ghost use Rattle.std.specs.Prelude.{◌≡◌, ◌≤◌, IfOk, IfErr, OnOk, OnErr};
+ghost use Rattle.std.specs.Prelude.{◌≡◌, ◌≤◌, IfOk, IfErr, OnOk};
 ghost use Rattle.access_log.specs.Machine.{IsBegun, HasRoomFor};
-ghost use Rattle.machine_base.specs.Base.{shown, Holds, IsTold, MayFollow, TellsNew, HasNoRoom};
+ghost use Rattle.machine_base.specs.Base.{shown, Holds, IsReserved, IsTold, CanTake, TellsNew, HasNoRoom};
 
 use access_log::{Access, CoreFault, Memory, Transcript};
 use monotone_fn::{Costs, Expr};
@@ -21,7 +21,8 @@ pub struct Base {
 }
 
 impl Base {
-    /// For the first `k` of `count` objects, of which `room` may be seen at most, before any access.
+    /// For the first `k` of `count` objects, of which `room` may be seen at most, before any access. No
+    /// other call takes memory.
     pub fn make(
         alloc: Global,
         expr: Expr,
@@ -36,14 +37,16 @@ impl Base {
         requires roomy { 1 ≤ room }
         ensures begun { IfOk result (λ base. IsBegun expr k count room costs (shown base Need.Done)) }
         ensures held { IfOk result Holds }
+        ensures reserved { IfOk result IsReserved }
     {
-        let Ok(transcript) = Transcript::make(alloc, expr.lists(), count) else {
-            return Err(Memory);
-        };
+        let room = room.min(count);
+        let lists = expr.lists();
+        let mut transcript = Transcript::make(alloc, lists, count)?;
+        transcript.reserve(room, 2 * (u64::from(lists) * u64::from(room)))?;
         Ok(Base {
             expr,
             k,
-            room: room.min(count),
+            room,
             costs,
             transcript,
         })
@@ -64,18 +67,18 @@ impl Base {
         Ok(is_new)
     }
 
-    /// Tells an access, with which some table still agrees: else it answers `Memory` too, as where
-    /// memory is refused. Then nothing has changed.
-    pub fn tell(&mut self, access: Access) -> Result<(), Memory>
+    /// Tells an access. Takes no memory.
+    pub fn tell(&mut self, access: Access)
         requires held { Holds self.old }
-        requires follows { MayFollow self.old.room self.old.transcript.accesses access }
-        ensures told { OnOk result (IsTold access self.old self.new) }
+        requires reserved { IsReserved self.old }
+        requires can { CanTake self.old access }
+        ensures told { IsTold access self.old self.new }
         ensures held { Holds self.new }
-        ensures unchanged { OnErr result (self.new ≡ self.old) }
+        ensures reserved { IsReserved self.new }
     {
         match self.transcript.push(access) {
-            Ok(()) => Ok(()),
-            Err(_) => Err(Memory),
+            Ok(()) => (),
+            Err(_) => unreachable!(),
         }
     }
 

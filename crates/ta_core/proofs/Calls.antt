@@ -1,11 +1,13 @@
 -- What the calls of a machine need to know of it.
-use Rattle.std.proofs.Common.{◌≡◌, ℕ, ◌<◌, ◌≤◌, inl, inr, Bool, false, List, [], ◌∷◌, ◌++◌, length, Contains, get_or, refl, sym, ap, subst, ◌∙◌, arith}
+use Rattle.std.proofs.Common.{◌≡◌, ℕ, ◌<◌, ◌≤◌, inl, inr, Bool, false, min, List, [], ◌∷◌, ◌++◌, length, Contains, get_or, refl, sym, ap, subst, ◌∙◌, arith}
 use Rattle.std.proofs.lemmas.Bool.{cases_Bool, cases_lt}
 use Rattle.ranked_list.specs.declared.row.Row.{Row}
 use Rattle.ranked_list.specs.declared.item.Item.{Item}
 use Rattle.ranked_list.specs.declared.need.Need.{Need}
-use Rattle.ranked_list.specs.declared.need.Need.TheVariants.{Done}
+use Rattle.ranked_list.specs.declared.need.Need.TheVariants.{Row as RowAt, Done}
 use Rattle.best_k.specs.Held.{Held}
+use Rattle.monotone_fn.specs.declared.costs.Costs.{Costs}
+use Rattle.monotone_fn.specs.Tree.{Tree}
 use Rattle.monotone_fn.specs.Limits.{AreGrades}
 use Rattle.topk_theory.specs.declared.access.Access.{Access}
 use Rattle.topk_theory.specs.declared.access.Access.TheVariants.{Sorted, Random}
@@ -14,16 +16,37 @@ use Rattle.topk_theory.specs.Consistent.{Kind, IsOfKind, SomeAgrees}
 use Rattle.topk_theory.specs.Consistent.Kind.{above_top, too_many_objects}
 use Rattle.topk_theory.proofs.AgreementLists.{member_of_all}
 use Rattle.access_log.specs.Log.{Log}
-use Rattle.access_log.specs.Machine.{MachineState, MayBeNextRow, MayBeNextGrade, HasRoomFor, Takes, row_access, grade_access}
+use Rattle.access_log.specs.Machine.{MachineState, IsBegun, MayBeNextRow, MayBeNextGrade, HasRoomFor, Takes, row_access, grade_access}
 use Rattle.machine_base.specs.declared.base.Base.{Base}
-use Rattle.machine_base.specs.Base.{shown, IsTold, TellsNew}
+use Rattle.machine_base.specs.Base.{shown, IsHeld, Holds, IsReserved, IsTold, CanTake, TellsNew}
 use Rattle.machine_base.proofs.Held.{carried, some_before, takes}
-use Rattle.ta_core.specs.Reading.{Reading, first_or_zero, with_new, row_added, grade_added, need_at}
-use Rattle.ta_core.specs.Kept.{IsKept, Keeps}
+use Rattle.machine_base.proofs.Reserve.{row_can}
+use Rattle.ta_core.specs.Reading.{Reading, first_or_zero, with_new, row_added, grade_added, row_begun, need_at}
+use Rattle.ta_core.specs.Kept.{IsKept, Keeps, Stands}
 use Rattle.ta_core.proofs.BoardSteps.{waits_from, place_filled, place_left}
-use Rattle.ta_core.proofs.Runs.{need_in_row, need_after_row, need_when_done, kept_depth, first_is_member}
+use Rattle.ta_core.proofs.Runs.{need_in_row, need_after_row, need_when_done, kept_depth, first_is_member, first_seen}
 use Rattle.ta_core.proofs.Sound.{sound_row, sound_grade, fed_row}
-use Rattle.ta_core.proofs.Feeds.{board_then, reading_then, kept_row, kept_grade}
+use Rattle.ta_core.proofs.Feeds.{board_then, reading_then, kept_start, kept_row, kept_grade}
+use Rattle.ta_core.proofs.Unasked.{waiting_unasked}
+
+-- at the beginning
+pub stands_start : (e : Tree) (k n room : ℕ) (costs : Costs) (base : Base) (board : Held) (r : Reading) → IsBegun e k n room costs (shown base Done) → Holds base → IsReserved base → board.k ≡ k → board.room ≡ min room n → board.items ≡ [] → r ≡ row_begun 1 → Stands base board r
+stands_start e k n room costs base board r begun held reserved same_k same_room empty is =
+    let m : ℕ = base.transcript.lists in
+    let count : ℕ = base.transcript.count in
+    record {
+      kept = subst (λ A. IsKept base.expr base.k base.room m count A board r) (sym begun.none)
+          (subst (λ (s : Reading). IsKept base.expr base.k base.room m count [] board s) (sym is)
+          (kept_start base.expr base.k base.room m count board (subst (IsHeld base.expr base.k base.room m count) begun.none held) (same_k ∙ sym begun.asked) (same_room ∙ sym begun.in_force) empty));
+      reserved = reserved;
+    }
+
+-- what is needed next as the machine keeps it
+pub may_row : (base : Base) (r : Reading) (t : MachineState) (row : Row) → shown base (need_at base.transcript.lists r) ≡ t → MayBeNextRow t.log t.need row → MayBeNextRow base.transcript (need_at base.transcript.lists r) row
+may_row base r t row is may = subst (λ (s : MachineState). MayBeNextRow s.log s.need row) (sym is) may
+
+pub may_grade : (base : Base) (r : Reading) (t : MachineState) (grade : ℕ) → shown base (need_at base.transcript.lists r) ≡ t → MayBeNextGrade t.log t.need grade → MayBeNextGrade base.transcript (need_at base.transcript.lists r) grade
+may_grade base r t grade is may = subst (λ (s : MachineState). MayBeNextGrade s.log s.need grade) (sym is) may
 
 -- a row that may be next
 pub next_row_is : (log : Log) (r : Reading) (row : Row) → MayBeNextRow log (need_at log.lists r) row → (r.done ≡ false) × (length r.objects < log.lists) × (row.grade ≤ 1000000)
@@ -92,6 +115,9 @@ pub first-at : (ws : List ℕ) → first_or_zero ws ≡ get_or ws 0 0
 first-at [] = refl
 first-at (w ∷ ws) = refl
 
+pub waits_first : (r : Reading) (waiting : List ℕ) → waiting ≡ r.waiting → get_or waiting 0 0 ≡ first_or_zero r.waiting
+waits_first r waiting is = ap (λ ws. get_or ws 0 0) is ∙ sym (first-at r.waiting)
+
 -- what the transcript and the board need of a reading of m lists before an access is told
 pub record IsReady (m : ℕ) (board : Held) (r : Reading) : Type 0 where
   pub grades : AreGrades r.grades
@@ -131,40 +157,74 @@ ready_grade base board r told grade kept may is =
       deep = omega (arith, kept_depth base board r kept next.0, kept.base.counted);
     })
 
--- what the machine keeps once an access is told: the board and the reading are those that follow
-kept_after : (before after : Base) (a : Access) (board board' : Held) (told then : Reading) → IsTold a before after → IsKept before.expr before.k before.room before.transcript.lists before.transcript.count (before.transcript.accesses ++ a ∷ []) (board_then before.expr before.transcript.lists board told) (reading_then before.expr before.transcript.lists (board_then before.expr before.transcript.lists board told) told)
-    → board' ≡ board_then before.expr before.transcript.lists board told → then ≡ reading_then after.expr after.transcript.lists board' told → Keeps after board' then
-kept_after before after a board board' told then tells kept is_board is_then =
-    let m : ℕ = before.transcript.lists in
-    let then_is : then ≡ reading_then before.expr m board' told =
-    is_then ∙ ap (λ e. reading_then e after.transcript.lists board' told) tells.expr ∙ ap (λ c. reading_then before.expr c board' told) tells.log.lists in
-    carried (λ e k room c n B. IsKept e k room c n B board' then) a before after tells
-    (subst (IsKept before.expr before.k before.room m before.transcript.count (before.transcript.accesses ++ a ∷ []) board') (sym then_is)
-    (subst (λ (b : Held). IsKept before.expr before.k before.room m before.transcript.count (before.transcript.accesses ++ a ∷ []) b (reading_then before.expr m b told)) (sym is_board) kept))
+-- an access is told, and the reading has it: what comes then can be had, and is what is kept
+pub record IsFed (before after : Base) (board : Held) (told : Reading) (a : Access) : Type 0 where
+  pub tells : IsTold a before after
+  pub ready : IsReady before.transcript.lists board told
+  pub kept : IsKept before.expr before.k before.room before.transcript.lists before.transcript.count (before.transcript.accesses ++ a ∷ []) (board_then before.expr before.transcript.lists board told) (reading_then before.expr before.transcript.lists (board_then before.expr before.transcript.lists board told) told)
 
-pub row_kept : (before after : Base) (board board' : Held) (r told then : Reading) (row : Row) (list : ℕ) (is_new : Bool) → Keeps before board r → MayBeNextRow before.transcript (need_at before.transcript.lists r) row → TellsNew before.transcript.accesses row.object is_new → HasRoomFor (shown before Done) row.object → told ≡ row_added before.transcript.lists r row is_new → list ≡ length r.objects
-    → IsTold (Sorted list row.object row.grade) before after → SomeAgrees after.transcript.lists after.transcript.count after.transcript.accesses → board' ≡ board_then before.expr before.transcript.lists board told → then ≡ reading_then after.expr after.transcript.lists board' told → Keeps after board' then
-row_kept before after board board' r told then row list is_new kept may new follows is_told is_list tells some is_board is_then =
+pub fed_ready : (before after : Base) (board : Held) (told : Reading) (a : Access) → IsFed before after board told a → IsReady after.transcript.lists board told
+fed_ready before after board told a fed = subst (λ m. IsReady m board told) (sym fed.tells.log.lists) fed.ready
+
+pub fed_kept : (before after : Base) (board board' : Held) (told then : Reading) (a : Access) → IsFed before after board told a → board' ≡ board_then after.expr after.transcript.lists board told → then ≡ reading_then after.expr after.transcript.lists board' told → Keeps after board' then
+fed_kept before after board board' told then a fed is_board is_then =
+    let m : ℕ = before.transcript.lists in
+    let A : List Access = before.transcript.accesses ++ a ∷ [] in
+    let board_is : board' ≡ board_then before.expr m board told =
+    is_board ∙ ap (λ e. board_then e after.transcript.lists board told) fed.tells.expr ∙ ap (λ c. board_then before.expr c board told) fed.tells.log.lists in
+    let then_is : then ≡ reading_then before.expr m board' told =
+    is_then ∙ ap (λ e. reading_then e after.transcript.lists board' told) fed.tells.expr ∙ ap (λ c. reading_then before.expr c board' told) fed.tells.log.lists in
+    carried (λ e k room c n B. IsKept e k room c n B board' then) a before after fed.tells
+    (subst (IsKept before.expr before.k before.room m before.transcript.count A board') (sym then_is)
+    (subst (λ (b : Held). IsKept before.expr before.k before.room m before.transcript.count A b (reading_then before.expr m b told)) (sym board_is) fed.kept))
+
+pub row_fed : (before after : Base) (board : Held) (r told : Reading) (row : Row) (list : ℕ) (is_new : Bool) → Keeps before board r → MayBeNextRow before.transcript (need_at before.transcript.lists r) row → TellsNew before.transcript.accesses row.object is_new → HasRoomFor (shown before Done) row.object → list ≡ length r.objects → IsTold (Sorted list row.object row.grade) before after
+    → SomeAgrees after.transcript.lists after.transcript.count after.transcript.accesses → told ≡ row_added after.transcript.lists r row is_new → IsFed before after board told (Sorted (length r.objects) row.object row.grade)
+row_fed before after board r told row list is_new kept may new follows is_list tells some is_told =
     let next = next_row_is before.transcript r row may in
+    let m : ℕ = before.transcript.lists in
     let a : Access = Sorted (length r.objects) row.object row.grade in
     let tells' : IsTold a before after = subst (λ l. IsTold (Sorted l row.object row.grade) before after) is_list tells in
-    let m : ℕ = before.transcript.lists in
-    kept_after before after a board board' told then tells'
-    (subst (λ s. IsKept before.expr before.k before.room m before.transcript.count (before.transcript.accesses ++ a ∷ []) (board_then before.expr m board s) (reading_then before.expr m (board_then before.expr m board s) s)) (sym is_told)
-    (kept_row before.expr before.k before.room m before.transcript.count before.transcript.accesses board r row is_new kept next.0 next.1 next.2 new follows (some_before a before after tells' some)))
-    is_board is_then
+    let told_is : told ≡ row_added m r row is_new = is_told ∙ ap (λ c. row_added c r row is_new) tells.log.lists in
+    record {
+      tells = tells';
+      ready = ready_row before board r told row is_new kept may new follows told_is;
+      kept = subst (λ s. IsKept before.expr before.k before.room m before.transcript.count (before.transcript.accesses ++ a ∷ []) (board_then before.expr m board s) (reading_then before.expr m (board_then before.expr m board s) s)) (sym told_is)
+          (kept_row before.expr before.k before.room m before.transcript.count before.transcript.accesses board r row is_new kept next.0 next.1 next.2 new follows (some_before a before after tells' some));
+    }
 
-pub grade_kept : (before after : Base) (board board' : Held) (r told then : Reading) (grade list object : ℕ) → Keeps before board r → MayBeNextGrade before.transcript (need_at before.transcript.lists r) grade → told ≡ grade_added r grade → list ≡ length r.grades → object ≡ first_or_zero r.waiting
-    → IsTold (Random list object grade) before after → SomeAgrees after.transcript.lists after.transcript.count after.transcript.accesses → board' ≡ board_then before.expr before.transcript.lists board told → then ≡ reading_then after.expr after.transcript.lists board' told → Keeps after board' then
-grade_kept before after board board' r told then grade list object kept may is_told is_list is_object tells some is_board is_then =
+pub grade_fed : (before after : Base) (board : Held) (r told : Reading) (grade list object : ℕ) → Keeps before board r → MayBeNextGrade before.transcript (need_at before.transcript.lists r) grade → list ≡ length r.grades → object ≡ first_or_zero r.waiting → IsTold (Random list object grade) before after
+    → SomeAgrees after.transcript.lists after.transcript.count after.transcript.accesses → told ≡ grade_added r grade → IsFed before after board told (Random (length r.grades) (first_or_zero r.waiting) grade)
+grade_fed before after board r told grade list object kept may is_list is_object tells some is_told =
     let next = next_grade_is before.transcript r grade may in
+    let m : ℕ = before.transcript.lists in
     let a : Access = Random (length r.grades) (first_or_zero r.waiting) grade in
     let tells' : IsTold a before after = subst (λ o. IsTold (Random (length r.grades) o grade) before after) is_object (subst (λ l. IsTold (Random l object grade) before after) is_list tells) in
-    let m : ℕ = before.transcript.lists in
-    kept_after before after a board board' told then tells'
-    (subst (λ s. IsKept before.expr before.k before.room m before.transcript.count (before.transcript.accesses ++ a ∷ []) (board_then before.expr m board s) (reading_then before.expr m (board_then before.expr m board s) s)) (sym is_told)
-    (kept_grade before.expr before.k before.room m before.transcript.count before.transcript.accesses board r grade kept next.0 next.1 next.2 (some_before a before after tells' some)))
-    is_board is_then
+    record {
+      tells = tells';
+      ready = ready_grade before board r told grade kept may is_told;
+      kept = subst (λ s. IsKept before.expr before.k before.room m before.transcript.count (before.transcript.accesses ++ a ∷ []) (board_then before.expr m board s) (reading_then before.expr m (board_then before.expr m board s) s)) (sym is_told)
+          (kept_grade before.expr before.k before.room m before.transcript.count before.transcript.accesses board r grade kept next.0 next.1 next.2 (some_before a before after tells' some));
+    }
+
+-- the row and the grade that are needed can be told
+pub can_row : (base : Base) (board : Held) (r : Reading) (row : Row) (list : ℕ) → Keeps base board r → MayBeNextRow base.transcript (need_at base.transcript.lists r) row → HasRoomFor (shown base Done) row.object → list ≡ length r.objects → CanTake base (Sorted list row.object row.grade)
+can_row base board r row list kept may fits is_list =
+    let next = next_row_is base.transcript r row may in
+    let only : MayBeNextRow base.transcript (RowAt (length r.objects) r.depth) row = subst (λ need. MayBeNextRow base.transcript need row) (need_in_row base.transcript.lists r next.0 next.1) may in
+    subst (λ l. CanTake base (Sorted l row.object row.grade)) (sym is_list) (row_can base (length r.objects) row.object row.grade kept.base only fits)
+
+pub can_grade : (base : Base) (board : Held) (r : Reading) (grade list object : ℕ) → Keeps base board r → MayBeNextGrade base.transcript (need_at base.transcript.lists r) grade → list ≡ length r.grades → object ≡ first_or_zero r.waiting → CanTake base (Random list object grade)
+can_grade base board r grade list object kept may is_list is_object =
+    let m : ℕ = base.transcript.lists in
+    let next = next_grade_is base.transcript r grade may in
+    subst (λ o. CanTake base (Random list o grade)) (sym is_object) (subst (λ l. CanTake base (Random l (first_or_zero r.waiting) grade)) (sym is_list) (record {
+      follows = (
+        first_seen base board r kept (kept.rest.after_row next.0 next.1).0,
+        waiting_unasked base.expr base.k base.room m base.transcript.count base.transcript.accesses board r kept next.0 next.1,
+      );
+      consistent = subst (λ need. MayBeNextGrade base.transcript need grade) (need_after_row m r next.0 next.1) may;
+    }))
 
 -- what is told of a row and of a grade
 pub row_taken : (before after : Base) (r : Reading) (need : Need) (row : Row) (list : ℕ) (t : MachineState) → shown before (need_at before.transcript.lists r) ≡ t → MayBeNextRow before.transcript (need_at before.transcript.lists r) row → HasRoomFor (shown before (need_at before.transcript.lists r)) row.object → list ≡ length r.objects → IsTold (Sorted list row.object row.grade) before after → HasRoomFor t row.object × Takes (row_access t.need row) t (shown after need)

@@ -26,6 +26,7 @@ use Rattle.ta_core.proofs.Rows.{row_goes_on}
 use Rattle.ta_core.proofs.Asks.{row_is_last, grade_goes_on}
 use Rattle.ta_core.proofs.BoardSteps.{board_after_row, board_after_grade}
 use Rattle.ta_core.proofs.Steps.{row_of_reading, asks_of_reading, on_row, row_follows_on, asks_follow_on}
+use Rattle.ta_core.proofs.Unasked.{waiting_unasked}
 use Rattle.ta_core.proofs.Sound.{sound_row, sound_grade, IsFed, fed_row, fed_grade, sound_followed}
 use Rattle.ta_core.proofs.Runs.{first_member, first_is_member}
 
@@ -146,7 +147,7 @@ kept_grade e k room m n A board r grade kept open' whole capped some =
     let sound : IsSound m (A ++ a ∷ []) r' = sound_grade m A r grade kept.sound rest.0 capped in
     let fed : IsFed m r' = fed_grade m r grade long kept.sound.same_length rest.0 rest.1 in
     let seen : Contains (seen_objects A) (first_or_zero r.waiting) = member_of_all (Contains (seen_objects A)) r.waiting (first_or_zero r.waiting) kept.sound.waiting_seen (first_is_member r.waiting rest.0) in
-    kept_with e k room m n A a board r' kept.same_k kept.same_room (held_more e k room m n A a kept.base seen some) (sound_followed V k m (A ++ a ∷ []) (items_after V m board.items r') r' kept.base.some_list open' sound fed)
+    kept_with e k room m n A a board r' kept.same_k kept.same_room (held_more e k room m n A a kept.base (seen, waiting_unasked e k room m n A board r kept open' whole) some) (sound_followed V k m (A ++ a ∷ []) (items_after V m board.items r') r' kept.base.some_list open' sound fed)
     (λ D agrees.
     let wide : length D ≡ m = agrees.lists in
     let before : Agrees m n D A = agrees_front m n D A (a ∷ []) agrees in

@@ -9,3 +9,4 @@ pub mod Sound
 pub mod Feeds
 pub mod Calls
 pub mod Answering
+pub mod Unasked

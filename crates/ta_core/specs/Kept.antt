@@ -8,7 +8,7 @@ use Rattle.monotone_fn.specs.Limits.{AreGrades}
 use Rattle.topk_theory.specs.declared.access.Access.{Access}
 use Rattle.topk_theory.specs.Transcript.{Agrees, seen_objects}
 use Rattle.machine_base.specs.declared.base.Base.{Base}
-use Rattle.machine_base.specs.Base.{IsHeld}
+use Rattle.machine_base.specs.Base.{IsHeld, IsReserved}
 use Rattle.ta_core.specs.Reading.{Reading, first_or_zero}
 use Rattle.ta_core.specs.OnTable.{OnTable}
 
@@ -39,3 +39,8 @@ pub record IsKept (e : Tree) (k room m n : ℕ) (A : List Access) (board : Held)
 
 abbrev pub Keeps : Base → Held → Reading → Type 0
 Keeps base board r = IsKept base.expr base.k base.room base.transcript.lists base.transcript.count base.transcript.accesses board r
+
+-- and room is reserved for the accesses to come
+pub record Stands (base : Base) (board : Held) (r : Reading) : Type 0 where
+  pub kept : Keeps base board r
+  pub reserved : IsReserved base

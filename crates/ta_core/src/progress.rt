@@ -39,20 +39,6 @@ impl Progress {
         }
     }
 
-    /// The same once more.
-    pub(crate) fn copy(&self) -> Progress
-        ensures { reading_of result ≡ reading_of self.now }
-    {
-        Progress {
-            depth: self.depth,
-            objects: copied(&self.objects),
-            bottoms: copied(&self.bottoms),
-            waiting: copied(&self.waiting),
-            grades: copied(&self.grades),
-            done: self.done,
-        }
-    }
-
     /// Adds the next list's row. A new object waits for its grades, and a whole row tells the first
     /// of these the grades that it has of it.
     pub(crate) fn add_row(&mut self, lists: u8, row: Row, is_new: bool)
@@ -149,16 +135,6 @@ impl Progress {
             object: self.waiting.first().copied().unwrap_or(0),
         }
     }
-}
-
-fn copied(numbers: &Few) -> Few
-    ensures { result.items ≡ numbers.now.items }
-{
-    let mut copy = Few::new();
-    for number in numbers.as_slice() {
-        copy.push(*number);
-    }
-    copy
 }
 
 fn fill_grades(objects: &[u32], bottoms: &[u32], object: u32, grades: &mut Few)

@@ -1,10 +1,10 @@
 //! The machine.
 
-ghost use Rattle.std.specs.Prelude.{◌≡◌, ◌<◌, ◌-◌, ◌^◌, ◌==◌, if◌then◌else◌, length, OnOk, OnErr};
+ghost use Rattle.std.specs.Prelude.{◌≡◌, ◌<◌, ◌-◌, ◌^◌, ◌==◌, if◌then◌else◌, length};
 ghost use Rattle.best_k.specs.Held.{Held};
 ghost use Rattle.monotone_fn.specs.Value.{value};
 ghost use Rattle.monotone_fn.specs.Limits.{AreGrades};
-ghost use Rattle.machine_base.specs.Base.{Holds, IsTold, MayFollow};
+ghost use Rattle.machine_base.specs.Base.{Holds};
 ghost use Rattle.ta_core.specs.Reading.{enough, items_after, followed};
 ghost use Rattle.ta_core.specs.Shown.{reading_of};
 
@@ -38,11 +38,11 @@ impl Model for Ta {
     ghost use Rattle.ta_core.specs.Reading.{need_at};
     ghost use Rattle.ta_core.specs.Shown.{reading_of};
     ghost use Rattle.machine_base.specs.Base.{shown};
-    ghost use Rattle.ta_core.specs.Kept.{Keeps};
+    ghost use Rattle.ta_core.specs.Kept.{Stands};
 
     ghost view = { λ a. shown a.base (need_at a.base.transcript.lists (reading_of a.progress)) };
 
-    ghost invariant = { λ a. Keeps a.base a.board (reading_of a.progress) };
+    ghost invariant = { λ a. Stands a.base a.board (reading_of a.progress) };
 }
 
 impl Ta {
@@ -50,7 +50,8 @@ impl Ta {
     ghost use Rattle.access_log.specs.Machine.{IsBegun, IsInRange, MayBeNextRow, MayBeNextGrade, RowFed, GradeFed, IsSameLog};
     ghost use Rattle.ta_core.specs.Machine.{MakesItsRun, IsAnswer};
 
-    /// A machine for the first `k` of `count` objects, that sees `room` of them at most.
+    /// A machine for the first `k` of `count` objects, that sees `room` of them at most. No other call
+    /// but `answer` takes memory.
     pub fn make(
         alloc: Global,
         expr: Expr,
@@ -85,45 +86,39 @@ impl Ta {
         self.progress.need(self.base.transcript.lists())
     }
 
-    /// Tells the row that is needed. Where it is refused nothing has changed.
+    /// Tells the row that is needed. Where it is refused nothing has changed. Takes no memory.
     pub fn feed_row(&mut self, row: Row) -> Result<(), CoreFault>
         requires { MayBeNextRow self.old.log self.old.need row }
         ensures fed { RowFed row self.old self.new result }
         ensures run { MakesItsRun self.new }
     {
         let is_new = self.base.test_room(row.object)?;
-        let access = Access::Sorted {
+        self.base.tell(Access::Sorted {
             list: self.progress.objects.len() as u8,
             object: row.object,
             grade: row.grade,
-        };
-        let mut next = self.progress.copy();
-        next.add_row(self.base.transcript.lists(), row, is_new);
-        let Ok(()) = tell(&mut self.base, &mut self.board, access, &next) else {
-            return Err(CoreFault::Memory);
-        };
-        self.progress = follow(&self.base, &self.board, next);
+        });
+        self.progress
+            .add_row(self.base.transcript.lists(), row, is_new);
+        score(&self.base, &mut self.board, &self.progress);
+        follow(&self.base, &self.board, &mut self.progress);
         Ok(())
     }
 
-    /// Tells the grade that is needed. `Memory` alone is answered, and then nothing has changed.
-    pub fn feed_grade(&mut self, grade: u32) -> Result<(), CoreFault>
+    /// Tells the grade that is needed. Takes no memory.
+    pub fn feed_grade(&mut self, grade: u32)
         requires { MayBeNextGrade self.old.log self.old.need grade }
-        ensures fed { GradeFed grade self.old self.new result }
+        ensures fed { GradeFed grade self.old self.new }
         ensures run { MakesItsRun self.new }
     {
-        let access = Access::Random {
+        self.base.tell(Access::Random {
             list: self.progress.grades.len() as u8,
             object: self.progress.waiting[0],
             grade,
-        };
-        let mut next = self.progress.copy();
-        next.add_grade(grade);
-        let Ok(()) = tell(&mut self.base, &mut self.board, access, &next) else {
-            return Err(CoreFault::Memory);
-        };
-        self.progress = follow(&self.base, &self.board, next);
-        Ok(())
+        });
+        self.progress.add_grade(grade);
+        score(&self.base, &mut self.board, &self.progress);
+        follow(&self.base, &self.board, &mut self.progress);
     }
 
     /// The accesses so far.
@@ -132,13 +127,6 @@ impl Ta {
         ensures run { MakesItsRun self.now }
     {
         &self.base.transcript
-    }
-
-    /// The costs that it was made with.
-    pub fn costs(&self) -> Costs
-        ensures { result ≡ self.now.costs }
-    {
-        self.base.costs
     }
 
     /// The answer, once nothing is needed: the first k objects by aggregate falling, then by id rising,
@@ -165,29 +153,21 @@ impl Ta {
     }
 }
 
-/// Tells an access: the transcript takes it, and an object that has all its grades then is put on the
-/// board. Where memory is refused nothing has changed.
-fn tell(base: &mut Base, board: &mut Board, access: Access, next: &Progress) -> Result<(), Memory>
-    requires held { Holds base.old }
-    requires follows { MayFollow base.old.room base.old.transcript.accesses access }
-    requires grades { AreGrades next.now.grades.items }
-    requires waits { length next.now.grades.items ≡ base.old.transcript.lists → 0 < length next.now.waiting.items }
-    requires room { length next.now.grades.items ≡ base.old.transcript.lists → length board.old.items < board.old.room }
-    ensures told { OnOk result (IsTold access base.old base.new) }
-    ensures held { Holds base.new }
-    ensures put { OnOk result (board.new ≡ record board.old {
+/// Puts the first object that waits on the board, where it has all its grades.
+fn score(base: &Base, board: &mut Board, progress: &Progress)
+    requires held { Holds base.now }
+    requires grades { AreGrades progress.now.grades.items }
+    requires waits { length progress.now.grades.items ≡ base.now.transcript.lists → 0 < length progress.now.waiting.items }
+    requires room { length progress.now.grades.items ≡ base.now.transcript.lists → length board.old.items < board.old.room }
+    ensures { board.new ≡ record board.old {
       items =
-          items_after (value base.old.expr) base.old.transcript.lists board.old.items (reading_of next.now);
-    }) }
-    ensures unchanged { OnErr result (base.new ≡ base.old) }
-    ensures kept { OnErr result (board.new ≡ board.old) }
+          items_after (value base.now.expr) base.now.transcript.lists board.old.items (reading_of progress.now);
+    } }
 {
-    base.tell(access)?;
-    if next.is_scored(base.transcript.lists()) {
-        let aggregate = base.expr.eval(next.grades.as_slice());
-        board.put(next.waiting[0], aggregate, aggregate);
+    if progress.is_scored(base.transcript.lists()) {
+        let aggregate = base.expr.eval(progress.grades.as_slice());
+        board.put(progress.waiting[0], aggregate, aggregate);
     }
-    Ok(())
 }
 
 /// Whether at least k on the board have an aggregate of at least the bound.
@@ -202,24 +182,24 @@ fn has_enough(board: &Board, bound: u64) -> bool
 
 /// What follows an access that is told: the object that has all its grades waits no more, and a whole
 /// row is the last one, where the algorithm stops, or makes room for the next.
-fn follow(base: &Base, board: &Board, next: Progress) -> Progress
+fn follow(base: &Base, board: &Board, progress: &mut Progress)
     requires held { Holds base.now }
-    requires bottoms { AreGrades next.bottoms.items }
-    requires same { length next.bottoms.items ≡ length next.objects.items }
-    requires waits { length next.grades.items ≡ base.now.transcript.lists → 0 < length next.waiting.items }
-    requires deep { next.depth < 2 ^ 32 - 1 }
-    ensures { reading_of result ≡ followed (value base.now.expr) board.now.k base.now.transcript.lists board.now.items (reading_of next) }
+    requires bottoms { AreGrades progress.old.bottoms.items }
+    requires same { length progress.old.bottoms.items ≡ length progress.old.objects.items }
+    requires waits { length progress.old.grades.items ≡ base.now.transcript.lists → 0 < length progress.old.waiting.items }
+    requires deep { progress.old.depth < 2 ^ 32 - 1 }
+    ensures { reading_of progress.new
+        ≡ followed (value base.now.expr) board.now.k base.now.transcript.lists board.now.items (reading_of progress.old) }
 {
     let lists = base.transcript.lists();
-    let mut next = next;
-    next.settle(lists);
-    if !next.is_whole(lists) {
-        return next;
+    progress.settle(lists);
+    if !progress.is_whole(lists) {
+        return;
     }
-    let threshold = base.expr.eval(next.bottoms.as_slice());
+    let threshold = base.expr.eval(progress.bottoms.as_slice());
     if has_enough(board, threshold) {
-        next.done = true;
-        return next;
+        progress.done = true;
+        return;
     }
-    Progress::at(next.depth + 1)
+    *progress = Progress::at(progress.depth + 1);
 }

@@ -13,14 +13,14 @@ returns-in-Ok-clause-items c =
     let a = c.self.inside in
     let done : need_at a.base.transcript.lists (reading_of a.progress) ≡ Done = ap (λ (t : MachineState). t.need) c.self.view_is ∙ c.requires in
     subst (λ (t : MachineState). IsAnswer t c.in-Ok.items) c.self.view_is
-    (answers a.base a.board (reading_of a.progress) c.in-Ok.items c.self.invariant done c.in-Ok.ensures.only)
+    (answers a.base a.board (reading_of a.progress) c.in-Ok.items c.self.invariant.kept done c.in-Ok.ensures.only)
 
 pub returns-in-Ok-clause-run : goal.returns-in-Ok-clause-run
 returns-in-Ok-clause-run c =
     let a = c.self.inside in
-    subst MakesItsRun c.self.view_is (kept_makes a.base a.board (reading_of a.progress) c.self.invariant)
+    subst MakesItsRun c.self.view_is (kept_makes a.base a.board (reading_of a.progress) c.self.invariant.kept)
 
 pub returns-in-Err-clause-run : goal.returns-in-Err-clause-run
 returns-in-Err-clause-run c =
     let a = c.self.inside in
-    subst MakesItsRun c.self.view_is (kept_makes a.base a.board (reading_of a.progress) c.self.invariant)
+    subst MakesItsRun c.self.view_is (kept_makes a.base a.board (reading_of a.progress) c.self.invariant.kept)

@@ -1,67 +1,47 @@
-use Rattle.std.proofs.Common.{◌≡◌, ℕ, Contains, get_or, subst, sym, ap, ◌∙◌}
-use Rattle.topk_theory.specs.Transcript.{seen_objects}
-use Rattle.access_log.specs.Machine.{MachineState, MayBeNextGrade}
-use Rattle.machine_base.specs.declared.base.Base.{Base}
-use Rattle.machine_base.specs.Base.{Holds, shown}
-use Rattle.ta_core.specs.Reading.{Reading, first_or_zero, grade_added, need_at}
+use Rattle.std.proofs.Common.{length, get_or}
+use Rattle.topk_theory.specs.declared.access.Access.TheVariants.{Random}
+use Rattle.ta_core.specs.Reading.{first_or_zero, need_at}
 use Rattle.ta_core.specs.Shown.{reading_of}
-use Rattle.ta_core.specs.Machine.{MakesItsRun}
-use Rattle.ta_core.proofs.Runs.{kept_makes, first_seen}
-use Rattle.ta_core.proofs.Calls.{first-at, next_grade_is, ready_grade, grade_kept, grade_taken}
+use Rattle.ta_core.proofs.Runs.{kept_makes}
+use Rattle.ta_core.proofs.Calls.{IsReady, IsFed, may_grade, waits_first, can_grade, grade_fed, fed_ready, fed_kept, grade_taken}
 use Rattle.ta_core.proofs.ta.Ta.feed_grade.Goals as goal
+use Rattle.ta_core.proofs.ta.Ta.feed_grade.Goals.{After-add_grade}
 
-pub tell-requires-clause-follows : goal.tell-requires-clause-follows
-tell-requires-clause-follows c =
+-- its access is told, and the reading has it
+fed : (c : After-add_grade) → IsFed c.self.inside.base c.tell.new.self c.self.inside.board (reading_of c.add_grade.new.self) (Random (length (reading_of c.self.inside.progress).grades) (first_or_zero (reading_of c.self.inside.progress).waiting) c.args.grade)
+fed c =
     let a = c.self.inside in
-    let r : Reading = reading_of a.progress in
-    let may : MayBeNextGrade a.base.transcript (need_at a.base.transcript.lists r) c.args.grade = subst (λ (t : MachineState). MayBeNextGrade t.log t.need c.args.grade) (sym c.self.view_is) c.requires in
-    let next = next_grade_is a.base.transcript r c.args.grade may in
-    let object : ℕ = get_or c.deref.result.now 0 0 in
-    let is_first : object ≡ first_or_zero r.waiting = ap (λ ws. get_or ws 0 0) c.deref.ensures.0 ∙ sym (first-at r.waiting) in
-    subst (λ o. Contains (seen_objects a.base.transcript.accesses) o) (sym is_first) (first_seen a.base a.board r c.self.invariant (c.self.invariant.rest.after_row next.0 next.1).0)
+    grade_fed a.base c.tell.new.self a.board (reading_of a.progress) (reading_of c.add_grade.new.self) c.args.grade c.len.result (get_or c.deref.result.now 0 0)
+    c.self.invariant.kept (may_grade a.base (reading_of a.progress) c.args.self.now c.args.grade c.self.view_is c.requires) c.len.ensures.value (waits_first (reading_of a.progress) c.deref.result.now c.deref.ensures.0) c.tell.ensures.told c.tell.ensures.held.agreeing c.add_grade.ensures
 
-pub tell-requires-clause-grades : goal.tell-requires-clause-grades
-tell-requires-clause-grades c =
+ready : (c : After-add_grade) → IsReady c.tell.new.self.transcript.lists c.self.inside.board (reading_of c.add_grade.new.self)
+ready c =
     let a = c.self.inside in
-    let r : Reading = reading_of a.progress in
-    let may : MayBeNextGrade a.base.transcript (need_at a.base.transcript.lists r) c.args.grade = subst (λ (t : MachineState). MayBeNextGrade t.log t.need c.args.grade) (sym c.self.view_is) c.requires in
-    let told : reading_of c.add_grade.new.self ≡ grade_added r c.args.grade = c.add_grade.ensures ∙ ap (λ s. grade_added s c.args.grade) c.copy-next.ensures in
-    (ready_grade a.base a.board r (reading_of c.add_grade.new.self) c.args.grade c.self.invariant may told).grades
+    fed_ready a.base c.tell.new.self a.board (reading_of c.add_grade.new.self) (Random (length (reading_of a.progress).grades) (first_or_zero (reading_of a.progress).waiting) c.args.grade) (fed c)
 
-pub tell-requires-clause-room : goal.tell-requires-clause-room
-tell-requires-clause-room c =
+pub tell-requires-clause-can : goal.tell-requires-clause-can
+tell-requires-clause-can c =
     let a = c.self.inside in
-    let r : Reading = reading_of a.progress in
-    let may : MayBeNextGrade a.base.transcript (need_at a.base.transcript.lists r) c.args.grade = subst (λ (t : MachineState). MayBeNextGrade t.log t.need c.args.grade) (sym c.self.view_is) c.requires in
-    let told : reading_of c.add_grade.new.self ≡ grade_added r c.args.grade = c.add_grade.ensures ∙ ap (λ s. grade_added s c.args.grade) c.copy-next.ensures in
-    (ready_grade a.base a.board r (reading_of c.add_grade.new.self) c.args.grade c.self.invariant may told).room
+    can_grade a.base a.board (reading_of a.progress) c.args.grade c.len.result (get_or c.deref.result.now 0 0) c.self.invariant.kept (may_grade a.base (reading_of a.progress) c.args.self.now c.args.grade c.self.view_is c.requires) c.len.ensures.value (waits_first (reading_of a.progress) c.deref.result.now c.deref.ensures.0)
 
-pub returns-in_default-clause-run : goal.returns-in_default-clause-run
-returns-in_default-clause-run c =
-    let a = c.self.inside in
-    let old : MakesItsRun c.args.self.now = subst MakesItsRun c.self.view_is (kept_makes a.base a.board (reading_of a.progress) c.self.invariant) in
-    subst MakesItsRun (sym (ap (λ (b : Base). shown b (need_at b.transcript.lists (reading_of a.progress))) c.in_default.ensures.unchanged ∙ c.self.view_is)) old
+pub score-requires-clause-grades : goal.score-requires-clause-grades
+score-requires-clause-grades c = (ready (goal.at.score-requires-clause-grades c).After-add_grade).grades
 
-pub invariant_of-self-2 : goal.invariant_of-self-2
-invariant_of-self-2 c =
+pub score-requires-clause-room : goal.score-requires-clause-room
+score-requires-clause-room c = (ready (goal.at.score-requires-clause-room c).After-add_grade).room
+
+pub invariant_of-self : goal.invariant_of-self
+invariant_of-self c =
     let a = c.self.inside in
-    let r : Reading = reading_of a.progress in
-    let may : MayBeNextGrade a.base.transcript (need_at a.base.transcript.lists r) c.args.grade = subst (λ (t : MachineState). MayBeNextGrade t.log t.need c.args.grade) (sym c.self.view_is) c.requires in
-    let told : reading_of c.add_grade.new.self ≡ grade_added r c.args.grade = c.add_grade.ensures ∙ ap (λ s. grade_added s c.args.grade) c.copy-next.ensures in
-    let object : ℕ = get_or c.deref.result.now 0 0 in
-    let is_first : object ≡ first_or_zero r.waiting = ap (λ ws. get_or ws 0 0) c.deref.ensures.0 ∙ sym (first-at r.waiting) in
-    let held : Holds c.tell.new.base = c.in-Ok.ensures.held in
-    grade_kept a.base c.tell.new.base a.board c.tell.new.board r (reading_of c.add_grade.new.self) (reading_of c.follow-self-inside.result) c.args.grade c.len.result object c.self.invariant may told c.len.ensures.value is_first
-    c.in-Ok.ensures.told held.agreeing c.in-Ok.ensures.put c.follow-self-inside.ensures
+    record {
+      kept = fed_kept a.base c.tell.new.self a.board c.score.new.board (reading_of c.add_grade.new.self) (reading_of c.follow.new.progress) (Random (length (reading_of a.progress).grades) (first_or_zero (reading_of a.progress).waiting) c.args.grade) (fed (goal.at.invariant_of-self c).After-add_grade) c.score.ensures c.follow.ensures;
+      reserved = c.tell.ensures.reserved;
+    }
 
 pub returns-clause-fed : goal.returns-clause-fed
 returns-clause-fed c =
     let a = c.self.inside in
-    let r : Reading = reading_of a.progress in
-    let may : MayBeNextGrade a.base.transcript (need_at a.base.transcript.lists r) c.args.grade = subst (λ (t : MachineState). MayBeNextGrade t.log t.need c.args.grade) (sym c.self.view_is) c.requires in
-    let object : ℕ = get_or c.deref.result.now 0 0 in
-    let is_first : object ≡ first_or_zero r.waiting = ap (λ ws. get_or ws 0 0) c.deref.ensures.0 ∙ sym (first-at r.waiting) in
-    grade_taken a.base c.tell.new.base r (need_at c.tell.new.base.transcript.lists (reading_of c.follow-self-inside.result)) c.args.grade c.len.result object c.args.self.now c.self.view_is may c.len.ensures.value is_first c.in-Ok.ensures.told
+    grade_taken a.base c.tell.new.self (reading_of a.progress) (need_at c.tell.new.self.transcript.lists (reading_of c.follow.new.progress)) c.args.grade c.len.result (get_or c.deref.result.now 0 0) c.args.self.now c.self.view_is (may_grade a.base (reading_of a.progress) c.args.self.now c.args.grade c.self.view_is c.requires) c.len.ensures.value (waits_first (reading_of a.progress) c.deref.result.now c.deref.ensures.0) c.tell.ensures.told
 
 pub returns-clause-run : goal.returns-clause-run
-returns-clause-run c = kept_makes c.tell.new.base c.tell.new.board (reading_of c.follow-self-inside.result) (invariant_of-self-2 c)
+returns-clause-run c = kept_makes c.tell.new.self c.score.new.board (reading_of c.follow.new.progress) (invariant_of-self c).kept

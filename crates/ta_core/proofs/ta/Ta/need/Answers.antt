@@ -11,7 +11,7 @@ use Rattle.ta_core.proofs.ta.Ta.need.Goals as goal
 pub returns-clause-run : goal.returns-clause-run
 returns-clause-run c =
     let a = c.self.inside in
-    subst MakesItsRun c.self.view_is (kept_makes a.base a.board (reading_of a.progress) c.self.invariant)
+    subst MakesItsRun c.self.view_is (kept_makes a.base a.board (reading_of a.progress) c.self.invariant.kept)
 
 pub returns-clause-range : goal.returns-clause-range
 returns-clause-range c =

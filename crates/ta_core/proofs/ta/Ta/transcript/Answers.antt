@@ -7,4 +7,4 @@ use Rattle.ta_core.proofs.ta.Ta.transcript.Goals as goal
 pub returns-clause-run : goal.returns-clause-run
 returns-clause-run c =
     let a = c.self.inside in
-    subst MakesItsRun c.self.view_is (kept_makes a.base a.board (reading_of a.progress) c.self.invariant)
+    subst MakesItsRun c.self.view_is (kept_makes a.base a.board (reading_of a.progress) c.self.invariant.kept)
