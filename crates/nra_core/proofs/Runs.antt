@@ -2,7 +2,7 @@
 use Rattle.std.proofs.Common.{◌≡◌, ℕ, ◌≤◌, inl, inr, true, false, cond, List, sym, ap, subst, arith}
 use Rattle.std.proofs.lemmas.Bool.{cases_Bool}
 use Rattle.ranked_list.specs.declared.row.Row.{Row}
-use Rattle.ranked_list.specs.declared.item.Item.{Item}
+use Rattle.late_bounds.specs.declared.late.LateBounds.{LateBounds}
 use Rattle.ranked_list.specs.declared.need.Need.TheVariants.{Row as RowAt, Done}
 use Rattle.monotone_fn.specs.Value.{value}
 use Rattle.monotone_fn.proofs.Laws.{value-monotone}
@@ -32,8 +32,8 @@ need_of_row place open' = ap (λ b. cond b Done (RowAt place.list place.depth)) 
 pub need_when_done : (place : Place) → place.done ≡ true → need_at place ≡ Done
 need_when_done place done = ap (λ b. cond b Done (RowAt place.list place.depth)) done
 
-needed : (base : Base) (items : List Item) (place : Place) (D : List (List Row)) → Keeps base items place → AgreesWith D base.transcript → IsAt (nra_run (value base.expr) base.k D) base.transcript.accesses (need_at place) × CanServe D (need_at place)
-needed base items place D kept agrees =
+needed : (base : Base) (late : LateBounds) (place : Place) (D : List (List Row)) → Keeps base late place → AgreesWith D base.transcript → IsAt (nra_run (value base.expr) base.k D) base.transcript.accesses (need_at place) × CanServe D (need_at place)
+needed base late place D kept agrees =
     let V = value base.expr in
     let A = base.transcript.accesses in
     let n : ℕ = base.transcript.count in
@@ -54,11 +54,11 @@ tame_need log place =
       | inr open' ↦ subst (IsOfSeen log) (sym (need_of_row place open')) tt
     ]
 
-pub kept_makes : (base : Base) (items : List Item) (place : Place) → Keeps base items place → MakesItsRun (shown base (need_at place))
-kept_makes base items place kept = makes_run no_random_run base (need_at place) kept.base (λ D agrees. needed base items place D kept agrees) (tame_need base.transcript place)
+pub kept_makes : (base : Base) (late : LateBounds) (place : Place) → Keeps base late place → MakesItsRun (shown base (need_at place))
+kept_makes base late place kept = makes_run no_random_run base (need_at place) kept.base (λ D agrees. needed base late place D kept agrees) (tame_need base.transcript place)
 
 -- the depth is one of the tables', so it is small
-pub kept_depth : (base : Base) (items : List Item) (place : Place) → Keeps base items place → place.done ≡ false → place.depth ≤ base.transcript.count
-kept_depth base items place kept open' =
+pub kept_depth : (base : Base) (late : LateBounds) (place : Place) → Keeps base late place → place.done ≡ false → place.depth ≤ base.transcript.count
+kept_depth base late place kept open' =
     let some = kept.base.agreeing in
     (row_of (value base.expr) base.k base.transcript.count some.0 base.transcript.accesses place open' (kept.on_table some.0 some.1)).at.within

@@ -1,5 +1,4 @@
 pub mod Place
-pub mod Quiet
 pub mod OnTable
 pub mod Kept
 pub mod Machine

@@ -4,7 +4,6 @@
 
 mod nra;
 mod place;
-mod quiet;
 
 pub use machine_base::{CoreFault, Memory, Need};
 pub use nra::Nra;

@@ -1,16 +1,15 @@
 //! The machine of the algorithm without random access.
 
-ghost use Rattle.std.specs.Prelude.{◌≡◌, ◌<◌, ◌≤◌, if◌then◌else◌, [], ◌∷◌, ◌++◌, OnOk, OnErr};
+ghost use Rattle.std.specs.Prelude.{◌≡◌, ◌<◌, ◌≤◌};
 ghost use Rattle.monotone_fn.specs.Value.{value};
-ghost use Rattle.topk_theory.specs.Transcript.{object_of};
-ghost use Rattle.machine_base.specs.Base.{Holds, IsTold, MayFollow};
-ghost use Rattle.nra_core.specs.Quiet.{AreOfSeen, is_quiet_seen, items_after};
+ghost use Rattle.machine_base.specs.Base.{Holds};
+ghost use Rattle.nra_theory.specs.Quiet.{is_quiet_seen};
+ghost use Rattle.late_bounds.specs.Late.{KeepsLate};
 ghost use Rattle.nra_core.specs.Place.{place_after};
 
 use super::place::Place;
-use super::quiet::{bound, is_quiet};
 use access_log::{Access, Answer, CoreFault, Item, Items, Transcript};
-use best_k::put_in_order;
+use late_bounds::LateBounds;
 use machine_base::{Base, Memory, Need};
 use monotone_fn::{Costs, Expr};
 use ranked_list::Row;
@@ -22,8 +21,9 @@ use std::marker::Model;
 #[derive(Drop)]
 pub struct Nra {
     base: Base,
-    /// The seen objects, each once. Where the rows of a depth are whole they have their bounds and are
-    /// in order.
+    /// What is kept of the seen objects, whose bounds are renewed late.
+    late: LateBounds,
+    /// Room for the items of the answer.
     items: Vec<Item>,
     place: Place,
 }
@@ -39,11 +39,12 @@ impl Model for Nra {
 
     ghost use Rattle.nra_core.specs.Place.{need_at};
     ghost use Rattle.machine_base.specs.Base.{shown};
-    ghost use Rattle.nra_core.specs.Kept.{Keeps};
+    ghost use Rattle.std.specs.Prelude.{vec_capacity};
+    ghost use Rattle.nra_core.specs.Kept.{Stands};
 
     ghost view = { λ a. shown a.base (need_at a.place) };
 
-    ghost invariant = { λ a. Keeps a.base a.items.items a.place };
+    ghost invariant = { λ a. Stands a.base a.late a.items.items (vec_capacity a.items) a.place };
 }
 
 impl Nra {
@@ -51,7 +52,8 @@ impl Nra {
     ghost use Rattle.access_log.specs.Machine.{IsBegun, IsInRange, IsNoGrade, MayBeNextRow, RowFed, IsSameLog};
     ghost use Rattle.nra_core.specs.Machine.{MakesItsRun, IsAnswer, HaveTrueBounds};
 
-    /// A machine for the first `k` of `count` objects, that sees `room` of them at most.
+    /// A machine for the first `k` of `count` objects, that sees `room` of them at most. No other call
+    /// takes memory.
     pub fn make(
         alloc: Global,
         expr: Expr,
@@ -67,9 +69,16 @@ impl Nra {
         ensures begun { IfOk result (IsBegun expr k count room costs) }
         ensures run { IfOk result MakesItsRun }
     {
+        let Ok(items) = Vec::with_capacity(alloc, room.min(count) as usize) else {
+            return Err(Memory);
+        };
+        let Ok(late) = LateBounds::make(alloc, k, room.min(count)) else {
+            return Err(Memory);
+        };
         Ok(Nra {
             base: Base::make(alloc, expr, k, count, room, costs)?,
-            items: Vec::new(alloc),
+            late,
+            items,
             place: Place {
                 list: 0,
                 depth: 1,
@@ -88,22 +97,21 @@ impl Nra {
         self.place.need()
     }
 
-    /// Tells the row that is needed. Where it is refused nothing has changed.
+    /// Tells the row that is needed. Where it is refused nothing has changed. Takes no memory.
     pub fn feed_row(&mut self, row: Row) -> Result<(), CoreFault>
         requires { MayBeNextRow self.old.log self.old.need row }
         ensures fed { RowFed row self.old self.new result }
         ensures run { MakesItsRun self.new }
     {
-        let is_new = self.base.test_room(row.object)?;
-        let access = Access::Sorted {
+        self.base.test_room(row.object)?;
+        self.base.tell(Access::Sorted {
             list: self.place.list,
             object: row.object,
             grade: row.grade,
-        };
-        let Ok(()) = tell(&mut self.base, &mut self.items, access, is_new) else {
-            return Err(CoreFault::Memory);
-        };
-        self.place = follow(&self.base, &mut self.items, self.place);
+        });
+        self.late
+            .note(&self.base.expr, &self.base.transcript, row.object);
+        self.place = follow(&self.base, &mut self.late, self.place);
         Ok(())
     }
 
@@ -113,13 +121,6 @@ impl Nra {
         ensures run { MakesItsRun self.now }
     {
         &self.base.transcript
-    }
-
-    /// The costs that it was made with.
-    pub fn costs(&self) -> Costs
-        ensures { result ≡ self.now.costs }
-    {
-        self.base.costs
     }
 
     /// The answer, once nothing is needed: the first k seen objects by low falling, then by high
@@ -134,11 +135,12 @@ impl Nra {
     {
         let Nra {
             base,
+            late,
             items,
             place: _,
         } = self;
         let mut items = items;
-        items.truncate(base.k as usize);
+        late.first_items(&base.expr, &base.transcript, &mut items);
         let items = Items::from_vec(items);
         Ok(Answer {
             items,
@@ -147,43 +149,17 @@ impl Nra {
     }
 }
 
-/// Tells an access: the transcript takes it, and a new object is one of the items, without bounds yet.
-/// Where memory is refused nothing has changed.
-fn tell(base: &mut Base, items: &mut Vec<Item>, access: Access, is_new: bool) -> Result<(), Memory>
-    requires held { Holds base.old }
-    requires follows { MayFollow base.old.room base.old.transcript.accesses access }
-    ensures told { OnOk result (IsTold access base.old base.new) }
-    ensures held { Holds base.new }
-    ensures added { OnOk result (items.new.items ≡ (if is_new then items.old.items ++ record { object = object_of access; low = 0; high = 0 } ∷ [] else items.old.items)) }
-    ensures unchanged { OnErr result (base.new ≡ base.old) }
-    ensures kept { OnErr result (items.new.items ≡ items.old.items) }
-{
-    let Ok(()) = items.reserve(1) else {
-        return Err(Memory);
-    };
-    base.tell(access)?;
-    if is_new {
-        let object = access.object();
-        items
-            .push(Item {
-                object,
-                low: 0,
-                high: 0,
-            })
-            .unwrap();
-    }
-    Ok(())
-}
-
-/// Where the run stands after a row that is told. After the row of the last list the seen objects get
-/// their bounds and their order. The run ends there where at least k objects were seen and no object
-/// outside the first k is viable; else the next depth begins.
-fn follow(base: &Base, items: &mut [Item], place: Place) -> Place
+/// Where the run stands after a row that is told. After the row of the last list the run ends where at
+/// least k objects were seen and no object outside the first k is viable; else the next depth begins.
+fn follow(base: &Base, late: &mut LateBounds, place: Place) -> Place
     requires held { Holds base.now }
-    requires seen { AreOfSeen base.now.transcript.accesses items.old }
+    requires late { KeepsLate base.now.expr base.now.transcript late.old }
+    requires asked { late.old.k ≡ base.now.k }
     requires in_row { place.list < base.now.transcript.lists }
     requires deep { place.depth ≤ 200000 }
-    ensures items { items.new ≡ items_after (value base.now.expr) base.now.transcript.lists base.now.transcript.accesses place.list items.old }
+    ensures late { KeepsLate base.now.expr base.now.transcript late.new }
+    ensures asked { late.new.k ≡ base.now.k }
+    ensures room { late.new.first.room ≡ late.old.first.room }
     ensures place { result ≡ place_after base.now.transcript.lists (is_quiet_seen (value base.now.expr) base.now.k base.now.transcript.lists base.now.transcript.count base.now.transcript.accesses) place }
 {
     if place.list + 1 < base.transcript.lists() {
@@ -192,9 +168,7 @@ fn follow(base: &Base, items: &mut [Item], place: Place) -> Place
             ..place
         };
     }
-    bound(&base.expr, &base.transcript, items);
-    put_in_order(items);
-    if is_quiet(&base.expr, &base.transcript, items, base.k) {
+    if late.is_quiet(&base.expr, &base.transcript) {
         return Place {
             done: true,
             ..place

@@ -1,29 +1,33 @@
-use Rattle.std.proofs.Common.{◌≡◌, take, subst, ap, ◌∙◌}
+use Rattle.std.proofs.Common.{◌≡◌, subst, ap, ◌∙◌}
 use Rattle.ranked_list.specs.declared.need.Need.TheVariants.{Done}
 use Rattle.access_log.specs.Machine.{MachineState}
 use Rattle.nra_core.specs.Place.{need_at}
 use Rattle.nra_core.specs.Machine.{MakesItsRun, IsAnswer, HaveTrueBounds}
 use Rattle.nra_core.proofs.Runs.{kept_makes}
-use Rattle.nra_core.proofs.Answering.{answers, true_bounds}
+use Rattle.nra_core.proofs.Answering.{answers, true_bounds, first_of, many_seen}
 use Rattle.nra_core.proofs.nra.Nra.answer.Goals as goal
+
+pub first_items-requires-clause-enough : goal.first_items-requires-clause-enough
+first_items-requires-clause-enough c =
+    let a = c.self.inside in
+    many_seen a.base a.late a.place c.self.invariant.kept (ap (λ (t : MachineState). t.need) c.self.view_is ∙ c.requires)
 
 pub returns-clause-items : goal.returns-clause-items
 returns-clause-items c =
     let a = c.self.inside in
     let done : need_at a.place ≡ Done = ap (λ (t : MachineState). t.need) c.self.view_is ∙ c.requires in
-    let taken : c.from_vec-items.result ≡ take a.base.k a.items.items = c.from_vec-items.ensures ∙ c.truncate.ensures.items in
     subst (λ (t : MachineState). IsAnswer t c.from_vec-items.result) c.self.view_is
-    (answers a.base a.items.items a.place c.from_vec-items.result c.self.invariant done taken)
+    (answers a.base a.late a.place c.from_vec-items.result c.self.invariant.kept done
+    (first_of a.base a.late a.place c.from_vec-items.result c.self.invariant.kept (c.from_vec-items.ensures ∙ c.first_items.ensures.items)))
 
 pub returns-clause-bounds : goal.returns-clause-bounds
 returns-clause-bounds c =
     let a = c.self.inside in
-    let done : need_at a.place ≡ Done = ap (λ (t : MachineState). t.need) c.self.view_is ∙ c.requires in
-    let taken : c.from_vec-items.result ≡ take a.base.k a.items.items = c.from_vec-items.ensures ∙ c.truncate.ensures.items in
     subst (λ (t : MachineState). HaveTrueBounds t c.from_vec-items.result) c.self.view_is
-    (true_bounds a.base a.items.items a.place c.from_vec-items.result c.self.invariant done taken)
+    (true_bounds a.base a.place c.from_vec-items.result
+    (first_of a.base a.late a.place c.from_vec-items.result c.self.invariant.kept (c.from_vec-items.ensures ∙ c.first_items.ensures.items)))
 
 pub returns-clause-run : goal.returns-clause-run
 returns-clause-run c =
     let a = c.self.inside in
-    subst MakesItsRun c.self.view_is (kept_makes a.base a.items.items a.place c.self.invariant)
+    subst MakesItsRun c.self.view_is (kept_makes a.base a.late a.place c.self.invariant.kept)

@@ -1,23 +1,18 @@
-use Rattle.std.proofs.Common.{false, [], subst, sym}
+use Rattle.std.proofs.Common.{false, ◌∙◌, arith}
 use Rattle.nra_core.specs.declared.place.Place.{Place}
 use Rattle.nra_core.specs.Place.{need_at}
-use Rattle.nra_core.specs.Kept.{IsKept}
-use Rattle.machine_base.specs.declared.base.Base.{Base}
-use Rattle.machine_base.specs.Base.{IsHeld}
 use Rattle.machine_base.proofs.Held.{begun_with}
-use Rattle.nra_core.proofs.Feeds.{kept_start}
+use Rattle.nra_core.proofs.Feeds.{stands_start}
 use Rattle.nra_core.proofs.Runs.{kept_makes}
 use Rattle.nra_core.proofs.nra.Nra.make.Goals as goal
 
 pub invariant_of-result : goal.invariant_of-result
 invariant_of-result c =
-    let base : Base = c.in_ok-make.field-0 in
-    let place : Place = record { list = 0; depth = 1; done = false } in
-    let m = base.transcript.lists in
-    let n = base.transcript.count in
-    subst (λ A. IsKept base.expr base.k base.room m n A c.new.result.items place) (sym c.in_ok-make.ensures.begun.none)
-    (subst (λ items. IsKept base.expr base.k base.room m n [] items place) (sym c.new.ensures.items)
-    (kept_start base.expr base.k base.room m n (subst (IsHeld base.expr base.k base.room m n) c.in_ok-make.ensures.begun.none c.in_ok-make.ensures.held)))
+    let made = c.in_ok-make.ensures in
+    let room = c.in-Ok.ensures in
+    let late = c.in-Ok-make.ensures in
+    stands_start c.args.expr c.args.k c.args.count c.args.room c.args.costs c.in_ok-make.field-0 c.in-Ok-make.late c.in-Ok.items.items _ made.begun made.held made.reserved
+    late.kept late.k (late.room ∙ c.min-2.ensures) room.items (omega (arith, room.capacity, c.min.ensures))
 
 pub returns-clause-begun : goal.returns-clause-begun
 returns-clause-begun c =
@@ -27,4 +22,4 @@ returns-clause-begun c =
 pub returns-clause-run : goal.returns-clause-run
 returns-clause-run c =
     let place : Place = record { list = 0; depth = 1; done = false } in
-    kept_makes c.in_ok-make.field-0 c.new.result.items place (invariant_of-result c)
+    kept_makes c.in_ok-make.field-0 c.in-Ok-make.late place (invariant_of-result c).kept

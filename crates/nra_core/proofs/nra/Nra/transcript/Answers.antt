@@ -6,4 +6,4 @@ use Rattle.nra_core.proofs.nra.Nra.transcript.Goals as goal
 pub returns-clause-run : goal.returns-clause-run
 returns-clause-run c =
     let a = c.self.inside in
-    subst MakesItsRun c.self.view_is (kept_makes a.base a.items.items a.place c.self.invariant)
+    subst MakesItsRun c.self.view_is (kept_makes a.base a.late a.place c.self.invariant.kept)

@@ -1,0 +1,10 @@
+pub mod Counts
+pub mod Behind
+pub mod Stop
+pub mod SeenItems
+pub mod Shown
+pub mod Renewed
+pub mod Members
+pub mod Candidates
+pub mod Ending
+pub mod StopLaws

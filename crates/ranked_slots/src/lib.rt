@@ -1,0 +1,14 @@
+//! Keys in slots, each with a rank, of which the least is at hand. The slots can be gone through, and the slot of a
+//! key is found at once. Room is taken once: from then on no change takes memory.
+#![tactic(auto)]
+
+mod slots;
+
+pub use slots::{Entry, RankedSlots};
+
+/// No memory was left.
+#[derive(Clone, Copy, Debug, PartialEq, Eq)]
+pub struct Memory;
+
+/// The greatest room, in keys.
+pub const MAX_ROOM: u32 = 200_000;
