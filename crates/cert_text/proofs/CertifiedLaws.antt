@@ -11,7 +11,8 @@ use Rattle.access_log.specs.declared.answer.Answer.{Answer}
 use Rattle.query_text.specs.declared.query.Query.{Query}
 use Rattle.cert_text.specs.declared.outcome.Outcome.TheVariants.{Answered}
 use Rattle.cert_text.specs.Certificate.{IsAccess, IsCertificate}
-use Rattle.cert_text.specs.Outcome.{costs_of, certificate_of, outcome_text, IsCertified}
+use Rattle.query_text.specs.Costs.{costs_in_force}
+use Rattle.cert_text.specs.Outcome.{certificate_of, outcome_text, IsCertified}
 use Rattle.cert_text.specs.Reading.{Spells}
 use Rattle.cert_text.proofs.CountLaws.{list_count_names}
 use Rattle.cert_text.proofs.FigureLaws.{depth_more}
@@ -55,7 +56,7 @@ certified line query count answer is =
       depth = omega (arith, depth_few answer.transcript.lists A);
       sorted = omega (arith, count_by-le-length is_sorted A);
       random = omega (arith, count_by-le-length (λ access. not (is_sorted access)) A);
-      cost = cost_few (sorted_count A) (random_count A) (costs_of query).sorted (costs_of query).random (length A) (count_by-le-length is_sorted A) (count_by-le-length (λ access. not (is_sorted access)) A) few is.cost.sorted is.cost.random;
+      cost = cost_few (sorted_count A) (random_count A) (costs_in_force query).sorted (costs_in_force query).random (length A) (count_by-le-length is_sorted A) (count_by-le-length (λ access. not (is_sorted access)) A) few is.cost.sorted is.cost.random;
       accesses = All-weaker (IsAccess answer.transcript.lists) (IsAccess (length query.names)) (λ a fits. record { list = omega (arith, fits.list); object = fits.object; grade = fits.grade }) A is.accesses;
     }
 

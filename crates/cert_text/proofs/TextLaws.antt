@@ -23,7 +23,7 @@ use Rattle.query_text.specs.Shape.{weight_pieces, expr_pieces, argument_pieces, 
 use Rattle.query_text.specs.Query.{name_of, written, arguments, weighted, cost_digits, printed, IsPlain, ArePlain, AreWeighed, IsCount, IsLawful}
 use Rattle.query_text.specs.declared.query.Query.{Query}
 use Rattle.query_text.specs.declared.algorithm.Algorithm.{Algorithm}
-use Rattle.query_text.specs.declared.algorithm.Algorithm.TheVariants.{Ta, Nra}
+use Rattle.query_text.specs.declared.algorithm.Algorithm.TheVariants.{Ta, Nra, Ca}
 use Rattle.cert_text.specs.declared.certificate.Certificate.{Certificate}
 use Rattle.cert_text.specs.Certificate.{number_line, query_line, count_line, answer_line, stop_line, access_line, access_lines, certificate_lines, IsItem, IsAccess, IsCertificate}
 
@@ -130,6 +130,7 @@ mutual
 algorithm_clean : (algorithm : Algorithm) → AreClean (algorithm_pieces algorithm)
 algorithm_clean Ta = refl
 algorithm_clean Nra = refl
+algorithm_clean Ca = refl
 
 count_clean : (n : ℕ) → IsCount n → IsClean (decimal n)
 count_clean n is = clean_decimal n (omega (arith, is.1))

@@ -2,13 +2,13 @@
 use Rattle.std.specs.Prelude.{◌≡◌, ◌≤◌, ◌<◌, ◌^◌, ℕ, List, [], ◌∷◌, length, map, codes, All, Option, Some, None, unwrap_or, option_map}
 use Rattle.std.specs.Fmt.{decimal}
 use Rattle.line_text.specs.Lines.{unlines}
-use Rattle.monotone_fn.specs.declared.costs.Costs.{Costs}
 use Rattle.monotone_fn.specs.Shape.{list_count}
 use Rattle.monotone_fn.specs.Limits.{IsExpr}
 use Rattle.topk_theory.specs.Transcript.{depth, sorted_count, random_count, cost}
 use Rattle.access_log.specs.Log.{Log, IsWithinLimits}
 use Rattle.access_log.specs.declared.answer.Answer.{Answer}
 use Rattle.query_text.specs.declared.query.Query.{Query}
+use Rattle.query_text.specs.Costs.{costs_in_force}
 use Rattle.query_text.specs.Query.{IsLawful}
 use Rattle.cert_text.specs.declared.certificate.Certificate.{Certificate}
 use Rattle.cert_text.specs.declared.outcome.Outcome.{Outcome}
@@ -16,10 +16,6 @@ use Rattle.cert_text.specs.declared.outcome.Outcome.TheVariants.{Answered, Refus
 use Rattle.cert_text.specs.declared.refusal.Refusal.{Refusal}
 use Rattle.cert_text.specs.Refusal.{refusal_row, field_word, refused_lists}
 use Rattle.cert_text.specs.Certificate.{spaced, stop_line, certificate_lines, IsItem, IsAccess}
-
--- what accesses cost a query; 1 and 1 where it doesn't say
-abbrev pub costs_of : Query → Costs
-costs_of query = unwrap_or query.cost (record { sorted = 1; random = 1 })
 
 -- the names of a query's lists, none where there is no query
 abbrev pub names_of : Option Query → List (List ℕ)
@@ -35,14 +31,14 @@ certificate_of line query count answer = record {
   depth = depth answer.transcript.lists answer.transcript.accesses;
   sorted = sorted_count answer.transcript.accesses;
   random = random_count answer.transcript.accesses;
-  cost = cost (costs_of query).sorted (costs_of query).random answer.transcript.accesses;
+  cost = cost (costs_in_force query).sorted (costs_in_force query).random answer.transcript.accesses;
   accesses = answer.transcript.accesses;
 }
 
 -- the line of the figures of a query's accesses
 abbrev pub figures_line : Query → Log → List ℕ
 figures_line query log =
-    stop_line (depth log.lists log.accesses) (sorted_count log.accesses) (random_count log.accesses) (cost (costs_of query).sorted (costs_of query).random log.accesses)
+    stop_line (depth log.lists log.accesses) (sorted_count log.accesses) (random_count log.accesses) (cost (costs_in_force query).sorted (costs_in_force query).random log.accesses)
 
 -- the line of a refused query line by its number, the name of the refusal and the words of its fields
 unfoldable pub refused_words : ℕ → List ℕ → List (List ℕ) → List ℕ
@@ -64,8 +60,8 @@ outcome_text line query count outcome = unlines (outcome_lines line query count 
 
 -- the cost of the accesses is one that 64 bits hold
 pub record HasCost (query : Query) (log : Log) : Type 0 where
-  pub sorted : (costs_of query).sorted ≤ 1000000
-  pub random : (costs_of query).random ≤ 1000000
+  pub sorted : (costs_in_force query).sorted ≤ 1000000
+  pub random : (costs_in_force query).random ≤ 1000000
   pub accesses : length log.accesses < 2 ^ 40
 
 -- an answer comes with its query, and the lists that a refusal names are lists of its query

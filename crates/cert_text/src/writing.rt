@@ -7,11 +7,11 @@ ghost use Rattle.line_text.specs.Lines.{unlines};
 ghost use Rattle.topk_theory.specs.Transcript.{depth};
 ghost use Rattle.query_text.specs.Query.{name_of};
 ghost use Rattle.cert_text.specs.Certificate.{spaced, number_line, query_line, count_line, answer_line, access_line, access_lines, certificate_lines};
-ghost use Rattle.cert_text.specs.Outcome.{HasCost, certificate_of, costs_of, figures_line};
+ghost use Rattle.cert_text.specs.Outcome.{HasCost, certificate_of, figures_line};
 
 use super::words::{Word, put_line};
 use access_log::{Access, Answer, Item, Items, Transcript};
-use query_text::{Costs, Names, Query, put_query};
+use query_text::{Names, Query, put_query};
 use tk_io::{Pieces, Sink};
 
 /// The name of a list by its number in the query.
@@ -19,16 +19,6 @@ pub(crate) fn name_of(names: &Names, list: u8) -> &[u8]
     ensures { result.now ≡ name_of names.now list }
 {
     names.get(u32::from(list)).unwrap_or(b"")
-}
-
-/// What one access of each kind costs a query.
-fn costs_of(query: &Query) -> Costs
-    ensures { result ≡ costs_of query.now }
-{
-    query.cost.unwrap_or(Costs {
-        sorted: 1,
-        random: 1,
-    })
 }
 
 /// The greatest depth of a list.
@@ -93,7 +83,7 @@ fn put_figures<K: Sink>(out: &mut K, pieces: &mut Pieces, query: &Query, transcr
         Word::Text(b"random"),
         Word::Number(transcript.random()),
         Word::Text(b"cost"),
-        Word::Number(transcript.cost(&costs_of(query))),
+        Word::Number(transcript.cost(&query.costs_in_force())),
     ];
     put_line(out, pieces, b"stop", &figures);
 }

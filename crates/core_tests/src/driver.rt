@@ -1,11 +1,12 @@
 //! One driver for the machines of all algorithms, over lists that a test gives, which need be no table.
 
-ghost use Rattle.std.specs.Prelude.{◌≡◌, [], IfOk};
+ghost use Rattle.std.specs.Prelude.{◌≡◌, [], IfOk, OnOk};
 ghost use Rattle.access_log.specs.Log.{IsWithinLimits};
 ghost use Rattle.access_log.specs.Machine.{MachineState, MayBeNextRow, MayBeNextGrade, IsOneMore, IsOfSeen, row_access, grade_access};
 ghost use Rattle.core_tests.specs.Wide.{IsWide};
 
 use access_log::{Access, Answer, CoreFault, Transcript};
+use ca_core::Ca;
 use monotone_fn::Costs;
 use nra_core::Nra;
 use query_text::{Algorithm, Query, read};
@@ -36,10 +37,10 @@ pub(crate) trait Driven: Sized {
         ensures { result ≡ None
             → IsOneMore (row_access (state self.old).need row) (state self.old).log (state self.new).log };
 
-    fn take_grade(&mut self, grade: u32) -> Result<Option<CoreFault>, Fail>
+    fn take_grade(&mut self, grade: u32) -> Result<(), Fail>
         requires { MayBeNextGrade (state self.old).log (state self.old).need grade }
-        ensures { IfOk result (λ fault. fault ≡ None
-            → IsOneMore (grade_access (state self.old).need grade) (state self.old).log (state self.new).log) };
+        ensures { OnOk result
+            (IsOneMore (grade_access (state self.old).need grade) (state self.old).log (state self.new).log) };
 
     fn finish(self) -> Result<Answer, Fail>
         requires { (state self).need ≡ Need.Done };
@@ -60,8 +61,9 @@ impl Driven for Ta {
         self.feed_row(row).err()
     }
 
-    fn take_grade(&mut self, grade: u32) -> Result<Option<CoreFault>, Fail> {
-        Ok(self.feed_grade(grade).err())
+    fn take_grade(&mut self, grade: u32) -> Result<(), Fail> {
+        self.feed_grade(grade);
+        Ok(())
     }
 
     fn finish(self) -> Result<Answer, Fail> {
@@ -84,8 +86,33 @@ impl Driven for Nra {
         self.feed_row(row).err()
     }
 
-    fn take_grade(&mut self, _grade: u32) -> Result<Option<CoreFault>, Fail> {
+    fn take_grade(&mut self, _grade: u32) -> Result<(), Fail> {
         Err("a row or the end")?
+    }
+
+    fn finish(self) -> Result<Answer, Fail> {
+        Ok(self.answer()?)
+    }
+}
+
+impl Driven for Ca {
+    ghost state = { λ t. t };
+
+    fn needed(&self) -> Need {
+        self.need()
+    }
+
+    fn lists(&self) -> u8 {
+        self.transcript().lists()
+    }
+
+    fn take_row(&mut self, row: Row) -> Option<CoreFault> {
+        self.feed_row(row).err()
+    }
+
+    fn take_grade(&mut self, grade: u32) -> Result<(), Fail> {
+        self.feed_grade(grade);
+        Ok(())
     }
 
     fn finish(self) -> Result<Answer, Fail> {
@@ -131,7 +158,8 @@ fn feed<M: Driven>(
                 object,
                 grade,
             })?;
-            machine.take_grade(grade)
+            machine.take_grade(grade)?;
+            Ok(None)
         }
         Need::Done => Ok(None),
     }
@@ -183,8 +211,23 @@ pub(crate) fn run(
     });
     assert!(rt; 1 <= k && k <= count, "k of them");
     assert!(rt; 1 <= room, "room for one");
+    assert!(rt; 1 <= costs.sorted, "a cost");
     match algorithm {
         Algorithm::Ta => drive(alloc, Ta::make(alloc, expr, k, count, room, costs)?, lists),
         Algorithm::Nra => drive(alloc, Nra::make(alloc, expr, k, count, room, costs)?, lists),
+        Algorithm::Ca => drive(alloc, Ca::make(alloc, expr, k, count, room, costs)?, lists),
+    }
+}
+
+/// The answer to a query's text over lists.
+pub(crate) fn answer_to(
+    rt: &impl Abort,
+    alloc: Global,
+    text: &str,
+    lists: Lists<'_>,
+) -> Result<Answer, Fail> {
+    match run(rt, alloc, text, lists)? {
+        Ok(answer) => Ok(answer),
+        Err(_) => Err("an answer")?,
     }
 }

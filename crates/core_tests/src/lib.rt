@@ -2,9 +2,13 @@
 #![tactic(auto)]
 
 #[cfg(test)]
+mod combined;
+#[cfg(test)]
 mod driver;
 #[cfg(test)]
 mod no_random;
+#[cfg(test)]
+mod refusals;
 #[cfg(test)]
 mod rooms;
 #[cfg(test)]

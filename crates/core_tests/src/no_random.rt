@@ -1,7 +1,7 @@
 //! Queries by the algorithm without random access, worked out by hand.
 
-use super::driver::{Lists, run};
-use access_log::{Access, CoreFault};
+use super::driver::{Lists, answer_to};
+use access_log::{Access, Answer, Transcript};
 use std::process::Abort;
 use std::test::Fail;
 
@@ -20,9 +20,6 @@ const AHEAD: Lists<'static> = &[
 const EQUAL: Lists<'static> = &[&[(1, 10), (2, 8), (3, 0)], &[(3, 10), (2, 8), (1, 0)]];
 
 const ALIKE: Lists<'static> = &[&[(3, 5), (1, 5), (2, 5)], &[(2, 5), (3, 5), (1, 5)]];
-
-/// Lists of two objects each, of three in all.
-const STRANGE: Lists<'static> = &[&[(1, 9), (2, 8)], &[(1, 7), (3, 6)]];
 
 /// Answers with their objects and bounds, and the depth of the two lists.
 #[test]
@@ -45,34 +42,52 @@ fn answers_by_hand(rt: HostRuntime) -> Result<(), Fail> {
         ),
     ];
     for (text, lists, expected, depth) in cases {
-        let outcome = run(&rt, rt.alloc(), text, lists)?;
-        let answer = outcome.ok().ok_or("an answer")?;
-        assert_eq!(rt; answer.items.len() as usize, expected.len(), "{text}");
-        for (place, (object, low, high)) in expected.iter().enumerate() {
-            assert!(rt; place < 10, "a few");
-            let item = answer.items.get(place as u32).ok_or("an item")?;
-            let told = (item.object, item.low, item.high);
-            assert_eq!(rt; told, (*object, *low, *high), "{text}");
-        }
-        let transcript = answer.transcript;
-        assert_eq!(rt; transcript.lists(), 2);
-        assert_eq!(rt;
-            (transcript.depth(0), transcript.depth(1)),
-            (depth, depth),
-            "{text}"
-        );
-        assert_eq!(rt; transcript.random(), 0, "{text}");
+        let answer = answer_to(&rt, rt.alloc(), text, lists)?;
+        has_bounds(&rt, &answer, expected, depth);
+        drop(answer);
     }
     Ok(())
+}
+
+/// Compares an answer with objects, their bounds, and the depth of its two lists.
+fn has_bounds(rt: &impl Abort, answer: &Answer, expected: &[(u32, u64, u64)], depth: u32) {
+    assert_eq!(rt; answer.items.len() as usize, expected.len());
+    for (place, row) in expected.iter().enumerate() {
+        assert!(rt; place < 10, "a few");
+        let told = answer
+            .items
+            .get(place as u32)
+            .map(|item| (item.object, item.low, item.high));
+        assert_eq!(rt; told, Some(*row));
+    }
+    let transcript = &answer.transcript;
+    assert_eq!(rt; transcript.lists(), 2);
+    assert_eq!(rt;
+        (
+            transcript.depth(0),
+            transcript.depth(1),
+            transcript.random()
+        ),
+        (depth, depth, 0)
+    );
 }
 
 /// The accesses of one query in their order.
 #[test]
 fn reads_in_order(rt: HostRuntime) -> Result<(), Fail> {
-    let outcome = run(&rt, rt.alloc(), "top 1 by sum(A,B) using nra", THREE)?;
-    let transcript = outcome.ok().ok_or("an answer")?.transcript;
-    let expected = [(0, 1, 900), (1, 2, 700), (0, 2, 800), (1, 3, 600)];
-    assert_eq!(rt; transcript.len(), 4);
+    let answer = answer_to(&rt, rt.alloc(), "top 1 by sum(A,B) using nra", THREE)?;
+    has_rows(
+        &rt,
+        &answer.transcript,
+        &[(0, 1, 900), (1, 2, 700), (0, 2, 800), (1, 3, 600)],
+    );
+    drop(answer);
+    Ok(())
+}
+
+/// Compares a transcript with rows by list, object and grade.
+fn has_rows(rt: &impl Abort, transcript: &Transcript, expected: &[(u8, u32, u32)]) {
+    assert_eq!(rt; transcript.len() as usize, expected.len());
     for (place, (list, object, grade)) in expected.iter().enumerate() {
         let access = Access::Sorted {
             list: *list,
@@ -81,28 +96,4 @@ fn reads_in_order(rt: HostRuntime) -> Result<(), Fail> {
         };
         assert_eq!(rt; transcript.get(place as u64), Some(access), "{place}");
     }
-    Ok(())
-}
-
-/// A row that is one object too many: for the lists, and for the room that was stated.
-#[test]
-fn refuses_by_name(rt: HostRuntime) -> Result<(), Fail> {
-    let strangers = CoreFault::Strangers {
-        object: 3,
-        count: 2,
-    };
-    let cases = [
-        (
-            "top 1 by sum(A,B) using nra room 1",
-            THREE,
-            CoreFault::RoomFull { room: 1 },
-        ),
-        ("top 2 by sum(A,B) using nra", STRANGE, strangers),
-        ("top 2 by sum(A,B) using nra room 7", STRANGE, strangers),
-    ];
-    for (text, lists, expected) in cases {
-        let outcome = run(&rt, rt.alloc(), text, lists)?;
-        assert_eq!(rt; outcome.err(), Some(expected), "{text}");
-    }
-    Ok(())
 }

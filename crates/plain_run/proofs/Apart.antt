@@ -15,7 +15,7 @@ use Rattle.topk_theory.proofs.Agreement.{seen_distinct, objects_of_distinct}
 use Rattle.monotone_fn.specs.Tree.{Tree}
 use Rattle.plain_run.specs.Posed.{IsPosed}
 
-made_apart : (f : ℕ → Item) (os : List ℕ) → ((o : ℕ) → (f o).object ≡ o) → AllPairs (λ (a : ℕ) (b : ℕ). a ≢ b) os → AreDistinct (map f os)
+pub made_apart : (f : ℕ → Item) (os : List ℕ) → ((o : ℕ) → (f o).object ≡ o) → AllPairs (λ (a : ℕ) (b : ℕ). a ≢ b) os → AreDistinct (map f os)
 made_apart f os keeps apart = λ i j d lt within same.
     let size : length (map f os) ≡ length os = length-map os f in
     let at_i : get_or (map f os) i d ≡ f (get_or os i 0) = get_or-map f os i 0 d (omega arith) in

@@ -12,7 +12,7 @@ use Rattle.plain_run.specs.Posed.{IsPosed, AreCapped}
 use Rattle.plain_run.proofs.Making.{posed_capped, read_capped}
 
 -- no grade that is read is above the greatest
-block_capped : (list depth : ℕ) (D : List (List Row)) → All (λ rows. All (λ (row : Row). row.grade ≤ top_grade) rows) D → AreCapped (sorted_block list depth D)
+pub block_capped : (list depth : ℕ) (D : List (List Row)) → All (λ rows. All (λ (row : Row). row.grade ≤ top_grade) rows) D → AreCapped (sorted_block list depth D)
 block_capped list depth [] h = All-nil (λ (access : Access). grade_of access ≤ top_grade)
 block_capped list depth (rows ∷ D) h =
     All-cons (λ (access : Access). grade_of access ≤ top_grade) _ (sorted_block (list + 1) depth D) (read_capped rows (depth - 1) (h 0 rows (omega arith)))

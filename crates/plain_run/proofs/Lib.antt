@@ -1,9 +1,10 @@
+pub mod Asking
 pub mod Apart
 pub mod Bounding
+pub mod Capped
 pub mod Descending
 pub mod Least
 pub mod Making
 pub mod Reading
 pub mod Scanning
 pub mod Seeing
-pub mod TestTrees

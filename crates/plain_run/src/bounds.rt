@@ -23,7 +23,7 @@ fn is_of(access: &Access, list: u8, object: u32) -> bool
 }
 
 /// The grade of an object in a list, where an access gave it.
-fn known_grade(accesses: &[Access], list: u8, object: u32) -> Option<u32>
+pub(crate) fn known_grade(accesses: &[Access], list: u8, object: u32) -> Option<u32>
     ensures { result ≡ known_grade accesses.now object list }
 {
     for access in accesses {

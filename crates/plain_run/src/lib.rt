@@ -3,16 +3,17 @@
 
 mod blocks;
 mod bounds;
+mod combined;
 mod each_once;
 mod no_random;
 mod order;
+mod phases;
 mod table;
-#[cfg(test)]
-mod tests;
 mod threshold;
 
 pub use blocks::ta_run;
 pub use bounds::{high, low};
+pub use combined::{ca_answer, ca_depth, ca_run};
 pub use no_random::{nra_answer, nra_depth, nra_run};
 use std::alloc::{AllocError, AllocFailed};
 pub use table::aggregate;

@@ -32,7 +32,12 @@ fn seen_items(alloc: Global, accesses: &[Access], expr: &Expr) -> Result<Vec<Ite
 }
 
 /// The first k seen objects by low falling, then high falling, then number rising.
-fn first_seen(alloc: Global, accesses: &[Access], expr: &Expr, k: u32) -> Result<Vec<Item>, Memory>
+pub(crate) fn first_seen(
+    alloc: Global,
+    accesses: &[Access],
+    expr: &Expr,
+    k: u32,
+) -> Result<Vec<Item>, Memory>
     requires { AreCapped accesses.now }
     ensures { IfOk result (λ items. items.items ≡ first_seen (value expr.now) k (list_count expr.now) accesses.now) }
 {
@@ -41,7 +46,12 @@ fn first_seen(alloc: Global, accesses: &[Access], expr: &Expr, k: u32) -> Result
 }
 
 /// The k-th largest low of the seen objects, None where they are fewer.
-fn kth_low(alloc: Global, accesses: &[Access], expr: &Expr, k: u32) -> Result<Option<u64>, Memory>
+pub(crate) fn kth_low(
+    alloc: Global,
+    accesses: &[Access],
+    expr: &Expr,
+    k: u32,
+) -> Result<Option<u64>, Memory>
     requires { AreCapped accesses.now }
     ensures { IfOk result (λ bound. bound ≡ kth_low k (seen_items (value expr.now) (list_count expr.now) accesses.now)) }
 {
@@ -50,7 +60,7 @@ fn kth_low(alloc: Global, accesses: &[Access], expr: &Expr, k: u32) -> Result<Op
 }
 
 /// Whether a number is above the bound, or there is no bound.
-fn exceeds(bound: Option<u64>, number: u64) -> bool
+pub(crate) fn exceeds(bound: Option<u64>, number: u64) -> bool
     ensures { result ≡ exceeds bound number }
 {
     match bound {
@@ -83,7 +93,7 @@ fn none_viable(
 }
 
 /// Whether at least k objects were seen, and no object of the table outside the first k is viable.
-fn is_quiet(
+pub(crate) fn is_quiet(
     alloc: Global,
     lists: &[MemList],
     accesses: &[Access],

@@ -101,7 +101,7 @@ fn scored(lists: &[MemList], expr: &Expr, object: u32) -> Item
 }
 
 /// Objects whose bounds are both their aggregates.
-fn items_of(
+pub(crate) fn items_of(
     alloc: Global,
     lists: &[MemList],
     expr: &Expr,

@@ -1,5 +1,5 @@
 -- From the end of a machine's run to a right answer of its query.
-use Rattle.std.proofs.Common.{◌≡◌, ℕ, ◌<◌, ◌≤◌, ◌^◌, min, List, [], length, All, Option, Some, None, Result, Ok, Err, OnOk, unwrap_or, IfSome, sym, ap, ◌∙◌, subst, arith}
+use Rattle.std.proofs.Common.{◌≡◌, ℕ, ◌<◌, ◌≤◌, ◌^◌, min, List, [], length, All, Option, Some, None, Result, Ok, Err, unwrap_or, IfSome, sym, ap, ◌∙◌, subst, arith}
 use Rattle.ranked_list.specs.declared.row.Row.{Row}
 use Rattle.ranked_list.specs.declared.need.Need.TheVariants.{Done}
 use Rattle.ranked_list.specs.Table.{IsTable}
@@ -17,22 +17,23 @@ use Rattle.topk_theory.specs.Transcript.{Told, whole, Agrees, seen_objects}
 use Rattle.topk_theory.proofs.Agreement.{agrees_none}
 use Rattle.access_log.specs.Log.{Log, AgreesWith}
 use Rattle.access_log.specs.declared.answer.Answer.{Answer}
-use Rattle.access_log.specs.declared.core_fault.CoreFault.{CoreFault}
-use Rattle.access_log.specs.declared.core_fault.CoreFault.TheVariants.{Strangers, RoomFull, Memory}
+use Rattle.query_core.specs.declared.drive.DriveFault.{DriveFault}
+use Rattle.query_core.specs.declared.drive.DriveFault.TheVariants.{RoomFull, Memory}
 use Rattle.access_log.specs.Machine.{MachineState, asked_of, IsBegun, IsSameLog, MakesRun, IsAnswerBy}
 use Rattle.access_log.proofs.MachineLaws.{whole_run}
 use Rattle.monotone_fn.specs.Value.{IsMonotone}
 use Rattle.optimal_law.specs.Optimal.{IsAlwaysRun}
 use Rattle.optimal_law.proofs.Runs.{ta_near_best, nra_near_shallowest}
 use Rattle.query_text.specs.declared.algorithm.Algorithm.{Algorithm}
-use Rattle.query_text.specs.declared.algorithm.Algorithm.TheVariants.{Ta, Nra}
+use Rattle.query_text.specs.declared.algorithm.Algorithm.TheVariants.{Ta, Nra, Ca}
 use Rattle.query_text.specs.declared.query.Query.{Query}
 use Rattle.query_text.specs.Query.{IsCount, IsLawful}
 use Rattle.query_core.specs.declared.machine.Machine.{Machine}
 use Rattle.query_core.specs.declared.ready.Ready.{Ready}
 use Rattle.query_core.specs.Ready.{IsReady}
 use Rattle.query_core.specs.Algorithms.{run_by, items_by, IsNearBy}
-use Rattle.query_core.specs.OneAnswer.{asked_by, one_run, one_items, costs_in_force, HasTrueBounds, IsOneAnswer, IsAnswered}
+use Rattle.query_text.specs.Costs.{costs_in_force}
+use Rattle.query_core.specs.OneAnswer.{asked_by, one_run, one_items, HasTrueBounds, IsOneAnswer, IsAnswered}
 use Rattle.query_core.specs.Machines.{algorithm_of, state_of, IsMachineFor}
 use Rattle.query_core.specs.Driving.{run_sees, Continues, IsFedFrom, TookOne, IsEnd, CanDrive, Steps, StopsDriving, Finishes, Drives, RunsOver}
 use Rattle.query_core.proofs.ListCount.{lists_counted}
@@ -97,6 +98,7 @@ fixed_same q last log Y expr k same fixes =
 near_of : (a : Algorithm) (asked : Asked) (m n : ℕ) (A : List Access) → IsMonotone asked.value → IsAlwaysRun (run_by a asked) asked.k m n A → IsNearBy a asked m n A
 near_of Ta asked m n A monotone always = ta_near_best asked.value asked.k m n asked.costs.sorted asked.costs.random A monotone always
 near_of Nra asked m n A monotone always = nra_near_shallowest asked.value asked.k m n A monotone always
+near_of Ca asked m n A monotone always = tt
 
 -- the end of the run of a machine that began for a query is a right answer of it; no table is told
 pub end_answered : (a : Algorithm) (q : Query) (n room : ℕ) (T : Told) (first : MachineState) (answer : Answer) → a ≡ q.algorithm → 0 < list_count q.expr → IsBegun q.expr q.k n room (costs_in_force q) first → IsEnd a T first answer → IsAnswered q n answer
@@ -149,7 +151,7 @@ room_stated None n full e l = absurd (omega arith)
 room_stated (Some other) n full e l = let same : other ≡ full = omega arith in ap Some same
 
 -- what comes of driving the machine of a query over its lists is what comes of the query
-pub drives_ready : (ready : Ready) (D : List (List Row)) (machine : Machine) (result : Result Answer CoreFault) → IsReady ready → IsTable ready.count D → length D ≡ list_count ready.query.expr → 0 < list_count ready.query.expr → IsMachineFor ready machine
+pub drives_ready : (ready : Ready) (D : List (List Row)) (machine : Machine) (result : Result Answer DriveFault) → IsReady ready → IsTable ready.count D → length D ≡ list_count ready.query.expr → 0 < list_count ready.query.expr → IsMachineFor ready machine
     → Drives (algorithm_of machine) D (state_of machine) result → RunsOver ready D result
 drives_ready ready D machine (Ok answer) is table many some for end =
     let q = ready.query in
@@ -184,11 +186,10 @@ drives_ready ready D machine (Err (RoomFull room)) is table many some for stoppe
       short = short;
       passed = omega (arith, stopped.2, sees);
     }
-drives_ready ready D machine (Err (Strangers object count)) is table many some for stopped = stopped
 drives_ready ready D machine (Err Memory) is table many some for stopped = tt
 
 -- the answer of a machine that came to its end is the end of its run
-pub finishes_end : (D : List (List Row)) (first last : Machine) (result : Result Answer CoreFault) → algorithm_of last ≡ algorithm_of first → Continues (state_of first) (state_of last) → IsFedFrom (whole D) (state_of last) → (state_of last).need ≡ Done
+pub finishes_end : (D : List (List Row)) (first last : Machine) (result : Result Answer DriveFault) → algorithm_of last ≡ algorithm_of first → Continues (state_of first) (state_of last) → IsFedFrom (whole D) (state_of last) → (state_of last).need ≡ Done
     → Finishes last result → Drives (algorithm_of first) D (state_of first) result
 finishes_end D first last (Ok answer) same goes fed done finishes = record {
   last = state_of last;
@@ -202,7 +203,7 @@ finishes_end D first last (Ok answer) same goes fed done finishes = record {
 finishes_end D first last (Err fault) same goes fed done finishes = subst (StopsDriving (algorithm_of first) D (state_of first)) (sym finishes) tt
 
 -- what stops a machine later stops the first one
-pub stops_first : (D : List (List Row)) (first last : Machine) (fault : CoreFault) → algorithm_of last ≡ algorithm_of first → Continues (state_of first) (state_of last) → StopsDriving (algorithm_of last) D (state_of last) fault → StopsDriving (algorithm_of first) D (state_of first) fault
+pub stops_first : (D : List (List Row)) (first last : Machine) (fault : DriveFault) → algorithm_of last ≡ algorithm_of first → Continues (state_of first) (state_of last) → StopsDriving (algorithm_of last) D (state_of last) fault → StopsDriving (algorithm_of first) D (state_of first) fault
 stops_first D first last (RoomFull room) same goes stopped =
     let s = state_of first in
     let t = state_of last in
@@ -210,14 +211,11 @@ stops_first D first last (RoomFull room) same goes stopped =
     let sees : length (run_sees (algorithm_of last) D t) ≡ length (run_sees (algorithm_of first) D s) =
     ap (λ x. length (seen_objects (run_by (algorithm_of last) x D))) asked ∙ ap (λ b. length (seen_objects (run_by b (asked_of s) D))) same in
     (stopped.0 ∙ goes.room, omega (arith, stopped.1, goes.count), omega (arith, stopped.2, sees))
-stops_first D first last (Strangers object count) same goes stopped = stopped
 stops_first D first last Memory same goes stopped = tt
 
 -- a machine that took one more access makes its machine step
-pub steps : {A : Type 0} → (D : List (List Row)) (before after : Machine) (result : Result A CoreFault) → algorithm_of after ≡ algorithm_of before → length (state_of before).log.accesses < length (run_by (algorithm_of before) (asked_of (state_of before)) D)
-    → OnOk result (TookOne (whole D) (state_of before) (state_of after)) → OnOk result (Steps D before after)
-steps D before after (Ok done) same within took = record { algorithm = same; took = took; within = within }
-steps D before after (Err fault) same within took = tt
+pub steps : (D : List (List Row)) (before after : Machine) → algorithm_of after ≡ algorithm_of before → length (state_of before).log.accesses < length (run_by (algorithm_of before) (asked_of (state_of before)) D) → TookOne (whole D) (state_of before) (state_of after) → Steps D before after
+steps D before after same within took = record { algorithm = same; took = took; within = within }
 
 -- a query's room, where it states one, lets it see an object
 pub room_some : (room : Option ℕ) (n : ℕ) → IfSome room IsCount → 1 ≤ n → 1 ≤ unwrap_or room n

@@ -1,5 +1,5 @@
 -- A machine that is fed from what is told of lists, and from lists that are told whole.
-use Rattle.std.proofs.Common.{◌≡◌, ◌≢◌, ℕ, ◌-◌, ◌<◌, ◌≤◌, ◌⊎◌, inl, inr, List, [], ◌∷◌, ◌++◌, length, drop, Contains, Option, Some, None, Result, Ok, Err, slice_get, slice_index_or, OnOk, IfErr, refl, sym, ap, subst, ◌∙◌, arith, length-append}
+use Rattle.std.proofs.Common.{◌≡◌, ◌≢◌, ℕ, ◌-◌, ◌<◌, ◌≤◌, ◌⊎◌, inl, inr, List, [], ◌∷◌, ◌++◌, length, drop, Contains, Option, Some, None, Result, Err, slice_get, slice_index_or, refl, sym, ap, subst, ◌∙◌, arith, length-append}
 use Rattle.std.proofs.lemmas.Bool.{cases_Bool, cases_lt}
 use Rattle.std.proofs.lemmas.List.{get_or_read}
 use Rattle.ranked_list.specs.declared.row.Row.{Row}
@@ -22,10 +22,11 @@ use Rattle.topk_theory.proofs.Consistent.{kind_excludes}
 use Rattle.topk_theory.proofs.ThresholdRun.{seen_more}
 use Rattle.access_log.specs.Log.{AgreesWith, with_access}
 use Rattle.access_log.specs.Machine.{MachineState, asked_of, IsNextRow, IsInRange, IsNoGrade, MakesRun, MayBeNextRow, MayBeNextGrade, Takes, HasRoomFor, RowFed, GradeFed, row_access, grade_access}
-use Rattle.access_log.specs.declared.core_fault.CoreFault.{CoreFault}
-use Rattle.access_log.specs.declared.core_fault.CoreFault.TheVariants.{Strangers, RoomFull, Memory}
 use Rattle.access_log.proofs.MachineLaws.{in_range}
 use Rattle.query_text.specs.declared.algorithm.Algorithm.{Algorithm}
+use Rattle.access_log.specs.declared.core_fault.CoreFault.{CoreFault}
+use Rattle.access_log.specs.declared.core_fault.CoreFault.TheVariants.{Strangers, RoomFull}
+use Rattle.query_core.specs.declared.drive.DriveFault.TheVariants.{RoomFull as NoRoom}
 use Rattle.query_core.specs.Algorithms.{run_by}
 use Rattle.query_core.specs.Driving.{run_sees, Continues, IsFedFrom, TookOne, CanDrive, StopsDriving}
 use Rattle.query_core.proofs.Runs.{runs_agree}
@@ -210,19 +211,32 @@ no_room_sees a D t list depth row asked agrees run need found full =
           (distinct_fits (seen_objects (made ++ access ∷ [])) (seen_objects ((made ++ access ∷ []) ++ goes_on.0)) (seen_distinct (made ++ access ∷ [])) (λ o h. seen_more (made ++ access ∷ []) goes_on.0 o h)),
     )
 
--- a row that is refused stops the machine for its room, or for want of memory
-row_refused : (A : Type 0) (a : Algorithm) (D : List (List Row)) (before after : MachineState) (list depth : ℕ) (row : Row) (fault : CoreFault) → CanDrive D before → MakesRun (run_by a) before
-    → before.need ≡ RowAt list depth → slice_get (list_at D list) (depth - 1) ≡ Some row → RowFed row before after {A = A} (Err fault) → StopsDriving a D before fault
-row_refused A a D before after list depth row (Strangers object count) can run need found fed =
-    let sees = no_room_sees a D before list depth row can.asked can.agrees run need found fed.0 in
+-- what a row's refusal says
+pub stranger_fed : {A : Type 0} → (row : Row) (before after : MachineState) (result : Result A CoreFault) (fault : CoreFault) (object count : ℕ) → RowFed row before after result → result ≡ Err fault → fault ≡ Strangers object count → (¬ HasRoomFor before row.object) × (before.room ≡ before.log.count)
+stranger_fed row before after result fault object count fed is of =
+    let refused = subst (RowFed row before after) (is ∙ ap Err of) fed in
+    (refused.0, refused.1)
+
+pub room_fed : {A : Type 0} → (row : Row) (before after : MachineState) (result : Result A CoreFault) (fault : CoreFault) (room : ℕ) → RowFed row before after result → result ≡ Err fault → fault ≡ RoomFull room → (¬ HasRoomFor before row.object) × (before.room < before.log.count) × (room ≡ before.room)
+room_fed row before after result fault room fed is of =
+    let refused = subst (RowFed row before after) (is ∙ ap Err of) fed in
+    (refused.0, refused.1, refused.2)
+
+-- no row of the table is a stranger's, and one that is refused stops the machine for its room
+pub no_stranger : (a : Algorithm) (D : List (List Row)) (before : MachineState) (list depth : ℕ) (row : Row) → CanDrive D before → MakesRun (run_by a) before
+    → before.need ≡ RowAt list depth → slice_get (list_at D list) (depth - 1) ≡ Some row → (¬ HasRoomFor before row.object) → before.room ≡ before.log.count → ⊥
+no_stranger a D before list depth row can run need found full whole =
+    let sees = no_room_sees a D before list depth row can.asked can.agrees run need found full in
     let some : 0 < before.log.lists = subst (λ m. 0 < m) can.agrees.lists can.asked.lists in
     let all_seen : length (seen_objects (before.log.accesses ++ Sorted list row.object row.grade ∷ [])) ≤ before.log.count =
     seen_count before.log.lists before.log.count D _ some (row_needed a D before list depth row can.agrees run need found).longer in
-    omega (arith, sees.0, fed.1)
-row_refused A a D before after list depth row (RoomFull room) can run need found fed =
-    let sees = no_room_sees a D before list depth row can.asked can.agrees run need found fed.0 in
-    (fed.2, omega (arith, fed.1, fed.2), omega (arith, sees.0, sees.1, fed.2))
-row_refused A a D before after list depth row Memory can run need found fed = tt
+    absurd (omega (arith, sees.0, all_seen, whole))
+
+pub room_stops : (a : Algorithm) (D : List (List Row)) (before : MachineState) (list depth : ℕ) (row : Row) (room : ℕ) → CanDrive D before → MakesRun (run_by a) before
+    → before.need ≡ RowAt list depth → slice_get (list_at D list) (depth - 1) ≡ Some row → (¬ HasRoomFor before row.object) → before.room < before.log.count → room ≡ before.room → StopsDriving a D before (NoRoom room)
+room_stops a D before list depth row room can run need found full less is =
+    let sees = no_room_sees a D before list depth row can.asked can.agrees run need found full in
+    (is, omega (arith, less, is), omega (arith, sees.0, sees.1, is))
 
 -- a grade that the table has there may be fed
 pub may_feed_grade : (D : List (List Row)) (t : MachineState) (list object grade : ℕ) → AgreesWith D t.log → t.need ≡ Grade list object → grade_among (list_at D list) object ≡ Some grade → MayBeNextGrade t.log t.need grade
@@ -236,29 +250,22 @@ grade_there a D t list object agrees run need none =
     let served = grade_served a D t list object agrees run need in
     grade_among_none (list_at D list) object none (objects_in_each t.log.count D list object agrees.table served.0 served.1)
 
--- the row, and the grade, that are read at the place of a list
-pub row_read : (D : List (List Row)) (list place depth : ℕ) (rows : List Row) (row : Row) → place ≡ list → place < length D → rows ≡ slice_index_or D place rows → Some row ≡ slice_get rows (depth - 1) → slice_get (list_at D list) (depth - 1) ≡ Some row
-row_read D list place depth rows row same l is found =
-    let read : rows ≡ list_at D list = get_or_read D place rows l is [] ∙ ap (list_at D) same in
+-- the row that is needed, and what is found of the grade that is needed, as they are read at the place of a list
+pub row_told : (a : Algorithm) (D : List (List Row)) (t : MachineState) (list depth place : ℕ) (rows : List Row) (row : Row) → CanDrive D t → MakesRun (run_by a) t → t.need ≡ RowAt list depth → place ≡ list → rows ≡ slice_index_or D place rows → Some row ≡ slice_get rows (depth - 1) → slice_get (list_at D list) (depth - 1) ≡ Some row
+row_told a D t list depth place rows row can run need same is found =
+    let served = row_served a D t list depth can.agrees run need in
+    let read : rows ≡ list_at D list = get_or_read D place rows (omega (arith, served.0, same)) is [] ∙ ap (list_at D) same in
     ap (λ r. slice_get r (depth - 1)) (sym read) ∙ sym found
 
-pub grade_read : (D : List (List Row)) (list place object : ℕ) (rows : List Row) (found : Option ℕ) → place ≡ list → place < length D → rows ≡ slice_index_or D place rows → found ≡ grade_among rows object → found ≡ grade_among (list_at D list) object
-grade_read D list place object rows found same l is grade =
-    let read : rows ≡ list_at D list = get_or_read D place rows l is [] ∙ ap (list_at D) same in
-    grade ∙ ap (λ r. grade_among r object) read
+pub grade_told : (a : Algorithm) (D : List (List Row)) (t : MachineState) (list object place : ℕ) (rows : List Row) (found : Option ℕ) → CanDrive D t → MakesRun (run_by a) t → t.need ≡ Grade list object → place ≡ list → rows ≡ slice_index_or D place rows → found ≡ grade_among rows object → grade_among (list_at D list) object ≡ found
+grade_told a D t list object place rows found can run need same is grade =
+    let served = grade_served a D t list object can.agrees run need in
+    let read : rows ≡ list_at D list = get_or_read D place rows (omega (arith, served.0, same)) is [] ∙ ap (list_at D) same in
+    ap (λ r. grade_among r object) (sym read) ∙ sym grade
 
 -- what becomes of the row of the table, and of its grade
-pub row_fed_ok : {A : Type 0} → (a : Algorithm) (D : List (List Row)) (before after : MachineState) (list depth : ℕ) (row : Row) (result : Result A CoreFault) → CanDrive D before → MakesRun (run_by a) before
-    → before.need ≡ RowAt list depth → slice_get (list_at D list) (depth - 1) ≡ Some row → RowFed row before after result → OnOk result (TookOne (whole D) before after)
-row_fed_ok a D before after list depth row (Ok done) can run need found fed = row_took a (whole D) before after list depth row (fed_whole D before can) run need found fed.0 fed.1
-row_fed_ok a D before after list depth row (Err fault) can run need found fed = tt
+pub row_fed : (a : Algorithm) (D : List (List Row)) (before after : MachineState) (list depth : ℕ) (row : Row) → CanDrive D before → MakesRun (run_by a) before → before.need ≡ RowAt list depth → slice_get (list_at D list) (depth - 1) ≡ Some row → HasRoomFor before row.object → Takes (row_access before.need row) before after → TookOne (whole D) before after
+row_fed a D before after list depth row can run need found fits takes = row_took a (whole D) before after list depth row (fed_whole D before can) run need found fits takes
 
-pub row_fed_err : {A : Type 0} → (a : Algorithm) (D : List (List Row)) (before after : MachineState) (list depth : ℕ) (row : Row) (result : Result A CoreFault) → CanDrive D before → MakesRun (run_by a) before
-    → before.need ≡ RowAt list depth → slice_get (list_at D list) (depth - 1) ≡ Some row → RowFed row before after result → IfErr result (StopsDriving a D before)
-row_fed_err a D before after list depth row (Ok done) can run need found fed = tt
-row_fed_err {A} a D before after list depth row (Err fault) can run need found fed = row_refused A a D before after list depth row fault can run need found fed
-
-pub grade_fed_ok : {A : Type 0} → (a : Algorithm) (D : List (List Row)) (before after : MachineState) (list object grade : ℕ) (result : Result A CoreFault) → CanDrive D before → MakesRun (run_by a) before
-    → before.need ≡ Grade list object → grade_among (list_at D list) object ≡ Some grade → GradeFed grade before after result → OnOk result (TookOne (whole D) before after)
-grade_fed_ok a D before after list object grade (Ok done) can run need found fed = grade_took a (whole D) before after list object grade (fed_whole D before can) run need (grade_among_row (list_at D list) object grade found) fed
-grade_fed_ok a D before after list object grade (Err fault) can run need found fed = tt
+pub grade_fed : (a : Algorithm) (D : List (List Row)) (before after : MachineState) (list object grade : ℕ) → CanDrive D before → MakesRun (run_by a) before → before.need ≡ Grade list object → grade_among (list_at D list) object ≡ Some grade → GradeFed grade before after → TookOne (whole D) before after
+grade_fed a D before after list object grade can run need found fed = grade_took a (whole D) before after list object grade (fed_whole D before can) run need (grade_among_row (list_at D list) object grade found) fed

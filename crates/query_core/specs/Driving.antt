@@ -7,9 +7,9 @@ use Rattle.topk_theory.specs.Threshold.{IsAsked}
 use Rattle.access_log.specs.Log.{AgreesWith}
 use Rattle.access_log.specs.declared.answer.Answer.{Answer}
 use Rattle.access_log.specs.Machine.{MachineState, asked_of, IsSameLog, MakesRun, IsAnswerBy}
-use Rattle.access_log.specs.declared.core_fault.CoreFault.{CoreFault}
-use Rattle.access_log.specs.declared.core_fault.CoreFault.TheVariants.{Strangers, RoomFull, Memory}
 use Rattle.query_text.specs.declared.algorithm.Algorithm.{Algorithm}
+use Rattle.query_core.specs.declared.drive.DriveFault.{DriveFault}
+use Rattle.query_core.specs.declared.drive.DriveFault.TheVariants.{RoomFull, Memory}
 use Rattle.query_core.specs.declared.machine.Machine.{Machine}
 use Rattle.query_core.specs.declared.ready.Ready.{Ready}
 use Rattle.query_core.specs.Algorithms.{run_by, items_by}
@@ -70,18 +70,17 @@ pub record IsDriven (D : List (List Row)) (first last : Machine) : Type 0 where
   pub done : (state_of last).need ≡ Done
 
 -- what a machine that needs nothing more answers
-abbrev pub Finishes : Machine → Result Answer CoreFault → Type 0
+abbrev pub Finishes : Machine → Result Answer DriveFault → Type 0
 Finishes machine (Ok answer) = MakesItsRun machine × IsAnswerBy (items_by (algorithm_of machine)) (state_of machine) answer.items × IsSameLog answer.transcript (state_of machine).log
 Finishes machine (Err fault) = fault ≡ Memory
 
 -- why a machine has no answer over a table: its room is less than the count and less than the number of objects that its run sees, or memory was refused
-abbrev pub StopsDriving : Algorithm → List (List Row) → MachineState → CoreFault → Type 0
+abbrev pub StopsDriving : Algorithm → List (List Row) → MachineState → DriveFault → Type 0
 StopsDriving algorithm D t (RoomFull room) = (room ≡ t.room) × (room < t.log.count) × (room < length (run_sees algorithm D t))
-StopsDriving algorithm D t (Strangers object count) = ⊥
 StopsDriving algorithm D t Memory = Unit {0}
 
 -- what comes of driving a machine by an algorithm over a table
-abbrev pub Drives : Algorithm → List (List Row) → MachineState → Result Answer CoreFault → Type 0
+abbrev pub Drives : Algorithm → List (List Row) → MachineState → Result Answer DriveFault → Type 0
 Drives algorithm D t (Ok answer) = IsEnd algorithm (whole D) t answer
 Drives algorithm D t (Err fault) = StopsDriving algorithm D t fault
 
@@ -92,8 +91,7 @@ pub record AnswersOver (ready : Ready) (D : List (List Row)) (answer : Answer) :
   pub roomy : (room : ℕ) → ¬ IsOverRoom ready.query ready.count D room
 
 -- what comes of running a query over its lists D: it is answered, or refused for its room, or memory was refused
-abbrev pub RunsOver : Ready → List (List Row) → Result Answer CoreFault → Type 0
+abbrev pub RunsOver : Ready → List (List Row) → Result Answer DriveFault → Type 0
 RunsOver ready D (Ok answer) = AnswersOver ready D answer
 RunsOver ready D (Err (RoomFull room)) = IsOverRoom ready.query ready.count D room
-RunsOver ready D (Err (Strangers object count)) = ⊥
 RunsOver ready D (Err Memory) = Unit {0}

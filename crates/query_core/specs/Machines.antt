@@ -1,22 +1,24 @@
--- A machine of either algorithm.
+-- A machine of any of the algorithms.
 use Rattle.std.specs.Prelude.{◌≡◌, unwrap_or}
 use Rattle.query_text.specs.declared.algorithm.Algorithm.{Algorithm}
-use Rattle.query_text.specs.declared.algorithm.Algorithm.TheVariants.{Ta, Nra}
+use Rattle.query_text.specs.declared.algorithm.Algorithm.TheVariants.{Ta, Nra, Ca}
 use Rattle.access_log.specs.Machine.{MachineState, MakesRun, IsBegun}
 use Rattle.query_core.specs.declared.machine.Machine.{Machine}
-use Rattle.query_core.specs.declared.machine.Machine.TheVariants.{Ta as TaMachine, Nra as NraMachine}
+use Rattle.query_core.specs.declared.machine.Machine.TheVariants.{Ta as TaMachine, Nra as NraMachine, Ca as CaMachine}
 use Rattle.query_core.specs.declared.ready.Ready.{Ready}
 use Rattle.query_core.specs.Algorithms.{run_by}
-use Rattle.query_core.specs.OneAnswer.{costs_in_force}
+use Rattle.query_text.specs.Costs.{costs_in_force}
 
 -- the algorithm of a machine, and what contracts see of its state
 abbrev pub algorithm_of : Machine → Algorithm
 algorithm_of (TaMachine t) = Ta
 algorithm_of (NraMachine t) = Nra
+algorithm_of (CaMachine t) = Ca
 
 abbrev pub state_of : Machine → MachineState
 state_of (TaMachine t) = t
 state_of (NraMachine t) = t
+state_of (CaMachine t) = t
 
 -- the machine makes the run of its algorithm
 abbrev pub MakesItsRun : Machine → Type 0

@@ -1,8 +1,7 @@
 -- The one run and the one answer of a query over its lists, and when an answer is right.
-use Rattle.std.specs.Prelude.{◌≡◌, ◌<◌, ◌≤◌, ℕ, List, All, length, Some, unwrap_or}
+use Rattle.std.specs.Prelude.{◌≡◌, ◌<◌, ◌≤◌, ℕ, List, All, length, Some}
 use Rattle.ranked_list.specs.declared.row.Row.{Row}
 use Rattle.ranked_list.specs.declared.item.Item.{Item}
-use Rattle.monotone_fn.specs.declared.costs.Costs.{Costs}
 use Rattle.monotone_fn.specs.Shape.{list_count}
 use Rattle.monotone_fn.specs.Value.{value}
 use Rattle.topk_theory.specs.declared.access.Access.{Access}
@@ -14,11 +13,8 @@ use Rattle.topk_theory.specs.Threshold.{item_objects}
 use Rattle.access_log.specs.declared.answer.Answer.{Answer}
 use Rattle.access_log.specs.Log.{AgreesWith, IsConsistent}
 use Rattle.query_text.specs.declared.query.Query.{Query}
+use Rattle.query_text.specs.Costs.{costs_in_force}
 use Rattle.query_core.specs.Algorithms.{run_by, items_by, IsNearBy}
-
--- what accesses cost a query; 1 and 1 where it doesn't say
-abbrev pub costs_in_force : Query → Costs
-costs_in_force q = unwrap_or q.cost (record { sorted = 1; random = 1 })
 
 -- what a query asks of its algorithm
 abbrev pub asked_by : Query → Asked

@@ -12,5 +12,6 @@ pub fn asks_grades(algorithm: Algorithm) -> bool
     match algorithm {
         Algorithm::Ta => true,
         Algorithm::Nra => false,
+        Algorithm::Ca => true,
     }
 }

@@ -14,13 +14,23 @@ use access_log::{Answer, CoreFault};
 use ranked_list::Need;
 use std::alloc::Global;
 
+/// Why a query has no answer over lists that are told.
+#[derive(Clone, Copy, Debug, PartialEq, Eq)]
+pub enum DriveFault {
+    /// The room that it states is less than the objects of its lists, and less than those that it has to
+    /// see.
+    RoomFull { room: u32 },
+    /// No memory was left: for the machine, for its answer, or for a list's grades by object.
+    Memory,
+}
+
 /// Runs a query over its lists, which are a table of `ready.count` objects and are told in the order of
-/// the query, and has its answer. It is refused for its room alone, and `Strangers` isn't answered.
+/// the query, and has its answer. It is refused for its room alone.
 pub fn answer_over(
     alloc: Global,
     ready: &Ready,
     lists: &mut [ToldList],
-) -> Result<Answer, CoreFault>
+) -> Result<Answer, DriveFault>
     requires ready { IsReady ready.now }
     requires table { IsTable ready.now.count lists.old }
     requires lists { length lists.old ≡ list_count ready.now.query.expr }
@@ -28,12 +38,12 @@ pub fn answer_over(
 {
     match Machine::make(alloc, ready) {
         Ok(machine) => drive(alloc, machine, lists),
-        Err(_) => Err(CoreFault::Memory),
+        Err(_) => Err(DriveFault::Memory),
     }
 }
 
 /// Feeds a machine from the lists until it needs nothing more, and has its answer.
-fn drive(alloc: Global, machine: Machine, lists: &mut [ToldList]) -> Result<Answer, CoreFault>
+fn drive(alloc: Global, machine: Machine, lists: &mut [ToldList]) -> Result<Answer, DriveFault>
     requires { CanDrive lists.old (state_of machine) }
     ensures { Drives (algorithm_of machine) lists.old (state_of machine) result }
 {
@@ -48,7 +58,7 @@ fn drive(alloc: Global, machine: Machine, lists: &mut [ToldList]) -> Result<Answ
 }
 
 /// Feeds a machine from the lists until it needs nothing more.
-fn feed_all(alloc: Global, machine: &mut Machine, lists: &mut [ToldList]) -> Result<(), CoreFault>
+fn feed_all(alloc: Global, machine: &mut Machine, lists: &mut [ToldList]) -> Result<(), DriveFault>
     requires { CanDrive lists.old (state_of machine.old) }
     ensures ok { OnOk result (IsDriven lists.old machine.old machine.new) }
     ensures err { IfErr result (StopsDriving (algorithm_of machine.old) lists.old (state_of machine.old)) }
@@ -63,13 +73,13 @@ fn feed_all(alloc: Global, machine: &mut Machine, lists: &mut [ToldList]) -> Res
 }
 
 /// The answer of a machine that needs nothing more.
-fn answer_of(machine: Machine) -> Result<Answer, CoreFault>
+fn answer_of(machine: Machine) -> Result<Answer, DriveFault>
     requires { (state_of machine).need ≡ Need.Done }
     ensures { Finishes machine result }
 {
     match machine.answer() {
         Ok(answer) => Ok(answer),
-        Err(_) => Err(CoreFault::Memory),
+        Err(_) => Err(DriveFault::Memory),
     }
 }
 
@@ -79,7 +89,7 @@ fn feed_row(
     lists: &[ToldList],
     list: u8,
     depth: u32,
-) -> Result<(), CoreFault>
+) -> Result<(), DriveFault>
     requires drives { CanDrive lists.now (state_of machine.old) }
     requires run { MakesItsRun machine.old }
     requires need { (state_of machine.old).need ≡ Need.Row list depth }
@@ -89,7 +99,11 @@ fn feed_row(
     let Some(row) = lists[usize::from(list)].row(depth) else {
         unreachable!();
     };
-    machine.feed_row(row)
+    match machine.feed_row(row) {
+        Ok(()) => Ok(()),
+        Err(CoreFault::RoomFull { room }) => Err(DriveFault::RoomFull { room }),
+        Err(CoreFault::Strangers { .. }) => unreachable!(),
+    }
 }
 
 /// Feeds the machine with the grade that it needs.
@@ -99,7 +113,7 @@ fn feed_grade(
     lists: &mut [ToldList],
     list: u8,
     object: u32,
-) -> Result<(), CoreFault>
+) -> Result<(), DriveFault>
     requires drives { CanDrive lists.old (state_of machine.old) }
     requires run { MakesItsRun machine.old }
     requires need { (state_of machine.old).need ≡ Need.Grade list object }
@@ -109,10 +123,11 @@ fn feed_grade(
 {
     let told = &mut lists[usize::from(list)];
     let Ok(found) = told.grade(alloc, object) else {
-        return Err(CoreFault::Memory);
+        return Err(DriveFault::Memory);
     };
     let Some(grade) = found else {
         unreachable!();
     };
-    machine.feed_grade(grade)
+    machine.feed_grade(grade);
+    Ok(())
 }

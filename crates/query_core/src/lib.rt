@@ -9,7 +9,7 @@ mod ready;
 mod told;
 
 pub use algorithms::asks_grades;
-pub use drive::answer_over;
+pub use drive::{DriveFault, answer_over};
 pub use laws::right_answers_are_one;
 pub use machine::Machine;
 pub use ready::Ready;

@@ -10,8 +10,9 @@ ghost use Rattle.query_core.specs.Machines.{algorithm_of, state_of, MakesItsRun,
 use super::Memory;
 use super::ready::Ready;
 use access_log::{Answer, CoreFault, Transcript};
+use ca_core::Ca;
 use nra_core::Nra;
-use query_text::{Algorithm, Costs};
+use query_text::Algorithm;
 use ranked_list::{Need, Row};
 use std::alloc::Global;
 use ta_core::Ta;
@@ -24,11 +25,14 @@ pub enum Machine {
     Ta(Ta),
     /// Of the algorithm without random access.
     Nra(Nra),
+    /// Of the combined algorithm.
+    Ca(Ca),
 }
 
 impl Machine {
     /// The machine of a query, with no access yet. The query's expression is copied. A query without
-    /// costs pays 1 for each access, and one without a room may see all objects.
+    /// costs pays 1 for each access, and one without a room may see all objects. No other call but
+    /// `answer` takes memory.
     pub fn make(alloc: Global, ready: &Ready) -> Result<Machine, Memory>
         requires { IsReady ready.now }
         ensures begun { IfOk result (IsMachineFor ready.now) }
@@ -40,10 +44,7 @@ impl Machine {
         };
         let count = ready.count;
         let room = query.room.unwrap_or(count);
-        let costs = query.cost.unwrap_or(Costs {
-            sorted: 1,
-            random: 1,
-        });
+        let costs = query.costs_in_force();
         match query.algorithm {
             Algorithm::Ta => match Ta::make(alloc, expr, query.k, count, room, costs) {
                 Ok(machine) => Ok(Machine::Ta(machine)),
@@ -51,6 +52,10 @@ impl Machine {
             },
             Algorithm::Nra => match Nra::make(alloc, expr, query.k, count, room, costs) {
                 Ok(machine) => Ok(Machine::Nra(machine)),
+                Err(_) => Err(Memory),
+            },
+            Algorithm::Ca => match Ca::make(alloc, expr, query.k, count, room, costs) {
+                Ok(machine) => Ok(Machine::Ca(machine)),
                 Err(_) => Err(Memory),
             },
         }
@@ -66,10 +71,11 @@ impl Machine {
         match self {
             Machine::Ta(machine) => machine.need(),
             Machine::Nra(machine) => machine.need(),
+            Machine::Ca(machine) => machine.need(),
         }
     }
 
-    /// Tells the row that is needed. Where it is refused nothing has changed.
+    /// Tells the row that is needed. Where it is refused nothing has changed. Takes no memory.
     pub fn feed_row(&mut self, row: Row) -> Result<(), CoreFault>
         requires { MayBeNextRow (state_of self.old).log (state_of self.old).need row }
         ensures same { algorithm_of self.new ≡ algorithm_of self.old }
@@ -79,14 +85,15 @@ impl Machine {
         match self {
             Machine::Ta(machine) => machine.feed_row(row),
             Machine::Nra(machine) => machine.feed_row(row),
+            Machine::Ca(machine) => machine.feed_row(row),
         }
     }
 
-    /// Tells the grade that is needed. `Memory` alone is answered, and then nothing has changed.
-    pub fn feed_grade(&mut self, grade: u32) -> Result<(), CoreFault>
+    /// Tells the grade that is needed. Takes no memory.
+    pub fn feed_grade(&mut self, grade: u32)
         requires { MayBeNextGrade (state_of self.old).log (state_of self.old).need grade }
         ensures same { algorithm_of self.new ≡ algorithm_of self.old }
-        ensures fed { GradeFed grade (state_of self.old) (state_of self.new) result }
+        ensures fed { GradeFed grade (state_of self.old) (state_of self.new) }
         ensures run { MakesItsRun self.new }
     {
         match self {
@@ -95,6 +102,7 @@ impl Machine {
                 let _need = machine.need();
                 unreachable!()
             }
+            Machine::Ca(machine) => machine.feed_grade(grade),
         }
     }
 
@@ -106,6 +114,7 @@ impl Machine {
         match self {
             Machine::Ta(machine) => machine.transcript(),
             Machine::Nra(machine) => machine.transcript(),
+            Machine::Ca(machine) => machine.transcript(),
         }
     }
 
@@ -122,6 +131,10 @@ impl Machine {
                 Err(_) => Err(Memory),
             },
             Machine::Nra(machine) => match machine.answer() {
+                Ok(answer) => Ok(answer),
+                Err(_) => Err(Memory),
+            },
+            Machine::Ca(machine) => match machine.answer() {
                 Ok(answer) => Ok(answer),
                 Err(_) => Err(Memory),
             },

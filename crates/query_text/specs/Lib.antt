@@ -3,6 +3,7 @@ pub mod Written
 pub mod Pieces
 pub mod Shape
 pub mod Query
+pub mod Costs
 pub mod Reading
 pub mod Words
 pub mod Front

@@ -11,10 +11,12 @@ pub enum Algorithm {
     Ta,
     /// The algorithm without random access, `nra`.
     Nra,
+    /// The combined algorithm, `ca`.
+    Ca,
 }
 
 /// The algorithms that a query may name.
-const ALGORITHMS: [Algorithm; 2] = [Algorithm::Ta, Algorithm::Nra];
+const ALGORITHMS: [Algorithm; 3] = [Algorithm::Ta, Algorithm::Nra, Algorithm::Ca];
 
 impl Algorithm {
     /// The word that names it in a query.
@@ -24,6 +26,7 @@ impl Algorithm {
         match self {
             Algorithm::Ta => b"ta",
             Algorithm::Nra => b"nra",
+            Algorithm::Ca => b"ca",
         }
     }
 }

@@ -1,5 +1,8 @@
 //! Queries.
 
+ghost use Rattle.std.specs.Prelude.{◌≡◌};
+ghost use Rattle.query_text.specs.Costs.{costs_in_force};
+
 use super::algorithm::Algorithm;
 use super::names::Names;
 use monotone_fn::{Costs, Expr};
@@ -19,4 +22,16 @@ pub struct Query {
     pub cost: Option<Costs>,
     /// How many objects may be kept, 1 to 1,000,000. None means any number.
     pub room: Option<u32>,
+}
+
+impl Query {
+    /// What one access of each kind costs the query: 1 and 1 where it doesn't say.
+    pub fn costs_in_force(&self) -> Costs
+        ensures { result ≡ costs_in_force self.now }
+    {
+        self.cost.unwrap_or(Costs {
+            sorted: 1,
+            random: 1,
+        })
+    }
 }

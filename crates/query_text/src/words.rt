@@ -101,7 +101,10 @@ pub(crate) fn longest(stage: Stage, inside: bool, text: &[u8]) -> usize
 fn algorithm_len(text: &[u8]) -> usize
     ensures { IsLongest (class_at Stage.Algorithm false) text.now result }
 {
-    common(Algorithm::Ta.word(), text).max(common(Algorithm::Nra.word(), text))
+    let threshold = common(Algorithm::Ta.word(), text);
+    let without_random = common(Algorithm::Nra.word(), text);
+    let combined = common(Algorithm::Ca.word(), text);
+    threshold.max(without_random.max(combined))
 }
 
 /// How many bytes of a text begin what may stand behind an operand.

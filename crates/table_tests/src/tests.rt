@@ -1,10 +1,10 @@
 //! Random tables, with ties everywhere among them.
 
-ghost use Rattle.std.specs.Prelude.{◌<◌};
+ghost use Rattle.std.specs.Prelude.{◌<◌, ◌≤◌};
 ghost use Rattle.plain_run.specs.Posed.{IsPosed};
 
-use plain_run::{nra_answer, nra_run, ta_answer, ta_run};
-use query_text::{Algorithm, Query, read};
+use plain_run::{ca_answer, ca_run, nra_answer, nra_run, ta_answer, ta_run};
+use query_text::{Algorithm, Costs, Query, read};
 use ranked_list::{Item, MemList, is_table, read_bundle};
 use std::alloc::Global;
 use std::process::Abort;
@@ -99,8 +99,10 @@ fn plain_outcome(
     alloc: Global,
     lists: &[MemList],
     query: &Query,
+    costs: Costs,
 ) -> Result<(Vec<Item>, Vec<Access>), Fail>
-    requires { IsPosed lists.now query.now.expr }
+    requires posed { IsPosed lists.now query.now.expr }
+    requires costs { 1 ≤ costs.sorted }
 {
     let expr = &query.expr;
     match query.algorithm {
@@ -111,6 +113,10 @@ fn plain_outcome(
         Algorithm::Nra => {
             let items = nra_answer(alloc, lists, expr, query.k)?;
             Ok((items, nra_run(alloc, lists, expr, query.k)?))
+        }
+        Algorithm::Ca => {
+            let items = ca_answer(alloc, lists, expr, query.k, costs)?;
+            Ok((items, ca_run(alloc, lists, expr, query.k, costs)?))
         }
     }
 }
@@ -123,15 +129,22 @@ fn access_line(alloc: Global, access: &Access) -> Result<String, Fail> {
     Ok(format!(in alloc; "{sort} {name} {object} {grade}\n")?)
 }
 
-/// The stop line: the depth of list A, which is as deep as any, and what was read at costs of 1.
-fn stop_line(alloc: Global, accesses: &[Access]) -> Result<String, Fail> {
+/// What so many accesses cost.
+fn cost_of(sorted: usize, random: usize, costs: Costs) -> Option<u64> {
+    let sorted = u64::from(costs.sorted).checked_mul(sorted as u64)?;
+    let random = u64::from(costs.random).checked_mul(random as u64)?;
+    sorted.checked_add(random)
+}
+
+/// The stop line: the depth of list A, which is as deep as any, and what was read at these costs.
+fn stop_line(alloc: Global, accesses: &[Access], costs: Costs) -> Result<String, Fail> {
     let sorted = accesses.iter().filter(|access| access.is_sorted()).count();
     let depth = accesses
         .iter()
         .filter(|access| access.is_sorted() && access.list() == 0)
         .count();
-    let cost = accesses.len();
     let random = accesses.iter().filter(|access| !access.is_sorted()).count();
+    let cost = cost_of(sorted, random, costs).ok_or("a cost")?;
     Ok(format!(in alloc; "stop depth {depth} sorted {sorted} random {random} cost {cost}\n")?)
 }
 
@@ -142,6 +155,7 @@ fn certificate_of(
     count: u32,
     items: &[Item],
     accesses: &[Access],
+    costs: Costs,
 ) -> Result<String, Fail> {
     let mut text = format!(in alloc; "certificate 1\nquery {query}\ncount {count}\n")?;
     for item in items {
@@ -149,7 +163,7 @@ fn certificate_of(
         let line = format!(in alloc; "answer {object} {low} {high}\n")?;
         text.push_str(&line)?;
     }
-    text.push_str(&stop_line(alloc, accesses)?)?;
+    text.push_str(&stop_line(alloc, accesses, costs)?)?;
     for access in accesses {
         text.push_str(&access_line(alloc, access)?)?;
     }
@@ -173,8 +187,10 @@ fn expected(
         "its lists"
     );
     assert!(rt; bundle.lists.len() <= 8, "few lists");
-    let (items, accesses) = plain_outcome(alloc, &bundle.lists, &query)?;
-    certificate_of(alloc, text, count, &items, &accesses)
+    let costs = query.costs_in_force();
+    assert!(rt; 1 <= costs.sorted, "a cost");
+    let (items, accesses) = plain_outcome(alloc, &bundle.lists, &query, costs)?;
+    certificate_of(alloc, text, count, &items, &accesses, costs)
 }
 
 /// Compares what `one` writes of a random table with what the plain program computes.
@@ -210,6 +226,16 @@ fn try_tables(rt: &impl Abort, alloc: Global, algorithm: &str) -> Result<(), Fai
                 }
             }
         }
+    }
+    Ok(())
+}
+
+/// Costs whose ratio is less than 1, 1, between 1 and 2, 2, and more than there are depths.
+#[test]
+fn combined_algorithm(rt: HostRuntime) -> Result<(), Fail> {
+    for costs in ["", " cost 7 2", " cost 2 3", " cost 1 2", " cost 3 100"] {
+        let options = format!(in rt.alloc(); "ca{costs}")?;
+        try_tables(&rt, rt.alloc(), &options)?;
     }
     Ok(())
 }

@@ -5,13 +5,14 @@ ghost use Rattle.std.specs.Prelude.{◌≡◌, length, Some, IfOk, IsTrue};
 ghost use Rattle.cert_text.specs.declared.outcome.Outcome.TheVariants.{Refused};
 ghost use Rattle.cert_text.specs.Outcome.{IsOutcome};
 
+use super::streams::Counting;
 use access_log::{Access, Answer, Item, Items, Transcript};
 use cert_text::{CertFault, Certificate, Outcome, Refusal, read_certificate, write_outcome};
 use query_text::{Query, print, read};
 use std::alloc::Global;
 use std::process::Abort;
 use std::test::Fail;
-use tk_io::MemSink;
+use tk_io::{MemSink, Sink};
 
 /// The certificate of the first example, an answer to the sum of two lists of three objects.
 const TEXT: &str =
@@ -70,14 +71,25 @@ fn answer(alloc: Global) -> Result<Answer, Fail> {
     })
 }
 
+/// Whether the answer of a query without costs is written, over lists of `count` objects.
+fn is_answer_written<K: Sink>(
+    rt: &impl Abort,
+    alloc: Global,
+    query: &[u8],
+    count: u32,
+    answer: Answer,
+    out: &mut K,
+) -> Result<bool, Fail> {
+    let query = read(alloc, query)?;
+    assert!(rt; query.cost.is_none());
+    assert!(rt; answer.transcript.len() < 4000);
+    let outcome = Outcome::Answered(answer);
+    Ok(write_outcome(out, 1, Some(&query), count, &outcome).is_ok())
+}
+
 /// Whether the outcome of the first example is written.
 fn is_written(rt: &impl Abort, alloc: Global, out: &mut MemSink) -> Result<bool, Fail> {
-    let query = read(alloc, QUERY)?;
-    let answer = answer(alloc)?;
-    assert!(rt; query.cost.is_none());
-    assert!(rt; answer.transcript.len() < 8);
-    let outcome = Outcome::Answered(answer);
-    Ok(write_outcome(out, 1, Some(&query), 3, &outcome).is_ok())
+    is_answer_written(rt, alloc, QUERY, 3, answer(alloc)?, out)
 }
 
 /// Whether a text is read as the certificate of the first example.
@@ -108,6 +120,35 @@ fn writes_and_reads_the_first_example(rt: HostRuntime) -> Result<(), Fail> {
     assert!(rt; is_written(&rt, rt.alloc(), &mut out)?);
     assert_eq!(rt; out.taken(), TEXT.as_bytes());
     is_first_example(&rt, rt.alloc(), out.taken())
+}
+
+/// The answer of a query for the first of 3,000 tied objects, all of which it read.
+fn long_answer(alloc: Global) -> Result<Answer, Fail> {
+    let mut items = Vec::new(alloc);
+    items.push(Item {
+        object: 1_000_000_000,
+        low: 500_000,
+        high: 500_000,
+    })?;
+    let mut transcript = Transcript::make(alloc, 1, 3000)?;
+    for number in 0..3000 {
+        transcript.push(sorted(0, 1_000_000_000 + number, 500_000))?;
+    }
+    Ok(Answer {
+        items: Items::from_vec(items),
+        transcript,
+    })
+}
+
+/// 3,000 lines of 22 bytes with 134 bytes around them go out in 9 writes.
+#[test]
+fn writes_a_certificate_in_pieces(rt: HostRuntime) -> Result<(), Fail> {
+    let mut out = Counting::make();
+    let answer = long_answer(rt.alloc())?;
+    let query = b"top 1 by A using ta";
+    assert!(rt; is_answer_written(&rt, rt.alloc(), query, 3000, answer, &mut out)?);
+    assert_eq!(rt; (out.bytes, out.writes), (66_134, 9));
+    Ok(())
 }
 
 #[test]
@@ -282,6 +323,7 @@ fn reads_what_is_no_answer(rt: HostRuntime) -> Result<(), Fail> {
     let rows = [
         ("certificate 1", "certificate 9223372036854775807"),
         ("using ta", "using nra"),
+        ("using ta", "using ca"),
         ("count 3", "count 200000"),
         ("answer 2", "answer 4294967295"),
         ("1500 1500", "18446744073709551615 18446744073709551615"),

@@ -44,14 +44,16 @@ fn is_read(rt: &impl Abort, alloc: Global, line: &[u8]) -> Result<(), Fail> {
 
 #[test]
 fn syntax_faults(rt: HostRuntime) {
-    let rows: [(&[u8], u32); 27] = [
+    let rows: [(&[u8], u32); 29] = [
         (b"", 0),
         (b"top 01 by A using ta", 5),
         (b"top 1 by", 8),
         (b"top 1 by foo(A) using ta", 12),
         (b"top 1 by A using n", 18),
         (b"top 1 by A using nr", 19),
-        (b"top 1 by A using ca", 17),
+        (b"top 1 by A using xa", 17),
+        (b"top 1 by A using c", 18),
+        (b"top 1 by A using cb", 18),
         (b"top 1 by A using tb", 18),
         (b"top 1 by A using nt", 18),
         (b"top 1 by A using ta ", 20),
@@ -151,9 +153,11 @@ fn limits_of_lines_and_expressions(rt: HostRuntime) -> Result<(), Fail> {
 
 #[test]
 fn reads_and_prints(rt: HostRuntime) -> Result<(), Fail> {
-    let lines: [&[u8]; 8] = [
+    let lines: [&[u8]; 10] = [
         b"top 1 by A using ta",
         b"top 1 by A using nra",
+        b"top 1 by A using ca",
+        b"top 3 by sum(A,B) using ca cost 1 9 room 7",
         b"top 1000000 by min using ta cost 1 1",
         b"top 3 by max(min,sum,median,wsum,max) using ta cost 1000000 1000000 room 1000000",
         b"top 2 by wsum(0*A,2*median(B_2,A),9223372036852*B_2) using ta room 1",
@@ -169,9 +173,10 @@ fn reads_and_prints(rt: HostRuntime) -> Result<(), Fail> {
 
 #[test]
 fn a_query_names_its_algorithm(rt: HostRuntime) -> Result<(), Fail> {
-    let rows: [(&[u8], Algorithm); 2] = [
+    let rows: [(&[u8], Algorithm); 3] = [
         (b"top 1 by A using ta", Algorithm::Ta),
         (b"top 1 by A using nra", Algorithm::Nra),
+        (b"top 1 by A using ca", Algorithm::Ca),
     ];
     for (line, algorithm) in rows {
         let query = read(rt.alloc(), line).ok().ok_or("read")?;

@@ -56,9 +56,19 @@ fn moves_through_a_pipe(rt: HostRuntime) -> Result<(), Fail> {
 
 /// A stream that counts its writes and the bytes of all of them.
 #[derive(Drop)]
-struct Counting {
-    writes: u64,
-    bytes: u64,
+pub(crate) struct Counting {
+    pub(crate) writes: u64,
+    pub(crate) bytes: u64,
+}
+
+impl Counting {
+    /// No write yet.
+    pub(crate) fn make() -> Counting {
+        Counting {
+            writes: 0,
+            bytes: 0,
+        }
+    }
 }
 
 impl Sink for Counting {
@@ -78,10 +88,7 @@ impl Sink for Counting {
 /// 60,000 words of 8 bytes and as many spaces go out in 66 writes.
 #[test]
 fn writes_in_pieces(rt: HostRuntime) {
-    let mut out = Counting {
-        writes: 0,
-        bytes: 0,
-    };
+    let mut out = Counting::make();
     let mut pieces = Pieces::make();
     for number in 0..60_000 {
         pieces.put_number(&mut out, 10_000_000 + number);

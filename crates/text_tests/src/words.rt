@@ -32,9 +32,10 @@ fn reads_commands(rt: HostRuntime) -> Result<(), Fail> {
 
 #[test]
 fn refuses_words(rt: HostRuntime) -> Result<(), Fail> {
-    let rows: [&[&str]; 14] = [
+    let rows: [&[&str]; 15] = [
         &[],
         &[""],
+        &["--help"],
         &["two"],
         &["One"],
         &["--", "one"],

@@ -1,0 +1,10 @@
+pub mod Pieces
+pub mod Asks
+pub mod Path
+pub mod Steps
+pub mod Runs
+pub mod Calls
+pub mod Renewing
+pub mod Courses
+pub mod Changing
+pub mod Scoring

@@ -1,0 +1,5 @@
+pub mod Course
+pub mod Seen
+pub mod OnTable
+pub mod Kept
+pub mod Machine

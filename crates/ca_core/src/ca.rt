@@ -1,0 +1,185 @@
+//! The machine of the combined algorithm.
+
+ghost use Rattle.std.specs.Prelude.{◌≡◌, ◌≤◌};
+ghost use Rattle.topk_theory.specs.Combined.{phase_length};
+
+use super::answering::answer_items;
+use super::following::follow;
+use super::late_seen::LateSeen;
+use super::stage::Stage;
+use access_log::{Access, Answer, CoreFault, Item, Items, Transcript};
+use machine_base::{Base, Memory, Need};
+use monotone_fn::{Costs, Expr};
+use ranked_list::Row;
+use std::alloc::Global;
+use std::marker::Model;
+
+/// The combined algorithm on one query. It says which access it needs next, and is fed what that access gave.
+/// Contracts see it as a `MachineState`.
+#[derive(Drop)]
+pub struct Ca {
+    base: Base,
+    /// How many depths come between two random phases.
+    phase: u32,
+    late: LateSeen,
+    /// The first k, once all is quiet; none before.
+    first: Vec<Item>,
+    stage: Stage,
+}
+
+impl Model for Ca {
+    ghost use Rattle.std.specs.Coded.{codes};
+    ghost use Rattle.monotone_fn.specs.Code.{tree_code};
+    ghost use Rattle.access_log.specs.Machine.{MachineState};
+
+    ghost Value = { MachineState };
+
+    ghost coded = { Prim.hlevel (codes, tree_code) };
+
+    ghost use Rattle.ca_core.specs.Course.{need_at};
+    ghost use Rattle.machine_base.specs.Base.{shown};
+    ghost use Rattle.std.specs.Prelude.{vec_capacity};
+    ghost use Rattle.ca_core.specs.Kept.{Stands};
+
+    ghost view = { λ a. shown a.base (need_at a.stage) };
+
+    ghost invariant = { λ a. Stands a.base a.phase a.late a.first.items (vec_capacity a.first) a.stage };
+}
+
+/// How many depths come between two random phases: the whole part of what a random access costs in sorted ones, and
+/// at least 1.
+fn phase_length(costs: Costs) -> u32
+    requires { 1 ≤ costs.sorted }
+    ensures { result ≡ phase_length costs.sorted costs.random }
+{
+    (costs.random / costs.sorted).max(1)
+}
+
+impl Ca {
+    ghost use Rattle.std.specs.Prelude.{◌≡◌, ◌≤◌, IfOk, IsOk};
+    ghost use Rattle.access_log.specs.Machine.{IsBegun, IsInRange, MayBeNextRow, MayBeNextGrade, RowFed, GradeFed, IsSameLog};
+    ghost use Rattle.ca_core.specs.Machine.{MakesItsRun, IsAnswer};
+
+    /// A machine for the first `k` of `count` objects, that sees `room` of them at most. No other call takes
+    /// memory.
+    pub fn make(
+        alloc: Global,
+        expr: Expr,
+        k: u32,
+        count: u32,
+        room: u32,
+        costs: Costs,
+    ) -> Result<Ca, Memory>
+        requires asked { 1 ≤ k }
+        requires fits { k ≤ count }
+        requires counted { count ≤ 200000 }
+        requires roomy { 1 ≤ room }
+        requires paid { 1 ≤ costs.sorted }
+        ensures begun { IfOk result (IsBegun expr k count room costs) }
+        ensures run { IfOk result MakesItsRun }
+    {
+        let Ok(first) = Vec::with_capacity(alloc, room.min(count) as usize) else {
+            return Err(Memory);
+        };
+        let late = LateSeen::make(alloc, k, room.min(count))?;
+        Ok(Ca {
+            base: Base::make(alloc, expr, k, count, room, costs)?,
+            phase: phase_length(costs),
+            late,
+            first,
+            stage: Stage::Row { list: 0, depth: 1 },
+        })
+    }
+
+    /// What is needed next.
+    pub fn need(&self) -> Need
+        ensures need { result ≡ self.now.need }
+        ensures run { MakesItsRun self.now }
+        ensures range { IsInRange self.now.log result }
+    {
+        self.stage.need()
+    }
+
+    /// Tells the row that is needed. Where it is refused nothing has changed. Takes no memory.
+    pub fn feed_row(&mut self, row: Row) -> Result<(), CoreFault>
+        requires { MayBeNextRow self.old.log self.old.need row }
+        ensures fed { RowFed row self.old self.new result }
+        ensures run { MakesItsRun self.new }
+    {
+        let Need::Row { list, .. } = self.stage.need() else {
+            unreachable!();
+        };
+        self.base.test_room(row.object)?;
+        self.base.tell(Access::Sorted {
+            list,
+            object: row.object,
+            grade: row.grade,
+        });
+        self.late.note(&self.base, row.object);
+        self.stage = follow(
+            &self.base,
+            self.phase,
+            &mut self.late,
+            &mut self.first,
+            self.stage,
+        );
+        Ok(())
+    }
+
+    /// Tells the grade that is needed. Takes no memory.
+    pub fn feed_grade(&mut self, grade: u32)
+        requires { MayBeNextGrade self.old.log self.old.need grade }
+        ensures fed { GradeFed grade self.old self.new }
+        ensures run { MakesItsRun self.new }
+    {
+        let Need::Grade { list, object } = self.stage.need() else {
+            unreachable!();
+        };
+        self.base.tell(Access::Random {
+            list,
+            object,
+            grade,
+        });
+        self.late.note(&self.base, object);
+        self.stage = follow(
+            &self.base,
+            self.phase,
+            &mut self.late,
+            &mut self.first,
+            self.stage,
+        );
+    }
+
+    /// The accesses so far.
+    pub fn transcript(&self) -> &Transcript
+        ensures log { result.now ≡ self.now.log }
+        ensures run { MakesItsRun self.now }
+    {
+        &self.base.transcript
+    }
+
+    /// The answer, once nothing is needed: the first k objects at its last depth, by aggregate falling, then by id
+    /// rising, each with its aggregate as both bounds, and the transcript. Takes no memory.
+    pub fn answer(self) -> Result<Answer, Memory>
+        requires { self.need ≡ Need.Done }
+        ensures run { MakesItsRun self }
+        ensures succeeds { IsOk result }
+        ensures items { IfOk result (λ answer. IsAnswer self answer.items) }
+        ensures transcript { IfOk result (λ answer. IsSameLog answer.transcript self.log) }
+    {
+        let Ca {
+            base,
+            phase: _,
+            late,
+            first,
+            stage: _,
+        } = self;
+        drop(late);
+        let scored = answer_items(&base.expr, &base.transcript, first);
+        let items = Items::from_vec(scored);
+        Ok(Answer {
+            items,
+            transcript: base.into_transcript(),
+        })
+    }
+}

@@ -1,0 +1,46 @@
+//! What is kept of the seen objects.
+
+ghost use Rattle.std.specs.Prelude.{◌≡◌, ◌≤◌, ℕ, [], IfOk};
+ghost use Rattle.monotone_fn.specs.Tree.{Tree};
+ghost use Rattle.machine_base.specs.Base.{Holds};
+ghost use Rattle.ca_core.specs.Seen.{AreRenewed, KeepsSeen, WasRenewed};
+
+use late_bounds::LateBounds;
+use late_choice::OpenHighs;
+use machine_base::{Base, Memory};
+use std::alloc::Global;
+
+/// The bounds that decide the stop, and the highs that decide a random phase, both renewed late.
+#[derive(Drop)]
+pub(crate) struct LateSeen {
+    pub bounds: LateBounds,
+    pub highs: OpenHighs,
+}
+
+impl LateSeen {
+    /// Before any access, with room for so many seen objects.
+    pub(crate) fn make(alloc: Global, k: u32, room: u32) -> Result<LateSeen, Memory>
+        requires asked { 1 ≤ k }
+        requires few { k ≤ 200000 }
+        requires room { room ≤ 200000 }
+        ensures { IfOk result (λ late. (e : Tree) (m : ℕ) → AreRenewed e k room m [] late) }
+    {
+        let Ok(bounds) = LateBounds::make(alloc, k, room) else {
+            return Err(Memory);
+        };
+        let Ok(highs) = OpenHighs::make(alloc, room) else {
+            return Err(Memory);
+        };
+        Ok(LateSeen { bounds, highs })
+    }
+
+    /// Takes note of the access that was told last, which named this object.
+    pub(crate) fn note(&mut self, base: &Base, object: u32)
+        requires held { Holds base.now }
+        requires before { WasRenewed base.now object self.old }
+        ensures { KeepsSeen base.now self.new }
+    {
+        self.bounds.note(&base.expr, &base.transcript, object);
+        self.highs.note(&base.expr, &base.transcript, object);
+    }
+}

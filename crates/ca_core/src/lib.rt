@@ -1,0 +1,13 @@
+//! The combined algorithm of Fagin, Lotem and Naor, as a machine that is fed one access at a time. It reads rows as
+//! the algorithm without random access does, and once in so many depths, by the ratio of the costs, it asks for the
+//! unknown grades of one object. Only `make` takes memory.
+#![tactic(auto)]
+
+mod answering;
+mod ca;
+mod following;
+mod late_seen;
+mod stage;
+
+pub use ca::Ca;
+pub use machine_base::{CoreFault, Memory, Need};

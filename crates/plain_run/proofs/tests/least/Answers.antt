@@ -1,5 +1,0 @@
-use Rattle.plain_run.proofs.TestTrees as trees
-use Rattle.plain_run.proofs.tests.least.Goals as goal
-
-pub make-requires : goal.make-requires
-make-requires c = rw c.in_ok-two_nodes.ensures trees.least_of_two
