@@ -1,0 +1,4 @@
+pub mod Putting
+pub mod Making
+pub mod Comparing
+pub mod Telling

@@ -1,0 +1,100 @@
+-- What is told of a certificate, from what its parts give.
+use Rattle.std.proofs.Common.{◌≡◌, ℕ, ◌+◌, ◌<◌, ◌≤◌, ◌==◌, ◌&&◌, Bool, true, false, cond, List, [], ◌∷◌, ◌++◌, length, map, take, Contains, Some, slice_get, Result, Ok, Err, IfOk, sym, ap, subst, ◌∙◌, arith, length-append, codes}
+use Rattle.std.specs.List.{onto_first}
+use Rattle.std.specs.Global.{Vec}
+use Rattle.std.proofs.lemmas.List.{take_more, map-append, length-map}
+use Rattle.line_text.specs.Lines.{lines, before_lines, begins_with_end}
+use Rattle.line_text.proofs.LineLaws.{lines-nil, lines-cons}
+use Rattle.ranked_list.specs.declared.item.Item.{Item}
+use Rattle.monotone_fn.specs.Value.{value}
+use Rattle.topk_theory.specs.Threshold.{item_objects}
+use Rattle.topk_theory.specs.Transcript.{seen_objects}
+use Rattle.topk_theory.proofs.AgreementLists.{slice_get_in_range, slice_get_reads, member_of_all}
+use Rattle.access_log.specs.Log.{Log, IsConsistent}
+use Rattle.query_text.specs.Bytes.{bytes_of}
+use Rattle.cert_text.specs.declared.certificate.Certificate.{Certificate}
+use Rattle.cert_text.specs.Certificate.{answer_line, access_line, access_lines, stop_line}
+use Rattle.cert_text.specs.Reading.{Spells}
+use Rattle.judge_core.specs.declared.verdict.Verdict.{Verdict}
+use Rattle.judge_core.specs.declared.verdict.Verdict.TheVariants as verdict
+use Rattle.judge_core.specs.declared.verdict.JudgeFault.{JudgeFault}
+use Rattle.judge_core.specs.Judging.{Judges}
+use Rattle.cert_judge.specs.declared.Memory.{Memory}
+use Rattle.cert_judge.specs.declared.told.Told.{Told}
+use Rattle.cert_judge.specs.declared.told.Told.TheVariants.{BadLine, Inconsistent, WildGuess, WrongSize, UnseenAnswer, Figure, Fixes, Beaten}
+use Rattle.cert_judge.specs.Transcripts.{log_of}
+use Rattle.cert_judge.specs.Judging.{IsJudged, TellsOf, TellsOfIts, Tells}
+
+-- one name more
+pub copied_more : (copied after : List (Vec ℕ)) (bytes : Vec ℕ) (names : List (List ℕ)) (i : ℕ) (name : List ℕ) → bytes_of copied ≡ take i names → slice_get names i ≡ Some name
+    → bytes.items ≡ name → after ≡ copied ++ bytes ∷ [] → bytes_of after ≡ take (i + 1) names
+copied_more copied after bytes names i name before e is more =
+    ap bytes_of more ∙ map-append (λ (v : Vec ℕ). v.items) copied (bytes ∷ []) ∙ ap (λ s. s ++ bytes.items ∷ []) before ∙ ap (λ b. take i names ++ b ∷ []) is
+    ∙ sym (take_more names i name (slice_get_in_range names i name e) ∙ ap (λ z. take i names ++ z ∷ []) (slice_get_reads names i name name e))
+
+-- one object more
+pub objects_more : (items : List Item) (i : ℕ) (item : Item) (objects after : List ℕ) → slice_get items i ≡ Some item → objects ≡ item_objects (take i items)
+    → after ≡ objects ++ item.object ∷ [] → after ≡ item_objects (take (i + 1) items)
+objects_more items i item objects after e before more =
+    more ∙ ap (λ s. s ++ item.object ∷ []) before
+    ∙ sym (ap item_objects (take_more items i item (slice_get_in_range items i item e) ∙ ap (λ z. take i items ++ z ∷ []) (slice_get_reads items i item item e)) ∙ map-append (λ (z : Item). z.object) (take i items) (item ∷ []))
+
+pub objects_few : (items : List Item) (objects : List ℕ) (most : ℕ) → objects ≡ item_objects items → length items < most → length objects < most
+objects_few items objects most e few = omega (arith, ap length e, length-map items (λ (z : Item). z.object))
+
+-- what the judge says of a certificate's transcript and answer
+pub judged_as : (c : Certificate) (log : Log) (Y : List ℕ) (r : Result Verdict JudgeFault) → log ≡ log_of c → Y ≡ item_objects c.items → IsConsistent log
+    → Judges (value c.query.expr) c.query.k log Y r → IsJudged c r
+judged_as c log Y r made objects some h = record {
+  consistent = subst IsConsistent made some;
+  judged = subst (λ ys. Judges (value c.query.expr) c.query.k (log_of c) ys r) objects (subst (λ l. Judges (value c.query.expr) c.query.k l Y r) made h);
+}
+
+-- the object inside is seen
+pub seen_inside : (c : Certificate) (inside outside low high : ℕ) → IsJudged c (Ok (verdict.Beaten inside outside low high)) → Contains (seen_objects c.accesses) inside
+seen_inside c inside outside low high h = member_of_all (Contains (seen_objects c.accesses)) (item_objects c.items) inside h.judged.0.seen h.judged.1.least.is_one
+
+-- a text has no more lines than bytes
+onto_short : (byte : ℕ) (ls : List (List ℕ)) → length (onto_first byte ls) ≤ length ls + 1
+onto_short byte [] = omega arith
+onto_short byte (line ∷ ls) = omega arith
+
+before_short : (byte : ℕ) (ends : Bool) (ls : List (List ℕ)) → length (before_lines byte ends ls) ≤ length ls + 1
+before_short byte ends ls =
+    elim (byte == 10) as (λ b. length (cond b ([] ∷ ls) (cond ((byte == 13) && ends) ls (onto_first byte ls))) ≤ length ls + 1) [
+      | true ↦ omega arith
+      | false ↦ elim ((byte == 13) && ends) as (λ b. length (cond b ls (onto_first byte ls)) ≤ length ls + 1) [ true ↦ omega arith | false ↦ onto_short byte ls ]
+    ]
+
+lines_short : (bytes : List ℕ) → length (lines bytes) ≤ length bytes
+lines_short [] = omega (arith, ap length lines-nil)
+lines_short (byte ∷ rest) =
+    let less : length (lines rest) ≤ length rest = lines_short rest in
+    omega (arith, ap length (lines-cons byte rest), before_short byte (begins_with_end rest) (lines rest))
+
+-- nor has its certificate more accesses
+pub few_accesses : (bytes : List ℕ) (c : Certificate) → Spells (lines bytes) c → length c.accesses ≤ length bytes
+few_accesses bytes c spells =
+    let stop = stop_line c.depth c.sorted c.random c.cost in
+    let accesses : length (access_lines c.query.names c.accesses) ≡ length c.accesses + 1 =
+    length-append (map (access_line c.query.names) c.accesses) (codes "end" ∷ []) ∙ ap (λ n. n + 1) (length-map c.accesses (access_line c.query.names)) in
+    let rest = length-append (map answer_line c.items) (stop ∷ access_lines c.query.names c.accesses) in
+    omega (arith, lines_short bytes, ap length spells.spelled, rest, accesses)
+
+-- what is told of the certificate that the lines spell is told of the lines
+tells_from : (ls : List (List ℕ)) (c : Certificate) (told : Told) → Spells ls c → ((d : Certificate) → Spells ls d → d ≡ c) → TellsOf c told → TellsOfIts ls told
+tells_from ls c told spells same h = record { some = (c, spells); each = λ d s. subst (λ e. TellsOf e told) (sym (same d s)) h }
+
+tells_lines : (ls : List (List ℕ)) (c : Certificate) (told : Told) → Spells ls c → ((d : Certificate) → Spells ls d → d ≡ c) → TellsOf c told → Tells ls told
+tells_lines ls c (BadLine line) spells same h = absurd h
+tells_lines ls c (Inconsistent at kind) spells same h = tells_from ls c (Inconsistent at kind) spells same h
+tells_lines ls c (WildGuess at) spells same h = tells_from ls c (WildGuess at) spells same h
+tells_lines ls c (WrongSize given k) spells same h = tells_from ls c (WrongSize given k) spells same h
+tells_lines ls c (UnseenAnswer object) spells same h = tells_from ls c (UnseenAnswer object) spells same h
+tells_lines ls c (Figure line) spells same h = tells_from ls c (Figure line) spells same h
+tells_lines ls c Fixes spells same h = tells_from ls c Fixes spells same h
+tells_lines ls c (Beaten inside outside low high counter) spells same h = tells_from ls c (Beaten inside outside low high counter) spells same h
+
+pub told_result : (ls : List (List ℕ)) (c : Certificate) (r : Result Told Memory) → Spells ls c → ((d : Certificate) → Spells ls d → d ≡ c) → IfOk r (TellsOf c) → IfOk r (Tells ls)
+told_result ls c (Ok told) spells same h = tells_lines ls c told spells same h
+told_result ls c (Err memory) spells same h = tt

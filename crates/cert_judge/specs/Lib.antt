@@ -1,0 +1,4 @@
+pub mod Transcripts
+pub mod Figures
+pub mod Judging
+pub mod Text

@@ -1,0 +1,33 @@
+-- The text of what is told.
+use Rattle.std.specs.Prelude.{ℕ, List, [], ◌∷◌, ◌++◌, codes}
+use Rattle.std.specs.List.{flat_map, concat}
+use Rattle.std.specs.Fmt.{decimal}
+use Rattle.line_text.specs.Lines.{unlines}
+use Rattle.ranked_list.specs.Bundle.{content, bundle_lines}
+use Rattle.cert_judge.specs.declared.told.Told.{Told}
+use Rattle.cert_judge.specs.declared.told.Told.TheVariants.{BadLine, Inconsistent, WildGuess, WrongSize, UnseenAnswer, Figure, Fixes, Beaten}
+
+-- `refused NAME` and the fields, each after one space
+abbrev pub refused_line : List ℕ → List ℕ → List ℕ
+refused_line name fields = codes "refused " ++ name ++ flat_map (λ field. 32 ∷ decimal field) fields
+
+-- `beaten inside I low L outside O high H`
+abbrev pub beaten_line : ℕ → ℕ → ℕ → ℕ → List ℕ
+beaten_line inside low outside high =
+    concat (codes "beaten inside " ∷ decimal inside ∷ codes " low " ∷ decimal low
+    ∷ codes " outside " ∷ decimal outside ∷ codes " high " ∷ decimal high ∷ [])
+
+-- the lines of what is told: one, and below that of a beaten answer the lines of the counter
+abbrev pub told_lines : Told → List (List ℕ)
+told_lines (BadLine line) = refused_line (codes "BadLine") (line ∷ []) ∷ []
+told_lines (Inconsistent at kind) = refused_line (codes "Inconsistent") (at ∷ kind ∷ []) ∷ []
+told_lines (WildGuess at) = refused_line (codes "WildGuess") (at ∷ []) ∷ []
+told_lines (WrongSize given k) = refused_line (codes "WrongSize") (given ∷ k ∷ []) ∷ []
+told_lines (UnseenAnswer object) = refused_line (codes "UnseenAnswer") (object ∷ []) ∷ []
+told_lines (Figure line) = refused_line (codes "Figure") (line ∷ []) ∷ []
+told_lines Fixes = codes "fixes" ∷ []
+told_lines (Beaten inside outside low high counter) = beaten_line inside low outside high ∷ bundle_lines (content counter)
+
+-- the text of what is told
+unfoldable pub told_text : Told → List ℕ
+told_text told = unlines (told_lines told)

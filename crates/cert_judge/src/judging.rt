@@ -1,0 +1,126 @@
+//! What is told of a text.
+
+ghost use Rattle.std.specs.Prelude.{◌≡◌, ◌<◌, ◌^◌, length, IfOk, Ok};
+ghost use Rattle.line_text.specs.Lines.{lines};
+ghost use Rattle.topk_theory.specs.Threshold.{item_objects};
+ghost use Rattle.access_log.specs.Log.{IsConsistent};
+ghost use Rattle.cert_text.specs.Certificate.{IsCertificate};
+ghost use Rattle.cert_judge.specs.Transcripts.{log_of};
+ghost use Rattle.cert_judge.specs.Judging.{IsJudged, TellsOf, Tells};
+
+use super::Memory;
+use super::counter::counter_of;
+use super::figures::first_figure;
+use super::told::Told;
+use super::transcript::transcript_of;
+use access_log::{PushFault, Transcript};
+use cert_text::{CertFault, Certificate, read_certificate};
+use judge_core::{JudgeFault, Verdict, judge};
+use ranked_list::Items;
+use std::alloc::Global;
+
+/// The objects of an answer.
+fn objects_of(alloc: Global, items: &Items) -> Result<Vec<u32>, Memory>
+    ensures objects { IfOk result (λ objects. objects.items ≡ item_objects items.now) }
+    ensures few { IfOk result (λ objects. length objects.items < 2 ^ 32) }
+{
+    let mut objects = Vec::new(alloc);
+    for place in 0..items.len() {
+        let Some(item) = items.get(place) else {
+            unreachable!();
+        };
+        let Ok(()) = objects.push(item.object) else {
+            return Err(Memory);
+        };
+    }
+    Ok(objects)
+}
+
+/// What is told of an answer whose question is fair, with the verdict on it.
+fn told_fair(
+    alloc: Global,
+    certificate: &Certificate,
+    transcript: &Transcript,
+    verdict: Verdict,
+) -> Result<Told, Memory>
+    requires certificate { IsCertificate certificate.now }
+    requires few { length certificate.now.accesses < 2 ^ 40 }
+    requires made { transcript.now ≡ log_of certificate.now }
+    requires judged { IsJudged certificate.now (Ok verdict) }
+    ensures { IfOk result (TellsOf certificate.now) }
+{
+    if let Some(line) = first_figure(certificate, transcript) {
+        return Ok(Told::Figure { line });
+    }
+    match verdict {
+        Verdict::Fixes => Ok(Told::Fixes),
+        Verdict::Beaten {
+            inside,
+            outside,
+            low,
+            high,
+        } => match counter_of(alloc, certificate, transcript, inside) {
+            Ok(counter) => Ok(Told::Beaten {
+                inside,
+                outside,
+                low,
+                high,
+                counter,
+            }),
+            Err(fault) => Err(fault),
+        },
+    }
+}
+
+/// What is told of a certificate with which some table agrees.
+fn told_over(
+    alloc: Global,
+    certificate: &Certificate,
+    transcript: &Transcript,
+) -> Result<Told, Memory>
+    requires certificate { IsCertificate certificate.now }
+    requires few { length certificate.now.accesses < 2 ^ 40 }
+    requires made { transcript.now ≡ log_of certificate.now }
+    requires agrees { IsConsistent transcript.now }
+    ensures { IfOk result (TellsOf certificate.now) }
+{
+    let Ok(answer) = objects_of(alloc, &certificate.items) else {
+        return Err(Memory);
+    };
+    let query = &certificate.query;
+    match judge(alloc, transcript, &query.expr, query.k, &answer) {
+        Ok(verdict) => told_fair(alloc, certificate, transcript, verdict),
+        Err(JudgeFault::WildGuess { at }) => Ok(Told::WildGuess { at }),
+        Err(JudgeFault::WrongSize { given, k }) => Ok(Told::WrongSize { given, k }),
+        Err(JudgeFault::UnseenAnswer { object }) => Ok(Told::UnseenAnswer { object }),
+        Err(JudgeFault::Memory) => Err(Memory),
+    }
+}
+
+/// What is told of a certificate.
+fn told_of(alloc: Global, certificate: &Certificate) -> Result<Told, Memory>
+    requires certificate { IsCertificate certificate.now }
+    requires few { length certificate.now.accesses < 2 ^ 40 }
+    ensures { IfOk result (TellsOf certificate.now) }
+{
+    match transcript_of(alloc, certificate) {
+        Ok(transcript) => told_over(alloc, certificate, &transcript),
+        Err(PushFault::Inconsistent { at, kind }) => Ok(Told::Inconsistent { at, kind }),
+        Err(PushFault::Memory) => Err(Memory),
+    }
+}
+
+/// What is told of a text: why it is no certificate, or of the certificate the first fault, or the verdict.
+///
+/// The accesses are tested in their order, then the question, then the figures line by line. The time is that of
+/// `judge`, and of the counter table where the answer is beaten.
+pub fn judge_text(alloc: Global, bytes: &[u8]) -> Result<Told, Memory>
+    requires { length bytes.now < 2 ^ 40 }
+    ensures { IfOk result (Tells (lines bytes.now)) }
+{
+    match read_certificate(alloc, bytes) {
+        Ok(certificate) => told_of(alloc, &certificate),
+        Err(CertFault::BadLine { line }) => Ok(Told::BadLine { line }),
+        Err(CertFault::Memory) => Err(Memory),
+    }
+}

@@ -1,0 +1,23 @@
+//! Certificates, judged: what is told of the text of one, and the text of that.
+//!
+//! ```text
+//! fixes
+//! beaten inside OBJECT low LOW outside OBJECT high HIGH     then a bundle: the table that beats, and the query
+//! refused NAME FIELDS                                       one line
+//! ```
+#![tactic(auto)]
+
+mod counter;
+mod figures;
+mod judging;
+mod told;
+mod transcript;
+mod writing;
+
+pub use judging::judge_text;
+pub use told::Told;
+pub use writing::write_told;
+
+/// No memory was left.
+#[derive(Clone, Copy, Debug, PartialEq, Eq)]
+pub struct Memory;

@@ -1,0 +1,166 @@
+//! What is told of a text, written.
+
+ghost use Rattle.std.specs.Prelude.{◌≡◌, ◌++◌, ◌∷◌, [], map, OnOk, OnErr};
+ghost use Rattle.std.specs.List.{flat_map};
+ghost use Rattle.std.specs.Fmt.{decimal};
+ghost use Rattle.std.specs.Io.KnownBytes.{Appends};
+ghost use Rattle.tk_io.specs.Faults.{HasCause};
+ghost use Rattle.tk_io.specs.Whole.{TookFront};
+ghost use Rattle.tk_io.specs.Pieces.{Puts};
+ghost use Rattle.line_text.specs.Lines.{unlines};
+ghost use Rattle.ranked_list.specs.Bundle.{content, row_line, section, bundle_lines};
+ghost use Rattle.cert_judge.specs.Text.{refused_line, beaten_line, told_text};
+
+use super::told::Told;
+use ranked_list::{Bundle, MemList, Row};
+use tk_io::{Failed, Pieces, Sink};
+
+/// Puts a space and a number behind the bytes that wait.
+fn put_field<K: Sink>(out: &mut K, pieces: &mut Pieces, field: u64)
+    ensures { Puts (K.held out.old) (K.held out.new) (K.faults out.old) (K.faults out.new) pieces.old pieces.new
+        (32 ∷ decimal field) }
+{
+    pieces.put(out, b" ");
+    pieces.put_number(out, field);
+}
+
+/// Puts a space and a number for each field behind the bytes that wait.
+fn put_fields<K: Sink>(out: &mut K, pieces: &mut Pieces, fields: &[u64])
+    ensures { Puts (K.held out.old) (K.held out.new) (K.faults out.old) (K.faults out.new) pieces.old pieces.new
+        (flat_map (λ field. 32 ∷ decimal field) fields.now) }
+{
+    for field in fields {
+        put_field(out, pieces, *field);
+    }
+}
+
+/// Puts the line of a refusal behind the bytes that wait.
+fn put_refused<K: Sink>(out: &mut K, pieces: &mut Pieces, name: &[u8], fields: &[u64])
+    ensures { Puts (K.held out.old) (K.held out.new) (K.faults out.old) (K.faults out.new) pieces.old pieces.new
+        (refused_line name.now fields.now ++ 10 ∷ []) }
+{
+    pieces.put(out, b"refused ");
+    pieces.put(out, name);
+    put_fields(out, pieces, fields);
+    pieces.put(out, b"\n");
+}
+
+/// Puts the first line of a beaten answer behind the bytes that wait.
+fn put_beaten<K: Sink>(
+    out: &mut K,
+    pieces: &mut Pieces,
+    inside: u32,
+    low: u64,
+    outside: u32,
+    high: u64,
+)
+    ensures { Puts (K.held out.old) (K.held out.new) (K.faults out.old) (K.faults out.new) pieces.old pieces.new
+        (beaten_line inside low outside high ++ 10 ∷ []) }
+{
+    pieces.put(out, b"beaten inside ");
+    pieces.put_number(out, u64::from(inside));
+    pieces.put(out, b" low ");
+    pieces.put_number(out, low);
+    pieces.put(out, b" outside ");
+    pieces.put_number(out, u64::from(outside));
+    pieces.put(out, b" high ");
+    pieces.put_number(out, high);
+    pieces.put(out, b"\n");
+}
+
+/// Puts the line of a row behind the bytes that wait.
+fn put_row<K: Sink>(out: &mut K, pieces: &mut Pieces, row: Row)
+    ensures { Puts (K.held out.old) (K.held out.new) (K.faults out.old) (K.faults out.new) pieces.old pieces.new
+        (row_line row ++ 10 ∷ []) }
+{
+    pieces.put_number(out, u64::from(row.object));
+    pieces.put(out, b",");
+    pieces.put_number(out, u64::from(row.grade));
+    pieces.put(out, b"\n");
+}
+
+/// Puts the lines of rows behind the bytes that wait.
+fn put_rows<K: Sink>(out: &mut K, pieces: &mut Pieces, rows: &MemList)
+    ensures { Puts (K.held out.old) (K.held out.new) (K.faults out.old) (K.faults out.new) pieces.old pieces.new
+        (unlines (map row_line rows.now)) }
+{
+    for place in 0..rows.len() {
+        let Some(row) = rows.get(place) else {
+            unreachable!();
+        };
+        put_row(out, pieces, row);
+    }
+}
+
+/// Puts the lines of a list behind the bytes that wait.
+fn put_section<K: Sink>(out: &mut K, pieces: &mut Pieces, name: &[u8], rows: &MemList)
+    ensures { Puts (K.held out.old) (K.held out.new) (K.faults out.old) (K.faults out.new) pieces.old pieces.new
+        (unlines (section name.now rows.now)) }
+{
+    pieces.put(out, b"list ");
+    pieces.put(out, name);
+    pieces.put(out, b"\n");
+    put_rows(out, pieces, rows);
+}
+
+/// Puts the lines of a bundle behind the bytes that wait.
+fn put_bundle<K: Sink>(out: &mut K, pieces: &mut Pieces, bundle: &Bundle)
+    ensures { Puts (K.held out.old) (K.held out.new) (K.faults out.old) (K.faults out.new) pieces.old pieces.new
+        (unlines (bundle_lines (content bundle.now))) }
+{
+    let lists = bundle.names.len().min(bundle.lists.len());
+    for place in 0..lists {
+        put_section(out, pieces, &bundle.names[place], &bundle.lists[place]);
+    }
+    pieces.put(out, b"query ");
+    pieces.put(out, &bundle.query);
+    pieces.put(out, b"\n");
+}
+
+/// Puts what is told behind the bytes that wait.
+fn put_told<K: Sink>(out: &mut K, pieces: &mut Pieces, told: &Told)
+    ensures { Puts (K.held out.old) (K.held out.new) (K.faults out.old) (K.faults out.new) pieces.old pieces.new
+        (told_text told.now) }
+{
+    match told {
+        Told::BadLine { line } => put_refused(out, pieces, b"BadLine", &[*line]),
+        Told::Inconsistent { at, kind } => {
+            put_refused(out, pieces, b"Inconsistent", &[*at, u64::from(*kind)]);
+        }
+        Told::WildGuess { at } => put_refused(out, pieces, b"WildGuess", &[*at]),
+        Told::WrongSize { given, k } => {
+            put_refused(
+                out,
+                pieces,
+                b"WrongSize",
+                &[u64::from(*given), u64::from(*k)],
+            );
+        }
+        Told::UnseenAnswer { object } => {
+            put_refused(out, pieces, b"UnseenAnswer", &[u64::from(*object)]);
+        }
+        Told::Figure { line } => put_refused(out, pieces, b"Figure", &[*line]),
+        Told::Fixes => pieces.put(out, b"fixes\n"),
+        Told::Beaten {
+            inside,
+            outside,
+            low,
+            high,
+            counter,
+        } => {
+            put_beaten(out, pieces, *inside, *low, *outside, *high);
+            put_bundle(out, pieces, counter);
+        }
+    }
+}
+
+/// Writes what is told, in pieces of `tk_io::PIECE` bytes. Takes no memory.
+pub fn write_told<K: Sink>(out: &mut K, told: &Told) -> Result<(), Failed>
+    ensures whole { OnOk result (Appends (K.held out.old) (K.held out.new) (told_text told.now)) }
+    ensures front { OnErr result (TookFront (K.held out.old) (K.held out.new) (told_text told.now)) }
+    ensures cause { HasCause (K.faults out.old) (K.faults out.new) result }
+{
+    let mut pieces = Pieces::make();
+    put_told(out, &mut pieces, told);
+    pieces.end(out)
+}

@@ -1,0 +1,6 @@
+pub mod Judging
+pub mod Extremes
+pub mod Objects
+pub mod Question
+pub mod Verdicts
+pub mod Outside

@@ -1,0 +1,38 @@
+//! Whether a transcript fixes an answer, on every table that agrees with it; and where it doesn't, a table on
+//! which another object beats the answer.
+#![tactic(auto)]
+
+mod bound;
+mod counter;
+mod decision;
+mod extremes;
+mod objects;
+mod question;
+mod verdict;
+
+pub use counter::counter_table;
+pub use decision::judge;
+use std::alloc::{AllocError, AllocFailed};
+pub use verdict::{JudgeFault, Verdict};
+
+/// No memory was left.
+#[derive(Clone, Copy, Debug, PartialEq, Eq)]
+pub struct Memory;
+
+impl From<AllocError> for Memory {
+    fn from(_: AllocError) -> Memory {
+        Memory
+    }
+}
+
+impl<T: Drop> From<AllocFailed<T>> for Memory {
+    fn from(_: AllocFailed<T>) -> Memory {
+        Memory
+    }
+}
+
+impl From<ranked_list::Memory> for Memory {
+    fn from(_: ranked_list::Memory) -> Memory {
+        Memory
+    }
+}
