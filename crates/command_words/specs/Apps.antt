@@ -1,7 +1,12 @@
 -- The commands as `clap` has them.
-use Rattle.std.specs.Prelude.{true, codes}
-use Rattle.clap.specs.Simple.{App, new_app, on_top}
+use Rattle.std.specs.Prelude.{ℕ, true, List, Some, codes}
+use Rattle.clap.specs.Simple.{App, new_app, new_rule, on_top}
+use Rattle.clap.specs.Words.{Rule}
 
 -- a command without words and options, and without help and version
 abbrev pub bare_app : App
 bare_app = on_top (λ s. record s { disable_help_flag = true; disable_version_flag = true }) (new_app (codes "topk"))
+
+-- an option that has to be given, with a value
+abbrev pub needed_option : List ℕ → Rule
+needed_option name = record (new_rule name) { long = Some name; required = true }

@@ -2,9 +2,10 @@
 
 ghost use Rattle.std.specs.Prelude.{◌≡◌, None, Some, IfOk, OnOk, drop, true, false, option_and_then, slice_get};
 ghost use Rattle.clap.specs.Words.{app_of};
-ghost use Rattle.command_words.specs.Commands.{command_named, command_of, are_no_words};
+ghost use Rattle.command_words.specs.Commands.{command_named, command_of, bare_command, names_make, are_no_words};
 ghost use Rattle.command_words.specs.Apps.{bare_app};
 
+use super::making::{MakeOptions, read_make};
 use super::words::Words;
 use clap::error::ErrorKind;
 use std::alloc::Global;
@@ -16,6 +17,8 @@ pub enum Command {
     One,
     /// `judge`: judges a certificate.
     Judge,
+    /// `make`: writes a made table.
+    Make(MakeOptions),
 }
 
 /// Why words are no command.
@@ -32,6 +35,30 @@ pub fn read_command(alloc: Global, words: &Words) -> Result<Command, WordsFault>
     ensures read { IfOk result (λ command. command_of words.now ≡ Some command) }
     ensures refused { result ≡ Err WordsFault.BadWords → command_of words.now ≡ None }
 {
+    if !names_make(words) {
+        return read_bare(alloc, words);
+    }
+    match read_make(alloc, words) {
+        Ok(options) => Ok(Command::Make(options)),
+        Err(refusal) => Err(refusal),
+    }
+}
+
+/// Whether the first word names `make`.
+fn names_make(words: &Words) -> bool
+    ensures { result ≡ names_make words.now }
+{
+    let Some(name) = words.get(0) else {
+        return false;
+    };
+    name == "make"
+}
+
+/// The command that the words are, of those that take no words.
+fn read_bare(alloc: Global, words: &Words) -> Result<Command, WordsFault>
+    ensures read { IfOk result (λ command. bare_command words.now ≡ Some command) }
+    ensures refused { result ≡ Err WordsFault.BadWords → bare_command words.now ≡ None }
+{
     let Some(command) = named(words) else {
         return Err(WordsFault::BadWords);
     };
@@ -41,7 +68,7 @@ pub fn read_command(alloc: Global, words: &Words) -> Result<Command, WordsFault>
     }
 }
 
-/// The command that the first word names.
+/// The command without words that the first word names.
 fn named(words: &Words) -> Option<Command>
     ensures { result ≡ option_and_then command_named (slice_get words.now 0) }
 {
@@ -51,7 +78,7 @@ fn named(words: &Words) -> Option<Command>
     }
 }
 
-/// The command of this name.
+/// The command without words of this name.
 fn command_named(name: &str) -> Option<Command>
     ensures { result ≡ command_named name.now }
 {
@@ -81,7 +108,7 @@ fn read_none(alloc: Global, words: &Words) -> Result<(), WordsFault>
 }
 
 /// A command that takes no words, without help and version options.
-fn bare_command<'a>(alloc: Global) -> clap::Command<'a>
+pub(crate) fn bare_command<'a>(alloc: Global) -> clap::Command<'a>
     ensures { app_of result ≡ bare_app }
 {
     clap::Command::new(alloc, "topk")

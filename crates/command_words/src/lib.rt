@@ -6,10 +6,14 @@
 
 mod command;
 mod given;
+mod laws;
+mod making;
 mod words;
 
 pub use command::{Command, WordsFault, read_command};
 pub use given::read_words;
+pub use laws::words_give_what_their_line_gives;
+pub use making::MakeOptions;
 pub use words::Words;
 
 /// No memory was left.

@@ -1,0 +1,147 @@
+#!/usr/bin/env python3
+"""How long queries over made tables take: a table of accesses, seconds, and seconds per million accesses.
+
+Use, with a built ./topk:  bench/bench.py [--lists 2,4,8] [--counts 2000,20000,200000]
+    [--operators sum,min,median] [--algorithms ta,nra] [--rounds 3] [--timeout 120]
+
+Each table is made by `topk make` from the same number, and each query asks by `topk one` for the first 10
+objects. Seconds are those of the processor, the least of the rounds, without the time that reading the
+bundle takes, which is measured by a query that names no list of it. Tables of fewer than 20,000 rows get
+as many more rounds as they are smaller. The memory is the process's at its most. Of an algorithm the
+greater tables are left out once a query took longer than the timeout.
+"""
+
+import argparse
+import os
+import resource
+import subprocess
+import sys
+import tempfile
+import time
+from dataclasses import dataclass
+
+PROGRAM = "./topk"
+START = 1
+K = 10
+
+
+@dataclass
+class Run:
+    """What became of one run of the program."""
+
+    seconds: float
+    megabytes: int
+    status: int
+    text: bytes
+
+
+def run(bundle, timeout):
+    """Runs `topk one` over a bundle, or gives None where it takes longer than the timeout."""
+    with open(bundle, "rb") as source, tempfile.TemporaryFile() as out:
+        child = subprocess.Popen(
+            [PROGRAM, "one"],
+            stdin=source,
+            stdout=out,
+            preexec_fn=lambda: resource.setrlimit(resource.RLIMIT_CPU, (timeout, timeout)),
+        )
+        _, ended, used = os.wait4(child.pid, 0)
+        child.returncode = os.waitstatus_to_exitcode(ended)
+        if child.returncode < 0:
+            return None
+        out.seek(0)
+        text = out.read()
+    return Run(used.ru_utime + used.ru_stime, used.ru_maxrss // 1024, child.returncode, text)
+
+
+def fastest(bundle, rounds, timeout):
+    """The run that took the least time, or None where one took longer than the timeout."""
+    best = None
+    for _ in range(rounds):
+        one = run(bundle, timeout)
+        if one is None:
+            return None
+        if best is None or one.seconds < best.seconds:
+            best = one
+    return best
+
+
+def accesses(text):
+    """The numbers of accesses of a certificate: `stop depth D sorted S random R cost C`."""
+    for line in text.splitlines():
+        words = line.split()
+        if words and words[0] == b"stop":
+            return int(words[4]) + int(words[6])
+    return None
+
+
+def write_bundle(path, table, query):
+    with open(path, "wb") as bundle:
+        bundle.write(table + f"query {query}\n".encode())
+
+
+def made_table(count, lists):
+    words = [PROGRAM, "make", "--start", str(START), "--count", str(count), "--lists", str(lists)]
+    return subprocess.run(words, stdout=subprocess.PIPE, check=True).stdout
+
+
+def row(cells):
+    print("| " + " | ".join(cells) + " |", flush=True)
+
+
+def measure(arguments, folder, lists, count, slow):
+    """A row for each query over one table."""
+    path = os.path.join(folder, "bundle")
+    rounds = arguments.rounds * max(1, 20_000 // count)
+    table = made_table(count, lists)
+    write_bundle(path, table, "top 1 by none using ta")
+    reading = fastest(path, rounds, arguments.timeout).seconds
+    names = ",".join(f"l{number + 1}" for number in range(lists))
+    for algorithm in arguments.algorithms:
+        for operator in arguments.operators:
+            if (algorithm, operator, lists) in slow:
+                continue
+            write_bundle(path, table, f"top {min(K, count)} by {operator}({names}) using {algorithm}")
+            best = fastest(path, rounds, arguments.timeout)
+            cells = [algorithm, operator, str(lists), str(count)]
+            if best is None:
+                slow.add((algorithm, operator, lists))
+                row(cells + ["", f"over {arguments.timeout}", "", ""])
+                continue
+            if best.status != 0:
+                sys.exit(f"{cells} ended with {best.status}: {best.text[:80]}")
+            made = accesses(best.text)
+            seconds = max(best.seconds - reading, 0.0)
+            each = f"{seconds * 1_000_000 / made:.2f}"
+            row(cells + [str(made), f"{seconds:.3f}", each, str(best.megabytes)])
+
+
+def numbers(text):
+    return [int(word) for word in text.split(",")]
+
+
+def words(text):
+    return text.split(",")
+
+
+def main():
+    parser = argparse.ArgumentParser(description=__doc__, formatter_class=argparse.RawDescriptionHelpFormatter)
+    parser.add_argument("--lists", type=numbers, default=[2, 4, 8])
+    parser.add_argument("--counts", type=numbers, default=[2_000, 20_000, 200_000])
+    parser.add_argument("--operators", type=words, default=["sum", "min", "median"])
+    parser.add_argument("--algorithms", type=words, default=["ta", "nra"])
+    parser.add_argument("--rounds", type=int, default=3)
+    parser.add_argument("--timeout", type=int, default=120)
+    arguments = parser.parse_args()
+    began = time.monotonic()
+    row(["algorithm", "operator", "lists", "rows of a list", "accesses", "seconds", "seconds for a million", "MB"])
+    row(["---"] * 8)
+    slow = set()
+    with tempfile.TemporaryDirectory() as folder:
+        for lists in arguments.lists:
+            for count in sorted(arguments.counts):
+                measure(arguments, folder, lists, count, slow)
+    print(f"in all {time.monotonic() - began:.0f} s", file=sys.stderr)
+
+
+if __name__ == "__main__":
+    main()

@@ -1,0 +1,99 @@
+//! The words of `make`.
+
+ghost use Rattle.std.specs.Prelude.{◌≡◌, ◌≤◌, false, None, Some, IfOk, IfSome, option_map};
+ghost use Rattle.clap.specs.Words.{app_of, rule_of, rows_of, found_of};
+ghost use Rattle.command_words.specs.Apps.{needed_option};
+ghost use Rattle.command_words.specs.Making.{make_app, make_options, options_in, number_in, number_given};
+
+use super::command::{WordsFault, bare_command};
+use super::words::Words;
+use clap::error::ErrorKind;
+use clap::{Arg, ArgMatches};
+use line_text::number_up_to;
+use std::alloc::{AllocError, Global};
+
+/// The greatest number that a table is made from.
+const MAX_START: u64 = 0x7fff_ffff_ffff_ffff;
+
+/// The most objects of a made table.
+const MAX_COUNT: u64 = 200_000;
+
+/// The most lists of a made table.
+const MAX_LISTS: u64 = 8;
+
+/// Which table is to be made.
+#[derive(Clone, Copy, Debug, PartialEq, Eq)]
+pub struct MakeOptions {
+    /// The number that it is made from, at most 2^63 - 1.
+    pub start: u64,
+    /// How many objects it has, 1 to 200,000.
+    pub count: u32,
+    /// How many lists it has, 1 to 8.
+    pub lists: u8,
+}
+
+/// Reads the words as those of `make`: `--start`, `--count` and `--lists`, each once and with a number
+/// within its range.
+pub(crate) fn read_make(alloc: Global, words: &Words) -> Result<MakeOptions, WordsFault>
+    ensures read { IfOk result (λ options. make_options words.now ≡ Some options) }
+    ensures refused { result ≡ Err WordsFault.BadWords → make_options words.now ≡ None }
+{
+    let Ok(command) = make_command(alloc) else {
+        return Err(WordsFault::Memory);
+    };
+    match command.try_get_matches_from(words.as_slice()) {
+        Ok(matches) => options_of(&matches).ok_or(WordsFault::BadWords),
+        Err(error) => match error.kind() {
+            ErrorKind::OutOfMemory => Err(WordsFault::Memory),
+            _ => Err(WordsFault::BadWords),
+        },
+    }
+}
+
+/// A command with the three options, without help and version options.
+fn make_command<'a>(alloc: Global) -> Result<clap::Command<'a>, AllocError>
+    ensures { IfOk result (λ command. app_of command ≡ make_app) }
+{
+    bare_command(alloc)
+        .arg(needed(alloc, "start"))?
+        .arg(needed(alloc, "count"))?
+        .arg(needed(alloc, "lists"))
+}
+
+/// An option that has to be given, with a value.
+fn needed<'a>(alloc: Global, name: &'a str) -> Arg<'a>
+    ensures rule { rule_of result ≡ needed_option name.now }
+    ensures local { result.global ≡ false }
+{
+    Arg::new(alloc, name).long(name).required(true)
+}
+
+/// What was given of the three options, where each number is within its range.
+fn options_of(matches: &ArgMatches) -> Option<MakeOptions>
+    ensures { result ≡ options_in (rows_of (found_of matches.now)) }
+{
+    Some(MakeOptions {
+        start: number_of(matches, "start", 0, MAX_START)?,
+        count: number_of(matches, "count", 1, MAX_COUNT)? as u32,
+        lists: number_of(matches, "lists", 1, MAX_LISTS)? as u8,
+    })
+}
+
+/// The number of an option, where one within its range was given.
+fn number_of(matches: &ArgMatches, name: &str, least: u64, most: u64) -> Option<u64>
+    ensures number { result ≡ number_in (rows_of (found_of matches.now)) name.now least most }
+    ensures within { IfSome result (λ number. number ≤ most) }
+{
+    number_given(matches.get_str(name), least, most)
+}
+
+/// The number that a value spells, where there is one within its range.
+fn number_given(value: Option<&str>, least: u64, most: u64) -> Option<u64>
+    ensures number { result ≡ number_given (option_map (λ text. text.now) value.entry) least most }
+    ensures within { IfSome result (λ number. number ≤ most) }
+{
+    match number_up_to(value?.as_bytes(), most) {
+        Some(number) if number >= least => Some(number),
+        _ => None,
+    }
+}

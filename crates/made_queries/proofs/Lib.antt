@@ -1,0 +1,4 @@
+-- Made queries are lawful.
+mod Growing
+mod Trees
+mod Lawful

@@ -1,0 +1,7 @@
+use Rattle.std.proofs.Common.{◌≡◌, map}
+use Rattle.monotone_fn.specs.Shown.{tree_of}
+use Rattle.made_queries.specs.Made.{list_trees}
+use Rattle.made_queries.proofs.expression.list_nodes.Given as goal
+
+abbrev pub invariant-loop-list : goal.invariant-loop-list
+invariant-loop-list l = map tree_of l.nodes.items ≡ list_trees l.list

@@ -1,0 +1,2 @@
+-- Queries that are made from a number.
+pub mod Made

@@ -1,0 +1,2 @@
+-- Tables that are made from a number.
+pub mod Made

@@ -1,0 +1,12 @@
+//! Tables that are made from a number, the same ones wherever they are made.
+#![tactic(auto)]
+
+mod generator;
+mod order;
+mod table;
+
+pub use table::make_table;
+
+/// No memory was left.
+#[derive(Clone, Copy, Debug, PartialEq, Eq)]
+pub struct Memory;

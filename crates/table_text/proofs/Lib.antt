@@ -1,0 +1,2 @@
+-- Lemmas on sections.
+pub mod Sections

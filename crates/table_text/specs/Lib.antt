@@ -1,0 +1,2 @@
+-- The names of lists that have numbers.
+pub mod Numbered

@@ -1,0 +1,7 @@
+//! Tables as text: each list is a section, as in a bundle.
+#![tactic(auto)]
+
+mod rows;
+mod table;
+
+pub use table::write_table;
