@@ -89,6 +89,12 @@ pub found_some : (looked entries : List Entry) (text place : List ℕ) (o : Opti
 found_some looked entries text place o same_entries same_text is some =
     subst (λ es. is_known (noted_entries es) place ≡ true) same_entries (subst (λ t. is_known (noted_entries looked) t ≡ true) same_text (some_known looked text o is some))
 
+-- whether a look-up found something
+pub found_known : (looked entries : List Entry) (text place : List ℕ) (o : Option ℕ) → looked ≡ entries → text ≡ place → o ≡ position (is_of text) looked
+    → is_some o ≡ is_known (noted_entries entries) place
+found_known looked entries text place None same_entries same_text is = sym (not_found looked entries text place same_entries same_text is)
+found_known looked entries text place (Some at) same_entries same_text is = sym (found_some looked entries text place (Some at) same_entries same_text is refl)
+
 pub counts_unknown : (ns : List Noted) (place : List ℕ) → is_known ns place ≡ false → counts_at ns place ≡ nothing_at
 counts_unknown [] place h = refl
 counts_unknown (n ∷ ns) place h = by (bytes_eq n.place place) h (counts_unknown ns place)

@@ -1,5 +1,5 @@
 -- What a shelf counts, place by place.
-use Rattle.std.specs.Prelude.{◌≡◌, ◌≢◌, ℕ, ◌≤◌, Bool, true, List, [], ◌∷◌, if◌then◌else◌}
+use Rattle.std.specs.Prelude.{◌≡◌, ◌≢◌, ℕ, ◌≤◌, Bool, true, false, List, [], ◌∷◌, if◌then◌else◌}
 use Rattle.std.specs.List.{list_any}
 use Rattle.std.specs.Str.{bytes_eq}
 use Rattle.tk_io.specs.Faults.{counted, Rose}
@@ -60,6 +60,11 @@ HasTakeCause before now Memory = Unit {0}
 -- the counts of a source were added to those of its place
 abbrev pub with_source : Counts → PlaceCounts → PlaceCounts
 with_source counts before = record before { sources = added before.sources counts }
+
+-- a source was put back at a place: its counts were added where the place is known, and else nothing changed
+abbrev pub put_back_at : Bool → Counts → PlaceCounts → PlaceCounts
+put_back_at true counts before = with_source counts before
+put_back_at false counts before = before
 
 -- the most bytes of a text
 abbrev pub text_limit : ℕ

@@ -2,7 +2,7 @@
 
 ghost use Rattle.std.specs.Prelude.{◌≡◌, [], true, List, ℕ, position, OnOk, OnErr};
 ghost use Rattle.std.specs.Str.{bytes_eq};
-ghost use Rattle.source_api.specs.Places.{nothing_at, counts_at, is_known, SameAtEach, SameElsewhere, IsTextFault, IsTakeFault, with_source};
+ghost use Rattle.source_api.specs.Places.{nothing_at, counts_at, is_known, SameAtEach, SameElsewhere, IsTextFault, IsTakeFault, put_back_at};
 
 use super::{Counts, Memory};
 use std::alloc::Global;
@@ -120,13 +120,22 @@ impl Ledger {
         Ok(())
     }
 
-    /// Adds what a source counted to the counts of its place, which is known.
+    /// Whether counts of a place are kept.
+    pub fn knows(&self, place: &str) -> bool
+        ensures { result ≡ is_known self.now place.now }
+    {
+        place_of(&self.entries, place.as_bytes()).is_some()
+    }
+
+    /// Adds what a source counted to the counts of its place. Where the place isn't known nothing changes.
     pub fn add_source(&mut self, place: &str, source: Counts)
-        requires { is_known self.old place.now ≡ true }
-        ensures here { counts_at self.new place.now ≡ with_source source (counts_at self.old place.now) }
+        ensures here { counts_at self.new place.now ≡ put_back_at (is_known self.old place.now) source (counts_at self.old place.now) }
         ensures elsewhere { SameElsewhere place.now (counts_at self.old) (counts_at self.new) }
         ensures known { (other : List ℕ) → is_known self.new other ≡ is_known self.old other }
     {
+        if !self.knows(place) {
+            return;
+        }
         let mut counts = self.at(place);
         counts.sources.add(source);
         self.set(place, counts);

@@ -4,7 +4,7 @@ ghost use Rattle.std.specs.Prelude.{◌≡◌, ◌∷◌, [], true, ℕ, List, O
 ghost use Rattle.std.specs.Option.{option_and_then};
 ghost use Rattle.source_api.specs.Counting.{no_counts};
 ghost use Rattle.source_api.specs.InMemory.{told_list, unused, next_call};
-ghost use Rattle.source_api.specs.Places.{counts_at, is_known, SameAtEach, SameElsewhere, with_source};
+ghost use Rattle.source_api.specs.Places.{counts_at, is_known, SameAtEach, SameElsewhere, put_back_at};
 ghost use Rattle.source_api.specs.Shelved.{Shelved, text_at, source_at};
 ghost use Rattle.source_api.specs.OnShelf.{placed_texts, placed_sources, in_limit, AnswersText, AnswersTake, AfterText, AfterTake};
 
@@ -191,11 +191,11 @@ impl Shelf for MemShelf {
     }
 
     fn put_back(&mut self, place: &str, item: MemSource)
-        requires { is_known self.old.ledger place.now ≡ true }
         ensures after { self.new ≡ record self.old { ledger = self.new.ledger } }
         ensures known { (other : List ℕ) → is_known self.new.ledger other ≡ is_known self.old.ledger other }
         ensures elsewhere { SameElsewhere place.now (counts_at self.old.ledger) (counts_at self.new.ledger) }
-        ensures counts { counts_at self.new.ledger place.now ≡ with_source item.counts (counts_at self.old.ledger place.now) }
+        ensures counts { counts_at self.new.ledger place.now
+            ≡ put_back_at (is_known self.old.ledger place.now) item.counts (counts_at self.old.ledger place.now) }
     {
         self.ledger.add_source(place, item.counts());
     }

@@ -4,7 +4,7 @@ ghost use Rattle.std.specs.Prelude.{◌≡◌, ◌≤◌, true, ℕ, Bool, List,
 ghost use Rattle.ranked_list.specs.declared.row.Row.{Row as RowOf};
 ghost use Rattle.source_api.specs.declared.ledger.PlaceCounts.{PlaceCounts as PlaceCountsOf};
 ghost use Rattle.source_api.specs.Counting.{no_counts};
-ghost use Rattle.source_api.specs.Places.{SameAtEach, SameElsewhere, CountsTexts, CountsTakes, HasTextCause, HasTakeCause, with_source, text_limit};
+ghost use Rattle.source_api.specs.Places.{SameAtEach, SameElsewhere, CountsTexts, CountsTakes, HasTextCause, HasTakeCause, put_back_at, text_limit};
 
 use super::{Source, Trouble};
 use std::alloc::Global;
@@ -15,7 +15,7 @@ use std::alloc::Global;
 /// tells them. No call changes them. `at` is what the shelf has counted at a place: calls for its
 /// text that failed, calls that should have taken its source and failed, and what the sources had
 /// counted that were put back there. A count stands still at the last value of its type. `knows` are
-/// the places whose sources can be put back: those of which one was taken.
+/// the places at which sources that are put back count: those of which one was taken.
 pub trait Shelf {
     type Item: Source;
 
@@ -53,11 +53,11 @@ pub trait Shelf {
         ensures knows { OnOk result (knows self.new place.now ≡ true) };
 
     /// Takes a source back that was taken of the place, and adds what it counted to the counts there.
+    /// Where none was ever taken of the place nothing is counted, since this call takes no memory.
     fn put_back(&mut self, place: &str, item: Self::Item)
-        requires { knows self.old place.now ≡ true }
         ensures texts { SameAtEach (texts self.old) (texts self.new) }
         ensures lists { SameAtEach (lists self.old) (lists self.new) }
         ensures known { (other : List ℕ) → knows self.old other ≡ true → knows self.new other ≡ true }
         ensures elsewhere { SameElsewhere place.now (at self.old) (at self.new) }
-        ensures counts { at self.new place.now ≡ with_source (Self.Item.counts item) (at self.old place.now) };
+        ensures counts { at self.new place.now ≡ put_back_at (knows self.old place.now) (Self.Item.counts item) (at self.old place.now) };
 }

@@ -1,11 +1,8 @@
 -- The inner structures keep their places, their open grades and their cursor.
 use Rattle.std.proofs.Common.{◌≡◌, ◌≢◌, ◌<◌, ◌≤◌, ◌==◌, ◌+◌, ◌-◌, inl, inr, ℕ, zero, suc, Bool, true, false, cond, not, Option, Some, None, List, [], ◌∷◌, ◌++◌, length, map, replicate, set, get_or, nat_lt, nat_eq, slice_get, slice_index_or, AllPairs, Contains, refl, sym, ap, subst, ◌∙◌, arith, append_assoc, eqb-true, ◌&&◌}
-use Rattle.std.specs.List.{find, position, position_or_len}
+use Rattle.std.specs.List.{find, position, position_or_len, cons_option}
 use Rattle.std.specs.Option.{option_map}
-use Rattle.std.specs.Ordering.{nat_cmp}
-use Rattle.std.specs.Cmp.{nat_cmp_is}
-use Rattle.std.specs.declared.cmp.Ordering.TheVariants.{Greater}
-use Rattle.std.proofs.lemmas.Bool.{cases_Bool, ltb-false, ltb-true, le-ltb}
+use Rattle.std.proofs.lemmas.Bool.{cases_Bool, ltb-false, ltb-true, le-ltb, lt-ltb}
 use Rattle.std.proofs.lemmas.List.{length-append, length-map, length-set, set-append_left, map-set, map-append, get_or_append_left}
 use Rattle.std.proofs.lemmas.List.Sums.{fails_before_first, passes_at_first}
 use Rattle.std.proofs.lemmas.List.Quantifiers.{all_pairs_push}
@@ -13,13 +10,13 @@ use Rattle.std.proofs.lemmas.Option.{slice_get-map, slice_get_within}
 use Rattle.ranked_list.specs.declared.row.Row.{Row}
 use Rattle.ranked_list.specs.Table.{objects}
 use Rattle.room_map.specs.Keys.{Keys}
-use Rattle.indexed_heap.specs.Ranks.{rank_at, HasNone, IsGreatest}
+use Rattle.grade_tree.specs.Grades.{grade_at, AreWithin, IsFirstAbove}
 use Rattle.topk_theory.specs.Transcript.{last_grade}
 use Rattle.topk_theory.specs.Bounds.{grade_among}
 use Rattle.topk_theory.proofs.AgreementLists.{contains_at, contains_here, contains_there, contains_cases, contains_map, contains_nil, slice_get_contains, distinct_head, distinct_tail}
 use Rattle.source_state.specs.declared.ask.Ask.{Ask}
 use Rattle.source_state.specs.declared.entry.Settling.{Settling}
-use Rattle.source_state.specs.Asks.{ask_of, open_grade, open_row, open_rows, first_above, is_due, change, new_ask, stops, AreWithin}
+use Rattle.source_state.specs.Asks.{ask_of, open_grade, open_row, open_rows, first_above, is_due, change, new_ask, stops}
 use Rattle.source_state.specs.Keeping.{AskList, KeepsAsks, ask_objects}
 use Rattle.source_state.proofs.Lists.{eqb_same, eqb_other, eqb_swap, position_map, find_at_position, find_no_position, find_none, filter_map_from, none_not_some, cond_none}
 
@@ -175,8 +172,8 @@ none_open : (object : ℕ) (held : Bool) → open_grade (new_ask object held) �
 none_open object true = refl
 none_open object false = refl
 
-ranks_push : (room : ℕ) (asks : List Ask) (object : ℕ) (held : Bool) → length asks < room → map open_grade asks ++ replicate (room - length asks) None ≡ map open_grade (asks ++ new_ask object held ∷ []) ++ replicate (room - length (asks ++ new_ask object held ∷ [])) None
-ranks_push room asks object held few =
+grades_push : (room : ℕ) (asks : List Ask) (object : ℕ) (held : Bool) → length asks < room → map open_grade asks ++ replicate (room - length asks) None ≡ map open_grade (asks ++ new_ask object held ∷ []) ++ replicate (room - length (asks ++ new_ask object held ∷ [])) None
+grades_push room asks object held few =
     let ask : Ask = new_ask object held in
     let rest : ℕ = room - length (asks ++ ask ∷ []) in
     let left : room - length asks ≡ suc rest = omega (arith, length-append asks (ask ∷ [])) in
@@ -189,7 +186,7 @@ ranks_push room asks object held few =
 keeps_pushed : (places : Keys) (asks : List Ask) (grades : List (Option ℕ)) (cursor next capacity reserved object : ℕ) (held : Bool) → KeepsAsks (record { room = places.room; asks = asks }) places grades cursor capacity → ask_of asks object ≡ None → length asks < places.room → next ≡ position_or_len is_due (asks ++ new_ask object held ∷ []) → capacity ≤ reserved → KeepsAsks (record { room = places.room; asks = asks ++ new_ask object held ∷ [] }) (record places { keys = places.keys ++ object ∷ [] }) grades next reserved
 keeps_pushed places asks grades cursor next capacity reserved object held k absent few at large = record {
   keys = ap (λ os. os ++ object ∷ []) k.keys ∙ sym (map-append (λ (ask : Ask). ask.object) asks (new_ask object held ∷ []));
-  ranks = k.ranks ∙ ranks_push places.room asks object held few;
+  stands = k.stands ∙ grades_push places.room asks object held few;
   cursor = at;
   distinct = subst (AllPairs (λ (one : ℕ) (other : ℕ). one ≢ other)) (sym (map-append (λ (ask : Ask). ask.object) asks (new_ask object held ∷ [])))
       (all_pairs_push (λ (one : ℕ) (other : ℕ). one ≢ other) (ask_objects asks) object k.distinct
@@ -210,7 +207,7 @@ keeps_push places added asks more grades cursor next capacity reserved object he
 pub keeps_put : (places : Keys) (asks : List Ask) (grades after : List (Option ℕ)) (cursor next capacity place : ℕ) (ask : Ask) → KeepsAsks (record { room = places.room; asks = asks }) places grades cursor capacity → option_map (λ (had : Ask). had.object) (slice_get asks place) ≡ Some ask.object → after ≡ set grades place (open_grade ask) → next ≡ position_or_len is_due (set asks place ask) → KeepsAsks (record { room = places.room; asks = set asks place ask }) places after next capacity
 keeps_put places asks grades after cursor next capacity place ask k same written at = record {
   keys = k.keys ∙ sym objects_stay;
-  ranks = written ∙ ap (λ gs. set gs place (open_grade ask)) k.ranks ∙ set-append_left (map open_grade asks) (replicate (places.room - length asks) None) place (open_grade ask) (subst (λ n. place < n) (sym (length-map asks open_grade)) within)
+  stands = written ∙ ap (λ gs. set gs place (open_grade ask)) k.stands ∙ set-append_left (map open_grade asks) (replicate (places.room - length asks) None) place (open_grade ask) (subst (λ n. place < n) (sym (length-map asks open_grade)) within)
       ∙ ap (λ gs. gs ++ replicate (places.room - length asks) None) (sym (map-set open_grade asks place ask))
       ∙ ap (λ n. map open_grade (set asks place ask) ++ replicate (places.room - n) None) (sym (length-set asks place ask));
   cursor = at;
@@ -234,10 +231,10 @@ read_mapped f [] i ask l e = absurd (omega arith)
 read_mapped f (first ∷ asks) zero ask l e = ap f e
 read_mapped f (first ∷ asks) (suc i) ask l e = read_mapped f asks i ask (omega arith) e
 
--- the open grade of an ask stands in the heap
-rank_of : (list : AskList) (places : Keys) (grades : List (Option ℕ)) (cursor capacity : ℕ) (ask : Ask) → KeepsAsks list places grades cursor capacity → (c : Contains list.asks ask) → rank_at grades c.0 ≡ open_grade ask
-rank_of list places grades cursor capacity ask k c =
-    ap (λ gs. slice_index_or gs c.0 None) k.ranks
+-- the open grade of an ask stands in the tree
+grade_of : (list : AskList) (places : Keys) (grades : List (Option ℕ)) (cursor capacity : ℕ) (ask : Ask) → KeepsAsks list places grades cursor capacity → (c : Contains list.asks ask) → grade_at grades c.0 ≡ open_grade ask
+grade_of list places grades cursor capacity ask k c =
+    ap (λ gs. slice_index_or gs c.0 None) k.stands
     ∙ get_or_append_left (map open_grade list.asks) (replicate (list.room - length list.asks) None) None c.0 (subst (λ n. c.0 < n) (sym (length-map list.asks open_grade)) c.1)
     ∙ read_mapped open_grade list.asks c.0 ask c.1 c.2
 
@@ -258,26 +255,64 @@ none_above asks bottom h =
 
 pub bounded_none_above : (list : AskList) (places : Keys) (grades : List (Option ℕ)) (cursor capacity bottom : ℕ) → KeepsAsks list places grades cursor capacity → AreWithin grades bottom → first_above bottom list.asks ≡ None
 bounded_none_above list places grades cursor capacity bottom k within =
-    none_above list.asks bottom (λ ask c grade e. within.each c.0 grade (rank_of list places grades cursor capacity ask k c ∙ e))
+    none_above list.asks bottom (λ ask c grade e. within.each c.0 grade (grade_of list places grades cursor capacity ask k c ∙ e))
 
--- what the greatest grade of a heap says of the others
-not_greater : (a b : ℕ) → (nat_cmp a b ≡ Greater → ⊥) → a ≤ b
-not_greater a b h =
-    elim (cases_Bool (nat_lt b a)) [
-      | inl t ↦ absurd (h (sym (nat_cmp_is a b Greater (ltb-true b a t))))
-      | inr f ↦ ltb-false b a f
-    ]
+-- where a place is the first whose grade is above one, its ask is the first that is
+abbrev row_of : ℕ → Option ℕ → Option Row
+row_of object grade = option_map (λ (g : ℕ). let one : Row = record { object = object; grade = g } in one) grade
 
-pub top_within : (grades : List (Option ℕ)) (bottom key rank : ℕ) → IsGreatest nat_cmp grades key rank → nat_lt bottom rank ≡ false → AreWithin grades bottom
-top_within grades bottom key rank top low = record {
-  each = λ place grade e.
-      let at_most : grade ≤ rank = not_greater grade rank (top.none_above place grade e) in
-      let below : rank ≤ bottom = ltb-false bottom rank low in
-      omega arith;
-}
+found_here : (bottom object : ℕ) (o : Option ℕ) (rest : List Row) (grade : ℕ) → o ≡ Some grade → bottom < grade → row_of object o ≡ find (λ (row : Row). nat_lt bottom row.grade) (cons_option (row_of object o) rest)
+found_here bottom object None rest grade e above = absurd (none_not_some e)
+found_here bottom object (Some other) rest grade e above =
+    let is : other ≡ grade = cc in
+    let one : Row = record { object = object; grade = other } in
+    ap (λ b. cond b (Some one) (find (λ (row : Row). nat_lt bottom row.grade) rest)) (sym (lt-ltb bottom other (omega arith)))
 
-pub none_within : (grades : List (Option ℕ)) (bottom : ℕ) → HasNone grades → AreWithin grades bottom
-none_within grades bottom none = record { each = λ place grade e. absurd (none_not_some (sym (none place) ∙ e)) }
+passed_by : (bottom object : ℕ) (o : Option ℕ) (rest : List Row) → ((other : ℕ) → o ≡ Some other → other ≤ bottom) → find (λ (row : Row). nat_lt bottom row.grade) (cons_option (row_of object o) rest) ≡ find (λ (row : Row). nat_lt bottom row.grade) rest
+passed_by bottom object None rest low = refl
+passed_by bottom object (Some other) rest low =
+    let one : Row = record { object = object; grade = other } in
+    ap (λ b. cond b (Some one) (find (λ (row : Row). nat_lt bottom row.grade) rest)) (le-ltb bottom other (low other refl))
+
+first_at : (bottom : ℕ) (asks : List Ask) (place grade : ℕ) → ((before other : ℕ) → before < place → slice_index_or (map open_grade asks) before None ≡ Some other → other ≤ bottom) → slice_index_or (map open_grade asks) place None ≡ Some grade → bottom < grade → (ask : Ask) × (slice_get asks place ≡ Some ask) × (open_row ask ≡ first_above bottom asks)
+first_at bottom [] place grade before e above = absurd (none_not_some e)
+first_at bottom (ask ∷ asks) zero grade before e above = (ask, refl, found_here bottom ask.object (open_grade ask) (open_rows asks) grade e above)
+first_at bottom (ask ∷ asks) (suc place) grade before e above =
+    let rest = first_at bottom asks place grade (λ at other less is. before (suc at) other (omega arith) is) e above in
+    (rest.0, rest.1, rest.2 ∙ sym (passed_by bottom ask.object (open_grade ask) (open_rows asks) (λ other is. before 0 other (omega arith) is)))
+
+-- a grade that stands in a list stands in the longer one, and none stands in what only fills it up
+grade_kept : (grades more : List (Option ℕ)) (place grade : ℕ) → slice_index_or grades place None ≡ Some grade → slice_index_or (grades ++ more) place None ≡ Some grade
+grade_kept [] more place grade e = absurd (none_not_some e)
+grade_kept (first ∷ grades) more zero grade e = e
+grade_kept (first ∷ grades) more (suc place) grade e = grade_kept grades more place grade e
+
+none_filled : (n place grade : ℕ) → slice_index_or (replicate n None) place None ≡ Some grade → ⊥
+none_filled zero place grade e = none_not_some e
+none_filled (suc n) zero grade e = none_not_some e
+none_filled (suc n) (suc place) grade e = none_filled n place grade e
+
+grade_inside : (grades : List (Option ℕ)) (n place grade : ℕ) → slice_index_or (grades ++ replicate n None) place None ≡ Some grade → slice_index_or grades place None ≡ Some grade
+grade_inside [] n place grade e = absurd (none_filled n place grade e)
+grade_inside (first ∷ grades) n zero grade e = e
+grade_inside (first ∷ grades) n (suc place) grade e = grade_inside grades n place grade e
+
+pub first_found : (list : AskList) (places : Keys) (grades : List (Option ℕ)) (cursor capacity bottom place : ℕ) → KeepsAsks list places grades cursor capacity → IsFirstAbove grades bottom place → (ask : Ask) × (slice_get list.asks place ≡ Some ask) × (open_row ask ≡ first_above bottom list.asks)
+first_found list places grades cursor capacity bottom place k found =
+    first_at bottom list.asks place found.grade
+    (λ before other less e. found.none_before before other less (ap (λ gs. slice_index_or gs before None) k.stands ∙ grade_kept (map open_grade list.asks) (replicate (list.room - length list.asks) None) before other e))
+    (grade_inside (map open_grade list.asks) (list.room - length list.asks) place found.grade (sym (ap (λ gs. slice_index_or gs place None) k.stands) ∙ found.there))
+    found.above
+
+-- what is read at the place of the first grade above one
+pub read_above : (bottom place : ℕ) (list : AskList) (ask : Ask) → (found : Ask) × (slice_get list.asks place ≡ Some found) × (open_row found ≡ first_above bottom list.asks) → Some ask ≡ slice_get list.asks place → open_row ask ≡ first_above bottom list.asks
+read_above bottom place list ask first read =
+    let same : Some ask ≡ Some first.0 = read ∙ first.1 in
+    let is : ask ≡ first.0 = cc in
+    ap open_row is ∙ first.2
+
+pub not_unread : (bottom place : ℕ) (list : AskList) → (found : Ask) × (slice_get list.asks place ≡ Some found) × (open_row found ≡ first_above bottom list.asks) → None ≡ slice_get list.asks place → ⊥
+not_unread bottom place list first read = none_not_some (read ∙ first.1)
 
 -- the steps of the cursor
 stop_cases : (asks : List Ask) (i : ℕ) (d : Ask) → i < length asks → stops (slice_get asks i) ≡ is_due (get_or asks i d)

@@ -9,3 +9,5 @@ mod Told
 mod LookLaws
 mod Growing
 mod Paging
+mod Counting
+mod LogTold

@@ -37,11 +37,11 @@ last_push [] x = refl
 last_push (y ∷ []) x = refl
 last_push (y ∷ z ∷ xs) x = last_push (z ∷ xs) x
 
-replayed_push : (s : State) (E : List Event) (event : Event) → replayed s (E ++ event ∷ []) ≡ after (replayed s E) event
+pub replayed_push : (s : State) (E : List Event) (event : Event) → replayed s (E ++ event ∷ []) ≡ after (replayed s E) event
 replayed_push s [] event = refl
 replayed_push s (first ∷ E) event = replayed_push (after s first) E event
 
-moments_push : (before E : List Event) (event : Event) → moments_after before (E ++ event ∷ []) ≡ moments_after before E ++ record { before = before ++ E; event = event } ∷ []
+pub moments_push : (before E : List Event) (event : Event) → moments_after before (E ++ event ∷ []) ≡ moments_after before E ++ record { before = before ++ E; event = event } ∷ []
 moments_push before [] event = ap (λ b. let m : Moment = record { before = b; event = event } in m ∷ []) (sym (append-nil before))
 moments_push before (first ∷ E) event =
     ap (λ ms. let m : Moment = record { before = before; event = first } in m ∷ ms)
@@ -423,7 +423,7 @@ count_stays s (Grade object grade) = refl
 count_stays s (Miss object) = refl
 count_stays s (Fail what) = refl
 
-told_next : (kept : List Event → List Row) (count : ℕ) (E : List Event) (s : State) (event : Event) → IsTold kept count E s → s.count ≡ count → rows_in s.log ≡ kept E → MayCome s event → IsTold kept count (E ++ event ∷ []) (after s event)
+pub told_next : (kept : List Event → List Row) (count : ℕ) (E : List Event) (s : State) (event : Event) → IsTold kept count E s → s.count ≡ count → rows_in s.log ≡ kept E → MayCome s event → IsTold kept count (E ++ event ∷ []) (after s event)
 told_next kept count E s (Want depth) h is all may = told_want kept count E s depth h
 told_next kept count E s (Ask object) h is all may = told_ask kept count E s object h
 told_next kept count E s (Page rows) h is all may = told_page kept count E s rows h is all may.no_fault
@@ -446,7 +446,7 @@ told_along start count E (event ∷ more) h is may =
     (ap (λ (t : State). t.count) (sym step) ∙ count_stays (replayed start E) event ∙ is)
     (subst (λ t. AllMayCome t more) step may.1)))
 
-none_told : (list count : ℕ) → IsTold (kept_by (opened list count)) count [] (opened list count)
+pub none_told : (list count : ℕ) → IsTold (kept_by (opened list count)) count [] (opened list count)
 none_told list count = record {
   want = refl;
   asks = refl;

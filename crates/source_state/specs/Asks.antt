@@ -1,9 +1,8 @@
 -- The objects that were asked of a source, in the order of asking, as they stand.
-use Rattle.std.specs.Prelude.{◌≡◌, ◌≤◌, ◌==◌, ◌&&◌, ℕ, Bool, true, not, Option, Some, None, List, [], ◌∷◌, ◌++◌, map, filter_map, is_some, is_none, nat_lt, if◌then◌else◌}
+use Rattle.std.specs.Prelude.{◌==◌, ◌&&◌, ℕ, Bool, true, not, Option, Some, None, List, [], ◌∷◌, ◌++◌, map, filter_map, is_some, is_none, nat_lt, if◌then◌else◌}
 use Rattle.std.specs.List.{find}
 use Rattle.std.specs.Option.{option_map}
 use Rattle.ranked_list.specs.declared.row.Row.{Row}
-use Rattle.indexed_heap.specs.Ranks.{rank_at}
 use Rattle.topk_theory.specs.Bounds.{grade_among}
 use Rattle.source_state.specs.declared.ask.Ask.{Ask}
 use Rattle.source_state.specs.declared.entry.LogEntry.{LogEntry}
@@ -70,7 +69,3 @@ with_one_more (Some found) ask asks = asks
 abbrev pub stops : Option Ask → Bool
 stops None = true
 stops (Some ask) = is_due ask
-
--- no grade under any place is above one
-pub record AreWithin (grades : List (Option ℕ)) (bottom : ℕ) : Type 0 where
-  pub each : (place grade : ℕ) → rank_at grades place ≡ Some grade → grade ≤ bottom

@@ -56,6 +56,12 @@ paged s (row ∷ rows) = with_rows s (row ∷ rows)
 abbrev pub one_more : ℕ → ℕ
 one_more count = min (count + 1) last_count
 
+-- the number of a kind
+abbrev pub count_of : FailKind → Tally → ℕ
+count_of Failed tally = tally.failed
+count_of Garbled tally = tally.garbled
+count_of Memory tally = tally.memory
+
 -- one more fail of a kind
 abbrev pub counted : FailKind → Tally → Tally
 counted Failed tally = record tally { failed = one_more tally.failed }

@@ -1,5 +1,6 @@
 -- What a history, the list of the events of a source, says of it: by filters over the history, with no running number.
-use Rattle.std.specs.Prelude.{◌≡◌, ◌++◌, ℕ, min, max, Bool, true, false, Option, Some, None, List, [], ◌∷◌, length, map, fold, filter, filter_map, is_some, unwrap_or, if◌then◌else◌}
+use Rattle.std.specs.Prelude.{◌≡◌, ◌++◌, ℕ, min, max, Bool, true, false, Option, Some, None, List, [], ◌∷◌, length, drop, map, fold, filter, filter_map, is_some, unwrap_or, if◌then◌else◌}
+use Rattle.std.specs.List.{cons_option, flat_map}
 use Rattle.std.specs.Option.{option_or}
 use Rattle.ranked_list.specs.declared.row.Row.{Row}
 use Rattle.turn_lock.specs.declared.facts.Tally.{Tally}
@@ -7,7 +8,7 @@ use Rattle.topk_theory.specs.Transcript.{each_once}
 use Rattle.topk_theory.specs.Bounds.{grade_among}
 use Rattle.source_state.specs.declared.ask.Ask.{Ask as Asking}
 use Rattle.source_state.specs.declared.entry.LogEntry.{LogEntry}
-use Rattle.source_state.specs.declared.entry.LogEntry.TheVariants.{Settled}
+use Rattle.source_state.specs.declared.entry.LogEntry.TheVariants.{Kept, Settled, Fault}
 use Rattle.source_state.specs.declared.entry.Settling.TheVariants.{Missed}
 use Rattle.source_state.specs.declared.entry.FailKind.{FailKind}
 use Rattle.source_state.specs.declared.entry.FailKind.TheVariants.{Failed, Garbled, Memory}
@@ -136,7 +137,9 @@ came E = came_after [] [] E
 
 -- the asks of a history as they stand under these rows
 abbrev pub asks_told : (List Event → List Row) → List Row → List Event → List Asking
-asks_told kept rows E = map (λ object. record { object = object; settling = settling_in (settlings kept E) object; is_held = is_some (grade_among rows object) }) (objects_asked E)
+asks_told kept rows E =
+    map (λ object. record { object = object; settling = settling_in (settlings kept E) object; is_held = is_some (grade_among rows object) })
+    (objects_asked E)
 
 -- what is at fault with a row that came, against the rows before it and what was asked and settled before its page
 abbrev pub fault_came : (List Event → List Row) → Came → Option SourceFault
@@ -158,7 +161,28 @@ short_by count kept moment _ = None
 
 -- the fault of the first row at fault, or that the list is short
 abbrev pub fault_told : ℕ → (List Event → List Row) → List Event → Option SourceFault
-fault_told count kept E = option_or (first_of (filter_map (fault_came kept) (came E))) (first_of (filter_map (λ moment. short_by count kept moment moment.event) (moments E)))
+fault_told count kept E =
+    option_or (first_of (filter_map (fault_came kept) (came E)))
+    (first_of (filter_map (λ moment. short_by count kept moment moment.event) (moments E)))
+
+-- the entry of the row fault, where one is set that wasn't before
+abbrev pub fault_added : Option SourceFault → Option SourceFault → List LogEntry
+fault_added None None = []
+fault_added None (Some fault) = Fault fault ∷ []
+fault_added (Some had) now = []
+
+-- entries by what was told before an event and is told with it: the further rows, what the event settles, and the row fault
+abbrev pub entries_by : List Row → List Row → Option LogEntry → Option SourceFault → Option SourceFault → List LogEntry
+entries_by rows more settled had now = map (λ row. Kept row) (drop (length rows) more) ++ (cons_option settled [] ++ fault_added had now)
+
+-- what an event adds to the log, and the log of a history: what its events add, in the order in which they came
+abbrev pub entries_told : (List Event → List Row) → ℕ → Moment → List LogEntry
+entries_told kept count m =
+    entries_by (rows_told kept m.before) (rows_told kept (m.before ++ m.event ∷ [])) (settling_by kept m m.event)
+    (fault_told count kept m.before) (fault_told count kept (m.before ++ m.event ∷ []))
+
+abbrev pub log_told : (List Event → List Row) → ℕ → List Event → List LogEntry
+log_told kept count E = flat_map (entries_told kept count) (moments E)
 
 -- the rows that a history keeps
 abbrev pub kept_by : State → List Event → List Row

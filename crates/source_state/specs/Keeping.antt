@@ -32,11 +32,11 @@ pub record KeepsRows (list : RowList) (places : Keys) (capacity : ℕ) : Type 0 
 abbrev pub ask_objects : List Ask → List ℕ
 ask_objects asks = map (λ ask. ask.object) asks
 
--- the asks are within their room, for which memory is there, and their objects have their places; each open grade stands in the heap
+-- the asks are within their room, for which memory is there, and their objects have their places; each open grade stands in the tree
 -- under the place of its ask, and no ask before the cursor is due
 pub record KeepsAsks (list : AskList) (places : Keys) (grades : List (Option ℕ)) (place capacity : ℕ) : Type 0 where
   pub keys : places.keys ≡ ask_objects list.asks
-  pub ranks : grades ≡ map open_grade list.asks ++ replicate (list.room - length list.asks) None
+  pub stands : grades ≡ map open_grade list.asks ++ replicate (list.room - length list.asks) None
   pub cursor : place ≡ position_or_len is_due list.asks
   pub distinct : AllPairs (λ (one : ℕ) (other : ℕ). one ≢ other) (ask_objects list.asks)
   pub within : length list.asks ≤ list.room

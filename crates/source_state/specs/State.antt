@@ -33,7 +33,16 @@ pub record State : Type 0 where
 
 -- the state of a source before any event
 abbrev pub opened : ℕ → ℕ → State
-opened list count = record { list = list; count = count; want = 0; log = []; asks = []; tally = record { failed = 0; garbled = 0; memory = 0 }; last_fail = None; paused = false }
+opened list count = record {
+  list = list;
+  count = count;
+  want = 0;
+  log = [];
+  asks = [];
+  tally = record { failed = 0; garbled = 0; memory = 0 };
+  last_fail = None;
+  paused = false;
+}
 
 -- the asks as they stand
 abbrev pub asks_of : State → List Ask

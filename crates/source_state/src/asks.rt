@@ -3,13 +3,13 @@
 ghost use Rattle.std.specs.Prelude.{◌≡◌, ◌≢◌, ◌<◌, ◌≤◌, ◌==◌, ℕ, AllPairs, [], ◌∷◌, ◌++◌, false, None, Some, length, slice_get, slice_set, IfOk, vec_len, vec_capacity};
 ghost use Rattle.std.specs.List.{position, position_or_len};
 ghost use Rattle.std.specs.Option.{option_map};
-ghost use Rattle.source_state.specs.Asks.{ask_of, first_above, first_due, is_due, settled_asks, held_asks, new_ask, with_one_more, stops, AreWithin};
+ghost use Rattle.source_state.specs.Asks.{ask_of, first_above, first_due, is_due, settled_asks, held_asks, new_ask, with_one_more, stops};
 ghost use Rattle.source_state.specs.Keeping.{AskList, ask_objects};
 
 use super::Memory;
 use super::ask::Ask;
 use super::entry::Settling;
-use indexed_heap::IndexedHeap;
+use grade_tree::GradeTree;
 use ranked_list::Row;
 use room_map::RoomMap;
 use std::alloc::Global;
@@ -20,7 +20,7 @@ use std::marker::Model;
 pub(crate) struct Asks {
     asks: Vec<Ask>,
     places: RoomMap,
-    grades: IndexedHeap<u32>,
+    grades: GradeTree,
     cursor: u32,
 }
 
@@ -67,41 +67,6 @@ fn add_last(asks: &mut Vec<Ask>, ask: Ask)
     asks.push(ask).unwrap();
 }
 
-/// Whether a grade above one may stand in the heap.
-fn may_be_above(grades: &IndexedHeap<u32>, bottom: u32) -> bool
-    ensures { result ≡ false → AreWithin grades.now bottom }
-{
-    match grades.greatest() {
-        Some(top) => top.rank > bottom,
-        None => false,
-    }
-}
-
-/// Puts the grade under a place, or takes it away.
-fn set_grade(grades: &mut IndexedHeap<u32>, place: u32, grade: Option<u32>)
-    requires { place < length grades.old }
-    ensures { grades.new ≡ slice_set grades.old place grade }
-{
-    match grade {
-        Some(grade) => grades.put(place, grade),
-        None => grades.remove(place),
-    }
-}
-
-/// The first open grade above one, in the order of asking.
-fn find_above(asks: &[Ask], bottom: u32) -> Option<Row>
-    ensures { result ≡ first_above bottom asks.now }
-{
-    for ask in asks {
-        if let Some(row) = ask.open_row() {
-            if row.grade > bottom {
-                return Some(row);
-            }
-        }
-    }
-    None
-}
-
 impl Asks {
     /// No asks, with room for so many.
     pub fn make(alloc: Global, room: u32) -> Result<Asks, Memory>
@@ -114,7 +79,7 @@ impl Asks {
         let Ok(places) = RoomMap::make(alloc, room) else {
             return Err(Memory);
         };
-        let Ok(grades) = IndexedHeap::make(alloc, room) else {
+        let Ok(grades) = GradeTree::make(alloc, room) else {
             return Err(Memory);
         };
         Ok(Asks {
@@ -158,7 +123,7 @@ impl Asks {
         ensures { self.new ≡ record self.old { asks = slice_set self.old.asks place ask } }
     {
         self.asks[place as usize] = ask;
-        set_grade(&mut self.grades, place, ask.open_grade());
+        self.grades.set(place, ask.open_grade());
         self.cursor = next_due(&self.asks, self.cursor);
     }
 
@@ -241,15 +206,12 @@ impl Asks {
         self.get(self.cursor)
     }
 
-    /// The first good grade, in the order of asking, that the rows don't hold and that is above one. Where there is one, all
-    /// asks may be gone through: a row is at fault then, and that happens once.
+    /// The first good grade, in the order of asking, that the rows don't hold and that is above one.
     pub fn first_above(&self, bottom: u32) -> Option<Row>
         ensures { result ≡ first_above bottom self.now.asks }
     {
-        if may_be_above(&self.grades, bottom) {
-            find_above(&self.asks, bottom)
-        } else {
-            None
-        }
+        let place = self.grades.first_above(bottom)?;
+        let ask = self.get(place)?;
+        ask.open_row()
     }
 }

@@ -15,7 +15,9 @@ mod state;
 pub use ask::Ask;
 pub use entry::{Asked, FailKind, LogEntry, Settling, SourceFault};
 pub use event::{Applied, Event};
-pub use laws::{each_history_is_told, what_is_drawn_is_consistent};
+pub use laws::{
+    each_history_is_told, each_log_is_told, full_counts_stand_still, what_is_drawn_is_consistent,
+};
 pub use look::{Look, LookFault, Waiting, look_at};
 pub use plan::{Plan, reach};
 pub use state::{MAX_COUNT, SourceState};

@@ -42,9 +42,27 @@ impl Model for SourceState {
 
     ghost Value = { State };
 
-    ghost view = { λ a. record { list = a.list; count = a.count; want = a.want; log = a.log.items; asks = ask_objects a.asks.asks; tally = a.tally; last_fail = a.last_fail; paused = a.paused } };
+    ghost view = { λ a. record {
+      list = a.list;
+      count = a.count;
+      want = a.want;
+      log = a.log.items;
+      asks = ask_objects a.asks.asks;
+      tally = a.tally;
+      last_fail = a.last_fail;
+      paused = a.paused;
+    } };
 
-    ghost invariant = { λ a. KeepsState (record { list = a.list; count = a.count; want = a.want; log = a.log.items; asks = ask_objects a.asks.asks; tally = a.tally; last_fail = a.last_fail; paused = a.paused }) a.rows a.asks a.fault (vec_capacity a.log) };
+    ghost invariant = { λ a. KeepsState (record {
+      list = a.list;
+      count = a.count;
+      want = a.want;
+      log = a.log.items;
+      asks = ask_objects a.asks.asks;
+      tally = a.tally;
+      last_fail = a.last_fail;
+      paused = a.paused;
+    }) a.rows a.asks a.fault (vec_capacity a.log) };
 }
 
 impl Logged for SourceState {

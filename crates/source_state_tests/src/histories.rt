@@ -6,13 +6,14 @@ use source_state::{Applied, Asked, FailKind, SourceFault, SourceState, Tally};
 use std::alloc::Global;
 use std::test::Fail;
 
-/// What the readers tell, of object 2 where they ask for one.
+/// What the readers tell: `asked` of object 2, `asked_one` of object 1.
 #[derive(Clone, Copy, Debug, PartialEq, Eq)]
 struct Told {
     applied: Applied,
     rows: u32,
     fault: Option<SourceFault>,
     asked: Option<Asked>,
+    asked_one: Option<Asked>,
     pending: Option<u32>,
     fails: u64,
     paused: bool,
@@ -23,13 +24,17 @@ const NOTHING: Told = Told {
     rows: 0,
     fault: None,
     asked: None,
+    asked_one: None,
     pending: None,
     fails: 0,
     paused: false,
 };
 
-const HISTORIES: [(&str, &[Step], Told); 14] = [
-    ("nothing", &[], NOTHING),
+/// A name, events, and what is told then.
+type History = (&'static str, &'static [Step], Told);
+
+/// Rows at fault.
+const ROWS: [History; 4] = [
     (
         "a row out of order ends the page",
         &[Step::Page(&[(1, 900), (2, 950), (3, 800)])],
@@ -41,19 +46,6 @@ const HISTORIES: [(&str, &[Step], Told); 14] = [
                 before: 900,
                 after: 950,
             }),
-            ..NOTHING
-        },
-    ),
-    (
-        "a grade above the last row's",
-        &[Step::Ask(2), Step::Page(&[(1, 900)]), Step::Grade(2, 950)],
-        Told {
-            rows: 1,
-            asked: Some(Asked::Bad(SourceFault::Above {
-                object: 2,
-                grade: 950,
-                bottom: 900,
-            })),
             ..NOTHING
         },
     ),
@@ -74,6 +66,45 @@ const HISTORIES: [(&str, &[Step], Told); 14] = [
                 random: 850,
             }),
             asked: Some(Asked::Graded(850)),
+            ..NOTHING
+        },
+    ),
+    (
+        "a page without rows",
+        &[Step::Page(&[])],
+        Told {
+            applied: Applied::Broken,
+            fault: Some(SourceFault::ShortList { stated: 3, got: 0 }),
+            ..NOTHING
+        },
+    ),
+    (
+        "a row that comes twice, on a further page",
+        &[Step::Page(&[(2, 900), (1, 800)]), Step::Page(&[(2, 700)])],
+        Told {
+            applied: Applied::Broken,
+            rows: 2,
+            fault: Some(SourceFault::Repeated {
+                object: 2,
+                place: 3,
+            }),
+            ..NOTHING
+        },
+    ),
+];
+
+/// Grades above rows.
+const ABOVE: [History; 5] = [
+    (
+        "a grade above the last row's",
+        &[Step::Ask(2), Step::Page(&[(1, 900)]), Step::Grade(2, 950)],
+        Told {
+            rows: 1,
+            asked: Some(Asked::Bad(SourceFault::Above {
+                object: 2,
+                grade: 950,
+                bottom: 900,
+            })),
             ..NOTHING
         },
     ),
@@ -120,65 +151,11 @@ const HISTORIES: [(&str, &[Step], Told); 14] = [
         },
     ),
     (
-        "an ask ends a pause",
-        &[Step::Want(2), Step::Fail(FailKind::Failed), Step::Ask(1)],
-        Told {
-            pending: Some(1),
-            fails: 1,
-            ..NOTHING
-        },
-    ),
-    (
-        "a want ends a pause, and a fail begins one",
-        &[
-            Step::Fail(FailKind::Failed),
-            Step::Want(2),
-            Step::Fail(FailKind::Garbled),
-        ],
-        Told {
-            fails: 2,
-            paused: true,
-            ..NOTHING
-        },
-    ),
-    (
-        "a page without rows",
-        &[Step::Page(&[])],
-        Told {
-            applied: Applied::Broken,
-            fault: Some(SourceFault::ShortList { stated: 3, got: 0 }),
-            ..NOTHING
-        },
-    ),
-    (
-        "an ask of an object that the rows hold isn't due",
-        &[Step::Page(&[(2, 900)]), Step::Ask(2), Step::Ask(3)],
-        Told {
-            rows: 1,
-            asked: Some(Asked::Pending),
-            pending: Some(3),
-            ..NOTHING
-        },
-    ),
-    (
         "a grade equal to the last row's is good",
         &[Step::Page(&[(1, 900)]), Step::Ask(2), Step::Grade(2, 900)],
         Told {
             rows: 1,
             asked: Some(Asked::Graded(900)),
-            ..NOTHING
-        },
-    ),
-    (
-        "a row that comes twice, on a further page",
-        &[Step::Page(&[(2, 900), (1, 800)]), Step::Page(&[(2, 700)])],
-        Told {
-            applied: Applied::Broken,
-            rows: 2,
-            fault: Some(SourceFault::Repeated {
-                object: 2,
-                place: 3,
-            }),
             ..NOTHING
         },
     ),
@@ -203,11 +180,58 @@ const HISTORIES: [(&str, &[Step], Told); 14] = [
             ..NOTHING
         },
     ),
+];
+
+/// Asks and pauses.
+const ASKS: [History; 6] = [
+    ("nothing", &[], NOTHING),
+    (
+        "an ask ends a pause",
+        &[Step::Want(2), Step::Fail(FailKind::Failed), Step::Ask(1)],
+        Told {
+            asked_one: Some(Asked::Pending),
+            pending: Some(1),
+            fails: 1,
+            ..NOTHING
+        },
+    ),
+    (
+        "a want ends a pause",
+        &[Step::Fail(FailKind::Failed), Step::Want(2)],
+        Told {
+            fails: 1,
+            ..NOTHING
+        },
+    ),
+    (
+        "a fail begins a pause again",
+        &[
+            Step::Fail(FailKind::Failed),
+            Step::Want(2),
+            Step::Fail(FailKind::Garbled),
+        ],
+        Told {
+            fails: 2,
+            paused: true,
+            ..NOTHING
+        },
+    ),
+    (
+        "an ask of an object that the rows hold isn't due",
+        &[Step::Page(&[(2, 900)]), Step::Ask(2), Step::Ask(3)],
+        Told {
+            rows: 1,
+            asked: Some(Asked::Pending),
+            pending: Some(3),
+            ..NOTHING
+        },
+    ),
     (
         "a miss",
         &[Step::Ask(2), Step::Ask(1), Step::Miss(2)],
         Told {
             asked: Some(Asked::Missed),
+            asked_one: Some(Asked::Pending),
             pending: Some(1),
             ..NOTHING
         },
@@ -235,17 +259,38 @@ fn all_told(state: &SourceState, applied: Applied) -> Told {
         rows: state.rows(),
         fault: state.row_fault(),
         asked: state.asked(2),
+        asked_one: state.asked(1),
         pending: state.first_pending(),
         fails: state.fails(),
         paused: state.paused(),
     }
 }
 
-#[test]
-fn tells_each_history(rt: HostRuntime) -> Result<(), Fail> {
-    for (name, steps, told) in HISTORIES {
-        assert_eq!(rt; told_after(rt.alloc(), steps)?, told, "{name}");
+/// The name of the first history of which something else is told.
+fn first_wrong(alloc: Global, histories: &[History]) -> Result<Option<&'static str>, Fail> {
+    for (name, steps, told) in histories {
+        if told_after(alloc, steps)? != *told {
+            return Ok(Some(*name));
+        }
     }
+    Ok(None)
+}
+
+#[test]
+fn tells_rows_at_fault(rt: HostRuntime) -> Result<(), Fail> {
+    assert_eq!(rt; first_wrong(rt.alloc(), &ROWS)?, None);
+    Ok(())
+}
+
+#[test]
+fn tells_grades_above_rows(rt: HostRuntime) -> Result<(), Fail> {
+    assert_eq!(rt; first_wrong(rt.alloc(), &ABOVE)?, None);
+    Ok(())
+}
+
+#[test]
+fn tells_asks_and_pauses(rt: HostRuntime) -> Result<(), Fail> {
+    assert_eq!(rt; first_wrong(rt.alloc(), &ASKS)?, None);
     Ok(())
 }
 

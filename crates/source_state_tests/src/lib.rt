@@ -2,6 +2,8 @@
 #![tactic(auto)]
 
 #[cfg(test)]
+mod grades;
+#[cfg(test)]
 mod histories;
 #[cfg(test)]
 mod looks;

@@ -7,7 +7,17 @@ use std::alloc::Global;
 use std::test::Fail;
 
 /// Events, a need that is looked for first, further events, and the need with what is answered then.
-const LOOKS: [(&str, &[Step], Need, &[Step], Need, Look); 13] = [
+type Looked = (
+    &'static str,
+    &'static [Step],
+    Need,
+    &'static [Step],
+    Need,
+    Look,
+);
+
+/// Looks for rows.
+const ROWS: [Looked; 8] = [
     (
         "a row that is there",
         &[],
@@ -72,6 +82,18 @@ const LOOKS: [(&str, &[Step], Need, &[Step], Need, Look); 13] = [
         Look::NotYet,
     ),
     (
+        "another list's number",
+        &[],
+        Need::Row { list: 0, depth: 1 },
+        &[Step::Fail(FailKind::Failed)],
+        Need::Row { list: 3, depth: 1 },
+        Look::Fault(LookFault::Failed),
+    ),
+];
+
+/// Looks for grades.
+const GRADES: [Looked; 5] = [
+    (
         "a grade that came",
         &[],
         Need::Grade { list: 0, object: 1 },
@@ -114,14 +136,6 @@ const LOOKS: [(&str, &[Step], Need, &[Step], Need, Look); 13] = [
         &[],
         Need::Grade { list: 0, object: 4 },
         Look::Fault(LookFault::AsksFull { kept: 3 }),
-    ),
-    (
-        "another list's number",
-        &[],
-        Need::Row { list: 0, depth: 1 },
-        &[Step::Fail(FailKind::Failed)],
-        Need::Row { list: 3, depth: 1 },
-        Look::Fault(LookFault::Failed),
     ),
 ];
 
@@ -173,15 +187,77 @@ fn answer_by(
     Ok((answer, waiting.need == Some(second)))
 }
 
-#[test]
-fn answers_each_need(rt: HostRuntime) -> Result<(), Fail> {
-    for (name, before, first, between, second, answer) in LOOKS {
-        let waits = answer == Look::NotYet;
-        assert_eq!(rt;
-            second_answer(rt.alloc(), before, first, between, second)?,
-            (answer, waits),
-            "{name}"
-        );
+/// The name of the first row that is answered otherwise.
+fn first_wrong(alloc: Global, looks: &[Looked]) -> Result<Option<&'static str>, Fail> {
+    for (name, before, first, between, second, answer) in looks {
+        let told = second_answer(alloc, before, *first, between, *second)?;
+        if told != (*answer, *answer == Look::NotYet) {
+            return Ok(Some(*name));
+        }
     }
+    Ok(None)
+}
+
+#[test]
+fn looks_for_rows(rt: HostRuntime) -> Result<(), Fail> {
+    assert_eq!(rt; first_wrong(rt.alloc(), &ROWS)?, None);
+    Ok(())
+}
+
+#[test]
+fn looks_for_grades(rt: HostRuntime) -> Result<(), Fail> {
+    assert_eq!(rt; first_wrong(rt.alloc(), &GRADES)?, None);
+    Ok(())
+}
+
+/// What a look at the first row answers after a fail of each kind, where the count of one kind was noted at its last value.
+fn answer_noted(alloc: Global, failed: u64, garbled: u64) -> Result<Look, Fail> {
+    let Ok(mut state) = SourceState::open(alloc, 7, 3) else {
+        return Err("no memory".into());
+    };
+    let answer = noted_by(alloc, &mut state, failed, garbled);
+    drop(state);
+    answer
+}
+
+fn noted_by(
+    alloc: Global,
+    state: &mut SourceState,
+    failed: u64,
+    garbled: u64,
+) -> Result<Look, Fail> {
+    let need = Need::Row { list: 0, depth: 1 };
+    let mut waiting = Waiting {
+        need: Some(need),
+        noted: Tally {
+            failed,
+            garbled,
+            memory: 0,
+        },
+    };
+    apply_all(
+        alloc,
+        state,
+        &[Step::Fail(FailKind::Garbled), Step::Fail(FailKind::Failed)],
+    )?;
+    look(state, &mut waiting, need)
+}
+
+#[test]
+fn tells_no_fail_past_the_last_count(rt: HostRuntime) -> Result<(), Fail> {
+    let alloc = rt.alloc();
+    let answers = [
+        answer_noted(alloc, 0, 0)?,
+        answer_noted(alloc, u64::MAX, 0)?,
+        answer_noted(alloc, u64::MAX, u64::MAX)?,
+    ];
+    assert_eq!(rt;
+        answers,
+        [
+            Look::Fault(LookFault::Failed),
+            Look::Fault(LookFault::Garbled),
+            Look::NotYet,
+        ]
+    );
     Ok(())
 }

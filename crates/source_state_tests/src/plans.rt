@@ -6,7 +6,9 @@ use std::alloc::Global;
 use std::test::Fail;
 
 /// How many objects the list has, its events, page and ahead, and what is fetched next.
-const PLANS: [(u32, &[Step], u32, u32, Plan); 11] = [
+type Planned = (u32, &'static [Step], u32, u32, Plan);
+
+const PLANS: [Planned; 14] = [
     (3, &[], 1, 0, Plan::Idle),
     (3, &[Step::Want(1)], 1, 0, Plan::Page { from: 0, count: 1 }),
     (3, &[Step::Want(1)], 2, 0, Plan::Page { from: 0, count: 2 }),
@@ -26,6 +28,27 @@ const PLANS: [(u32, &[Step], u32, u32, Plan); 11] = [
             from: 0,
             count: 10_000,
         },
+    ),
+    (
+        3,
+        &[Step::Want(1)],
+        10_000,
+        0,
+        Plan::Page { from: 0, count: 3 },
+    ),
+    (
+        3,
+        &[Step::Want(1)],
+        1,
+        100,
+        Plan::Page { from: 0, count: 1 },
+    ),
+    (
+        3,
+        &[Step::Want(2), Step::Page(&[(1, 5), (2, 5)])],
+        10_000,
+        100,
+        Plan::Page { from: 2, count: 1 },
     ),
     (3, &[Step::Want(1), Step::Page(&[(1, 5)])], 1, 0, Plan::Idle),
     (
@@ -85,11 +108,19 @@ fn plan_after(
     Ok(plan)
 }
 
+/// The place of the first row of which something else is fetched.
+fn first_wrong(alloc: Global, plans: &[Planned]) -> Result<Option<usize>, Fail> {
+    for (place, (count, steps, page, ahead, plan)) in plans.iter().enumerate() {
+        if plan_after(alloc, *count, steps, *page, *ahead)? != *plan {
+            return Ok(Some(place));
+        }
+    }
+    Ok(None)
+}
+
 #[test]
 fn plans_each(rt: HostRuntime) -> Result<(), Fail> {
-    for (count, steps, page, ahead, plan) in PLANS {
-        assert_eq!(rt; plan_after(rt.alloc(), count, steps, page, ahead)?, plan);
-    }
+    assert_eq!(rt; first_wrong(rt.alloc(), &PLANS)?, None);
     Ok(())
 }
 

@@ -1,10 +1,12 @@
-//! Sources in memory: each failing and garbling call in turn, stated sizes and lies.
+//! Sources in memory: pages and grades, each failing and garbling call in turn, stated sizes and lies.
 
 use ranked_list::Row;
-use source_api::{Counts, MemSource, Source, Trouble};
+use source_api::{Counts, MemSource, Memory, Trouble};
+use source_steps::{Step, first_wrong};
+use std::alloc::Global;
 use std::test::Fail;
 
-/// A list of three rows.
+/// The rows of each source here.
 const ROWS: [Row; 3] = [
     Row {
         object: 1,
@@ -20,82 +22,276 @@ const ROWS: [Row; 3] = [
     },
 ];
 
-#[test]
-fn gives_pages(rt: HostRuntime) -> Result<(), Fail> {
-    let alloc = rt.alloc();
-    let mut source = MemSource::make(alloc, &ROWS)?;
-    assert_eq!(rt; source.size(alloc)?, 3);
-    for (from, count, end) in [(0, 2, 2), (1, 2, 3), (1, 100, 3), (3, 1, 3), (4, 1, 4)] {
-        let page = source.page(alloc, from, count)?;
-        let rows = ROWS.get(from as usize..end).unwrap_or_default();
-        assert_eq!(rt; page.as_slice(), rows, "{count} rows after {from}");
-    }
+/// The numbers of the calls that fail and garble, the size that is stated, and the lies.
+#[derive(Clone, Copy)]
+struct Faults {
+    fail_pages: &'static [u64],
+    garble_pages: &'static [u64],
+    fail_grades: &'static [u64],
+    garble_grades: &'static [u64],
+    stated: Option<u64>,
+    lies: &'static [Row],
+}
+
+const NO_FAULTS: Faults = Faults {
+    fail_pages: &[],
+    garble_pages: &[],
+    fail_grades: &[],
+    garble_grades: &[],
+    stated: None,
+    lies: &[],
+};
+
+const UNCOUNTED: Counts = Counts {
+    faults: 0,
+    garbles: 0,
+    rows_given: 0,
+    grades_given: 0,
+};
+
+const FAILED: Trouble = Trouble::Failed;
+
+const GARBLED: Trouble = Trouble::Garbled;
+
+/// The last two rows.
+const LAST: &[(u32, u32)] = &[(2, 800), (3, 100)];
+
+/// Sources of which no call fails.
+const ANSWERED: [Called; 3] = [
+    (
+        "pages",
+        NO_FAULTS,
+        &[
+            Step::Size(3),
+            Step::Page(0, 2, Ok(&[(1, 900), (2, 800)])),
+            Step::Page(1, 2, Ok(LAST)),
+            Step::Page(1, 100, Ok(LAST)),
+            Step::Page(3, 1, Ok(&[])),
+            Step::Page(4, 1, Ok(&[])),
+        ],
+        Counts {
+            rows_given: 6,
+            ..UNCOUNTED
+        },
+    ),
+    (
+        "grades",
+        NO_FAULTS,
+        &[
+            Step::Grade(2, Ok(Some(800))),
+            Step::Grade(4, Ok(None)),
+            Step::Grade(1, Ok(Some(900))),
+        ],
+        Counts {
+            grades_given: 3,
+            ..UNCOUNTED
+        },
+    ),
+    (
+        "a stated size",
+        Faults {
+            stated: Some(5),
+            ..NO_FAULTS
+        },
+        &[Step::Size(5), Step::Page(1, 5, Ok(LAST))],
+        Counts {
+            rows_given: 2,
+            ..UNCOUNTED
+        },
+    ),
+];
+
+/// Sources of which calls for pages fail and garble.
+const FAULTY_PAGES: [Called; 2] = [
+    (
+        "the first page fails, the second garbles",
+        Faults {
+            fail_pages: &[1],
+            garble_pages: &[2],
+            ..NO_FAULTS
+        },
+        &[
+            Step::Page(1, 5, Err(FAILED)),
+            Step::Page(1, 5, Err(GARBLED)),
+            Step::Page(1, 5, Ok(LAST)),
+        ],
+        Counts {
+            faults: 1,
+            garbles: 1,
+            rows_given: 2,
+            ..UNCOUNTED
+        },
+    ),
+    (
+        "a page that is to fail and to garble fails",
+        Faults {
+            fail_pages: &[2],
+            garble_pages: &[2, 3],
+            ..NO_FAULTS
+        },
+        &[
+            Step::Page(1, 5, Ok(LAST)),
+            Step::Grade(1, Ok(Some(900))),
+            Step::Page(1, 5, Err(FAILED)),
+            Step::Page(1, 5, Err(GARBLED)),
+            Step::Page(1, 5, Ok(LAST)),
+        ],
+        Counts {
+            faults: 1,
+            garbles: 1,
+            rows_given: 4,
+            grades_given: 1,
+            ..UNCOUNTED
+        },
+    ),
+];
+
+/// Sources of which calls for grades fail and garble.
+const FAULTY_GRADES: [Called; 2] = [
+    (
+        "the first grade garbles, the third fails",
+        Faults {
+            garble_grades: &[1],
+            fail_grades: &[3],
+            ..NO_FAULTS
+        },
+        &[
+            Step::Grade(1, Err(GARBLED)),
+            Step::Grade(1, Ok(Some(900))),
+            Step::Page(1, 5, Ok(LAST)),
+            Step::Grade(1, Err(FAILED)),
+            Step::Grade(1, Ok(Some(900))),
+        ],
+        Counts {
+            faults: 1,
+            garbles: 1,
+            rows_given: 2,
+            grades_given: 2,
+            ..UNCOUNTED
+        },
+    ),
+    (
+        "a grade that is to fail and to garble fails",
+        Faults {
+            garble_grades: &[1, 2],
+            fail_grades: &[1],
+            ..NO_FAULTS
+        },
+        &[
+            Step::Grade(1, Err(FAILED)),
+            Step::Grade(1, Err(GARBLED)),
+            Step::Grade(1, Ok(Some(900))),
+        ],
+        Counts {
+            faults: 1,
+            garbles: 1,
+            grades_given: 1,
+            ..UNCOUNTED
+        },
+    ),
+];
+
+/// A source that lies.
+const LYING: [Called; 1] = [(
+    "lies",
+    Faults {
+        lies: &[
+            Row {
+                object: 2,
+                grade: 850,
+            },
+            Row {
+                object: 2,
+                grade: 1,
+            },
+            Row {
+                object: 9,
+                grade: 7,
+            },
+        ],
+        ..NO_FAULTS
+    },
+    &[
+        Step::Size(3),
+        Step::Page(1, 5, Ok(LAST)),
+        Step::Grade(2, Ok(Some(850))),
+        Step::Grade(9, Ok(Some(7))),
+        Step::Grade(3, Ok(Some(100))),
+    ],
+    Counts {
+        rows_given: 2,
+        grades_given: 3,
+        ..UNCOUNTED
+    },
+)];
+
+/// Gives a source these faults.
+fn set_up(alloc: Global, source: &mut MemSource, faults: Faults) -> Result<(), Memory> {
+    source.fail_pages = Vec::from_slice(alloc, faults.fail_pages)?;
+    source.garble_pages = Vec::from_slice(alloc, faults.garble_pages)?;
+    source.fail_grades = Vec::from_slice(alloc, faults.fail_grades)?;
+    source.garble_grades = Vec::from_slice(alloc, faults.garble_grades)?;
+    source.lies = Vec::from_slice(alloc, faults.lies)?;
+    source.stated = faults.stated;
     Ok(())
 }
 
-#[test]
-fn gives_grades(rt: HostRuntime) -> Result<(), Fail> {
-    let alloc = rt.alloc();
-    let mut source = MemSource::make(alloc, &ROWS)?;
-    for (object, grade) in [(2, Some(800)), (4, None), (1, Some(900))] {
-        assert_eq!(rt; source.grade(alloc, object)?, grade, "of {object}");
+/// The place of the first call that is answered otherwise, and what is counted then.
+type Outcome = (Option<usize>, Counts);
+
+fn outcome_by(
+    alloc: Global,
+    source: &mut MemSource,
+    faults: Faults,
+    steps: &[Step],
+) -> Result<Outcome, Memory> {
+    set_up(alloc, source, faults)?;
+    let wrong = first_wrong(alloc, source, steps);
+    Ok((wrong, source.counts()))
+}
+
+fn outcome_of(alloc: Global, faults: Faults, steps: &[Step]) -> Result<Outcome, Memory> {
+    let Ok(mut source) = MemSource::make(alloc, &ROWS) else {
+        return Err(Memory);
+    };
+    let outcome = outcome_by(alloc, &mut source, faults, steps);
+    drop(source);
+    outcome
+}
+
+/// A source's faults, calls with their answers, and what is counted then.
+type Called = (&'static str, Faults, &'static [Step], Counts);
+
+/// The name of the first source that answers or counts otherwise.
+fn first_other(alloc: Global, sources: &[Called]) -> Result<Option<&'static str>, Memory> {
+    for (name, faults, steps, counts) in sources {
+        if outcome_of(alloc, *faults, steps)? != (None, *counts) {
+            return Ok(Some(*name));
+        }
     }
-    assert_eq!(rt; source.counts().grades_given, 3);
+    Ok(None)
+}
+
+#[test]
+fn answers_each_call(rt: HostRuntime) -> Result<(), Fail> {
+    assert_eq!(rt; first_other(rt.alloc(), &ANSWERED), Ok(None));
     Ok(())
 }
 
 #[test]
 fn pages_fail_in_turn(rt: HostRuntime) -> Result<(), Fail> {
-    let alloc = rt.alloc();
-    let mut source = MemSource::make(alloc, &ROWS)?;
-    source.fail_pages = Vec::from_slice(alloc, &[2])?;
-    source.garble_pages = Vec::from_slice(alloc, &[2, 3])?;
-    for (call, trouble) in [
-        (1, None),
-        (2, Some(Trouble::Failed)),
-        (3, Some(Trouble::Garbled)),
-        (4, None),
-    ] {
-        assert_eq!(rt; source.page(alloc, 1, 5).err(), trouble, "of call {call}");
-    }
-    let counts = Counts {
-        faults: 1,
-        garbles: 1,
-        rows_given: 4,
-        grades_given: 0,
-    };
-    assert_eq!(rt; source.counts(), counts);
+    assert_eq!(rt; first_other(rt.alloc(), &FAULTY_PAGES), Ok(None));
     Ok(())
 }
 
 #[test]
 fn grades_fail_in_turn(rt: HostRuntime) -> Result<(), Fail> {
-    let alloc = rt.alloc();
-    let mut source = MemSource::make(alloc, &ROWS)?;
-    source.garble_grades = Vec::from_slice(alloc, &[1])?;
-    source.fail_grades = Vec::from_slice(alloc, &[3])?;
-    for (call, trouble) in [
-        (1, Some(Trouble::Garbled)),
-        (2, None),
-        (3, Some(Trouble::Failed)),
-    ] {
-        assert_eq!(rt; source.grade(alloc, 1).err(), trouble, "of call {call}");
-    }
+    assert_eq!(rt; first_other(rt.alloc(), &FAULTY_GRADES), Ok(None));
     Ok(())
 }
 
 #[test]
-fn states_and_lies(rt: HostRuntime) -> Result<(), Fail> {
-    let alloc = rt.alloc();
-    let mut source = MemSource::make(alloc, &ROWS)?;
-    source.stated = Some(5);
-    let lie = Row {
-        object: 2,
-        grade: 850,
-    };
-    source.lies = Vec::from_slice(alloc, &[lie])?;
-    assert_eq!(rt; source.size(alloc)?, 5);
-    assert_eq!(rt; source.grade(alloc, 2)?, Some(850));
-    assert_eq!(rt; source.grade(alloc, 3)?, Some(100));
+fn lies(rt: HostRuntime) -> Result<(), Fail> {
+    assert_eq!(rt; first_other(rt.alloc(), &LYING), Ok(None));
     Ok(())
 }

@@ -1,10 +1,14 @@
 //! Shelves in memory: failing calls, places that aren't held, one place taken twice, and counts.
 
+ghost use Rattle.std.specs.Prelude.{◌≤◌};
+
 use ranked_list::Row;
 use source_api::{MemShelf, MemSource, Memory, Shelf, Source, Trouble};
+use source_steps::{Step, first_wrong};
 use std::alloc::Global;
 use std::test::Fail;
 
+/// The rows at `a`.
 const ROWS: [Row; 2] = [
     Row {
         object: 1,
@@ -16,65 +20,242 @@ const ROWS: [Row; 2] = [
     },
 ];
 
-/// A shelf with a text and a source at `a`, and a text at `b`.
-fn shelf_of(alloc: Global) -> Result<MemShelf, Memory> {
-    let mut shelf = MemShelf::make(alloc);
+/// The row at `b`.
+const OTHER: [Row; 1] = [Row {
+    object: 7,
+    grade: 5,
+}];
+
+/// A call for a text or for a source, with its answer: the text, or all rows of the source.
+#[derive(Clone, Copy)]
+enum Call {
+    Text(&'static str, Result<&'static [u8], Trouble>),
+    Take(&'static str, Result<&'static [(u32, u32)], Trouble>),
+}
+
+const FAILED: Trouble = Trouble::Failed;
+
+const PAIRS: &[(u32, u32)] = &[(1, 9), (2, 8)];
+
+/// The numbers of the calls for texts and for sources that fail, calls, and how many rows are counted at `a`, `b` and `c` then.
+type Called = (&'static [u64], &'static [u64], &'static [Call], [u64; 3]);
+
+const SHELVES: [Called; 4] = [
+    (
+        &[],
+        &[],
+        &[
+            Call::Text("a", Ok(b"new")),
+            Call::Text("b", Ok(b"")),
+            Call::Text("c", Err(FAILED)),
+            Call::Take("a", Ok(PAIRS)),
+            Call::Take("b", Ok(&[(7, 5)])),
+            Call::Take("a", Ok(PAIRS)),
+            Call::Take("c", Err(FAILED)),
+        ],
+        [4, 1, 0],
+    ),
+    (
+        &[1, 3],
+        &[],
+        &[
+            Call::Text("a", Err(FAILED)),
+            Call::Text("b", Ok(b"")),
+            Call::Take("a", Ok(PAIRS)),
+            Call::Text("b", Err(FAILED)),
+            Call::Text("a", Ok(b"new")),
+        ],
+        [2, 0, 0],
+    ),
+    (
+        &[],
+        &[2],
+        &[
+            Call::Take("a", Ok(PAIRS)),
+            Call::Take("b", Err(FAILED)),
+            Call::Text("a", Ok(b"new")),
+            Call::Take("b", Ok(&[(7, 5)])),
+        ],
+        [2, 1, 0],
+    ),
+    (
+        &[2],
+        &[1],
+        &[
+            Call::Take("a", Err(FAILED)),
+            Call::Text("a", Ok(b"new")),
+            Call::Text("a", Err(FAILED)),
+            Call::Take("a", Ok(PAIRS)),
+        ],
+        [2, 0, 0],
+    ),
+];
+
+/// Puts a source of these rows at a place.
+fn add_source(
+    alloc: Global,
+    shelf: &mut MemShelf,
+    place: &str,
+    rows: &[Row],
+) -> Result<(), Memory> {
+    match MemSource::make(alloc, rows) {
+        Ok(source) => shelf.add_source(place, source),
+        Err(_) => Err(Memory),
+    }
+}
+
+/// Puts texts at `a` and `b`, that at `a` twice, and sources, and tells which calls fail.
+fn fill(
+    alloc: Global,
+    shelf: &mut MemShelf,
+    fail_texts: &[u64],
+    fail_takes: &[u64],
+) -> Result<(), Memory> {
     shelf.add_text("a", b"old")?;
-    shelf.add_source("a", MemSource::make(alloc, &ROWS)?)?;
     shelf.add_text("a", b"new")?;
     shelf.add_text("b", b"")?;
-    Ok(shelf)
-}
-
-#[test]
-fn gives_texts(rt: HostRuntime) -> Result<(), Fail> {
-    let alloc = rt.alloc();
-    let mut shelf = shelf_of(alloc)?;
-    assert_eq!(rt; shelf.text(alloc, "a")?.as_slice(), b"new".as_slice());
-    assert_eq!(rt; shelf.text(alloc, "b")?.len(), 0);
-    assert_eq!(rt; shelf.text(alloc, "c").err(), Some(Trouble::Failed));
+    add_source(alloc, shelf, "a", &ROWS)?;
+    add_source(alloc, shelf, "b", &OTHER)?;
+    shelf.fail_texts = Vec::from_slice(alloc, fail_texts)?;
+    shelf.fail_takes = Vec::from_slice(alloc, fail_takes)?;
     Ok(())
 }
 
-#[test]
-fn texts_fail_in_turn(rt: HostRuntime) -> Result<(), Fail> {
-    let alloc = rt.alloc();
-    let mut shelf = shelf_of(alloc)?;
-    shelf.fail_texts = Vec::from_slice(alloc, &[1, 3])?;
-    for (place, trouble) in [
-        ("a", Some(Trouble::Failed)),
-        ("b", None),
-        ("b", Some(Trouble::Failed)),
-        ("a", None),
-    ] {
-        assert_eq!(rt; shelf.text(alloc, place).err(), trouble, "at {place}");
+/// Whether a call for a source is answered so. The source is put back.
+fn takes(
+    alloc: Global,
+    shelf: &mut MemShelf,
+    place: &str,
+    rows: Result<&'static [(u32, u32)], Trouble>,
+) -> bool {
+    match shelf.take(alloc, place) {
+        Ok(mut source) => {
+            let wrong = first_wrong(alloc, &mut source, &[Step::Page(0, 9, rows)]);
+            shelf.put_back(place, source);
+            wrong.is_none()
+        }
+        Err(trouble) => rows == Err(trouble),
     }
-    Ok(())
+}
+
+/// Whether a call for a text is answered so.
+fn gives_text(
+    alloc: Global,
+    shelf: &mut MemShelf,
+    place: &str,
+    text: Result<&[u8], Trouble>,
+) -> bool {
+    match shelf.text(alloc, place) {
+        Ok(found) => text == Ok(found.as_slice()),
+        Err(trouble) => text == Err(trouble),
+    }
+}
+
+/// Whether a call is answered as told.
+fn holds(alloc: Global, shelf: &mut MemShelf, call: Call) -> bool {
+    match call {
+        Call::Text(place, text) => gives_text(alloc, shelf, place, text),
+        Call::Take(place, rows) => takes(alloc, shelf, place, rows),
+    }
+}
+
+/// The place of the first call that is answered otherwise, and how many rows are counted at `a`, `b` and `c` then.
+type Outcome = (Option<usize>, [u64; 3]);
+
+fn outcome_by(
+    alloc: Global,
+    shelf: &mut MemShelf,
+    fail_texts: &[u64],
+    fail_takes: &[u64],
+    calls: &[Call],
+) -> Result<Outcome, Memory> {
+    fill(alloc, shelf, fail_texts, fail_takes)?;
+    let wrong = first_wrong_call(alloc, shelf, calls);
+    let given = [
+        shelf.rows_given_at("a"),
+        shelf.rows_given_at("b"),
+        shelf.rows_given_at("c"),
+    ];
+    Ok((wrong, given))
+}
+
+fn first_wrong_call(alloc: Global, shelf: &mut MemShelf, calls: &[Call]) -> Option<usize> {
+    for (place, call) in calls.iter().enumerate() {
+        if !holds(alloc, shelf, *call) {
+            return Some(place);
+        }
+    }
+    None
+}
+
+fn outcome_of(
+    alloc: Global,
+    fail_texts: &[u64],
+    fail_takes: &[u64],
+    calls: &[Call],
+) -> Result<Outcome, Memory> {
+    let mut shelf = MemShelf::make(alloc);
+    let outcome = outcome_by(alloc, &mut shelf, fail_texts, fail_takes, calls);
+    drop(shelf);
+    outcome
+}
+
+/// The place of the first shelf that answers or counts otherwise.
+fn first_other(alloc: Global, shelves: &[Called]) -> Result<Option<usize>, Memory> {
+    for (place, (fail_texts, fail_takes, calls, given)) in shelves.iter().enumerate() {
+        if outcome_of(alloc, fail_texts, fail_takes, calls)? != (None, *given) {
+            return Ok(Some(place));
+        }
+    }
+    Ok(None)
 }
 
 #[test]
-fn takes_fail_in_turn(rt: HostRuntime) -> Result<(), Fail> {
-    let alloc = rt.alloc();
-    let mut shelf = shelf_of(alloc)?;
-    shelf.fail_takes = Vec::from_slice(alloc, &[2])?;
-    for (place, fails) in [("a", false), ("a", true), ("b", true), ("a", false)] {
-        assert_eq!(rt; shelf.take(alloc, place).is_err(), fails, "at {place}");
-    }
+fn answers_each_place(rt: HostRuntime) -> Result<(), Fail> {
+    assert_eq!(rt; first_other(rt.alloc(), &SHELVES), Ok(None));
     Ok(())
+}
+
+/// Reads a page of a source, puts it back at a place, and tells how many rows are counted there.
+fn count_after(
+    alloc: Global,
+    shelf: &mut MemShelf,
+    place: &str,
+    mut source: MemSource,
+    count: u32,
+) -> u64
+    requires { 1 ≤ count }
+{
+    let page = source.page(alloc, 0, count);
+    drop(page);
+    shelf.put_back(place, source);
+    shelf.rows_given_at(place)
+}
+
+/// What is counted at `a` after each of two sources that were taken there, and at `c`, where none was ever taken.
+fn counted_by(alloc: Global, shelf: &mut MemShelf) -> Option<[u64; 3]> {
+    let Ok(first) = shelf.take(alloc, "a") else {
+        return None;
+    };
+    let Ok(second) = shelf.take(alloc, "a") else {
+        return None;
+    };
+    let Ok(third) = shelf.take(alloc, "b") else {
+        return None;
+    };
+    Some([
+        count_after(alloc, shelf, "a", first, 1),
+        count_after(alloc, shelf, "a", second, 5),
+        count_after(alloc, shelf, "c", third, 5),
+    ])
 }
 
 #[test]
 fn counts_what_is_put_back(rt: HostRuntime) -> Result<(), Fail> {
-    let alloc = rt.alloc();
-    let mut shelf = shelf_of(alloc)?;
-    let mut first = shelf.take(alloc, "a")?;
-    let mut second = shelf.take(alloc, "a")?;
-    assert_eq!(rt; first.page(alloc, 0, 1)?.len(), 1);
-    assert_eq!(rt; second.page(alloc, 0, 5)?.len(), 2);
-    shelf.put_back("a", first);
-    assert_eq!(rt; shelf.rows_given_at("a"), 1);
-    shelf.put_back("a", second);
-    assert_eq!(rt; shelf.rows_given_at("a"), 3);
-    assert_eq!(rt; shelf.rows_given_at("b"), 0);
+    let mut shelf = MemShelf::make(rt.alloc());
+    let filled = fill(rt.alloc(), &mut shelf, &[], &[]);
+    let counted = counted_by(rt.alloc(), &mut shelf);
+    drop(shelf);
+    assert_eq!(rt; (filled, counted), (Ok(()), Some([1, 3, 0])));
     Ok(())
 }

@@ -1,12 +1,13 @@
-use Rattle.std.proofs.Common.{◌≡◌, ◌<◌, ◌+◌, length, arith, sym}
+use Rattle.std.proofs.Common.{◌<◌, length, arith, sym}
 use Rattle.catalog_text.proofs.NameLaws.{repeats, is_new}
 use Rattle.catalog_text.proofs.reading.fault_of.Goals as goal
 
 pub returns-then-is_some : goal.returns-then-is_some
 returns-then-is_some c =
     let room : length c.args.catalog.now < 64 = omega (arith, c.len-2.ensures) in
-    let counted : c.from-line.result + 2 ≡ length c.args.catalog.now + 2 = omega (arith, c.from-line.ensures, c.len.ensures) in
-    repeats c.args.catalog.now c.args.source.now c.in-Some.parts c.find.result (c.from-line.result + 2) c.in-Some.is room c.find.ensures (sym c.if-is_some.ensures) counted
+    let before = c.from-line.ensures in
+    let listed = c.len.ensures in
+    repeats c.args.catalog.now c.args.source.now c.in-Some.parts c.find.result _ c.in-Some.is room c.find.ensures (sym c.if-is_some.ensures) (omega arith)
 
 pub returns : goal.returns
 returns c =

@@ -13,8 +13,8 @@ next_due-self-inside-requires-clause-passed c =
 
 pub invariant_of-self : goal.invariant_of-self
 invariant_of-self c =
-    keeps_put c.self.inside.places c.self.inside.asks.items c.self.inside.grades c.set_grade.new.grades c.self.inside.cursor c.next_due-self-inside.result _ c.args.place c.args.ask
+    keeps_put c.self.inside.places c.self.inside.asks.items c.self.inside.grades c.set.new.self c.self.inside.cursor c.next_due-self-inside.result _ c.args.place c.args.ask
     c.self.invariant
     (subst (λ (list : AskList). option_map (λ (had : Ask). had.object) (slice_get list.asks c.args.place) ≡ Some c.args.ask.object) (sym c.self.view_is) c.requires.same)
-    (c.set_grade.ensures ∙ ap (λ g. set c.self.inside.grades c.args.place g) c.open_grade.ensures)
+    (c.set.ensures ∙ ap (λ g. set c.self.inside.grades c.args.place g) c.open_grade.ensures)
     (c.next_due-self-inside.ensures ∙ ap (position_or_len is_due) c.deref.ensures.value)
