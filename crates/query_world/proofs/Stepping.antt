@@ -1,0 +1,212 @@
+-- What a step keeps of a world.
+use Rattle.std.proofs.Common.{◌≡◌, ◌<◌, ◌≤◌, ◌+◌, inl, inr, ℕ, zero, suc, false, Option, Some, List, [], ◌∷◌, length, slice_get, slice_index_or, All, Contains, refl, sym, ap, subst, ◌∙◌, arith}
+use Rattle.std.specs.List.{AllZip, slice_set}
+use Rattle.std.proofs.lemmas.List.{length-set}
+use Rattle.std.proofs.lemmas.List.Elements.{All-set}
+use Rattle.topk_theory.proofs.AgreementLists.{all_from_members, member_of_all, slice_get_contains, slice_get_in_range, contains_nil, contains_here, contains_there, contains_cases}
+use Rattle.topk_theory.proofs.Agreement.{drawn_none}
+use Rattle.topk_theory.proofs.ConsistentRows.{ranked_nil}
+use Rattle.source_state.specs.declared.event.Event.{Event}
+use Rattle.source_state.specs.declared.event.Event.TheVariants as event
+use Rattle.source_state.specs.State.{State, opened, IsSound}
+use Rattle.source_state.specs.Events.{after}
+use Rattle.source_state.proofs.Lists.{none_not_some}
+use Rattle.query_core.specs.declared.ready.Ready.{Ready}
+use Rattle.query_core.specs.Driving.{Continues}
+use Rattle.query_core.specs.Machines.{algorithm_of, state_of}
+use Rattle.query_core.proofs.Feeding.{continues_same, continues_on}
+use Rattle.query_core.proofs.ListCount.{lists_counted}
+use Rattle.query_world.specs.declared.inquiry.Inquiry.{Inquiry}
+use Rattle.query_world.specs.declared.step.Step.{Step}
+use Rattle.query_world.specs.declared.step.Step.TheVariants.{Page, Grade, Miss, Fail, Turn}
+use Rattle.query_world.specs.Histories.{HasHistory}
+use Rattle.query_world.specs.Worlds.{WorldState, state_at, told_to, source_needed, is_ended}
+use Rattle.query_world.specs.Causes.{IsCause}
+use Rattle.query_world.specs.Steps.{with_event, MayComeTo, IsOpen, MayStep, TakesTurn, Steps}
+use Rattle.query_world.specs.Kept.{IsSourceOf, IsServed, IsWorld, IsAfter}
+use Rattle.query_world.specs.Made.{IsReadyFor, opened_from, IsOf, IsFresh, AreOf, IsMade}
+use Rattle.query_world.specs.Runs.{Runs}
+use Rattle.query_world.proofs.Events.{moved_after}
+use Rattle.query_world.proofs.Serving.{AreLater, sound_at, history_at, later_moved, later_set, served_stays, Turned, turned}
+
+-- what every step makes of a world
+pub record Stepped (before after : WorldState) : Type 0 where
+  pub world : IsWorld after
+  pub later : IsAfter before after
+  pub queries : (readies : List Ready) → AreOf readies before → AreOf readies after
+
+pub all_served : (states laters : List State) (queries : List Inquiry) → AreLater states laters → All (IsServed states) queries → All (IsServed laters) queries
+all_served states laters queries later h = all_from_members (IsServed laters) queries (λ q c. served_stays states laters q later (member_of_all (IsServed states) queries q h c))
+
+event_steps : (w : WorldState) (source : ℕ) (e : Event) → IsWorld w → MayComeTo w.states source e → Stepped w (record w { states = with_event w.states source e })
+event_steps w source e h may =
+    let s = state_at w.states source in
+    let moved = moved_after s e (sound_at w.states source h.sound may.0) (history_at w.states source h.histories may.0) may.1 in
+    let later = later_set w.states source (after s e) h.sound may.0 (later_moved s (after s e) moved) in
+    record {
+      world = record {
+        histories = All-set HasHistory w.states source (after s e) moved.history h.histories;
+        sound = All-set IsSound w.states source (after s e) moved.sound h.sound;
+        queries = all_served w.states (with_event w.states source e) w.queries later h.queries;
+      };
+      later = record { sources = later.long; queries = refl; goes = λ other l. (later.each other l).goes };
+      queries = λ readies are. are;
+    }
+
+given : {A : Type 0} {a b : A} → Some a ≡ Some b → a ≡ b
+given e = cc
+
+-- a pair of lists with one member changed
+pub all_zip_set : {A B : Type 0} (R : A → B → Type 0) (xs : List A) (ys : List B) (i : ℕ) (y z : B) → AllZip R xs ys → slice_get ys i ≡ Some y → ((x : A) → R x y → R x z) → AllZip R xs (slice_set ys i z)
+all_zip_set R [] [] i y z h e f = absurd (let l = slice_get_in_range [] i y e in omega (arith, l))
+all_zip_set R [] (w ∷ ys) i y z h e f = absurd h
+all_zip_set R (x ∷ xs) [] i y z h e f = absurd h
+all_zip_set R (x ∷ xs) (w ∷ ys) zero y z h e f = let same : w ≡ y = given e in (f x (subst (R x) same h.0), h.1)
+all_zip_set R (x ∷ xs) (w ∷ ys) (suc i) y z h e f = (h.0, all_zip_set R xs ys i y z h.1 e f)
+
+-- the member of an option that is going
+pub open_query : (o : Option Inquiry) (q : Inquiry) → o ≡ Some q → IsOpen o → is_ended q ≡ false
+open_query o q e going = subst IsOpen e going
+
+pub turn_of : (query : ℕ) (w after : WorldState) → IsWorld w → IsOpen (slice_get w.queries query) → (t : TakesTurn query w after) → Turned w.states after.states t.q t.r
+turn_of query w after h going t =
+    turned w.states after.states t.q t.r h.sound h.histories (member_of_all (IsServed w.states) w.queries t.q h.queries (slice_get_contains w.queries query t.q t.is)) (open_query (slice_get w.queries query) t.q t.is going) t.turns
+
+turn_steps : (query : ℕ) (w after : WorldState) → IsWorld w → IsOpen (slice_get w.queries query) → TakesTurn query w after → Stepped w after
+turn_steps query w after h going t =
+    let done = turn_of query w after h going t in
+    let u = done.moved.0 in
+    let source = source_needed t.q in
+    record {
+      world = record {
+        histories = subst (All HasHistory) (sym done.moved.3) (All-set HasHistory w.states source u done.moved.2.history h.histories);
+        sound = subst (All IsSound) (sym done.moved.3) (All-set IsSound w.states source u done.moved.2.sound h.sound);
+        queries = subst (All (IsServed after.states)) (sym t.others) (All-set (IsServed after.states) w.queries query t.r done.served (all_served w.states after.states w.queries done.later h.queries));
+      };
+      later = record {
+        sources = done.later.long;
+        queries = ap (length {A = Inquiry}) t.others ∙ length-set w.queries query t.r;
+        goes = λ other l. (done.later.each other l).goes;
+      };
+      queries = λ readies are. subst (AllZip IsOf readies) (sym t.others) (all_zip_set IsOf readies w.queries query t.q t.r are t.is (λ ready of. of_on ready t.q t.r of done.goes t.turns.sources t.turns.same));
+    }
+  where
+    of_on : (ready : Ready) (q r : Inquiry) → IsOf ready q → Continues (state_of q.machine) (state_of r.machine) → r.sources.items ≡ q.sources.items → algorithm_of r.machine ≡ algorithm_of q.machine → IsOf ready r
+    of_on ready q r is goes sources same = record {
+      is = is.is;
+      first = is.first;
+      begun = is.begun;
+      goes = continues_on is.first (state_of q.machine) (state_of r.machine) is.goes goes;
+      algorithm = same ∙ is.algorithm;
+      sources = sources ∙ is.sources;
+    }
+
+stepped_is : (w after other : WorldState) → Stepped w other → after ≡ other → Stepped w after
+stepped_is w after other h e = subst (Stepped w) (sym e) h
+
+pub stepped : (step : Step) (w after : WorldState) → IsWorld w → MayStep w step → Steps step w after → Stepped w after
+stepped (Page source rows) w after h may steps = stepped_is w after _ (event_steps w source (event.Page rows) h may) steps
+stepped (Grade source object grade) w after h may steps = stepped_is w after _ (event_steps w source (event.Grade object grade) h may) steps
+stepped (Miss source object) w after h may steps = stepped_is w after _ (event_steps w source (event.Miss object) h may) steps
+stepped (Fail source what) w after h may steps = stepped_is w after _ (event_steps w source (event.Fail what) h may) steps
+stepped (Turn query) w after h may steps = turn_steps query w after h may steps
+
+-- a world that is made
+opened_sound : (list count : ℕ) → count ≤ 200000 → IsSound (opened list count)
+opened_sound list count small = record {
+  log = record {
+    ranked = ranked_nil;
+    fits = omega arith;
+    good = λ k d l. absurd (omega (arith, l));
+    once = λ i j d l m. absurd (omega (arith, m));
+    asked = λ object c. absurd (contains_nil object c);
+    one_fault = omega arith;
+  };
+  distinct = λ i j d l m. absurd (omega (arith, m));
+  fits = omega arith;
+  small = small;
+  want = omega arith;
+  tally = record { failed = omega arith; garbled = omega arith; memory = omega arith };
+}
+
+opened_history : (list count : ℕ) → HasHistory (opened list count)
+opened_history list count = record { events = []; may = tt; told = refl }
+
+pub opened_member : (first : ℕ) (counts : List ℕ) (s : State) → Contains (opened_from first counts) s → (list : ℕ) × (count : ℕ) × Contains counts count × (opened list count ≡ s)
+opened_member first [] s c = absurd (contains_nil s c)
+opened_member first (count ∷ counts) s c =
+    elim (contains_cases (opened first count) (opened_from (first + 1) counts) s c) [
+      | inl same ↦ (first, count, contains_here count counts, same)
+      | inr there ↦ let rest = opened_member (first + 1) counts s there in (rest.0, rest.1, contains_there count counts rest.1 rest.2, rest.3)
+    ]
+
+opened_long : (first : ℕ) (counts : List ℕ) → length (opened_from first counts) ≡ length counts
+opened_long first [] = refl
+opened_long first (count ∷ counts) = let rest = opened_long (first + 1) counts in omega (arith, rest)
+
+opened_at : (first : ℕ) (counts : List ℕ) (source : ℕ) → source < length counts → (state_at (opened_from first counts) source).count ≡ slice_index_or counts source 0
+opened_at first [] source l = absurd (omega (arith, l))
+opened_at first (count ∷ counts) zero l = refl
+opened_at first (count ∷ counts) (suc source) l = opened_at (first + 1) counts source (omega (arith, l))
+
+fresh_served : (counts : List ℕ) (ready : Ready) (q : Inquiry) → IsReadyFor counts ready → IsFresh ready q → IsServed (opened_from 0 counts) q
+fresh_served counts ready q for fresh =
+    let t = state_of q.machine in
+    let begun = fresh.machine.begun in
+    record {
+      sources = record {
+        many = ap (length {A = ℕ}) fresh.sources ∙ for.is.sources ∙ sym (lists_counted ready.query for.is.lawful) ∙ sym begun.lists;
+        each = subst (All (IsSourceOf (opened_from 0 counts) t.log.count)) (sym fresh.sources)
+            (λ k d l.
+            let is = for.sources k d l in
+            let long = opened_long 0 counts in
+            (omega (arith, is.0, long), opened_at 0 counts (slice_index_or ready.sources.items k d) is.0 ∙ is.1 ∙ sym begun.count));
+      };
+      run = fresh.run;
+      drawn = record {
+        drawn = subst (λ A. Rattle.topk_theory.specs.Transcript.IsDrawn t.log.lists (told_to (opened_from 0 counts) q) A) (sym begun.none) (drawn_none t.log.lists (told_to (opened_from 0 counts) q));
+        roomy = subst (λ A. length (Rattle.topk_theory.specs.Transcript.seen_objects A) ≤ t.room) (sym begun.none) (omega arith);
+      };
+      waits = λ n e. absurd (none_not_some (sym fresh.waits ∙ e));
+      cause = subst (λ o. IsCause (state_at (opened_from 0 counts) (source_needed q)) t q.waiting.noted o) (sym fresh.refusal) tt;
+    }
+
+pub zip_member : {A B : Type 0} (R : A → B → Type 0) (xs : List A) (ys : List B) (y : B) → AllZip R xs ys → Contains ys y → (x : A) × Contains xs x × R x y
+zip_member R [] [] y h c = absurd (contains_nil y c)
+zip_member R [] (w ∷ ys) y h c = absurd h
+zip_member R (x ∷ xs) [] y h c = absurd h
+zip_member R (x ∷ xs) (w ∷ ys) y h c =
+    elim (contains_cases w ys y c) [
+      | inl same ↦ (x, contains_here x xs, subst (R x) same h.0)
+      | inr there ↦ let rest = zip_member R xs ys y h.1 there in (rest.0, contains_there x xs rest.0 rest.1, rest.2)
+    ]
+
+all_zip_on : {A B : Type 0} (R S : A → B → Type 0) (xs : List A) (ys : List B) → ((x : A) (y : B) → R x y → S x y) → AllZip R xs ys → AllZip S xs ys
+all_zip_on R S [] [] f h = tt
+all_zip_on R S [] (y ∷ ys) f h = absurd h
+all_zip_on R S (x ∷ xs) [] f h = absurd h
+all_zip_on R S (x ∷ xs) (y ∷ ys) f h = (f x y h.0, all_zip_on R S xs ys f h.1)
+
+fresh_of : (ready : Ready) (q : Inquiry) → IsFresh ready q → IsOf ready q
+fresh_of ready q fresh = record { is = fresh.is; first = state_of q.machine; begun = fresh.machine.begun; goes = continues_same (state_of q.machine); algorithm = fresh.machine.algorithm; sources = fresh.sources }
+
+pub made_world : (counts : List ℕ) (readies : List Ready) (w : WorldState) → All (λ (count : ℕ). count ≤ 200000) counts → All (IsReadyFor counts) readies → IsMade counts readies w → IsWorld w
+made_world counts readies w small ready made = record {
+  histories = subst (All HasHistory) (sym made.states) (all_from_members HasHistory (opened_from 0 counts) (λ s c. let m = opened_member 0 counts s c in subst HasHistory m.3 (opened_history m.0 m.1)));
+  sound = subst (All IsSound) (sym made.states)
+      (all_from_members IsSound (opened_from 0 counts) (λ s c. let m = opened_member 0 counts s c in subst IsSound m.3 (opened_sound m.0 m.1 (member_of_all (λ (count : ℕ). count ≤ 200000) counts m.1 small m.2))));
+  queries = subst (λ states. All (IsServed states) w.queries) (sym made.states)
+      (all_from_members (IsServed (opened_from 0 counts)) w.queries
+      (λ q c. let m = zip_member IsFresh readies w.queries q made.queries c in fresh_served counts m.0 q (member_of_all (IsReadyFor counts) readies m.0 ready m.1) m.2));
+}
+
+pub made_of : (counts : List ℕ) (readies : List Ready) (w : WorldState) → IsMade counts readies w → AreOf readies w
+made_of counts readies w made = all_zip_on IsFresh IsOf readies w.queries fresh_of made.queries
+
+-- after every list of steps
+pub ran : (steps : List Step) (w last : WorldState) → IsWorld w → Runs w steps last → IsWorld last × ((readies : List Ready) → AreOf readies w → AreOf readies last)
+ran [] w last h runs = (subst IsWorld (sym runs) h, λ readies are. subst (AreOf readies) (sym runs) are)
+ran (step ∷ steps) w last h runs =
+    let one = stepped step w runs.0 h runs.1 runs.2 in
+    let rest = ran steps runs.0 last one.world runs.3 in
+    (rest.0, λ readies are. rest.1 readies (one.queries readies are))

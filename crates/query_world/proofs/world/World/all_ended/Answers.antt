@@ -1,0 +1,10 @@
+use Rattle.std.proofs.Common.{◌≡◌, true, List, All, ap, subst, ◌∙◌}
+use Rattle.query_world.specs.Worlds.{WorldState, is_ended}
+use Rattle.query_world.specs.Steps.{IsTestOf}
+use Rattle.query_world.specs.declared.inquiry.Inquiry.{Inquiry}
+use Rattle.query_world.proofs.world.World.all_ended.Goals as goal
+
+pub returns : goal.returns
+returns c =
+    let same = c.deref.ensures.value ∙ ap (λ (w : WorldState). w.queries) c.self.view_is in
+    subst (λ (queries : List Inquiry). IsTestOf c.all_ended.result (All (λ (query : Inquiry). is_ended query ≡ true) queries)) same c.all_ended.ensures

@@ -1,0 +1,19 @@
+use Rattle.std.proofs.Common.{◌++◌, ◌∷◌, [], take, ap, sym, subst, ◌∙◌}
+use Rattle.std.specs.List.{AllZip}
+use Rattle.query_world.specs.Made.{IsFresh}
+use Rattle.query_world.proofs.Making.{take_more, take_whole}
+use Rattle.query_world.proofs.world.make_all.Goals as goal
+
+pub loop-place-init : goal.loop-place-init
+loop-place-init c = subst (AllZip IsFresh []) (sym c.new-queries.ensures.items) tt
+
+pub loop-place-preserved : goal.loop-place-preserved
+loop-place-preserved c =
+    let ready = c.index-readies-place.result in
+    let front = take c.loop-place.place c.args.readies.now in
+    subst (λ xs. AllZip IsFresh xs c.make_next.new.queries.items)
+    (ap (λ x. front ++ x ∷ []) c.index-readies-place.is ∙ sym (take_more c.args.readies.now c.loop-place.place ready c.loop-place-test.true))
+    (c.in_ok-make_next.ensures front c.loop-place.invariant)
+
+pub returns : goal.returns
+returns c = subst (λ xs. AllZip IsFresh xs c.loop-place.queries.items) (take_whole c.args.readies.now c.loop-place.place c.loop-place-test.false) c.loop-place.invariant

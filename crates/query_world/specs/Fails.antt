@@ -1,0 +1,41 @@
+-- Whom a fail of a source refuses.
+use Rattle.std.specs.Prelude.{◌≡◌, ℕ, false, Some, None, List, ◌∷◌, ◌++◌, slice_get, Contains}
+use Rattle.ranked_list.specs.declared.need.Need.{Need}
+use Rattle.source_state.specs.declared.entry.FailKind.{FailKind}
+use Rattle.source_state.specs.Looking.{waits_for}
+use Rattle.query_world.specs.declared.inquiry.Inquiry.{Inquiry}
+use Rattle.query_world.specs.declared.step.Step.{Step}
+use Rattle.query_world.specs.declared.step.Step.TheVariants.{Fail, Turn}
+use Rattle.query_world.specs.Worlds.{WorldState, needed, source_needed}
+use Rattle.query_world.specs.Steps.{TakesTurn}
+use Rattle.query_world.specs.Runs.{Runs}
+
+-- in this turn of a query its own want or ask comes for a need: it didn't wait for it before, and waits for it then
+pub record BeginsToWait (query : ℕ) (n : Need) (before after : WorldState) : Type 0 where
+  pub turn : TakesTurn query before after
+  pub needs : needed turn.q ≡ n
+  pub fresh : waits_for turn.q.waiting.need n ≡ false
+  pub waits : turn.r.waiting.need ≡ Some n
+
+-- among these steps a query begins to wait for a need, and later a call of the source fails so
+pub record FailsSince (first : WorldState) (steps : List Step) (query source : ℕ) (n : Need) (what : FailKind) : Type 0 where
+  pub earlier : List Step
+  pub later : List Step
+  pub order : steps ≡ earlier ++ Turn query ∷ later
+  pub before : WorldState
+  pub after : WorldState
+  pub ran : Runs first earlier before
+  pub begins : BeginsToWait query n before after
+  pub fails : Contains later (Fail source what)
+
+-- a query is refused by a turn among these steps, and before that turn such a call of the source of its need failed, after its own want or ask
+pub record IsToldOfFail (first : WorldState) (steps : List Step) (query : ℕ) (what : FailKind) : Type 0 where
+  pub front : List Step
+  pub rest : List Step
+  pub order : steps ≡ front ++ Turn query ∷ rest
+  pub before : WorldState
+  pub ran : Runs first front before
+  pub q : Inquiry
+  pub is : slice_get before.queries query ≡ Some q
+  pub unrefused : q.refusal ≡ None
+  pub since : FailsSince first front query (source_needed q) (needed q) what

@@ -1,0 +1,127 @@
+//! A query of a world, and its turns.
+
+ghost use Rattle.std.specs.Prelude.{◌≡◌, false, None, All, IfOk};
+ghost use Rattle.source_state.specs.State.{IsSound};
+ghost use Rattle.query_core.specs.Machines.{algorithm_of, state_of, MakesItsRun};
+ghost use Rattle.query_core.specs.Ready.{IsReady};
+ghost use Rattle.query_world.specs.Worlds.{needed, list_needed, is_done, is_ended};
+ghost use Rattle.query_world.specs.Steps.{MayFeed, Answers, Turns};
+ghost use Rattle.query_world.specs.Kept.{IsServed};
+ghost use Rattle.query_world.specs.Made.{IsFresh};
+
+use super::Memory;
+use super::ended::Refusal;
+use query_core::{Machine, Ready};
+use ranked_list::Need;
+use source_state::{Look, SourceState, Tally, Waiting, look_at};
+use std::alloc::Global;
+
+/// A query as it stands: the numbers of the sources of its lists, its machine with the transcript, what it waits for, and why it is
+/// refused, if it is.
+#[derive(Drop)]
+pub struct Inquiry {
+    pub sources: Vec<u32>,
+    pub machine: Machine,
+    pub waiting: Waiting,
+    pub refusal: Option<Refusal>,
+}
+
+/// The list of a need, 0 where there is none.
+fn list_needed(need: Need) -> u8
+    ensures { result ≡ list_needed need }
+{
+    match need {
+        Need::Row { list, .. } | Need::Grade { list, .. } => list,
+        Need::Done => 0,
+    }
+}
+
+/// Whether nothing is needed.
+fn is_done(need: Need) -> bool
+    ensures { result ≡ is_done need }
+{
+    match need {
+        Need::Row { .. } | Need::Grade { .. } => false,
+        Need::Done => true,
+    }
+}
+
+/// Nothing is waited for.
+fn no_waiting() -> Waiting
+    ensures { result.need ≡ None }
+{
+    Waiting {
+        need: None,
+        noted: Tally {
+            failed: 0,
+            garbled: 0,
+            memory: 0,
+        },
+    }
+}
+
+/// One turn of a query that hasn't ended: a look at the source of what it needs, and what it makes of the answer.
+pub(crate) fn turn(states: &mut Vec<SourceState>, query: &mut Inquiry)
+    requires served { IsServed states.old.items query.old }
+    requires going { is_ended query.old ≡ false }
+    requires sound { All IsSound states.old.items }
+    ensures { Turns states.old.items states.new.items query.old query.new }
+{
+    let need = query.machine.need();
+    let list = list_needed(need);
+    let source = query.sources[usize::from(list)];
+    let look = look_at(&mut states[source as usize], &mut query.waiting, need);
+    query.answer(list, look);
+}
+
+impl Inquiry {
+    /// A query that is ready, before any access.
+    pub(crate) fn make(alloc: Global, ready: &Ready) -> Result<Inquiry, Memory>
+        requires { IsReady ready.now }
+        ensures { IfOk result (IsFresh ready.now) }
+    {
+        let Ok(sources) = ready.sources.clone() else {
+            return Err(Memory);
+        };
+        match Machine::make(alloc, ready) {
+            Ok(machine) => Ok(Inquiry {
+                sources,
+                machine,
+                waiting: no_waiting(),
+                refusal: None,
+            }),
+            Err(_) => Err(Memory),
+        }
+    }
+
+    /// Whether it is refused or needs nothing more.
+    pub(crate) fn is_ended(&self) -> bool
+        ensures { result ≡ is_ended self.now }
+    {
+        self.refusal.is_some() || is_done(self.machine.need())
+    }
+
+    /// What it makes of the answer of a look for what it needs of a list.
+    fn answer(&mut self, list: u8, look: Look)
+        requires may { MayFeed (state_of self.old.machine) look }
+        requires list { list ≡ list_needed (needed self.old) }
+        requires going { self.old.refusal ≡ None }
+        ensures answers { Answers self.old self.new look }
+        ensures run { MakesItsRun self.new.machine }
+        ensures same { algorithm_of self.new.machine ≡ algorithm_of self.old.machine }
+        ensures sources { self.new.sources.items ≡ self.old.sources.items }
+        ensures waiting { self.new.waiting ≡ self.old.waiting }
+    {
+        let _need = self.machine.need();
+        match look {
+            Look::Row(row) => {
+                if let Err(fault) = self.machine.feed_row(row) {
+                    self.refusal = Some(Refusal::Core { fault });
+                }
+            }
+            Look::Grade(grade) => self.machine.feed_grade(grade),
+            Look::NotYet => {}
+            Look::Fault(fault) => self.refusal = Some(Refusal::Look { list, fault }),
+        }
+    }
+}

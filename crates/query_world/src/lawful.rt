@@ -1,0 +1,55 @@
+//! Which steps are lawful.
+
+ghost use Rattle.std.specs.Prelude.{◌≡◌, ◌<◌, Some, length, slice_get};
+ghost use Rattle.source_state.specs.declared.entry.Asked.TheVariants.{Pending};
+ghost use Rattle.source_state.specs.declared.event.Event.TheVariants.{Page};
+ghost use Rattle.source_state.specs.State.{asked_in};
+ghost use Rattle.source_state.specs.Events.{MayPage};
+ghost use Rattle.query_world.specs.Worlds.{state_at};
+ghost use Rattle.query_world.specs.Steps.{IsTestOf, MayComeTo, IsOpen};
+
+use super::inquiry::Inquiry;
+use ranked_list::PageRows;
+use source_state::{Asked, SourceState};
+
+/// Whether the rows of a page may follow those that are kept.
+fn fits(state: &SourceState, rows: &PageRows) -> bool
+    ensures { IsTestOf result (MayPage state.now rows.now) }
+{
+    let count = state.count();
+    let kept = state.rows();
+    if state.row_fault().is_some() || kept >= count {
+        return false;
+    }
+    rows.len() <= count - kept
+}
+
+/// Whether a page may come to a source.
+pub(crate) fn may_page(states: &[SourceState], source: u32, rows: &PageRows) -> bool
+    ensures { IsTestOf result (MayComeTo states.now source (Page rows.now)) }
+{
+    match states.get(source as usize) {
+        Some(state) => fits(state, rows),
+        None => false,
+    }
+}
+
+/// Whether what an object settles as may come to a source: its ask is pending.
+pub(crate) fn may_settle(states: &[SourceState], source: u32, object: u32) -> bool
+    ensures { IsTestOf result ((source < length states.now) × (asked_in (state_at states.now source) object ≡ Some Pending)) }
+{
+    match states.get(source as usize) {
+        Some(state) => state.asked(object) == Some(Asked::Pending),
+        None => false,
+    }
+}
+
+/// Whether a query may take a turn.
+pub(crate) fn may_turn(queries: &[Inquiry], query: u32) -> bool
+    ensures { IsTestOf result (IsOpen (slice_get queries.now query)) }
+{
+    match queries.get(query as usize) {
+        Some(query) => !query.is_ended(),
+        None => false,
+    }
+}

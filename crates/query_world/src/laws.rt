@@ -1,0 +1,39 @@
+//! Laws of worlds.
+
+ghost use Rattle.std.specs.Prelude.{◌≡◌, ◌≤◌, ℕ, Some, List, All, slice_get};
+ghost use Rattle.ranked_list.specs.declared.row.Row.{Row};
+ghost use Rattle.source_state.specs.declared.entry.FailKind.{FailKind};
+ghost use Rattle.source_state.specs.Looking.{refusal_of};
+ghost use Rattle.query_core.specs.declared.ready.Ready.{Ready};
+ghost use Rattle.query_world.specs.declared.ended.Refusal.TheVariants.{Look};
+ghost use Rattle.query_world.specs.declared.inquiry.Inquiry.{Inquiry};
+ghost use Rattle.query_world.specs.declared.step.Step.{Step};
+ghost use Rattle.query_world.specs.Worlds.{WorldState};
+ghost use Rattle.query_world.specs.Kept.{IsWorld};
+ghost use Rattle.query_world.specs.Made.{IsReadyFor, IsMade, AreOf};
+ghost use Rattle.query_world.specs.Honest.{HasTable, IsOnItsRun};
+ghost use Rattle.query_world.specs.Runs.{Runs, RunsHonestly};
+ghost use Rattle.query_world.specs.Fails.{IsToldOfFail};
+
+/// After every list of lawful steps, honest or not, each query's transcript is drawn from the logs of its sources and is how the run of its
+/// algorithm begins on every table that agrees with it, and a refused query has its cause. Where the steps are honest for lists that
+/// form a table for each query, each transcript is how the query's run on its own table begins, and a query is refused for its room
+/// or for a fail alone.
+pub fn each_order_gives_the_one_answer()
+    ensures any { (counts : List ℕ) (readies : List Ready) (first : WorldState) (steps : List Step) (last : WorldState)
+        → All (λ count. count ≤ 200000) counts → All (IsReadyFor counts) readies → IsMade counts readies first
+        → Runs first steps last → IsWorld last × AreOf readies last }
+    ensures honest { (lists : List (List Row)) (counts : List ℕ) (readies : List Ready) (first : WorldState) (steps : List Step) (last : WorldState)
+        → All (λ count. count ≤ 200000) counts → All (IsReadyFor counts) readies → IsMade counts readies first → All (HasTable lists) first.queries
+        → RunsHonestly lists first steps last → All (IsOnItsRun lists) last.queries }
+{}
+
+/// After every list of lawful steps, a query that is refused because a call failed began to wait for its need at a turn of its own, and
+/// the call of that need's source failed after this turn and before the one that refused it. So no failure refuses a query that
+/// asked later.
+pub fn a_failure_refuses_those_that_wait()
+    ensures { (counts : List ℕ) (readies : List Ready) (first : WorldState) (steps : List Step) (last : WorldState)
+        → All (λ count. count ≤ 200000) counts → All (IsReadyFor counts) readies → IsMade counts readies first → Runs first steps last
+        → (query : ℕ) (q : Inquiry) (list : ℕ) (what : FailKind) → slice_get last.queries query ≡ Some q → q.refusal ≡ Some (Look list (refusal_of what))
+        → IsToldOfFail first steps query what }
+{}

@@ -1,0 +1,21 @@
+//! Worlds: sources and the queries that share them, over any list of steps. A step is a page, a grade, a miss or a fail of one
+//! source, or a turn of one query. Whatever the steps are, and in whatever order they come, each query that is answered has the
+//! one answer of the tables that agree with what it read.
+#![tactic(auto)]
+
+mod ended;
+mod inquiry;
+mod lawful;
+mod laws;
+mod step;
+mod world;
+
+pub use ended::{Ended, Endings, Refusal};
+pub use inquiry::Inquiry;
+pub use laws::{a_failure_refuses_those_that_wait, each_order_gives_the_one_answer};
+pub use step::Step;
+pub use world::World;
+
+/// No memory was left.
+#[derive(Clone, Copy, Debug, PartialEq, Eq)]
+pub struct Memory;

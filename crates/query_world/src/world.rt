@@ -1,0 +1,299 @@
+//! Worlds.
+
+ghost use Rattle.std.specs.Prelude.{◌≡◌, ◌<◌, ◌≤◌, ◌^◌, ◌∷◌, [], ◌++◌, ℕ, true, List, All, length, slice_get, slice_set, take, IfOk, OnOk, vec_len};
+ghost use Rattle.std.specs.List.{AllZip};
+ghost use Rattle.std.specs.Option.{option_map};
+ghost use Rattle.ranked_list.specs.declared.row.Row.{Row};
+ghost use Rattle.source_state.specs.State.{opened};
+ghost use Rattle.source_state.specs.Events.{after, MayCome};
+ghost use Rattle.query_core.specs.declared.ready.Ready.{Ready as AnyReady};
+ghost use Rattle.query_core.specs.Ready.{IsReady};
+ghost use Rattle.query_world.specs.Worlds.{world_of, state_at, is_ended};
+ghost use Rattle.query_world.specs.Steps.{IsTestOf, MayStep, MayComeTo, Steps, with_event};
+ghost use Rattle.query_world.specs.Kept.{IsWorld, IsAfter};
+ghost use Rattle.query_world.specs.Made.{IsReadyFor, IsFresh, IsMade, AreOf, opened_from};
+ghost use Rattle.query_world.specs.Honest.{IsHonest, IsTrueWorld, IsOnItsRun};
+ghost use Rattle.query_world.specs.Endings.{IsRefused, EndsAs, IsRight};
+
+use super::Memory;
+use super::ended::{Ended, Endings, Refusal};
+use super::inquiry::{Inquiry, turn};
+use super::lawful::{may_page, may_settle, may_turn};
+use super::step::Step;
+use query_core::Ready;
+use source_state::{Event, SourceState};
+use std::alloc::Global;
+use std::marker::Model;
+
+/// Sources, and the queries that share them. Contracts see it as `WorldState`.
+#[derive(Drop)]
+pub struct World {
+    states: Vec<SourceState>,
+    queries: Vec<Inquiry>,
+    endings: Vec<Ended>,
+}
+
+impl Model for World {
+    ghost use Rattle.std.specs.Prelude.{◌≡◌, ◌<◌, ◌^◌, [], vec_len};
+    ghost use Rattle.query_world.specs.Worlds.{WorldState, world_of};
+    ghost use Rattle.query_world.specs.Kept.{IsWorld};
+    ghost use Rattle.std.specs.Coded.{codes};
+    ghost use Rattle.monotone_fn.specs.Code.{tree_code};
+
+    ghost coded = { Prim.hlevel (codes, tree_code) };
+
+    ghost Value = { WorldState };
+
+    ghost view = { λ a. world_of a.states.items a.queries.items };
+
+    ghost invariant = { λ a. IsWorld (world_of a.states.items a.queries.items)
+        × (vec_len a.states < 2 ^ 32) × (vec_len a.queries < 2 ^ 32) × (a.endings.items ≡ []) };
+}
+
+/// Opens one more source, with the number of those that there are.
+fn open_next(alloc: Global, states: &mut Vec<SourceState>, count: u32) -> Result<(), Memory>
+    requires few { vec_len states.old < 2 ^ 32 }
+    requires count { count ≤ 200000 }
+    ensures { OnOk result (states.new.items ≡ states.old.items ++ opened (length states.old.items) count ∷ []) }
+{
+    let source = states.len() as u32;
+    let Ok(state) = SourceState::open(alloc, source, count) else {
+        return Err(Memory);
+    };
+    match states.push(state) {
+        Ok(()) => Ok(()),
+        Err(_) => Err(Memory),
+    }
+}
+
+/// The sources with these counts, before any event.
+fn open_all(alloc: Global, counts: &[u32]) -> Result<Vec<SourceState>, Memory>
+    requires few { length counts.now < 2 ^ 32 }
+    requires counts { All (λ count. count ≤ 200000) counts.now }
+    ensures { IfOk result (λ states. states.items ≡ opened_from 0 counts.now) }
+{
+    let mut states = Vec::new(alloc);
+    for place in 0..counts.len() {
+        open_next(alloc, &mut states, counts[place])?;
+    }
+    Ok(states)
+}
+
+/// One more query.
+fn make_next(alloc: Global, queries: &mut Vec<Inquiry>, ready: &Ready) -> Result<(), Memory>
+    requires { IsReady ready.now }
+    ensures { OnOk result ((readies : List AnyReady) → AllZip IsFresh readies queries.old.items
+        → AllZip IsFresh (readies ++ ready.now ∷ []) queries.new.items) }
+{
+    let query = Inquiry::make(alloc, ready)?;
+    let Ok(()) = queries.push(query) else {
+        return Err(Memory);
+    };
+    Ok(())
+}
+
+/// The queries, before any access.
+fn make_all(alloc: Global, readies: &[Ready]) -> Result<Vec<Inquiry>, Memory>
+    requires { All IsReady readies.now }
+    ensures { IfOk result (λ queries. AllZip IsFresh readies.now queries.items) }
+{
+    let mut queries = Vec::new(alloc);
+    for place in 0..readies.len() {
+        make_next(alloc, &mut queries, &readies[place])?;
+    }
+    Ok(queries)
+}
+
+/// An event comes to a source.
+fn come(states: &mut Vec<SourceState>, source: u32, event: Event)
+    requires { MayComeTo states.old.items source event }
+    ensures { states.new.items ≡ with_event states.old.items source event }
+{
+    states[source as usize].apply(event);
+}
+
+/// The ending of a query that is refused.
+fn refused(refusal: Refusal) -> Ended
+    ensures { IsRefused refusal result }
+{
+    match refusal {
+        Refusal::Core { fault } => Ended::Core { fault },
+        Refusal::Look { list, fault } => Ended::Look { list, fault },
+    }
+}
+
+/// How a query ends.
+fn end(query: Inquiry) -> Result<Ended, Memory>
+    requires { is_ended query ≡ true }
+    ensures { IfOk result (EndsAs query) }
+{
+    let Inquiry {
+        sources,
+        machine,
+        refusal,
+        ..
+    } = query;
+    drop(sources);
+    match refusal {
+        None => match machine.answer() {
+            Ok(answer) => Ok(Ended::Answered(answer)),
+            Err(_) => Err(Memory),
+        },
+        Some(refusal) => {
+            drop(machine);
+            Ok(refused(refusal))
+        }
+    }
+}
+
+/// Takes a step.
+fn take(states: &mut Vec<SourceState>, queries: &mut Vec<Inquiry>, step: Step)
+    requires world { IsWorld (world_of states.old.items queries.old.items) }
+    requires may { MayStep (world_of states.old.items queries.old.items) step }
+    ensures { Steps step (world_of states.old.items queries.old.items) (world_of states.new.items queries.new.items) }
+{
+    match step {
+        Step::Page { source, rows } => come(states, source, Event::Page { rows }),
+        Step::Grade {
+            source,
+            object,
+            grade,
+        } => come(states, source, Event::Grade { object, grade }),
+        Step::Miss { source, object } => come(states, source, Event::Miss { object }),
+        Step::Fail { source, what } => come(states, source, Event::Fail { what }),
+        Step::Turn { query } => turn(states, &mut queries[query as usize]),
+    }
+}
+
+/// Whether all queries have ended.
+fn all_ended(queries: &[Inquiry]) -> bool
+    ensures { IsTestOf result (All (λ query. is_ended query ≡ true) queries.now) }
+{
+    queries.iter().all(|query| query.is_ended())
+}
+
+/// How queries end, in their order. They are taken out.
+fn end_all(queries: &mut Vec<Inquiry>, endings: &mut Vec<Ended>) -> Result<(), Memory>
+    requires none { endings.old.items ≡ [] }
+    requires ended { All (λ query. is_ended query ≡ true) queries.old.items }
+    ensures { OnOk result (AllZip EndsAs queries.old.items endings.new.items) }
+{
+    queries.reverse();
+    while let Some(query) = queries.pop() {
+        let ended = end(query)?;
+        let Ok(()) = endings.push(ended) else {
+            return Err(Memory);
+        };
+    }
+    Ok(())
+}
+
+impl World {
+    /// The world of sources with these counts and of queries that are ready, before any step. The expressions of the queries are
+    /// copied.
+    pub fn make(alloc: Global, counts: &[u32], queries: &[Ready]) -> Result<World, Memory>
+        requires sources { length counts.now < 2 ^ 32 }
+        requires counts { All (λ count. count ≤ 200000) counts.now }
+        requires queries { length queries.now < 2 ^ 32 }
+        requires ready { All (IsReadyFor counts.now) queries.now }
+        ensures made { IfOk result (IsMade counts.now queries.now) }
+        ensures world { IfOk result IsWorld }
+        ensures queries { IfOk result (AreOf queries.now) }
+    {
+        let states = open_all(alloc, counts)?;
+        let inquiries = make_all(alloc, queries)?;
+        let Ok(endings) = Vec::with_capacity(alloc, queries.len()) else {
+            return Err(Memory);
+        };
+        Ok(World {
+            states,
+            queries: inquiries,
+            endings,
+        })
+    }
+
+    /// Whether a step is lawful.
+    pub fn may_step(&self, step: &Step) -> bool
+        ensures { IsTestOf result (MayStep self.now step.now) }
+    {
+        match step {
+            Step::Page { source, rows } => may_page(&self.states, *source, rows),
+            Step::Grade { source, object, .. } | Step::Miss { source, object } => {
+                may_settle(&self.states, *source, *object)
+            }
+            Step::Fail { source, .. } => (*source as usize) < self.states.len(),
+            Step::Turn { query } => may_turn(&self.queries, *query),
+        }
+    }
+
+    /// Takes a step, and no memory.
+    ///
+    /// A page comes where no row fault stands and a row is missing, and its rows are no more than are missing; a grade and a miss
+    /// are of an object whose ask is pending; a query that has ended takes no turn.
+    pub fn step(&mut self, step: Step)
+        requires { MayStep self.old step }
+        ensures steps { Steps step self.old self.new }
+        ensures world { IsWorld self.new }
+        ensures later { IsAfter self.old self.new }
+        ensures queries { (readies : List AnyReady) → AreOf readies self.old → AreOf readies self.new }
+        ensures honest { (lists : List (List Row)) → IsTrueWorld lists self.old → IsHonest lists self.old step → IsTrueWorld lists self.new }
+    {
+        take(&mut self.states, &mut self.queries, step);
+    }
+
+    /// How many sources there are.
+    pub fn sources(&self) -> u32
+        ensures { result ≡ length self.now.states }
+    {
+        self.states.len() as u32
+    }
+
+    /// How many queries there are.
+    pub fn queries(&self) -> u32
+        ensures { result ≡ length self.now.queries }
+    {
+        self.queries.len() as u32
+    }
+
+    /// The state of a source.
+    pub fn state(&self, source: u32) -> &SourceState
+        requires { source < length self.now.states }
+        ensures { result.now ≡ state_at self.now.states source }
+    {
+        &self.states[source as usize]
+    }
+
+    /// Whether a query is refused or needs nothing more.
+    pub fn ended(&self, query: u32) -> bool
+        requires { query < length self.now.queries }
+        ensures { Some result ≡ option_map is_ended (slice_get self.now.queries query) }
+    {
+        self.queries[query as usize].is_ended()
+    }
+
+    /// Whether all queries have ended.
+    pub fn all_ended(&self) -> bool
+        ensures { IsTestOf result (All (λ query. is_ended query ≡ true) self.now.queries) }
+    {
+        all_ended(&self.queries)
+    }
+
+    /// How the queries ended, in their order, once all have.
+    pub fn finish(self) -> Result<Endings, Memory>
+        requires { All (λ query. is_ended query ≡ true) self.queries }
+        ensures ends { IfOk result (AllZip EndsAs self.queries) }
+        ensures world { IsWorld self }
+        ensures right { (readies : List AnyReady) → AreOf readies self → IfOk result (AllZip IsRight readies) }
+        ensures honest { (lists : List (List Row)) → IsTrueWorld lists self → All (IsOnItsRun lists) self.queries }
+    {
+        let World {
+            states,
+            mut queries,
+            mut endings,
+        } = self;
+        drop(states);
+        end_all(&mut queries, &mut endings)?;
+        drop(queries);
+        Ok(Endings::from_vec(endings))
+    }
+}

@@ -1,0 +1,180 @@
+//! Steps as plain data, taken where they are lawful.
+
+use query_world::{Step, World};
+use ranked_list::{PageRows, Row};
+use source_state::{FailKind, Plan};
+use std::alloc::Global;
+use std::test::Fail;
+
+/// What the sources of a world hold, and how they answer.
+#[derive(Clone, Copy)]
+pub struct Sources {
+    /// The rows of each, objects with their grades, from the top down.
+    pub lists: &'static [&'static [(u32, u32)]],
+    /// The grades, of a source and an object, that random access gives otherwise than the rows.
+    pub grades: &'static [(u32, u32, u32)],
+    /// How many rows a page has.
+    pub page: u32,
+    /// The source whose page behind so many rows fails once.
+    pub fails: Option<(u32, u32)>,
+}
+
+/// A step as plain data.
+#[derive(Clone, Copy)]
+pub enum Act {
+    Turn(u32),
+    /// The next rows of a source, so many.
+    Page(u32, u32),
+    /// The grade that is due first.
+    Grade(u32),
+    Fail(u32),
+}
+
+/// Takes a step if it is lawful.
+fn take(world: &mut World, step: Step) -> bool {
+    let may = world.may_step(&step);
+    if may {
+        world.step(step);
+    }
+    may
+}
+
+/// The rows of a list behind the first, so many of them.
+fn page_of(alloc: Global, list: &[(u32, u32)], from: u32, count: u32) -> Result<PageRows, Fail> {
+    let mut rows = Vec::new(alloc);
+    for (object, grade) in list.iter().skip(from as usize).take(count as usize) {
+        rows.push(Row {
+            object: *object,
+            grade: *grade,
+        })?;
+    }
+    if rows.len() > 1000 {
+        return Err("a small page".into());
+    }
+    Ok(PageRows::from_vec(rows))
+}
+
+/// The grade that random access gives.
+fn grade_of(sources: &Sources, source: u32, object: u32) -> Option<u32> {
+    let other = sources
+        .grades
+        .iter()
+        .find(|grade| grade.0 == source && grade.1 == object);
+    if let Some(grade) = other {
+        return Some(grade.2);
+    }
+    let list = sources.lists.get(source as usize)?;
+    list.iter().find(|row| row.0 == object).map(|row| row.1)
+}
+
+/// What random access of an object brings.
+fn graded(sources: &Sources, source: u32, object: u32) -> Step {
+    match grade_of(sources, source, object) {
+        Some(grade) => Step::Grade {
+            source,
+            object,
+            grade,
+        },
+        None => Step::Miss { source, object },
+    }
+}
+
+/// Takes a page of a source, if it is lawful.
+fn take_page(
+    alloc: Global,
+    world: &mut World,
+    sources: &Sources,
+    source: u32,
+    count: u32,
+) -> Result<bool, Fail> {
+    if source >= world.sources() {
+        return Ok(false);
+    }
+    let from = world.state(source).rows();
+    let list = sources.lists.get(source as usize).copied().unwrap_or(&[]);
+    let rows = page_of(alloc, list, from, count)?;
+    Ok(take(world, Step::Page { source, rows }))
+}
+
+/// Takes the grade of a source that is due first.
+fn take_grade(world: &mut World, sources: &Sources, source: u32) -> bool {
+    if source >= world.sources() {
+        return false;
+    }
+    match world.state(source).first_pending() {
+        Some(object) => take(world, graded(sources, source, object)),
+        None => false,
+    }
+}
+
+/// Takes a step, if it is lawful.
+pub fn take_act(
+    alloc: Global,
+    world: &mut World,
+    sources: &Sources,
+    step: Act,
+) -> Result<bool, Fail> {
+    match step {
+        Act::Turn(query) => Ok(take(world, Step::Turn { query })),
+        Act::Page(source, count) => take_page(alloc, world, sources, source, count),
+        Act::Grade(source) => Ok(take_grade(world, sources, source)),
+        Act::Fail(source) => Ok(take(
+            world,
+            Step::Fail {
+                source,
+                what: FailKind::Failed,
+            },
+        )),
+    }
+}
+
+/// One call of a source that isn't idle, and its step.
+fn serve(alloc: Global, world: &mut World, sources: &mut Sources, source: u32) -> Result<(), Fail> {
+    if source >= world.sources() || sources.page == 0 || sources.page > 1000 {
+        return Err("a source and a page".into());
+    }
+    match world.state(source).plan(sources.page, 0) {
+        Plan::Idle => {}
+        Plan::Page { from, .. } if sources.fails == Some((source, from)) => {
+            sources.fails = None;
+            take_act(alloc, world, sources, Act::Fail(source))?;
+        }
+        Plan::Page { count, .. } => {
+            take_act(alloc, world, sources, Act::Page(source, count))?;
+        }
+        Plan::Grade { .. } => {
+            take_act(alloc, world, sources, Act::Grade(source))?;
+        }
+    }
+    Ok(())
+}
+
+/// Turns of the first queries that haven't ended, so many, in their order.
+fn turn_first(world: &mut World, workers: u32) {
+    let mut turned = 0;
+    for query in 0..world.queries() {
+        if turned < workers && take(world, Step::Turn { query }) {
+            turned += 1;
+        }
+    }
+}
+
+/// Rounds of turns and of calls of the sources, until all queries have ended.
+pub fn end_by_rounds(
+    alloc: Global,
+    world: &mut World,
+    sources: &Sources,
+    workers: u32,
+) -> Result<(), Fail> {
+    let mut sources = *sources;
+    for _round in 0..1000 {
+        if world.all_ended() {
+            return Ok(());
+        }
+        turn_first(world, workers);
+        for source in 0..world.sources() {
+            serve(alloc, world, &mut sources, source)?;
+        }
+    }
+    Err("an end".into())
+}
