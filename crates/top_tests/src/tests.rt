@@ -1,9 +1,12 @@
 //! Rows from outside, and each fault in turn.
 
 use std::alloc::Global;
+use std::env::{Env, FillError};
+use std::io;
+use std::rt::Files;
 use std::test::Fail;
-use tk_io::{Failed, MemIntake, MemSink, Sink};
-use topk_top::{Status, Words, top};
+use tk_io::{Failed, MemIntake, MemSink, Sink, StdIntake, StdSink, read_text};
+use topk_top::{Status, Words, run_process, top};
 
 const LISTS: &str = "list A\n1,900\n2,800\n3,100\nlist B\n2,700\n3,600\n1,500\n";
 
@@ -128,6 +131,32 @@ fn answers_without_random_access(rt: HostRuntime) -> Result<(), Fail> {
 }
 
 #[test]
+fn answers_by_both_kinds_of_access(rt: HostRuntime) -> Result<(), Fail> {
+    let rows = [
+        (
+            "top 1 by sum(A,B) using ca cost 1 2",
+            "answer 2 1500 1500\nstop depth 2 sorted 4 random 0 cost 4\ns A 1 900\ns B 2 700\ns A 2 800\ns B 3 600\nend\n",
+        ),
+        (
+            "top 1 by sum(A,B) using ca",
+            "answer 2 1500 1500\nstop depth 2 sorted 4 random 1 cost 5\ns A 1 900\ns B 2 700\nr B 1 500\ns A 2 800\ns B 3 600\nend\n",
+        ),
+        (
+            "top 3 by sum(A,B) using ca cost 1 9",
+            "answer 2 1500 1500\nanswer 1 1400 1400\nanswer 3 700 700\nstop depth 2 sorted 4 random 2 cost 22\ns A 1 900\ns B 2 700\ns A 2 800\ns B 3 600\nr B 1 500\nr A 3 100\nend\n",
+        ),
+    ];
+    for (query, rest) in rows {
+        let input = format!(in rt.alloc(); "{LISTS}query {query}\n")?;
+        let text = format!(in rt.alloc(); "certificate 1\nquery {query}\ncount 3\n{rest}")?;
+        let (status, out) = outcome_of(rt.alloc(), &input)?;
+        assert_eq!(rt; status, Status::Done, "{query}");
+        assert_eq!(rt; out.taken(), text.as_bytes(), "{query}");
+    }
+    Ok(())
+}
+
+#[test]
 fn refuses_inputs(rt: HostRuntime) -> Result<(), Fail> {
     let rows = [
         ("query top 4 by sum(A,B) using ta", "1 KAboveCount 4 3"),
@@ -135,6 +164,7 @@ fn refuses_inputs(rt: HostRuntime) -> Result<(), Fail> {
         ("query top 4 by sum(C,A) using ta", "1 UnknownList C"),
         ("query top 1 by sum(A,B) using ta room 2", "1 RoomFull 2"),
         ("query top 1 by sum(A,B) using nra room 2", "1 RoomFull 2"),
+        ("query top 1 by sum(A,B) using ca room 2", "1 RoomFull 2"),
         (
             "query top 4 by sum(A,B) using ta room 1",
             "1 KAboveCount 4 3",
@@ -196,7 +226,7 @@ fn refuses_words(rt: HostRuntime) -> Result<(), Fail> {
         &["one", "--", "x"],
         &["one", ""],
         &["one", "--help"],
-        &["judge"],
+        &["judge", "x"],
     ];
     for command in commands {
         let words = words_of(rt.alloc(), command)?;
@@ -208,6 +238,62 @@ fn refuses_words(rt: HostRuntime) -> Result<(), Fail> {
         );
         assert_eq!(rt; out.taken(), b"refused words\n".as_slice());
     }
+    Ok(())
+}
+
+/// A process with this name and this word behind it.
+#[derive(Drop)]
+struct Given {
+    words: [&'static [u8]; 2],
+}
+
+impl Env for Given {
+    fn arg(&self, i: usize, buf: &mut [u8]) -> Result<usize, FillError> {
+        let Some(word) = self.words.get(i) else {
+            return Err(FillError::NotPresent);
+        };
+        let Some(room) = buf.get_mut(..word.len()) else {
+            return Err(FillError::TooLong);
+        };
+        room.copy_from_slice(word);
+        Ok(word.len())
+    }
+
+    fn var(&self, _name: &str, _buf: &mut [u8]) -> Result<usize, FillError> {
+        Err(FillError::NotPresent)
+    }
+
+    fn var_at(&self, _i: usize, _buf: &mut [u8]) -> Result<usize, FillError> {
+        Err(FillError::NotPresent)
+    }
+}
+
+/// The exit status of a process without input, and what it writes.
+fn end_of<R: Files + AllocGlobal>(rt: &R, given: &Given) -> Result<(u8, Vec<u8>), Fail> {
+    let (reader, writer) = io::pipe(rt)?;
+    let mut input = StdIntake::make(io::empty());
+    let mut out = StdSink::make(writer);
+    let code = run_process(given, rt.alloc(), &mut input, &mut out);
+    drop(out);
+    let text = read_text(rt.alloc(), &mut StdIntake::make(reader), 100)?;
+    Ok((code, text))
+}
+
+/// A word that isn't UTF-8 is no command. The program's own name may be anything.
+#[test]
+fn reads_the_words_of_a_process(rt: HostRuntime) -> Result<(), Fail> {
+    let given = Given {
+        words: [b"\xFF", b"one"],
+    };
+    let (code, text) = end_of(&rt, &given)?;
+    assert_eq!(rt; code, 10);
+    assert_eq!(rt; text.as_slice(), b"refused bundle 1\n".as_slice());
+    let given = Given {
+        words: [b"topk", b"one\xFF"],
+    };
+    let (code, text) = end_of(&rt, &given)?;
+    assert_eq!(rt; code, 2);
+    assert_eq!(rt; text.as_slice(), b"refused words\n".as_slice());
     Ok(())
 }
 

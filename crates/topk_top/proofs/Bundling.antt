@@ -1,5 +1,5 @@
 -- The lists of a bundle by name.
-use Rattle.std.proofs.Common.{◌≡◌, ℕ, ◌+◌, ◌<◌, true, not, nat_lt, cond, List, [], ◌∷◌, length, map, All, Contains, Option, Some, None, option_map, slice_index_or, refl, sym, ap, ◌∙◌, subst, arith}
+use Rattle.std.proofs.Common.{◌≡◌, ℕ, ◌+◌, ◌<◌, ◌≤◌, ◌^◌, true, not, nat_lt, cond, List, [], ◌∷◌, length, map, All, Contains, Option, Some, None, option_map, slice_index_or, refl, sym, ap, ◌∙◌, subst, arith}
 use Rattle.std.specs.List.{AllByRecursion, position, position_or_len}
 use Rattle.std.specs.Global.{Vec}
 use Rattle.std.specs.Str.{bytes_eq}
@@ -16,7 +16,7 @@ use Rattle.topk_theory.proofs.AgreementLists.{contains_at, contains_map_from, al
 use Rattle.topk_theory.proofs.AgreementRows.{list_at_length}
 use Rattle.query_core.specs.declared.ready.Ready.{Ready}
 use Rattle.query_core.proofs.ListCount.{lists_counted}
-use Rattle.query_admission.specs.View.{AreTold, count_of}
+use Rattle.query_admission.specs.View.{AreListed, AreTold, count_of}
 use Rattle.query_admission.specs.Admission.{IsAdmitted, IsRefused}
 use Rattle.query_admission.specs.declared.lists.Listed.{Listed}
 use Rattle.access_log.specs.declared.answer.Answer.{Answer}
@@ -164,3 +164,30 @@ line_refused c refusal query refused = record {
   becomes = refused_line (bundle_line c) refusal query 0 refused;
   writable = refused_writable query (bundle_line c) admission_causes refusal refused;
 }
+
+-- the lists that a query names in a bundle, as a table of small objects
+pub record ToldTable (c : Content) (q : Query) (count : ℕ) : Type 0 where
+  pub lists : List (List Row)
+  pub told : AreTold (bundle_view c) q lists
+  pub some : 1 ≤ count
+  pub few : count ≤ 200000
+  pub small : All (λ rows. All (λ row. row.object < 2 ^ 32) rows) lists
+
+pub told_table : (c : Content) (q : Query) (count : ℕ) (lists : List Listed) → IsBundle c → AreListed (bundle_view c) q lists → count_of lists ≡ Some count → ToldTable c q count
+told_table c q count lists bundle listed counted =
+    let n = bundle.table.0 in
+    let each = all_placed c n q.names lists bundle bundle.table.3 listed in
+    let is : count ≡ n = count_same lists n count (sizes c n lists each) counted in
+    let places = map (λ list. list.source) lists in
+    let within = All-from_recursion (λ place. place < length c.lists) places (sources_within c n lists each) in
+    record {
+      lists = lists_at c places;
+      told = all_told c q.names lists listed;
+      some = omega (arith, is, bundle.table.1);
+      few = omega (arith, is, bundle.table.2);
+      small = all_from_members (λ rows. All (λ row. row.object < 2 ^ 32) rows) (lists_at c places) (λ rows h.
+          let from = contains_map_from (list_at c.lists) places rows h in
+          subst (λ r. All (λ row. row.object < 2 ^ 32) r) from.2
+          (member_of_all (λ rows. All (λ row. row.object < 2 ^ 32) rows) c.lists (list_at c.lists from.0) bundle.small
+          (contains_at c.lists from.0 [] (member_of_all (λ place. place < length c.lists) places from.0 within from.1))));
+    }

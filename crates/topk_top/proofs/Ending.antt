@@ -1,18 +1,24 @@
 -- A call that comes to its text ends with it, or with a write fault.
-use Rattle.std.proofs.Common.{◌≡◌, ℕ, List, Option, Some, None, Result, Ok, Err, OnOk, OnErr, MatchResult, inl, inr, sym, subst}
+use Rattle.std.proofs.Common.{◌≡◌, ℕ, List, Option, Some, None, Result, Ok, Err, OnOk, OnErr, MatchResult, inl, inr, refl, sym, subst}
 use Rattle.std.specs.Io.KnownBytes.{Appends}
 use Rattle.tk_io.specs.declared.Failed.{Failed}
 use Rattle.tk_io.specs.Faults.{HasCause}
 use Rattle.tk_io.specs.Whole.{TookFront}
+use Rattle.line_text.specs.Lines.{lines}
+use Rattle.cert_judge.specs.declared.told.Told.{Told}
+use Rattle.cert_judge.specs.declared.told.Told.TheVariants.{BadLine, Inconsistent, WildGuess, WrongSize, UnseenAnswer, Figure, Fixes, Beaten}
+use Rattle.cert_judge.specs.Judging.{Tells}
+use Rattle.cert_judge.specs.Text.{told_text}
 use Rattle.cert_text.specs.declared.outcome.Outcome.{Outcome}
 use Rattle.cert_text.specs.declared.outcome.Outcome.TheVariants.{Answered, Refused}
 use Rattle.command_words.specs.Commands.{command_of}
 use Rattle.command_words.specs.declared.command.Command.{Command}
-use Rattle.command_words.specs.declared.command.Command.TheVariants.{One, Judge}
+use Rattle.command_words.specs.declared.command.Command.TheVariants.{One, Judge, Make}
+use Rattle.topk_top.specs.Judge.{JudgeReplies, told_status}
 use Rattle.topk_top.specs.Reply.{Replies, outcome_status, words_refused_text}
 use Rattle.topk_top.specs.Ends.{Call, Streams, LeftAlone, ReadWhole, WroteNothing, WroteWhole, EndsAs, EndsReading, EndsRefused, Ends, Says}
 use Rattle.topk_top.specs.declared.status.Status.{Status}
-use Rattle.topk_top.specs.declared.status.Status.TheVariants.{Done, Partial, BadWords, BadCatalog, ReadFault, WriteFault, OpenFault, PortFault, Memory, LongInput, BadInput}
+use Rattle.topk_top.specs.declared.status.Status.TheVariants.{Done, Partial, BadWords, WriteFault, Memory}
 
 -- the status of an outcome is Done or Partial
 is_outcome_status : {A : Type 0} (outcome : Outcome) (status : Status) → status ≡ outcome_status outcome → (status ≡ Done → A) → (status ≡ Partial → A) → A
@@ -50,11 +56,39 @@ ends_replied c bytes status result text read replied said = elim said [
   | inr front ↦ subst (λ s. EndsReading Replies c s) (sym front.0) (bytes, status, text, read, replied, record { held = front.1; faults = front.2 })
 ]
 
+-- the status of what is told is Done or Partial
+is_told_status : {A : Type 0} (told : Told) (status : Status) → status ≡ told_status told → (status ≡ Done → A) → (status ≡ Partial → A) → A
+is_told_status (BadLine line) status e done partial = partial e
+is_told_status (Inconsistent at kind) status e done partial = partial e
+is_told_status (WildGuess at) status e done partial = partial e
+is_told_status (WrongSize given k) status e done partial = partial e
+is_told_status (UnseenAnswer object) status e done partial = partial e
+is_told_status (Figure line) status e done partial = partial e
+is_told_status Fixes status e done partial = done e
+is_told_status (Beaten inside outside low high counter) status e done partial = partial e
+
+-- what was told and written whole ends with its status
+ends_told : (c : Call) (bytes : List ℕ) (status : Status) (text : List ℕ) → ReadWhole c bytes → JudgeReplies bytes status text → WroteWhole c text → EndsReading JudgeReplies c status
+ends_told c bytes status text read replied wrote = is_told_status replied.told status replied.status_is
+    (λ is. subst (λ s. EndsReading JudgeReplies c s) (sym is) (bytes, text, read, subst (λ s. JudgeReplies bytes s text) is replied, wrote))
+    (λ is. subst (λ s. EndsReading JudgeReplies c s) (sym is) (bytes, text, read, subst (λ s. JudgeReplies bytes s text) is replied, wrote))
+
+-- what is told of the whole input ends so
+pub ends_judged : (c : Call) (bytes : List ℕ) (told : Told) (result : Status) → ReadWhole c bytes → Tells (lines bytes) told
+    → Says c.before.output.held c.after.output.held c.before.output.faults c.after.output.faults (told_text told) (told_status told) result → EndsReading JudgeReplies c result
+ends_judged c bytes told result read tells said =
+    let replied : JudgeReplies bytes (told_status told) (told_text told) = record { told = told; tells = tells; status_is = refl; text_is = refl } in
+    elim said [
+      | inl whole ↦ subst (λ s. EndsReading JudgeReplies c s) (sym whole.0) (ends_told c bytes (told_status told) (told_text told) read replied (record { held = whole.1; faults = whole.2 }))
+      | inr front ↦ subst (λ s. EndsReading JudgeReplies c s) (sym front.0) (bytes, told_status told, told_text told, read, replied, record { held = front.1; faults = front.2 })
+    ]
+
 -- memory may be wanting before the words are known
 pub ends_without_memory : (command : Option Command) (c : Call) → LeftAlone c → WroteNothing c → EndsAs command c Memory
 ends_without_memory None c alone nothing = (alone, nothing)
 ends_without_memory (Some One) c alone nothing = (alone.faults, nothing)
-ends_without_memory (Some Judge) c alone nothing = (alone, nothing)
+ends_without_memory (Some Judge) c alone nothing = (alone.faults, nothing)
+ends_without_memory (Some (Make options)) c alone nothing = (alone, nothing)
 
 -- a call ends as its command does
 pub ends_as : (command : Option Command) (c : Call) (status : Status) → command_of c.words ≡ command → EndsAs command c status → Ends c status

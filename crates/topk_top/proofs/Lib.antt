@@ -2,3 +2,9 @@
 mod Ending
 mod Bundling
 mod Replying
+mod MadeLaws
+mod Honest
+mod Fixing
+mod Certifying
+mod AnswersFixed
+mod Counters

@@ -5,9 +5,11 @@ use Rattle.tk_io.specs.Faults.{Rose}
 use Rattle.tk_io.specs.Whole.{GaveAll, GaveMore, GaveUpTo, TookFront}
 use Rattle.command_words.specs.Commands.{command_of}
 use Rattle.command_words.specs.declared.command.Command.{Command}
-use Rattle.command_words.specs.declared.command.Command.TheVariants.{One, Judge}
+use Rattle.command_words.specs.declared.command.Command.TheVariants.{One, Judge, Make}
 use Rattle.topk_top.specs.Codes.{exit_code}
+use Rattle.topk_top.specs.Made.{made_text}
 use Rattle.topk_top.specs.Reply.{Replies, words_refused_text}
+use Rattle.topk_top.specs.Judge.{JudgeReplies}
 use Rattle.topk_top.specs.declared.status.Status.{Status}
 use Rattle.topk_top.specs.declared.status.Status.TheVariants.{Done, Partial, BadWords, BadCatalog, ReadFault, WriteFault, OpenFault, PortFault, Memory, LongInput, BadInput}
 
@@ -107,11 +109,26 @@ EndsReading replies c BadCatalog = ⊥
 EndsReading replies c OpenFault = ⊥
 EndsReading replies c PortFault = ⊥
 
--- how each command ends, and words that are none; a judge isn't there yet, so its words are refused
+-- how a command ends that writes a text and leaves its input as it was
+abbrev pub EndsWriting : List ℕ → Call → Status → Type 0
+EndsWriting text c Done = LeftAlone c × WroteWhole c text
+EndsWriting text c WriteFault = LeftAlone c × WroteFront c text
+EndsWriting text c Memory = LeftAlone c × WroteNothing c
+EndsWriting text c Partial = ⊥
+EndsWriting text c BadWords = ⊥
+EndsWriting text c BadCatalog = ⊥
+EndsWriting text c ReadFault = ⊥
+EndsWriting text c OpenFault = ⊥
+EndsWriting text c PortFault = ⊥
+EndsWriting text c LongInput = ⊥
+EndsWriting text c BadInput = ⊥
+
+-- how each command ends, and words that are none
 abbrev pub EndsAs : Option Command → Call → Status → Type 0
 EndsAs None c status = EndsRefused c status
 EndsAs (Some One) c status = EndsReading Replies c status
-EndsAs (Some Judge) c status = EndsRefused c status
+EndsAs (Some Judge) c status = EndsReading JudgeReplies c status
+EndsAs (Some (Make options)) c status = EndsWriting (made_text options) c status
 
 -- how a call ends
 abbrev pub Ends : Call → Status → Type 0

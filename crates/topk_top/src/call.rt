@@ -6,6 +6,8 @@ ghost use Rattle.topk_top.specs.Reply.{Replies, outcome_status};
 ghost use Rattle.topk_top.specs.Ends.{Call, Ends, EndsReading, Says};
 ghost use Rattle.topk_top.specs.Outcomes.{reply_text, reply_status, IsWritable};
 
+use super::judging::judge;
+use super::made::make;
 use super::one::{Line, Reply, reply_to};
 use super::status::Status;
 use cert_text::{Outcome, write_outcome};
@@ -23,8 +25,10 @@ const WORDS_REFUSED: &[u8] = b"refused words\n";
 ///
 /// `one` reads a bundle from the input, answers its query over the lists that the query names, and
 /// writes the certificate of the answer or the line of a refusal: `refused bundle LINE` where the
-/// input is no bundle, else the first refusal that holds of the query line. Words that are no command
-/// are answered with `refused words`, and `judge` so too until there is a judge.
+/// input is no bundle, else the first refusal that holds of the query line. `judge` reads a certificate
+/// and writes `fixes`, or on which table the answer is beaten, or why it isn't judged. `make` writes the
+/// made table that its options ask for, and leaves the input as it was. Words that are no command are
+/// answered with `refused words`.
 pub fn top<R: Intake, K: Sink>(alloc: Global, words: &Words, input: &mut R, out: &mut K) -> Status
     ensures reads { R.faults input.old ≤ R.faults input.new }
     ensures writes { K.faults out.old ≤ K.faults out.new }
@@ -42,7 +46,8 @@ pub fn top<R: Intake, K: Sink>(alloc: Global, words: &Words, input: &mut R, out:
 {
     match read_command(alloc, words) {
         Ok(Command::One) => one(alloc, input, out),
-        Ok(Command::Judge) => say(out, WORDS_REFUSED, Status::BadWords),
+        Ok(Command::Judge) => judge(alloc, input, out),
+        Ok(Command::Make(options)) => make(alloc, options, out),
         Err(WordsFault::BadWords) => say(out, WORDS_REFUSED, Status::BadWords),
         Err(WordsFault::Memory) => Status::Memory,
     }
@@ -122,7 +127,7 @@ fn say<K: Sink>(out: &mut K, text: &[u8], status: Status) -> Status
 }
 
 /// The status of what was written whole, or a write fault.
-fn ended(written: Result<(), Failed>, status: Status) -> Status
+pub(crate) fn ended(written: Result<(), Failed>, status: Status) -> Status
     ensures { MatchResult written (λ _. result ≡ status) (λ _. result ≡ Status.WriteFault) }
 {
     match written {

@@ -3,13 +3,17 @@
 
 mod bundled;
 mod call;
+mod judging;
+mod laws;
+mod made;
 mod one;
 mod real;
 mod status;
 
 pub use call::{INPUT_LIMIT, top};
 pub use command_words::{Words, WordsFault, read_words};
-pub use real::run;
+pub use laws::{answers_are_fixed, counters_are_bundles};
+pub use real::{run, run_process};
 pub use status::Status;
 
 /// No memory was left.

@@ -8,10 +8,9 @@ ghost use Rattle.topk_top.specs.Outcomes.{BecomesOf, IsLineOf, IsReply};
 
 use super::Memory;
 use super::bundled::{Bundled, told_lists};
-use access_log::CoreFault;
 use cert_text::{Outcome, Refusal};
 use query_admission::{Admitted, admit};
-use query_core::{Ready, answer_over};
+use query_core::{DriveFault, Ready, answer_over};
 use query_text::Query;
 use ranked_list::{Bundle, BundleFault, read_bundle};
 use std::alloc::Global;
@@ -94,8 +93,7 @@ fn outcome_of(alloc: Global, bundle: &Bundle, ready: &Ready) -> Result<Outcome, 
     };
     match answer_over(alloc, ready, &mut lists) {
         Ok(answer) => Ok(Outcome::Answered(answer)),
-        Err(CoreFault::RoomFull { room }) => Ok(Outcome::Refused(Refusal::RoomFull { room })),
-        Err(CoreFault::Strangers { .. }) => unreachable!(),
-        Err(CoreFault::Memory) => Err(Memory),
+        Err(DriveFault::RoomFull { room }) => Ok(Outcome::Refused(Refusal::RoomFull { room })),
+        Err(DriveFault::Memory) => Err(Memory),
     }
 }

@@ -1,0 +1,13 @@
+//! The program on an input that is no bundle: the top call over the words and the standard streams of the process.
+#![tactic(auto)]
+
+use std::process::ExitCode;
+use tk_io::{StdIntake, StdSink};
+use topk_top::run_process;
+
+/// Ends with the status of the top call.
+fn main(rt: HostRuntime) -> ExitCode {
+    let mut input = StdIntake::make(rt.stdin());
+    let mut out = StdSink::make(rt.stdout());
+    ExitCode::from(run_process(&rt, rt.alloc(), &mut input, &mut out))
+}

@@ -1,0 +1,54 @@
+-- What is written of an answer is fixed.
+use Rattle.std.proofs.Common.{◌≡◌, ℕ, List, Option, Some, None, codes, inl, inr, refl, ap, ◌∙◌}
+use Rattle.line_text.specs.Lines.{lines}
+use Rattle.cert_text.specs.declared.outcome.Outcome.{Outcome}
+use Rattle.cert_text.specs.declared.outcome.Outcome.TheVariants.{Answered, Refused}
+use Rattle.cert_text.specs.declared.certificate.Certificate.{Certificate}
+use Rattle.cert_text.specs.Outcome.{outcome_text, certificate_of}
+use Rattle.cert_text.specs.Reading.{Spells}
+use Rattle.cert_text.proofs.CertifiedLaws.{certified_spelled}
+use Rattle.query_text.specs.declared.query.Query.{Query}
+use Rattle.ranked_list.specs.Bundle.{Content, IsBundle}
+use Rattle.query_admission.specs.Becomes.{Becomes}
+use Rattle.cert_judge.specs.declared.told.Told.{Told}
+use Rattle.cert_judge.specs.declared.told.Told.TheVariants.{BadLine, Inconsistent, WildGuess, WrongSize, UnseenAnswer, Figure, Fixes, Beaten}
+use Rattle.cert_judge.specs.Judging.{Tells}
+use Rattle.cert_judge.specs.Text.{told_text}
+use Rattle.topk_top.specs.Bundled.{bundle_line}
+use Rattle.topk_top.specs.Judge.{told_status}
+use Rattle.topk_top.specs.Laws.{AnswersAreFixed}
+use Rattle.topk_top.specs.Reply.{outcome_status}
+use Rattle.topk_top.specs.declared.status.Status.TheVariants.{Done}
+use Rattle.topk_top.proofs.Certifying.{certified}
+use Rattle.topk_top.proofs.Fixing.{IsFixedBy, only_fixed, fixed_by, fixed_of}
+
+-- the lines spell a certificate that is fixed: nothing else is told
+told_fixed : (ls : List (List ℕ)) (c : Certificate) (told : Told) → Spells ls c → IsFixedBy c → Tells ls told → told ≡ Fixes
+told_fixed ls c (BadLine line) spells is h = absurd (h.0 c spells)
+told_fixed ls c (Inconsistent at kind) spells is h = only_fixed c (Inconsistent at kind) is (h.each c spells)
+told_fixed ls c (WildGuess at) spells is h = only_fixed c (WildGuess at) is (h.each c spells)
+told_fixed ls c (WrongSize given k) spells is h = only_fixed c (WrongSize given k) is (h.each c spells)
+told_fixed ls c (UnseenAnswer object) spells is h = only_fixed c (UnseenAnswer object) is (h.each c spells)
+told_fixed ls c (Figure line) spells is h = only_fixed c (Figure line) is (h.each c spells)
+told_fixed ls c Fixes spells is h = refl
+told_fixed ls c (Beaten inside outside low high counter) spells is h = only_fixed c (Beaten inside outside low high counter) is (h.each c spells)
+
+fixes_text : told_text Fixes ≡ codes "fixes\n"
+unfolding told_text
+fixes_text = refl
+
+-- of the text of an answer nothing else is told
+of_answer : (content : Content) (query : Option Query) (count : ℕ) (outcome : Outcome) (text : List ℕ) (told : Told) → IsBundle content → Becomes (bundle_line content) query count outcome
+    → Done ≡ outcome_status outcome → text ≡ outcome_text 1 query count outcome → Tells (lines text) told → told ≡ Fixes
+of_answer content query count (Refused refusal) text told bundle becomes status same tells = absurd (cc)
+of_answer content None count (Answered answer) text told bundle becomes status same tells = absurd becomes
+of_answer content (Some q) count (Answered answer) text told bundle becomes status same tells =
+    let is = certified content q count answer bundle becomes in
+    told_fixed (lines text) (certificate_of 1 q count answer) told (certified_spelled 1 q count answer text is.certified same)
+    (fixed_by 1 q count answer (fixed_of q count answer is.certified.lawful is.certified.expr is.fits becomes.right) becomes.right) tells
+
+pub answers_fixed : AnswersAreFixed
+answers_fixed bytes text (inl bundle) status said h = absurd (let e = bundle.status_is in cc)
+answers_fixed bytes text (inr line) status said h =
+    let told = of_answer line.content line.query line.count line.outcome text h.told line.spelled.bundle line.becomes line.status_is line.text_is h.tells in
+    (h.status_is ∙ ap told_status told, h.text_is ∙ ap told_text told ∙ fixes_text)

@@ -1,0 +1,60 @@
+//! The command `judge`: a certificate and what is told of it.
+
+ghost use Rattle.std.specs.Prelude.{◌≡◌, ◌≤◌, ℕ, List};
+ghost use Rattle.cert_judge.specs.Text.{told_text};
+ghost use Rattle.topk_top.specs.Ends.{Call, EndsReading, Says};
+ghost use Rattle.topk_top.specs.Judge.{JudgeReplies, told_status};
+
+use super::call::{INPUT_LIMIT, ended};
+use super::status::Status;
+use cert_judge::{Told, judge_text, write_told};
+use std::alloc::Global;
+use tk_io::{Intake, ReadError, Sink, read_text};
+
+/// Judges the certificate that the input is.
+pub(crate) fn judge<R: Intake, K: Sink>(alloc: Global, input: &mut R, out: &mut K) -> Status
+    ensures reads { R.faults input.old ≤ R.faults input.new }
+    ensures writes { K.faults out.old ≤ K.faults out.new }
+    ensures ends { (words : List (List ℕ)) → EndsReading JudgeReplies (record {
+      words = words;
+      before = record {
+        input = record { left = R.left input.old; faults = R.faults input.old };
+        output = record { held = K.held out.old; faults = K.faults out.old };
+      };
+      after = record {
+        input = record { left = R.left input.new; faults = R.faults input.new };
+        output = record { held = K.held out.new; faults = K.faults out.new };
+      };
+    }) result }
+{
+    match read_text(alloc, input, INPUT_LIMIT) {
+        Ok(text) => match judge_text(alloc, &text) {
+            Ok(told) => write_judged(out, &told),
+            Err(_) => Status::Memory,
+        },
+        Err(ReadError::Failed) => Status::ReadFault,
+        Err(ReadError::Long) => Status::LongInput,
+        Err(ReadError::Memory) => Status::Memory,
+    }
+}
+
+/// Writes what is told, and ends so, or with a write fault.
+fn write_judged<K: Sink>(out: &mut K, told: &Told) -> Status
+    ensures counts { K.faults out.old ≤ K.faults out.new }
+    ensures says { Says (K.held out.old) (K.held out.new) (K.faults out.old) (K.faults out.new)
+        (told_text told.now) (told_status told.now) result }
+{
+    let status = told_status(told);
+    let written = write_told(out, told);
+    ended(written, status)
+}
+
+/// How a call ends that wrote what is told: done exactly where the answer is fixed.
+fn told_status(told: &Told) -> Status
+    ensures { result ≡ told_status told.now }
+{
+    match told {
+        Told::Fixes => Status::Done,
+        _ => Status::Partial,
+    }
+}

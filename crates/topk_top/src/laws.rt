@@ -1,0 +1,14 @@
+//! Laws of what the commands write.
+
+ghost use Rattle.topk_top.specs.Laws.{AnswersAreFixed, CountersAreBundles};
+
+/// Each certificate that `one` writes is fixed, whatever else is read of it: `judge` tells nothing else of it.
+pub fn answers_are_fixed()
+    ensures { AnswersAreFixed }
+{}
+
+/// What stands below the first line of a beaten answer is a bundle: the names of the query's lists, a table over
+/// objects of 32 bits, and one line of query text.
+pub fn counters_are_bundles()
+    ensures { CountersAreBundles }
+{}
