@@ -1,5 +1,5 @@
 -- The places of names, while sources are added.
-use Rattle.std.proofs.Common.{◌≡◌, ◌+◌, ◌++◌, ℕ, suc, Bool, true, false, cond, List, [], ◌∷◌, length, Option, Some, None, refl, sym, ap, ◌∙◌, arith}
+use Rattle.std.proofs.Common.{◌≡◌, ◌+◌, ◌++◌, ℕ, suc, Bool, true, false, cond, List, [], ◌∷◌, length, Some, None, refl, sym, ap, ◌∙◌, arith}
 use Rattle.std.specs.Option.{is_some}
 use Rattle.std.specs.List.{position, position_from}
 use Rattle.std.specs.Str.{bytes_eq}
@@ -49,10 +49,6 @@ lookup_push test (entry ∷ entries) key new = by (test entry.0) (lookup_push te
 
 -- ---- one more source
 
-none_of : (o : Option ℕ) → is_some o ≡ false → o ≡ None
-none_of None is = refl
-none_of (Some place) is = absurd (cc)
-
 abbrev same_name : Vec ℕ → Vec ℕ → Bool
 same_name a b = bytes_eq a.items b.items
 
@@ -60,7 +56,7 @@ same_name a b = bytes_eq a.items b.items
 pub puts_first : (before now : Places) (key : Vec ℕ) (name : List ℕ) (new : ℕ) → key.items ≡ name → is_some (place_in before name) ≡ false
     → now.entries ≡ insert_entry same_name before.entries key new → PutsFirst before now name new
 puts_first before now key name new is absent more other =
-    let none = ap (place_in before) is ∙ none_of (place_in before name) absent in
+    let none = ap (place_in before) is ∙ (elim (place_in before name) as (λ o. is_some o ≡ false → o ≡ None) [ None ↦ λ e. refl | Some place ↦ λ e. absurd (cc) ] absent) in
     ap (lookup (λ (k : Vec ℕ). bytes_eq other k.items)) (more ∙ insert_entry-new same_name before key new none)
     ∙ (lookup_push (λ (k : Vec ℕ). bytes_eq other k.items) before.entries key new
     ∙ ap (λ b. kept_place (place_in before other) b new) (nat_list_eq_equiv.symm other key.items ∙ ap (λ n. bytes_eq n other) is))

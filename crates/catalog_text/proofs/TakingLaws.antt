@@ -135,7 +135,8 @@ unfolding line_in
 line_of line n e = ap line_in e
 
 -- the record at fault
-pub faulted : (started : Bool) (sources : List Listed) (o : Option CatalogFault) (records : List (List (List ℕ))) (fields : List (List ℕ)) (read : Option Parts) (found : Option CatalogFault)
+pub faulted : (started : Bool) (sources : List Listed) (o : Option CatalogFault) (records : List (List (List ℕ))) (fields : List (List ℕ))
+    (read : Option Parts) (found : Option CatalogFault)
     → is_some o ≡ false → started ≡ true → IsTakenBy started sources o records → ReadsSource fields read
     → FindsFault sources (option_map listed_parts read) found → is_some found ≡ true
     → IsTakenBy started sources found (records ++ fields ∷ [])
@@ -167,7 +168,8 @@ added false sources o records fields parts none new h reads finds = absurd (cc)
 added true sources (Some fault) records fields parts none new h reads finds = absurd (cc)
 added true sources None records fields parts none new h reads finds = takes_source records sources fields (listed_parts parts) h finds.0 reads.0 reads.1 finds.1
 
-pub added_by : (started : Bool) (sources now : List Listed) (o : Option CatalogFault) (records : List (List (List ℕ))) (fields : List (List ℕ)) (parts : Parts) (read : Option Parts) (found : Option CatalogFault)
+pub added_by : (started : Bool) (sources now : List Listed) (o : Option CatalogFault) (records : List (List (List ℕ))) (fields : List (List ℕ)) (parts : Parts)
+    (read : Option Parts) (found : Option CatalogFault)
     → is_some o ≡ false → started ≡ true → read ≡ Some parts → is_some found ≡ false → ReadsSource fields read
     → FindsFault sources (option_map listed_parts read) found → now ≡ sources ++ listed_parts parts ∷ []
     → IsTakenBy started sources o records → IsTakenBy started now o (records ++ fields ∷ [])

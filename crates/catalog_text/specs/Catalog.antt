@@ -2,6 +2,7 @@
 use Rattle.std.specs.Prelude.{◌≡◌, ◌≢◌, ◌||◌, ◌≤◌, ℕ, Bool, true, false, List, [], ◌∷◌, Option, Some, None, length, map, codes, nat_eq, All, AllPairs, IsUtf8}
 use Rattle.std.specs.List.{starts_with}
 use Rattle.line_text.specs.Names.{IsName}
+use Rattle.limits.specs.declared.TheConstants.{MAX_SOURCES}
 
 -- a source: the name of its list, its place, and whether it allows random access
 pub record Listed : Type 0 where
@@ -42,7 +43,7 @@ pub record IsCatalog (records : List (List (List ℕ))) (sources : List Listed) 
   pub whole : records ≡ header ∷ map spelled sources
   pub each : All IsListed sources
   pub distinct : AllPairs (λ (above : Listed) (below : Listed). above.name ≢ below.name) sources
-  pub few : length sources ≤ 64
+  pub few : length sources ≤ MAX_SOURCES
 
 -- the three fields of a record that has exactly three
 abbrev pub three_in : List (List ℕ) → Option (List ℕ × List ℕ × List ℕ)

@@ -3,11 +3,12 @@ use Rattle.std.specs.Prelude.{◌≡◌, ◌⊎◌, ◌+◌, ◌<◌, ℕ, List,
 use Rattle.catalog_text.specs.declared.catalog.CatalogFault.{CatalogFault}
 use Rattle.catalog_text.specs.declared.catalog.CatalogFault.TheVariants.{CatalogLine, SameName, Memory}
 use Rattle.catalog_text.specs.Catalog.{Listed, header, spelled, IsListed, IsCatalog}
+use Rattle.limits.specs.declared.TheConstants.{MAX_SOURCES}
 
 -- the record has the form that is asked for after these: the header at the beginning, and then at most 64 sources
 abbrev pub HasForm : List (List (List ℕ)) → List (List ℕ) → Type 0
 HasForm [] fields = fields ≡ header
-HasForm (first ∷ sources) fields = (length sources < 64) × (source : Listed) × IsListed source × (fields ≡ spelled source)
+HasForm (first ∷ sources) fields = (length sources < MAX_SOURCES) × (source : Listed) × IsListed source × (fields ≡ spelled source)
 
 -- the first field of a record
 abbrev pub name_in : List (List ℕ) → List ℕ

@@ -5,6 +5,7 @@ use Rattle.catalog_text.specs.declared.catalog.CatalogFault.TheVariants.{Catalog
 use Rattle.catalog_text.specs.declared.reading.Reading.{Reading}
 use Rattle.catalog_text.specs.Catalog.{Listed, IsCatalog}
 use Rattle.catalog_text.specs.Judging.{IsBroken, IsRepeated}
+use Rattle.limits.specs.declared.TheConstants.{MAX_SOURCES}
 
 -- the fault is that of the first record at fault
 abbrev pub IsFault : List (List (List ℕ)) → CatalogFault → Type 0
@@ -32,7 +33,7 @@ names sources = map (λ (s : Listed). s.name) sources
 -- the fault of a record that comes after the header and these sources, and says this
 abbrev pub FindsFault : List Listed → Option Listed → Option CatalogFault → Type 0
 FindsFault sources None found = found ≡ Some (CatalogLine (length sources + 2))
-FindsFault sources (Some source) None = (length sources < 64) × ¬ Contains (names sources) source.name
-FindsFault sources (Some source) (Some (CatalogLine line)) = (64 ≤ length sources) × (line ≡ length sources + 2)
-FindsFault sources (Some source) (Some (SameName line)) = (length sources < 64) × Contains (names sources) source.name × (line ≡ length sources + 2)
+FindsFault sources (Some source) None = (length sources < MAX_SOURCES) × ¬ Contains (names sources) source.name
+FindsFault sources (Some source) (Some (CatalogLine line)) = (MAX_SOURCES ≤ length sources) × (line ≡ length sources + 2)
+FindsFault sources (Some source) (Some (SameName line)) = (length sources < MAX_SOURCES) × Contains (names sources) source.name × (line ≡ length sources + 2)
 FindsFault sources (Some source) (Some Memory) = ⊥

@@ -1,14 +1,19 @@
 //! The sources of a catalog.
 
-ghost use Rattle.std.specs.Prelude.{◌≡◌, ◌==◌, ◌<◌, ◌++◌, ◌∷◌, [], length, position, slice_get, option_map, OnOk, OnErr};
+ghost use Rattle.std.specs.Prelude.{◌≡◌, ◌==◌, ◌<◌, ◌≤◌, ◌++◌, ◌∷◌, [], length, map, position, slice_get, option_map, vec_len, vec_capacity, IfOk, OnOk, OnErr};
 ghost use Rattle.std.specs.Str.{bytes_eq};
+ghost use Rattle.std.specs.Slice.Iter.{iter_rest};
+ghost use Rattle.std.specs.Iterator.Adapters.{IterYieldsInOrder};
+ghost use Rattle.catalog_text.specs.declared.catalog.Entry.{Entry};
 ghost use Rattle.catalog_text.specs.Listed.{listed, listed_parts};
 ghost use Rattle.catalog_text.specs.Placed.{PutsFirst};
 
 use super::fields::Parts;
 use indexmap::IndexMap;
+use limits::MAX_SOURCES;
 use std::alloc::Global;
 use std::marker::Model;
+use std::slice::Iter;
 use thiserror::Error;
 
 /// A source of a catalog.
@@ -55,8 +60,9 @@ impl Model for Catalog {
     ghost view = { λ c. map listed c.entries.items };
 
     ghost use Rattle.catalog_text.specs.Placed.{IsPlaced};
+    ghost use Rattle.limits.specs.declared.TheConstants.{MAX_SOURCES};
 
-    ghost invariant = { λ c. (vec_len c.entries ≤ 64) × IsPlaced c.entries.items c.places };
+    ghost invariant = { λ c. (vec_len c.entries ≤ MAX_SOURCES) × IsPlaced c.entries.items c.places };
 }
 
 impl Catalog {
@@ -72,23 +78,15 @@ impl Catalog {
 
     /// Adds a source at the end.
     pub(crate) fn push(&mut self, alloc: Global, parts: &Parts<'_>) -> Result<(), CatalogFault>
-        requires { length self.old < 64 }
+        requires { length self.old < MAX_SOURCES }
         ensures { OnOk result (self.new ≡ self.old ++ listed_parts parts.now ∷ []) }
     {
-        let name = Vec::from_slice(alloc, parts.name)?;
-        let place = String::from_str(alloc, parts.place)?;
-        self.entries.reserve(1)?;
-        put_first(
-            alloc,
-            &mut self.places,
-            parts.name,
-            self.entries.len() as u32,
-        )?;
-        self.entries.push_reserved(Entry {
-            name,
-            place,
-            random: parts.random,
-        });
+        let entry = entry_of(alloc, parts)?;
+        let Ok(()) = make_room(alloc, &mut self.entries, &mut self.places, parts.name) else {
+            drop(entry);
+            return Err(CatalogFault::Memory);
+        };
+        self.entries.push_reserved(entry);
         Ok(())
     }
 
@@ -113,12 +111,51 @@ impl Catalog {
         self.entries.get(place as usize)
     }
 
+    /// The sources, in their order.
+    pub fn iter(&self) -> Iter<'_, Entry>
+        ensures rest { map listed (iter_rest result) ≡ self.now }
+        ensures few { length (iter_rest result) ≤ MAX_SOURCES }
+        ensures runs { IterYieldsInOrder Entry }
+    {
+        self.entries.iter()
+    }
+
     /// Where the source of a name stands, from 0.
     pub fn find(&self, name: &[u8]) -> Option<u32>
         ensures { result ≡ position (λ entry. bytes_eq entry.name name.now) self.now }
     {
         self.places.get(name).copied()
     }
+}
+
+/// The entry of a record.
+fn entry_of(alloc: Global, parts: &Parts<'_>) -> Result<Entry, CatalogFault>
+    ensures { IfOk result (λ entry. listed entry ≡ listed_parts parts.now) }
+{
+    let name = Vec::from_slice(alloc, parts.name)?;
+    let place = String::from_str(alloc, parts.place)?;
+    Ok(Entry {
+        name,
+        place,
+        random: parts.random,
+    })
+}
+
+/// Makes room for one entry more, and puts its name's place. Where memory is refused nothing has changed.
+fn make_room(
+    alloc: Global,
+    entries: &mut Vec<Entry>,
+    places: &mut IndexMap<Vec<u8>, u32>,
+    name: &[u8],
+) -> Result<(), CatalogFault>
+    requires { vec_len entries.old < MAX_SOURCES }
+    ensures entries { (entries.new.items ≡ entries.old.items) × (vec_len entries.new ≡ vec_len entries.old) }
+    ensures room { OnOk result (vec_len entries.new < vec_capacity entries.new) }
+    ensures puts { OnOk result (PutsFirst places.old places.new name.now (vec_len entries.old)) }
+    ensures stays { OnErr result (places.new.entries ≡ places.old.entries) }
+{
+    entries.reserve(1)?;
+    put_first(alloc, places, name, entries.len() as u32)
 }
 
 /// Puts the place of a name, unless it has one.

@@ -11,9 +11,6 @@ pub use laws::a_fault_leaves_no_catalog;
 pub use reading::read_catalog;
 use std::alloc::{AllocError, AllocFailed};
 
-/// The most sources of a catalog.
-pub const SOURCE_LIMIT: u32 = 64;
-
 impl From<AllocError> for CatalogFault {
     fn from(_: AllocError) -> CatalogFault {
         CatalogFault::Memory

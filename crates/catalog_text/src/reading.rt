@@ -7,11 +7,11 @@ ghost use Rattle.catalog_text.specs.Judging.{Judges};
 ghost use Rattle.catalog_text.specs.Listed.{listed_parts};
 ghost use Rattle.catalog_text.specs.Taking.{IsTaken, FindsFault};
 
-use super::SOURCE_LIMIT;
 use super::catalog::{Catalog, CatalogFault};
 use super::fields::{Parts, is_header, source_in};
 use csv::ByteRecord;
 use csv_records::{Memory, TakesRecords, read_records};
+use limits::MAX_SOURCES;
 use std::alloc::Global;
 
 /// Reads a catalog: values separated by commas. The first record has the fields `name`, `place` and
@@ -104,7 +104,7 @@ fn fault_of(catalog: &Catalog, source: &Option<Parts<'_>>) -> Option<CatalogFaul
     let Some(parts) = source else {
         return Some(CatalogFault::CatalogLine { line });
     };
-    if catalog.len() >= SOURCE_LIMIT {
+    if catalog.len() >= MAX_SOURCES {
         return Some(CatalogFault::CatalogLine { line });
     }
     if catalog.find(parts.name).is_some() {

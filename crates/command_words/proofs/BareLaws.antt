@@ -20,19 +20,12 @@ use Rattle.clap.specs.declared.error.kind.ErrorKind.TheVariants as kind
 use Rattle.clap.proofs.OnLiterals.{clap_on_literals}
 use Rattle.command_words.specs.Commands.{are_no_words, options_end}
 use Rattle.command_words.specs.Apps.{bare_app}
+use Rattle.command_words.proofs.Walking.{first_faulty}
 
 -- there is a fault
 abbrev HasFault : Kinds → Type 0
 HasFault [] = ⊥
 HasFault (k ∷ ks) = Unit {0}
-
-first_faulty : (a b : Kinds) → HasFault a → HasFault (or_else a b)
-first_faulty [] b h = absurd h
-first_faulty (k ∷ ks) b h = tt
-
-second_faulty : (a b : Kinds) → HasFault b → HasFault (or_else a b)
-second_faulty [] b h = h
-second_faulty (k ∷ ks) b h = tt
 
 abbrev bare : Shape
 bare = (built bare_app).top
@@ -149,14 +142,16 @@ refused words k among =
     ] refl
 
 -- where such a command takes words, those behind its name are no words
-pub read_taken : (app : App) (words texts : List Text) → app ≡ bare_app → texts ≡ words → (is_simple_and_free app ≡ true → fault_of app texts ≡ []) → are_no_words (drop 1 words) ≡ true
+pub read_taken : (app : App) (words texts : List Text) → app ≡ bare_app → texts ≡ words → (is_simple_and_free app ≡ true → fault_of app texts ≡ [])
+    → are_no_words (drop 1 words) ≡ true
 read_taken app words texts is same taken_by =
     let at_bare : is_simple_and_free bare_app ≡ true → fault_of bare_app words ≡ [] =
     subst (λ ts. is_simple_and_free bare_app ≡ true → fault_of bare_app ts ≡ []) same (subst (λ a. is_simple_and_free a ≡ true → fault_of a texts ≡ []) is taken_by) in
     taken (drop 1 words) (at_bare is_simple)
 
 -- and where it refuses them for another cause than want of memory, they aren't
-pub read_refused : (app : App) (words texts : List Text) (e : Error) → app ≡ bare_app → texts ≡ words → (is_simple_and_free app ≡ true → HasKind (fault_of app texts) e)
+pub read_refused : (app : App) (words texts : List Text) (e : Error) → app ≡ bare_app → texts ≡ words
+    → (is_simple_and_free app ≡ true → HasKind (fault_of app texts) e)
     → (kind_of e ≡ kind.OutOfMemory → ⊥) → are_no_words (drop 1 words) ≡ false
 read_refused app words texts e is same refused_by other =
     let at_bare : is_simple_and_free bare_app ≡ true → HasKind (fault_of bare_app words) e =

@@ -11,7 +11,8 @@ abbrev named_first : List (List ℕ) → Option Command
 named_first words = option_and_then command_named (slice_get words 0)
 
 -- a name with no words behind it is the command
-pub command_taken : (words : List (List ℕ)) (command : Command) → named_first words ≡ Some command → are_no_words (drop 1 words) ≡ true → bare_command words ≡ Some command
+pub command_taken : (words : List (List ℕ)) (command : Command) → named_first words ≡ Some command → are_no_words (drop 1 words) ≡ true
+    → bare_command words ≡ Some command
 command_taken [] command named none = absurd cc
 command_taken (name ∷ rest) command named none = ap (λ t. if t then command_named name else None) none ∙ named
 
@@ -26,6 +27,7 @@ command_unnamed [] none = refl
 command_unnamed (name ∷ rest) none = ap (λ c. without_words c rest) none ∙ unnamed (are_no_words rest)
 
 -- and none with words behind the name
-pub command_refused : (words : List (List ℕ)) (command : Command) → named_first words ≡ Some command → are_no_words (drop 1 words) ≡ false → bare_command words ≡ None
+pub command_refused : (words : List (List ℕ)) (command : Command) → named_first words ≡ Some command → are_no_words (drop 1 words) ≡ false
+    → bare_command words ≡ None
 command_refused [] command named some = absurd cc
 command_refused (name ∷ rest) command named some = ap (λ t. if t then command_named name else None) some

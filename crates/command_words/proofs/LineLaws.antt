@@ -3,22 +3,20 @@ use Rattle.std.proofs.Common.{◌≡◌, ◌∙◌, ◌≤◌, ◌+◌, ℕ, Boo
 use Rattle.std.specs.Prelude.{if◌then◌else◌, not, option_and_then}
 use Rattle.std.specs.List.{flat_map, list_all, list_any, before_first, after_first, position_or_len}
 use Rattle.std.specs.Str.{bytes_eq}
-use Rattle.std.proofs.lemmas.Bool.{false≢true, eqb-true}
+use Rattle.std.proofs.lemmas.Bool.{false≢true, eqb-true, or_parts}
 use Rattle.std.proofs.lemmas.Slice.Eq.{bytes_eq-Decides}
 use Rattle.clap.specs.Lexer.{long_of, long_of_rest, short_of, short_of_rest, strip_byte}
 use Rattle.clap.specs.Walk.{Text}
 use Rattle.command_words.specs.Line.{OptionRule, Takes, Part, Line, Given, GivenByLine, IsLine, AreParts, IsPlain, IsOptionName, AreOptionNames, Fresh, is_given, is_option, needed, line_given, line_words, line_places, part_words, behind_words, parts_given, places_given}
 use Rattle.command_words.specs.Line.Part.{placed, joined, apart}
 use Rattle.command_words.specs.Taking.{Taken, Next, Kind, kind_of, kind_by, long_kind, give, give_once, option_in, kind_in, value_in, end_in, taken_from, taken}
+use Rattle.command_words.proofs.SetRules.{same_text}
 
 abbrev ender : Text
 ender = 45 ∷ 45 ∷ []
 
 abbrev equals : ℕ → Bool
 equals x = x == 61
-
-same_text : (a b : Text) → bytes_eq a b ≡ true → a ≡ b
-same_text a b is = (bytes_eq-Decides a b).0 is
 
 same_self : (a : Text) → bytes_eq a a ≡ true
 same_self a = (bytes_eq-Decides a a).1 refl
@@ -67,10 +65,6 @@ record IsCut (name value : Text) : Type 0 where
   after : after_first equals (name ++ 61 ∷ value) ≡ value
   has : list_any equals (name ++ 61 ∷ value) ≡ true
 
-either_no : (a b : Bool) → (a || b) ≡ false → (a ≡ false) × (b ≡ false)
-either_no true b h = absurd (false≢true (sym h))
-either_no false b h = (refl, h)
-
 cut_step : (x : ℕ) (xs value : Text) → IsCut xs value → (t : Bool) → t ≡ false
     → (take (if not t then 1 + place_of (xs ++ 61 ∷ value) else 0) (x ∷ xs ++ 61 ∷ value) ≡ x ∷ xs)
     × (drop ((if not t then 1 + place_of (xs ++ 61 ∷ value) else 0) + 1) (x ∷ xs ++ 61 ∷ value) ≡ value) × ((t || list_any equals (xs ++ 61 ∷ value)) ≡ true)
@@ -84,7 +78,7 @@ cut_step x xs value cut false is = (
 cut_at : (name value : Text) → list_any equals name ≡ false → IsCut name value
 cut_at [] value none = record { before = refl; after = refl; has = refl }
 cut_at (x ∷ xs) value none =
-    let no = either_no (x == 61) (list_any equals xs) none in
+    let no = or_parts (x == 61) (list_any equals xs) none in
     let here = cut_step x xs value (cut_at xs value no.1) (x == 61) no.0 in
     record { before = here.0; after = here.1; has = here.2 }
 

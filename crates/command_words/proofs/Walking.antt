@@ -4,6 +4,7 @@ use Rattle.std.specs.Prelude.{slice_get, if◌then◌else◌, fold, not, encode_
 use Rattle.std.specs.List.{list_all, list_any}
 use Rattle.std.specs.Option.{option_map_or}
 use Rattle.std.specs.Str.{bytes_eq, chars, IsUtf8, encode_utf8_all as encodes}
+use Rattle.std.proofs.Math.Bool.{or-false}
 use Rattle.std.proofs.lemmas.Bool.{false≢true, eqb-true}
 use Rattle.std.proofs.lemmas.List.{map-append}
 use Rattle.std.proofs.lemmas.Slice.Eq.{bytes_eq-Decides}
@@ -396,10 +397,6 @@ record GoesOn (c : List Rule) (ends : Bool) (words : List Text) (go : Next) : Ty
       → Comes (all_fault c (walk_at (held rows pending) idle position ends) words) (all_rows c (walk_at (held rows pending) idle position ends) words)
       (go (state given left None ends))
 
-or_false : (b : Bool) → (b || false) ≡ b
-or_false true = refl
-or_false false = refl
-
 given_goes : (c : List Rule) (ends : Bool) (words : List Text) (go : Next) (rows : List Row) (given : List Given) (left : List Text) (position : ℕ)
     (id text : Text) (b : Bool)
     → GoesOn c ends words go → IsSet id (arg_by_id c id) → rows ≡ shown given → Places c position left → is_given id given ≡ b
@@ -434,7 +431,7 @@ placed_set c waiting ends position word words go rows pending given left id long
     let at_ends : Comes (all_fault c (walk_at (held now (Some (id, word ∷ []))) idle (next_index position) (ends || false)) words)
     (all_rows c (walk_at (held now (Some (id, word ∷ []))) idle (next_index position) (ends || false)) words) result =
     subst (λ b. Comes (all_fault c (walk_at (held now (Some (id, word ∷ []))) idle (next_index position) b) words)
-    (all_rows c (walk_at (held now (Some (id, word ∷ []))) idle (next_index position) b) words) result) (sym (or_false ends)) ended in
+    (all_rows c (walk_at (held now (Some (id, word ∷ []))) idle (next_index position) b) words) result) (sym (or-false ends)) ended in
     let at_held : Comes (all_fault c (walk_at (positional_held c (set_rule id long index required) word (held rows pending)) idle (next_index position) (ends || false)) words)
     (all_rows c (walk_at (positional_held c (set_rule id long index required) word (held rows pending)) idle (next_index position) (ends || false)) words) result =
     subst (λ h. Comes (all_fault c (walk_at h idle (next_index position) (ends || false)) words) (all_rows c (walk_at h idle (next_index position) (ends || false)) words) result)

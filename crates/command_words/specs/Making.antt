@@ -7,6 +7,7 @@ use Rattle.command_words.specs.Apps.{bare_app, needed_option}
 use Rattle.command_words.specs.Line.{Takes, Given}
 use Rattle.command_words.specs.Taking.{given_text, taken}
 use Rattle.command_words.specs.declared.making.MakeOptions.{MakeOptions}
+use Rattle.limits.specs.declared.TheConstants.{MAX_LISTS, MAX_OBJECTS, MAX_START}
 
 -- a command with the options `--start`, `--count` and `--lists`, which have to be given
 abbrev pub make_app : App
@@ -24,9 +25,9 @@ number_given value least most = option_and_then (λ text. option_and_then (at_le
 abbrev pub make_takes : Takes
 make_takes = record {
   places = [];
-  options = record { name = codes "start"; least = 0; most = 9223372036854775807; required = true }
-      ∷ record { name = codes "count"; least = 1; most = 200000; required = true }
-      ∷ record { name = codes "lists"; least = 1; most = 8; required = true } ∷ [];
+  options = record { name = codes "start"; least = 0; most = MAX_START; required = true }
+      ∷ record { name = codes "count"; least = 1; most = MAX_OBJECTS; required = true }
+      ∷ record { name = codes "lists"; least = 1; most = MAX_LISTS; required = true } ∷ [];
 }
 
 abbrev pub with_lists : ℕ → ℕ → Option ℕ → Option MakeOptions
@@ -35,8 +36,8 @@ with_lists start count lists = option_map (λ m. record { start = start; count =
 -- the table of these three texts, where each is a number within its range
 abbrev pub table_of : Option (List ℕ) → Option (List ℕ) → Option (List ℕ) → Option MakeOptions
 table_of start count lists =
-    option_and_then (λ n. option_and_then (λ rows. with_lists n rows (number_given lists 1 8)) (number_given count 1 200000))
-    (number_given start 0 9223372036854775807)
+    option_and_then (λ n. option_and_then (λ rows. with_lists n rows (number_given lists 1 MAX_LISTS)) (number_given count 1 MAX_OBJECTS))
+    (number_given start 0 MAX_START)
 
 -- the table that is asked for
 abbrev pub options_given : List Given → Option MakeOptions

@@ -9,17 +9,9 @@ use super::command::{WordsFault, bare_command};
 use super::words::Words;
 use clap::error::ErrorKind;
 use clap::{Arg, ArgMatches};
+use limits::{MAX_LISTS, MAX_OBJECTS, MAX_START};
 use line_text::number_up_to;
 use std::alloc::{AllocError, Global};
-
-/// The greatest number that a table is made from.
-const MAX_START: u64 = 0x7fff_ffff_ffff_ffff;
-
-/// The most objects of a made table.
-const MAX_COUNT: u64 = 200_000;
-
-/// The most lists of a made table.
-const MAX_LISTS: u64 = 8;
 
 /// Which table is to be made.
 #[derive(Clone, Copy, Debug, PartialEq, Eq)]
@@ -74,8 +66,8 @@ fn options_of(matches: &ArgMatches) -> Option<MakeOptions>
 {
     Some(MakeOptions {
         start: number_of(matches, "start", 0, MAX_START)?,
-        count: number_of(matches, "count", 1, MAX_COUNT)? as u32,
-        lists: number_of(matches, "lists", 1, MAX_LISTS)? as u8,
+        count: number_of(matches, "count", 1, u64::from(MAX_OBJECTS))? as u32,
+        lists: number_of(matches, "lists", 1, MAX_LISTS as u64)? as u8,
     })
 }
 

@@ -1,7 +1,7 @@
 -- Records of a list file and the rows among them.
 use Rattle.std.proofs.Common.{◌≡◌, ◌<◌, ◌≤◌, ℕ, zero, suc, Bool, true, false, cond, List, [], ◌∷◌, ◌++◌, length, map, take, drop, get_or, Option, Some, None, refl, sym, ap, ◌∙◌, arith}
 use Rattle.std.specs.Prelude.{IfSome}
-use Rattle.std.specs.Option.{is_none, is_some}
+use Rattle.std.specs.Option.{is_none}
 use Rattle.std.specs.List.{Contains, list_any}
 use Rattle.std.proofs.lemmas.List.{take-map, drop-map, length-map}
 use Rattle.ranked_list.specs.declared.row.Row.{Row}
@@ -89,7 +89,3 @@ told_rows_grade records object grade is = by (are_rows records)
     by : (b : Bool) → IfSome (cond b (told_of None [] (rows_among records)) None) (λ rows. IsGrade rows object grade)
     by true = told_grade None [] (rows_among records) object grade is
     by false = tt
-
-pub none_of : (o : Option ℕ) → is_some o ≡ false → o ≡ None
-none_of None h = refl
-none_of (Some n) h = absurd (cc)

@@ -6,7 +6,8 @@ ghost use Rattle.source_api.specs.Counting.{no_counts};
 ghost use Rattle.source_api.specs.Places.{counts_at, is_known, text_limit};
 
 use super::FileSource;
-use source_api::{Ledger, Shelf, TEXT_LIMIT, Trouble};
+use limits::MAX_LIST_TEXT;
+use source_api::{Ledger, Shelf, Trouble};
 use std::alloc::Global;
 use std::fs;
 use std::marker::Model;
@@ -98,7 +99,7 @@ pub fn read_file<R: Files>(alloc: Global, files: &R, place: &str) -> Result<Vec<
         return Err(Trouble::Failed);
     };
     let mut input = StdIntake::make(file);
-    match read_text(alloc, &mut input, TEXT_LIMIT) {
+    match read_text(alloc, &mut input, MAX_LIST_TEXT) {
         Ok(text) => Ok(text),
         Err(ReadError::Memory) => Err(Trouble::Memory),
         Err(_) => Err(Trouble::Failed),

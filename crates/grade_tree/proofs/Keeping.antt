@@ -29,14 +29,16 @@ take-nil zero = refl
 take-nil (suc i) = refl
 
 -- what a vector that was filled with None has
-pub filled : (leaves n : ℕ) (before nodes : List (Option ℕ)) → nodes ≡ take (2 * leaves) before ++ replicate (2 * leaves - n) None → before ≡ [] → n ≡ 0 → nodes ≡ replicate (leaves + leaves) None
+pub filled : (leaves n : ℕ) (before nodes : List (Option ℕ)) → nodes ≡ take (2 * leaves) before ++ replicate (2 * leaves - n) None → before ≡ [] → n ≡ 0
+    → nodes ≡ replicate (leaves + leaves) None
 filled leaves n before nodes is empty none =
     let all : 2 * leaves - n ≡ leaves + leaves = omega arith in
     is ∙ ap (λ (b : List (Option ℕ)). take (2 * leaves) b ++ replicate (2 * leaves - n) None) empty
     ∙ ap (λ (t : List (Option ℕ)). t ++ replicate (2 * leaves - n) None) (take-nil (2 * leaves))
     ∙ ap (λ i. replicate i None) all
 
-pub keeps_none : (room height leaves : ℕ) (nodes : List (Option ℕ)) → leaves ≡ doubled height 1 → room ≤ leaves → leaves ≤ 400000 → nodes ≡ replicate (leaves + leaves) None → Keeps room height leaves nodes
+pub keeps_none : (room height leaves : ℕ) (nodes : List (Option ℕ)) → leaves ≡ doubled height 1 → room ≤ leaves → leaves ≤ 400000
+    → nodes ≡ replicate (leaves + leaves) None → Keeps room height leaves nodes
 keeps_none room height leaves nodes power enough few is =
     subst (λ (ns : List (Option ℕ)). Keeps room height leaves ns) (sym is) (record {
       power = power;
@@ -53,7 +55,8 @@ keeps_none room height leaves nodes power enough few is =
     })
 
 -- ---- the size of a tree
-pub size_more : (height leaves room : ℕ) → leaves ≡ doubled height 1 → leaves < room → room ≤ 200000 → (2 * leaves ≡ doubled (height + 1) 1) × (2 * leaves ≤ 400000) × (height + 1 ≤ 400000)
+pub size_more : (height leaves room : ℕ) → leaves ≡ doubled height 1 → leaves < room → room ≤ 200000
+    → (2 * leaves ≡ doubled (height + 1) 1) × (2 * leaves ≤ 400000) × (height + 1 ≤ 400000)
 size_more height leaves room power less small =
     let twice = leaves_twice height in
     let next : height + 1 ≡ suc height = omega arith in
@@ -62,12 +65,14 @@ size_more height leaves room power less small =
     (e ∙ ap (λ h. doubled h 1) (sym next), omega arith, omega arith)
 
 -- ---- a written grade
-written_node : (leaves place key : ℕ) (nodes written : List (Option ℕ)) (grade : Option ℕ) → drop leaves written ≡ set (drop leaves nodes) place grade → key ≢ place → node_at written (leaves + key) ≡ node_at nodes (leaves + key)
+written_node : (leaves place key : ℕ) (nodes written : List (Option ℕ)) (grade : Option ℕ) → drop leaves written ≡ set (drop leaves nodes) place grade
+    → key ≢ place → node_at written (leaves + key) ≡ node_at nodes (leaves + key)
 written_node leaves place key nodes written grade is apart =
     sym (get_or-drop leaves written key None) ∙ ap (λ ns. get_or ns key None) is
     ∙ get_or-set_other (drop leaves nodes) place key grade None apart ∙ get_or-drop leaves nodes key None
 
-pub keeps_written : (room height leaves place : ℕ) (nodes written : List (Option ℕ)) (grade : Option ℕ) → Keeps room height leaves nodes → place < room → IsTree leaves written → drop leaves written ≡ set (drop leaves nodes) place grade → Keeps room height leaves written
+pub keeps_written : (room height leaves place : ℕ) (nodes written : List (Option ℕ)) (grade : Option ℕ) → Keeps room height leaves nodes → place < room
+    → IsTree leaves written → drop leaves written ≡ set (drop leaves nodes) place grade → Keeps room height leaves written
 keeps_written room height leaves place nodes written grade keeps within tree is = record {
   power = keeps.power;
   enough = keeps.enough;
@@ -79,7 +84,8 @@ keeps_written room height leaves place nodes written grade keeps within tree is 
       ap (node_at written) here ∙ written_node leaves place (at - leaves) nodes written grade is apart ∙ ap (node_at nodes) (sym here) ∙ keeps.rest at past;
 }
 
-pub grades_written : (room leaves place : ℕ) (nodes written : List (Option ℕ)) (grade : Option ℕ) → place < room → drop leaves written ≡ set (drop leaves nodes) place grade → grades_of room leaves written ≡ set (grades_of room leaves nodes) place grade
+pub grades_written : (room leaves place : ℕ) (nodes written : List (Option ℕ)) (grade : Option ℕ) → place < room
+    → drop leaves written ≡ set (drop leaves nodes) place grade → grades_of room leaves written ≡ set (grades_of room leaves nodes) place grade
 grades_written room leaves place nodes written grade within is = ap (take room) is ∙ take-set-lt room (drop leaves nodes) place grade within
 
 -- as many grades as the room
@@ -91,7 +97,8 @@ length-grades room height leaves nodes keeps =
     let least : min room (length (drop leaves nodes)) ≡ room = omega arith in
     length-take room (drop leaves nodes) ∙ least
 
-pub below_room : (room height leaves place : ℕ) (nodes : List (Option ℕ)) (grades : List (Option ℕ)) → Keeps room height leaves nodes → grades_of room leaves nodes ≡ grades → place < length grades → place < room
+pub below_room : (room height leaves place : ℕ) (nodes : List (Option ℕ)) (grades : List (Option ℕ)) → Keeps room height leaves nodes
+    → grades_of room leaves nodes ≡ grades → place < length grades → place < room
 below_room room height leaves place nodes grades keeps is within = let size = length-grades room height leaves nodes keeps in let same = ap length is in omega arith
 
 pub same_size : (leaves len : ℕ) (nodes written : List (Option ℕ)) → IsTree leaves nodes → IsTree leaves written → len ≡ length nodes → length written ≡ len
@@ -106,7 +113,8 @@ not_above bound grade None low is = absurd (none-some grade is)
 not_above bound grade (Some other) low is = ltb-false bound grade (ap (is_above bound) (sym is) ∙ low)
 
 -- where the first node isn't above a bound, no grade is
-pub none_above : (room height leaves : ℕ) (nodes grades : List (Option ℕ)) (bound : ℕ) → Keeps room height leaves nodes → grades_of room leaves nodes ≡ grades → is_above bound (node_at nodes 1) ≡ false → AreWithin grades bound
+pub none_above : (room height leaves : ℕ) (nodes grades : List (Option ℕ)) (bound : ℕ) → Keeps room height leaves nodes → grades_of room leaves nodes ≡ grades
+    → is_above bound (node_at nodes 1) ≡ false → AreWithin grades bound
 none_above room height leaves nodes grades bound keeps is low =
     subst (λ (gs : List (Option ℕ)). AreWithin gs bound) is (record { each = λ place grade there. at place grade there (cases_lt place room) })
   where
@@ -126,7 +134,8 @@ some_above bound None above = let bad : false ≡ true = above in absurd (cc)
 some_above bound (Some grade) above = (grade, refl, ltb-true bound grade above)
 
 -- the first leaf above a bound is that of a place
-pub leaf_within : (room height leaves leaf : ℕ) (nodes : List (Option ℕ)) (bound : ℕ) → Keeps room height leaves nodes → IsFirstLeaf leaves nodes bound leaf → leaf - leaves < room
+pub leaf_within : (room height leaves leaf : ℕ) (nodes : List (Option ℕ)) (bound : ℕ) → Keeps room height leaves nodes → IsFirstLeaf leaves nodes bound leaf
+    → leaf - leaves < room
 leaf_within room height leaves leaf nodes bound keeps found =
     let first = found.first in
     elim (cases_lt (leaf - leaves) room) as (λ _. leaf - leaves < room) [
@@ -136,7 +145,8 @@ leaf_within room height leaves leaf nodes bound keeps found =
           let bad : false ≡ true = sym (ap (is_above bound) none) ∙ found.above in absurd (cc)
     ]
 
-pub first_of_leaf : (room height leaves leaf : ℕ) (nodes grades : List (Option ℕ)) (bound : ℕ) → Keeps room height leaves nodes → grades_of room leaves nodes ≡ grades → IsFirstLeaf leaves nodes bound leaf → IsFirstAbove grades bound (leaf - leaves)
+pub first_of_leaf : (room height leaves leaf : ℕ) (nodes grades : List (Option ℕ)) (bound : ℕ) → Keeps room height leaves nodes
+    → grades_of room leaves nodes ≡ grades → IsFirstLeaf leaves nodes bound leaf → IsFirstAbove grades bound (leaf - leaves)
 first_of_leaf room height leaves leaf nodes grades bound keeps is found =
     let first = found.first in
     let within = leaf_within room height leaves leaf nodes bound keeps found in

@@ -85,7 +85,8 @@ come_first height nodes bound above = record {
 pub begun : (height : ℕ) (nodes : List (Option ℕ)) (bound : ℕ) → is_above bound (node_at nodes 1) ≡ true → HasCome (doubled height 1) nodes bound (height - 0) 1
 begun height nodes bound above = let all : height ≡ height - 0 = omega arith in subst (λ n. HasCome (doubled height 1) nodes bound n 1) all (come_first height nodes bound above)
 
-gone_left : (leaves : ℕ) (nodes : List (Option ℕ)) (bound steps place : ℕ) → HasCome leaves nodes bound (suc steps) place → is_above bound (node_at nodes (place + place)) ≡ true → HasCome leaves nodes bound steps (place + place)
+gone_left : (leaves : ℕ) (nodes : List (Option ℕ)) (bound steps place : ℕ) → HasCome leaves nodes bound (suc steps) place
+    → is_above bound (node_at nodes (place + place)) ≡ true → HasCome leaves nodes bound steps (place + place)
 gone_left leaves nodes bound steps place come above = record {
   positive = let positive = come.positive in omega arith;
   first = come.first;
@@ -97,7 +98,8 @@ gone_left leaves nodes bound steps place come above = record {
   none_before = come.none_before;
 }
 
-gone_right : (leaves : ℕ) (nodes : List (Option ℕ)) (bound steps place : ℕ) → IsTree leaves nodes → HasCome leaves nodes bound (suc steps) place → is_above bound (node_at nodes (place + place)) ≡ false → HasCome leaves nodes bound steps (place + place + 1)
+gone_right : (leaves : ℕ) (nodes : List (Option ℕ)) (bound steps place : ℕ) → IsTree leaves nodes → HasCome leaves nodes bound (suc steps) place
+    → is_above bound (node_at nodes (place + place)) ≡ false → HasCome leaves nodes bound steps (place + place + 1)
 gone_right leaves nodes bound steps place tree come low =
     let positive = come.positive in
     let first = come.first in
@@ -117,7 +119,8 @@ gone_right leaves nodes bound steps place tree come low =
     }
 
 -- the way down has come to the leaves
-pub come_down : (leaves : ℕ) (nodes : List (Option ℕ)) (bound height counter place : ℕ) → HasCome leaves nodes bound (height - counter) place → height ≤ counter → IsFirstLeaf leaves nodes bound place
+pub come_down : (leaves : ℕ) (nodes : List (Option ℕ)) (bound height counter place : ℕ) → HasCome leaves nodes bound (height - counter) place
+    → height ≤ counter → IsFirstLeaf leaves nodes bound place
 come_down leaves nodes bound height counter place come all =
     let none : height - counter ≡ 0 = omega arith in
     let here : HasCome leaves nodes bound 0 place = subst (λ n. HasCome leaves nodes bound n place) none come in record {
@@ -128,7 +131,8 @@ come_down leaves nodes bound height counter place come all =
     }
 
 -- one step down, whichever way is gone: to the left, or to the right of it
-pub goes_down : (leaves : ℕ) (nodes : List (Option ℕ)) (bound height counter place left next : ℕ) → IsTree leaves nodes → HasCome leaves nodes bound (height - counter) place → counter < height → left ≡ place + place
+pub goes_down : (leaves : ℕ) (nodes : List (Option ℕ)) (bound height counter place left next : ℕ) → IsTree leaves nodes
+    → HasCome leaves nodes bound (height - counter) place → counter < height → left ≡ place + place
     → ((is_above bound (node_at nodes left) ≡ true) × (next ≡ place + place)) ⊎ ((is_above bound (node_at nodes left) ≡ false) × (next ≡ place + place + 1))
     → HasCome leaves nodes bound (height - (counter + 1)) next
 goes_down leaves nodes bound height counter place left next tree come more twice way =
@@ -143,12 +147,14 @@ goes_down leaves nodes bound height counter place left next tree come more twice
 
 -- ---- choices above a change
 -- a node that is written elsewhere leaves the two under a place
-under_other : (at place : ℕ) (nodes : List (Option ℕ)) (node : Option ℕ) → place + place ≢ at → place + place + 1 ≢ at → greater_under (set nodes at node) place ≡ greater_under nodes place
+under_other : (at place : ℕ) (nodes : List (Option ℕ)) (node : Option ℕ) → place + place ≢ at → place + place + 1 ≢ at
+    → greater_under (set nodes at node) place ≡ greater_under nodes place
 under_other at place nodes node first second =
     ap (λ a. greater a (node_at (set nodes at node) (place + place + 1))) (get_or-set_other nodes at (place + place) node None first)
     ∙ ap (λ b. greater (node_at nodes (place + place)) b) (get_or-set_other nodes at (place + place + 1) node None second)
 
-pub leaf_written : (leaves place : ℕ) (nodes : List (Option ℕ)) (grade : Option ℕ) → IsTree leaves nodes → place < leaves → leaves ≤ 400000 → IsAlmostTree leaves (leaves + place) (set nodes (leaves + place) grade)
+pub leaf_written : (leaves place : ℕ) (nodes : List (Option ℕ)) (grade : Option ℕ) → IsTree leaves nodes → place < leaves → leaves ≤ 400000
+    → IsAlmostTree leaves (leaves + place) (set nodes (leaves + place) grade)
 leaf_written leaves place nodes grade tree small few = record {
   size = length-set nodes (leaves + place) grade ∙ tree.size;
   chosen = λ p positive inner apart.
@@ -160,7 +166,8 @@ leaf_written leaves place nodes grade tree small few = record {
   few = few;
 }
 
-chosen_at : (leaves place parent : ℕ) (nodes : List (Option ℕ)) → IsAlmostTree leaves place nodes → 1 ≤ parent → parent < leaves → parent ≡ place / 2 → IsAlmostTree leaves parent (set nodes parent (greater_under nodes parent))
+chosen_at : (leaves place parent : ℕ) (nodes : List (Option ℕ)) → IsAlmostTree leaves place nodes → 1 ≤ parent → parent < leaves → parent ≡ place / 2
+    → IsAlmostTree leaves parent (set nodes parent (greater_under nodes parent))
 chosen_at leaves place parent nodes tree positive inner is = record {
   size = length-set nodes parent (greater_under nodes parent) ∙ tree.size;
   chosen = λ p above below apart. after p above below apart (cases_eq p parent);
@@ -168,7 +175,8 @@ chosen_at leaves place parent nodes tree positive inner is = record {
   few = tree.few;
 }
   where
-    after : (p : ℕ) → 1 ≤ p → p < leaves → p ≢ parent / 2 → (p ≡ parent) ⊎ (p ≢ parent) → node_at (set nodes parent (greater_under nodes parent)) p ≡ greater_under (set nodes parent (greater_under nodes parent)) p
+    after : (p : ℕ) → 1 ≤ p → p < leaves → p ≢ parent / 2 → (p ≡ parent) ⊎ (p ≢ parent)
+        → node_at (set nodes parent (greater_under nodes parent)) p ≡ greater_under (set nodes parent (greater_under nodes parent)) p
     after p above below apart (inl same) =
         let first : parent + parent ≢ parent = λ e. absurd (omega arith) in
         let second : parent + parent + 1 ≢ parent = λ e. absurd (omega arith) in
@@ -182,7 +190,8 @@ chosen_at leaves place parent nodes tree positive inner is = record {
         get_or-set_other nodes parent p (greater_under nodes parent) None other
         ∙ tree.chosen p above below before ∙ sym (under_other parent p nodes (greater_under nodes parent) first second)
 
-pub chosen_again : (leaves place : ℕ) (nodes : List (Option ℕ)) → IsAlmostTree leaves place nodes → 1 < place → IsAlmostTree leaves (place / 2) (set nodes (place / 2) (greater_under nodes (place / 2)))
+pub chosen_again : (leaves place : ℕ) (nodes : List (Option ℕ)) → IsAlmostTree leaves place nodes → 1 < place
+    → IsAlmostTree leaves (place / 2) (set nodes (place / 2) (greater_under nodes (place / 2)))
 chosen_again leaves place nodes tree high = let within = tree.within in chosen_at leaves place (place / 2) nodes tree (omega arith) (omega arith) refl
 
 -- nothing is left above the first place
@@ -193,7 +202,9 @@ all_chosen leaves place nodes tree low = record {
 }
 
 -- what was read under a place
-pub read_under : (leaves place i j : ℕ) (nodes : List (Option ℕ)) (first second chosen : Option ℕ) → length nodes ≡ leaves + leaves → place < leaves → i ≡ place + place → j ≡ place + place + 1 → first ≡ get_or nodes i first → second ≡ get_or nodes j second → chosen ≡ greater first second → chosen ≡ greater_under nodes place
+pub read_under : (leaves place i j : ℕ) (nodes : List (Option ℕ)) (first second chosen : Option ℕ) → length nodes ≡ leaves + leaves → place < leaves
+    → i ≡ place + place → j ≡ place + place + 1 → first ≡ get_or nodes i first → second ≡ get_or nodes j second → chosen ≡ greater first second
+    → chosen ≡ greater_under nodes place
 read_under leaves place i j nodes first second chosen size inner left right a b is =
     let within : i < length nodes = rw size (omega arith) in
     let within2 : j < length nodes = rw size (omega arith) in

@@ -6,6 +6,7 @@ ghost use Rattle.grade_tree.specs.Nodes.{doubled};
 
 use super::Memory;
 use super::nodes::{first_leaf, set_leaf, stands_above};
+use limits::MAX_OBJECTS;
 use std::alloc::Global;
 use std::marker::Model;
 
@@ -38,7 +39,7 @@ struct Size {
 
 /// The least power of two that isn't below the room.
 fn size_for(room: u32) -> Size
-    requires { room ≤ 200000 }
+    requires { room ≤ MAX_OBJECTS }
     ensures power { result.leaves ≡ doubled result.height 1 }
     ensures enough { room ≤ result.leaves }
     ensures few { result.leaves ≤ 400000 }
@@ -59,7 +60,7 @@ fn size_for(room: u32) -> Size
 impl GradeTree {
     /// A tree without grades, with room for the places below `room`, at most 200,000.
     pub fn make(alloc: Global, room: u32) -> Result<GradeTree, Memory>
-        requires { room ≤ 200000 }
+        requires { room ≤ MAX_OBJECTS }
         ensures { IfOk result (λ tree. tree ≡ replicate room None) }
     {
         let size = size_for(room);

@@ -21,7 +21,8 @@ get_or-map_option f (x ∷ xs) zero = refl
 get_or-map_option f (x ∷ xs) (suc i) = get_or-map_option f xs i
 
 -- the rank of a key is that of its leaf
-pub rank_at-ranks_of : {T : Type 0} (room : ℕ) (nodes : List (Option (Ranked T))) (key : ℕ) → rank_at (ranks_of room nodes) key ≡ option_map (λ (ranked : Ranked T). ranked.rank) (node_at nodes (room + key))
+pub rank_at-ranks_of : {T : Type 0} (room : ℕ) (nodes : List (Option (Ranked T))) (key : ℕ)
+    → rank_at (ranks_of room nodes) key ≡ option_map (λ (ranked : Ranked T). ranked.rank) (node_at nodes (room + key))
 rank_at-ranks_of {T = T} room nodes key =
     get_or-map_option (λ (ranked : Ranked T). ranked.rank) (drop room nodes) key ∙ ap (option_map (λ (ranked : Ranked T). ranked.rank)) (get_or-drop room nodes key None)
 
@@ -64,7 +65,8 @@ module _ {T : Type 0} (cmp : T → T → Ordering) (total : IsTotalOrder cmp) wh
       by_order Greater e = ap (λ t. is_gt (node_cmp (Some b) (cond (is_lt t) (Some b) (Some a)))) e ∙ turned Greater e refl
 
   -- no node is greater than the one above it
-  upto_above : (room : ℕ) (nodes : List (Option (Ranked T))) → IsTree cmp room nodes → (place above : ℕ) → 1 ≤ above → above < room → (place ≡ above + above) ⊎ (place ≡ above + above + 1) → is_gt (node_cmp (node_at nodes place) (node_at nodes above)) ≡ false
+  upto_above : (room : ℕ) (nodes : List (Option (Ranked T))) → IsTree cmp room nodes → (place above : ℕ) → 1 ≤ above → above < room
+      → (place ≡ above + above) ⊎ (place ≡ above + above + 1) → is_gt (node_cmp (node_at nodes place) (node_at nodes above)) ≡ false
   upto_above room nodes tree place above positive inner (inl e) =
       ap (λ p. is_gt (node_cmp (node_at nodes p) (node_at nodes above))) e
       ∙ ap (λ n. is_gt (node_cmp (node_at nodes (above + above)) n)) (tree.chosen above positive inner)
@@ -74,7 +76,8 @@ module _ {T : Type 0} (cmp : T → T → Ordering) (total : IsTotalOrder cmp) wh
       ∙ ap (λ n. is_gt (node_cmp (node_at nodes (above + above + 1)) n)) (tree.chosen above positive inner)
       ∙ second_upto (node_at nodes (above + above)) (node_at nodes (above + above + 1))
 
-  upto_first_within : (turns room : ℕ) (nodes : List (Option (Ranked T))) → IsTree cmp room nodes → (place : ℕ) → 1 ≤ place → place < room + room → place ≤ turns → is_gt (node_cmp (node_at nodes place) (node_at nodes 1)) ≡ false
+  upto_first_within : (turns room : ℕ) (nodes : List (Option (Ranked T))) → IsTree cmp room nodes → (place : ℕ) → 1 ≤ place → place < room + room
+      → place ≤ turns → is_gt (node_cmp (node_at nodes place) (node_at nodes 1)) ≡ false
   upto_first_within zero room nodes tree place positive within near = absurd (omega arith)
   upto_first_within (suc turns) room nodes tree place positive within near =
       elim (cases_lt 1 place) as (λ _. is_gt (node_cmp (node_at nodes place) (node_at nodes 1)) ≡ false) [
@@ -92,7 +95,8 @@ module _ {T : Type 0} (cmp : T → T → Ordering) (total : IsTotalOrder cmp) wh
       halves n = elim (cases_eq n (n / 2 + n / 2)) as (λ _. (n ≡ n / 2 + n / 2) ⊎ (n ≡ n / 2 + n / 2 + 1)) [ inl e ↦ inl e | inr other ↦ inr (let k : n ≡ n / 2 + n / 2 + 1 = omega arith in k) ]
 
   -- no node is greater than the first, also outside
-  upto_first : (room : ℕ) (nodes : List (Option (Ranked T))) → IsTree cmp room nodes → (place : ℕ) → 1 ≤ place → is_gt (node_cmp (node_at nodes place) (node_at nodes 1)) ≡ false
+  upto_first : (room : ℕ) (nodes : List (Option (Ranked T))) → IsTree cmp room nodes → (place : ℕ) → 1 ≤ place
+      → is_gt (node_cmp (node_at nodes place) (node_at nodes 1)) ≡ false
   upto_first room nodes tree place positive =
       elim (cases_lt place (room + room)) as (λ _. is_gt (node_cmp (node_at nodes place) (node_at nodes 1)) ≡ false) [
         | inl within ↦ upto_first_within place room nodes tree place positive within (omega arith)
@@ -126,7 +130,8 @@ module _ {T : Type 0} (cmp : T → T → Ordering) (total : IsTotalOrder cmp) wh
   HasNone-ranks_of room nodes tree at key = rank_at-ranks_of room nodes key ∙ ap (option_map (λ (ranked : Ranked T). ranked.rank)) (leafless room nodes tree at key)
 
   -- the first node has the greatest rank
-  pub IsGreatest-first : (room : ℕ) (nodes : List (Option (Ranked T))) (top : Ranked T) → IsTree cmp room nodes → node_at nodes 1 ≡ Some top → IsGreatest cmp (ranks_of room nodes) top.key top.rank
+  pub IsGreatest-first : (room : ℕ) (nodes : List (Option (Ranked T))) (top : Ranked T) → IsTree cmp room nodes → node_at nodes 1 ≡ Some top
+      → IsGreatest cmp (ranks_of room nodes) top.key top.rank
   IsGreatest-first room nodes top tree at =
       elim (cases_lt 1 (room + room)) as (λ _. IsGreatest cmp (ranks_of room nodes) top.key top.rank) [
         | inl within ↦ record {
@@ -139,7 +144,8 @@ module _ {T : Type 0} (cmp : T → T → Ordering) (total : IsTotalOrder cmp) wh
             absurd (none-some top (sym (get_or_past nodes 1 None outside) ∙ at))
       ]
     where
-      above : (other : ℕ) (another : T) (node : Option (Ranked T)) → node_at nodes (room + other) ≡ node → option_map (λ (ranked : Ranked T). ranked.rank) node ≡ Some another → cmp another top.rank ≢ Greater
+      above : (other : ℕ) (another : T) (node : Option (Ranked T)) → node_at nodes (room + other) ≡ node
+          → option_map (λ (ranked : Ranked T). ranked.rank) node ≡ Some another → cmp another top.rank ≢ Greater
       above other another None is has = absurd (none-some another has)
       above other another (Some ranked) is has =
           let at_place : 1 ≤ room + other = elim (cases_eq (room + other) 0) as (λ _. 1 ≤ room + other) [
@@ -154,10 +160,12 @@ module _ {T : Type 0} (cmp : T → T → Ordering) (total : IsTotalOrder cmp) wh
           subst (λ (r : T). cmp r top.rank ≢ Greater) (same_Some ranked.rank another has) (not_greater cmp ranked.rank top.rank upto_top)
 
   -- what the first node says of the ranks
-  pub none_first : (room : ℕ) (nodes : List (Option (Ranked T))) (ranks : List (Option T)) (first : Option (Ranked T)) → IsTree cmp room nodes → ranks_of room nodes ≡ ranks → first ≡ node_at nodes 1 → IfNone first (HasNone ranks)
+  pub none_first : (room : ℕ) (nodes : List (Option (Ranked T))) (ranks : List (Option T)) (first : Option (Ranked T)) → IsTree cmp room nodes
+      → ranks_of room nodes ≡ ranks → first ≡ node_at nodes 1 → IfNone first (HasNone ranks)
   none_first room nodes ranks None tree is at = subst (λ (r : List (Option T)). HasNone r) is (HasNone-ranks_of room nodes tree (sym at))
   none_first room nodes ranks (Some top) tree is at = tt
 
-  pub greatest_first : (room : ℕ) (nodes : List (Option (Ranked T))) (ranks : List (Option T)) (first : Option (Ranked T)) → IsTree cmp room nodes → ranks_of room nodes ≡ ranks → first ≡ node_at nodes 1 → IfSome first (λ top. IsGreatest cmp ranks top.key top.rank)
+  pub greatest_first : (room : ℕ) (nodes : List (Option (Ranked T))) (ranks : List (Option T)) (first : Option (Ranked T)) → IsTree cmp room nodes
+      → ranks_of room nodes ≡ ranks → first ≡ node_at nodes 1 → IfSome first (λ top. IsGreatest cmp ranks top.key top.rank)
   greatest_first room nodes ranks None tree is at = tt
   greatest_first room nodes ranks (Some top) tree is at = subst (λ (r : List (Option T)). IsGreatest cmp r top.key top.rank) is (IsGreatest-first room nodes top tree (sym at))

@@ -19,14 +19,16 @@ module _ {T : Type 0} (cmp : T → T → Ordering) where
   abbrev IsOfLeaf : ℕ → List (Option (Ranked T)) → ℕ → Type 0
   IsOfLeaf room nodes place = (ranked : Ranked T) → node_at nodes place ≡ Some ranked → (ranked.key < room) × (node_at nodes (room + ranked.key) ≡ Some ranked)
 
-  leaf_itself : (room : ℕ) (nodes : List (Option (Ranked T))) → IsTree cmp room nodes → (place : ℕ) → room ≤ place → place < room + room → IsOfLeaf room nodes place
+  leaf_itself : (room : ℕ) (nodes : List (Option (Ranked T))) → IsTree cmp room nodes → (place : ℕ) → room ≤ place → place < room + room
+      → IsOfLeaf room nodes place
   leaf_itself room nodes tree place outer within ranked at =
       let here : room + (place - room) ≡ place = omega arith in
       let key : ranked.key ≡ place - room = tree.own (place - room) (omega arith) ranked (ap (node_at nodes) here ∙ at) in
       let there : room + ranked.key ≡ place = omega arith in
       (omega arith, ap (node_at nodes) there ∙ at)
 
-  of_leaf_within : (turns room : ℕ) (nodes : List (Option (Ranked T))) → IsTree cmp room nodes → (place : ℕ) → 1 ≤ place → place < room + room → room + room ≤ place + turns → IsOfLeaf room nodes place
+  of_leaf_within : (turns room : ℕ) (nodes : List (Option (Ranked T))) → IsTree cmp room nodes → (place : ℕ) → 1 ≤ place → place < room + room
+      → room + room ≤ place + turns → IsOfLeaf room nodes place
   of_leaf_within zero room nodes tree place positive within near = absurd (omega arith)
   of_leaf_within (suc turns) room nodes tree place positive within near =
       elim (cases_lt place room) as (λ _. IsOfLeaf room nodes place) [
@@ -38,11 +40,13 @@ module _ {T : Type 0} (cmp : T → T → Ordering) where
         | inr outer ↦ leaf_itself room nodes tree place outer within
       ]
 
-  pub of_leaf : (room : ℕ) (nodes : List (Option (Ranked T))) → IsTree cmp room nodes → (place : ℕ) → 1 ≤ place → place < room + room → IsOfLeaf room nodes place
+  pub of_leaf : (room : ℕ) (nodes : List (Option (Ranked T))) → IsTree cmp room nodes → (place : ℕ) → 1 ≤ place → place < room + room
+      → IsOfLeaf room nodes place
   of_leaf room nodes tree place positive within = of_leaf_within (room + room) room nodes tree place positive within (omega arith)
 
   -- ---- a written leaf
-  pub leaf_written : (room key : ℕ) (nodes : List (Option (Ranked T))) (leaf : Option (Ranked T)) → IsTree cmp room nodes → key < room → IsAtKey key leaf → IsAlmostTree cmp room key (room + key) (set nodes (room + key) leaf)
+  pub leaf_written : (room key : ℕ) (nodes : List (Option (Ranked T))) (leaf : Option (Ranked T)) → IsTree cmp room nodes → key < room → IsAtKey key leaf
+      → IsAlmostTree cmp room key (room + key) (set nodes (room + key) leaf)
   leaf_written room key nodes leaf tree small at_key = record {
     size = length-set nodes (room + key) leaf ∙ tree.size;
     own = λ other less. own_after other less (cases_eq other key);
@@ -63,7 +67,8 @@ module _ {T : Type 0} (cmp : T → T → Ordering) where
           let self : room + other ≢ room + key = λ e. apart (omega arith) in
           tree.own other less ranked (sym (get_or-set_other nodes (room + key) (room + other) leaf None self) ∙ at)
 
-      of_leaf_after : (place : ℕ) (ranked : Ranked T) → 1 ≤ place → place < room + room → node_at (set nodes (room + key) leaf) place ≡ Some ranked → ranked.key ≢ key → (place ≡ room + key) ⊎ (place ≢ room + key) → node_at (set nodes (room + key) leaf) (room + ranked.key) ≡ Some ranked
+      of_leaf_after : (place : ℕ) (ranked : Ranked T) → 1 ≤ place → place < room + room → node_at (set nodes (room + key) leaf) place ≡ Some ranked
+          → ranked.key ≢ key → (place ≡ room + key) ⊎ (place ≢ room + key) → node_at (set nodes (room + key) leaf) (room + ranked.key) ≡ Some ranked
       of_leaf_after place ranked positive within at other (inl same) = absurd (other (at_key ranked (sym (get_or-set_same nodes (room + key) leaf None (rw tree.size (omega arith))) ∙ ap (node_at (set nodes (room + key) leaf)) (sym same) ∙ at)))
       of_leaf_after place ranked positive within at other (inr apart) =
           let before = of_leaf room nodes tree place positive within ranked (sym (get_or-set_other nodes (room + key) place leaf None apart) ∙ at) in
@@ -72,27 +77,31 @@ module _ {T : Type 0} (cmp : T → T → Ordering) where
 
   -- ---- choices above a change
   -- a node that is written elsewhere leaves the two under a place
-  under_other : (at place : ℕ) (nodes : List (Option (Ranked T))) (node : Option (Ranked T)) → place + place ≢ at → place + place + 1 ≢ at → greater_under cmp (set nodes at node) place ≡ greater_under cmp nodes place
+  under_other : (at place : ℕ) (nodes : List (Option (Ranked T))) (node : Option (Ranked T)) → place + place ≢ at → place + place + 1 ≢ at
+      → greater_under cmp (set nodes at node) place ≡ greater_under cmp nodes place
   under_other at place nodes node first second =
       ap (λ a. greater cmp a (node_at (set nodes at node) (place + place + 1))) (get_or-set_other nodes at (place + place) node None first)
       ∙ ap (λ b. greater cmp (node_at nodes (place + place)) b) (get_or-set_other nodes at (place + place + 1) node None second)
 
   -- the greater of the two under a place is the leaf of its key, where its key isn't the changed one
-  chosen_of_leaf : (room key changed place : ℕ) (nodes : List (Option (Ranked T))) → IsAlmostTree cmp room key changed nodes → 1 ≤ place → place < room → (ranked : Ranked T) → greater_under cmp nodes place ≡ Some ranked → ranked.key ≢ key → node_at nodes (room + ranked.key) ≡ Some ranked
+  chosen_of_leaf : (room key changed place : ℕ) (nodes : List (Option (Ranked T))) → IsAlmostTree cmp room key changed nodes → 1 ≤ place → place < room
+      → (ranked : Ranked T) → greater_under cmp nodes place ≡ Some ranked → ranked.key ≢ key → node_at nodes (room + ranked.key) ≡ Some ranked
   chosen_of_leaf room key changed place nodes tree positive inner ranked at other =
       elim (greater_one (node_at nodes (place + place)) (node_at nodes (place + place + 1))) as (λ _. node_at nodes (room + ranked.key) ≡ Some ranked) [
         | inl e ↦ tree.of_leaf (place + place) ranked (omega arith) (omega arith) (sym e ∙ at) other
         | inr e ↦ tree.of_leaf (place + place + 1) ranked (omega arith) (omega arith) (sym e ∙ at) other
       ]
 
-  pub chosen_again : (room key place : ℕ) (nodes : List (Option (Ranked T))) → IsAlmostTree cmp room key place nodes → 1 < place → IsAlmostTree cmp room key (place / 2) (set nodes (place / 2) (greater_under cmp nodes (place / 2)))
+  pub chosen_again : (room key place : ℕ) (nodes : List (Option (Ranked T))) → IsAlmostTree cmp room key place nodes → 1 < place
+      → IsAlmostTree cmp room key (place / 2) (set nodes (place / 2) (greater_under cmp nodes (place / 2)))
   chosen_again room key place nodes tree high =
       let within = tree.within in
       let positive : 1 ≤ place / 2 = omega arith in
       let inner : place / 2 < room = omega arith in
       again (place / 2) positive inner (omega arith)
     where
-      again : (parent : ℕ) → 1 ≤ parent → parent < room → parent ≡ place / 2 → IsAlmostTree cmp room key parent (set nodes parent (greater_under cmp nodes parent))
+      again : (parent : ℕ) → 1 ≤ parent → parent < room → parent ≡ place / 2
+          → IsAlmostTree cmp room key parent (set nodes parent (greater_under cmp nodes parent))
       again parent positive inner is = record {
         size = length-set nodes parent (greater_under cmp nodes parent) ∙ tree.size;
         own = λ other less ranked at. tree.own other less ranked (sym (outside other) ∙ at);
@@ -104,7 +113,8 @@ module _ {T : Type 0} (cmp : T → T → Ordering) where
           outside : (other : ℕ) → node_at (set nodes parent (greater_under cmp nodes parent)) (room + other) ≡ node_at nodes (room + other)
           outside other = let e : room + other ≢ parent = λ e. absurd (omega arith) in get_or-set_other nodes parent (room + other) (greater_under cmp nodes parent) None e
 
-          chosen_after : (p : ℕ) → 1 ≤ p → p < room → p ≢ parent / 2 → (p ≡ parent) ⊎ (p ≢ parent) → node_at (set nodes parent (greater_under cmp nodes parent)) p ≡ greater_under cmp (set nodes parent (greater_under cmp nodes parent)) p
+          chosen_after : (p : ℕ) → 1 ≤ p → p < room → p ≢ parent / 2 → (p ≡ parent) ⊎ (p ≢ parent)
+              → node_at (set nodes parent (greater_under cmp nodes parent)) p ≡ greater_under cmp (set nodes parent (greater_under cmp nodes parent)) p
           chosen_after p above below apart (inl same) =
               let first : parent + parent ≢ parent = λ e. absurd (omega arith) in
               let second : parent + parent + 1 ≢ parent = λ e. absurd (omega arith) in
@@ -118,7 +128,8 @@ module _ {T : Type 0} (cmp : T → T → Ordering) where
               get_or-set_other nodes parent p (greater_under cmp nodes parent) None other
               ∙ tree.chosen p above below before ∙ sym (under_other parent p nodes (greater_under cmp nodes parent) first second)
 
-          leaf_after : (p : ℕ) (ranked : Ranked T) → 1 ≤ p → p < room + room → node_at (set nodes parent (greater_under cmp nodes parent)) p ≡ Some ranked → ranked.key ≢ key → (p ≡ parent) ⊎ (p ≢ parent) → node_at nodes (room + ranked.key) ≡ Some ranked
+          leaf_after : (p : ℕ) (ranked : Ranked T) → 1 ≤ p → p < room + room → node_at (set nodes parent (greater_under cmp nodes parent)) p ≡ Some ranked
+              → ranked.key ≢ key → (p ≡ parent) ⊎ (p ≢ parent) → node_at nodes (room + ranked.key) ≡ Some ranked
           leaf_after p ranked above below at other (inl same) =
               let here : parent < length nodes = rw tree.size (omega arith) in
               let value : greater_under cmp nodes parent ≡ Some ranked =
@@ -136,7 +147,8 @@ module _ {T : Type 0} (cmp : T → T → Ordering) where
   }
 
   -- where the node above is still the greater of the two, the tree is whole
-  pub still_chosen : (room key place : ℕ) (nodes : List (Option (Ranked T))) → IsAlmostTree cmp room key place nodes → 1 < place → SameOther key (node_at nodes (place / 2)) (greater_under cmp nodes (place / 2)) → IsTree cmp room nodes
+  pub still_chosen : (room key place : ℕ) (nodes : List (Option (Ranked T))) → IsAlmostTree cmp room key place nodes → 1 < place
+      → SameOther key (node_at nodes (place / 2)) (greater_under cmp nodes (place / 2)) → IsTree cmp room nodes
   still_chosen room key place nodes tree high same =
       let within = tree.within in
       let positive : 1 ≤ place / 2 = omega arith in
@@ -149,7 +161,9 @@ module _ {T : Type 0} (cmp : T → T → Ordering) where
         chosen = λ other above below. at other above below equal (cases_eq other (place / 2));
       }
     where
-      same_node : (old new : Option (Ranked T)) → SameOther key old new → ((ranked : Ranked T) → old ≡ Some ranked → ranked.key ≢ key → node_at nodes (room + ranked.key) ≡ Some ranked) → ((ranked : Ranked T) → new ≡ Some ranked → ranked.key ≢ key → node_at nodes (room + ranked.key) ≡ Some ranked) → old ≡ new
+      same_node : (old new : Option (Ranked T)) → SameOther key old new
+          → ((ranked : Ranked T) → old ≡ Some ranked → ranked.key ≢ key → node_at nodes (room + ranked.key) ≡ Some ranked)
+          → ((ranked : Ranked T) → new ≡ Some ranked → ranked.key ≢ key → node_at nodes (room + ranked.key) ≡ Some ranked) → old ≡ new
       same_node None None same was is = refl
       same_node None (Some b) same was is = absurd same
       same_node (Some a) None same was is = absurd same
@@ -157,12 +171,15 @@ module _ {T : Type 0} (cmp : T → T → Ordering) where
           let other : b.key ≢ key = λ e. same.1 (same.0 ∙ e) in
           sym (was a refl same.1) ∙ ap (λ k. node_at nodes (room + k)) same.0 ∙ is b refl other
 
-      at : (other : ℕ) → 1 ≤ other → other < room → node_at nodes (place / 2) ≡ greater_under cmp nodes (place / 2) → (other ≡ place / 2) ⊎ (other ≢ place / 2) → node_at nodes other ≡ greater_under cmp nodes other
+      at : (other : ℕ) → 1 ≤ other → other < room → node_at nodes (place / 2) ≡ greater_under cmp nodes (place / 2) → (other ≡ place / 2) ⊎ (other ≢ place / 2)
+          → node_at nodes other ≡ greater_under cmp nodes other
       at other above below equal (inl e) = subst (λ (p : ℕ). node_at nodes p ≡ greater_under cmp nodes p) (sym e) equal
       at other above below equal (inr e) = tree.chosen other above below e
 
   -- what was read under a place
-  pub read_under : (room place i j : ℕ) (nodes : List (Option (Ranked T))) (first second chosen : Option (Ranked T)) → length nodes ≡ room + room → place < room → i ≡ place + place → j ≡ place + place + 1 → first ≡ get_or nodes i first → second ≡ get_or nodes j second → chosen ≡ greater cmp first second → chosen ≡ greater_under cmp nodes place
+  pub read_under : (room place i j : ℕ) (nodes : List (Option (Ranked T))) (first second chosen : Option (Ranked T)) → length nodes ≡ room + room
+      → place < room → i ≡ place + place → j ≡ place + place + 1 → first ≡ get_or nodes i first → second ≡ get_or nodes j second
+      → chosen ≡ greater cmp first second → chosen ≡ greater_under cmp nodes place
   read_under room place i j nodes first second chosen size inner left right a b is =
       let within : i < length nodes = rw size (omega arith) in
       let within2 : j < length nodes = rw size (omega arith) in

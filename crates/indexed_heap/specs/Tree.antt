@@ -4,6 +4,7 @@ use Rattle.std.specs.declared.cmp.Ordering.{Ordering}
 use Rattle.std.specs.Option.{option_map}
 use Rattle.std.specs.Ordering.{is_lt}
 use Rattle.indexed_heap.specs.declared.tree.Ranked.{Ranked}
+use Rattle.limits.specs.declared.TheConstants.{MAX_OBJECTS}
 
 -- the node at a place, None outside
 abbrev pub node_at : {T : Type 0} → List (Option (Ranked T)) → ℕ → Option (Ranked T)
@@ -34,7 +35,8 @@ pub record IsAlmostTree {T : Type 0} (cmp : T → T → Ordering) (room key chan
   pub size : length nodes ≡ room + room
   pub own : (other : ℕ) → other < room → IsAtKey other (node_at nodes (room + other))
   pub chosen : (place : ℕ) → 1 ≤ place → place < room → place ≢ changed / 2 → node_at nodes place ≡ greater_under cmp nodes place
-  pub of_leaf : (place : ℕ) (ranked : Ranked T) → 1 ≤ place → place < room + room → node_at nodes place ≡ Some ranked → ranked.key ≢ key → node_at nodes (room + ranked.key) ≡ Some ranked
+  pub of_leaf : (place : ℕ) (ranked : Ranked T) → 1 ≤ place → place < room + room → node_at nodes place ≡ Some ranked → ranked.key ≢ key
+      → node_at nodes (room + ranked.key) ≡ Some ranked
   pub within : (1 ≤ changed) × (changed < room + room)
 
 -- the nodes have one key, another than this one, or neither has one
@@ -50,6 +52,6 @@ ranks_of room nodes = map (option_map (λ ranked. ranked.rank)) (drop room nodes
 
 -- what a heap keeps
 pub record Keeps {T : Type 0} (cmp : T → T → Ordering) (room held : ℕ) (nodes : List (Option (Ranked T))) : Type 0 where
-  pub small : room ≤ 200000
+  pub small : room ≤ MAX_OBJECTS
   pub tree : IsTree cmp room nodes
   pub count : held ≡ count_by is_some (ranks_of room nodes)

@@ -7,6 +7,7 @@ ghost use Rattle.indexed_heap.specs.Ranks.{rank_at, one_if, IsGreatest, HasNone}
 
 use super::Memory;
 use super::tree::{Ranked, first_node, set_leaf};
+use limits::MAX_OBJECTS;
 use std::alloc::Global;
 use std::marker::Model;
 
@@ -35,7 +36,7 @@ impl<T: Ord + Copy> Model for IndexedHeap<T> {
 impl<T: Ord + Copy> IndexedHeap<T> {
     /// A heap without ranks, with room for the keys below `room`, at most 200,000.
     pub fn make(alloc: Global, room: u32) -> Result<IndexedHeap<T>, Memory>
-        requires { room ≤ 200000 }
+        requires { room ≤ MAX_OBJECTS }
         ensures { IfOk result (λ heap. heap ≡ replicate room None) }
     {
         let mut nodes = Vec::new(alloc);
@@ -119,7 +120,7 @@ impl<T: Ord + Copy> IndexedHeap<T> {
 
     /// Makes the room at least `room`, at most 200,000; the ranks stay. Where memory is refused nothing has changed.
     pub fn widen(&mut self, room: u32) -> Result<(), Memory>
-        requires { room ≤ 200000 }
+        requires { room ≤ MAX_OBJECTS }
         ensures ok { OnOk result (self.new ≡ self.old ++ replicate (room - length self.old) None) }
         ensures err { OnErr result (self.new ≡ self.old) }
     {
@@ -139,7 +140,7 @@ impl<T: Ord + Copy> IndexedHeap<T> {
 
 /// The count of ranks after a change of one key, which had a rank before and has one after as told.
 fn count_after(count: u32, had: bool, has: bool) -> u32
-    requires room { count ≤ 200000 }
+    requires room { count ≤ MAX_OBJECTS }
     requires counted { IsTrue had → 1 ≤ count }
     ensures { result + one_if had ≡ count + one_if has }
 {

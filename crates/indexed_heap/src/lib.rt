@@ -11,6 +11,3 @@ pub use tree::Ranked;
 /// No memory was left.
 #[derive(Clone, Copy, Debug, PartialEq, Eq)]
 pub struct Memory;
-
-/// The greatest room of a heap, in keys.
-pub const MAX_ROOM: u32 = 200_000;

@@ -4,7 +4,8 @@ use Rattle.std.specs.List.{range_with_len}
 use Rattle.std.proofs.lemmas.List.{map-append, length-map}
 use Rattle.std.proofs.lemmas.List.FromFn.{map-range_with_len_more, length-map-range_with_len}
 
-pub grown : {X Y : Type 0} (f : X → Y) (g : ℕ → Y) (a n j : ℕ) (items now : List X) (x : X) → a + n ≡ j → map f items ≡ map g (range_with_len a n) → now ≡ items ++ x ∷ [] → f x ≡ g j
+pub grown : {X Y : Type 0} (f : X → Y) (g : ℕ → Y) (a n j : ℕ) (items now : List X) (x : X) → a + n ≡ j → map f items ≡ map g (range_with_len a n)
+    → now ≡ items ++ x ∷ [] → f x ≡ g j
     → map f now ≡ map g (range_with_len a (n + 1))
 grown f g a n j items now x at are push is =
     ap (map f) push

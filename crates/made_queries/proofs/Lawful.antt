@@ -22,12 +22,6 @@ use Rattle.table_text.specs.Numbered.{list_names}
 use Rattle.made_queries.specs.Made.{list_trees, list_terms, made_tree, made_algorithm, made_query}
 use Rattle.made_queries.proofs.Trees.{each_tree, each_count, made_fits}
 
-contains_here : {X : Type 0} → (x : X) (xs : List X) → Contains (x ∷ xs) x
-contains_here x xs = (0, omega arith, refl)
-
-contains_there : {X : Type 0} → (x : X) (xs : List X) (y : X) → Contains xs y → Contains (x ∷ xs) y
-contains_there x xs y h = (suc h.0, omega (arith, h.1), h.2)
-
 -- ---- the grades among the nodes
 among_nodes : (xs : List ℕ) → nodes_in (trees (map Tree.Grade xs)) ≡ map Tree.Grade xs
 among_nodes [] = refl
@@ -41,8 +35,8 @@ grade_in_range : (a n l : ℕ) → a ≤ l → l < a + n → Contains (map Tree.
 grade_in_range a zero l low high = absurd (omega arith)
 grade_in_range a (suc n) l low high =
     elim (cases_eq a l) [
-      | inl same ↦ subst (λ k. Contains (map Tree.Grade (range_with_len a (suc n))) (Tree.Grade k)) same (contains_here (Tree.Grade a) (map Tree.Grade (range_with_len (a + 1) n)))
-      | inr other ↦ contains_there (Tree.Grade a) (map Tree.Grade (range_with_len (a + 1) n)) (Tree.Grade l) (grade_in_range (a + 1) n l (omega arith) (omega arith))
+      | inl same ↦ subst (λ k. Contains (map Tree.Grade (range_with_len a (suc n))) (Tree.Grade k)) same (0, omega arith, refl)
+      | inr other ↦ let there = grade_in_range (a + 1) n l (omega arith) (omega arith) in (suc there.0, omega (arith, there.1), there.2)
     ]
 
 -- a made tree names each list
@@ -148,7 +142,8 @@ made_lawful number count lists objects some few =
     }
 
 -- a query that is made of its parts
-pub same_query : (number count lists most : ℕ) (names : List (List ℕ)) (expr : Tree) (algorithm : Algorithm) → most ≡ min count 10 → names ≡ list_names lists → expr ≡ made_tree number lists
+pub same_query : (number count lists most : ℕ) (names : List (List ℕ)) (expr : Tree) (algorithm : Algorithm) → most ≡ min count 10 → names ≡ list_names lists
+    → expr ≡ made_tree number lists
     → algorithm ≡ made_algorithm number
     → record { k = 1 + number % most; names = names; expr = expr; algorithm = algorithm; cost = Some (record { sorted = 1; random = 1 + number % 4 }); room = None } ≡ made_query number count lists
 same_query number count lists most names expr algorithm k n e a =

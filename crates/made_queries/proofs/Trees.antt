@@ -7,7 +7,8 @@ use Rattle.monotone_fn.specs.Limits.{first_too_big}
 use Rattle.made_queries.specs.Made.{list_trees, list_terms, made_tree}
 
 -- what holds of each of the five holds of a made tree
-pub each_tree : (P : Tree → Type 0) (number lists : ℕ) → P (Tree.Min (trees (list_trees lists))) → P (Tree.Max (trees (list_trees lists))) → P (Tree.Sum (trees (list_trees lists)))
+pub each_tree : (P : Tree → Type 0) (number lists : ℕ) → P (Tree.Min (trees (list_trees lists))) → P (Tree.Max (trees (list_trees lists)))
+    → P (Tree.Sum (trees (list_trees lists)))
     → P (Tree.Median (trees (list_trees lists))) → P (Tree.Wsum (terms (list_terms lists))) → P (made_tree number lists)
 each_tree P number lists least greatest sum median weighted =
     either (number % 5 == 0) least (either (number % 5 == 1) greatest (either (number % 5 == 2) sum (either (number % 5 == 3) median weighted)))

@@ -5,6 +5,7 @@ ghost use Rattle.monotone_fn.specs.Shown.{tree_of, term_of};
 ghost use Rattle.made_queries.specs.Made.{list_trees, list_terms, made_tree};
 
 use super::Memory;
+use limits::MAX_LISTS;
 use monotone_fn::{Expr, Node, Nodes, Term, Terms};
 use std::alloc::Global;
 
@@ -71,7 +72,7 @@ fn made_root(alloc: Global, number: u32, lists: u8) -> Result<Node, Memory>
 /// The expression of the query with this number.
 pub(crate) fn made_expr(alloc: Global, number: u32, lists: u8) -> Result<Expr, Memory>
     requires some { 1 ≤ lists }
-    requires few { lists ≤ 8 }
+    requires few { lists ≤ MAX_LISTS }
     ensures { IfOk result (λ expr. expr ≡ made_tree number lists) }
 {
     let root = made_root(alloc, number, lists)?;

@@ -7,6 +7,7 @@ ghost use Rattle.made_queries.specs.Made.{made_algorithm, made_query};
 
 use super::Memory;
 use super::expression::made_expr;
+use limits::MAX_LISTS;
 use query_text::{Algorithm, Costs, Names, Query};
 use std::alloc::Global;
 
@@ -22,7 +23,7 @@ fn name_of(alloc: Global, number: u8) -> Result<Vec<u8>, Memory>
 
 /// The names of so many lists.
 fn made_names(alloc: Global, lists: u8) -> Result<Names, Memory>
-    requires { lists ≤ 8 }
+    requires { lists ≤ MAX_LISTS }
     ensures { IfOk result (λ names. names ≡ list_names lists) }
 {
     let mut names = Vec::new(alloc);
@@ -55,7 +56,7 @@ fn made_algorithm(number: u32) -> Algorithm
 pub fn made_query(alloc: Global, number: u32, count: u32, lists: u8) -> Result<Query, Memory>
     requires objects { 1 ≤ count }
     requires some { 1 ≤ lists }
-    requires few { lists ≤ 8 }
+    requires few { lists ≤ MAX_LISTS }
     ensures made { IfOk result (λ query. query ≡ made_query number count lists) }
     ensures lawful { IfOk result IsLawful }
 {

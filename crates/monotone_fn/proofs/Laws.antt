@@ -8,12 +8,12 @@ use Rattle.std.proofs.lemmas.List.Elements.{All-contains, Contains-push}
 use Rattle.std.proofs.lemmas.List.Sums.{sum_by-cons}
 use Rattle.std.proofs.lemmas.Option.{slice_get-get_or}
 use Rattle.std.proofs.lemmas.Slice.Zip.{get_or-zip, length-zip}
-use Rattle.monotone_fn.specs.declared.limits.TheConstants.{TOP_GRADE, MAX_LISTS, MAX_VALUE}
 use Rattle.monotone_fn.specs.Tree.{Tree, Trees, Terms}
 use Rattle.monotone_fn.specs.Shape.{greatest, nodes_of, nodes_below, list_count}
 use Rattle.monotone_fn.specs.Value.{least, value, values, products, with_zeros, with_bottoms, low, high, NoSmaller, IsMonotone, IsWithin}
 use Rattle.monotone_fn.specs.Limits.{AreGrades, top_value, IsExpr}
 use Rattle.monotone_fn.proofs.Medians.{AllLe, median-AllLe}
+use Rattle.limits.specs.declared.TheConstants.{MAX_LISTS, MAX_VALUE, TOP_GRADE}
 
 -- ---- each operator is monotone
 least-AllLe : (ms ns : List ℕ) → AllLe ms ns → least ms ≤ least ns

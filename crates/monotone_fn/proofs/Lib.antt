@@ -2,5 +2,4 @@ pub mod Extremes
 pub mod Fills
 pub mod Laws
 pub mod Medians
-pub mod Uses
 pub mod Walks

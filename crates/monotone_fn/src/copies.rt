@@ -26,10 +26,10 @@ pub(crate) fn copy_node(alloc: Global, node: &Node) -> Result<Node, Memory>
 fn copy_nodes(alloc: Global, nodes: &Nodes) -> Result<Nodes, Memory>
     ensures { IfOk result (λ ns. ns ≡ nodes.now) }
 {
-    let mut items = Vec::with_capacity(alloc, nodes.items.len()).map_err(|_| Memory)?;
+    let mut items = Vec::with_capacity(alloc, nodes.items.len())?;
     for node in &nodes.items {
         let copy = copy_node(alloc, node)?;
-        items.push(copy).map_err(|_| Memory)?;
+        items.push(copy)?;
     }
     Ok(Nodes { items })
 }
@@ -38,15 +38,13 @@ fn copy_nodes(alloc: Global, nodes: &Nodes) -> Result<Nodes, Memory>
 fn copy_terms(alloc: Global, weighted: &Terms) -> Result<Terms, Memory>
     ensures { IfOk result (λ us. us ≡ weighted.now) }
 {
-    let mut items = Vec::with_capacity(alloc, weighted.items.len()).map_err(|_| Memory)?;
+    let mut items = Vec::with_capacity(alloc, weighted.items.len())?;
     for term in &weighted.items {
         let node = copy_node(alloc, &term.node)?;
-        items
-            .push(Term {
-                weight: term.weight,
-                node,
-            })
-            .map_err(|_| Memory)?;
+        items.push(Term {
+            weight: term.weight,
+            node,
+        })?;
     }
     Ok(Terms { items })
 }

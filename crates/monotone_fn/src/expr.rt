@@ -4,10 +4,10 @@ use super::Memory;
 use super::copies::copy_node;
 use super::fault::ExprFault;
 use super::grades::{bottoms_filled, value_of, zeros_filled};
-use super::limits::{MAX_DEPTH, MAX_LISTS, MAX_NODES, MAX_VALUE, TOP_GRADE};
 use super::node::Node;
 use super::shape::{count_lists, count_nodes, depth_of};
 use super::value::value_at;
+use limits::{MAX_DEPTH, MAX_LISTS, MAX_NODES, MAX_VALUE, TOP_GRADE};
 use std::alloc::Global;
 use std::marker::Model;
 

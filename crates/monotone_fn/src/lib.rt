@@ -6,20 +6,29 @@ mod costs;
 mod expr;
 mod fault;
 mod grades;
-mod limits;
 mod node;
 mod shape;
-#[cfg(test)]
-mod tests;
 mod value;
 mod values;
 
 pub use costs::Costs;
 pub use expr::Expr;
 pub use fault::ExprFault;
-pub use limits::{MAX_DEPTH, MAX_LISTS, MAX_NODES, MAX_VALUE, TOP_GRADE};
 pub use node::{Node, Nodes, Term, Terms};
+use std::alloc::{AllocError, AllocFailed};
 
 /// No memory was left.
 #[derive(Clone, Copy, Debug, PartialEq, Eq)]
 pub struct Memory;
+
+impl From<AllocError> for Memory {
+    fn from(_: AllocError) -> Memory {
+        Memory
+    }
+}
+
+impl<T: Drop> From<AllocFailed<T>> for Memory {
+    fn from(_: AllocFailed<T>) -> Memory {
+        Memory
+    }
+}

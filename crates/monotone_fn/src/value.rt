@@ -7,9 +7,9 @@ ghost use Rattle.monotone_fn.specs.Value.{value, values, products};
 ghost use Rattle.monotone_fn.specs.Limits.{Passes};
 ghost use Rattle.monotone_fn.specs.Shown.{tree_of};
 
-use super::limits::{MAX_NODES, MAX_VALUE};
 use super::node::{Node, Nodes, Terms};
 use super::values::Values;
+use limits::{MAX_NODES, MAX_VALUE};
 
 /// The value of a node. `ended` rises by one where a node's text ends. None where a node's value passes
 /// [`MAX_VALUE`]: `ended` is then at the first such.

@@ -4,7 +4,7 @@ ghost use Rattle.std.specs.Prelude.{◌≡◌, ◌+◌, ◌-◌, ◌^◌, ◌<�
 ghost use Rattle.monotone_fn.specs.Shape.{greatest, IsGreatest};
 ghost use Rattle.monotone_fn.specs.Value.{least, median, IsLeast, IsMedian};
 
-use super::limits::MAX_NODES;
+use limits::MAX_NODES;
 use std::marker::Model;
 
 /// As many numbers as an expression may have nodes, at most. Contracts see their list.
@@ -16,7 +16,7 @@ pub(crate) struct Values {
 
 impl Model for Values {
     ghost use Rattle.std.specs.Prelude.{ℕ, ◌≤◌, List, take};
-    ghost use Rattle.monotone_fn.specs.declared.limits.TheConstants.{MAX_NODES};
+    ghost use Rattle.limits.specs.declared.TheConstants.{MAX_NODES};
 
     ghost Value = { List ℕ };
 

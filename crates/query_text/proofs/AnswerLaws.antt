@@ -10,9 +10,9 @@ use Rattle.query_text.specs.declared.draft.Draft.{Draft}
 use Rattle.query_text.specs.declared.query.Query.{Query}
 use Rattle.query_text.specs.declared.fault.QueryFault.{QueryFault}
 use Rattle.query_text.specs.declared.fault.QueryFault.TheVariants as faults
-use Rattle.query_text.specs.declared.limits.TheConstants.{MAX_LINE}
 use Rattle.query_text.proofs.FinalLaws.{draft_listed, draft_lawful, draft_text}
 use Rattle.query_text.proofs.NumberingLaws.{numbers_lists}
+use Rattle.limits.specs.declared.TheConstants.{MAX_LINE}
 
 -- a draft of a whole line is numbered as an expression wants it
 pub draft_numbered : (line : List ℕ) (d : Draft) → IsDraftOf line d → NumbersLists (tree_of d.operand)
@@ -24,7 +24,8 @@ draft_spells : (line : List ℕ) (d : Draft) → length line ≤ MAX_LINE → Is
 draft_spells line d short h small = record { short = short; lawful = draft_lawful line d h small; text = draft_text line d h }
 
 -- what becomes of a draft of a whole line is what the line is read as
-pub reads_finish : (line : List ℕ) (d : Draft) (r : Result Query QueryFault) → length line ≤ MAX_LINE → IsDraftOf line d → IsSmall d → Finishes d r → Reads line r
+pub reads_finish : (line : List ℕ) (d : Draft) (r : Result Query QueryFault) → length line ≤ MAX_LINE → IsDraftOf line d → IsSmall d → Finishes d r
+    → Reads line r
 reads_finish line d (Ok q) short h small f = (subst (Spells line) (sym f.0) (draft_spells line d short h small), f.1)
 reads_finish line d (Err (faults.LongLine l)) short h small f = absurd f
 reads_finish line d (Err (faults.Syntax a)) short h small f = absurd f

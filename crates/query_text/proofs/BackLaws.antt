@@ -15,7 +15,6 @@ use Rattle.monotone_fn.specs.Tree.{Tree, Trees, Terms}
 use Rattle.monotone_fn.specs.Shape.{nodes_of}
 use Rattle.monotone_fn.specs.Limits.{IsExpr, Makes, top_value}
 use Rattle.monotone_fn.specs.declared.fault.ExprFault.TheVariants.{TooManyNodes as ManyNodes, TooDeep as Deep, TooBig as Big}
-use Rattle.monotone_fn.specs.declared.limits.TheConstants.{MAX_VALUE}
 use Rattle.monotone_fn.specs.declared.costs.Costs.{Costs}
 use Rattle.query_text.specs.Written.{Written, Arguments, IsNumber, IsWeight, IsWritten, AreArguments, HasArgument}
 use Rattle.query_text.specs.Pieces.{Piece, IsInRange, AreInRange, names_in, lists_in, each_once, IsNumberFault, IsNameFault}
@@ -28,12 +27,12 @@ use Rattle.query_text.specs.declared.operator.Operator.{Operator}
 use Rattle.query_text.specs.declared.operator.Operator.TheVariants.{Min, Max, Sum, Median, Wsum}
 use Rattle.query_text.specs.declared.fault.QueryFault.{QueryFault}
 use Rattle.query_text.specs.declared.fault.QueryFault.TheVariants as faults
-use Rattle.query_text.specs.declared.limits.TheConstants.{MAX_LINE, MAX_NUMBER, MAX_WEIGHT}
 use Rattle.query_text.proofs.WordLaws.{same_bytes, bytes_same}
 use Rattle.query_text.proofs.CompleteLaws.{one_shape}
 use Rattle.query_text.proofs.StateLaws.{names_in-append, once-append, once-extends}
 use Rattle.query_text.proofs.FinalLaws.{Each, value_of, names_in-shape, names_written}
 use Rattle.query_text.proofs.NumberingLaws.{Each-left}
+use Rattle.limits.specs.declared.TheConstants.{MAX_LINE, MAX_NUMBER, MAX_VALUE, MAX_WEIGHT}
 
 Each-from : {A : Type 0} (P : A → Type 0) (xs : List A) → All P xs → Each P xs
 Each-from P [] h = tt
@@ -64,13 +63,15 @@ mutual
   written_fine (Tree.Median ts) names fine listed plain = (some_argument ts names plain.0, arguments_written ts names Median fine listed plain.1 tt)
   written_fine (Tree.Wsum us) names fine listed plain = (some_term us names plain.0, weighted_written us names fine listed plain.1)
 
-  arguments_written : (ts : Trees) (names : List (List ℕ)) (op : Operator) → Each IsName names → Each (λ l. l < length names) (lists_among ts) → ArePlain ts → IsWeight op None → AreArguments op (arguments names ts)
+  arguments_written : (ts : Trees) (names : List (List ℕ)) (op : Operator) → Each IsName names → Each (λ l. l < length names) (lists_among ts) → ArePlain ts
+      → IsWeight op None → AreArguments op (arguments names ts)
   arguments_written Trees.no_tree names op fine listed plain weight = tt
   arguments_written (Trees.tree_then t ts) names op fine listed plain weight =
       let l = Each-left (λ m. m < length names) (lists_of t) (lists_among ts) listed in
       (weight, written_fine t names fine l.0 plain.0, arguments_written ts names op fine l.1 plain.1 weight)
 
-  weighted_written : (us : Terms) (names : List (List ℕ)) → Each IsName names → Each (λ l. l < length names) (lists_under us) → AreWeighed us → AreArguments Wsum (weighted names us)
+  weighted_written : (us : Terms) (names : List (List ℕ)) → Each IsName names → Each (λ l. l < length names) (lists_under us) → AreWeighed us
+      → AreArguments Wsum (weighted names us)
   weighted_written Terms.no_term names fine listed plain = tt
   weighted_written (Terms.term_then w t us) names fine listed plain =
       let l = Each-left (λ m. m < length names) (lists_of t) (lists_under us) listed in
@@ -116,7 +117,8 @@ mutual
       )
 
 -- the options of a lawful query
-cost_sound : (c : Option Costs) → IfSome c (λ cost. IsCount cost.sorted × IsCount cost.random) → IfSome (option_map cost_digits c) (λ cost. IsNumber cost.0 × IsNumber cost.1)
+cost_sound : (c : Option Costs) → IfSome c (λ cost. IsCount cost.sorted × IsCount cost.random)
+    → IfSome (option_map cost_digits c) (λ cost. IsNumber cost.0 × IsNumber cost.1)
 cost_sound None h = tt
 cost_sound (Some c) h = (number_is c.sorted (count_small c.sorted h.0), number_is c.random (count_small c.random h.1))
 
@@ -201,7 +203,8 @@ weight_is : (w : ℕ) → w < 2 ^ 64 → weight_value (Some (decimal w)) ≡ w
 weight_is w small = value_of w small
 
 mutual
-  renamed-written : (t : Tree) (names : List (List ℕ)) → AllPairs ◌≢◌ names → Each (λ l. l < length names) (lists_of t) → IsPlain t → renamed names (written names t) ≡ t
+  renamed-written : (t : Tree) (names : List (List ℕ)) → AllPairs ◌≢◌ names → Each (λ l. l < length names) (lists_of t) → IsPlain t
+      → renamed names (written names t) ≡ t
   renamed-written (Tree.Grade l) names different listed plain = ap Tree.Grade (place-name names l different listed.0)
   renamed-written (Tree.Min ts) names different listed plain = ap Tree.Min (renamed-among ts names different listed plain.1)
   renamed-written (Tree.Max ts) names different listed plain = ap Tree.Max (renamed-among ts names different listed plain.1)
@@ -209,7 +212,8 @@ mutual
   renamed-written (Tree.Median ts) names different listed plain = ap Tree.Median (renamed-among ts names different listed plain.1)
   renamed-written (Tree.Wsum us) names different listed plain = ap Tree.Wsum (renamed-under us names different listed plain.1)
 
-  renamed-among : (ts : Trees) (names : List (List ℕ)) → AllPairs ◌≢◌ names → Each (λ l. l < length names) (lists_among ts) → ArePlain ts → as_trees names (arguments names ts) ≡ ts
+  renamed-among : (ts : Trees) (names : List (List ℕ)) → AllPairs ◌≢◌ names → Each (λ l. l < length names) (lists_among ts) → ArePlain ts
+      → as_trees names (arguments names ts) ≡ ts
   renamed-among Trees.no_tree names different listed plain = refl
   renamed-among (Trees.tree_then t ts) names different listed plain =
       let l = Each-left (λ m. m < length names) (lists_of t) (lists_among ts) listed in
@@ -217,7 +221,8 @@ mutual
       let b = renamed-among ts names different l.1 plain.1 in
       λ i. Trees.tree_then (a i) (b i)
 
-  renamed-under : (us : Terms) (names : List (List ℕ)) → AllPairs ◌≢◌ names → Each (λ l. l < length names) (lists_under us) → AreWeighed us → as_terms names (weighted names us) ≡ us
+  renamed-under : (us : Terms) (names : List (List ℕ)) → AllPairs ◌≢◌ names → Each (λ l. l < length names) (lists_under us) → AreWeighed us
+      → as_terms names (weighted names us) ≡ us
   renamed-under Terms.no_term names different listed plain = refl
   renamed-under (Terms.term_then w t us) names different listed plain =
       let l = Each-left (λ m. m < length names) (lists_of t) (lists_under us) listed in

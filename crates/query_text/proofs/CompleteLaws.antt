@@ -239,7 +239,8 @@ mutual
       ∙ (argument_reads e (λ k fs t ends. expr_reads e fine.1.1 k fs t ends) w k (opened op) fs (text_of (further_pieces rest) ++ 41 ∷ t) fine.1.0 refl (ends_further rest t)
       ∙ further_reads rest op fine.1.2 k [] w e fs t)))))
 
-  further_reads : (args : Arguments) → (op : Operator) → AreArguments op args → (k : List ℕ) (done : List Argument) (w : Option (List ℕ)) (e : Written) (fs : List Frame) (t : List ℕ)
+  further_reads : (args : Arguments) → (op : Operator) → AreArguments op args
+      → (k : List ℕ) (done : List Argument) (w : Option (List ℕ)) (e : Written) (fs : List Frame) (t : List ℕ)
       → reads (Front.at_behind k (frame op done w ∷ fs) e) [] (text_of (further_pieces args) ++ 41 ∷ t)
       ≡ reads (Front.at_behind k fs (Written.call op (joined (done ++ (w, e) ∷ []) args))) [] t
   further_reads Arguments.no_argument op fine k done w e fs t =

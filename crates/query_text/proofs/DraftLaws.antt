@@ -15,9 +15,9 @@ use Rattle.query_text.specs.Draft.{plain_argument, weighted_argument, done_of, f
 use Rattle.query_text.specs.declared.frame.Frame.{Frame}
 use Rattle.query_text.specs.declared.operator.Operator.{Operator}
 use Rattle.query_text.specs.declared.operator.Operator.TheVariants.{Wsum}
-use Rattle.query_text.specs.declared.limits.TheConstants.{MAX_WEIGHT}
 use Rattle.query_text.proofs.CompleteLaws.{no_weight, weighted_some}
 use Rattle.query_text.proofs.FrontLaws.{weighted_is}
+use Rattle.limits.specs.declared.TheConstants.{MAX_WEIGHT}
 
 -- frames with equal parts are equal
 same_frame : (a b : front.Frame) → a.operator ≡ b.operator → a.done ≡ b.done → a.weight ≡ b.weight → a ≡ b
@@ -52,7 +52,8 @@ arguments_weighted names [] = refl
 arguments_weighted names (u ∷ us) = ap (Arguments.argument_then (Some (decimal u.0)) (written names u.1)) (arguments_weighted names us)
 
 -- the weight of an operator with weights was read
-weight_read : (op : Operator) (w : Option ℕ) → is_weighted op ≡ true → IsWeight op (option_map decimal w) → Some (decimal (unwrap_or w 0)) ≡ option_map decimal w
+weight_read : (op : Operator) (w : Option ℕ) → is_weighted op ≡ true → IsWeight op (option_map decimal w)
+    → Some (decimal (unwrap_or w 0)) ≡ option_map decimal w
 weight_read op None is h = absurd (weighted_some op is h)
 weight_read op (Some w) is h = refl
 
@@ -107,7 +108,8 @@ adds_plain old new n isnt op none terms_same e = record {
   };
 }
 
-pub closes_weighted : (old : Frame) (items : List Term) (us : List (ℕ × Tree)) (t : Term) → is_weighted old.operator ≡ true → items ≡ old.terms.items ++ t ∷ [] → us ≡ map term_of items
+pub closes_weighted : (old : Frame) (items : List Term) (us : List (ℕ × Tree)) (t : Term) → is_weighted old.operator ≡ true → items ≡ old.terms.items ++ t ∷ []
+    → us ≡ map term_of items
     → t.weight ≡ unwrap_or old.weight 0 → Closes old (tree_of t.node) (Tree.Wsum (terms us))
 closes_weighted old items us t is e u same = record {
   shows = λ names fine.
@@ -121,7 +123,8 @@ closes_weighted old items us t is e u same = record {
   );
 }
 
-pub closes_plain : (old : Frame) (items : List Node) (ts : List Tree) (n : Node) (whole : Tree) → is_weighted old.operator ≡ false → items ≡ old.nodes.items ++ n ∷ [] → ts ≡ map tree_of items
+pub closes_plain : (old : Frame) (items : List Node) (ts : List Tree) (n : Node) (whole : Tree) → is_weighted old.operator ≡ false
+    → items ≡ old.nodes.items ++ n ∷ [] → ts ≡ map tree_of items
     → (is_weighted old.operator ≡ false → (names : List (List ℕ)) → written names whole ≡ Written.call old.operator (arguments names (trees ts)))
     → (HasTree (trees ts) → ArePlain (trees ts) → IsPlain whole) → Closes old (tree_of n) whole
 closes_plain old items ts n whole isnt e u shows plain = record {

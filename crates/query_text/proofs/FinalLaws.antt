@@ -27,17 +27,18 @@ use Rattle.query_text.specs.declared.stage.Stage.{Stage}
 use Rattle.query_text.specs.declared.stage.Stage.TheVariants as stages
 use Rattle.query_text.specs.declared.operator.Operator.{Operator}
 use Rattle.query_text.specs.declared.operator.Operator.TheVariants.{Min, Max, Sum, Median, Wsum}
-use Rattle.query_text.specs.declared.limits.TheConstants.{MAX_LISTS}
 use Rattle.query_text.proofs.WordLaws.{bytes_same}
 use Rattle.query_text.proofs.FrontLaws.{whole_at}
 use Rattle.query_text.proofs.ReachLaws.{ends_at}
 use Rattle.query_text.proofs.StateLaws.{names_in-append}
+use Rattle.limits.specs.declared.TheConstants.{MAX_LISTS}
 
 -- the syntax tree that a draft shows
 shape_in : List (List ℕ) → Draft → Shape
 shape_in names d = shape_from (head_in names d) (option_map cost_digits d.cost) (option_map decimal d.room)
 
-shape_shown : (names : List (List ℕ)) (s : Stage) (d : Draft) (shape : Shape) → may_end s ≡ true → shape_at (front_of names s d) ≡ Some shape → shape ≡ shape_in names d
+shape_shown : (names : List (List ℕ)) (s : Stage) (d : Draft) (shape : Shape) → may_end s ≡ true → shape_at (front_of names s d) ≡ Some shape
+    → shape ≡ shape_in names d
 unfolding shape_in
 shape_shown names stages.Top d shape may h = absurd (false≢true may)
 shape_shown names stages.Count d shape may h = absurd (false≢true may)
@@ -85,7 +86,8 @@ AreInRange-parts : (ps qs : List Piece) → AreInRange (ps ++ qs) → AreInRange
 AreInRange-parts [] qs h = (tt, h)
 AreInRange-parts (p ∷ ps) qs h = let r = AreInRange-parts ps qs h.1 in ((h.0, r.0), r.1)
 
-cost_counts : (c : Option Costs) → IfSome c (λ cost. (cost.sorted < 2 ^ 32) × (cost.random < 2 ^ 32)) → AreInRange (cost_pieces (option_map cost_digits c)) → IfSome c (λ cost. IsCount cost.sorted × IsCount cost.random)
+cost_counts : (c : Option Costs) → IfSome c (λ cost. (cost.sorted < 2 ^ 32) × (cost.random < 2 ^ 32)) → AreInRange (cost_pieces (option_map cost_digits c))
+    → IfSome c (λ cost. IsCount cost.sorted × IsCount cost.random)
 cost_counts None small h = tt
 cost_counts (Some c) small h = (count_from c.sorted small.0 h.1.0, count_from c.random small.1 h.1.1.1.0)
 

@@ -16,8 +16,8 @@ use Rattle.query_text.specs.declared.algorithm.Algorithm.TheVariants.{Ta}
 use Rattle.std.proofs.lemmas.Option.{same_Some}
 use Rattle.query_text.specs.declared.operator.Operator.{Operator}
 use Rattle.query_text.specs.declared.operator.Operator.TheVariants.{Min, Max, Sum, Median, Wsum}
-use Rattle.query_text.specs.declared.limits.TheConstants.{MAX_NUMBER, MAX_WEIGHT}
 use Rattle.query_text.proofs.WordLaws.{same_bytes, opened_word}
+use Rattle.limits.specs.declared.TheConstants.{MAX_NUMBER, MAX_WEIGHT}
 
 -- a word of a table of one is that word, and of a table of two it is one of them
 pub only_word : (w v : List ℕ) → (bytes_eq w v || false) ≡ true → w ≡ v

@@ -20,7 +20,7 @@ use Rattle.query_text.specs.Query.{name_of, written, arguments, weighted, cost_d
 use Rattle.query_text.specs.declared.query.Query.{Query}
 use Rattle.query_text.specs.declared.algorithm.Algorithm.{Algorithm}
 use Rattle.query_text.specs.declared.algorithm.Algorithm.TheVariants.{Ta, Nra, Ca}
-use Rattle.query_text.specs.declared.limits.TheConstants.{MAX_LINE, MAX_WEIGHT}
+use Rattle.limits.specs.declared.TheConstants.{MAX_LINE, MAX_WEIGHT}
 
 -- how long the text of pieces is
 abbrev size : List Piece → ℕ
@@ -61,7 +61,8 @@ argument_size Arguments.no_argument = omega arith
 argument_size (Arguments.argument_then weight first rest) = omega arith
 
 -- one argument before others
-further_size : (weight : Option (List ℕ)) (first : Written) (rest : Arguments) (n m : ℕ) → size (weight_pieces weight) ≤ 20 → size (expr_pieces first) + 21 ≤ 53 * n
+further_size : (weight : Option (List ℕ)) (first : Written) (rest : Arguments) (n m : ℕ) → size (weight_pieces weight) ≤ 20
+    → size (expr_pieces first) + 21 ≤ 53 * n
     → size (further_pieces rest) ≤ 53 * m → size (further_pieces (Arguments.argument_then weight first rest)) ≤ 53 * (n + m)
 further_size weight first rest n m small_weight small_first small_rest =
     omega (arith, size-append (weight_pieces weight) (expr_pieces first ++ further_pieces rest), size-append (expr_pieces first) (further_pieces rest))
@@ -93,7 +94,8 @@ mutual
       let all = further_size None (written names t) (arguments names ts) (length (nodes_of t)) (length (nodes_in ts)) (omega arith) one more in
       omega (arith, all, length-append (nodes_of t) (nodes_in ts))
 
-  terms_size : (names : List (List ℕ)) → All IsName names → (us : Terms) → AreWeighed us → size (further_pieces (weighted names us)) ≤ 53 * length (nodes_under us)
+  terms_size : (names : List (List ℕ)) → All IsName names → (us : Terms) → AreWeighed us
+      → size (further_pieces (weighted names us)) ≤ 53 * length (nodes_under us)
   terms_size names are Terms.no_term plain = omega arith
   terms_size names are (Terms.term_then w t us) plain =
       let one = tree_size names are t plain.1 in

@@ -49,7 +49,7 @@ some_is n m i h = by_test (nat_lt n m) refl h
     by_test true is h = (ltb-true n m is, cc)
     by_test false is h = absurd cc
 
-none_is : (n m : ℕ) → cond (nat_lt n m) (Some n) None ≡ None → m ≤ n
+pub none_is : (n m : ℕ) → cond (nat_lt n m) (Some n) None ≡ None → m ≤ n
 none_is n m h = by_test (nat_lt n m) refl h
   where
     by_test : (b : Bool) → nat_lt n m ≡ b → cond b (Some n) None ≡ None → m ≤ n
@@ -57,12 +57,14 @@ none_is n m h = by_test (nat_lt n m) refl h
     by_test false is h = ltb-false n m is
 
 -- a word that is a name already
-pub known_member : (xs : List (Vec ℕ)) (w : List ℕ) (i : ℕ) → position (λ x. bytes_eq x.items w) xs ≡ Some i → bytes_of xs ≡ with_member bytes_eq (bytes_of xs) w
+pub known_member : (xs : List (Vec ℕ)) (w : List ℕ) (i : ℕ) → position (λ x. bytes_eq x.items w) xs ≡ Some i
+    → bytes_of xs ≡ with_member bytes_eq (bytes_of xs) w
 known_member xs w i h =
     let s = some_is (before xs w) (length xs) i h in
     sym (cond-true _ _ _ (found_before xs w s.0).0)
 
-pub known_name : (xs : List (Vec ℕ)) (w : List ℕ) (i : ℕ) → position (λ x. bytes_eq x.items w) xs ≡ Some i → (more : List (List ℕ)) → name_of (bytes_of xs ++ more) i ≡ w
+pub known_name : (xs : List (Vec ℕ)) (w : List ℕ) (i : ℕ) → position (λ x. bytes_eq x.items w) xs ≡ Some i → (more : List (List ℕ))
+    → name_of (bytes_of xs ++ more) i ≡ w
 known_name xs w i h more =
     let s = some_is (before xs w) (length xs) i h in
     ap (name_of (bytes_of xs ++ more)) (sym s.1) ∙ (found_before xs w s.0).1 more

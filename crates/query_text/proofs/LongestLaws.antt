@@ -7,6 +7,7 @@ use Rattle.std.proofs.lemmas.Bool.{and_from, and_left, and_right, or_cases, or_l
 use Rattle.std.proofs.lemmas.List.{take_more, length-take}
 use Rattle.line_text.specs.Numbers.{is_empty}
 use Rattle.line_text.specs.Names.{is_name, is_name_byte}
+use Rattle.line_text.proofs.NumberLaws.{list_all_digits}
 use Rattle.query_text.specs.Words.{Class, opened_by, is_front, begins, IsLongest, IsLongestName}
 use Rattle.query_text.proofs.WordLaws.{begins-closed, opened_word}
 use Rattle.query_text.proofs.CompleteLaws.{opening_ends}
@@ -108,7 +109,8 @@ prefix_all p xs zero le = refl
 prefix_all p [] (suc n) le = refl
 prefix_all p (x ∷ xs) (suc n) le = by_test (p x) refl le (λ l. prefix_all p xs n l)
   where
-    by_test : (b : Bool) → p x ≡ b → suc n ≤ cond b (1 + prefix_len p xs) 0 → (n ≤ prefix_len p xs → list_all p (take n xs) ≡ true) → (p x && list_all p (take n xs)) ≡ true
+    by_test : (b : Bool) → p x ≡ b → suc n ≤ cond b (1 + prefix_len p xs) 0 → (n ≤ prefix_len p xs → list_all p (take n xs) ≡ true)
+        → (p x && list_all p (take n xs)) ≡ true
     by_test true is le ih = and_from (p x) _ is (ih (omega arith))
     by_test false is le ih = absurd (omega arith)
 
@@ -116,7 +118,8 @@ prefix_fails : (p : ℕ → Bool) (xs : List ℕ) → prefix_len p xs < length x
 prefix_fails p [] l = absurd (omega arith)
 prefix_fails p (x ∷ xs) l = by_test (p x) refl l (λ k. prefix_fails p xs k)
   where
-    by_test : (b : Bool) → p x ≡ b → cond b (1 + prefix_len p xs) 0 < suc (length xs) → (prefix_len p xs < length xs → list_all p (take (suc (prefix_len p xs)) xs) ≡ false)
+    by_test : (b : Bool) → p x ≡ b → cond b (1 + prefix_len p xs) 0 < suc (length xs)
+        → (prefix_len p xs < length xs → list_all p (take (suc (prefix_len p xs)) xs) ≡ false)
         → (p x && list_all p (take (cond b (1 + prefix_len p xs) 0) xs)) ≡ false
     by_test true is l ih =
         and_right (p x) _ (ap (λ n. list_all p (take n xs)) one ∙ ih (omega arith))
@@ -124,10 +127,6 @@ prefix_fails p (x ∷ xs) l = by_test (p x) refl l (λ k. prefix_fails p xs k)
         one : 1 + prefix_len p xs ≡ suc (prefix_len p xs)
         one = omega arith
     by_test false is l ih = and_left (p x) _ is
-
-digits_all : (xs : List ℕ) → list_all is_ascii_digit xs ≡ all_ascii_digits xs
-digits_all [] = refl
-digits_all (x ∷ xs) = ap (λ z. is_ascii_digit x && z) (digits_all xs)
 
 pub longest_nothing : (c : Class) → IsLongest c [] 0
 longest_nothing c = record { within = omega arith; fits = λ p. absurd (omega arith); ends = λ p. absurd (omega arith) }
@@ -155,9 +154,9 @@ longest_digits text x xs e ne = subst (λ z. IsLongest Class.digits z (prefix_le
         let one : 1 + n ≡ suc n = omega arith in
         subst (IsLongest Class.digits (x ∷ xs)) (sym one) (record {
           within = omega (arith, prefix_within is_ascii_digit xs);
-          fits = λ _. number n ∙ and_from _ _ is (sym (digits_all (take n xs)) ∙ prefix_all is_ascii_digit xs n (omega arith));
+          fits = λ _. number n ∙ and_from _ _ is (sym (list_all_digits (take n xs)) ∙ prefix_all is_ascii_digit xs n (omega arith));
           ends = λ l. ap (λ m. begins Class.digits (take m (x ∷ xs))) (add-one (suc n))
-              ∙ (number (suc n) ∙ and_right (is_ascii_digit x) _ (sym (digits_all (take (suc n) xs)) ∙ prefix_fails is_ascii_digit xs (omega arith)));
+              ∙ (number (suc n) ∙ and_right (is_ascii_digit x) _ (sym (list_all_digits (take (suc n) xs)) ∙ prefix_fails is_ascii_digit xs (omega arith)));
         })
     by_test false is = record {
       within = omega arith;
@@ -173,7 +172,8 @@ longest_no_name text x xs e is = subst (λ z. IsLongestName z 0) (sym e) (record
   ends = λ l. and_left _ _ (and_left (is_ascii_alphabetic x) _ is);
 })
 
-pub longest_name : (text : List ℕ) (x : ℕ) (xs : List ℕ) (n : ℕ) → text ≡ x ∷ xs → is_ascii_alphabetic x ≡ true → n ≡ 1 + min (prefix_len is_name_byte xs) 31 → IsLongestName text n
+pub longest_name : (text : List ℕ) (x : ℕ) (xs : List ℕ) (n : ℕ) → text ≡ x ∷ xs → is_ascii_alphabetic x ≡ true → n ≡ 1 + min (prefix_len is_name_byte xs) 31
+    → IsLongestName text n
 longest_name text x xs n e is here = subst (λ z. IsLongestName z n) (sym e) (subst (IsLongestName (x ∷ xs)) (sym n_is) at_front)
   where
     m : ℕ
@@ -210,7 +210,8 @@ longest_opening text n l h = record {
 }
 
 -- or a name
-pub longest_operand : (text : List ℕ) (n : ℕ) → IsLongestName text n → (n < length text → is_some (opened_by (take (n + 1) text)) ≡ false) → IsLongest Class.operand text n
+pub longest_operand : (text : List ℕ) (n : ℕ) → IsLongestName text n → (n < length text → is_some (opened_by (take (n + 1) text)) ≡ false)
+    → IsLongest Class.operand text n
 longest_operand text n h lacks = record {
   within = h.within;
   fits = λ p. or_right _ _ (or_left _ _ (h.fits p));

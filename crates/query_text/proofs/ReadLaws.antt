@@ -96,7 +96,8 @@ fits_parts c rest (y ∷ w) count e n h = ap (begins c) (sym e) ∙ h.fits (omeg
 word_length : (c : Class) (rest : List ℕ) (count : ℕ) → IsLongest c rest count → length (take count rest) ≡ count
 word_length c rest count h = omega (arith, length-take count rest, h.within)
 
-state_next : (d new : Draft) (f : Front) (w : List ℕ) (place : ℕ) (before now : Option QueryFault) → IsFine f → is_whole (class_of f) w ≡ true → place ≡ length (front_text f)
+state_next : (d new : Draft) (f : Front) (w : List ℕ) (place : ℕ) (before now : Option QueryFault) → IsFine f → is_whole (class_of f) w ≡ true
+    → place ≡ length (front_text f)
     → IsState before d f → StepTakes (stage_of f) d new before w place now → IsState now new (next f w)
 state_next d new f w place (Some fault) now fine whole at_place state step = subst (λ o. IsState o new (next f w)) (sym step) (fault-next d new f w fault fine whole state)
 state_next d new f w place None None fine whole at_place state step = drafts-next d new f w fine whole step state
@@ -156,7 +157,8 @@ reach_refused line place count course draft before stop r is longest part goes =
     (subst (Follows f) cut r.follows) (r.parts ∙ ap (λ z. front_text f ++ z) cut) (is ∙ omega (arith, r.place, n))
 
 -- at the front of a line
-pub reach_start : (line : List ℕ) (course : Course) (draft : Draft) → course_view course ≡ at stages.Top [] → names_of draft ≡ [] → draft.frames.items ≡ [] → IsDraftPlain draft
+pub reach_start : (line : List ℕ) (course : Course) (draft : Draft) → course_view course ≡ at stages.Top [] → names_of draft ≡ [] → draft.frames.items ≡ []
+    → IsDraftPlain draft
     → Reached line 0 course draft None
 reach_start line course draft standing names frames plain = record {
   front = Front.at_top;
@@ -186,7 +188,8 @@ shape_some None e = absurd (false≢true e)
 shape_some (Some s) e = (s, refl)
 
 -- at the end of a line
-whole_line : (line : List ℕ) (place : ℕ) (course : Course) (draft : Draft) (before : Option QueryFault) → (r : Reached line place course draft before) → length line ≤ place
+whole_line : (line : List ℕ) (place : ℕ) (course : Course) (draft : Draft) (before : Option QueryFault) → (r : Reached line place course draft before)
+    → length line ≤ place
     → front_text r.front ≡ line
 whole_line line place course draft before r over =
     let e : drop place line ≡ [] = nothing (drop place line) (omega (arith, length-drop place line)) in
@@ -196,16 +199,19 @@ whole_line line place course draft before r over =
     nothing [] e = refl
     nothing (x ∷ xs) e = absurd (omega arith)
 
-ended_at : (line : List ℕ) (place : ℕ) (course : Course) (draft : Draft) (before : Option QueryFault) → (r : Reached line place course draft before) → may_end course.stage ≡ true
+ended_at : (line : List ℕ) (place : ℕ) (course : Course) (draft : Draft) (before : Option QueryFault) → (r : Reached line place course draft before)
+    → may_end course.stage ≡ true
     → (s : Shape) × (shape_at r.front ≡ Some s)
 ended_at line place course draft before r may = shape_some (shape_at r.front) (ends_at r.front ∙ (ap may_end (sym (ap (λ s. s.stage) r.standing)) ∙ may))
 
-pub reach_draft : (line : List ℕ) (place : ℕ) (course : Course) (draft : Draft) → Reached line place course draft None → length line ≤ place → may_end course.stage ≡ true → IsDraftOf line draft
+pub reach_draft : (line : List ℕ) (place : ℕ) (course : Course) (draft : Draft) → Reached line place course draft None → length line ≤ place
+    → may_end course.stage ≡ true → IsDraftOf line draft
 reach_draft line place course draft r over may =
     let s = ended_at line place course draft None r may in
     record { front = r.front; shape = s.0; fine = r.fine; ended = s.1; text = whole_line line place course draft None r over; drafts = r.state }
 
-pub reach_fault : (line : List ℕ) (place : ℕ) (course : Course) (draft : Draft) (fault : QueryFault) → Reached line place course draft (Some fault) → length line ≤ place → may_end course.stage ≡ true
+pub reach_fault : (line : List ℕ) (place : ℕ) (course : Course) (draft : Draft) (fault : QueryFault) → Reached line place course draft (Some fault)
+    → length line ≤ place → may_end course.stage ≡ true
     → WordsRead line (Err fault)
 reach_fault line place course draft fault r over may = by_fault fault r.state
   where

@@ -12,8 +12,8 @@ use Rattle.query_text.specs.declared.draft.Draft.{Draft}
 use Rattle.query_text.specs.declared.operator.Operator.{Operator}
 use Rattle.query_text.specs.declared.fault.QueryFault.{QueryFault}
 use Rattle.query_text.specs.declared.fault.QueryFault.TheVariants as faults
-use Rattle.query_text.specs.declared.limits.TheConstants.{MAX_LISTS}
 use Rattle.query_text.proofs.FrontLaws.{pieces-next, next_piece}
+use Rattle.limits.specs.declared.TheConstants.{MAX_LISTS}
 
 pub names_in-append : (ps qs : List Piece) → names_in (ps ++ qs) ≡ names_in ps ++ names_in qs
 names_in-append [] qs = refl
@@ -21,7 +21,8 @@ names_in-append (Piece.fixed t ∷ ps) qs = names_in-append ps qs
 names_in-append (Piece.number l m d ∷ ps) qs = names_in-append ps qs
 names_in-append (Piece.name t ∷ ps) qs = ap (λ z. t ∷ z) (names_in-append ps qs)
 
-pub once-append : {A : Type 0} (same : A → A → Bool) (seen xs ys : List A) → each_once_after same seen (xs ++ ys) ≡ each_once_after same (each_once_after same seen xs) ys
+pub once-append : {A : Type 0} (same : A → A → Bool) (seen xs ys : List A)
+    → each_once_after same seen (xs ++ ys) ≡ each_once_after same (each_once_after same seen xs) ys
 once-append same seen [] ys = refl
 once-append same seen (x ∷ xs) ys = once-append same (with_member same seen x) xs ys
 
@@ -45,7 +46,8 @@ AreInRange-push [] p h i = (i, tt)
 AreInRange-push (q ∷ ps) p h i = (h.0, AreInRange-push ps p h.1 i)
 
 -- the draft means the front with one more word
-pub drafts-next : (d new : Draft) (f : Front) (w : List ℕ) → IsFine f → is_whole (class_of f) w ≡ true → Takes (stage_of f) d new w → Drafts d f → Drafts new (next f w)
+pub drafts-next : (d new : Draft) (f : Front) (w : List ℕ) → IsFine f → is_whole (class_of f) w ≡ true → Takes (stage_of f) d new w → Drafts d f
+    → Drafts new (next f w)
 drafts-next d new f w fine whole takes h =
     let more_pieces = pieces-next f w fine whole in
     let p = next_piece f w in
@@ -90,7 +92,8 @@ name_fault-push ps p at h = record {
 }
 
 -- a fault stays the first
-pub fault-next : (d new : Draft) (f : Front) (w : List ℕ) (fault : QueryFault) → IsFine f → is_whole (class_of f) w ≡ true → IsState (Some fault) d f → IsState (Some fault) new (next f w)
+pub fault-next : (d new : Draft) (f : Front) (w : List ℕ) (fault : QueryFault) → IsFine f → is_whole (class_of f) w ≡ true → IsState (Some fault) d f
+    → IsState (Some fault) new (next f w)
 fault-next d new f w (faults.LongLine l) fine whole h = h
 fault-next d new f w (faults.Syntax a) fine whole h = h
 fault-next d new f w (faults.Number a) fine whole h = subst (λ ps. IsNumberFault ps a) (sym (pieces-next f w fine whole)) (number_fault-push (pieces_before f) (next_piece f w) a h)
@@ -142,7 +145,8 @@ number_fault-new ps p at fine place h = record {
   outside = h.outside;
 }
 
-name_fault-new : (ps : List Piece) (p : Piece) (at : ℕ) → AreFine ps → at ≡ length (text_of ps) → MAX_LISTS < length (lists_in (ps ++ p ∷ [])) → IsNameFault (ps ++ p ∷ []) at
+name_fault-new : (ps : List Piece) (p : Piece) (at : ℕ) → AreFine ps → at ≡ length (text_of ps) → MAX_LISTS < length (lists_in (ps ++ p ∷ []))
+    → IsNameFault (ps ++ p ∷ []) at
 name_fault-new ps (Piece.fixed t) at fine place h = absurd (omega (arith, fine.few, ap length (lists_in-push ps (Piece.fixed t))))
 name_fault-new ps (Piece.number l m d) at fine place h = absurd (omega (arith, fine.few, ap length (lists_in-push ps (Piece.number l m d))))
 name_fault-new ps (Piece.name t) at fine place h = record { before = ps; text = t; after = []; parts = refl; place = place; first = fine; more = h }

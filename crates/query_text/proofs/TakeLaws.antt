@@ -22,7 +22,7 @@ use Rattle.query_text.specs.declared.draft.Draft.{Draft}
 use Rattle.query_text.specs.declared.algorithm.Algorithm.{Algorithm}
 use Rattle.query_text.specs.declared.operator.Operator.{Operator}
 use Rattle.query_text.specs.declared.stage.Stage.TheVariants as stages
-use Rattle.query_text.specs.declared.limits.TheConstants.{MAX_NUMBER, MAX_WEIGHT, MAX_LISTS}
+use Rattle.limits.specs.declared.TheConstants.{MAX_LISTS, MAX_NUMBER, MAX_WEIGHT}
 
 -- a word that spells a number within its range
 pub record Spelled (word : List ℕ) (least most n : ℕ) : Type 0 where
@@ -52,7 +52,8 @@ takes_k d n w h few = record {
     by_frames more [] e st = ap (λ z. unopened z (Front.at_by (decimal n))) e ∙ ap Front.at_by (decimal_is w 1 MAX_NUMBER n (omega arith) h)
     by_frames more (x ∷ xs) e st = absurd cc
 
-pub takes_weight : (d : Draft) (n : ℕ) (w : List ℕ) → Spelled w 0 MAX_WEIGHT n → length (names_of d) ≤ MAX_LISTS → Takes stages.Weight d (record d { weight = n }) w
+pub takes_weight : (d : Draft) (n : ℕ) (w : List ℕ) → Spelled w 0 MAX_WEIGHT n → length (names_of d) ≤ MAX_LISTS
+    → Takes stages.Weight d (record d { weight = n }) w
 takes_weight d n w h few = record {
   names = refl;
   few = few;
@@ -61,7 +62,8 @@ takes_weight d n w h few = record {
   shows = λ more st fine whole. ap (Front.at_times (decimal d.k) (frames_in (names_of d ++ more) d)) (decimal_is w 0 MAX_WEIGHT n (omega arith) h);
 }
 
-pub takes_sorted : (d : Draft) (n : ℕ) (w : List ℕ) → Spelled w 1 MAX_NUMBER n → length (names_of d) ≤ MAX_LISTS → Takes stages.Sorted d (record d { sorted = n }) w
+pub takes_sorted : (d : Draft) (n : ℕ) (w : List ℕ) → Spelled w 1 MAX_NUMBER n → length (names_of d) ≤ MAX_LISTS
+    → Takes stages.Sorted d (record d { sorted = n }) w
 takes_sorted d n w h few = record {
   names = refl;
   few = few;
@@ -91,7 +93,8 @@ takes_random d n w h few = record {
     cost : Costs
     cost = record { sorted = d.sorted; random = n }
 
-    by_room : (more : List (List ℕ)) (r : Option ℕ) → d.room ≡ r → stage_of (unset r (Front.at_random (head_in (names_of d ++ more) d) (decimal d.sorted))) ≡ stages.Random
+    by_room : (more : List (List ℕ)) (r : Option ℕ) → d.room ≡ r
+        → stage_of (unset r (Front.at_random (head_in (names_of d ++ more) d) (decimal d.sorted))) ≡ stages.Random
         → front_of (names_of d ++ more) (stage_of (next (unset r (Front.at_random (head_in (names_of d ++ more) d) (decimal d.sorted))) w)) (record d { cost = Some (record { sorted = d.sorted; random = n }) })
         ≡ next (unset r (Front.at_random (head_in (names_of d ++ more) d) (decimal d.sorted))) w
     by_room more None e st =
@@ -99,7 +102,8 @@ takes_random d n w h few = record {
         ∙ ap (λ z. Front.at_priced (head_in (names_of d ++ more) d) (decimal d.sorted, z)) (decimal_is w 1 MAX_NUMBER n (omega arith) h)
     by_room more (Some r) e st = absurd cc
 
-pub takes_room : (d : Draft) (n : ℕ) (w : List ℕ) → Spelled w 1 MAX_NUMBER n → length (names_of d) ≤ MAX_LISTS → Takes stages.Room d (record d { room = Some n }) w
+pub takes_room : (d : Draft) (n : ℕ) (w : List ℕ) → Spelled w 1 MAX_NUMBER n → length (names_of d) ≤ MAX_LISTS
+    → Takes stages.Room d (record d { room = Some n }) w
 takes_room d n w h few = record {
   names = refl;
   few = few;
@@ -136,7 +140,9 @@ begun_shown : (names : List (List ℕ)) (k : List ℕ) (f : front.Frame) (fs : L
     → front_of names (stage_of (begun k f fs)) d ≡ begun k f fs
 begun_shown names k f fs d ek ef = by_test (is_weighted f.operator)
   where
-    by_test : (b : Bool) → front_of names (stage_of (cond b (Front.at_weight k (f ∷ fs)) (Front.at_operand k (f ∷ fs)))) d ≡ cond b (Front.at_weight k (f ∷ fs)) (Front.at_operand k (f ∷ fs))
+    by_test : (b : Bool)
+        → front_of names (stage_of (cond b (Front.at_weight k (f ∷ fs)) (Front.at_operand k (f ∷ fs)))) d ≡ cond b (Front.at_weight k (f ∷ fs))
+        (Front.at_operand k (f ∷ fs))
     by_test true = λ i. Front.at_weight (ek i) (ef i)
     by_test false = λ i. Front.at_operand (ek i) (ef i)
 
@@ -159,7 +165,8 @@ takes_opened d new f op w o e ek en eo ew shows plain few = record {
       (frames_push names new.frames.items d.frames.items f e ∙ ap (λ z. z ∷ frames_in names d) (shows names)));
 }
 
-pub takes_name : (d new : Draft) (n : ℕ) (w : List ℕ) → opened_by w ≡ None → new.frames ≡ d.frames → new.k ≡ d.k → new.operand ≡ nodes.List n → new.weight ≡ d.weight
+pub takes_name : (d new : Draft) (n : ℕ) (w : List ℕ) → opened_by w ≡ None → new.frames ≡ d.frames → new.k ≡ d.k → new.operand ≡ nodes.List n
+    → new.weight ≡ d.weight
     → names_of new ≡ with_member bytes_eq (names_of d) w → length (names_of new) ≤ MAX_LISTS
     → ((more : List (List ℕ)) → name_of (names_of new ++ more) n ≡ w) → Takes stages.Operand d new w
 takes_name d new n w o ef ek eo ew en few named = record {
@@ -181,7 +188,8 @@ takes_name d new n w o ef ek eo ew en few named = record {
     expr_is names h = ap (λ z. written names (tree_of z)) eo ∙ ap Written.name h
 
 -- behind an operand outside of all operators
-pub takes_end : (d new : Draft) (w : List ℕ) → d.frames.items ≡ [] → new.frames.items ≡ [] → new.k ≡ d.k → new.names ≡ d.names → new.operand ≡ d.operand → new.weight ≡ d.weight
+pub takes_end : (d new : Draft) (w : List ℕ) → d.frames.items ≡ [] → new.frames.items ≡ [] → new.k ≡ d.k → new.names ≡ d.names → new.operand ≡ d.operand
+    → new.weight ≡ d.weight
     → length (names_of d) ≤ MAX_LISTS → Takes stages.Behind d new w
 takes_end d new w e e2 ek en eo ew few = record {
   names = ap (λ z. bytes_of z.items) en;
@@ -201,7 +209,8 @@ BehindShown names d new w fs =
     IsFine (Front.at_behind (decimal d.k) fs (expr_in names d)) →
     front_of names (stage_of (next (Front.at_behind (decimal d.k) fs (expr_in names d)) w)) new ≡ next (Front.at_behind (decimal d.k) fs (expr_in names d)) w
 
-pub takes_comma : (d new : Draft) (rest : List Frame) (f g : Frame) (w : List ℕ) → bytes_eq w (codes ",") ≡ true → d.frames.items ≡ rest ++ f ∷ [] → new.frames.items ≡ rest ++ g ∷ []
+pub takes_comma : (d new : Draft) (rest : List Frame) (f g : Frame) (w : List ℕ) → bytes_eq w (codes ",") ≡ true → d.frames.items ≡ rest ++ f ∷ []
+    → new.frames.items ≡ rest ++ g ∷ []
     → AddsArgument f g (tree_of d.operand) → new.k ≡ d.k → new.names ≡ d.names → new.operand ≡ nodes.List 0 → new.weight ≡ d.weight
     → length (names_of d) ≤ MAX_LISTS → Takes stages.Behind d new w
 takes_comma d new rest f g w is e e2 adds ek en eo ew few = record {
@@ -226,7 +235,8 @@ takes_comma d new rest f g w is e e2 adds ek en eo ew few = record {
         (begun_shown names k (record (frame_of names f) { done = all_done (frame_of names f) (expr_in names d); weight = None }) fs new (ap decimal ek)
         (frames_push names new.frames.items rest g e2 ∙ ap (λ z. z ∷ fs) (adds.shows names fine.1.1)))
 
-pub takes_close : (d new : Draft) (rest : List Frame) (f : Frame) (w : List ℕ) → bytes_eq w (codes ",") ≡ false → d.frames.items ≡ rest ++ f ∷ [] → new.frames.items ≡ rest
+pub takes_close : (d new : Draft) (rest : List Frame) (f : Frame) (w : List ℕ) → bytes_eq w (codes ",") ≡ false → d.frames.items ≡ rest ++ f ∷ []
+    → new.frames.items ≡ rest
     → Closes f (tree_of d.operand) (tree_of new.operand) → new.k ≡ d.k → new.names ≡ d.names → new.weight ≡ d.weight
     → length (names_of d) ≤ MAX_LISTS → Takes stages.Behind d new w
 takes_close d new rest f w is e e2 closes ek en ew few = record {
@@ -251,7 +261,8 @@ abbrev TimesShown : List (List ℕ) → Draft → Draft → List ℕ → List fr
 TimesShown names d new w fs =
     front_of names (stage_of (next (Front.at_times (decimal d.k) fs (decimal d.weight)) w)) new ≡ next (Front.at_times (decimal d.k) fs (decimal d.weight)) w
 
-pub takes_times_outside : (d new : Draft) (w : List ℕ) → d.frames.items ≡ [] → new.frames.items ≡ [] → new.k ≡ d.k → new.names ≡ d.names → new.operand ≡ d.operand → new.weight ≡ d.weight
+pub takes_times_outside : (d new : Draft) (w : List ℕ) → d.frames.items ≡ [] → new.frames.items ≡ [] → new.k ≡ d.k → new.names ≡ d.names
+    → new.operand ≡ d.operand → new.weight ≡ d.weight
     → length (names_of d) ≤ MAX_LISTS → Takes stages.Times d new w
 takes_times_outside d new w e e2 ek en eo ew few = record {
   names = ap (λ z. bytes_of z.items) en;
@@ -264,7 +275,8 @@ takes_times_outside d new w e e2 ek en eo ew few = record {
       (λ i. Front.at_operand (decimal (ek i)) (map (frame_of names) (reverse (e2 i))));
 }
 
-pub takes_times : (d new : Draft) (rest : List Frame) (f : Frame) (w : List ℕ) → d.frames.items ≡ rest ++ f ∷ [] → new.frames.items ≡ rest ++ record f { weight = Some d.weight } ∷ []
+pub takes_times : (d new : Draft) (rest : List Frame) (f : Frame) (w : List ℕ) → d.frames.items ≡ rest ++ f ∷ []
+    → new.frames.items ≡ rest ++ record f { weight = Some d.weight } ∷ []
     → new.k ≡ d.k → new.names ≡ d.names → new.operand ≡ d.operand → new.weight ≡ d.weight → length (names_of d) ≤ MAX_LISTS → Takes stages.Times d new w
 takes_times d new rest f w e e2 ek en eo ew few = record {
   names = ap (λ z. bytes_of z.items) en;
@@ -311,7 +323,9 @@ takes_options d w few = record { names = refl; few = few; range = tt; plain = λ
         ≡ next (unset c (unset r (Front.at_options (head_in (names_of d ++ more) d)))) w
     by_options more None None ec er st = by_word (bytes_eq w (codes " cost "))
       where
-        by_word : (b : Bool) → front_of (names_of d ++ more) (stage_of (cond b (Front.at_sorted (head_in (names_of d ++ more) d)) (Front.at_room (head_in (names_of d ++ more) d) None))) d
+        by_word : (b : Bool)
+            → front_of (names_of d ++ more)
+            (stage_of (cond b (Front.at_sorted (head_in (names_of d ++ more) d)) (Front.at_room (head_in (names_of d ++ more) d) None))) d
             ≡ cond b (Front.at_sorted (head_in (names_of d ++ more) d)) (Front.at_room (head_in (names_of d ++ more) d) None)
         by_word true = ap (λ z. unset z (Front.at_sorted (head_in (names_of d ++ more) d))) er
         by_word false = ap (λ z. Front.at_room (head_in (names_of d ++ more) d) (option_map cost_digits z)) ec
@@ -321,7 +335,8 @@ takes_options d w few = record { names = refl; few = few; range = tt; plain = λ
 pub takes_between : (d : Draft) (w : List ℕ) → length (names_of d) ≤ MAX_LISTS → Takes stages.Between d d w
 takes_between d w few = record { names = refl; few = few; range = tt; plain = λ p. p; shows = λ more st fine whole. by_room more d.room refl st }
   where
-    by_room : (more : List (List ℕ)) (r : Option ℕ) → d.room ≡ r → stage_of (unset r (Front.at_between (head_in (names_of d ++ more) d) (decimal d.sorted))) ≡ stages.Between
+    by_room : (more : List (List ℕ)) (r : Option ℕ) → d.room ≡ r
+        → stage_of (unset r (Front.at_between (head_in (names_of d ++ more) d) (decimal d.sorted))) ≡ stages.Between
         → front_of (names_of d ++ more) (stage_of (next (unset r (Front.at_between (head_in (names_of d ++ more) d) (decimal d.sorted))) w)) d
         ≡ next (unset r (Front.at_between (head_in (names_of d ++ more) d) (decimal d.sorted))) w
     by_room more None e st = ap (λ z. unset z (Front.at_random (head_in (names_of d ++ more) d) (decimal d.sorted))) e

@@ -21,11 +21,13 @@ begins_shorter a w u v e h = record {
 }
 
 -- a front with a part of a word begins what the front with the whole word begins
-back : (f : Front) (w u v : List ℕ) → IsFine f → is_whole (class_of f) w ≡ true → u ++ v ≡ w → Begins (text_of (pieces_before (next f w))) → Begins (text_of (pieces_before f) ++ u)
+back : (f : Front) (w u v : List ℕ) → IsFine f → is_whole (class_of f) w ≡ true → u ++ v ≡ w → Begins (text_of (pieces_before (next f w)))
+    → Begins (text_of (pieces_before f) ++ u)
 back f w u v fine whole e h = begins_shorter (text_of (pieces_before f)) w u v e (subst Begins (text-next f w fine whole) h)
 
 -- a front goes on by a word
-by : (f : Front) (w : List ℕ) → IsFine f → is_whole (class_of f) w ≡ true → (IsFine (next f w) → Begins (text_of (pieces_before (next f w)))) → Begins (text_of (pieces_before f))
+by : (f : Front) (w : List ℕ) → IsFine f → is_whole (class_of f) w ≡ true → (IsFine (next f w) → Begins (text_of (pieces_before (next f w))))
+    → Begins (text_of (pieces_before f))
 by f w fine whole later =
     subst Begins (append-nil (text_of (pieces_before f))) (back f w [] w fine whole refl (later (fine-next f w fine whole)))
 

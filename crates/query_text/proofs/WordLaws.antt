@@ -56,7 +56,8 @@ all-closed : (p : ℕ → Bool) (u v : List ℕ) → list_all p (u ++ v) ≡ tru
 all-closed p [] v h = refl
 all-closed p (x ∷ u) v h = let q = and_parts (p x) (list_all p (u ++ v)) h in and_from (p x) (list_all p u) q.0 (all-closed p u v q.1)
 
-number_closed : (b d : Bool) (u v : List ℕ) → cond b (is_empty (u ++ v)) (d && all_ascii_digits (u ++ v)) ≡ true → cond b (is_empty u) (d && all_ascii_digits u) ≡ true
+number_closed : (b d : Bool) (u v : List ℕ) → cond b (is_empty (u ++ v)) (d && all_ascii_digits (u ++ v)) ≡ true
+    → cond b (is_empty u) (d && all_ascii_digits u) ≡ true
 number_closed true d [] v h = refl
 number_closed true d (x ∷ u) v h = absurd (false≢true h)
 number_closed false d u v h = let p = and_parts d (all_ascii_digits (u ++ v)) h in and_from d (all_ascii_digits u) p.0 (digits-closed u v p.1)

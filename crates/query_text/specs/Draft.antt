@@ -19,7 +19,7 @@ use Rattle.query_text.specs.declared.stage.Stage.{Stage}
 use Rattle.query_text.specs.declared.stage.Stage.TheVariants as stages
 use Rattle.query_text.specs.declared.fault.QueryFault.{QueryFault}
 use Rattle.query_text.specs.declared.fault.QueryFault.TheVariants as faults
-use Rattle.query_text.specs.declared.limits.TheConstants.{MAX_WEIGHT, MAX_LISTS}
+use Rattle.limits.specs.declared.TheConstants.{MAX_LISTS, MAX_WEIGHT}
 
 -- an argument without a weight, and one with a weight
 abbrev pub plain_argument : List (List ℕ) → Tree → Argument
@@ -54,7 +54,12 @@ AreFramesPlain (frame ∷ frames) = IsFramePlain frame × AreFramesPlain frames
 -- the frame has one more argument, with the weight that was read before it
 pub record AddsArgument (old new : Frame) (tree : Tree) : Type 0 where
   pub shows : (names : List (List ℕ)) → IsWeight old.operator (option_map decimal old.weight)
-      → frame_of names new ≡ record { operator = old.operator; done = done_of names old ++ (option_map decimal old.weight, written names tree) ∷ []; weight = None }
+      → frame_of names new ≡ record {
+        operator = old.operator;
+        done = done_of names old ++ (option_map decimal old.weight, written names tree)
+            ∷ [];
+        weight = None;
+      }
   pub plain : IsPlain tree → IsFramePlain old → IsFramePlain new
 
 -- the operator over its arguments and one more
@@ -139,7 +144,8 @@ abbrev pub Misses : Stage → Draft → List ℕ → ℕ → QueryFault → Type
 Misses stage draft word at (faults.LongLine limit) = ⊥
 Misses stage draft word at (faults.Syntax place) = ⊥
 Misses stage draft word at (faults.Number place) = (place ≡ at) × IsOutside (piece_at stage word)
-Misses stage draft word at (faults.TooManyLists place) = (place ≡ at) × (MAX_LISTS < length (each_once_after bytes_eq (names_of draft) (names_in (piece_at stage word ∷ []))))
+Misses stage draft word at (faults.TooManyLists place) =
+    (place ≡ at) × (MAX_LISTS < length (each_once_after bytes_eq (names_of draft) (names_in (piece_at stage word ∷ []))))
 Misses stage draft word at (faults.TooManyNodes nodes) = ⊥
 Misses stage draft word at (faults.TooDeep depth) = ⊥
 Misses stage draft word at (faults.TooBig node) = ⊥

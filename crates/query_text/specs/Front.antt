@@ -13,7 +13,7 @@ use Rattle.query_text.specs.declared.operator.Operator.{Operator}
 use Rattle.query_text.specs.declared.operator.Operator.TheVariants.{Min, Max, Sum, Median, Wsum}
 use Rattle.query_text.specs.declared.stage.Stage.{Stage}
 use Rattle.query_text.specs.declared.stage.Stage.TheVariants as stages
-use Rattle.query_text.specs.declared.limits.TheConstants.{MAX_NUMBER, MAX_WEIGHT}
+use Rattle.limits.specs.declared.TheConstants.{MAX_NUMBER, MAX_WEIGHT}
 
 -- an argument with the digits of its weight
 abbrev pub Argument : Type 0
@@ -235,7 +235,8 @@ abbrev pub reads : Front → List ℕ → List ℕ → Option Shape
 reads front word [] = if is_empty word then shape_at front else (if is_whole (class_of front) word then shape_at (next front word) else None)
 reads front word (byte ∷ text) =
     if begins (class_of front) (word ++ byte ∷ []) then reads front (word ++ byte ∷ []) text
-    else (if is_whole (class_of front) word then (if begins (class_of (next front word)) (byte ∷ []) then reads (next front word) (byte ∷ []) text else None) else None)
+    else (if is_whole (class_of front) word then (if begins (class_of (next front word)) (byte ∷ []) then reads (next front word) (byte
+    ∷ []) text else None) else None)
 
 -- the arguments are well formed, and so are their weights
 abbrev pub AreDone : Operator → List Argument → Type 0

@@ -3,7 +3,7 @@ use Rattle.std.specs.Prelude.{◌≡◌, ◌<◌, ◌≤◌, ℕ, Bool, List, []
 use Rattle.std.specs.List.{flat_map, list_any}
 use Rattle.std.specs.Str.{bytes_eq}
 use Rattle.std.specs.Str.Parse.{digits_value}
-use Rattle.query_text.specs.declared.limits.TheConstants.{MAX_LISTS}
+use Rattle.limits.specs.declared.TheConstants.{MAX_LISTS}
 
 -- fixed text, or a number by its digits with the least and the greatest value that it may have, or the name of a list
 pub data Piece : Type 0 where

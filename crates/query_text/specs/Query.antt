@@ -10,7 +10,7 @@ use Rattle.query_text.specs.Pieces.{each_once}
 use Rattle.query_text.specs.Shape.{Shape, spelled}
 use Rattle.query_text.specs.declared.query.Query.{Query}
 use Rattle.query_text.specs.declared.operator.Operator.TheVariants.{Min, Max, Sum, Median, Wsum}
-use Rattle.query_text.specs.declared.limits.TheConstants.{MAX_NUMBER, MAX_WEIGHT, MAX_LISTS}
+use Rattle.limits.specs.declared.TheConstants.{MAX_LISTS, MAX_NUMBER, MAX_WEIGHT}
 
 -- the name of a list by its number
 abbrev pub name_of : List (List ℕ) → ℕ → List ℕ

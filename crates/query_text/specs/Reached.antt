@@ -88,8 +88,12 @@ pub record IsPieceFault (line : List ℕ) (IsFault : List Piece → Type 0) : Ty
 
 -- the next word of a line, or where none is whole
 abbrev pub WordFound : Course → List ℕ → ℕ → Result ℕ ℕ → Type 0
-WordFound course line at (Ok count) = IsLongest (class_at course.stage (is_open (course_view course).operators)) (drop at line) count × (is_whole (class_at course.stage (is_open (course_view course).operators)) (take count (drop at line)) ≡ true)
-WordFound course line at (Err place) = (count : ℕ) × (place ≡ at + count) × IsLongest (class_at course.stage (is_open (course_view course).operators)) (drop at line) count × (is_whole (class_at course.stage (is_open (course_view course).operators)) (take count (drop at line)) ≡ false)
+WordFound course line at (Ok count) =
+    IsLongest (class_at course.stage (is_open (course_view course).operators)) (drop at line) count
+    × (is_whole (class_at course.stage (is_open (course_view course).operators)) (take count (drop at line)) ≡ true)
+WordFound course line at (Err place) =
+    (count : ℕ) × (place ≡ at + count) × IsLongest (class_at course.stage (is_open (course_view course).operators)) (drop at line) count
+    × (is_whole (class_at course.stage (is_open (course_view course).operators)) (take count (drop at line)) ≡ false)
 
 -- a word is taken into a draft, or is its first fault, or comes behind that
 abbrev pub StepTakes : Stage → Draft → Draft → Option QueryFault → List ℕ → ℕ → Option QueryFault → Type 0

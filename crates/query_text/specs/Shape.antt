@@ -6,7 +6,7 @@ use Rattle.query_text.specs.declared.algorithm.Algorithm.{Algorithm}
 use Rattle.query_text.specs.declared.algorithm.Algorithm.TheVariants.{Ta, Nra, Ca}
 use Rattle.query_text.specs.declared.operator.Operator.{Operator}
 use Rattle.query_text.specs.declared.operator.Operator.TheVariants.{Min, Max, Sum, Median, Wsum}
-use Rattle.query_text.specs.declared.limits.TheConstants.{MAX_NUMBER, MAX_WEIGHT}
+use Rattle.limits.specs.declared.TheConstants.{MAX_NUMBER, MAX_WEIGHT}
 
 -- the word of an algorithm
 abbrev pub algorithm_word : Algorithm → List ℕ

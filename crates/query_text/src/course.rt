@@ -104,9 +104,9 @@ impl Course {
             self.stage = Stage::Behind;
             return Ok(());
         };
-        self.operators
-            .push(operator)
-            .map_err(|_| QueryFault::Memory)?;
+        let Ok(()) = self.operators.push(operator) else {
+            return Err(QueryFault::Memory);
+        };
         self.stage = argument_stage(operator);
         Ok(())
     }

@@ -12,9 +12,9 @@ ghost use Rattle.query_text.specs.Draft.{names_of, Takes, Misses, IsListMissed, 
 use super::algorithm::{Algorithm, algorithm_of};
 use super::fault::QueryFault;
 use super::frame::Frame;
-use super::limits::{MAX_LISTS, MAX_NUMBER, MAX_WEIGHT};
 use super::operator::opened_by;
 use super::stage::Stage;
+use limits::{MAX_LISTS, MAX_NUMBER, MAX_WEIGHT};
 use line_text::number_up_to;
 use monotone_fn::{Costs, Node};
 use std::alloc::Global;
@@ -199,9 +199,9 @@ impl Draft {
         let Some(operator) = opened_by(word) else {
             return self.take_name(alloc, word, at);
         };
-        self.frames
-            .push(Frame::new(alloc, operator))
-            .map_err(|_| QueryFault::Memory)?;
+        let Ok(()) = self.frames.push(Frame::new(alloc, operator)) else {
+            return Err(QueryFault::Memory);
+        };
         Ok(())
     }
 
@@ -217,7 +217,9 @@ impl Draft {
         let node = mem::replace(&mut self.operand, Node::List(0));
         if is_comma(word) {
             frame.add(node)?;
-            self.frames.push(frame).map_err(|_| QueryFault::Memory)?;
+            let Ok(()) = self.frames.push(frame) else {
+                return Err(QueryFault::Memory);
+            };
             return Ok(());
         }
         self.operand = frame.close(node)?;
@@ -234,7 +236,9 @@ impl Draft {
         };
         let mut frame = frame;
         frame.weight = Some(self.weight);
-        self.frames.push(frame).map_err(|_| QueryFault::Memory)?;
+        let Ok(()) = self.frames.push(frame) else {
+            return Err(QueryFault::Memory);
+        };
         Ok(())
     }
 
@@ -271,6 +275,8 @@ fn list_of(alloc: Global, names: &mut Vec<Vec<u8>>, word: &[u8], at: u32) -> Res
     let Ok(name) = Vec::from_slice(alloc, word) else {
         return Err(QueryFault::Memory);
     };
-    names.push(name).map_err(|_| QueryFault::Memory)?;
+    let Ok(()) = names.push(name) else {
+        return Err(QueryFault::Memory);
+    };
     Ok(count as u8)
 }

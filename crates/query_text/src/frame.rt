@@ -47,11 +47,13 @@ impl Frame {
         let weight = self.weight.take();
         if self.operator.is_weighted() {
             let weight = weight.unwrap_or(0);
-            self.terms
-                .push(Term { weight, node })
-                .map_err(|_| QueryFault::Memory)?;
+            let Ok(()) = self.terms.push(Term { weight, node }) else {
+                return Err(QueryFault::Memory);
+            };
         } else {
-            self.nodes.push(node).map_err(|_| QueryFault::Memory)?;
+            let Ok(()) = self.nodes.push(node) else {
+                return Err(QueryFault::Memory);
+            };
         }
         Ok(())
     }
@@ -69,15 +71,17 @@ impl Frame {
         } = self;
         if operator.is_weighted() {
             let weight = weight.unwrap_or(0);
-            terms
-                .push(Term { weight, node })
-                .map_err(|_| QueryFault::Memory)?;
+            let Ok(()) = terms.push(Term { weight, node }) else {
+                return Err(QueryFault::Memory);
+            };
             if terms.len() > MAX_ARGUMENTS {
                 return Err(QueryFault::Memory);
             }
             return Ok(Node::Wsum(Terms::from_vec(terms)));
         }
-        nodes.push(node).map_err(|_| QueryFault::Memory)?;
+        let Ok(()) = nodes.push(node) else {
+            return Err(QueryFault::Memory);
+        };
         if nodes.len() > MAX_ARGUMENTS {
             return Err(QueryFault::Memory);
         }

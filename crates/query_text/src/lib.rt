@@ -17,7 +17,6 @@ mod course;
 mod draft;
 mod fault;
 mod frame;
-mod limits;
 mod names;
 mod operator;
 mod printing;
@@ -29,7 +28,6 @@ mod words;
 
 pub use algorithm::Algorithm;
 pub use fault::QueryFault;
-pub use limits::{MAX_LINE, MAX_NUMBER, MAX_WEIGHT};
 pub use monotone_fn::Costs;
 pub use names::Names;
 pub use printing::{print, put_query};

@@ -13,11 +13,11 @@ ghost use Rattle.monotone_fn.specs.Shape.{NumbersLists};
 use super::course::Course;
 use super::draft::Draft;
 use super::fault::QueryFault;
-use super::limits::{MAX_LINE, MAX_LISTS};
 use super::names::Names;
 use super::query::Query;
 use super::stage::may_end;
 use super::words::{is_whole, longest};
+use limits::{MAX_LINE, MAX_LISTS};
 use monotone_fn::{Expr, ExprFault};
 use std::alloc::Global;
 

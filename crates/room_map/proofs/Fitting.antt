@@ -7,7 +7,8 @@ use Rattle.std.proofs.lemmas.Map.Made.{AllPairs-from_IsDistinct}
 use Rattle.indexmap.proofs.CallerLemmas.{Contains-list_any}
 use Rattle.room_map.specs.Keys.{Keys, FitsRoom}
 
-pub keys_fit : (map : Keys) (room : ℕ) (keys : List ℕ) → (let shown : Keys = record { room = room; keys = keys } in shown ≡ map) → room ≤ 200000 → length keys ≤ room → IsDistinct nat_eq keys → FitsRoom map
+pub keys_fit : (map : Keys) (room : ℕ) (keys : List ℕ) → (let shown : Keys = record { room = room; keys = keys } in shown ≡ map) → room ≤ 200000
+    → length keys ≤ room → IsDistinct nat_eq keys → FitsRoom map
 keys_fit map room keys e few within distinct =
     subst FitsRoom e (record { few = few; within = within; distinct = AllPairs-from_IsDistinct Decides-eqb keys distinct })
 
@@ -19,5 +20,6 @@ absent_test keys key n =
       | inr f ↦ f
     ]
 
-pub goes_last : (keys others : List ℕ) (key : ℕ) → (¬ Contains keys key) → others ≡ cond (list_any (nat_eq key) keys) keys (keys ++ key ∷ []) → others ≡ keys ++ key ∷ []
+pub goes_last : (keys others : List ℕ) (key : ℕ) → (¬ Contains keys key) → others ≡ cond (list_any (nat_eq key) keys) keys (keys ++ key ∷ [])
+    → others ≡ keys ++ key ∷ []
 goes_last keys others key n e = e ∙ ap (λ b. cond b keys (keys ++ key ∷ [])) (absent_test keys key n)

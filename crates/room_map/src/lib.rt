@@ -3,7 +3,7 @@
 
 mod map;
 
-pub use map::{MAX_ROOM, RoomMap};
+pub use map::RoomMap;
 use std::alloc::AllocError;
 
 /// No memory was left.

@@ -8,11 +8,9 @@ ghost use Rattle.room_map.specs.Keys.{FitsRoom};
 
 use super::Memory;
 use indexmap::IndexSet;
+use limits::MAX_OBJECTS;
 use std::alloc::Global;
 use std::marker::Model;
-
-/// How many keys a map may have room for.
-pub const MAX_ROOM: u32 = 200_000;
 
 /// Distinct keys in the order in which they were added, with room for so many. Only `make` and
 /// `widen` take memory. Contracts see it as `Keys`.
@@ -24,6 +22,7 @@ pub struct RoomMap {
 
 impl Model for RoomMap {
     ghost use Rattle.std.specs.Prelude.{◌≤◌, ◌+◌, length, nat_eq};
+    ghost use Rattle.limits.specs.declared.TheConstants.{MAX_OBJECTS};
     ghost use Rattle.room_map.specs.Keys.{Keys};
     ghost use Rattle.indexmap.specs.IndexSet.{spare, IsUnique};
 
@@ -31,7 +30,7 @@ impl Model for RoomMap {
 
     ghost view = { λ a. record { room = a.room; keys = a.keys.keys } };
 
-    ghost invariant = { λ a. (a.room ≤ 200000) × (length a.keys.keys ≤ a.room) × (a.room ≤ length a.keys.keys + spare a.keys) × IsUnique nat_eq a.keys };
+    ghost invariant = { λ a. (a.room ≤ MAX_OBJECTS) × (length a.keys.keys ≤ a.room) × (a.room ≤ length a.keys.keys + spare a.keys) × IsUnique nat_eq a.keys };
 }
 
 /// Adds a key that isn't there as the last one. There is room for it.
@@ -49,7 +48,7 @@ fn put_last(keys: &mut IndexSet<u32>, key: u32)
 impl RoomMap {
     /// A map without keys, with room for `room` of them.
     pub fn make(alloc: Global, room: u32) -> Result<RoomMap, Memory>
-        requires { room ≤ MAX_ROOM }
+        requires { room ≤ MAX_OBJECTS }
         ensures { IfOk result (λ map. map ≡ record { room = room; keys = [] }) }
     {
         let keys = IndexSet::with_capacity(alloc, room as usize)?;
@@ -110,7 +109,7 @@ impl RoomMap {
     /// Makes the room at least `room`, and no less than it was. Where memory is refused nothing has
     /// changed.
     pub fn widen(&mut self, room: u32) -> Result<(), Memory>
-        requires { room ≤ MAX_ROOM }
+        requires { room ≤ MAX_OBJECTS }
         ensures at_least { OnOk result (room ≤ self.new.room) }
         ensures no_less { OnOk result (self.old.room ≤ self.new.room) }
         ensures keys { OnOk result (self.new.keys ≡ self.old.keys) }

@@ -1,4 +1,5 @@
--- Lemmas on told lists, on grades by object, and on counts by place.
+-- Lemmas on told lists, on grades by object, on what is counted, and on counts by place.
+pub mod CountLaws
 pub mod LedgerLaws
 pub mod ShelfLaws
 pub mod ToldLaws

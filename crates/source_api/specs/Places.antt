@@ -8,6 +8,7 @@ use Rattle.source_api.specs.declared.ledger.PlaceCounts.{PlaceCounts}
 use Rattle.source_api.specs.declared.source.Trouble.{Trouble}
 use Rattle.source_api.specs.declared.source.Trouble.TheVariants.{Failed, Garbled, Memory}
 use Rattle.source_api.specs.Counting.{no_counts, added}
+use Rattle.limits.specs.declared.TheConstants.{MAX_LIST_TEXT}
 
 -- nothing counted at a place yet
 abbrev pub nothing_at : PlaceCounts
@@ -68,7 +69,7 @@ put_back_at false counts before = before
 
 -- the most bytes of a text
 abbrev pub text_limit : ℕ
-text_limit = 16777216
+text_limit = MAX_LIST_TEXT
 
 -- one more call for the text of the place failed
 pub record IsTextFault (before now : List Noted) (place : List ℕ) : Type 0 where

@@ -16,9 +16,6 @@ pub use shelf::Shelf;
 pub use source::{Source, Trouble};
 use std::alloc::{AllocError, AllocFailed};
 
-/// The most bytes that the text of a place may have.
-pub const TEXT_LIMIT: u64 = 16_777_216;
-
 /// No memory was left.
 #[derive(Clone, Copy, Debug, PartialEq, Eq)]
 pub struct Memory;

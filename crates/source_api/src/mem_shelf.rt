@@ -8,7 +8,8 @@ ghost use Rattle.source_api.specs.Places.{counts_at, is_known, SameAtEach, SameE
 ghost use Rattle.source_api.specs.Shelved.{Shelved, text_at, source_at};
 ghost use Rattle.source_api.specs.OnShelf.{placed_texts, placed_sources, in_limit, AnswersText, AnswersTake, AfterText, AfterTake};
 
-use super::{Ledger, MemSource, Memory, Shelf, TEXT_LIMIT, Trouble};
+use super::{Ledger, MemSource, Memory, Shelf, Trouble};
+use limits::MAX_LIST_TEXT;
 use std::alloc::Global;
 use std::marker::Model;
 
@@ -206,7 +207,7 @@ fn text_of<'a>(texts: &'a [HeldText], place: &[u8]) -> Option<&'a [u8]>
     ensures { option_map (λ text. text.now) result ≡ option_and_then in_limit (text_at (placed_texts texts.now) place.now) }
 {
     let text = text_held(texts, place)?;
-    if text.len() as u64 <= TEXT_LIMIT {
+    if text.len() as u64 <= MAX_LIST_TEXT {
         Some(text)
     } else {
         None

@@ -1,7 +1,11 @@
 -- What texts in pieces do to their stream.
-use Rattle.std.proofs.Common.{◌≡◌, ℕ, ◌+◌, ◌<◌, ◌≤◌, Bool, true, false, cond, List, [], ◌++◌, Option, Some, None, Result, Ok, Err, OnOk, OnErr, length, take, drop, refl, sym, ap, subst, ◌∙◌, arith, append_assoc, append-nil, length-append, length-drop}
+use Rattle.std.proofs.Common.{◌≡◌, ℕ, ◌+◌, ◌<◌, ◌≤◌, Bool, true, false, cond, List, [], ◌∷◌, ◌++◌, map, Option, Some, None, Result, Ok, Err, OnOk, OnErr, length, take, drop, refl, sym, ap, subst, ◌∙◌, arith, append_assoc, append-nil, length-append, length-drop}
 use Rattle.std.proofs.Math.Seq.{take-add}
-use Rattle.std.proofs.lemmas.List.{take-append-drop, length-take-le, take_all}
+use Rattle.std.specs.List.{flat_map, slice_get}
+use Rattle.std.proofs.lemmas.List.{take-append-drop, length-take-le, take_all, take_more}
+use Rattle.std.proofs.lemmas.List.Folds.{flat_map-map}
+use Rattle.std.proofs.lemmas.Grind.{flat_map-append}
+use Rattle.std.proofs.lemmas.Option.{slice_get_within, get_or_from_slice_get}
 use Rattle.std.proofs.lemmas.Bool.{false≢true}
 use Rattle.std.specs.Result.{is_err}
 use Rattle.std.specs.Io.KnownBytes.{Appends, Keeps}
@@ -71,7 +75,8 @@ goes_all piece held held_now f g waiting now text done goes past =
     )
 
 -- a front of what waits is a front of all
-pub stops_front : (held mid now : Option (List ℕ)) (sent full bytes rest : List ℕ) → Appends held mid sent → bytes ≡ sent ++ full → TookFront mid now full → TookFront held now (bytes ++ rest)
+pub stops_front : (held mid now : Option (List ℕ)) (sent full bytes rest : List ℕ) → Appends held mid sent → bytes ≡ sent ++ full → TookFront mid now full
+    → TookFront held now (bytes ++ rest)
 stops_front held mid now sent full bytes rest passed is front =
     let all : bytes ≡ (sent ++ front.0) ++ front.1 = is ∙ ap (λ xs. sent ++ xs) front.2 ∙ sym (append_assoc sent front.0 front.1) in
     (sent ++ front.0, front.1 ++ rest, ap (λ xs. xs ++ rest) all ∙ append_assoc (sent ++ front.0) front.1 rest, Appends-trans held mid now sent front.0 passed front.3)
@@ -95,7 +100,8 @@ goes_stopped piece held mid now f g h waiting full text done goes is_full more f
     )
 
 -- nothing is put once a write has failed
-pub puts_failed : (piece : ℕ) (held : Option (List ℕ)) (faults : ℕ) (text : List ℕ) → Puts held held faults faults None None text × WaitsWhole piece held held None None text
+pub puts_failed : (piece : ℕ) (held : Option (List ℕ)) (faults : ℕ) (text : List ℕ)
+    → Puts held held faults faults None None text × WaitsWhole piece held held None None text
 unfolding Puts WaitsWhole
 puts_failed piece held faults text = ((refl, refl, refl), tt)
 
@@ -134,6 +140,37 @@ puts_then hb hm hn fb fm fn (Some w) (Some m) (Some n) x y first second =
       ),
       second.1 ∙ first.1,
     )
+
+-- the same text in other words
+pub puts_as : (hb hn : Option (List ℕ)) (fb fn : ℕ) (before now : Option (List ℕ)) (a b : List ℕ) → a ≡ b → Puts hb hn fb fn before now b
+    → Puts hb hn fb fn before now a
+puts_as hb hn fb fn before now a b same puts = subst (Puts hb hn fb fn before now) (sym same) puts
+
+-- one member more was put of a list whose texts are put one after another
+more_text : {X : Type 0} (f : X → List ℕ) (xs : List X) (i : ℕ) (x : X) → slice_get xs i ≡ Some x → flat_map f (take (i + 1) xs) ≡ flat_map f (take i xs) ++ f x
+more_text f xs i x found =
+    ap (flat_map f) (take_more xs i x (slice_get_within xs i x found) ∙ ap (λ y. take i xs ++ y ∷ []) (get_or_from_slice_get xs i x x found))
+    ∙ flat_map-append f (take i xs) (x ∷ []) ∙ ap (λ t. flat_map f (take i xs) ++ t) (append-nil (f x))
+
+pub puts_next : {X : Type 0} (f : X → List ℕ) (xs : List X) (i : ℕ) (x : X) (hb hm hn : Option (List ℕ)) (fb fm fn : ℕ) (before mid now : Option (List ℕ))
+    → slice_get xs i ≡ Some x → Puts hb hm fb fm before mid (flat_map f (take i xs)) → Puts hm hn fm fn mid now (f x)
+    → Puts hb hn fb fn before now (flat_map f (take (i + 1) xs))
+puts_next f xs i x hb hm hn fb fm fn before mid now found first second =
+    puts_as hb hn fb fn before now _ _ (more_text f xs i x found) (puts_then hb hm hn fb fm fn before mid now (flat_map f (take i xs)) (f x) first second)
+
+-- the same where the members are first written as lines or words
+pub puts_next_of : {X Y : Type 0} (f : Y → List ℕ) (g : X
+    → Y) (xs : List X) (i : ℕ) (x : X) (hb hm hn : Option (List ℕ)) (fb fm fn : ℕ) (before mid now : Option (List ℕ))
+    → slice_get xs i ≡ Some x → Puts hb hm fb fm before mid (flat_map f (map g (take i xs))) → Puts hm hn fm fn mid now (f (g x))
+    → Puts hb hn fb fn before now (flat_map f (map g (take (i + 1) xs)))
+puts_next_of f g xs i x hb hm hn fb fm fn before mid now found first second =
+    puts_as hb hn fb fn before now _ _ (flat_map-map f g (take (i + 1) xs))
+    (puts_next (λ y. f (g y)) xs i x hb hm hn fb fm fn before mid now found (puts_as hb hm fb fm before mid _ _ (sym (flat_map-map f g (take i xs))) first) second)
+
+-- and where all were put
+pub puts_all : {X : Type 0} (text : List X → List ℕ) (xs : List X) (i : ℕ) (hb hn : Option (List ℕ)) (fb fn : ℕ) (before now : Option (List ℕ))
+    → length xs ≤ i → Puts hb hn fb fn before now (text (take i xs)) → Puts hb hn fb fn before now (text xs)
+puts_all text xs i hb hn fb fn before now past puts = subst (λ ys. Puts hb hn fb fn before now (text ys)) (take_all i xs past) puts
 
 -- nothing at all is put
 pub puts_none : (held : Option (List ℕ)) (faults : ℕ) (now : Option (List ℕ)) → Puts held held faults faults now now []
@@ -176,7 +213,8 @@ ends_failed T held faults waiting true self e view is = subst (λ s. Ends {T = T
 ends_failed T held faults waiting false self e view is = absurd (false≢true is)
 
 -- the end of one of which none failed
-pub ends_sent : {T E : Type 0} (held held_now : Option (List ℕ)) (faults faults_now : ℕ) (waiting : List ℕ) (failed : Bool) (self : Option (List ℕ)) (result : Result T E)
+pub ends_sent : {T E : Type 0} (held held_now : Option (List ℕ)) (faults faults_now : ℕ) (waiting : List ℕ) (failed : Bool) (self : Option (List ℕ))
+    (result : Result T E)
     → cond failed None (Some waiting) ≡ self → failed ≡ false → OnOk result (Appends held held_now waiting) → OnErr result (TookFront held held_now waiting) → HasCause faults faults_now result
     → Ends held held_now faults faults_now self result
 unfolding Ends
@@ -204,7 +242,8 @@ puts_seen piece held held_now f g before now seen seen_now text is is_now puts =
     subst (λ n. PutsWhole piece held held_now f g seen n text) is_now (subst (λ b. PutsWhole piece held held_now f g b now text) is puts)
 
 -- an error is one
-pub failed_is : {T E : Type 0} (held : Option (List ℕ)) (held_now : Option (List ℕ)) (faults faults_now : ℕ) (bytes : List ℕ) (result : Result T E) → is_err result ≡ true
+pub failed_is : {T E : Type 0} (held : Option (List ℕ)) (held_now : Option (List ℕ)) (faults faults_now : ℕ) (bytes : List ℕ) (result : Result T E)
+    → is_err result ≡ true
     → OnErr result (TookFront held held_now bytes) → HasCause faults faults_now result → TookFront held held_now bytes × (faults ≤ faults_now) × Rose faults faults_now
 failed_is held held_now f g bytes (Ok x) is front cause = absurd (false≢true is)
 failed_is held held_now f g bytes (Err e) is front cause = (front, cause.later, cause.failed)

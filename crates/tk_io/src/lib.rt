@@ -16,6 +16,7 @@ pub use mem_intake::MemIntake;
 pub use mem_sink::MemSink;
 pub use pieces::{PIECE, Pieces};
 pub use sink::Sink;
+use std::alloc::AllocError;
 pub use std_intake::StdIntake;
 pub use std_sink::StdSink;
 pub use whole::{ReadError, read_text, write_text};
@@ -27,3 +28,9 @@ pub struct Failed;
 /// No memory was left.
 #[derive(Clone, Copy, Debug, PartialEq, Eq)]
 pub struct Memory;
+
+impl From<AllocError> for Memory {
+    fn from(_: AllocError) -> Memory {
+        Memory
+    }
+}

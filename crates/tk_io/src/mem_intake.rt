@@ -57,10 +57,10 @@ impl MemIntake {
         }) }
     {
         Ok(MemIntake {
-            bytes: Vec::from_slice(alloc, bytes).map_err(|_| Memory)?,
+            bytes: Vec::from_slice(alloc, bytes)?,
             at: 0,
             piece,
-            fails: Vec::from_slice(alloc, fails).map_err(|_| Memory)?,
+            fails: Vec::from_slice(alloc, fails)?,
             calls: 0,
             faults: 0,
         })

@@ -54,9 +54,9 @@ impl MemSink {
         }) }
     {
         Ok(MemSink {
-            bytes: Vec::with_capacity(alloc, room as usize).map_err(|_| Memory)?,
+            bytes: Vec::with_capacity(alloc, room as usize)?,
             room,
-            fails: Vec::from_slice(alloc, fails).map_err(|_| Memory)?,
+            fails: Vec::from_slice(alloc, fails)?,
             calls: 0,
             faults: 0,
         })

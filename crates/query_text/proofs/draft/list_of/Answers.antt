@@ -1,7 +1,6 @@
 use Rattle.std.proofs.Common.{◌++◌, [], ◌∷◌, refl, sym, ap, ◌∙◌, arith}
 use Rattle.std.specs.List.{position}
 use Rattle.std.specs.Str.{bytes_eq}
-use Rattle.std.proofs.lemmas.Bool.{cond-true}
 use Rattle.std.proofs.lemmas.List.{map-append}
 use Rattle.query_text.specs.Bytes.{bytes_of}
 use Rattle.query_text.proofs.ListLaws.{known_member, known_name, new_member, new_longer}
@@ -27,6 +26,6 @@ pub returns-clause-names : goal.returns-clause-names
 returns-clause-names c =
     let e = new_member c.args.names.now.items c.args.word.now
     (ap (position (λ x. bytes_eq x.items c.args.word.now)) (sym c.deref.ensures.value) ∙ (sym c.place_of.ensures ∙ c.in_default.is)) in
-    ap bytes_of (c.push.ensures.items ∙ cond-true _ _ _ (sym c.in_ok-map_err.ensures.variant))
+    ap bytes_of c.in-Ok-push.ensures.items
     ∙ (map-append (λ x. x.items) c.args.names.now.items (c.in-Ok.name ∷ [])
     ∙ (ap (λ z. bytes_of c.args.names.now.items ++ z ∷ []) c.in-Ok.ensures.items ∙ sym e))

@@ -1,11 +1,12 @@
 use Rattle.std.proofs.Common.{◌∙◌, sym}
-use Rattle.file_source.proofs.RecordLaws.{some_broken, none_of, told_rows_grade}
+use Rattle.ranked_list.proofs.OptionLaws.{none_unless_some}
+use Rattle.file_source.proofs.RecordLaws.{some_broken, told_rows_grade}
 use Rattle.file_source.proofs.file_source.FileSourceSource.grade.Goals as goal
 
 pub returns-then-self-clause-answer : goal.returns-then-self-clause-answer
 returns-then-self-clause-answer c =
     rw (← c.self.view_is) (
-      sym (c.self.invariant.grades c.args.object) ∙ (sym c.get.ensures.value ∙ (sym c.copied-grade.ensures ∙ none_of c.copied-grade.result c.if-is_none.ensures)),
+      sym (c.self.invariant.grades c.args.object) ∙ (sym c.get.ensures.value ∙ (sym c.copied-grade.ensures ∙ none_unless_some c.copied-grade.result c.if-is_none.ensures)),
       some_broken c.self.inside.records.items (sym c.self.invariant.broken ∙ c.if-self.true),
     )
 

@@ -1,5 +1,4 @@
 use Rattle.std.proofs.Common.{refl, sym, subst, ◌∙◌}
-use Rattle.std.proofs.lemmas.Bool.{cond-true}
 use Rattle.monotone_fn.specs.Shown.{tree_of}
 use Rattle.query_text.specs.Draft.{AddsArgument, Closes}
 use Rattle.query_text.proofs.TakeLaws.{takes_comma, takes_close}
@@ -8,7 +7,7 @@ use Rattle.query_text.proofs.draft.Draft.take_behind.Goals as goal
 pub returns-then-is_comma-clause-taken : goal.returns-then-is_comma-clause-taken
 returns-then-is_comma-clause-taken c =
     takes_comma c.args.self.now _ c.pop.new.self.items c.in-Some.frame c.add.new.self c.args.word.now (sym c.is_comma.ensures ∙ c.if-is_comma.true) c.in-Some.ensures.items
-    (c.push.ensures.items ∙ cond-true _ _ _ (sym c.in_ok-map_err.ensures.variant))
+    c.in-Ok.ensures.items
     (subst (λ n. AddsArgument c.in-Some.frame c.add.new.self (tree_of n)) c.replace-node.ensures.value c.in_ok-add.ensures.ok)
     refl refl c.replace-node.ensures.after refl c.requires
 

@@ -1,0 +1,47 @@
+//! The limits of topk, each stated once: every other crate cites them from here.
+#![tactic(auto)]
+
+/// The most objects, and so the most rows of a list.
+pub const MAX_OBJECTS: u32 = 200_000;
+
+/// The greatest grade. The least is 0.
+pub const TOP_GRADE: u32 = 1_000_000;
+
+/// The most lists of a bundle.
+pub const MAX_BUNDLE_LISTS: usize = 64;
+
+/// The most bytes of an input.
+pub const MAX_INPUT: u64 = 134_217_728;
+
+/// The most bytes of a list's file.
+pub const MAX_LIST_TEXT: u64 = 16_777_216;
+
+/// The most lists of a query.
+pub const MAX_LISTS: usize = 8;
+
+/// The most nodes of an expression.
+pub const MAX_NODES: usize = 64;
+
+/// The deepest nesting of an expression. A list alone has depth 1.
+pub const MAX_DEPTH: usize = 8;
+
+/// The greatest value that a node of an expression may reach.
+pub const MAX_VALUE: u64 = 0x7fff_ffff_ffff_ffff;
+
+/// The greatest weight. The least is 0.
+pub const MAX_WEIGHT: u64 = 0x7fff_ffff_ffff_ffff;
+
+/// The most bytes of a query line.
+pub const MAX_LINE: u32 = 4096;
+
+/// The greatest k, cost and room. The least is 1.
+pub const MAX_NUMBER: u32 = 1_000_000;
+
+/// The greatest number that a table is made from. The least is 0.
+pub const MAX_START: u64 = 0x7fff_ffff_ffff_ffff;
+
+/// The most sources of a catalog.
+pub const MAX_SOURCES: u32 = 64;
+
+/// The most query lines that are asked at once.
+pub const MAX_QUERIES: u64 = 64;
