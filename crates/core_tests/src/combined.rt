@@ -1,10 +1,11 @@
 //! Queries by the combined algorithm, worked out by hand.
 
-use super::driver::{Lists, answer_to};
+use super::driver::answer_to;
 use access_log::{Access, Answer};
 use std::alloc::Global;
 use std::process::Abort;
 use std::test::Fail;
+use test_support::Lists;
 
 const THREE: Lists<'static> = &[
     &[(1, 900), (2, 800), (3, 100)],

@@ -15,9 +15,7 @@ use std::alloc::Global;
 use std::process::Abort;
 use std::test::Fail;
 use ta_core::Ta;
-
-/// The lists of a query, each a list of objects and grades.
-pub(crate) type Lists<'a> = &'a [&'a [(u32, u32)]];
+use test_support::Lists;
 
 /// A machine that is driven.
 pub(crate) trait Driven: Sized {

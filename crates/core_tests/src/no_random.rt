@@ -1,9 +1,10 @@
 //! Queries by the algorithm without random access, worked out by hand.
 
-use super::driver::{Lists, answer_to};
+use super::driver::answer_to;
 use access_log::{Access, Answer, Transcript};
 use std::process::Abort;
 use std::test::Fail;
+use test_support::Lists;
 
 const THREE: Lists<'static> = &[
     &[(1, 900), (2, 800), (3, 100)],

@@ -1,8 +1,9 @@
 //! Rows that are one object too many, for each algorithm.
 
-use super::driver::{Lists, run};
+use super::driver::run;
 use access_log::CoreFault;
 use std::test::Fail;
+use test_support::Lists;
 
 const THREE: Lists<'static> = &[
     &[(1, 900), (2, 800), (3, 100)],

@@ -1,11 +1,12 @@
 //! Queries by the threshold algorithm, worked out by hand.
 
-use super::driver::{Lists, answer_to};
+use super::driver::answer_to;
 use access_log::{Access, Transcript};
 use monotone_fn::Costs;
 use ranked_list::Items;
 use std::process::Abort;
 use std::test::Fail;
+use test_support::Lists;
 
 const THREE: Lists<'static> = &[
     &[(1, 900), (2, 800), (3, 100)],

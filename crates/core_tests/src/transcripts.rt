@@ -9,22 +9,7 @@ use query_text::read;
 use std::alloc::Global;
 use std::process::Abort;
 use std::test::Fail;
-
-const fn sorted(list: u8, object: u32, grade: u32) -> Access {
-    Access::Sorted {
-        list,
-        object,
-        grade,
-    }
-}
-
-const fn random(list: u8, object: u32, grade: u32) -> Access {
-    Access::Random {
-        list,
-        object,
-        grade,
-    }
-}
+use test_support::{random, sorted};
 
 /// Two accesses of two lists of `count` objects are taken, and the third is refused as this kind,
 /// or taken where it is 0.

@@ -3,6 +3,7 @@
 ghost use Rattle.std.specs.Prelude.{◌≡◌, ◌<◌, ◌≤◌, length};
 
 use indexed_heap::{IndexedHeap, Memory};
+use limits::MAX_OBJECTS;
 use std::alloc::Global;
 use std::process::Abort;
 
@@ -37,7 +38,7 @@ fn try_heap(
     room: u32,
     rows: &[(Change, Answer)],
 ) -> Result<(), Memory>
-    requires { room ≤ 200000 }
+    requires { room ≤ MAX_OBJECTS }
 {
     let mut heap: IndexedHeap<u32> = IndexedHeap::make(alloc, room)?;
     for &((key, rank), wanted) in rows {

@@ -1,22 +1,8 @@
 //! Tables and what is none.
 
-use ranked_list::{MemList, Row, is_table};
-use std::alloc::Global;
+use ranked_list::is_table;
 use std::test::Fail;
-
-/// A list of these rows, as pairs of object and grade.
-fn list_of(alloc: Global, rows: &[(u32, u32)]) -> Result<MemList, Fail> {
-    let mut list = MemList::make(alloc);
-    for (object, grade) in rows {
-        if list.len() < 100 {
-            list.push(Row {
-                object: *object,
-                grade: *grade,
-            })?;
-        }
-    }
-    Ok(list)
-}
+use test_support::list_of;
 
 #[test]
 fn tells_tables(rt: HostRuntime) -> Result<(), Fail> {

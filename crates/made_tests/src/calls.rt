@@ -2,8 +2,10 @@
 
 use std::alloc::Global;
 use std::test::Fail;
+use test_support::words_of;
 use tk_io::{MemIntake, MemSink, Sink};
-use topk_top::{Status, Words, top};
+use top_support::end_of;
+use topk_top::{Status, top};
 
 /// The sections of the table of 2 lists over 4 objects that is made from 7.
 const MADE: &str =
@@ -13,17 +15,6 @@ const QUERY: &str = "query top 1 by sum(l1,l2) using ta\n";
 
 const CERTIFICATE: &str =
     "certificate 1\nquery top 1 by sum(l1,l2) using ta\ncount 4\nanswer 4 1333161 1333161\nstop depth 2 sorted 4 random 3 cost 7\ns l1 3 854807\ns l2 4 615073\nr l2 3 188999\nr l1 4 718088\ns l1 4 718088\ns l2 2 256922\nr l1 2 261179\nend\n";
-
-/// The words of a command line.
-fn words_of(alloc: Global, texts: &[&str]) -> Result<Words, Fail> {
-    let mut words = Words::make(alloc);
-    for text in texts {
-        if words.len() < 12 {
-            words.push(text)?;
-        }
-    }
-    Ok(words)
-}
 
 /// How `make` ends for that table where its input can't be read and the calls of `fails` can't write,
 /// and what it writes.
@@ -40,13 +31,9 @@ fn made(alloc: Global, fails: &[u64]) -> Result<(Status, MemSink), Fail> {
 
 /// How `one` ends on an input of two parts, and what it writes.
 fn answered(alloc: Global, lists: &[u8], query: &str) -> Result<(Status, MemSink), Fail> {
-    let words = words_of(alloc, &["one"])?;
     let mut text = Vec::from_slice(alloc, lists)?;
     text.extend_from_slice(query.as_bytes())?;
-    let mut input = MemIntake::make(alloc, &text, 50, &[])?;
-    let mut out = MemSink::make(alloc, 1000, &[])?;
-    let status = top(alloc, &words, &mut input, &mut out);
-    Ok((status, out))
+    Ok(end_of(alloc, &["one"], &text, 1000)?)
 }
 
 #[test]

@@ -1,18 +1,13 @@
 //! The words of `make`.
 
-use command_words::{Command, MakeOptions, Words, WordsFault, read_command};
+use command_words::{Command, MakeOptions, WordsFault, read_command};
 use std::alloc::Global;
 use std::test::Fail;
+use test_support::words_of;
 
 /// What `make` with these words is read as.
 fn made_of(alloc: Global, texts: &[&str]) -> Result<Result<Command, WordsFault>, Fail> {
-    let mut words = Words::make(alloc);
-    words.push("make")?;
-    for text in texts {
-        if words.len() < 12 {
-            words.push(text)?;
-        }
-    }
+    let words = words_of(alloc, &[&["make"], texts].concat(alloc)?)?;
     Ok(read_command(alloc, &words))
 }
 

@@ -1,12 +1,12 @@
 //! Bounds of objects.
 
-use super::tables::{random, sorted};
+use limits::TOP_GRADE;
 use plain_run::{high, low};
 use query_text::read;
-use ranked_list::TOP_GRADE;
 use std::alloc::Global;
 use std::process::Abort;
 use std::test::Fail;
+use test_support::{random, sorted};
 use topk_theory::Access;
 
 /// The bounds of an object by sum.

@@ -1,12 +1,13 @@
 //! The combined algorithm.
 
-use super::tables::{Case, Lists, THREE, check_posed, item, random, sorted, table_of};
+use super::tables::{Case, THREE, check_posed};
 use plain_run::{ca_answer, ca_depth, ca_run};
 use query_text::{Query, read};
 use ranked_list::MemList;
 use std::alloc::Global;
 use std::process::Abort;
 use std::test::Fail;
+use test_support::{Lists, item, random, sorted, table_of};
 
 /// Each list has another object at its top, all with one grade.
 const TOPS: Lists<'static> = &[

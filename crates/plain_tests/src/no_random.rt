@@ -1,12 +1,13 @@
 //! The algorithm without random access.
 
-use super::tables::{Case, Lists, THREE, check_posed, item, sorted, table_of};
+use super::tables::{Case, THREE, check_posed};
 use plain_run::{nra_answer, nra_depth, nra_run};
 use query_text::{Query, read};
 use ranked_list::MemList;
 use std::alloc::Global;
 use std::process::Abort;
 use std::test::Fail;
+use test_support::{Lists, item, sorted, table_of};
 
 /// The best object by sum is known before its aggregate is.
 const OPEN: Lists<'static> = &[

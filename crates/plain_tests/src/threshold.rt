@@ -1,12 +1,13 @@
 //! The threshold algorithm.
 
-use super::tables::{Case, Lists, THREE, check_posed, item, random, sorted, table_of};
+use super::tables::{Case, THREE, check_posed};
 use plain_run::{aggregate, ta_answer, ta_depth, ta_run};
 use query_text::{Query, read};
 use ranked_list::MemList;
 use std::alloc::Global;
 use std::process::Abort;
 use std::test::Fail;
+use test_support::{Lists, item, random, sorted, table_of};
 
 const ALIKE: Lists<'static> = &[
     &[(3, 5), (1, 5), (4, 5), (2, 5)],

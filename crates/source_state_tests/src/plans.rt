@@ -1,7 +1,8 @@
 //! What is fetched next.
 
 use super::steps::{Step, apply_all};
-use source_state::{FailKind, MAX_COUNT, Plan, SourceState, reach};
+use limits::MAX_OBJECTS;
+use source_state::{FailKind, Plan, SourceState, reach};
 use std::alloc::Global;
 use std::test::Fail;
 
@@ -95,7 +96,7 @@ fn plan_after(
     page: u32,
     ahead: u32,
 ) -> Result<Plan, Fail> {
-    if count > MAX_COUNT || page == 0 || page > 10_000 || ahead > 100 {
+    if count > MAX_OBJECTS || page == 0 || page > 10_000 || ahead > 100 {
         return Err("no such page".into());
     }
     let Ok(mut state) = SourceState::open(alloc, 7, count) else {

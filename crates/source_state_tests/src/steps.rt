@@ -1,11 +1,9 @@
 //! Events as plain data, applied where they may come.
 
-ghost use Rattle.std.specs.Prelude.{◌≡◌, ◌<◌, ◌^◌, length, IfOk};
-
-use ranked_list::{PageRows, Row};
 use source_state::{Applied, Asked, Event, FailKind, SourceState};
 use std::alloc::Global;
 use std::test::Fail;
+use test_support::page_of;
 
 /// An event as plain data. A page has objects with their grades.
 #[derive(Clone, Copy)]
@@ -16,21 +14,6 @@ pub enum Step {
     Grade(u32, u32),
     Miss(u32),
     Fail(FailKind),
-}
-
-/// The rows of a page.
-fn page_of(alloc: Global, pairs: &[(u32, u32)]) -> Result<PageRows, Fail>
-    requires { length pairs.now < 2 ^ 32 }
-    ensures { IfOk result (λ page. length page ≡ length pairs.now) }
-{
-    let mut rows = Vec::new(alloc);
-    for pair in pairs {
-        rows.push(Row {
-            object: pair.0,
-            grade: pair.1,
-        })?;
-    }
-    Ok(PageRows::from_vec(rows))
 }
 
 /// Applies a page where it may come.

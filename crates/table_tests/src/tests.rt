@@ -9,9 +9,10 @@ use ranked_list::{Item, MemList, is_table, read_bundle};
 use std::alloc::Global;
 use std::process::Abort;
 use std::test::Fail;
-use tk_io::{MemIntake, MemSink};
+use test_support::{Numbers, shuffled};
+use top_support::end_of;
 use topk_theory::Access;
-use topk_top::{Status, Words, top};
+use topk_top::Status;
 
 /// The names of the lists, in the order in which each expression names them.
 const NAMES: [&str; 3] = ["A", "B", "C"];
@@ -27,36 +28,6 @@ const EXPRESSIONS: [(usize, &str); 8] = [
     (3, "median(A,B,C)"),
     (3, "min(sum(A,B),C)"),
 ];
-
-/// Numbers that look random: those of the generator of Lehmer with Park and Miller's factor.
-#[derive(Drop)]
-struct Numbers {
-    state: u64,
-}
-
-impl Numbers {
-    fn below(&mut self, bound: u32) -> u32
-        requires { 0 < bound }
-        ensures { result < bound }
-    {
-        self.state = self.state % 2_147_483_647 * 48_271 % 2_147_483_647;
-        (self.state % u64::from(bound)) as u32
-    }
-}
-
-/// The objects from 1 on in a random order.
-fn shuffled(alloc: Global, numbers: &mut Numbers, count: u32) -> Result<Vec<u32>, Fail> {
-    let mut objects = Vec::new(alloc);
-    for object in 0..count {
-        let place = numbers.below(object + 1) as usize;
-        objects.push(object)?;
-        let last = objects.len() - 1;
-        if place < last {
-            objects.swap(place, last);
-        }
-    }
-    Ok(objects)
-}
 
 /// The lines of a list whose grades fall from a few on, often by 0.
 fn list_lines(
@@ -204,19 +175,15 @@ fn try_table(
 ) -> Result<(), Fail> {
     let input = bundle_of(alloc, numbers, lists, count, text)?;
     let wanted = expected(rt, alloc, &input, text, count)?;
-    let mut words = Words::make(alloc);
-    words.push("one")?;
-    let mut intake = MemIntake::make(alloc, input.as_bytes(), 100, &[])?;
-    let mut sink = MemSink::make(alloc, 2000, &[])?;
-    let status = top(alloc, &words, &mut intake, &mut sink);
+    let (status, out) = end_of(alloc, &["one"], input.as_bytes(), 2000)?;
     assert_eq!(rt; status, Status::Done, "{input}");
-    assert_eq!(rt; sink.taken(), wanted.as_bytes(), "{input}");
+    assert_eq!(rt; out.taken(), wanted.as_bytes(), "{input}");
     Ok(())
 }
 
 /// Each expression, with each number of objects and of answers up to four, on random tables.
 fn try_tables(rt: &impl Abort, alloc: Global, algorithm: &str) -> Result<(), Fail> {
-    let mut numbers = Numbers { state: 1 };
+    let mut numbers = Numbers::from_start(1);
     for (lists, expression) in EXPRESSIONS {
         for count in 1..5 {
             for k in 1..count + 1 {

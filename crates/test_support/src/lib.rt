@@ -1,0 +1,52 @@
+//! What the tests of several crates are made of: lists, accesses, words and numbers.
+#![tactic(auto)]
+
+mod accesses;
+mod lists;
+mod numbers;
+mod words;
+
+pub use accesses::{item, random, sorted};
+pub use lists::{Lists, list_of, page_of, table_of};
+pub use numbers::{Numbers, shuffled};
+use std::alloc::{AllocError, AllocFailed};
+pub use words::words_of;
+
+/// Why a value wasn't made. Nothing is left out of a value that was made.
+#[derive(Clone, Copy, Debug, PartialEq, Eq)]
+pub enum Unmade {
+    /// There is more than the value may hold.
+    TooMany,
+    /// No memory was left.
+    Memory,
+}
+
+impl From<AllocError> for Unmade {
+    fn from(_: AllocError) -> Unmade {
+        Unmade::Memory
+    }
+}
+
+impl<T: Drop> From<AllocFailed<T>> for Unmade {
+    fn from(_: AllocFailed<T>) -> Unmade {
+        Unmade::Memory
+    }
+}
+
+impl From<command_words::Memory> for Unmade {
+    fn from(_: command_words::Memory) -> Unmade {
+        Unmade::Memory
+    }
+}
+
+impl From<ranked_list::Memory> for Unmade {
+    fn from(_: ranked_list::Memory) -> Unmade {
+        Unmade::Memory
+    }
+}
+
+impl From<tk_io::Memory> for Unmade {
+    fn from(_: tk_io::Memory) -> Unmade {
+        Unmade::Memory
+    }
+}
