@@ -2,13 +2,14 @@
 """How long queries over made tables take: a table of accesses, seconds, and seconds per million accesses.
 
 Use, with a built ./topk:  bench/bench.py [--lists 2,4,8] [--counts 2000,20000,200000]
-    [--operators sum,min,median] [--algorithms ta,nra] [--rounds 3] [--timeout 120]
+    [--operators sum,min,median] [--algorithms ta,nra,ca] [--costs 1,10] [--rounds 3] [--timeout 120]
 
 Each table is made by `topk make` from the same number, and each query asks by `topk one` for the first 10
-objects. Seconds are those of the processor, the least of the rounds, without the time that reading the
-bundle takes, which is measured by a query that names no list of it. Tables of fewer than 20,000 rows get
-as many more rounds as they are smaller. The memory is the process's at its most. Of an algorithm the
-greater tables are left out once a query took longer than the timeout.
+objects; the combined algorithm, `ca`, follows the costs of a sorted and of a random access. Seconds are those
+of the processor, the least of the rounds, without the time that reading the bundle takes, which is measured by
+a query that names no list of it. Tables of fewer than 20,000 rows get as many more rounds as they are smaller.
+The memory is the process's at its most. Of an algorithm the greater tables are left out once a query took
+longer than the timeout.
 """
 
 import argparse
@@ -74,14 +75,20 @@ def accesses(text):
     return None
 
 
-def write_bundle(path, table, query):
+def write_bundle(path, table, text):
     with open(path, "wb") as bundle:
-        bundle.write(table + f"query {query}\n".encode())
+        bundle.write(table + f"query {text}\n".encode())
 
 
 def made_table(count, lists):
     words = [PROGRAM, "make", "--start", str(START), "--count", str(count), "--lists", str(lists)]
     return subprocess.run(words, stdout=subprocess.PIPE, check=True).stdout
+
+
+def query(k, expression, algorithm, costs):
+    """A query's text. Only the combined algorithm follows the costs."""
+    told = f" cost {costs[0]} {costs[1]}" if algorithm == "ca" else ""
+    return f"top {k} by {expression} using {algorithm}{told}"
 
 
 def row(cells):
@@ -100,7 +107,7 @@ def measure(arguments, folder, lists, count, slow):
         for operator in arguments.operators:
             if (algorithm, operator, lists) in slow:
                 continue
-            write_bundle(path, table, f"top {min(K, count)} by {operator}({names}) using {algorithm}")
+            write_bundle(path, table, query(min(K, count), f"{operator}({names})", algorithm, arguments.costs))
             best = fastest(path, rounds, arguments.timeout)
             cells = [algorithm, operator, str(lists), str(count)]
             if best is None:
@@ -128,7 +135,8 @@ def main():
     parser.add_argument("--lists", type=numbers, default=[2, 4, 8])
     parser.add_argument("--counts", type=numbers, default=[2_000, 20_000, 200_000])
     parser.add_argument("--operators", type=words, default=["sum", "min", "median"])
-    parser.add_argument("--algorithms", type=words, default=["ta", "nra"])
+    parser.add_argument("--algorithms", type=words, default=["ta", "nra", "ca"])
+    parser.add_argument("--costs", type=numbers, default=[1, 10])
     parser.add_argument("--rounds", type=int, default=3)
     parser.add_argument("--timeout", type=int, default=120)
     arguments = parser.parse_args()

@@ -12,14 +12,11 @@ use Rattle.topk_theory.specs.Consistent.{SomeAgrees}
 use Rattle.topk_theory.proofs.AgreementLists.{slice_get_in_range, slice_get_reads}
 use Rattle.topk_theory.proofs.Agreement.{known_grade_given, known_grade_other_object, known_grade_other_list}
 use Rattle.indexed_heap.specs.Ranks.{rank_at}
+use Rattle.ranked_list.proofs.OptionLaws.{option_cases}
 use Rattle.access_log.specs.Kept.{is_read, grade_ahead, heap_at, AreAhead, AreWider, HaveRoom}
 use Rattle.access_log.proofs.RecordKept.{read_after, read_random, read_other_list, read_other_object}
 
 -- the object at a place of the names
-pub at_cases : (o : Option ℕ) → (o ≡ None) ⊎ ((x : ℕ) × (o ≡ Some x))
-at_cases None = inl refl
-at_cases (Some x) = inr (x, refl)
-
 ahead_other_object : (A : List Access) (a : Access) (object list : ℕ) → object_of a ≢ object → grade_ahead (A ++ a ∷ []) object list ≡ grade_ahead A object list
 ahead_other_object A a object list n =
     ap (λ b. cond b None (known_grade (A ++ a ∷ []) object list)) (read_other_object A a object list n)
@@ -42,20 +39,27 @@ apart names p q x y d e f n = λ same.
     less a b l k = omega arith
 
 -- in the other lists, and in this one at the other places, the grades ahead stay
-other_lists : (A : List Access) (a : Access) (list : ℕ) (o : Option ℕ) → list_of a ≢ list → option_and_then (λ object. grade_ahead A object list) o ≡ option_and_then (λ object. grade_ahead (A ++ a ∷ []) object list) o
+other_lists : (A : List Access) (a : Access) (list : ℕ) (o : Option ℕ) → list_of a ≢ list
+    → option_and_then (λ object. grade_ahead A object list) o ≡ option_and_then (λ object. grade_ahead (A ++ a ∷ []) object list) o
 other_lists A a list None n = refl
 other_lists A a list (Some object) n = sym (ahead_other_list A a object list n)
 
-other_places : (A : List Access) (a : Access) (names : List ℕ) (place at : ℕ) → AllPairs (λ (x : ℕ) (y : ℕ). x ≢ y) names → slice_get names place ≡ Some (object_of a) → place ≢ at → option_and_then (λ object. grade_ahead A object (list_of a)) (slice_get names at) ≡ option_and_then (λ object. grade_ahead (A ++ a ∷ []) object (list_of a)) (slice_get names at)
+other_places : (A : List Access) (a : Access) (names : List ℕ) (place at : ℕ) → AllPairs (λ (x : ℕ) (y : ℕ). x ≢ y) names
+    → slice_get names place ≡ Some (object_of a) → place ≢ at
+    → option_and_then (λ object. grade_ahead A object (list_of a))
+    (slice_get names at) ≡ option_and_then (λ object. grade_ahead (A ++ a ∷ []) object (list_of a)) (slice_get names at)
 other_places A a names place at d e n =
-    elim (at_cases (slice_get names at)) [
+    elim (option_cases (slice_get names at)) [
       | inl none ↦ ap (option_and_then (λ object. grade_ahead A object (list_of a))) none ∙ sym (ap (option_and_then (λ object. grade_ahead (A ++ a ∷ []) object (list_of a))) none)
       | inr some ↦ ap (option_and_then (λ object. grade_ahead A object (list_of a))) some.1
           ∙ sym (ahead_other_object A a some.0 (list_of a) (apart names place at (object_of a) some.0 d e some.1 n))
           ∙ sym (ap (option_and_then (λ object. grade_ahead (A ++ a ∷ []) object (list_of a))) some.1)
     ]
 
-in_list : (m : ℕ) (A : List Access) (a : Access) (names : List ℕ) (heap : List (Option ℕ)) (place : ℕ) (v : Option ℕ) (at : ℕ) → place < length heap → AllPairs (λ (x : ℕ) (y : ℕ). x ≢ y) names → slice_get names place ≡ Some (object_of a) → v ≡ grade_ahead (A ++ a ∷ []) (object_of a) (list_of a) → ((q : ℕ) → rank_at heap q ≡ option_and_then (λ object. grade_ahead A object (list_of a)) (slice_get names q)) → rank_at (slice_set heap place v) at ≡ option_and_then (λ object. grade_ahead (A ++ a ∷ []) object (list_of a)) (slice_get names at)
+in_list : (m : ℕ) (A : List Access) (a : Access) (names : List ℕ) (heap : List (Option ℕ)) (place : ℕ) (v : Option ℕ) (at : ℕ) → place < length heap
+    → AllPairs (λ (x : ℕ) (y : ℕ). x ≢ y) names → slice_get names place ≡ Some (object_of a) → v ≡ grade_ahead (A ++ a ∷ []) (object_of a) (list_of a)
+    → ((q : ℕ) → rank_at heap q ≡ option_and_then (λ object. grade_ahead A object (list_of a)) (slice_get names q))
+    → rank_at (slice_set heap place v) at ≡ option_and_then (λ object. grade_ahead (A ++ a ∷ []) object (list_of a)) (slice_get names at)
 in_list m A a names heap place v at p d e f h =
     elim (cases_eq place at) [
       | inl same ↦ subst (λ q. rank_at (slice_set heap place v) q ≡ option_and_then (λ object. grade_ahead (A ++ a ∷ []) object (list_of a)) (slice_get names q)) same
@@ -64,7 +68,10 @@ in_list m A a names heap place v at p d e f h =
     ]
 
 -- no grade ahead is set where that of the access's object stays
-pub ahead_stays : (m : ℕ) (A : List Access) (a : Access) (names : List ℕ) (heaps : List (List (Option ℕ))) (place : ℕ) → AllPairs (λ (x : ℕ) (y : ℕ). x ≢ y) names → slice_get names place ≡ Some (object_of a) → grade_ahead A (object_of a) (list_of a) ≡ grade_ahead (A ++ a ∷ []) (object_of a) (list_of a) → AreAhead m A names heaps → AreAhead m (A ++ a ∷ []) names heaps
+pub ahead_stays : (m : ℕ) (A : List Access) (a : Access) (names : List ℕ) (heaps : List (List (Option ℕ))) (place : ℕ)
+    → AllPairs (λ (x : ℕ) (y : ℕ). x ≢ y) names → slice_get names place ≡ Some (object_of a)
+    → grade_ahead A (object_of a) (list_of a) ≡ grade_ahead (A ++ a ∷ []) (object_of a) (list_of a) → AreAhead m A names heaps
+    → AreAhead m (A ++ a ∷ []) names heaps
 ahead_stays m A a names heaps place d e f h = record {
   sized = h.sized;
   grades = λ list at k. h.grades list at k ∙ elim (cases_eq (list_of a) list) [
@@ -83,20 +90,25 @@ pub ahead_read : (A : List Access) (a : Access) → is_sorted a ≡ true → Non
 ahead_read A (Sorted list object grade) t = sym (ap (λ b. cond b None (known_grade (A ++ Sorted list object grade ∷ []) object list)) (read_after A list object grade))
 ahead_read A (Random list object grade) t = absurd (true≢false (sym t))
 
-pub ahead_known : (m n : ℕ) (A : List Access) (a : Access) → is_sorted a ≡ false → SomeAgrees m n (A ++ a ∷ []) → is_read A (object_of a) (list_of a) ≡ false → Some (grade_of a) ≡ grade_ahead (A ++ a ∷ []) (object_of a) (list_of a)
+pub ahead_known : (m n : ℕ) (A : List Access) (a : Access) → is_sorted a ≡ false → SomeAgrees m n (A ++ a ∷ []) → is_read A (object_of a) (list_of a) ≡ false
+    → Some (grade_of a) ≡ grade_ahead (A ++ a ∷ []) (object_of a) (list_of a)
 ahead_known m n A (Sorted list object grade) t some f = absurd (true≢false t)
 ahead_known m n A (Random list object grade) t some f =
     sym (ap (λ b. cond b None (known_grade (A ++ Random list object grade ∷ []) object list)) (read_random A list object grade object list ∙ f)
     ∙ known_grade_given m n some.0 A (Random list object grade) some.1)
 
-pub ahead_was_read : (A : List Access) (a : Access) → is_sorted a ≡ false → is_read A (object_of a) (list_of a) ≡ true → grade_ahead A (object_of a) (list_of a) ≡ grade_ahead (A ++ a ∷ []) (object_of a) (list_of a)
+pub ahead_was_read : (A : List Access) (a : Access) → is_sorted a ≡ false → is_read A (object_of a) (list_of a) ≡ true
+    → grade_ahead A (object_of a) (list_of a) ≡ grade_ahead (A ++ a ∷ []) (object_of a) (list_of a)
 ahead_was_read A (Sorted list object grade) t r = absurd (true≢false t)
 ahead_was_read A (Random list object grade) t r =
     ap (λ b. cond b None (known_grade A object list)) r
     ∙ sym (ap (λ b. cond b None (known_grade (A ++ Random list object grade ∷ []) object list)) (read_random A list object grade object list ∙ r))
 
 -- one grade ahead is set, that of the access's object in its list
-pub ahead_set : (m : ℕ) (A : List Access) (a : Access) (names : List ℕ) (heaps : List (List (Option ℕ))) (place : ℕ) (v : Option ℕ) → list_of a < length heaps → place < length (heap_at heaps (list_of a)) → AllPairs (λ (x : ℕ) (y : ℕ). x ≢ y) names → slice_get names place ≡ Some (object_of a) → v ≡ grade_ahead (A ++ a ∷ []) (object_of a) (list_of a) → AreAhead m A names heaps → AreAhead m (A ++ a ∷ []) names (slice_set heaps (list_of a) (slice_set (heap_at heaps (list_of a)) place v))
+pub ahead_set : (m : ℕ) (A : List Access) (a : Access) (names : List ℕ) (heaps : List (List (Option ℕ))) (place : ℕ) (v : Option ℕ) → list_of a < length heaps
+    → place < length (heap_at heaps (list_of a)) → AllPairs (λ (x : ℕ) (y : ℕ). x ≢ y) names → slice_get names place ≡ Some (object_of a)
+    → v ≡ grade_ahead (A ++ a ∷ []) (object_of a) (list_of a) → AreAhead m A names heaps
+    → AreAhead m (A ++ a ∷ []) names (slice_set heaps (list_of a) (slice_set (heap_at heaps (list_of a)) place v))
 ahead_set m A a names heaps place v l p d e f h =
     let heap : List (Option ℕ) = heap_at heaps (list_of a) in
     record {
@@ -116,7 +128,10 @@ at_any [] i d e l = absurd (omega arith)
 at_any (x ∷ xs) zero d e l = refl
 at_any (x ∷ xs) (suc i) d e l = at_any xs i d e (omega arith)
 
-pub ahead_written : (m : ℕ) (A : List Access) (a : Access) (names : List ℕ) (heaps : List (List (Option ℕ))) (list place : ℕ) (v : Option ℕ) (heap d now : List (Option ℕ)) → list ≡ list_of a → heap ≡ slice_index_or heaps list d → now ≡ slice_set heap place v → list_of a < length heaps → place < length (heap_at heaps (list_of a)) → AllPairs (λ (x : ℕ) (y : ℕ). x ≢ y) names → slice_get names place ≡ Some (object_of a) → v ≡ grade_ahead (A ++ a ∷ []) (object_of a) (list_of a) → AreAhead m A names heaps → AreAhead m (A ++ a ∷ []) names (slice_set heaps list now)
+pub ahead_written : (m : ℕ) (A : List Access) (a : Access) (names : List ℕ) (heaps : List (List (Option ℕ))) (list place : ℕ) (v : Option ℕ)
+    (heap d now : List (Option ℕ)) → list ≡ list_of a → heap ≡ slice_index_or heaps list d → now ≡ slice_set heap place v → list_of a < length heaps
+    → place < length (heap_at heaps (list_of a)) → AllPairs (λ (x : ℕ) (y : ℕ). x ≢ y) names → slice_get names place ≡ Some (object_of a)
+    → v ≡ grade_ahead (A ++ a ∷ []) (object_of a) (list_of a) → AreAhead m A names heaps → AreAhead m (A ++ a ∷ []) names (slice_set heaps list now)
 ahead_written m A a names heaps list place v heap d now e f g l p q r s h =
     let same : heap ≡ heap_at heaps (list_of a) = f ∙ ap (λ k. slice_index_or heaps k d) e ∙ at_any heaps (list_of a) d [] l in
     subst (λ hs. AreAhead m (A ++ a ∷ []) names hs)
@@ -124,7 +139,8 @@ ahead_written m A a names heaps list place v heap d now e f g l p q r s h =
     (ahead_set m A a names heaps place v l p q r s h)
 
 -- wider heaps
-pub ahead_wider : (m : ℕ) (A : List Access) (names : List ℕ) (heaps wider : List (List (Option ℕ))) → AreWider heaps wider → AreAhead m A names heaps → AreAhead m A names wider
+pub ahead_wider : (m : ℕ) (A : List Access) (names : List ℕ) (heaps wider : List (List (Option ℕ))) → AreWider heaps wider → AreAhead m A names heaps
+    → AreAhead m A names wider
 ahead_wider m A names heaps wider w h = record {
   sized = w.sized ∙ h.sized;
   grades = λ list place l. w.ranks list place ∙ h.grades list place l;

@@ -3,6 +3,7 @@ use Rattle.std.proofs.Common.{◌≡◌, ◌≢◌, ℕ, ◌<◌, ◌≤◌, inl
 use Rattle.std.proofs.lemmas.Bool.{cases_Bool, cond-true, cond-false, and_parts, and_from, eqb-false, not-true, true≢false}
 use Rattle.ranked_list.specs.declared.row.Row.{Row}
 use Rattle.ranked_list.specs.Table.{objects, top_grade}
+use Rattle.ranked_list.proofs.OptionLaws.{none_if_is_none}
 use Rattle.topk_theory.specs.declared.access.Access.{Access}
 use Rattle.topk_theory.specs.declared.access.Access.TheVariants.{Sorted, Random}
 use Rattle.topk_theory.specs.Transcript.{Agrees, list_of, object_of, grade_of, sorted_rows, random_rows, given_rows, named_objects, bottom_of}
@@ -30,7 +31,8 @@ some_value e = cc
 none_is_some : {x : ℕ} → None ≡ Some x → ⊥
 none_is_some e = cc
 
-pub known_of_row : (m n : ℕ) (A : List Access) (list object grade : ℕ) → SomeAgrees m n A → Contains (given_rows list A) (record { object = object; grade = grade }) → known_grade A object list ≡ Some grade
+pub known_of_row : (m n : ℕ) (A : List Access) (list object grade : ℕ) → SomeAgrees m n A
+    → Contains (given_rows list A) (record { object = object; grade = grade }) → known_grade A object list ≡ Some grade
 known_of_row m n A list object grade some c =
     let from = given_from list A (record { object = object; grade = grade }) c in
     let before = from.0 in
@@ -63,26 +65,30 @@ exceeds_to : (greatest : Option ℕ) (top grade : ℕ) → greatest ≡ Some top
 exceeds_to greatest top grade e l = ap (λ o. exceeds o grade) e ∙ lt-ltb grade top l
 
 -- a known grade of an object that the list hasn't given is a random one
-unread_random : (A : List Access) (list object grade : ℕ) → (¬ Contains (objects (sorted_rows list A)) object) → known_grade A object list ≡ Some grade → Contains (random_rows list A) (record { object = object; grade = grade })
+unread_random : (A : List Access) (list object grade : ℕ) → (¬ Contains (objects (sorted_rows list A)) object) → known_grade A object list ≡ Some grade
+    → Contains (random_rows list A) (record { object = object; grade = grade })
 unread_random A list object grade n e =
     elim (given_split list A (record { object = object; grade = grade }) (grade_among_row (given_rows list A) object grade e)) [
       | inl s ↦ absurd (n (object_of_row (sorted_rows list A) (record { object = object; grade = grade }) s))
       | inr r ↦ r
     ]
 
-decides_clash : (m n : ℕ) (A : List Access) (list object grade : ℕ) (known : Option ℕ) → SomeAgrees m n A → known ≡ known_grade A object list → (¬ Contains (objects (sorted_rows list A)) object) → Decided (differs known grade) (HasOther (random_rows list A) object grade)
+decides_clash : (m n : ℕ) (A : List Access) (list object grade : ℕ) (known : Option ℕ) → SomeAgrees m n A → known ≡ known_grade A object list
+    → (¬ Contains (objects (sorted_rows list A)) object) → Decided (differs known grade) (HasOther (random_rows list A) object grade)
 decides_clash m n A list object grade known some e unread = record {
   from = λ t. let d = differs_from known grade t in (d.0, unread_random A list object d.0 unread (sym e ∙ d.1), d.2);
   to = λ h. differs_to known h.0 grade (e ∙ known_of_row m n A list object h.0 some (random_given list A (record { object = object; grade = h.0 }) h.1)) h.2;
 }
 
-decides_dispute : (m n : ℕ) (A : List Access) (list object grade : ℕ) (known : Option ℕ) → SomeAgrees m n A → known ≡ known_grade A object list → Decided (differs known grade) (HasOther (given_rows list A) object grade)
+decides_dispute : (m n : ℕ) (A : List Access) (list object grade : ℕ) (known : Option ℕ) → SomeAgrees m n A → known ≡ known_grade A object list
+    → Decided (differs known grade) (HasOther (given_rows list A) object grade)
 decides_dispute m n A list object grade known some e = record {
   from = λ t. let d = differs_from known grade t in (d.0, grade_among_row (given_rows list A) object d.0 (sym e ∙ d.1), d.2);
   to = λ h. differs_to known h.0 grade (e ∙ known_of_row m n A list object h.0 some h.1) h.2;
 }
 
-ahead_from : (A : List Access) (list object grade : ℕ) → grade_ahead A object list ≡ Some grade → (is_read A object list ≡ false) × (known_grade A object list ≡ Some grade)
+ahead_from : (A : List Access) (list object grade : ℕ) → grade_ahead A object list ≡ Some grade
+    → (is_read A object list ≡ false) × (known_grade A object list ≡ Some grade)
 ahead_from A list object grade e =
     elim (cases_Bool (is_read A object list)) [
       | inl t ↦ absurd (none_is_some (sym (ap (λ b. cond b None (known_grade A object list)) t) ∙ e))
@@ -95,7 +101,8 @@ less a b c l k = omega arith
 apart_from : (a b : ℕ) → a < b → b ≢ a
 apart_from a b l = omega arith
 
-decides_passed : (m n : ℕ) (A : List Access) (list object grade : ℕ) (ahead : Option ℕ) → SomeAgrees m n A → IsGreatestAhead A list ahead → (¬ HasOther (random_rows list A) object grade) → Decided (exceeds ahead grade) (HasAbove (random_rows list A) (sorted_rows list A) object grade)
+decides_passed : (m n : ℕ) (A : List Access) (list object grade : ℕ) (ahead : Option ℕ) → SomeAgrees m n A → IsGreatestAhead A list ahead
+    → (¬ HasOther (random_rows list A) object grade) → Decided (exceeds ahead grade) (HasAbove (random_rows list A) (sorted_rows list A) object grade)
 decides_passed m n A list object grade ahead some g agrees = record {
   from = λ t.
       let x = exceeds_from ahead grade t in
@@ -113,12 +120,16 @@ decides_passed m n A list object grade ahead some g agrees = record {
       above_some A list grade row.object row.grade ahead g before h.4;
 }
   where
-    above_some : (A : List Access) (list grade object other : ℕ) (ahead : Option ℕ) → IsGreatestAhead A list ahead → grade_ahead A object list ≡ Some other → grade < other → exceeds ahead grade ≡ true
+    above_some : (A : List Access) (list grade object other : ℕ) (ahead : Option ℕ) → IsGreatestAhead A list ahead → grade_ahead A object list ≡ Some other
+        → grade < other → exceeds ahead grade ≡ true
     above_some A list grade object other None g e l = absurd (none_is_some (sym (g object) ∙ e))
     above_some A list grade object other (Some top) g e l = lt-ltb grade top (less grade other top l (g.1 object other e))
 
 -- none of the kinds below a number holds
-below : (m n : ℕ) (A : List Access) (a : Access) (limit : ℕ) → (1 < limit → ¬ IsOfKind m n A a no_such_list) → (2 < limit → ¬ IsOfKind m n A a above_top) → (3 < limit → ¬ IsOfKind m n A a too_many_objects) → (4 < limit → ¬ IsOfKind m n A a rises) → (5 < limit → ¬ IsOfKind m n A a repeats) → (6 < limit → ¬ IsOfKind m n A a clashes) → (7 < limit → ¬ IsOfKind m n A a falls_short) → (8 < limit → ¬ IsOfKind m n A a above_bottom) → (kind : Kind) → number_of kind < limit → ¬ IsOfKind m n A a kind
+below : (m n : ℕ) (A : List Access) (a : Access) (limit : ℕ) → (1 < limit → ¬ IsOfKind m n A a no_such_list) → (2 < limit → ¬ IsOfKind m n A a above_top)
+    → (3 < limit → ¬ IsOfKind m n A a too_many_objects) → (4 < limit → ¬ IsOfKind m n A a rises) → (5 < limit → ¬ IsOfKind m n A a repeats)
+    → (6 < limit → ¬ IsOfKind m n A a clashes) → (7 < limit → ¬ IsOfKind m n A a falls_short) → (8 < limit → ¬ IsOfKind m n A a above_bottom) → (kind : Kind)
+    → number_of kind < limit → ¬ IsOfKind m n A a kind
 below m n A a limit k1 k2 k3 k4 k5 k6 k7 k8 no_such_list l = k1 l
 below m n A a limit k1 k2 k3 k4 k5 k6 k7 k8 above_top l = k2 l
 below m n A a limit k1 k2 k3 k4 k5 k6 k7 k8 too_many_objects l = k3 l
@@ -145,7 +156,9 @@ pub record IsEarly (m n : ℕ) (A : List Access) (a : Access) : Type 0 where
   pub few : ¬ IsOfKind m n A a too_many_objects
 
 -- one test after another
-test : (m n : ℕ) (A : List Access) (a : Access) (kind : Kind) (b : Bool) (rest : Option ℕ) → Decided b (IsOfKind m n A a kind) → ((other : Kind) → number_of other < number_of kind → ¬ IsOfKind m n A a other) → ((¬ IsOfKind m n A a kind) → IsFirstOf m n A a rest) → IsFirstOf m n A a (cond b (Some (number_of kind)) rest)
+test : (m n : ℕ) (A : List Access) (a : Access) (kind : Kind) (b : Bool) (rest : Option ℕ) → Decided b (IsOfKind m n A a kind)
+    → ((other : Kind) → number_of other < number_of kind → ¬ IsOfKind m n A a other) → ((¬ IsOfKind m n A a kind) → IsFirstOf m n A a rest)
+    → IsFirstOf m n A a (cond b (Some (number_of kind)) rest)
 test m n A a kind b rest d before after =
     elim (cases_Bool b) [
       | inl t ↦ subst (IsFirstOf m n A a) (sym (cond-true b (Some (number_of kind)) rest t)) (kind, refl, record { holds = d.from t; first = before })
@@ -161,7 +174,8 @@ decides_read A object list read e = record {
   to = λ c. e ∙ contains_has object (objects (sorted_rows list A)) c;
 }
 
-decides_above : (m n : ℕ) (A : List Access) (list object grade bottom : ℕ) (read : Bool) → bottom ≡ bottom_of list A → read ≡ is_read A object list → Decided (not read && nat_lt bottom grade) (IsOfKind m n A (Random list object grade) above_bottom)
+decides_above : (m n : ℕ) (A : List Access) (list object grade bottom : ℕ) (read : Bool) → bottom ≡ bottom_of list A → read ≡ is_read A object list
+    → Decided (not read && nat_lt bottom grade) (IsOfKind m n A (Random list object grade) above_bottom)
 decides_above m n A list object grade bottom read b r = record {
   from = λ t.
       let both = and_parts (not read) (nat_lt bottom grade) t in
@@ -169,7 +183,10 @@ decides_above m n A list object grade bottom read b r = record {
   to = λ k. and_from (not read) (nat_lt bottom grade) (ap not (r ∙ not_has object (objects (sorted_rows list A)) k.0)) (lt-ltb bottom grade (subst (λ x. x < grade) (sym b) k.1));
 }
 
-pub sorted_first : (m n : ℕ) (A : List Access) (list object grade bottom : ℕ) (read : Bool) (known ahead : Option ℕ) → SomeAgrees m n A → IsEarly m n A (Sorted list object grade) → bottom ≡ bottom_of list A → known ≡ known_grade A object list → read ≡ is_read A object list → IsGreatestAhead A list ahead → IsFirstOf m n A (Sorted list object grade) (first_of_sorted (nat_lt bottom grade) read (differs known grade) (exceeds ahead grade))
+pub sorted_first : (m n : ℕ) (A : List Access) (list object grade bottom : ℕ) (read : Bool) (known ahead : Option ℕ) → SomeAgrees m n A
+    → IsEarly m n A (Sorted list object grade) → bottom ≡ bottom_of list A → known ≡ known_grade A object list → read ≡ is_read A object list
+    → IsGreatestAhead A list ahead
+    → IsFirstOf m n A (Sorted list object grade) (first_of_sorted (nat_lt bottom grade) read (differs known grade) (exceeds ahead grade))
 sorted_first m n A list object grade bottom read known ahead some early b k r g =
     let a : Access = Sorted list object grade in
     test m n A a rises (nat_lt bottom grade) _ (subst (λ x. Decided (nat_lt x grade) (bottom_of list A < grade)) (sym b) (decides_less (bottom_of list A) grade))
@@ -182,7 +199,9 @@ sorted_first m n A list object grade bottom read known ahead some early b k r g 
     (below m n A a 7 (λ l. early.in_range) (λ l. early.capped) (λ l. early.few) (λ l. n4) (λ l. n5) (λ l. n6) (λ l. absurd (omega arith)) (λ l. absurd (omega arith)))
     (λ n7. λ kind. below m n A a 9 (λ l. early.in_range) (λ l. early.capped) (λ l. early.few) (λ l. n4) (λ l. n5) (λ l. n6) (λ l. n7) (λ l. λ z. z) kind (small kind)))))
 
-pub random_first : (m n : ℕ) (A : List Access) (list object grade bottom : ℕ) (read : Bool) (known : Option ℕ) → SomeAgrees m n A → IsEarly m n A (Random list object grade) → bottom ≡ bottom_of list A → known ≡ known_grade A object list → read ≡ is_read A object list → IsFirstOf m n A (Random list object grade) (first_of_random (differs known grade) read (nat_lt bottom grade))
+pub random_first : (m n : ℕ) (A : List Access) (list object grade bottom : ℕ) (read : Bool) (known : Option ℕ) → SomeAgrees m n A
+    → IsEarly m n A (Random list object grade) → bottom ≡ bottom_of list A → known ≡ known_grade A object list → read ≡ is_read A object list
+    → IsFirstOf m n A (Random list object grade) (first_of_random (differs known grade) read (nat_lt bottom grade))
 random_first m n A list object grade bottom read known some early b k r =
     let a : Access = Random list object grade in
     test m n A a clashes (differs known grade) _ (decides_dispute m n A list object grade known some k)
@@ -201,22 +220,21 @@ not_both x y l m = omega arith
 pub first_above : (m n : ℕ) (A : List Access) (a : Access) → list_of a < m → top_grade < grade_of a → IsFirstOf m n A a (Some 2)
 first_above m n A a l g = (above_top, refl, record { holds = g; first = below m n A a 2 (λ k. λ z. not_both (list_of a) m l z) (λ l. absurd (omega arith)) (λ l. absurd (omega arith)) (λ l. absurd (omega arith)) (λ l. absurd (omega arith)) (λ l. absurd (omega arith)) (λ l. absurd (omega arith)) (λ l. absurd (omega arith)) })
 
-pub first_many : (m n : ℕ) (A : List Access) (a : Access) (place : Option ℕ) (len : ℕ) → list_of a < m → grade_of a ≤ top_grade → place ≡ position (nat_eq (object_of a)) (named_objects A) → len ≡ length (named_objects A) → (is_none place && nat_le n len) ≡ true → IsFirstOf m n A a (Some 3)
+pub first_many : (m n : ℕ) (A : List Access) (a : Access) (place : Option ℕ) (len : ℕ) → list_of a < m → grade_of a ≤ top_grade
+    → place ≡ position (nat_eq (object_of a)) (named_objects A) → len ≡ length (named_objects A) → (is_none place && nat_le n len) ≡ true
+    → IsFirstOf m n A a (Some 3)
 first_many m n A a place len l g e s t =
     let both = and_parts (is_none place) (nat_le n len) t in (
       too_many_objects,
       refl,
       record {
-        holds = (subst (λ k. n ≤ k) s (leb-true n len both.1), not_placed (object_of a) (named_objects A) (sym e ∙ none_of place both.0));
+        holds = (subst (λ k. n ≤ k) s (leb-true n len both.1), not_placed (object_of a) (named_objects A) (sym e ∙ none_if_is_none place both.0));
         first = below m n A a 3 (λ k. λ z. not_both (list_of a) m l z) (λ k. λ z. not_both top_grade (grade_of a) z g) (λ l. absurd (omega arith)) (λ l. absurd (omega arith)) (λ l. absurd (omega arith)) (λ l. absurd (omega arith)) (λ l. absurd (omega arith)) (λ l. absurd (omega arith));
       },
     )
-  where
-    none_of : (o : Option ℕ) → is_none o ≡ true → o ≡ None
-    none_of None t = refl
-    none_of (Some x) t = absurd (true≢false (sym t))
 
-pub is_early : (m n : ℕ) (A : List Access) (a : Access) (place : Option ℕ) (len : ℕ) → list_of a < m → grade_of a ≤ top_grade → place ≡ position (nat_eq (object_of a)) (named_objects A) → len ≡ length (named_objects A) → (is_none place && nat_le n len) ≡ false → IsEarly m n A a
+pub is_early : (m n : ℕ) (A : List Access) (a : Access) (place : Option ℕ) (len : ℕ) → list_of a < m → grade_of a ≤ top_grade
+    → place ≡ position (nat_eq (object_of a)) (named_objects A) → len ≡ length (named_objects A) → (is_none place && nat_le n len) ≡ false → IsEarly m n A a
 is_early m n A a place len l g e s f = record {
   in_range = λ z. not_both (list_of a) m l z;
   capped = λ z. not_both top_grade (grade_of a) z g;

@@ -4,6 +4,7 @@ use Rattle.std.proofs.lemmas.List.{take_all}
 use Rattle.ranked_list.specs.declared.row.Row.{Row}
 use Rattle.ranked_list.specs.declared.need.Need.{Need}
 use Rattle.ranked_list.specs.declared.need.Need.TheVariants.{Row as RowAt, Grade, Done}
+use Rattle.ranked_list.proofs.Members.{past_end}
 use Rattle.topk_theory.specs.declared.access.Access.{Access}
 use Rattle.topk_theory.specs.declared.access.Access.TheVariants.{Sorted, Random}
 use Rattle.topk_theory.specs.Asked.{Run}
@@ -29,21 +30,17 @@ same_log one other e = record {
 }
 
 -- a machine that needs nothing has made its whole run, on every table that agrees
-nothing_past : {X : Type 0} (xs : List X) (p : ℕ) → slice_get xs p ≡ None → length xs ≤ p
-nothing_past [] p e = omega arith
-nothing_past (x ∷ xs) zero e = absurd (cc)
-nothing_past (x ∷ xs) (suc p) e = let l : length xs ≤ p = nothing_past xs p e in omega arith
-
 nothing_next : (made : List Access) (next : Option Access) → Done ≡ need_of made next → next ≡ None
 nothing_next made None e = refl
 nothing_next made (Some (Sorted list object grade)) e = absurd (cc)
 nothing_next made (Some (Random list object grade)) e = absurd (cc)
 
-pub whole_run : (run : Run) (t : MachineState) → MakesRun run t → t.need ≡ Done → (D : List (List Row)) → AgreesWith D t.log → t.log.accesses ≡ run (asked_of t) D
+pub whole_run : (run : Run) (t : MachineState) → MakesRun run t → t.need ≡ Done → (D : List (List Row)) → AgreesWith D t.log
+    → t.log.accesses ≡ run (asked_of t) D
 whole_run run t makes done D agrees =
     let at = makes.on_run D agrees in
     let whole : List Access = run (asked_of t) D in
-    let past : length whole ≤ length t.log.accesses = nothing_past whole (length t.log.accesses) (nothing_next t.log.accesses (slice_get whole (length t.log.accesses)) (sym done ∙ at.next)) in
+    let past : length whole ≤ length t.log.accesses = past_end whole (length t.log.accesses) (nothing_next t.log.accesses (slice_get whole (length t.log.accesses)) (sym done ∙ at.next)) in
     sym at.begins ∙ take_all (length t.log.accesses) whole past
 
 -- what is needed is of one of the lists, and a row is the next one of its list

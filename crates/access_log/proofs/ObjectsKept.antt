@@ -16,16 +16,19 @@ use Rattle.topk_theory.specs.Consistent.{SomeAgrees}
 use Rattle.topk_theory.proofs.AgreementLists.{distinct_fits, slice_get_contains}
 use Rattle.topk_theory.proofs.AgreementNames.{has, has_contains, has_not}
 use Rattle.topk_theory.proofs.Agreement.{named_objects_old, named_objects_new, named_distinct, seen_distinct, seen_is_named, seen_objects_old, seen_objects_new, seen_objects_random, agrees_in_range, contains_middle}
-use Rattle.monotone_fn.specs.declared.limits.TheConstants.{MAX_LISTS}
+use Rattle.topk_theory.proofs.Unseen.{unnamed_unknown}
+use Rattle.ranked_list.proofs.OptionLaws.{option_cases}
 use Rattle.access_log.specs.declared.record.Record.{Record}
 use Rattle.access_log.specs.declared.objects.Objects.{Objects}
 use Rattle.indexed_heap.specs.Ranks.{rank_at}
 use Rattle.access_log.specs.Kept.{IsRecordOf, AreRecords, AreAhead, AreObjects, AreWider, IsGreatestAhead, HasRoom, IsNoted, FitsAccess, IsPlaced, heap_at, is_read, grade_ahead}
-use Rattle.access_log.proofs.RecordKept.{record_other, unnamed_unknown, unnamed_unread, placed, not_placed, place_of_absent}
-use Rattle.access_log.proofs.AheadKept.{ahead_wider, apart, at_any, at_cases}
+use Rattle.access_log.proofs.RecordKept.{record_other, unnamed_unread, placed, not_placed, place_of_absent}
+use Rattle.access_log.proofs.AheadKept.{ahead_wider, apart, at_any}
+use Rattle.limits.specs.declared.TheConstants.{MAX_LISTS}
 
 -- a list with one more at its end
-get_pushed : (xs : List ℕ) (y place x : ℕ) → slice_get (xs ++ y ∷ []) place ≡ Some x → ((place < length xs) × (slice_get xs place ≡ Some x)) ⊎ ((place ≡ length xs) × (y ≡ x))
+get_pushed : (xs : List ℕ) (y place x : ℕ) → slice_get (xs ++ y ∷ []) place ≡ Some x
+    → ((place < length xs) × (slice_get xs place ≡ Some x)) ⊎ ((place ≡ length xs) × (y ≡ x))
 get_pushed xs y place x e =
     let within : place < length (xs ++ y ∷ []) = slice_get_within (xs ++ y ∷ []) place x e in
     let size : length (xs ++ y ∷ []) ≡ length xs + 1 = length_push xs y in
@@ -52,7 +55,8 @@ none_at d (suc n) (suc i) = none_at d n i
 abbrev pub unnamed : Record
 unnamed = record { known = replicate MAX_LISTS None; read = replicate MAX_LISTS false; sight = None }
 
-pub unnamed_record : (m : ℕ) (A : List Access) (object : ℕ) (kept : Record) → kept.known ≡ replicate MAX_LISTS None → kept.read ≡ replicate MAX_LISTS false → kept.sight ≡ None → (¬ Contains (named_objects A) object) → IsRecordOf m A object kept
+pub unnamed_record : (m : ℕ) (A : List Access) (object : ℕ) (kept : Record) → kept.known ≡ replicate MAX_LISTS None → kept.read ≡ replicate MAX_LISTS false
+    → kept.sight ≡ None → (¬ Contains (named_objects A) object) → IsRecordOf m A object kept
 unnamed_record m A object kept e f g n = record {
   sized = (ap (length {A = Option ℕ}) e, ap (length {A = Bool}) f);
   known = λ list l. ap (λ xs. slice_index_or xs list None) e ∙ none_at None MAX_LISTS list ∙ sym (unnamed_unknown A object list n);
@@ -60,7 +64,8 @@ unnamed_record m A object kept e f g n = record {
   sight = g ∙ sym (place_of_absent object (seen_objects A) (λ c. n (seen_is_named A object c)));
 }
 
-pub records_named : (m : ℕ) (A : List Access) (names : List ℕ) (records : List Record) (object : ℕ) (kept : Record) → AreRecords m A names records → IsRecordOf m A object kept → AreRecords m A (names ++ object ∷ []) (records ++ kept ∷ [])
+pub records_named : (m : ℕ) (A : List Access) (names : List ℕ) (records : List Record) (object : ℕ) (kept : Record) → AreRecords m A names records
+    → IsRecordOf m A object kept → AreRecords m A (names ++ object ∷ []) (records ++ kept ∷ [])
 records_named m A names records object kept h k =
     let size = h.0 in (
       length_push records kept ∙ ap (λ n. n + 1) h.0 ∙ sym (length_push names object),
@@ -75,7 +80,9 @@ records_named m A names records object kept h k =
     )
 
 -- the records after one more access of the object at a place
-pub records_noted : (m : ℕ) (A : List Access) (a : Access) (names : List ℕ) (records : List Record) (place : ℕ) (now : Record) → AllPairs (λ (x : ℕ) (y : ℕ). x ≢ y) names → slice_get names place ≡ Some (object_of a) → AreRecords m A names records → IsRecordOf m (A ++ a ∷ []) (object_of a) now → AreRecords m (A ++ a ∷ []) names (slice_set records place now)
+pub records_noted : (m : ℕ) (A : List Access) (a : Access) (names : List ℕ) (records : List Record) (place : ℕ) (now : Record)
+    → AllPairs (λ (x : ℕ) (y : ℕ). x ≢ y) names → slice_get names place ≡ Some (object_of a) → AreRecords m A names records
+    → IsRecordOf m (A ++ a ∷ []) (object_of a) now → AreRecords m (A ++ a ∷ []) names (slice_set records place now)
 records_noted m A a names records place now d e h k = (
   length-set records place now ∙ h.0,
   (λ at other r f. elim (cases_eq place at) [
@@ -94,12 +101,14 @@ records_noted m A a names records place now d e h k = (
     some_is e = cc
 
 -- the seen objects after one more access, as they are written
-pub seen_then : (A : List Access) (a : Access) (p : Option ℕ) (o : ℕ) → (is_sorted a && is_none p) ≡ true → o ≡ object_of a → p ≡ position (nat_eq (object_of a)) (seen_objects A) → seen_objects A ++ o ∷ [] ≡ seen_objects (A ++ a ∷ [])
+pub seen_then : (A : List Access) (a : Access) (p : Option ℕ) (o : ℕ) → (is_sorted a && is_none p) ≡ true → o ≡ object_of a
+    → p ≡ position (nat_eq (object_of a)) (seen_objects A) → seen_objects A ++ o ∷ [] ≡ seen_objects (A ++ a ∷ [])
 seen_then A (Random list object grade) p o t e n = absurd (true≢false (sym t))
 seen_then A (Sorted list object grade) (Some p) o t e n = absurd (true≢false (sym t))
 seen_then A (Sorted list object grade) None o t e n = ap (λ x. seen_objects A ++ x ∷ []) e ∙ sym (seen_objects_new A list object grade (not_placed object (seen_objects A) (sym n)))
 
-pub seen_else : (A : List Access) (a : Access) (p : Option ℕ) → (is_sorted a && is_none p) ≡ false → p ≡ position (nat_eq (object_of a)) (seen_objects A) → seen_objects A ≡ seen_objects (A ++ a ∷ [])
+pub seen_else : (A : List Access) (a : Access) (p : Option ℕ) → (is_sorted a && is_none p) ≡ false → p ≡ position (nat_eq (object_of a)) (seen_objects A)
+    → seen_objects A ≡ seen_objects (A ++ a ∷ [])
 seen_else A (Random list object grade) p t e = sym (seen_objects_random A list object grade)
 seen_else A (Sorted list object grade) None t e = absurd (true≢false t)
 seen_else A (Sorted list object grade) (Some p) t e =
@@ -119,7 +128,10 @@ named_grows A a =
 pub list_in_range : (m n : ℕ) (A : List Access) (a : Access) → SomeAgrees m n (A ++ a ∷ []) → list_of a < m
 list_in_range m n A a some = agrees_in_range m n some.0 (A ++ a ∷ []) a some.1 (contains_middle A a [])
 
-pub noted : (m n : ℕ) (A : List Access) (a : Access) (names : List ℕ) (records : List Record) (place list : ℕ) (old now : Record) (after : List ℕ) → SomeAgrees m n (A ++ a ∷ []) → AllPairs (λ (x : ℕ) (y : ℕ). x ≢ y) names → slice_get names place ≡ Some (object_of a) → AreRecords m A names records → list ≡ list_of a → IsRecordOf m A (object_of a) old → IsRecordOf m (A ++ a ∷ []) (object_of a) now → after ≡ seen_objects (A ++ a ∷ []) → IsNoted m A a names (slice_set records place now) after (slice_index_or old.read list false)
+pub noted : (m n : ℕ) (A : List Access) (a : Access) (names : List ℕ) (records : List Record) (place list : ℕ) (old now : Record) (after : List ℕ)
+    → SomeAgrees m n (A ++ a ∷ []) → AllPairs (λ (x : ℕ) (y : ℕ). x ≢ y) names → slice_get names place ≡ Some (object_of a) → AreRecords m A names records
+    → list ≡ list_of a → IsRecordOf m A (object_of a) old → IsRecordOf m (A ++ a ∷ []) (object_of a) now → after ≡ seen_objects (A ++ a ∷ [])
+    → IsNoted m A a names (slice_set records place now) after (slice_index_or old.read list false)
 noted m n A a names records place list old now after some distinct e h l o k s = record {
   records = records_noted m A a names records place now distinct e h k;
   sights = s;
@@ -127,24 +139,28 @@ noted m n A a names records place list old now after some distinct e h l o k s =
 }
 
 -- what is known of an object by its place
-pub looked_some : (m object list place : ℕ) (A : List Access) (kept : Objects) (r : Record) → list < m → AreObjects m A kept → Some place ≡ position (nat_eq object) (named_objects A) → r ≡ slice_index_or kept.records.items place r → (slice_index_or r.known list None ≡ known_grade A object list) × (slice_index_or r.read list false ≡ is_read A object list)
+pub looked_some : (m object list place : ℕ) (A : List Access) (kept : Objects) (r : Record) → list < m → AreObjects m A kept
+    → Some place ≡ position (nat_eq object) (named_objects A) → r ≡ slice_index_or kept.records.items place r
+    → (slice_index_or r.known list None ≡ known_grade A object list) × (slice_index_or r.read list false ≡ is_read A object list)
 looked_some m object list place A kept r l h e f =
     let there : slice_get kept.names.keys place ≡ Some object = ap (λ names. slice_get names place) h.names ∙ placed object place (named_objects A) (sym e) in
     let old : IsRecordOf m A object r = subst (IsRecordOf m A object) (sym f) (h.records.1 place object r there) in
     (old.known list l, old.read list l)
 
-pub looked_none : (m object list : ℕ) (A : List Access) → None ≡ position (nat_eq object) (named_objects A) → (None ≡ known_grade A object list) × (false ≡ is_read A object list)
+pub looked_none : (m object list : ℕ) (A : List Access) → None ≡ position (nat_eq object) (named_objects A)
+    → (None ≡ known_grade A object list) × (false ≡ is_read A object list)
 looked_none m object list A e =
     let n = not_placed object (named_objects A) (sym e) in
     (sym (unnamed_unknown A object list n), sym (unnamed_unread A object list n))
 
 -- an object that no access names is added
-pub ahead_named : (m : ℕ) (A : List Access) (names : List ℕ) (object : ℕ) (heaps : List (List (Option ℕ))) → (¬ Contains (named_objects A) object) → AreAhead m A names heaps → AreAhead m A (names ++ object ∷ []) heaps
+pub ahead_named : (m : ℕ) (A : List Access) (names : List ℕ) (object : ℕ) (heaps : List (List (Option ℕ))) → (¬ Contains (named_objects A) object)
+    → AreAhead m A names heaps → AreAhead m A (names ++ object ∷ []) heaps
 ahead_named m A names object heaps n h = record {
   sized = h.sized;
   grades = λ list place l. h.grades list place l ∙ elim (cases_lt place (length names)) [
     | inl before ↦ ap (option_and_then (λ o. grade_ahead A o list)) (slice_get-get_or names place 0 before ∙ ap Some (sym (get_or_append_left names (object ∷ []) 0 place before)) ∙ sym (slice_get-get_or (names ++ object ∷ []) place 0 (longer place before)))
-    | inr past ↦ ap (option_and_then (λ o. grade_ahead A o list)) (slice_get_past names place past) ∙ sym (elim (at_cases (slice_get (names ++ object ∷ []) place)) [
+    | inr past ↦ ap (option_and_then (λ o. grade_ahead A o list)) (slice_get_past names place past) ∙ sym (elim (option_cases (slice_get (names ++ object ∷ []) place)) [
       | inl none ↦ ap (option_and_then (λ o. grade_ahead A o list)) none
       | inr some ↦ elim (get_pushed names object place some.0 some.1) [
         | inl before ↦ absurd (not_both place (length names) before.0 past)
@@ -176,7 +192,9 @@ placed_old m n A a kept place h =
       fits = subst (λ n. n ≤ kept.room) (ap (length {A = ℕ}) (same ∙ sym o.names)) h.room;
     }
 
-pub placed_new : (m n : ℕ) (A : List Access) (a : Access) (kept now : Objects) (object at : ℕ) → FitsAccess m n A kept None a → object ≡ object_of a → now.names.keys ≡ kept.names.keys ++ object ∷ [] → at ≡ length kept.names.keys → AreRecords m A now.names.keys now.records.items → now.sights ≡ kept.sights → now.ahead ≡ kept.ahead → now.room ≡ kept.room → IsPlaced m A a now at
+pub placed_new : (m n : ℕ) (A : List Access) (a : Access) (kept now : Objects) (object at : ℕ) → FitsAccess m n A kept None a → object ≡ object_of a
+    → now.names.keys ≡ kept.names.keys ++ object ∷ [] → at ≡ length kept.names.keys → AreRecords m A now.names.keys now.records.items
+    → now.sights ≡ kept.sights → now.ahead ≡ kept.ahead → now.room ≡ kept.room → IsPlaced m A a now at
 placed_new m n A a kept now object at h e names last records sights ahead room =
     let o = h.objects in
     let absent : ¬ Contains (named_objects A) (object_of a) = not_placed (object_of a) (named_objects A) (sym h.place) in
@@ -193,7 +211,8 @@ placed_new m n A a kept now object at h e names last records sights ahead room =
     }
 
 -- an object without a place is absent, and there is room for it
-pub absent_fits : (m n : ℕ) (A : List Access) (a : Access) (kept : Objects) → FitsAccess m n A kept None a → (¬ Contains kept.names.keys (object_of a)) × (length kept.names.keys < kept.room)
+pub absent_fits : (m n : ℕ) (A : List Access) (a : Access) (kept : Objects) → FitsAccess m n A kept None a
+    → (¬ Contains kept.names.keys (object_of a)) × (length kept.names.keys < kept.room)
 absent_fits m n A a kept h =
     let o = h.objects in
     let absent : ¬ Contains (named_objects A) (object_of a) = not_placed (object_of a) (named_objects A) (sym h.place) in
@@ -211,7 +230,8 @@ pub record Ready (m : ℕ) (A : List Access) (a : Access) (kept : Objects) (at :
   pub heaps : list_of a < length kept.ahead.heaps.items
   pub in_heap : at < length (heap_at kept.ahead.heaps.items (list_of a))
 
-pub is_ready : (m n : ℕ) (A : List Access) (a : Access) (kept : Objects) (at : ℕ) → SomeAgrees m n (A ++ a ∷ []) → HasRoom kept → IsPlaced m A a kept at → Ready m A a kept at
+pub is_ready : (m n : ℕ) (A : List Access) (a : Access) (kept : Objects) (at : ℕ) → SomeAgrees m n (A ++ a ∷ []) → HasRoom kept → IsPlaced m A a kept at
+    → Ready m A a kept at
 is_ready m n A a kept at some room p =
     let in_names : at < length kept.names.keys = slice_get_within kept.names.keys at (object_of a) p.place in
     let fits = p.fits in
@@ -227,7 +247,8 @@ is_ready m n A a kept at some room p =
     record { list = l; in_records = omega arith; few = omega arith; sights = omega arith; heaps = heaps; in_heap = omega arith }
 
 -- the same objects, with no less room
-pub objects_wider : (m : ℕ) (A : List Access) (old new : Objects) → new.names.keys ≡ old.names.keys → new.records.items ≡ old.records.items → new.sights.items ≡ old.sights.items → AreWider old.ahead.heaps.items new.ahead.heaps.items → AreObjects m A old → AreObjects m A new
+pub objects_wider : (m : ℕ) (A : List Access) (old new : Objects) → new.names.keys ≡ old.names.keys → new.records.items ≡ old.records.items
+    → new.sights.items ≡ old.sights.items → AreWider old.ahead.heaps.items new.ahead.heaps.items → AreObjects m A old → AreObjects m A new
 objects_wider m A old new e f g w h = record {
   names = e ∙ h.names;
   records = subst (λ ks. AreRecords m A ks new.records.items) (sym e) (subst (λ rs. AreRecords m A old.names.keys rs) (sym f) h.records);
@@ -236,7 +257,8 @@ objects_wider m A old new e f g w h = record {
 }
 
 -- the greatest grade ahead, from the heap of the list
-pub no_greatest : (m list : ℕ) (A : List Access) (heaps : List (List (Option ℕ))) (heap : List (Option ℕ)) → list < m → AreAhead m A (named_objects A) heaps → heap ≡ slice_index_or heaps list heap → ((key : ℕ) → rank_at heap key ≡ None) → IsGreatestAhead A list None
+pub no_greatest : (m list : ℕ) (A : List Access) (heaps : List (List (Option ℕ))) (heap : List (Option ℕ)) → list < m → AreAhead m A (named_objects A) heaps
+    → heap ≡ slice_index_or heaps list heap → ((key : ℕ) → rank_at heap key ≡ None) → IsGreatestAhead A list None
 no_greatest m list A heaps heap l h e n = λ object.
     let same : heap ≡ heap_at heaps list = e ∙ at_any heaps list heap [] (subst (λ k. list < k) (sym h.sized) l) in
     elim (cases_Bool (has object (named_objects A))) [
@@ -247,7 +269,9 @@ no_greatest m list A heaps heap l h e n = λ object.
       | inr f ↦ let absent = has_not object (named_objects A) f in ap (λ b. cond b None (known_grade A object list)) (unnamed_unread A object list absent) ∙ unnamed_unknown A object list absent
     ]
 
-pub is_greatest : (m list : ℕ) (A : List Access) (heaps : List (List (Option ℕ))) (heap : List (Option ℕ)) (key rank : ℕ) → list < m → AreAhead m A (named_objects A) heaps → heap ≡ slice_index_or heaps list heap → rank_at heap key ≡ Some rank → ((other another : ℕ) → rank_at heap other ≡ Some another → nat_cmp another rank ≢ Greater) → IsGreatestAhead A list (Some rank)
+pub is_greatest : (m list : ℕ) (A : List Access) (heaps : List (List (Option ℕ))) (heap : List (Option ℕ)) (key rank : ℕ) → list < m
+    → AreAhead m A (named_objects A) heaps → heap ≡ slice_index_or heaps list heap → rank_at heap key ≡ Some rank
+    → ((other another : ℕ) → rank_at heap other ≡ Some another → nat_cmp another rank ≢ Greater) → IsGreatestAhead A list (Some rank)
 is_greatest m list A heaps heap key rank l h e there above =
     let same : heap ≡ heap_at heaps list = e ∙ at_any heaps list heap [] (subst (λ k. list < k) (sym h.sized) l) in
     let at : option_and_then (λ o. grade_ahead A o list) (slice_get (named_objects A) key) ≡ Some rank = sym (h.grades list key l) ∙ sym (ap (λ ranks. rank_at ranks key) same) ∙ there in (
@@ -267,7 +291,8 @@ is_greatest m list A heaps heap key rank l h e there above =
     none_is_some : {x : ℕ} → None ≡ Some x → ⊥
     none_is_some e = cc
 
-    some_object : (A : List Access) (list rank : ℕ) (o : Option ℕ) → option_and_then (λ o. grade_ahead A o list) o ≡ Some rank → (object : ℕ) × (grade_ahead A object list ≡ Some rank)
+    some_object : (A : List Access) (list rank : ℕ) (o : Option ℕ) → option_and_then (λ o. grade_ahead A o list) o ≡ Some rank
+        → (object : ℕ) × (grade_ahead A object list ≡ Some rank)
     some_object A list rank None e = absurd (none_is_some e)
     some_object A list rank (Some object) e = (object, e)
 
@@ -277,5 +302,6 @@ is_greatest m list A heaps heap key rank l h e there above =
 pub unnamed_without : (m n : ℕ) (A : List Access) (a : Access) (kept : Objects) → FitsAccess m n A kept None a → ¬ Contains (named_objects A) (object_of a)
 unnamed_without m n A a kept h = not_placed (object_of a) (named_objects A) (sym h.place)
 
-pub distinct_names : (A : List Access) (a : Access) (kept : Objects) (at : ℕ) → {m : ℕ} → IsPlaced m A a kept at → AllPairs (λ (x : ℕ) (y : ℕ). x ≢ y) kept.names.keys
+pub distinct_names : (A : List Access) (a : Access) (kept : Objects) (at : ℕ) → {m : ℕ} → IsPlaced m A a kept at
+    → AllPairs (λ (x : ℕ) (y : ℕ). x ≢ y) kept.names.keys
 distinct_names A a kept at p = subst (AllPairs (λ (x : ℕ) (y : ℕ). x ≢ y)) (sym p.names) (named_distinct (A ++ a ∷ []))

@@ -24,25 +24,36 @@ use Rattle.access_log.proofs.ObjectsKept.{list_in_range}
 use Rattle.access_log.proofs.FirstKind.{IsEarly, sorted_first, random_first}
 
 -- the first kind, by what the access is
-pub sorted_kinds : (m n : ℕ) (A : List Access) (a : Access) (list object grade at bottom : ℕ) (read : Bool) (known ahead r : Option ℕ) → a ≡ Sorted list object grade → at ≡ list_of a → SomeAgrees m n A → IsEarly m n A a → bottom ≡ bottom_of at A → (known ≡ known_grade A (object_of a) at) × (read ≡ is_read A (object_of a) at) → IsGreatestAhead A at ahead → r ≡ first_of_sorted (nat_lt bottom grade) read (differs known grade) (exceeds ahead grade) → IsFirstOf m n A a r
+pub sorted_kinds : (m n : ℕ) (A : List Access) (a : Access) (list object grade at bottom : ℕ) (read : Bool) (known ahead r : Option ℕ)
+    → a ≡ Sorted list object grade → at ≡ list_of a → SomeAgrees m n A → IsEarly m n A a → bottom ≡ bottom_of at A
+    → (known ≡ known_grade A (object_of a) at) × (read ≡ is_read A (object_of a) at) → IsGreatestAhead A at ahead
+    → r ≡ first_of_sorted (nat_lt bottom grade) read (differs known grade) (exceeds ahead grade) → IsFirstOf m n A a r
 sorted_kinds m n A a list object grade at bottom read known ahead r e =
     subst (λ b. at ≡ list_of b → SomeAgrees m n A → IsEarly m n A b → bottom ≡ bottom_of at A → (known ≡ known_grade A (object_of b) at) × (read ≡ is_read A (object_of b) at) → IsGreatestAhead A at ahead → r ≡ first_of_sorted (nat_lt bottom grade) read (differs known grade) (exceeds ahead grade) → IsFirstOf m n A b r) (sym e)
     (λ l some early b k g q. subst (IsFirstOf m n A (Sorted list object grade)) (sym q)
     (sorted_first m n A list object grade bottom read known ahead some early (b ∙ ap (λ j. bottom_of j A) l) (k.0 ∙ ap (λ j. known_grade A object j) l) (k.1 ∙ ap (λ j. is_read A object j) l) (subst (λ j. IsGreatestAhead A j ahead) l g)))
 
-pub random_kinds : (m n : ℕ) (A : List Access) (a : Access) (list object grade at bottom : ℕ) (read : Bool) (known r : Option ℕ) → a ≡ Random list object grade → at ≡ list_of a → SomeAgrees m n A → IsEarly m n A a → bottom ≡ bottom_of at A → (known ≡ known_grade A (object_of a) at) × (read ≡ is_read A (object_of a) at) → r ≡ first_of_random (differs known grade) read (nat_lt bottom grade) → IsFirstOf m n A a r
+pub random_kinds : (m n : ℕ) (A : List Access) (a : Access) (list object grade at bottom : ℕ) (read : Bool) (known r : Option ℕ) → a ≡ Random list object grade
+    → at ≡ list_of a → SomeAgrees m n A → IsEarly m n A a → bottom ≡ bottom_of at A
+    → (known ≡ known_grade A (object_of a) at) × (read ≡ is_read A (object_of a) at) → r ≡ first_of_random (differs known grade) read (nat_lt bottom grade)
+    → IsFirstOf m n A a r
 random_kinds m n A a list object grade at bottom read known r e =
     subst (λ b. at ≡ list_of b → SomeAgrees m n A → IsEarly m n A b → bottom ≡ bottom_of at A → (known ≡ known_grade A (object_of b) at) × (read ≡ is_read A (object_of b) at) → r ≡ first_of_random (differs known grade) read (nat_lt bottom grade) → IsFirstOf m n A b r) (sym e)
     (λ l some early b k q. subst (IsFirstOf m n A (Random list object grade)) (sym q)
     (random_first m n A list object grade bottom read known some early (b ∙ ap (λ j. bottom_of j A) l) (k.0 ∙ ap (λ j. known_grade A object j) l) (k.1 ∙ ap (λ j. is_read A object j) l)))
 
 -- an access that is refused
-pub refusal : (log : Log) (lists count so sa : ℕ) (A : List Access) (a : Access) (kind len : ℕ) → (let shown : Log = record { lists = lists; count = count; accesses = A; spare_objects = so; spare_accesses = sa } in shown ≡ log) → IsFirstOf lists count A a (Some kind) → len ≡ length A → Refuses log a (Inconsistent (len + 1) kind)
+pub refusal : (log : Log) (lists count so sa : ℕ) (A : List Access) (a : Access) (kind len : ℕ)
+    → (let shown : Log = record { lists = lists; count = count; accesses = A; spare_objects = so; spare_accesses = sa } in shown ≡ log)
+    → IsFirstOf lists count A a (Some kind) → len ≡ length A → Refuses log a (Inconsistent (len + 1) kind)
 refusal log lists count so sa A a kind len v first l =
     subst (λ (z : Log). Refuses z a (Inconsistent (len + 1) kind)) v
     (ap (λ k. k + 1) l, first, (λ D. kind_excludes lists count A a first.0 first.2.holds D))
 
-pub no_room : (log : Log) (lists count so sa : ℕ) (A : List Access) (a : Access) (cap len room : ℕ) (keys : List ℕ) (place : Option ℕ) → (let shown : Log = record { lists = lists; count = count; accesses = A; spare_objects = so; spare_accesses = sa } in shown ≡ log) → len ≡ length A → length A + sa ≤ cap → keys ≡ named_objects A → length (named_objects A) + so ≤ room → place ≡ position (nat_eq (object_of a)) (named_objects A) → (cap ≤ len) ⊎ ((place ≡ None) × (room ≤ length keys)) → HasNoRoom log a
+pub no_room : (log : Log) (lists count so sa : ℕ) (A : List Access) (a : Access) (cap len room : ℕ) (keys : List ℕ) (place : Option ℕ)
+    → (let shown : Log = record { lists = lists; count = count; accesses = A; spare_objects = so; spare_accesses = sa } in shown ≡ log) → len ≡ length A
+    → length A + sa ≤ cap → keys ≡ named_objects A → length (named_objects A) + so ≤ room → place ≡ position (nat_eq (object_of a)) (named_objects A)
+    → (cap ≤ len) ⊎ ((place ≡ None) × (room ≤ length keys)) → HasNoRoom log a
 no_room log lists count so sa A a cap len room keys place v l fits k named e full =
     subst (λ (z : Log). HasNoRoom z a) v
     (elim full [
@@ -54,7 +65,8 @@ no_room log lists count so sa A a cap len room keys place v l fits k named e ful
     no_spare n spare room held f l r = omega arith
 
 -- where no kind holds, an object without a place finds fewer objects than there may be
-pub few_named : (lists count : ℕ) (A : List Access) (a : Access) (keys : List ℕ) (place : Option ℕ) → IsWithinLimits lists count → keys ≡ named_objects A → place ≡ position (nat_eq (object_of a)) (named_objects A) → IsFirstOf lists count A a None → place ≡ None → length keys < 200000
+pub few_named : (lists count : ℕ) (A : List Access) (a : Access) (keys : List ℕ) (place : Option ℕ) → IsWithinLimits lists count → keys ≡ named_objects A
+    → place ≡ position (nat_eq (object_of a)) (named_objects A) → IsFirstOf lists count A a None → place ≡ None → length keys < 200000
 few_named lists count A a keys place limits k e none p =
     let absent = not_placed (object_of a) (named_objects A) (sym e ∙ p) in
     let same : length keys ≡ length (named_objects A) = ap (length {A = ℕ}) k in
@@ -64,21 +76,27 @@ few_named lists count A a keys place limits k e none p =
       | inr m ↦ absurd (none too_many_objects (m, absent))
     ]
 
-pub still_agrees : (lists count : ℕ) (A : List Access) (a : Access) → SomeAgrees lists count A → IsFirstOf lists count A a None → SomeAgrees lists count (A ++ a ∷ [])
+pub still_agrees : (lists count : ℕ) (A : List Access) (a : Access) → SomeAgrees lists count A → IsFirstOf lists count A a None
+    → SomeAgrees lists count (A ++ a ∷ [])
 still_agrees lists count A a some none = no_kind_agrees lists count A a some none
 
 -- how many objects are named after it
-named_some : (A : List Access) (a : Access) (place : ℕ) → Some place ≡ position (nat_eq (object_of a)) (named_objects A) → named_objects (A ++ a ∷ []) ≡ named_objects A
+named_some : (A : List Access) (a : Access) (place : ℕ) → Some place ≡ position (nat_eq (object_of a)) (named_objects A)
+    → named_objects (A ++ a ∷ []) ≡ named_objects A
 named_some A a place e = named_objects_old A a (slice_get_contains (named_objects A) place (object_of a) (placed (object_of a) place (named_objects A) (sym e)))
 
-named_none : (A : List Access) (a : Access) → None ≡ position (nat_eq (object_of a)) (named_objects A) → length (named_objects (A ++ a ∷ [])) ≡ length (named_objects A) + 1
+named_none : (A : List Access) (a : Access) → None ≡ position (nat_eq (object_of a)) (named_objects A)
+    → length (named_objects (A ++ a ∷ [])) ≡ length (named_objects A) + 1
 named_none A a e = ap (length {A = ℕ}) (named_objects_new A a (not_placed (object_of a) (named_objects A) (sym e))) ∙ length_push (named_objects A) (object_of a)
 
-pub named_room : (A : List Access) (a : Access) (place : Option ℕ) (room : ℕ) → place ≡ position (nat_eq (object_of a)) (named_objects A) → (place ≡ None → length (named_objects A) < room) → length (named_objects A) ≤ room → length (named_objects (A ++ a ∷ [])) ≤ room
+pub named_room : (A : List Access) (a : Access) (place : Option ℕ) (room : ℕ) → place ≡ position (nat_eq (object_of a)) (named_objects A)
+    → (place ≡ None → length (named_objects A) < room) → length (named_objects A) ≤ room → length (named_objects (A ++ a ∷ [])) ≤ room
 named_room A a (Some place) room e new l = subst (λ xs. length xs ≤ room) (sym (named_some A a place e)) l
 named_room A a None room e new l = let more = named_none A a e in let fits : length (named_objects A) < room = new refl in omega arith
 
-pub spare_room : (A : List Access) (a : Access) (place : Option ℕ) (so room : ℕ) → place ≡ position (nat_eq (object_of a)) (named_objects A) → length (named_objects (A ++ a ∷ [])) ≤ room → length (named_objects A) + so ≤ room → length (named_objects (A ++ a ∷ [])) + cond (is_some place) so (so - 1) ≤ room
+pub spare_room : (A : List Access) (a : Access) (place : Option ℕ) (so room : ℕ) → place ≡ position (nat_eq (object_of a)) (named_objects A)
+    → length (named_objects (A ++ a ∷ [])) ≤ room → length (named_objects A) + so ≤ room
+    → length (named_objects (A ++ a ∷ [])) + cond (is_some place) so (so - 1) ≤ room
 spare_room A a (Some place) so room e fits l = subst (λ xs. length xs + so ≤ room) (sym (named_some A a place e)) l
 spare_room A a None so room e fits l = let more = named_none A a e in spare_less (length (named_objects A)) (length (named_objects (A ++ a ∷ []))) so room more fits l
   where
@@ -86,7 +104,8 @@ spare_room A a None so room e fits l = let more = named_none A a e in spare_less
     spare_less n k zero room e f l = omega arith
     spare_less n k (suc so) room e f l = omega arith
 
-pub depth_small : (lists count : ℕ) (A : List Access) (a : Access) (ends : Ends) → IsWithinLimits lists count → SomeAgrees lists count A → SomeAgrees lists count (A ++ a ∷ []) → AreEndsOf lists A ends → slice_index_or ends.depths (list_of a) 0 ≤ 200000
+pub depth_small : (lists count : ℕ) (A : List Access) (a : Access) (ends : Ends) → IsWithinLimits lists count → SomeAgrees lists count A
+    → SomeAgrees lists count (A ++ a ∷ []) → AreEndsOf lists A ends → slice_index_or ends.depths (list_of a) 0 ≤ 200000
 depth_small lists count A a ends limits some after e =
     let l : list_of a < lists = list_in_range lists count A a after in
     let d : slice_index_or ends.depths (list_of a) 0 ≡ depth_of (list_of a) A = e.depths (list_of a) l in
@@ -102,7 +121,9 @@ named_placed x xs (Some place) e = sym (contains_has x xs (slice_get_contains xs
 abbrev pub log_of : ℕ → ℕ → List Access → ℕ → ℕ → Log
 log_of lists count A so sa = record { lists = lists; count = count; accesses = A; spare_objects = so; spare_accesses = sa }
 
-pub one_more : (log : Log) (lists count so sa so' sa' : ℕ) (A B : List Access) (a : Access) (place : Option ℕ) → log_of lists count A so sa ≡ log → B ≡ A ++ a ∷ [] → place ≡ position (nat_eq (object_of a)) (named_objects A) → so' ≡ cond (is_some place) so (so - 1) → sa' ≡ sa - 1 → log_of lists count B so' sa' ≡ with_access log a
+pub one_more : (log : Log) (lists count so sa so' sa' : ℕ) (A B : List Access) (a : Access) (place : Option ℕ) → log_of lists count A so sa ≡ log
+    → B ≡ A ++ a ∷ [] → place ≡ position (nat_eq (object_of a)) (named_objects A) → so' ≡ cond (is_some place) so (so - 1) → sa' ≡ sa - 1
+    → log_of lists count B so' sa' ≡ with_access log a
 one_more log lists count so sa so' sa' A B a place v e p o s =
     ap (λ xs. log_of lists count xs so' sa') e
     ∙ ap (λ x. log_of lists count (A ++ a ∷ []) x sa') (o ∙ ap (λ b. cond b so (so - 1)) (named_placed (object_of a) (named_objects A) place p))
@@ -110,7 +131,8 @@ one_more log lists count so sa so' sa' A B a place v e p o s =
     ∙ ap (λ z. with_access z a) v
 
 -- what is kept
-pub kept_empty : (lists count cap : ℕ) (xs : List Access) (kept : Objects) (ends : Ends) → IsWithinLimits lists count → xs ≡ [] → AreObjects lists [] kept → AreEndsOf lists [] ends → HasRoom kept → IsKept lists count xs cap kept ends 0 0
+pub kept_empty : (lists count cap : ℕ) (xs : List Access) (kept : Objects) (ends : Ends) → IsWithinLimits lists count → xs ≡ [] → AreObjects lists [] kept
+    → AreEndsOf lists [] ends → HasRoom kept → IsKept lists count xs cap kept ends 0 0
 kept_empty lists count cap xs kept ends limits e objects reached room =
     subst (λ A. IsKept lists count A cap kept ends 0 0) (sym e) (record {
       limits = limits;
@@ -122,7 +144,9 @@ kept_empty lists count cap xs kept ends limits e objects reached room =
       access_room = omega arith;
     })
 
-pub kept_moved : (lists count cap cap' so sa so' sa' : ℕ) (A B : List Access) (kept kept' : Objects) (ends : Ends) → IsKept lists count A cap kept ends so sa → B ≡ A → AreObjects lists A kept' → HasRoom kept' → length (named_objects A) + so' ≤ kept'.room → length A + sa' ≤ cap' → IsKept lists count B cap' kept' ends so' sa'
+pub kept_moved : (lists count cap cap' so sa so' sa' : ℕ) (A B : List Access) (kept kept' : Objects) (ends : Ends) → IsKept lists count A cap kept ends so sa
+    → B ≡ A → AreObjects lists A kept' → HasRoom kept' → length (named_objects A) + so' ≤ kept'.room → length A + sa' ≤ cap'
+    → IsKept lists count B cap' kept' ends so' sa'
 kept_moved lists count cap cap' so sa so' sa' A B kept kept' ends h e objects room named fits =
     subst (λ C. IsKept lists count C cap' kept' ends so' sa') (sym e) (record {
       limits = h.limits;
@@ -134,7 +158,9 @@ kept_moved lists count cap cap' so sa so' sa' A B kept kept' ends h e objects ro
       access_room = fits;
     })
 
-pub kept_pushed : (lists count cap' so' sa' : ℕ) (A B : List Access) (a : Access) (kept' : Objects) (ends' : Ends) → IsWithinLimits lists count → B ≡ A ++ a ∷ [] → SomeAgrees lists count (A ++ a ∷ []) → AreObjects lists (A ++ a ∷ []) kept' → AreEndsOf lists (A ++ a ∷ []) ends' → HasRoom kept' → length (named_objects (A ++ a ∷ [])) + so' ≤ kept'.room → length A + 1 + sa' ≤ cap' → IsKept lists count B cap' kept' ends' so' sa'
+pub kept_pushed : (lists count cap' so' sa' : ℕ) (A B : List Access) (a : Access) (kept' : Objects) (ends' : Ends) → IsWithinLimits lists count
+    → B ≡ A ++ a ∷ [] → SomeAgrees lists count (A ++ a ∷ []) → AreObjects lists (A ++ a ∷ []) kept' → AreEndsOf lists (A ++ a ∷ []) ends' → HasRoom kept'
+    → length (named_objects (A ++ a ∷ [])) + so' ≤ kept'.room → length A + 1 + sa' ≤ cap' → IsKept lists count B cap' kept' ends' so' sa'
 kept_pushed lists count cap' so' sa' A B a kept' ends' limits e some objects ends room named fits =
     subst (λ C. IsKept lists count C cap' kept' ends' so' sa') (sym e) (record {
       limits = limits;

@@ -6,19 +6,19 @@ use Rattle.std.proofs.lemmas.Iterator.Adapters.{position_from-zero}
 use Rattle.std.proofs.lemmas.List.{get_or-set_same, get_or-set_other, length-set, map-append}
 use Rattle.ranked_list.specs.declared.row.Row.{Row}
 use Rattle.ranked_list.specs.Table.{objects}
+use Rattle.ranked_list.proofs.OptionLaws.{option_cases}
 use Rattle.topk_theory.specs.declared.access.Access.{Access}
 use Rattle.topk_theory.specs.declared.access.Access.TheVariants.{Sorted, Random}
-use Rattle.topk_theory.specs.Transcript.{list_of, object_of, grade_of, is_sorted, sorted_rows, given_rows, named_objects, seen_objects}
+use Rattle.topk_theory.specs.Transcript.{list_of, object_of, grade_of, is_sorted, sorted_rows, named_objects, seen_objects}
 use Rattle.topk_theory.specs.Bounds.{known_grade}
 use Rattle.topk_theory.specs.Consistent.{SomeAgrees}
 use Rattle.topk_theory.proofs.AgreementLists.{contains_nil, contains_here, contains_there, contains_cases, contains_map_from, slice_get_contains}
-use Rattle.topk_theory.proofs.AgreementNames.{has, has_contains, contains_has, has_not, not_has}
-use Rattle.topk_theory.proofs.AgreementRows.{grade_among_absent}
-use Rattle.topk_theory.proofs.Agreement.{sorted_rows_sorted, sorted_rows_other, sorted_rows_random, seen_objects_old, seen_objects_new, seen_objects_random, known_grade_given, known_grade_other_object, known_grade_other_list, known_cases}
+use Rattle.topk_theory.proofs.AgreementNames.{has, has_contains, contains_has, has_not, not_has, has_push}
+use Rattle.topk_theory.proofs.Agreement.{sorted_rows_sorted, sorted_rows_other, sorted_rows_random, seen_objects_old, seen_objects_new, seen_objects_random, known_grade_given, known_grade_other_object, known_grade_other_list}
 use Rattle.topk_theory.proofs.ConsistentTable.{given_named, sorted_given}
-use Rattle.monotone_fn.specs.declared.limits.TheConstants.{MAX_LISTS}
 use Rattle.access_log.specs.Kept.{IsRecordOf, is_read}
 use Rattle.access_log.specs.declared.record.Record.{Record}
+use Rattle.limits.specs.declared.TheConstants.{MAX_LISTS}
 
 -- a set place of a list of anything
 set_here : {X : Type 0} → (g : ℕ → X) (xs : List X) (i : ℕ) (v d : X) → i < length xs → g i ≡ v → (j : ℕ) → i ≡ j → slice_index_or (slice_set xs i v) j d ≡ g j
@@ -26,19 +26,6 @@ set_here g xs i v d l e j same = subst (λ at. slice_index_or (slice_set xs i v)
 
 set_there : {X : Type 0} → (xs : List X) (i : ℕ) (v d : X) (j : ℕ) → i ≢ j → slice_index_or (slice_set xs i v) j d ≡ slice_index_or xs j d
 set_there xs i v d j n = get_or-set_other xs i j v d (λ q. n (sym q))
-
--- one more member at the end of a list of numbers, and a test for one of them
-has_push : (x : ℕ) (xs : List ℕ) (y : ℕ) → has x (xs ++ y ∷ []) ≡ (has x xs || (y == x))
-has_push x [] y = sym (or_false (y == x))
-  where
-    or_false : (b : Bool) → (false || b) ≡ (b || false)
-    or_false true = refl
-    or_false false = refl
-has_push x (z ∷ xs) y = ap (λ b. (z == x) || b) (has_push x xs y) ∙ sym (or_assoc (z == x) (has x xs) (y == x))
-  where
-    or_assoc : (a b c : Bool) → ((a || b) || c) ≡ (a || (b || c))
-    or_assoc true b c = refl
-    or_assoc false b c = refl
 
 -- the first place of a number
 position_some : (x i p : ℕ) (xs ys : List ℕ) → position_from (nat_eq x) i xs ≡ Some p → position_from (nat_eq x) i (xs ++ ys) ≡ Some p
@@ -137,7 +124,8 @@ read_other_object A (Sorted at o g) object list n =
 read_other_object A (Random at o g) object list n = read_random A at o g object list
 
 -- the place of an object in the order of first sight, after one more access
-sight_other_from : (A : List Access) (a : Access) (object : ℕ) → object_of a ≢ object → position_from (nat_eq object) 0 (seen_objects (A ++ a ∷ [])) ≡ position_from (nat_eq object) 0 (seen_objects A)
+sight_other_from : (A : List Access) (a : Access) (object : ℕ) → object_of a ≢ object
+    → position_from (nat_eq object) 0 (seen_objects (A ++ a ∷ [])) ≡ position_from (nat_eq object) 0 (seen_objects A)
 sight_other_from A (Sorted at o g) object n =
     elim (cases_Bool (has o (seen_objects A))) [
       | inl t ↦ ap (position_from (nat_eq object) 0) (seen_objects_old A at o g (has_contains o (seen_objects A) t))
@@ -145,9 +133,11 @@ sight_other_from A (Sorted at o g) object n =
     ]
 sight_other_from A (Random at o g) object n = ap (position_from (nat_eq object) 0) (seen_objects_random A at o g)
 
-sight_here_from : (A : List Access) (at o g : ℕ) → position_from (nat_eq o) 0 (seen_objects (A ++ Sorted at o g ∷ [])) ≡ cond (is_none (position_from (nat_eq o) 0 (seen_objects A))) (Some (length (seen_objects A))) (position_from (nat_eq o) 0 (seen_objects A))
+sight_here_from : (A : List Access) (at o g : ℕ)
+    → position_from (nat_eq o) 0 (seen_objects (A ++ Sorted at o g ∷ [])) ≡ cond (is_none (position_from (nat_eq o) 0 (seen_objects A)))
+    (Some (length (seen_objects A))) (position_from (nat_eq o) 0 (seen_objects A))
 sight_here_from A at o g =
-    elim (known_cases (position_from (nat_eq o) 0 (seen_objects A))) [
+    elim (option_cases (position_from (nat_eq o) 0 (seen_objects A))) [
       | inl none ↦
           let f : has o (seen_objects A) ≡ false = position_not_has o (seen_objects A) none in
           ap (position_from (nat_eq o) 0) (seen_objects_new A at o g (has_not o (seen_objects A) f))
@@ -166,10 +156,13 @@ sight_here_from A at o g =
 place_is : (x : ℕ) (xs : List ℕ) → position (nat_eq x) xs ≡ position_from (nat_eq x) 0 xs
 place_is x xs = position_from-zero (nat_eq x) xs
 
-pub sight_other : (A : List Access) (a : Access) (object : ℕ) → object_of a ≢ object → position (nat_eq object) (seen_objects (A ++ a ∷ [])) ≡ position (nat_eq object) (seen_objects A)
+pub sight_other : (A : List Access) (a : Access) (object : ℕ) → object_of a ≢ object
+    → position (nat_eq object) (seen_objects (A ++ a ∷ [])) ≡ position (nat_eq object) (seen_objects A)
 sight_other A a object n = place_is object (seen_objects (A ++ a ∷ [])) ∙ sight_other_from A a object n ∙ sym (place_is object (seen_objects A))
 
-sight_here : (A : List Access) (at o g : ℕ) → position (nat_eq o) (seen_objects (A ++ Sorted at o g ∷ [])) ≡ cond (is_none (position (nat_eq o) (seen_objects A))) (Some (length (seen_objects A))) (position (nat_eq o) (seen_objects A))
+sight_here : (A : List Access) (at o g : ℕ)
+    → position (nat_eq o) (seen_objects (A ++ Sorted at o g ∷ [])) ≡ cond (is_none (position (nat_eq o) (seen_objects A))) (Some (length (seen_objects A)))
+    (position (nat_eq o) (seen_objects A))
 sight_here A at o g = place_is o (seen_objects (A ++ Sorted at o g ∷ [])) ∙ sight_here_from A at o g ∙ ap (λ p. cond (is_none p) (Some (length (seen_objects A))) p) (sym (place_is o (seen_objects A)))
 
 -- a place that is found has the number, and none is found where it isn't there
@@ -185,7 +178,9 @@ not_placed x xs e = λ c. position_there x 0 xs c (sym (place_is x xs) ∙ e)
 pub place_of_absent : (x : ℕ) (xs : List ℕ) → (¬ Contains xs x) → position (nat_eq x) xs ≡ None
 place_of_absent x xs n = place_is x xs ∙ position_absent x 0 xs n
 
-known_set : (m n : ℕ) (A : List Access) (a : Access) (kept : Record) → list_of a < length kept.known → SomeAgrees m n (A ++ a ∷ []) → IsRecordOf m A (object_of a) kept → (at : ℕ) → at < m → slice_index_or (slice_set kept.known (list_of a) (Some (grade_of a))) at None ≡ known_grade (A ++ a ∷ []) (object_of a) at
+known_set : (m n : ℕ) (A : List Access) (a : Access) (kept : Record) → list_of a < length kept.known → SomeAgrees m n (A ++ a ∷ [])
+    → IsRecordOf m A (object_of a) kept → (at : ℕ) → at < m
+    → slice_index_or (slice_set kept.known (list_of a) (Some (grade_of a))) at None ≡ known_grade (A ++ a ∷ []) (object_of a) at
 known_set m n A a kept l some h at k =
     elim (cases_eq (list_of a) at) [
       | inl same ↦ set_here (λ j. known_grade (A ++ a ∷ []) (object_of a) j) kept.known (list_of a) (Some (grade_of a)) None l (known_grade_given m n some.0 A a some.1) at same
@@ -193,7 +188,9 @@ known_set m n A a kept l some h at k =
     ]
 
 -- the record after one more access of the object
-pub record_sorted : (m n : ℕ) (A : List Access) (list object grade seen : ℕ) (kept : Record) → list < MAX_LISTS → SomeAgrees m n (A ++ Sorted list object grade ∷ []) → seen ≡ length (seen_objects A) → IsRecordOf m A object kept → IsRecordOf m (A ++ Sorted list object grade ∷ []) object (record { known = slice_set kept.known list (Some grade); read = slice_set kept.read list true; sight = cond (is_none kept.sight) (Some seen) kept.sight })
+pub record_sorted : (m n : ℕ) (A : List Access) (list object grade seen : ℕ) (kept : Record) → list < MAX_LISTS
+    → SomeAgrees m n (A ++ Sorted list object grade ∷ []) → seen ≡ length (seen_objects A) → IsRecordOf m A object kept
+    → IsRecordOf m (A ++ Sorted list object grade ∷ []) object (record { known = slice_set kept.known list (Some grade); read = slice_set kept.read list true; sight = cond (is_none kept.sight) (Some seen) kept.sight })
 record_sorted m n A list object grade seen kept l some s h = record {
   sized = (length-set kept.known list (Some grade) ∙ h.sized.0, length-set kept.read list true ∙ h.sized.1);
   known = λ at k. known_set m n A (Sorted list object grade) kept (subst (λ w. list < w) (sym h.sized.0) l) some h at k;
@@ -204,7 +201,9 @@ record_sorted m n A list object grade seen kept l some s h = record {
   sight = ap (λ p. cond (is_none p) (Some seen) p) h.sight ∙ ap (λ z. cond (is_none (position (nat_eq object) (seen_objects A))) (Some z) (position (nat_eq object) (seen_objects A))) s ∙ sym (sight_here A list object grade);
 }
 
-pub record_random : (m n : ℕ) (A : List Access) (list object grade : ℕ) (kept : Record) → list < MAX_LISTS → SomeAgrees m n (A ++ Random list object grade ∷ []) → IsRecordOf m A object kept → IsRecordOf m (A ++ Random list object grade ∷ []) object (record kept { known = slice_set kept.known list (Some grade) })
+pub record_random : (m n : ℕ) (A : List Access) (list object grade : ℕ) (kept : Record) → list < MAX_LISTS
+    → SomeAgrees m n (A ++ Random list object grade ∷ []) → IsRecordOf m A object kept
+    → IsRecordOf m (A ++ Random list object grade ∷ []) object (record kept { known = slice_set kept.known list (Some grade) })
 record_random m n A list object grade kept l some h = record {
   sized = (length-set kept.known list (Some grade) ∙ h.sized.0, h.sized.1);
   known = λ at k. known_set m n A (Random list object grade) kept (subst (λ w. list < w) (sym h.sized.0) l) some h at k;
@@ -213,7 +212,8 @@ record_random m n A list object grade kept l some h = record {
 }
 
 -- the record of another object stays
-pub record_other : (m : ℕ) (A : List Access) (a : Access) (object : ℕ) (kept : Record) → object_of a ≢ object → IsRecordOf m A object kept → IsRecordOf m (A ++ a ∷ []) object kept
+pub record_other : (m : ℕ) (A : List Access) (a : Access) (object : ℕ) (kept : Record) → object_of a ≢ object → IsRecordOf m A object kept
+    → IsRecordOf m (A ++ a ∷ []) object kept
 record_other m A a object kept n h = record {
   sized = h.sized;
   known = λ at k. h.known at k ∙ sym (known_grade_other_object A a object at n);
@@ -221,26 +221,26 @@ record_other m A a object kept n h = record {
   sight = h.sight ∙ sym (sight_other A a object n);
 }
 
--- an object that no access names is known in no list
-pub unnamed_unknown : (A : List Access) (object list : ℕ) → (¬ Contains (named_objects A) object) → known_grade A object list ≡ None
-unnamed_unknown A object list n = grade_among_absent (given_rows list A) object (λ c.
-    let from = contains_map_from (λ (row : Row). row.object) (given_rows list A) object c in
-    n (subst (λ o. Contains (named_objects A) o) from.2 (given_named list A from.0 from.1)))
-
+-- an object that no access names was read in no list
 pub unnamed_unread : (A : List Access) (object list : ℕ) → (¬ Contains (named_objects A) object) → is_read A object list ≡ false
 unnamed_unread A object list n = not_has object (objects (sorted_rows list A)) (λ c.
     let from = contains_map_from (λ (row : Row). row.object) (sorted_rows list A) object c in
     n (subst (λ o. Contains (named_objects A) o) from.2 (given_named list A from.0 (sorted_given list A from.0 from.1))))
 
 -- as the fields are written, by what the access is
-pub record_then : (m n : ℕ) (A : List Access) (a : Access) (list grade seen : ℕ) (kept : Record) → is_sorted a ≡ true → list ≡ list_of a → grade ≡ grade_of a → list_of a < MAX_LISTS → SomeAgrees m n (A ++ a ∷ []) → seen ≡ length (seen_objects A) → IsRecordOf m A (object_of a) kept → IsRecordOf m (A ++ a ∷ []) (object_of a) (record { known = slice_set kept.known list (Some grade); read = slice_set kept.read list true; sight = cond (is_none kept.sight) (Some seen) kept.sight })
+pub record_then : (m n : ℕ) (A : List Access) (a : Access) (list grade seen : ℕ) (kept : Record) → is_sorted a ≡ true → list ≡ list_of a → grade ≡ grade_of a
+    → list_of a < MAX_LISTS → SomeAgrees m n (A ++ a ∷ []) → seen ≡ length (seen_objects A) → IsRecordOf m A (object_of a) kept
+    → IsRecordOf m (A ++ a ∷ []) (object_of a)
+    (record { known = slice_set kept.known list (Some grade); read = slice_set kept.read list true; sight = cond (is_none kept.sight) (Some seen) kept.sight })
 record_then m n A (Sorted at o g) list grade seen kept t e f l some s h =
     subst (λ k. IsRecordOf m (A ++ Sorted at o g ∷ []) o (record { known = slice_set kept.known k (Some grade); read = slice_set kept.read k true; sight = cond (is_none kept.sight) (Some seen) kept.sight })) (sym e)
     (subst (λ k. IsRecordOf m (A ++ Sorted at o g ∷ []) o (record { known = slice_set kept.known at (Some k); read = slice_set kept.read at true; sight = cond (is_none kept.sight) (Some seen) kept.sight })) (sym f)
     (record_sorted m n A at o g seen kept l some s h))
 record_then m n A (Random at o g) list grade seen kept t e f l some s h = absurd (true≢false (sym t))
 
-pub record_else : (m n : ℕ) (A : List Access) (a : Access) (list grade : ℕ) (kept : Record) → is_sorted a ≡ false → list ≡ list_of a → grade ≡ grade_of a → list_of a < MAX_LISTS → SomeAgrees m n (A ++ a ∷ []) → IsRecordOf m A (object_of a) kept → IsRecordOf m (A ++ a ∷ []) (object_of a) (record kept { known = slice_set kept.known list (Some grade) })
+pub record_else : (m n : ℕ) (A : List Access) (a : Access) (list grade : ℕ) (kept : Record) → is_sorted a ≡ false → list ≡ list_of a → grade ≡ grade_of a
+    → list_of a < MAX_LISTS → SomeAgrees m n (A ++ a ∷ []) → IsRecordOf m A (object_of a) kept
+    → IsRecordOf m (A ++ a ∷ []) (object_of a) (record kept { known = slice_set kept.known list (Some grade) })
 record_else m n A (Sorted at o g) list grade kept t e f l some h = absurd (true≢false t)
 record_else m n A (Random at o g) list grade kept t e f l some h =
     subst (λ k. IsRecordOf m (A ++ Random at o g ∷ []) o (record kept { known = slice_set kept.known k (Some grade) })) (sym e)

@@ -8,12 +8,11 @@ use Rattle.topk_theory.specs.Transcript.{list_of, object_of, sorted_rows, depth_
 use Rattle.topk_theory.specs.Bounds.{known_grade}
 use Rattle.topk_theory.specs.Consistent.{SomeAgrees}
 use Rattle.indexed_heap.specs.Ranks.{rank_at}
-use Rattle.room_map.specs.declared.map.TheConstants.{MAX_ROOM}
 use Rattle.access_log.specs.declared.record.Record.{Record}
 use Rattle.access_log.specs.declared.objects.Objects.{Objects}
 use Rattle.access_log.specs.declared.ends.Ends.{Ends}
 use Rattle.access_log.specs.Log.{IsWithinLimits}
-use Rattle.monotone_fn.specs.declared.limits.TheConstants.{MAX_LISTS}
+use Rattle.limits.specs.declared.TheConstants.{MAX_LISTS, MAX_OBJECTS}
 
 -- whether a sorted access gave the object from the list
 abbrev pub is_read : List Access → ℕ → ℕ → Bool
@@ -59,11 +58,14 @@ pub record AreWider (before after : List (List (Option ℕ))) : Type 0 where
 -- this is the greatest grade that is known ahead of the list
 abbrev pub IsGreatestAhead : List Access → ℕ → Option ℕ → Type 0
 IsGreatestAhead A list None = (object : ℕ) → grade_ahead A object list ≡ None
-IsGreatestAhead A list (Some grade) = ((object : ℕ) × (grade_ahead A object list ≡ Some grade)) × ((object other : ℕ) → grade_ahead A object list ≡ Some other → other ≤ grade)
+IsGreatestAhead A list (Some grade) =
+    ((object : ℕ) × (grade_ahead A object list ≡ Some grade)) × ((object other : ℕ) → grade_ahead A object list ≡ Some other → other ≤ grade)
 
 -- the records are those of the objects at the same places
 abbrev pub AreRecords : ℕ → List Access → List ℕ → List Record → Type 0
-AreRecords m A names records = (length records ≡ length names) × ((place object : ℕ) (d : Record) → slice_get names place ≡ Some object → IsRecordOf m A object (slice_index_or records place d))
+AreRecords m A names records =
+    (length records ≡ length names)
+    × ((place object : ℕ) (d : Record) → slice_get names place ≡ Some object → IsRecordOf m A object (slice_index_or records place d))
 
 -- the objects are those that the accesses name, with their records, the seen ones in the order of first sight, and the grades ahead
 pub record AreObjects (m : ℕ) (A : List Access) (kept : Objects) : Type 0 where
@@ -74,7 +76,7 @@ pub record AreObjects (m : ℕ) (A : List Access) (kept : Objects) : Type 0 wher
 
 -- there is room for as many objects as the objects say
 pub record HasRoom (kept : Objects) : Type 0 where
-  pub few : kept.room ≤ MAX_ROOM
+  pub few : kept.room ≤ MAX_OBJECTS
   pub names : kept.room ≤ kept.names.room
   pub records : kept.room ≤ vec_capacity kept.records
   pub sights : kept.room < vec_capacity kept.sights

@@ -5,7 +5,7 @@ use Rattle.ranked_list.specs.declared.row.Row.{Row}
 use Rattle.topk_theory.specs.declared.access.Access.{Access}
 use Rattle.topk_theory.specs.Transcript.{Agrees, object_of, named_objects}
 use Rattle.topk_theory.specs.Consistent.{Kind, number_of, IsFirstKind}
-use Rattle.access_log.specs.declared.transcript.TheConstants.{MAX_LISTS, MAX_COUNT}
+use Rattle.limits.specs.declared.TheConstants.{MAX_LISTS, MAX_OBJECTS}
 
 -- how many lists, how many objects, the accesses in their order, and for how many more objects and accesses room is reserved
 pub record Log : Type 0 where
@@ -48,4 +48,4 @@ pub record IsWithinLimits (lists count : ℕ) : Type 0 where
   pub some_lists : 0 < lists
   pub few_lists : lists ≤ MAX_LISTS
   pub some_objects : 0 < count
-  pub few_objects : count ≤ MAX_COUNT
+  pub few_objects : count ≤ MAX_OBJECTS

@@ -100,7 +100,8 @@ pub record MakesRun (run : Run) (t : MachineState) : Type 0 where
 
 -- the need is a row, and this one can be it: no kind of inconsistency, but for an object too many
 abbrev pub MayBeNextRow : Log → Need → Row → Type 0
-MayBeNextRow log (RowAt list depth) row = (kind : Kind) → IsOfKind log.lists log.count log.accesses (Sorted list row.object row.grade) kind → kind ≡ too_many_objects
+MayBeNextRow log (RowAt list depth) row =
+    (kind : Kind) → IsOfKind log.lists log.count log.accesses (Sorted list row.object row.grade) kind → kind ≡ too_many_objects
 MayBeNextRow log (Grade list object) row = ⊥
 MayBeNextRow log Done row = ⊥
 
@@ -136,7 +137,8 @@ HasRoomFor t object = Contains (seen_objects t.log.accesses) object ⊎ (length 
 -- what becomes of a row: an object for which there is no room is a stranger where the room is the count, and else the room is full
 abbrev pub RowFed : Row → MachineState → MachineState → {A : Type 0} → Result A CoreFault → Type 0
 RowFed row before after (Ok done) = HasRoomFor before row.object × Takes (row_access before.need row) before after
-RowFed row before after (Err (Strangers object count)) = (¬ HasRoomFor before row.object) × (before.room ≡ before.log.count) × (object ≡ row.object) × (count ≡ before.log.count) × (after ≡ before)
+RowFed row before after (Err (Strangers object count)) =
+    (¬ HasRoomFor before row.object) × (before.room ≡ before.log.count) × (object ≡ row.object) × (count ≡ before.log.count) × (after ≡ before)
 RowFed row before after (Err (RoomFull room)) = (¬ HasRoomFor before row.object) × (before.room < before.log.count) × (room ≡ before.room) × (after ≡ before)
 
 -- what becomes of a grade

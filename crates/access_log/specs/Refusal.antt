@@ -9,7 +9,8 @@ use Rattle.access_log.specs.declared.fault.PushFault.TheVariants.{Inconsistent, 
 
 -- no table agrees with the log and this access after it, which has this number and is of this first kind; memory is wanted only where no room is reserved
 abbrev pub Refuses : Log → Access → PushFault → Type 0
-Refuses log access (Inconsistent at kind) = (at ≡ length log.accesses + 1) × IsFirstNumber log access kind × ((D : List (List Row)) → ¬ AgreesWith D (with_access log access))
+Refuses log access (Inconsistent at kind) =
+    (at ≡ length log.accesses + 1) × IsFirstNumber log access kind × ((D : List (List Row)) → ¬ AgreesWith D (with_access log access))
 Refuses log access Memory = HasNoRoom log access
 
 -- the number of the first kind of which an access is, None where it is of none

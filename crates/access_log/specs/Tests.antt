@@ -13,7 +13,8 @@ exceeds (Some other) grade = nat_lt grade other
 
 -- the number of the first kind of a sorted access that is found
 abbrev pub first_of_sorted : Bool → Bool → Bool → Bool → Option ℕ
-first_of_sorted rises repeats clashes falls_short = if rises then Some 4 else (if repeats then Some 5 else (if clashes then Some 6 else (if falls_short then Some 7 else None)))
+first_of_sorted rises repeats clashes falls_short =
+    if rises then Some 4 else (if repeats then Some 5 else (if clashes then Some 6 else (if falls_short then Some 7 else None)))
 
 -- the number of the first kind of a random access that is found
 abbrev pub first_of_random : Bool → Bool → Bool → Option ℕ

@@ -8,6 +8,7 @@ ghost use Rattle.access_log.specs.Kept.{AreAhead, AreWider, HaveRoom, IsGreatest
 
 use super::Memory;
 use indexed_heap::IndexedHeap;
+use limits::MAX_OBJECTS;
 use std::alloc::Global;
 use topk_theory::Access;
 
@@ -32,7 +33,7 @@ impl Ahead {
 
     /// Gives each heap room for `room` objects. Where memory is refused some may have it.
     pub fn widen(&mut self, room: u32) -> Result<(), Memory>
-        requires { room ≤ 200000 }
+        requires { room ≤ MAX_OBJECTS }
         ensures wider { AreWider self.old.heaps.items self.new.heaps.items }
         ensures room { OnOk result (HaveRoom room self.new.heaps.items) }
     {

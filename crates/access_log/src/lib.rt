@@ -21,7 +21,7 @@ pub use fault::PushFault;
 pub use ranked_list::{Item, Items};
 use std::alloc::{AllocError, AllocFailed};
 pub use topk_theory::Access;
-pub use transcript::{MAX_COUNT, MAX_LISTS, Transcript};
+pub use transcript::Transcript;
 
 /// No memory was left.
 #[derive(Clone, Copy, Debug, PartialEq, Eq)]

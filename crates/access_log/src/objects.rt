@@ -11,8 +11,7 @@ use super::Memory;
 use super::ahead::Ahead;
 use super::kinds::Known;
 use super::record::{Record, UNNAMED};
-use super::transcript::MAX_COUNT;
-use monotone_fn::MAX_LISTS;
+use limits::{MAX_LISTS, MAX_OBJECTS};
 use room_map::RoomMap;
 use std::alloc::Global;
 use topk_theory::Access;
@@ -83,7 +82,7 @@ impl Objects {
 
     /// Makes room for at least `room` objects.
     pub fn widen(&mut self, room: u32) -> Result<(), Memory>
-        requires few { room ≤ 200000 }
+        requires few { room ≤ MAX_OBJECTS }
         requires room { HasRoom self.old }
         ensures ok { OnOk result (room ≤ self.new.room) }
         ensures no_less { self.old.room ≤ self.new.room }
@@ -104,7 +103,7 @@ impl Objects {
     /// Makes room for one more object, where there is none; twice the room, so that many come to little
     /// each.
     pub fn grow(&mut self) -> Result<(), Memory>
-        requires fits { length self.old.names.keys < MAX_COUNT }
+        requires fits { length self.old.names.keys < MAX_OBJECTS }
         requires room { HasRoom self.old }
         ensures ok { OnOk result (length self.new.names.keys < self.new.room) }
         ensures refused { OnErr result (self.old.room ≤ length self.old.names.keys) }
@@ -116,7 +115,7 @@ impl Objects {
         if len < self.room {
             return Ok(());
         }
-        self.widen((2 * len + 8).min(MAX_COUNT))
+        self.widen((2 * len + 8).min(MAX_OBJECTS))
     }
 
     /// The place of an object that an access names.

@@ -6,7 +6,7 @@ ghost use Rattle.topk_theory.specs.Transcript.{list_of, object_of, named_objects
 ghost use Rattle.topk_theory.specs.Consistent.{SomeAgrees};
 ghost use Rattle.access_log.specs.Kept.{IsRecordOf};
 
-use monotone_fn::MAX_LISTS;
+use limits::MAX_LISTS;
 use topk_theory::Access;
 
 /// What the accesses tell of an object: by the numbers of the lists its known grades, and which lists

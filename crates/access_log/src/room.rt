@@ -6,7 +6,7 @@ ghost use Rattle.access_log.specs.Kept.{AreObjects, HasRoom};
 
 use super::Memory;
 use super::objects::Objects;
-use super::transcript::MAX_COUNT;
+use limits::MAX_OBJECTS;
 use topk_theory::Access;
 
 /// Makes room for one more access, and for its object where that has no place yet.
@@ -15,7 +15,7 @@ pub fn make_room(
     objects: &mut Objects,
     place: Option<u32>,
 ) -> Result<(), Memory>
-    requires fits { place ≡ None → length objects.old.names.keys < MAX_COUNT }
+    requires fits { place ≡ None → length objects.old.names.keys < MAX_OBJECTS }
     requires room { HasRoom objects.old }
     ensures accesses { accesses.new.items ≡ accesses.old.items }
     ensures capacity { vec_capacity accesses.old ≤ vec_capacity accesses.new }

@@ -7,16 +7,11 @@ use super::first_kind::first_kind;
 use super::objects::Objects;
 use super::record::NONE_KNOWN;
 use super::room::{make_room, spare_after};
+use limits::{MAX_NUMBER, MAX_OBJECTS};
 use monotone_fn::{Costs, Expr};
 use std::alloc::Global;
 use std::marker::Model;
 use topk_theory::Access;
-
-/// How many lists a transcript may have.
-pub const MAX_LISTS: u8 = 8;
-
-/// How many objects a list may have.
-pub const MAX_COUNT: u32 = 200_000;
 
 /// The accesses that a query made, in their order, with the grades that they gave. Some table of
 /// its lists and its number of objects always agrees with it. Contracts see it as a `Log`.
@@ -77,7 +72,7 @@ impl Transcript {
     /// Reserves room for at least so many more objects and accesses, for which `push` then wants no
     /// memory. Where memory is refused nothing has changed.
     pub fn reserve(&mut self, objects: u32, accesses: u64) -> Result<(), Memory>
-        requires { length (named_objects self.old.accesses) + objects ≤ MAX_COUNT }
+        requires { length (named_objects self.old.accesses) + objects ≤ MAX_OBJECTS }
         ensures ok { OnOk result (self.new
             ≡ record self.old { spare_objects = max self.old.spare_objects objects; spare_accesses = max self.old.spare_accesses accesses }) }
         ensures err { OnErr result (self.new ≡ self.old) }
@@ -224,8 +219,8 @@ impl Transcript {
 
     /// What the accesses cost.
     pub fn cost(&self, costs: &Costs) -> u64
-        requires sorted { costs.now.sorted ≤ 1000000 }
-        requires random { costs.now.random ≤ 1000000 }
+        requires sorted { costs.now.sorted ≤ MAX_NUMBER }
+        requires random { costs.now.random ≤ MAX_NUMBER }
         requires accesses { length self.now.accesses < 2 ^ 40 }
         ensures { result ≡ cost costs.now.sorted costs.now.random self.now.accesses }
     {

@@ -13,9 +13,9 @@ use Rattle.topk_theory.specs.Transcript.{seen_objects}
 use Rattle.topk_theory.specs.Bounds.{bounded, low, high}
 use Rattle.topk_theory.specs.NoRandom.{seen_items}
 use Rattle.topk_theory.proofs.InOrder.{length-in_order}
+use Rattle.topk_theory.proofs.NoRandomLaws.{items_distinct}
 use Rattle.ranked_slots.specs.Slots.{Slots}
 use Rattle.nra_theory.specs.Late.{at_least}
-use Rattle.nra_theory.proofs.SeenItems.{distinct_seen}
 use Rattle.nra_theory.proofs.Ending.{first_of_kept}
 use Rattle.late_bounds.specs.Late.{IsLate, HasLeast}
 use Rattle.late_bounds.proofs.Least.{kth_is_least}
@@ -45,7 +45,8 @@ one_more V m A bound place object at =
     ∙ ap (λ xs. at_least bound xs) (map_more (bounded V m A) (take place seen) object)
     ∙ filter-append (λ (item : Item). nat_le bound item.low) (map (bounded V m A) (take place seen)) (bounded V m A object ∷ [])
 
-pub one_collected : (V : List ℕ → ℕ) (m : ℕ) (A : List Access) (bound place object low_now high_now : ℕ) (before after : List Item) → slice_get (seen_objects A) place ≡ Some object
+pub one_collected : (V : List ℕ → ℕ) (m : ℕ) (A : List Access) (bound place object low_now high_now : ℕ) (before after : List Item)
+    → slice_get (seen_objects A) place ≡ Some object
     → low_now ≡ low V m A object → high_now ≡ high V m A object → bound ≤ low_now → before ≡ collected V m A bound place
     → after ≡ before ++ record { object = object; low = low_now; high = high_now } ∷ [] → after ≡ collected V m A bound (place + 1)
 one_collected V m A bound place object low_now high_now before after at low_is high_is upto before_is after_is =
@@ -56,7 +57,8 @@ one_collected V m A bound place object low_now high_now before after at low_is h
     ∙ ap (λ items. collected V m A bound place ++ items) (sym (kept_one bound (bounded V m A object) (omega arith)))
     ∙ sym (one_more V m A bound place object at)
 
-pub none_collected : (V : List ℕ → ℕ) (m : ℕ) (A : List Access) (bound place object low_now : ℕ) (items : List Item) → slice_get (seen_objects A) place ≡ Some object
+pub none_collected : (V : List ℕ → ℕ) (m : ℕ) (A : List Access) (bound place object low_now : ℕ) (items : List Item)
+    → slice_get (seen_objects A) place ≡ Some object
     → low_now ≡ low V m A object → low_now < bound → items ≡ collected V m A bound place → items ≡ collected V m A bound (place + 1)
 none_collected V m A bound place object low_now items at low_is less items_are =
     items_are
@@ -64,15 +66,17 @@ none_collected V m A bound place object low_now items at low_is less items_are =
     ∙ ap (λ more. collected V m A bound place ++ more) (sym (kept_none bound (bounded V m A object) (omega arith)))
     ∙ sym (one_more V m A bound place object at)
 
-pub distinct_collected : (V : List ℕ → ℕ) (m : ℕ) (A : List Access) (bound : ℕ) (items : List Item) → items ≡ at_least bound (seen_items V m A) → AreDistinct items
+pub distinct_collected : (V : List ℕ → ℕ) (m : ℕ) (A : List Access) (bound : ℕ) (items : List Item) → items ≡ at_least bound (seen_items V m A)
+    → AreDistinct items
 distinct_collected V m A bound items is =
-    subst (λ (xs : List Item). AreDistinct xs) (sym is) (AllPairs-filter (λ (a : Item) (b : Item). a.object ≢ b.object) (λ (item : Item). nat_le bound item.low) (seen_items V m A) (distinct_seen V m A))
+    subst (λ (xs : List Item). AreDistinct xs) (sym is) (AllPairs-filter (λ (a : Item) (b : Item). a.object ≢ b.object) (λ (item : Item). nat_le bound item.low) (seen_items V m A) (items_distinct V m A))
 
-pub first_collected : (V : List ℕ → ℕ) (k m : ℕ) (A : List Access) (first : Slots) (candidates : List (Option ℕ)) (bound : ℕ) (items ordered : List Item) → IsLate V k m A first candidates
+pub first_collected : (V : List ℕ → ℕ) (k m : ℕ) (A : List Access) (first : Slots) (candidates : List (Option ℕ)) (bound : ℕ) (items ordered : List Item)
+    → IsLate V k m A first candidates
     → HasLeast k first.entries bound → items ≡ at_least bound (seen_items V m A) → ordered ≡ in_order items → take k ordered ≡ first_k k (seen_items V m A)
 first_collected V k m A first candidates bound items ordered late has items_are ordered_is =
     ap (take k) (ordered_is ∙ ap (λ xs. in_order xs) items_are)
-    ∙ first_of_kept k (seen_items V m A) bound late.asked (distinct_seen V m A) (kth_is_least V k m A first candidates bound late has)
+    ∙ first_of_kept k (seen_items V m A) bound late.asked (items_distinct V m A) (kth_is_least V k m A first candidates bound late has)
 
 take_front : (xs ys : List Item) (n : ℕ) → n ≡ length xs → take n (xs ++ ys) ≡ xs
 take_front [] ys zero e = refl
@@ -80,7 +84,8 @@ take_front [] ys (suc n) e = absurd (omega arith)
 take_front (x ∷ xs) ys zero e = absurd (omega arith)
 take_front (x ∷ xs) ys (suc n) e = ap (λ zs. x ∷ zs) (take_front xs ys n (omega arith))
 
-pub first_taken : (k len : ℕ) (items ordered rest : List Item) → ordered ≡ in_order items → length items ≡ len → take k (take len (ordered ++ rest)) ≡ take k ordered
+pub first_taken : (k len : ℕ) (items ordered rest : List Item) → ordered ≡ in_order items → length items ≡ len
+    → take k (take len (ordered ++ rest)) ≡ take k ordered
 first_taken k len items ordered rest is size =
     let sorted : length ordered ≡ length (in_order items) = ap length is in
     let same : length (in_order items) ≡ length items = length-in_order items in

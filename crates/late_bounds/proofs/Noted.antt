@@ -8,9 +8,9 @@ use Rattle.topk_theory.specs.declared.access.Access.{Access}
 use Rattle.topk_theory.specs.declared.access.Access.TheVariants.{Sorted, Random}
 use Rattle.topk_theory.specs.Transcript.{object_of, seen_objects}
 use Rattle.topk_theory.specs.Bounds.{low, high}
-use Rattle.topk_theory.proofs.AgreementLists.{contains_nil, contains_cases, slice_get_contains}
+use Rattle.topk_theory.proofs.AgreementLists.{contains_nil, contains_cases, slice_get_contains, get_front, one_place}
 use Rattle.topk_theory.proofs.AgreementNames.{has, has_contains, has_not}
-use Rattle.topk_theory.proofs.Agreement.{seen_distinct, seen_objects_old, seen_objects_new, seen_objects_random, known_cases}
+use Rattle.topk_theory.proofs.Agreement.{seen_distinct, seen_objects_old, seen_objects_new, seen_objects_random}
 use Rattle.std.proofs.lemmas.List.Elements.{Contains-append_cases}
 use Rattle.access_log.proofs.RecordKept.{placed}
 use Rattle.indexed_heap.specs.Ranks.{rank_at}
@@ -20,8 +20,9 @@ use Rattle.ranked_slots.proofs.Changes.{get_last, get_before, get_set_same, get_
 use Rattle.nra_theory.specs.Late.{AreApart, AreNextBounds, Keeps, with_one, exchanged}
 use Rattle.nra_theory.proofs.Candidates.{NamesOutside, keeps_of_member, keeps_of_few, keeps_of_outside, keeps_of_known, keeps_of_exchange, keeps_same}
 use Rattle.nra_theory.proofs.Members.{all_in}
+use Rattle.ranked_list.proofs.OptionLaws.{option_cases}
 use Rattle.late_bounds.specs.Late.{at_place, is_first, is_candidate, AreSeen, IsLate}
-use Rattle.late_bounds.proofs.Places.{place_at, of_places, at_with, at_exchanged, at_grown, has_place, has_from, has_slot, has_added, has_renewed, has_replaced, none_has, has_high, high_put, high_removed, one_place, same_passes}
+use Rattle.late_bounds.proofs.Places.{place_at, of_places, at_with, at_exchanged, at_grown, has_place, has_from, has_slot, has_added, has_renewed, has_replaced, none_has, has_high, high_put, high_removed, same_passes}
 
 -- ---- what is seen after one more access
 abbrev pub IsOld : List Access → Access → Type 0
@@ -39,11 +40,6 @@ old_or_new A (Sorted list object grade) c =
 old_or_new A (Random list object grade) c =
     let same : seen_objects (A ++ Random list object grade ∷ []) ≡ seen_objects A = seen_objects_random A list object grade in
     inl (subst (λ os. Contains os object) same c, same)
-
-get_front : (xs ys : List ℕ) (i : ℕ) → i < length xs → slice_get (xs ++ ys) i ≡ slice_get xs i
-get_front [] ys i lt = absurd (omega arith)
-get_front (x ∷ xs) ys zero lt = refl
-get_front (x ∷ xs) ys (suc i) lt = get_front xs ys i (omega arith)
 
 -- the object at a place of those seen before
 pub before_at : (A : List Access) (a : Access) (place x : ℕ) → IsOld A a ⊎ IsNew A a → place < length (seen_objects A)
@@ -267,7 +263,7 @@ grown_by A a (inr new) = record {
 pub slot_of_first : (A : List Access) (entries : List Entry) (x : ℕ) → is_first A entries x ≡ true
     → (slot : ℕ) × (entry : Entry) × (slice_get entries slot ≡ Some entry) × (slice_get (seen_objects A) entry.key ≡ Some x)
 slot_of_first A entries x t =
-    elim (known_cases (position (nat_eq x) (seen_objects A))) [
+    elim (option_cases (position (nat_eq x) (seen_objects A))) [
       | inl none ↦ absurd (false≢true (sym (ap (at_place (has_place entries)) none) ∙ t))
       | inr some ↦ (
           let r = has_slot entries some.0 (sym (ap (at_place (has_place entries)) some.1) ∙ t) in

@@ -39,7 +39,8 @@ NotesMember V k m A first candidates slot place old B o =
     → slice_get (seen_objects B) place ≡ Some o → AreDistinctKeys (set first.entries slot (record { key = old.key; rank = low V m B o }))
     → IsLate V k m B (record first { entries = set first.entries slot (record { key = old.key; rank = low V m B o }) }) candidates
 
-member_told : (V : List ℕ → ℕ) (k m : ℕ) (A : List Access) (a : Access) (first : Slots) (candidates : List (Option ℕ)) (slot place : ℕ) (old : Entry) (B : List Access) (o : ℕ)
+member_told : (V : List ℕ
+    → ℕ) (k m : ℕ) (A : List Access) (a : Access) (first : Slots) (candidates : List (Option ℕ)) (slot place : ℕ) (old : Entry) (B : List Access) (o : ℕ)
     → B ≡ A ++ a ∷ [] → object_of a ≡ o → NotesMember V k m A first candidates slot place old B o
 member_told V k m A a first candidates slot place old B o told named =
     subst (λ x. NotesMember V k m A first candidates slot place old B x) named
@@ -67,7 +68,8 @@ NotesOutside V k m A first candidates place slot B o =
     → (least : IsLeast first.entries slot) → low V m B o ≤ least.entry.rank
     → IsLate V k m B first (set candidates place (Some (high V m B o)))
 
-outside_told : (V : List ℕ → ℕ) (k m : ℕ) (A : List Access) (a : Access) (first : Slots) (candidates : List (Option ℕ)) (place slot : ℕ) (B : List Access) (o : ℕ)
+outside_told : (V : List ℕ
+    → ℕ) (k m : ℕ) (A : List Access) (a : Access) (first : Slots) (candidates : List (Option ℕ)) (place slot : ℕ) (B : List Access) (o : ℕ)
     → B ≡ A ++ a ∷ [] → object_of a ≡ o → NotesOutside V k m A first candidates place slot B o
 outside_told V k m A a first candidates place slot B o told named =
     subst (λ x. NotesOutside V k m A first candidates place slot B x) named
@@ -95,7 +97,8 @@ NotesExchange V k m A first candidates place slot left B o =
     → AreDistinctKeys (set first.entries slot (record { key = place; rank = low V m B o }))
     → IsLate V k m B (record first { entries = set first.entries slot (record { key = place; rank = low V m B o }) }) (set (set candidates place None) least.entry.key (Some (high V m B left)))
 
-exchange_told : (V : List ℕ → ℕ) (k m : ℕ) (A : List Access) (a : Access) (first : Slots) (candidates : List (Option ℕ)) (place slot left : ℕ) (B : List Access) (o : ℕ)
+exchange_told : (V : List ℕ
+    → ℕ) (k m : ℕ) (A : List Access) (a : Access) (first : Slots) (candidates : List (Option ℕ)) (place slot left : ℕ) (B : List Access) (o : ℕ)
     → B ≡ A ++ a ∷ [] → object_of a ≡ o → NotesExchange V k m A first candidates place slot left B o
 exchange_told V k m A a first candidates place slot left B o told named =
     subst (λ x. NotesExchange V k m A first candidates place slot left B x) named
@@ -150,7 +153,8 @@ note_few e log object late place low_now seen_now after agrees was at none seen_
     }
 
 -- its low isn't above the least, and it is new
-pub note_outside : (e : Tree) (log : Log) (object : ℕ) (late : LateBounds) (place slot low_now high_now seen_now : ℕ) (got : Entry) (after : List (Option ℕ)) → IsConsistent log
+pub note_outside : (e : Tree) (log : Log) (object : ℕ) (late : LateBounds) (place slot low_now high_now seen_now : ℕ) (got : Entry) (after : List (Option ℕ))
+    → IsConsistent log
     → (was : WasLate e log object late) → position (nat_eq object) (seen_objects log.accesses) ≡ Some place → HasNone late.first.entries place
     → seen_now ≡ length (seen_objects log.accesses) → low_now ≡ low (value e) log.lists log.accesses object → late.k ≤ length late.first.entries
     → IsLeast late.first.entries slot → slice_get late.first.entries slot ≡ Some got → low_now ≤ got.rank
@@ -186,7 +190,8 @@ note_known e log object late place slot low_now seen_now got agrees was at none 
     }
 
 -- its low is above the least, whose place it takes
-pub note_exchange : (e : Tree) (log : Log) (object : ℕ) (late : LateBounds) (place slot low_now high_left left leaves seen_now : ℕ) (got : Entry) (after : Slots) (emptied candidates : List (Option ℕ)) → IsConsistent log
+pub note_exchange : (e : Tree) (log : Log) (object : ℕ) (late : LateBounds) (place slot low_now high_left left leaves seen_now : ℕ) (got : Entry)
+    (after : Slots) (emptied candidates : List (Option ℕ)) → IsConsistent log
     → (was : WasLate e log object late) → position (nat_eq object) (seen_objects log.accesses) ≡ Some place → HasNone late.first.entries place
     → seen_now ≡ length (seen_objects log.accesses) → low_now ≡ low (value e) log.lists log.accesses object → late.k ≤ length late.first.entries
     → IsLeast late.first.entries slot → slice_get late.first.entries slot ≡ Some got → got.rank < low_now
@@ -212,7 +217,8 @@ note_exchange e log object late place slot low_now high_left left leaves seen_no
     }
 
 -- the place that leaves is that of a seen object
-pub leaves_within : (e : Tree) (log : Log) (object : ℕ) (late : LateBounds) (slot leaves : ℕ) → (was : WasLate e log object late) → IsAt late.first.entries leaves slot
+pub leaves_within : (e : Tree) (log : Log) (object : ℕ) (late : LateBounds) (slot leaves : ℕ) → (was : WasLate e log object late)
+    → IsAt late.first.entries leaves slot
     → leaves < length (seen_objects log.accesses)
 leaves_within e log object late slot leaves was is_at =
     let A = was.before in

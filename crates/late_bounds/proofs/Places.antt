@@ -1,13 +1,14 @@
 -- Sets of seen objects by their places: what a change at a place is of the objects.
-use Rattle.std.proofs.Common.{◌≡◌, ◌≢◌, inl, inr, ℕ, zero, suc, ◌<◌, ◌==◌, Bool, true, false, not, ◌&&◌, ◌||◌, List, [], ◌∷◌, ◌++◌, length, get_or, set, Option, Some, None, is_some, nat_eq, position, Contains, refl, sym, ap, subst, ◌∙◌, arith}
+use Rattle.std.proofs.Common.{◌≡◌, ◌≢◌, inl, inr, ℕ, zero, suc, ◌<◌, ◌==◌, Bool, true, false, not, ◌&&◌, ◌||◌, List, [], ◌∷◌, ◌++◌, length, set, Option, Some, None, is_some, nat_eq, position, Contains, refl, sym, ap, subst, ◌∙◌, arith}
 use Rattle.std.specs.List.{slice_get, list_any}
-use Rattle.std.proofs.lemmas.Bool.{cases_Bool, cases_eq, cases_order, false≢true, or_cases, or_left, or_right, eq-eqb, ne_eqb, eqb-true}
+use Rattle.std.specs.Cmp.{both_ways}
+use Rattle.std.proofs.Math.Bool.{or-false}
+use Rattle.std.proofs.lemmas.Bool.{cases_Bool, cases_eq, false≢true, or_cases, or_left, or_right, eq-eqb, ne_eqb, eqb-true}
 use Rattle.std.proofs.lemmas.List.{get_or-set_same, get_or-set_other}
 use Rattle.std.proofs.lemmas.List.Elements.{Contains-append_cases}
 use Rattle.std.proofs.lemmas.List.Folds.{list_any-append}
-use Rattle.std.proofs.lemmas.Option.{none-some, same_Some, slice_get_within, get_or_from_slice_get}
-use Rattle.topk_theory.proofs.AgreementLists.{contains_nil, contains_cases, slice_get_contains}
-use Rattle.topk_theory.proofs.Agreement.{known_cases}
+use Rattle.std.proofs.lemmas.Option.{none-some, same_Some, slice_get_within}
+use Rattle.topk_theory.proofs.AgreementLists.{contains_nil, contains_cases, slice_get_contains, one_place}
 use Rattle.access_log.proofs.RecordKept.{placed, not_placed, place_of_absent}
 use Rattle.indexed_heap.specs.Ranks.{rank_at}
 use Rattle.ranked_slots.specs.declared.slots.Entry.{Entry}
@@ -16,30 +17,16 @@ use Rattle.ranked_slots.proofs.Changes.{get_last, get_before, get_set_same, get_
 use Rattle.nra_theory.specs.Late.{AreApart, with_one, without, exchanged}
 use Rattle.nra_theory.proofs.Counts.{with_itself, with_other, without_itself, without_other}
 use Rattle.nra_theory.proofs.Members.{in_exchanged}
+use Rattle.ranked_list.proofs.OptionLaws.{option_cases}
 use Rattle.late_bounds.specs.Late.{at_place}
 
 -- ---- an object has one place
-pub one_place : (xs : List ℕ) (p q x : ℕ) → AreApart xs → slice_get xs p ≡ Some x → slice_get xs q ≡ Some x → p ≡ q
-one_place xs p q x apart at_p at_q =
-    let in_p = slice_get_within xs p x at_p in
-    let in_q = slice_get_within xs q x at_q in
-    let same : get_or xs p x ≡ get_or xs q x = get_or_from_slice_get xs p x x at_p ∙ sym (get_or_from_slice_get xs q x x at_q) in
-    elim (cases_order p q) [
-      | inl e ↦ e
-      | inr other ↦ elim other [ inl lt ↦ absurd (apart p q x lt in_q same) | inr gt ↦ absurd (apart q p x gt in_p (sym same)) ]
-    ]
-
 pub place_at : (xs : List ℕ) (p x : ℕ) → AreApart xs → slice_get xs p ≡ Some x → position (nat_eq x) xs ≡ Some p
 place_at xs p x apart at =
-    elim (known_cases (position (nat_eq x) xs)) [
+    elim (option_cases (position (nat_eq x) xs)) [
       | inl none ↦ absurd (not_placed x xs none (slice_get_contains xs p x at))
       | inr some ↦ some.1 ∙ ap (λ q. Some q) (one_place xs some.0 p x apart (placed x some.0 xs some.1) at)
     ]
-
-both_ways : (a b : Bool) → (a ≡ true → b ≡ true) → (b ≡ true → a ≡ true) → a ≡ b
-both_ways true b there back = sym (there refl)
-both_ways false true there back = back refl
-both_ways false false there back = refl
 
 -- two places are one exactly where their objects are
 same_at : (xs : List ℕ) (p q o x : ℕ) → AreApart xs → slice_get xs p ≡ Some o → slice_get xs q ≡ Some x → (p == q) ≡ (o == x)
@@ -63,7 +50,7 @@ at_none passes found e = ap (at_place passes) e
 
 pub same_passes : (xs : List ℕ) (passes then : ℕ → Bool) (x : ℕ) → ((q : ℕ) → then q ≡ passes q) → of_places xs then x ≡ of_places xs passes x
 same_passes xs passes then x same =
-    elim (known_cases (position (nat_eq x) xs)) [
+    elim (option_cases (position (nat_eq x) xs)) [
       | inl none ↦ at_none then (position (nat_eq x) xs) none ∙ sym (at_none passes (position (nat_eq x) xs) none)
       | inr some ↦ at_some then (position (nat_eq x) xs) some.0 some.1 ∙ same some.0 ∙ sym (at_some passes (position (nat_eq x) xs) some.0 some.1)
     ]
@@ -71,7 +58,7 @@ same_passes xs passes then x same =
 pub at_with : (xs : List ℕ) (passes then : ℕ → Bool) (p o x : ℕ) → AreApart xs → slice_get xs p ≡ Some o → ((q : ℕ) → then q ≡ with_one passes p q)
     → of_places xs then x ≡ with_one (of_places xs passes) o x
 at_with xs passes then p o x apart at same =
-    elim (known_cases (position (nat_eq x) xs)) [
+    elim (option_cases (position (nat_eq x) xs)) [
       | inl none ↦ at_none then (position (nat_eq x) xs) none ∙ sym (ap (λ b. b || (o == x)) (at_none passes (position (nat_eq x) xs) none) ∙ unseen_other xs p o x at none)
       | inr some ↦ (
           let q = some.0 in
@@ -83,7 +70,7 @@ at_with xs passes then p o x apart at same =
 pub at_without : (xs : List ℕ) (passes then : ℕ → Bool) (p o x : ℕ) → AreApart xs → slice_get xs p ≡ Some o → ((q : ℕ) → then q ≡ without passes p q)
     → of_places xs then x ≡ without (of_places xs passes) o x
 at_without xs passes then p o x apart at same =
-    elim (known_cases (position (nat_eq x) xs)) [
+    elim (option_cases (position (nat_eq x) xs)) [
       | inl none ↦ at_none then (position (nat_eq x) xs) none ∙ sym (ap (λ b. b && not (o == x)) (at_none passes (position (nat_eq x) xs) none))
       | inr some ↦ (
           let q = some.0 in
@@ -109,7 +96,7 @@ pub at_grown : (xs : List ℕ) (passes : ℕ → Bool) (o x : ℕ) → AreApart 
     → of_places (xs ++ o ∷ []) passes x ≡ of_places xs passes x
 at_grown xs passes o x apart fails =
     let now = xs ++ o ∷ [] in
-    elim (known_cases (position (nat_eq x) xs)) [
+    elim (option_cases (position (nat_eq x) xs)) [
       | inr some ↦ (
           let q = some.0 in
           let at : slice_get xs q ≡ Some x = placed x q xs some.1 in
@@ -149,13 +136,9 @@ none_has entries place none =
       | inr f ↦ f
     ]
 
-or_false : (b : Bool) → (b || false) ≡ b
-or_false true = refl
-or_false false = refl
-
 pub has_added : (entries : List Entry) (new : Entry) (place : ℕ) → has_place (entries ++ new ∷ []) place ≡ with_one (has_place entries) new.key place
 has_added entries new place =
-    list_any-append (λ (entry : Entry). entry.key == place) entries (new ∷ []) ∙ ap (λ b. has_place entries place || b) (or_false (new.key == place))
+    list_any-append (λ (entry : Entry). entry.key == place) entries (new ∷ []) ∙ ap (λ b. has_place entries place || b) (or-false (new.key == place))
 
 pub has_renewed : (entries : List Entry) (slot : ℕ) (old new : Entry) (place : ℕ) → slice_get entries slot ≡ Some old → new.key ≡ old.key
     → has_place (set entries slot new) place ≡ has_place entries place

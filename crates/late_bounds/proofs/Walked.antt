@@ -7,7 +7,7 @@ use Rattle.std.proofs.lemmas.Option.{none-some, same_Some, slice_get_within}
 use Rattle.topk_theory.specs.declared.access.Access.{Access}
 use Rattle.topk_theory.specs.Transcript.{seen_objects}
 use Rattle.topk_theory.specs.Bounds.{low, high}
-use Rattle.topk_theory.proofs.Agreement.{seen_distinct, known_cases}
+use Rattle.topk_theory.proofs.Agreement.{seen_distinct}
 use Rattle.access_log.proofs.RecordKept.{placed}
 use Rattle.indexed_heap.specs.Ranks.{rank_at}
 use Rattle.ranked_slots.specs.declared.slots.Entry.{Entry}
@@ -16,6 +16,7 @@ use Rattle.ranked_slots.proofs.Changes.{get_set_same, get_set_other}
 use Rattle.nra_theory.specs.Late.{IsLeastLow, AreOthersWithin, without, exchanged}
 use Rattle.nra_theory.proofs.Members.{exchange_least}
 use Rattle.nra_theory.proofs.Candidates.{keeps_of_giving_up, keeps_of_tie, within_candidates, not_within_with_witness, keeps_same, least_same}
+use Rattle.ranked_list.proofs.OptionLaws.{option_cases}
 use Rattle.late_bounds.specs.Late.{at_place, is_first, is_candidate, IsLate, IsToLeave, AreOpenFrom, GivesPlace}
 use Rattle.late_bounds.proofs.Places.{place_at, at_without, at_exchanged, has_place, has_from, has_replaced, has_high, high_removed}
 use Rattle.late_bounds.proofs.Noted.{slot_of_first}
@@ -36,11 +37,11 @@ candidate_at A candidates place object kept at there =
 place_of_candidate : (A : List Access) (candidates : List (Option ℕ)) (object : ℕ) → is_candidate A candidates object ≡ true
     → (place kept : ℕ) × (rank_at candidates place ≡ Some kept) × (slice_get (seen_objects A) place ≡ Some object)
 place_of_candidate A candidates object t =
-    elim (known_cases (position (nat_eq object) (seen_objects A))) [
+    elim (option_cases (position (nat_eq object) (seen_objects A))) [
       | inl none ↦ absurd (false≢true (sym (ap (at_place (has_high candidates)) none) ∙ t))
       | inr some ↦ (
           let has : has_high candidates some.0 ≡ true = sym (ap (at_place (has_high candidates)) some.1) ∙ t in
-          elim (known_cases (rank_at candidates some.0)) [
+          elim (option_cases (rank_at candidates some.0)) [
             | inl none ↦ absurd (false≢true (sym (ap (λ (o : Option ℕ). is_some o) none) ∙ has))
             | inr kept ↦ (some.0, kept.0, kept.1, placed object some.0 (seen_objects A) some.1)
           ])
@@ -226,7 +227,8 @@ pub not_tied : (V : List ℕ → ℕ) (m : ℕ) (A : List Access) (bound : ℕ) 
     → entry.rank ≢ bound → ¬ IsToLeave V m A bound entries slot
 not_tied V m A bound entries slot entry at apart = λ leaves. apart (ap (λ (x : Entry). x.rank) (same_Some entry leaves.entry (sym at ∙ leaves.there)) ∙ leaves.tied)
 
-pub not_within : (V : List ℕ → ℕ) (m : ℕ) (A : List Access) (bound : ℕ) (entries : List Entry) (slot object : ℕ) (entry : Entry) → slice_get entries slot ≡ Some entry
+pub not_within : (V : List ℕ → ℕ) (m : ℕ) (A : List Access) (bound : ℕ) (entries : List Entry) (slot object : ℕ) (entry : Entry)
+    → slice_get entries slot ≡ Some entry
     → slice_get (seen_objects A) entry.key ≡ Some object → bound < high V m A object → ¬ IsToLeave V m A bound entries slot
 not_within V m A bound entries slot object entry at there above = λ leaves.
     let is : entry ≡ leaves.entry = same_Some entry leaves.entry (sym at ∙ leaves.there) in

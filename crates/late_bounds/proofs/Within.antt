@@ -2,9 +2,9 @@
 use Rattle.std.proofs.Common.{◌≡◌, ◌≢◌, ◌⊎◌, inl, inr, ℕ, ◌+◌, ◌<◌, ◌≤◌, Bool, true, false, List, length, set, Option, Some, None, nat_cmp, refl, sym, ap, subst, ◌∙◌, arith}
 use Rattle.std.specs.List.{slice_get}
 use Rattle.std.specs.Bool.{IsTrue}
-use Rattle.std.specs.Cmp.{nat_cmp_is}
+use Rattle.std.specs.Cmp.{both_ways}
 use Rattle.std.specs.declared.cmp.Ordering.TheVariants.{Greater}
-use Rattle.std.proofs.lemmas.Bool.{cases_lt, false≢true}
+use Rattle.std.proofs.lemmas.Bool.{false≢true}
 use Rattle.std.proofs.lemmas.Option.{none-some}
 use Rattle.topk_theory.specs.declared.access.Access.{Access}
 use Rattle.topk_theory.specs.Transcript.{seen_objects}
@@ -14,6 +14,7 @@ use Rattle.access_log.specs.Log.{Log}
 use Rattle.indexed_heap.specs.Ranks.{rank_at}
 use Rattle.ranked_slots.specs.declared.slots.Entry.{Entry}
 use Rattle.ranked_slots.specs.Slots.{Slots, HasNone, AreDistinctKeys}
+use Rattle.ranked_slots.proofs.Changes.{no_greater}
 use Rattle.nra_theory.specs.Late.{IsLeastLow, AreOthersWithin}
 use Rattle.nra_theory.specs.Quiet.{is_quiet_seen}
 use Rattle.nra_theory.proofs.Candidates.{within_same}
@@ -23,11 +24,9 @@ use Rattle.late_bounds.proofs.Places.{place_at, has_place, has_from}
 use Rattle.late_bounds.proofs.Walked.{Walks, candidate_at, walked_given_up, walked_exchanged, walk_within, walk_witness}
 use Rattle.late_bounds.proofs.Least.{least_low_is, enough_seen}
 
-no_greater : (a b : ℕ) → nat_cmp a b ≢ Greater → a ≤ b
-no_greater a b none = elim (cases_lt b a) [ inl lt ↦ absurd (none (sym (nat_cmp_is a b Greater lt))) | inr upto ↦ upto ]
-
 -- no kept high is above the greatest, nor where there is none
-pub none_above_greatest : (candidates : List (Option ℕ)) (bound rank : ℕ) → ((place kept : ℕ) → rank_at candidates place ≡ Some kept → nat_cmp kept rank ≢ Greater)
+pub none_above_greatest : (candidates : List (Option ℕ)) (bound rank : ℕ)
+    → ((place kept : ℕ) → rank_at candidates place ≡ Some kept → nat_cmp kept rank ≢ Greater)
     → rank ≤ bound → (place kept : ℕ) → rank_at candidates place ≡ Some kept → kept ≤ bound
 none_above_greatest candidates bound rank above upto = λ place kept at. (let less = no_greater kept rank (above place kept at) in omega arith)
 
@@ -49,7 +48,8 @@ all_within V k m A bound start first before candidates from late least enough wa
   λ _. refl,
 )
 
-pub one_against : (V : List ℕ → ℕ) (k m : ℕ) (A : List Access) (bound : ℕ) (start first : Slots) (before candidates : List (Option ℕ)) (from place object kept : ℕ)
+pub one_against : (V : List ℕ
+    → ℕ) (k m : ℕ) (A : List Access) (bound : ℕ) (start first : Slots) (before candidates : List (Option ℕ)) (from place object kept : ℕ)
     → IsLate V k m A start before → IsLeastLow (low V m A) (is_first A start.entries) bound → k ≤ length (seen_objects A)
     → Walks V k m A bound first candidates from → rank_at candidates place ≡ Some kept → slice_get (seen_objects A) place ≡ Some object
     → bound < high V m A object → (low V m A object < bound) ⊎ AreOpenFrom V m A bound first.entries from (length first.entries)
@@ -69,7 +69,8 @@ candidate_absent V k m A first candidates place object kept late at there = λ s
     false≢true (sym apart ∙ ap (at_place (has_place first.entries)) (place_at (seen_objects A) place object (seen_distinct A) there) ∙ has)
 
 -- ---- a step of the walk
-pub goes_on_without : (V : List ℕ → ℕ) (k m : ℕ) (A : List Access) (bound : ℕ) (first after : Slots) (candidates then : List (Option ℕ)) (from next place object kept high_now : ℕ)
+pub goes_on_without : (V : List ℕ
+    → ℕ) (k m : ℕ) (A : List Access) (bound : ℕ) (first after : Slots) (candidates then : List (Option ℕ)) (from next place object kept high_now : ℕ)
     → Walks V k m A bound first candidates from → rank_at candidates place ≡ Some kept → slice_get (seen_objects A) place ≡ Some object
     → high_now ≡ high V m A object → high_now ≤ bound → after ≡ first → next ≡ from → then ≡ set candidates place None → Walks V k m A bound after then next
 goes_on_without V k m A bound first after candidates then from next place object kept high_now walks at there high_is within after_is next_is then_is =
@@ -77,7 +78,8 @@ goes_on_without V k m A bound first after candidates then from next place object
     subst (λ s. Walks V k m A bound s then next) (sym after_is)
     (subst (λ cs. Walks V k m A bound first cs next) (sym then_is) (subst (λ n. Walks V k m A bound first (set candidates place None) n) (sym next_is) w))
 
-pub goes_on_exchanged : (V : List ℕ → ℕ) (k m : ℕ) (A : List Access) (bound : ℕ) (first replaced after : Slots) (candidates then : List (Option ℕ)) (from next slot place object kept high_now low_now : ℕ)
+pub goes_on_exchanged : (V : List ℕ
+    → ℕ) (k m : ℕ) (A : List Access) (bound : ℕ) (first replaced after : Slots) (candidates then : List (Option ℕ)) (from next slot place object kept high_now low_now : ℕ)
     → Walks V k m A bound first candidates from → rank_at candidates place ≡ Some kept → slice_get (seen_objects A) place ≡ Some object
     → high_now ≡ high V m A object → bound < high_now → low_now ≡ low V m A object → bound ≤ low_now → GivesPlace V m A bound first.entries from slot
     → replaced ≡ record first { entries = set first.entries slot (record { key = place; rank = bound }) } → AreDistinctKeys replaced.entries
@@ -90,11 +92,6 @@ goes_on_exchanged V k m A bound first replaced after candidates then from next s
     (subst (λ cs. Walks V k m A bound now cs next) (sym then_is) (subst (λ n. Walks V k m A bound now (set candidates place None) n) (sym next_is) w))
 
 -- ---- quiet
-both_ways : (a b : Bool) → (a ≡ true → b ≡ true) → (b ≡ true → a ≡ true) → a ≡ b
-both_ways true b there back = sym (there refl)
-both_ways false true there back = back refl
-both_ways false false there back = refl
-
 pub quiet_few : (V : List ℕ → ℕ) (k m n : ℕ) (A : List Access) (first : Slots) (candidates : List (Option ℕ)) → IsLate V k m A first candidates
     → (length first.entries < k) ⊎ (k ≡ 0) → false ≡ is_quiet_seen V k m n A
 quiet_few V k m n A first candidates late few =
@@ -106,13 +103,15 @@ quiet_few V k m n A first candidates late few =
     let enough = stop.enough in
     let h : ⊥ = omega arith in absurd h)
 
-pub quiet_unseen : (V : List ℕ → ℕ) (k : ℕ) (log : Log) (first : Slots) (candidates : List (Option ℕ)) (bound : ℕ) → IsLate V k log.lists log.accesses first candidates
+pub quiet_unseen : (V : List ℕ → ℕ) (k : ℕ) (log : Log) (first : Slots) (candidates : List (Option ℕ)) (bound : ℕ)
+    → IsLate V k log.lists log.accesses first candidates
     → HasLeast k first.entries bound → (¬ UnseenWithin V log bound) → false ≡ is_quiet_seen V k log.lists log.count log.accesses
 quiet_unseen V k log first candidates bound late has against =
     both_ways false (is_quiet_seen V k log.lists log.count log.accesses) (λ f. absurd (false≢true f))
     (λ q. absurd (against (stop_from_quiet V k log.lists log.count log.accesses (is_first log.accesses first.entries) bound late.asked late.keeps.first (λ enough. least_low_is V k log.lists log.accesses first candidates bound late has) q).unseen))
 
-pub quiet_others : (V : List ℕ → ℕ) (k : ℕ) (log : Log) (first : Slots) (candidates : List (Option ℕ)) (bound : ℕ) (answer : Bool) → IsLate V k log.lists log.accesses first candidates
+pub quiet_others : (V : List ℕ → ℕ) (k : ℕ) (log : Log) (first : Slots) (candidates : List (Option ℕ)) (bound : ℕ) (answer : Bool)
+    → IsLate V k log.lists log.accesses first candidates
     → HasLeast k first.entries bound → UnseenWithin V log bound → (IsTrue answer → Within V log.lists log.accesses first.entries bound) × (Within V log.lists log.accesses first.entries bound → IsTrue answer)
     → answer ≡ is_quiet_seen V k log.lists log.count log.accesses
 quiet_others V k log first candidates bound answer late has unseen exact =

@@ -42,7 +42,8 @@ pub record IsLate (V : List ℕ → ℕ) (k m : ℕ) (A : List Access) (first : 
   pub keeps : Keeps k (low V m A) (high V m A) (seen_objects A) (is_first A first.entries) (is_candidate A candidates)
   pub distinct : AreDistinctKeys first.entries
   pub places : AreSeen A first.entries
-  pub lows : (slot object : ℕ) (entry : Entry) → slice_get first.entries slot ≡ Some entry → slice_get (seen_objects A) entry.key ≡ Some object → entry.rank ≡ low V m A object
+  pub lows : (slot object : ℕ) (entry : Entry) → slice_get first.entries slot ≡ Some entry → slice_get (seen_objects A) entry.key ≡ Some object
+      → entry.rank ≡ low V m A object
   pub waiting : (place kept : ℕ) → rank_at candidates place ≡ Some kept → place < length (seen_objects A)
   pub highs : (place object kept : ℕ) → rank_at candidates place ≡ Some kept → slice_get (seen_objects A) place ≡ Some object → high V m A object ≤ kept
 

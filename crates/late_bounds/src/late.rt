@@ -12,6 +12,7 @@ ghost use Rattle.late_bounds.specs.Late.{IsLateAfter, KeepsLate, WasLate, HasLea
 use super::Memory;
 use access_log::Transcript;
 use indexed_heap::IndexedHeap;
+use limits::MAX_OBJECTS;
 use monotone_fn::Expr;
 use ranked_slots::RankedSlots;
 use std::alloc::Global;
@@ -33,8 +34,8 @@ impl LateBounds {
     /// For the first `k` of the objects, of which `room` may be seen. No other call takes memory.
     pub fn make(alloc: Global, k: u32, room: u32) -> Result<LateBounds, Memory>
         requires asked { 1 ≤ k }
-        requires few { k ≤ 200000 }
-        requires room { room ≤ 200000 }
+        requires few { k ≤ MAX_OBJECTS }
+        requires room { room ≤ MAX_OBJECTS }
         ensures k { IfOk result (λ late. late.k ≡ k) }
         ensures room { IfOk result (λ late. late.first.room ≡ room) }
         ensures kept { IfOk result (λ late. (e : Tree) (m : ℕ) → IsLateAfter e m [] late) }

@@ -13,6 +13,7 @@ ghost use Rattle.late_bounds.specs.Late.{IsLate, KeepsLate, is_first, AreSeen, G
 use super::late::{LateBounds, least_low};
 use access_log::Transcript;
 use indexed_heap::IndexedHeap;
+use limits::MAX_OBJECTS;
 use monotone_fn::Expr;
 use ranked_slots::RankedSlots;
 
@@ -47,7 +48,7 @@ fn next_to_leave(
 ) -> Option<u32>
     requires lists { transcript.now.lists ≡ list_count expr.now }
     requires places { AreSeen transcript.now.accesses first.now.entries }
-    ensures small { IfSome result (λ slot. slot < 200000) }
+    ensures small { IfSome result (λ slot. slot < MAX_OBJECTS) }
     ensures found { IfSome result (GivesPlace (value expr.now) transcript.now.lists transcript.now.accesses bound first.now.entries from) }
     ensures none { IfNone result (AreOpenFrom (value expr.now) transcript.now.lists transcript.now.accesses bound first.now.entries from (length first.now.entries)) }
 {

@@ -45,7 +45,8 @@ next_reached stops n own depth least at goes =
     record { positive = omega arith; within = omega (arith, up, least.within); unstopped = none }
 
 -- a run that goes on by blocks begins with what it reads down to each depth
-run_begins : (run_to block : ℕ → List Access) → ((d : ℕ) → run_to (suc d) ≡ run_to d ++ block d) → (depth more : ℕ) → (rest : List Access) × (run_to (depth + more) ≡ run_to depth ++ rest)
+run_begins : (run_to block : ℕ → List Access) → ((d : ℕ) → run_to (suc d) ≡ run_to d ++ block d) → (depth more : ℕ)
+    → (rest : List Access) × (run_to (depth + more) ≡ run_to depth ++ rest)
 run_begins run_to block grows depth zero = let e : depth + 0 ≡ depth = omega arith in ([], ap run_to e ∙ sym (append-nil (run_to depth)))
 run_begins run_to block grows depth (suc more) =
     let before = run_begins run_to block grows depth more in
@@ -53,7 +54,9 @@ run_begins run_to block grows depth (suc more) =
     (before.0 ++ block (depth + more), ap run_to e ∙ grows (depth + more) ∙ ap (λ A. A ++ block (depth + more)) before.1 ∙ append_assoc (run_to depth) before.0 (block (depth + more)))
 
 -- accesses that go on to the end of a depth that is reached are on the run
-pub at_on_path : (run_to block : ℕ → List Access) (stops : ℕ → Bool) (n own depth : ℕ) (A : List Access) (next : Access) (later : List Access) → ((d : ℕ) → run_to (suc d) ≡ run_to d ++ block d) → IsOwn stops n own → IsReached stops n depth → A ++ next ∷ later ≡ run_to depth → IsAt (run_to own) A (need_of A (Some next))
+pub at_on_path : (run_to block : ℕ → List Access) (stops : ℕ → Bool) (n own depth : ℕ) (A : List Access) (next : Access) (later : List Access)
+    → ((d : ℕ) → run_to (suc d) ≡ run_to d ++ block d) → IsOwn stops n own → IsReached stops n depth → A ++ next ∷ later ≡ run_to depth
+    → IsAt (run_to own) A (need_of A (Some next))
 at_on_path run_to block stops n own depth A next later grows least at path =
     let up : depth ≤ own = not_past stops n own depth least at.unstopped in
     let more = run_begins run_to block grows depth (own - depth) in

@@ -21,14 +21,15 @@ use Rattle.topk_theory.proofs.Agreement.{random_rows_random, random_rows_other, 
 use Rattle.topk_theory.proofs.AgreementNames.{has, has_contains, has_not, each_once_within, each_once_complete}
 use Rattle.topk_theory.proofs.Consistent.{empty_agrees}
 use Rattle.topk_theory.proofs.ThresholdRun.{seen_from_access, seen_more}
-use Rattle.access_log.specs.Machine.{MachineState, IsBegun, Takes, RowFed}
+use Rattle.access_log.specs.Machine.{MachineState, IsBegun, Takes, RowFed, MayBeNextRow, MayBeNextGrade}
 use Rattle.access_log.specs.declared.core_fault.CoreFault.{CoreFault}
 use Rattle.access_log.specs.declared.core_fault.CoreFault.TheVariants.{Strangers, RoomFull}
 use Rattle.machine_base.specs.declared.base.Base.{Base}
 use Rattle.machine_base.specs.Base.{shown, asked_of_list, IsHeld, Holds, IsTold, MayFollow, HasNoRoom}
 
 -- at the beginning
-pub held_start : (e : Tree) (k room count : ℕ) → NumbersLists e → 1 ≤ k → k ≤ count → count ≤ 200000 → 1 ≤ room → room ≤ count → IsHeld e k room (list_count e) count []
+pub held_start : (e : Tree) (k room count : ℕ) → NumbersLists e → 1 ≤ k → k ≤ count → count ≤ 200000 → 1 ≤ room → room ≤ count
+    → IsHeld e k room (list_count e) count []
 held_start e k room count lists asked fits counted roomy room_fits = record {
   posed = record { positive = asked; fits = fits; lists = refl; roomy = roomy; room_fits = room_fits };
   some_list = lists.some;
@@ -56,7 +57,8 @@ seen_by room A (Sorted list object grade) follows =
     seen_from_access (A ++ a ∷ []) list object grade (Contains-append_right A (a ∷ []) a (contains_here a []))
 seen_by room A (Random list object grade) follows = seen_more A (Random list object grade ∷ []) object follows.0
 
-pub named_more : (room : ℕ) (A : List Access) (a : Access) → MayFollow room A a → ((o : ℕ) → Contains (named_objects A) o → Contains (seen_objects A) o) → (o : ℕ) → Contains (named_objects (A ++ a ∷ [])) o → Contains (seen_objects (A ++ a ∷ [])) o
+pub named_more : (room : ℕ) (A : List Access) (a : Access) → MayFollow room A a → ((o : ℕ) → Contains (named_objects A) o → Contains (seen_objects A) o)
+    → (o : ℕ) → Contains (named_objects (A ++ a ∷ [])) o → Contains (seen_objects (A ++ a ∷ [])) o
 named_more room A a follows before o h =
     elim (named_by A a o h) [
       | inl there ↦ seen_more A (a ∷ []) o (before o there)
@@ -82,7 +84,8 @@ asked_push : (list : ℕ) (A : List Access) (object grade : ℕ) → asked_of_li
 asked_push list A object grade =
     ap (map (λ (row : Row). row.object)) (random_rows_random list A object grade) ∙ map-append (λ (row : Row). row.object) (random_rows list A) (record { object = object; grade = grade } ∷ [])
 
-pub once_more : (room : ℕ) (A : List Access) (a : Access) (list : ℕ) → MayFollow room A a → AllPairs (λ (one other : ℕ). one ≢ other) (asked_of_list list A) → AllPairs (λ (one other : ℕ). one ≢ other) (asked_of_list list (A ++ a ∷ []))
+pub once_more : (room : ℕ) (A : List Access) (a : Access) (list : ℕ) → MayFollow room A a → AllPairs (λ (one other : ℕ). one ≢ other) (asked_of_list list A)
+    → AllPairs (λ (one other : ℕ). one ≢ other) (asked_of_list list (A ++ a ∷ []))
 once_more room A (Sorted other object grade) list follows once =
     subst (λ (rows : List Row). AllPairs (λ (one other : ℕ). one ≢ other) (objects rows)) (sym (random_rows_sorted list other A object grade)) once
 once_more room A (Random other object grade) list follows once =
@@ -97,7 +100,8 @@ once_more room A (Random other object grade) list follows once =
           subst (λ (rows : List Row). AllPairs (λ (one two : ℕ). one ≢ two) (objects rows)) (sym (random_rows_other list other A object grade (λ e. true≢false (sym (eq-eqb other list e) ∙ f)))) once
     ]
 
-pub held_more : (e : Tree) (k room m n : ℕ) (A : List Access) (a : Access) → IsHeld e k room m n A → MayFollow room A a → SomeAgrees m n (A ++ a ∷ []) → IsHeld e k room m n (A ++ a ∷ [])
+pub held_more : (e : Tree) (k room m n : ℕ) (A : List Access) (a : Access) → IsHeld e k room m n A → MayFollow room A a → SomeAgrees m n (A ++ a ∷ [])
+    → IsHeld e k room m n (A ++ a ∷ [])
 held_more e k room m n A a held follows agreeing = record {
   posed = held.posed;
   some_list = held.some_list;
@@ -110,7 +114,9 @@ held_more e k room m n A a held follows agreeing = record {
 }
 
 -- what is so of the query, the lists and one more access is so of the base that was told it
-pub carried : (P : Tree → ℕ → ℕ → ℕ → ℕ → List Access → Type 0) (a : Access) (before after : Base) → IsTold a before after → P before.expr before.k before.room before.transcript.lists before.transcript.count (before.transcript.accesses ++ a ∷ []) → P after.expr after.k after.room after.transcript.lists after.transcript.count after.transcript.accesses
+pub carried : (P : Tree → ℕ → ℕ → ℕ → ℕ → List Access → Type 0) (a : Access) (before after : Base) → IsTold a before after
+    → P before.expr before.k before.room before.transcript.lists before.transcript.count (before.transcript.accesses ++ a ∷ [])
+    → P after.expr after.k after.room after.transcript.lists after.transcript.count after.transcript.accesses
 carried P a before after told h =
     subst (λ e. P e after.k after.room after.transcript.lists after.transcript.count after.transcript.accesses) (sym told.expr)
     (subst (λ k. P before.expr k after.room after.transcript.lists after.transcript.count after.transcript.accesses) (sym told.k)
@@ -120,13 +126,16 @@ carried P a before after told h =
     (subst (P before.expr before.k before.room before.transcript.lists before.transcript.count) (sym told.log.accesses) h)))))
 
 -- some table agrees with the base that was told an access: with the base before and the access
-pub some_before : (a : Access) (before after : Base) → IsTold a before after → SomeAgrees after.transcript.lists after.transcript.count after.transcript.accesses → SomeAgrees before.transcript.lists before.transcript.count (before.transcript.accesses ++ a ∷ [])
+pub some_before : (a : Access) (before after : Base) → IsTold a before after
+    → SomeAgrees after.transcript.lists after.transcript.count after.transcript.accesses
+    → SomeAgrees before.transcript.lists before.transcript.count (before.transcript.accesses ++ a ∷ [])
 some_before a before after told agreeing =
     subst (λ m. SomeAgrees m before.transcript.count (before.transcript.accesses ++ a ∷ [])) told.log.lists
     (subst (λ n. SomeAgrees after.transcript.lists n (before.transcript.accesses ++ a ∷ [])) told.log.count
     (subst (SomeAgrees after.transcript.lists after.transcript.count) told.log.accesses agreeing))
 
-pub holds_more : (a : Access) (before after : Base) → IsTold a before after → Holds before → MayFollow before.room before.transcript.accesses a → SomeAgrees after.transcript.lists after.transcript.count after.transcript.accesses → Holds after
+pub holds_more : (a : Access) (before after : Base) → IsTold a before after → Holds before → MayFollow before.room before.transcript.accesses a
+    → SomeAgrees after.transcript.lists after.transcript.count after.transcript.accesses → Holds after
 holds_more a before after told held follows agreeing =
     carried IsHeld a before after told
     (held_more before.expr before.k before.room before.transcript.lists before.transcript.count before.transcript.accesses a held follows (some_before a before after told agreeing))
@@ -141,7 +150,8 @@ held_asked e k room m n A D held agrees = record {
 }
 
 -- what contracts see: a machine that is begun, one that takes an access, and one that has no room for a row's object
-pub begun_with : (e : Tree) (k n room : ℕ) (costs : Costs) (base : Base) (need : Need) → IsBegun e k n room costs (shown base Done) → IsBegun e k n room costs (shown base need)
+pub begun_with : (e : Tree) (k n room : ℕ) (costs : Costs) (base : Base) (need : Need) → IsBegun e k n room costs (shown base Done)
+    → IsBegun e k n room costs (shown base need)
 begun_with e k n room costs base need begun = record {
   expr = begun.expr;
   asked = begun.asked;
@@ -161,8 +171,18 @@ takes a before after need then told = record {
   log = told.log;
 }
 
-pub no_room : (A : Type 0) (row : Row) (base : Base) (need : Need) (t : MachineState) (fault : CoreFault) → shown base need ≡ t → HasNoRoom row.object base fault → RowFed row t t {A = A} (Err fault)
+pub no_room : (A : Type 0) (row : Row) (base : Base) (need : Need) (t : MachineState) (fault : CoreFault) → shown base need ≡ t
+    → HasNoRoom row.object base fault → RowFed row t t {A = A} (Err fault)
 no_room A row base need t (Strangers object count) is full =
     subst (λ (s : MachineState). RowFed row s s {A = A} (Err (Strangers object count))) is (full.0, full.1, full.2, full.3, refl)
 no_room A row base need t (RoomFull room) is full =
     subst (λ (s : MachineState). RowFed row s s {A = A} (Err (RoomFull room))) is (full.0, full.1, full.2, refl)
+
+-- what may come next of what contracts see may come next of what is held
+pub may_row : (base : Base) (need : Need) (t : MachineState) (row : Row) → shown base need ≡ t → MayBeNextRow t.log t.need row
+    → MayBeNextRow base.transcript need row
+may_row base need t row is may = subst (λ (s : MachineState). MayBeNextRow s.log s.need row) (sym is) may
+
+pub may_grade : (base : Base) (need : Need) (t : MachineState) (grade : ℕ) → shown base need ≡ t → MayBeNextGrade t.log t.need grade
+    → MayBeNextGrade base.transcript need grade
+may_grade base need t grade is may = subst (λ (s : MachineState). MayBeNextGrade s.log s.need grade) (sym is) may

@@ -19,7 +19,9 @@ use Rattle.machine_base.specs.declared.base.Base.{Base}
 use Rattle.machine_base.specs.Base.{shown, Holds}
 
 -- a machine makes its run where on each table that agrees it is on it, and the table has what it needs
-pub makes_run : (run : Run) (base : Base) (need : Need) → Holds base → ((D : List (List Row)) → AgreesWith D base.transcript → IsAt (run (asked_of (shown base need)) D) base.transcript.accesses need × CanServe D need) → IsOfSeen base.transcript need → MakesRun run (shown base need)
+pub makes_run : (run : Run) (base : Base) (need : Need) → Holds base
+    → ((D : List (List Row)) → AgreesWith D base.transcript → IsAt (run (asked_of (shown base need)) D) base.transcript.accesses need × CanServe D need)
+    → IsOfSeen base.transcript need → MakesRun run (shown base need)
 makes_run run base need held needed tame = record {
   posed = held.posed;
   consistent = held.agreeing;
@@ -51,7 +53,9 @@ at_end run A D is = (
 )
 
 -- an answer that is the algorithm's and a top k of each table that agrees is fixed, where its objects are named
-pub answer_by : (answer : Answering) (t : MachineState) (items : List Item) → IsConsistent t.log → ((D : List (List Row)) → AgreesWith D t.log → items ≡ answer (asked_of t) D) → ((D : List (List Row)) → AgreesWith D t.log → IsTop (value t.expr) t.k D (item_objects items))
+pub answer_by : (answer : Answering) (t : MachineState) (items : List Item) → IsConsistent t.log
+    → ((D : List (List Row)) → AgreesWith D t.log → items ≡ answer (asked_of t) D)
+    → ((D : List (List Row)) → AgreesWith D t.log → IsTop (value t.expr) t.k D (item_objects items))
     → ((o : ℕ) → Contains (item_objects items) o → Contains (named_objects t.log.accesses) o) → IsAnswerBy answer t items
 answer_by answer t items some exact top named = record {
   exact = record { on_each = exact };

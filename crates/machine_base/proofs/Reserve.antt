@@ -37,7 +37,8 @@ one_here : (here : Bool) (row : Row) (rows : List Row) → length (cons_option (
 one_here true row rows = omega arith
 one_here false row rows = omega arith
 
-rows_more : (list : ℕ) (a : Access) (A : List Access) → length (sorted_rows list (a ∷ A)) + length (random_rows list (a ∷ A)) ≡ cond {A = ℕ} (list_of a == list) 1 0 + (length (sorted_rows list A) + length (random_rows list A))
+rows_more : (list : ℕ) (a : Access) (A : List Access)
+    → length (sorted_rows list (a ∷ A)) + length (random_rows list (a ∷ A)) ≡ cond {A = ℕ} (list_of a == list) 1 0 + (length (sorted_rows list A) + length (random_rows list A))
 rows_more list (Sorted other object grade) A = let e = one_here (other == list) (record { object = object; grade = grade }) (sorted_rows list A) in omega (arith, e)
 rows_more list (Random other object grade) A = let e = one_here (other == list) (record { object = object; grade = grade }) (random_rows list A) in omega (arith, e)
 
@@ -143,7 +144,8 @@ named_few : (A : List Access) → ((o : ℕ) → Contains (named_objects A) o �
 named_few A seen = distinct_fits (named_objects A) (seen_objects A) (named_distinct A) seen
 
 -- an object that is named by no access has room
-unnamed_fits : (room : ℕ) (A : List Access) (a : Access) → MayFollow room A a → ((o : ℕ) → Contains (named_objects A) o → Contains (seen_objects A) o) → (¬ Contains (named_objects A) (object_of a)) → length (named_objects A) < room
+unnamed_fits : (room : ℕ) (A : List Access) (a : Access) → MayFollow room A a → ((o : ℕ) → Contains (named_objects A) o → Contains (seen_objects A) o)
+    → (¬ Contains (named_objects A) (object_of a)) → length (named_objects A) < room
 unnamed_fits room A (Sorted list object grade) follows named_seen none =
     let few = named_few A named_seen in
     elim follows [ inl old ↦ absurd (none (seen_is_named A object old)) | inr spare ↦ omega arith ]
@@ -163,7 +165,8 @@ not_refused base a Memory held reserved can refused =
     ]
 
 -- and leaves what was reserved for the others
-pub reserved_more : (a : Access) (before after : Base) → IsReserved before → after.room ≡ before.room → after.transcript ≡ with_access before.transcript a → IsReserved after
+pub reserved_more : (a : Access) (before after : Base) → IsReserved before → after.room ≡ before.room → after.transcript ≡ with_access before.transcript a
+    → IsReserved after
 reserved_more a before after reserved same_room is =
     let log : Log = before.transcript in
     let A : List Access = log.accesses in
@@ -191,7 +194,8 @@ reserved_more a before after reserved same_room is =
     }
 
 -- at the beginning
-pub reserved_start : (base : Base) → base.transcript.accesses ≡ [] → base.room ≤ base.transcript.spare_objects → 2 * (base.transcript.lists * base.room) ≤ base.transcript.spare_accesses → IsReserved base
+pub reserved_start : (base : Base) → base.transcript.accesses ≡ [] → base.room ≤ base.transcript.spare_objects
+    → 2 * (base.transcript.lists * base.room) ≤ base.transcript.spare_accesses → IsReserved base
 reserved_start base none objects accesses = record {
   objects = omega (arith, objects);
   accesses = omega (arith, accesses);
@@ -199,7 +203,9 @@ reserved_start base none objects accesses = record {
 
 -- ---- what a machine tells
 -- a row can be told where it is of no kind but, maybe, of an object too many, and its object has room
-pub row_can : (base : Base) (list object grade : ℕ) → Holds base → ((kind : Kind) → IsOfKind base.transcript.lists base.transcript.count base.transcript.accesses (Sorted list object grade) kind → kind ≡ too_many_objects) → HasRoomFor (shown base Done) object → CanTake base (Sorted list object grade)
+pub row_can : (base : Base) (list object grade : ℕ) → Holds base
+    → ((kind : Kind) → IsOfKind base.transcript.lists base.transcript.count base.transcript.accesses (Sorted list object grade) kind → kind ≡ too_many_objects)
+    → HasRoomFor (shown base Done) object → CanTake base (Sorted list object grade)
 row_can base list object grade held only fits = record {
   follows = fits;
   consistent = λ kind of.

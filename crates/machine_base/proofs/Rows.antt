@@ -17,7 +17,8 @@ use Rattle.topk_theory.proofs.Agreement.{sorted_rows_append, agrees_gives, gives
 use Rattle.machine_base.specs.Depths.{IsReached, read_to}
 use Rattle.machine_base.proofs.Depths.{IsOwn, at_on_path}
 
-sorted_block-append : (start depth : ℕ) (xs ys : List (List Row)) → sorted_block start depth (xs ++ ys) ≡ sorted_block start depth xs ++ sorted_block (start + length xs) depth ys
+sorted_block-append : (start depth : ℕ) (xs ys : List (List Row))
+    → sorted_block start depth (xs ++ ys) ≡ sorted_block start depth xs ++ sorted_block (start + length xs) depth ys
 sorted_block-append start depth [] ys = ap (λ s. sorted_block s depth ys) (omega arith)
 sorted_block-append start depth (rows ∷ xs) ys =
     ap (λ rest. Sorted start (row_at rows depth).object (row_at rows depth).grade ∷ rest)
@@ -34,7 +35,8 @@ block_of_later list start depth (rows ∷ D) l =
 abbrev pub ReadsRows : (ℕ → List Access) → ℕ → List (List Row) → Type 0
 ReadsRows run_to n D = (depth list : ℕ) → depth ≤ n → list < length D → sorted_rows list (run_to depth) ≡ take depth (list_at D list)
 
-read_depth : (run_to : ℕ → List Access) (n : ℕ) (D : List (List Row)) (depth list : ℕ) → ReadsRows run_to n D → IsTable n D → 1 ≤ depth → depth ≤ n → list < length D → depth_of list (read_to run_to D depth list) ≡ depth - 1
+read_depth : (run_to : ℕ → List Access) (n : ℕ) (D : List (List Row)) (depth list : ℕ) → ReadsRows run_to n D → IsTable n D → 1 ≤ depth → depth ≤ n
+    → list < length D → depth_of list (read_to run_to D depth list) ≡ depth - 1
 read_depth run_to n D depth list reads t positive within l =
     let rows = list_at D list in
     let long : length rows ≡ n = list_at_length n D list t l in
@@ -46,14 +48,18 @@ read_depth run_to n D depth list reads t positive within l =
     ∙ length-take-le (depth - 1) rows (omega arith)
 
 -- the row that a table gives there
-pub given_next : (run_to : ℕ → List Access) (n : ℕ) (D : List (List Row)) (depth list object grade : ℕ) → ReadsRows run_to n D → 1 ≤ depth → depth ≤ n → list < length D → Agrees (length D) n D (read_to run_to D depth list ++ Sorted list object grade ∷ []) → row_at (list_at D list) depth ≡ record { object = object; grade = grade }
+pub given_next : (run_to : ℕ → List Access) (n : ℕ) (D : List (List Row)) (depth list object grade : ℕ) → ReadsRows run_to n D → 1 ≤ depth → depth ≤ n
+    → list < length D → Agrees (length D) n D (read_to run_to D depth list ++ Sorted list object grade ∷ [])
+    → row_at (list_at D list) depth ≡ record { object = object; grade = grade }
 given_next run_to n D depth list object grade reads positive within l agrees =
     let no_row : Row = record { object = 0; grade = 0 } in
     ap (λ p. slice_index_or (list_at D list) p no_row) (sym (read_depth run_to n D depth list reads agrees.table positive within l))
     ∙ gives_at D (read_to run_to D depth list) list object grade no_row (agrees_gives (length D) n D (read_to run_to D depth list) (Sorted list object grade) [] agrees)
 
 -- with it, what is read before the next list
-pub read_more : (run_to : ℕ → List Access) (n : ℕ) (D : List (List Row)) (depth list object grade : ℕ) → ReadsRows run_to n D → 1 ≤ depth → depth ≤ n → list < length D → Agrees (length D) n D (read_to run_to D depth list ++ Sorted list object grade ∷ []) → read_to run_to D depth list ++ Sorted list object grade ∷ [] ≡ read_to run_to D depth (suc list)
+pub read_more : (run_to : ℕ → List Access) (n : ℕ) (D : List (List Row)) (depth list object grade : ℕ) → ReadsRows run_to n D → 1 ≤ depth → depth ≤ n
+    → list < length D → Agrees (length D) n D (read_to run_to D depth list ++ Sorted list object grade ∷ [])
+    → read_to run_to D depth list ++ Sorted list object grade ∷ [] ≡ read_to run_to D depth (suc list)
 read_more run_to n D depth list object grade reads positive within l agrees =
     let rows = list_at D list in
     let above = run_to (depth - 1) in
@@ -66,7 +72,8 @@ read_more run_to n D depth list object grade reads positive within l agrees =
     ∙ ap (λ lists. above ++ sorted_block 0 depth lists) (sym (take-suc D list [] l))
 
 -- after the last list the row is read
-pub read_whole : (run_to : ℕ → List Access) (D : List (List Row)) (depth list : ℕ) → length D ≤ list → read_to run_to D depth list ≡ run_to (depth - 1) ++ sorted_block 0 depth D
+pub read_whole : (run_to : ℕ → List Access) (D : List (List Row)) (depth list : ℕ) → length D ≤ list
+    → read_to run_to D depth list ≡ run_to (depth - 1) ++ sorted_block 0 depth D
 read_whole run_to D depth list whole = ap (λ lists. run_to (depth - 1) ++ sorted_block 0 depth lists) (take_all list D whole)
 
 -- and what is read before the first list of the next depth is the run so far
@@ -76,7 +83,8 @@ read_none run_to D depth =
     sym (append-nil (run_to depth)) ∙ ap (λ d. run_to d ++ []) (sym e)
 
 -- what comes after what is read before a list
-read_rest : (run_to : ℕ → List Access) (D : List (List Row)) (depth list : ℕ) → list < length D → (read_to run_to D depth list ++ Sorted list (row_at (list_at D list) depth).object (row_at (list_at D list) depth).grade ∷ sorted_block (list + 1) depth (drop (suc list) D)) ≡ run_to (depth - 1) ++ sorted_block 0 depth D
+read_rest : (run_to : ℕ → List Access) (D : List (List Row)) (depth list : ℕ) → list < length D
+    → (read_to run_to D depth list ++ Sorted list (row_at (list_at D list) depth).object (row_at (list_at D list) depth).grade ∷ sorted_block (list + 1) depth (drop (suc list) D)) ≡ run_to (depth - 1) ++ sorted_block 0 depth D
 read_rest run_to D depth list l =
     let rows = list_at D list in
     let split : D ≡ take list D ++ (rows ∷ drop (suc list) D) = sym (take-append-drop list D) ∙ ap (λ L. take list D ++ L) (drop-cons D list [] l) in
@@ -89,7 +97,9 @@ read_rest run_to D depth list l =
     ∙ ap (λ B. run_to (depth - 1) ++ B) (sym block)
 
 -- before a list the row of that list is needed, where what a run reads at each depth begins with the row
-pub row_needed : (run_to block : ℕ → List Access) (stops : ℕ → Bool) (n own : ℕ) (D : List (List Row)) (depth list : ℕ) (A later : List Access) → ((d : ℕ) → run_to (suc d) ≡ run_to d ++ block d) → ReadsRows run_to n D → IsTable n D → IsOwn stops n own → IsReached stops n depth → list < length D → A ≡ read_to run_to D depth list → (run_to (depth - 1) ++ sorted_block 0 depth D) ++ later ≡ run_to depth
+pub row_needed : (run_to block : ℕ → List Access) (stops : ℕ → Bool) (n own : ℕ) (D : List (List Row)) (depth list : ℕ) (A later : List Access)
+    → ((d : ℕ) → run_to (suc d) ≡ run_to d ++ block d) → ReadsRows run_to n D → IsTable n D → IsOwn stops n own → IsReached stops n depth → list < length D
+    → A ≡ read_to run_to D depth list → (run_to (depth - 1) ++ sorted_block 0 depth D) ++ later ≡ run_to depth
     → IsAt (run_to own) A (RowAt list depth) × CanServe D (RowAt list depth)
 row_needed run_to block stops n own D depth list A later grows reads t least at l made goes_on =
     let rows = list_at D list in

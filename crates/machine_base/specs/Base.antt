@@ -12,6 +12,7 @@ use Rattle.access_log.specs.Machine.{MachineState, IsPosed, IsOneMore, HasRoomFo
 use Rattle.access_log.specs.declared.core_fault.CoreFault.{CoreFault}
 use Rattle.access_log.specs.declared.core_fault.CoreFault.TheVariants.{Strangers, RoomFull}
 use Rattle.machine_base.specs.declared.base.Base.{Base}
+use Rattle.limits.specs.declared.TheConstants.{MAX_LISTS, MAX_OBJECTS}
 
 -- what contracts see of a machine that holds this and needs that
 abbrev pub shown : Base → Need → MachineState
@@ -25,8 +26,8 @@ asked_of_list list A = objects (random_rows list A)
 pub record IsHeld (e : Tree) (k room m n : ℕ) (A : List Access) : Type 0 where
   pub posed : IsPosed e k room m n
   pub some_list : 1 ≤ m
-  pub few_lists : m ≤ 8
-  pub counted : n ≤ 200000
+  pub few_lists : m ≤ MAX_LISTS
+  pub counted : n ≤ MAX_OBJECTS
   pub named_seen : (object : ℕ) → Contains (named_objects A) object → Contains (seen_objects A) object
   pub roomy : length (seen_objects A) ≤ room
   pub asked_once : (list : ℕ) → AllPairs (λ (one other : ℕ). one ≢ other) (asked_of_list list A)
@@ -65,5 +66,6 @@ pub record TellsNew (A : List Access) (object : ℕ) (is_new : Bool) : Type 0 wh
 
 -- the object is new and has no room: it is a stranger where the room is the count, and else the room is full
 abbrev pub HasNoRoom : ℕ → Base → CoreFault → Type 0
-HasNoRoom object base (Strangers other count) = (¬ HasRoomFor (shown base Done) object) × (base.room ≡ base.transcript.count) × (other ≡ object) × (count ≡ base.transcript.count)
+HasNoRoom object base (Strangers other count) =
+    (¬ HasRoomFor (shown base Done) object) × (base.room ≡ base.transcript.count) × (other ≡ object) × (count ≡ base.transcript.count)
 HasNoRoom object base (RoomFull room) = (¬ HasRoomFor (shown base Done) object) × (base.room < base.transcript.count) × (room ≡ base.room)

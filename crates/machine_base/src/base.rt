@@ -5,6 +5,7 @@ ghost use Rattle.access_log.specs.Machine.{IsBegun, HasRoomFor};
 ghost use Rattle.machine_base.specs.Base.{shown, Holds, IsReserved, IsTold, CanTake, TellsNew, HasNoRoom};
 
 use access_log::{Access, CoreFault, Memory, Transcript};
+use limits::MAX_OBJECTS;
 use monotone_fn::{Costs, Expr};
 use ranked_list::Need;
 use std::alloc::Global;
@@ -33,7 +34,7 @@ impl Base {
     ) -> Result<Base, Memory>
         requires asked { 1 ≤ k }
         requires fits { k ≤ count }
-        requires counted { count ≤ 200000 }
+        requires counted { count ≤ MAX_OBJECTS }
         requires roomy { 1 ≤ room }
         ensures begun { IfOk result (λ base. IsBegun expr k count room costs (shown base Need.Done)) }
         ensures held { IfOk result Holds }

@@ -3,16 +3,12 @@ use Rattle.std.proofs.Common.{◌≡◌, ◌⊎◌, inl, inr, ℕ, zero, suc, �
 use Rattle.std.specs.List.{count_by, slice_get}
 use Rattle.std.proofs.lemmas.Bool.{cases_Bool, cases_lt, false≢true, or_left, or_right, or_cases, and_parts, and_from, eq-eqb, eqb-true, lt-ltb, ltb-true}
 use Rattle.std.proofs.lemmas.Option.{none-some, same_Some}
-use Rattle.std.proofs.lemmas.List.Elements.{Contains-append_left, Contains-append_right, Contains-append_cases}
+use Rattle.std.proofs.lemmas.List.Elements.{Contains-append_right, Contains-append_cases}
 use Rattle.ranked_list.specs.declared.item.Item.{Item}
 use Rattle.topk_theory.specs.Order.{IsBefore, IsInOrder}
 use Rattle.topk_theory.proofs.AgreementLists.{contains_nil, contains_cases, slice_get_contains}
+use Rattle.topk_theory.proofs.NoRandomTop.{before_low}
 use Rattle.nra_theory.proofs.Counts.{count_yes, count_no, count_none, none_counted}
-
--- who stands before another has no smaller a low
-pub before_low : (a b : Item) → IsBefore a b → b.low ≤ a.low
-before_low a b (inl h) = omega arith
-before_low a b (inr h) = let e = h.0 in omega arith
 
 pub in_order_first : (x : Item) (xs : List Item) (y : Item) → IsInOrder (x ∷ xs) → Contains xs y → IsBefore x y
 in_order_first x xs y ordered c = subst (λ z. IsBefore x z) c.2 (ordered 0 (suc c.0) y (omega arith) (let l = c.1 in omega arith))
@@ -44,9 +40,6 @@ within_low (x ∷ xs) (suc i) last item ordered at c =
 
 pub within_or_behind : (k : ℕ) (xs : List Item) (x : Item) → Contains xs x → Contains (take k xs) x ⊎ Contains (drop k xs) x
 within_or_behind k xs x c = Contains-append_cases (take k xs) (drop k xs) x (subst (λ ys. Contains ys x) (sym (take-append-drop k xs)) c)
-
-pub within_whole : (k : ℕ) (xs : List Item) (x : Item) → Contains (take k xs) x → Contains xs x
-within_whole k xs x c = subst (λ ys. Contains ys x) (take-append-drop k xs) (Contains-append_left (take k xs) (drop k xs) x c)
 
 pub behind_whole : (k : ℕ) (xs : List Item) (x : Item) → Contains (drop k xs) x → Contains xs x
 behind_whole k xs x c = subst (λ ys. Contains ys x) (take-append-drop k xs) (Contains-append_right (take k xs) (drop k xs) x c)

@@ -5,7 +5,7 @@ use Rattle.std.proofs.lemmas.Bool.{cases_Bool, cases_lt, cases_eq, false≢true,
 use Rattle.std.proofs.lemmas.List.Elements.{Contains-append_left}
 use Rattle.topk_theory.proofs.AgreementLists.{contains_nil}
 use Rattle.nra_theory.proofs.Stop.{counted_top}
-use Rattle.nra_theory.specs.Late.{AreApart, AreFirstByLow, IsLeastLow, is_tied, is_open, AreOthersWithin, Keeps, AreKept, with_one, without, exchanged, IsWitness, AreNextBounds}
+use Rattle.nra_theory.specs.Late.{AreApart, AreFirstByLow, IsLeastLow, is_tied, is_open, AreOthersWithin, Keeps, with_one, without, exchanged, IsWitness, AreNextBounds}
 use Rattle.nra_theory.proofs.Counts.{count_le, count_less, count_same, with_itself, with_other, without_itself, without_other}
 use Rattle.nra_theory.proofs.Members.{differs, in_exchanged, not_in_exchanged, exchange_first, exchange_least, all_in, least_rises, first_of_member, first_of_few, first_of_outside, first_of_exchange}
 
@@ -245,28 +245,6 @@ not_within_with_witness low high seen is_top bound object c f witness within =
           let upto = within.tied in
           omega arith)
     ]
-
--- ---- kept bounds
--- after one more access, whose object has its low renewed
-pub kept_after : (low high next next_high kept_low kept_high then then_high : ℕ → ℕ) (seen now : List ℕ) (object : ℕ)
-    → AreNextBounds low high next next_high object → AreKept low high kept_low kept_high seen
-    → ((other : ℕ) → Contains now other → object ≢ other → Contains seen other × (then other ≡ kept_low other) × (then_high other ≡ kept_high other))
-    → then object ≡ next object → next_high object ≤ then_high object → AreKept next next_high then then_high now
-kept_after low high next next_high kept_low kept_high then then_high seen now object bounds kept others own own_high = record {
-  lows = λ other c. elim (cases_eq object other) [
-    | inl e ↦ subst (λ o. then o ≡ next o) e own
-    | inr n ↦ (let same = others other c n in same.1 ∙ kept.lows other same.0 ∙ sym (bounds.others other n))
-  ];
-  highs = λ other c. elim (cases_eq object other) [
-    | inl e ↦ subst (λ o. next_high o ≤ then_high o) e own_high
-    | inr n ↦ (
-        let same = others other c n in
-        let before = kept.highs other same.0 in
-        let falls = bounds.falls other in
-        let e = same.2 in
-        omega arith)
-  ];
-}
 
 -- ---- before any access, and the same sets told otherwise
 pub keeps_none : (k : ℕ) (low high : ℕ → ℕ) (is_top is_candidate : ℕ → Bool) → ((object : ℕ) → is_top object ≡ false)

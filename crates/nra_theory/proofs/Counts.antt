@@ -102,13 +102,7 @@ some_differs p q (x ∷ xs) =
       | inr rest ↦ first_differs p q x xs rest (cases_Bool (p x)) (cases_Bool (q x))
     ]
 
--- ---- all of a list, and a longer list
-pub count_all : {X : Type 0} (p : X → Bool) (xs : List X) → ((x : X) → Contains xs x → p x ≡ true) → count_by p xs ≡ length xs
-count_all p [] h = refl
-count_all p (x ∷ xs) h =
-    let rest : count_by p xs ≡ length xs = count_all p xs (λ y c. h y (contains_there x xs y c)) in
-    omega (arith, rest, count_yes p x xs (h x (contains_here x xs)))
-
+-- ---- a longer list
 pub count_upto : {X : Type 0} (p : X → Bool) (xs : List X) → count_by p xs ≤ length xs
 count_upto p [] = omega arith
 count_upto p (x ∷ xs) =

@@ -15,8 +15,9 @@ use Rattle.topk_theory.proofs.InOrder.{in_order-ordered, in_order-only, length-i
 use Rattle.topk_theory.proofs.FirstK.{first_k-is, first_k-only}
 use Rattle.topk_theory.proofs.KthLow.{kth_low-counts}
 use Rattle.nra_theory.specs.Late.{at_least, above_low, at_low}
+use Rattle.topk_theory.proofs.NoRandomTop.{before_low}
 use Rattle.nra_theory.proofs.Counts.{count_map, count_upto}
-use Rattle.nra_theory.proofs.Behind.{before_low, in_order_first, in_order_rest}
+use Rattle.nra_theory.proofs.Behind.{in_order_first, in_order_rest}
 use Rattle.nra_theory.proofs.Stop.{in_order_from, in_order_to}
 
 distinct_kept : (p : Item → Bool) (items : List Item) → AreDistinct items → AreDistinct (filter p items)

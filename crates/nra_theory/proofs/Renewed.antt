@@ -2,13 +2,14 @@
 use Rattle.std.proofs.Common.{◌≡◌, ◌≢◌, inl, inr, ℕ, ◌<◌, ◌≤◌, List, [], ◌∷◌, ◌++◌, length, drop, None, unwrap_or, sym, ap, subst, arith}
 use Rattle.ranked_list.specs.declared.row.Row.{Row}
 use Rattle.ranked_list.specs.Table.{IsRanked, grade_in, top_grade}
+use Rattle.ranked_list.proofs.OptionLaws.{option_cases}
 use Rattle.monotone_fn.specs.Value.{IsMonotone}
 use Rattle.topk_theory.specs.declared.access.Access.{Access}
 use Rattle.topk_theory.specs.Transcript.{last_grade, object_of, sorted_rows, list_at, list_numbers, bottom_of, Agrees}
 use Rattle.topk_theory.specs.Bounds.{known_grade, low, high}
 use Rattle.topk_theory.proofs.AgreementLists.{begins_splits}
 use Rattle.topk_theory.proofs.AgreementRows.{list_at_ranked}
-use Rattle.topk_theory.proofs.Agreement.{sorted_rows_append, agrees_front, known_cases, known_grade_is, known_grade_kept, known_grade_other_object}
+use Rattle.topk_theory.proofs.Agreement.{sorted_rows_append, agrees_front, known_grade_is, known_grade_kept, known_grade_other_object}
 use Rattle.topk_theory.proofs.BoundsLaws.{Falls, Falls-from_ranked, unknown_below, sorted_none, zip_numbers}
 use Rattle.topk_theory.proofs.ThresholdLists.{map_same}
 use Rattle.nra_theory.specs.Late.{AreNextBounds}
@@ -56,7 +57,7 @@ unknown_above m n D A object list agrees lt none =
 -- ---- in one list
 low_part : (A B : List Access) (object list : ℕ) → unwrap_or (known_grade A object list) 0 ≤ unwrap_or (known_grade (A ++ B) object list) 0
 low_part A B object list =
-    elim (known_cases (known_grade A object list)) [
+    elim (option_cases (known_grade A object list)) [
       | inl none ↦ subst (λ o. unwrap_or o 0 ≤ unwrap_or (known_grade (A ++ B) object list) 0) (sym none) (omega arith)
       | inr some ↦ subst (λ o. unwrap_or o 0 ≤ unwrap_or (known_grade (A ++ B) object list) 0) (sym some.1)
           (subst (λ o. some.0 ≤ unwrap_or o 0) (sym (known_grade_kept A B object list some.0 some.1)) (omega arith))
@@ -66,8 +67,8 @@ high_part : (m n : ℕ) (D : List (List Row)) (A B : List Access) (object list :
     → unwrap_or (known_grade (A ++ B) object list) (bottom_of list (A ++ B)) ≤ unwrap_or (known_grade A object list) (bottom_of list A)
 high_part m n D A B object list agrees lt =
     let then = unwrap_or (known_grade (A ++ B) object list) (bottom_of list (A ++ B)) in
-    elim (known_cases (known_grade A object list)) [
-      | inl none ↦ subst (λ o. then ≤ unwrap_or o (bottom_of list A)) (sym none) (elim (known_cases (known_grade (A ++ B) object list)) [
+    elim (option_cases (known_grade A object list)) [
+      | inl none ↦ subst (λ o. then ≤ unwrap_or o (bottom_of list A)) (sym none) (elim (option_cases (known_grade (A ++ B) object list)) [
         | inl still ↦ subst (λ o. unwrap_or o (bottom_of list (A ++ B)) ≤ bottom_of list A) (sym still) (bottoms_fall m n D A B list agrees lt)
         | inr known ↦ subst (λ o. unwrap_or o (bottom_of list (A ++ B)) ≤ bottom_of list A) (sym known.1)
             (let is : grade_in (list_at D list) object ≡ known.0 = known_grade_is m n D (A ++ B) object list known.0 agrees lt known.1 in

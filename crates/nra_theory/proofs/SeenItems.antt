@@ -4,17 +4,14 @@ use Rattle.ranked_list.specs.declared.item.Item.{Item}
 use Rattle.topk_theory.specs.Order.{IsBefore, AreDistinct, in_order}
 use Rattle.topk_theory.specs.declared.access.Access.{Access}
 use Rattle.topk_theory.specs.Transcript.{seen_objects}
-use Rattle.topk_theory.specs.Bounds.{bounded, low, high}
+use Rattle.topk_theory.specs.Bounds.{bounded}
 use Rattle.topk_theory.specs.NoRandom.{seen_items}
 use Rattle.topk_theory.proofs.AgreementLists.{contains_at, contains_map}
-use Rattle.topk_theory.proofs.Agreement.{seen_distinct}
 use Rattle.topk_theory.proofs.OrderLaws.{IsBefore-irreflexive}
 use Rattle.topk_theory.proofs.InOrder.{in_order-ordered}
+use Rattle.topk_theory.proofs.NoRandomLaws.{items_distinct}
 use Rattle.topk_theory.proofs.NoRandomTop.{object_of_seen}
-use Rattle.nra_theory.proofs.Stop.{apart_items, in_order_from, in_order_to}
-
-pub distinct_seen : (V : List ℕ → ℕ) (m : ℕ) (A : List Access) → AreDistinct (seen_items V m A)
-distinct_seen V m A = apart_items (low V m A) (high V m A) (seen_objects A) (seen_distinct A)
+use Rattle.nra_theory.proofs.Stop.{in_order_from, in_order_to}
 
 -- an item there is that of a seen object, with its bounds
 pub of_seen : (V : List ℕ → ℕ) (m : ℕ) (A : List Access) (item : Item) → Contains (in_order (seen_items V m A)) item
@@ -33,4 +30,4 @@ distinct_in_order V m A = λ i j d lt in_range same.
     let one_is : one ≡ bounded V m A one.object = (of_seen V m A one (contains_at sorted i d (omega arith))).1 in
     let two_is : two ≡ bounded V m A two.object = (of_seen V m A two (contains_at sorted j d in_range)).1 in
     let equal : one ≡ two = one_is ∙ ap (bounded V m A) same ∙ sym two_is in
-    IsBefore-irreflexive one (subst (λ other. IsBefore one other) (sym equal) (in_order-ordered (seen_items V m A) (distinct_seen V m A) i j d lt in_range))
+    IsBefore-irreflexive one (subst (λ other. IsBefore one other) (sym equal) (in_order-ordered (seen_items V m A) (items_distinct V m A) i j d lt in_range))

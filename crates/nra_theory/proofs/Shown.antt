@@ -1,46 +1,28 @@
 -- On a table that agrees, the algorithm is quiet exactly where the transcript alone shows it.
-use Rattle.std.proofs.Common.{◌≡◌, ◌≢◌, ◌⊎◌, inl, inr, ℕ, zero, suc, min, ◌+◌, ◌-◌, ◌<◌, ◌≤◌, ◌==◌, Bool, true, false, not, ◌&&◌, ◌||◌, List, [], ◌∷◌, ◌++◌, length, take, drop, get_or, Contains, None, unwrap_or, refl, sym, ap, subst, ◌∙◌, arith, leb, length-append, take-append-drop}
+use Rattle.std.proofs.Common.{◌≡◌, ◌≢◌, ◌⊎◌, inl, inr, ℕ, zero, suc, min, ◌+◌, ◌-◌, ◌<◌, ◌≤◌, ◌==◌, Bool, true, false, not, ◌&&◌, ◌||◌, List, [], ◌∷◌, ◌++◌, length, take, drop, get_or, Contains, refl, sym, ap, subst, ◌∙◌, arith, leb, length-append}
+use Rattle.std.specs.Cmp.{both_ways}
 use Rattle.std.specs.List.{list_any, list_all}
 use Rattle.std.proofs.lemmas.Bool.{cases_Bool, cases_lt, or_cases, or_left, or_right, and_parts, and_from, leb-true, le-leb, false≢true, eq-eqb, ne_eqb}
 use Rattle.std.proofs.lemmas.List.{get_or-take, get_or-drop, length-take, length-drop}
-use Rattle.std.proofs.lemmas.List.Elements.{Contains-append_left, Contains-append_right, Contains-append_cases, All-contains}
-use Rattle.std.proofs.lemmas.List.Sums.{AllPass-from_list_all, list_all-from_AllPass}
+use Rattle.std.proofs.lemmas.List.Sums.{list_all-from_AllPass}
 use Rattle.ranked_list.specs.declared.row.Row.{Row}
 use Rattle.ranked_list.specs.declared.item.Item.{Item}
 use Rattle.ranked_list.specs.Table.{IsTable}
 use Rattle.topk_theory.specs.Order.{AreDistinct, in_order}
 use Rattle.topk_theory.specs.declared.access.Access.{Access}
 use Rattle.topk_theory.specs.Aggregate.{objects_of}
-use Rattle.topk_theory.specs.Transcript.{Agrees, object_of, given_rows, bottom_of, list_numbers, seen_objects, named_objects}
-use Rattle.topk_theory.specs.Bounds.{known_grade, bounded, high, threshold}
+use Rattle.topk_theory.specs.Transcript.{Agrees, seen_objects, named_objects}
+use Rattle.topk_theory.specs.Bounds.{bounded, high, threshold}
 use Rattle.topk_theory.specs.NoRandom.{seen_items, first_seen, is_viable, is_quiet}
-use Rattle.topk_theory.proofs.AgreementLists.{contains_nil, contains_here, contains_there, contains_cases, contains_splits, contains_apart, all_from_members, distinct_fits}
+use Rattle.topk_theory.proofs.AgreementLists.{contains_nil, contains_here, contains_there, contains_cases, contains_splits, contains_apart, all_from_members, distinct_fits, take_within}
 use Rattle.topk_theory.proofs.AgreementNames.{has, has_contains, has_not}
-use Rattle.topk_theory.proofs.AgreementRows.{grade_among_row}
-use Rattle.topk_theory.proofs.Agreement.{known_cases, given_from, contains_middle, named_contains, seen_in_table, seen_distinct, objects_of_distinct, objects_of_count}
-use Rattle.topk_theory.proofs.ThresholdLists.{map_same, any_from_member, any_from_none}
+use Rattle.topk_theory.proofs.Agreement.{seen_in_table, seen_distinct, objects_of_distinct, objects_of_count}
+use Rattle.topk_theory.proofs.NoRandomTop.{all_passes}
+use Rattle.topk_theory.proofs.ThresholdLists.{any_from_member, any_from_none}
+use Rattle.topk_theory.proofs.Unseen.{high_unnamed}
 use Rattle.nra_theory.specs.Quiet.{is_idle, is_quiet_seen}
 use Rattle.nra_theory.proofs.SeenItems.{of_seen, seen_there, distinct_in_order}
-
-both_ways : (a b : Bool) → (a ≡ true → b ≡ true) → (b ≡ true → a ≡ true) → a ≡ b
-both_ways true b there back = sym (there refl)
-both_ways false true there back = back refl
-both_ways false false there back = refl
-
--- ---- the high of an object that no access names
-unnamed : (A : List Access) (object list : ℕ) → (¬ Contains (named_objects A) object) → known_grade A object list ≡ None
-unnamed A object list none =
-    elim (known_cases (known_grade A object list)) [
-      | inl e ↦ e
-      | inr some ↦ absurd (
-          let from = given_from list A (record { object = object; grade = some.0 }) (grade_among_row (given_rows list A) object some.0 some.1) in
-          let named : Contains (named_objects A) (object_of from.1) = named_contains A from.1 (subst (λ B. Contains B from.1) (sym from.3) (contains_middle from.0 from.1 from.2)) in
-          none (subst (λ o. Contains (named_objects A) o) (ap (λ (row : Row). row.object) from.5) named))
-    ]
-
-pub high_unnamed : (V : List ℕ → ℕ) (m : ℕ) (A : List Access) (object : ℕ) → (¬ Contains (named_objects A) object) → high V m A object ≡ threshold V m A
-high_unnamed V m A object none =
-    ap V (map_same (λ list. unwrap_or (known_grade A object list) (bottom_of list A)) (λ list. bottom_of list A) (list_numbers m) (λ list c. ap (λ o. unwrap_or o (bottom_of list A)) (unnamed A object list none)))
+use Rattle.nra_theory.proofs.Behind.{behind_whole, within_or_behind}
 
 -- ---- objects of a table that are seen
 some_fails : {X : Type 0} (p : X → Bool) (xs : List X) → ((x : X) × Contains xs x × (p x ≡ false)) ⊎ ((x : X) → Contains xs x → p x ≡ true)
@@ -99,18 +81,6 @@ apart_behind k xs inside outside apart within behind = λ same.
     default_free (y ∷ ys) zero d e l = refl
     default_free (y ∷ ys) (suc p) d e l = default_free ys p d e (omega arith)
 
-pub within_whole : (k : ℕ) (xs : List Item) (x : Item) → Contains (take k xs) x → Contains xs x
-within_whole k xs x c = subst (λ ys. Contains ys x) (take-append-drop k xs) (Contains-append_left (take k xs) (drop k xs) x c)
-
-behind_whole : (k : ℕ) (xs : List Item) (x : Item) → Contains (drop k xs) x → Contains xs x
-behind_whole k xs x c = subst (λ ys. Contains ys x) (take-append-drop k xs) (Contains-append_right (take k xs) (drop k xs) x c)
-
-within_or_behind : (k : ℕ) (xs : List Item) (x : Item) → Contains xs x → Contains (take k xs) x ⊎ Contains (drop k xs) x
-within_or_behind k xs x c = Contains-append_cases (take k xs) (drop k xs) x (subst (λ ys. Contains ys x) (sym (take-append-drop k xs)) c)
-
-all_passes : {X : Type 0} (p : X → Bool) (xs : List X) (x : X) → list_all p xs ≡ true → Contains xs x → p x ≡ true
-all_passes p xs x h c = All-contains (λ y. p y ≡ true) xs x (AllPass-from_list_all p xs h) c
-
 -- an object is among the first k, or isn't viable
 abbrev settled : (List ℕ → ℕ) → ℕ → ℕ → List Access → ℕ → Bool
 settled V k m A object = list_any (λ (item : Item). item.object == object) (first_seen V k m A) || not (is_viable V k m A object)
@@ -141,7 +111,7 @@ quiet_shown V k n D A some named agrees quiet =
           let one = unseen_one n D seen agrees.table some few in
           or_right (leb n (length seen)) (is_idle V k m A (threshold V m A))
           (subst (λ h. is_idle V k m A h ≡ true) (high_unnamed V m A one.0 (λ c. one.2 (named one.0 c)))
-          (idle one.0 one.1 (λ i within same. one.2 (subst (λ o. Contains seen o) same (of_seen V m A i (within_whole k sorted i within)).0)))))
+          (idle one.0 one.1 (λ i within same. one.2 (subst (λ o. Contains seen o) same (of_seen V m A i (take_within k sorted i within)).0)))))
     ] in
     and_from (leb k (length seen)) _ parts.0 (and_from (leb n (length seen) || is_idle V k m A (threshold V m A)) (list_all (λ (item : Item). is_idle V k m A item.high) (drop k sorted)) unseen all)
 

@@ -4,9 +4,8 @@ use Rattle.std.specs.List.{count_by, slice_get, list_all}
 use Rattle.std.specs.Option.{MatchOption, option_map}
 use Rattle.std.proofs.lemmas.Bool.{cases_Bool, false≢true, or_left, or_right, or_cases, and_parts, and_from, eq-eqb, ne_eqb, le-ltb, ltb-true, ltb-false, leb-true, le-leb}
 use Rattle.std.proofs.lemmas.List.{length-map, get_or-map}
-use Rattle.std.proofs.lemmas.List.Elements.{All-contains}
 use Rattle.std.proofs.lemmas.List.Sorted.{sum_by-IsPermutation}
-use Rattle.std.proofs.lemmas.List.Sums.{AllPass-from_list_all, list_all-from_AllPass}
+use Rattle.std.proofs.lemmas.List.Sums.{list_all-from_AllPass}
 use Rattle.ranked_list.specs.declared.item.Item.{Item}
 use Rattle.topk_theory.specs.Order.{AreDistinct, in_order, kth_low, lows, IsKthLargest}
 use Rattle.topk_theory.specs.declared.access.Access.{Access}
@@ -17,6 +16,7 @@ use Rattle.topk_theory.proofs.AgreementLists.{contains_map, contains_map_from, a
 use Rattle.topk_theory.proofs.Agreement.{seen_distinct}
 use Rattle.topk_theory.proofs.InOrder.{has_from_Contains, Contains-from_has, has-in_order, in_order-ordered, in_order-permutes}
 use Rattle.topk_theory.proofs.KthLow.{kth_low-counts, IsKthLargest-only}
+use Rattle.topk_theory.proofs.NoRandomTop.{all_passes}
 use Rattle.nra_theory.specs.Late.{with_bounds, AreApart, AreFirstByLow, IsLeastLow, is_tied, is_open, AreOthersWithin, MayStop}
 use Rattle.nra_theory.specs.Quiet.{is_idle, is_quiet_seen}
 use Rattle.nra_theory.proofs.Counts.{count_le, count_less, count_map, count_sum}
@@ -173,9 +173,6 @@ within_highs k low high seen is_top bound one apart enough first least highs =
     }
 
 -- ---- the stop
-all_passes : {X : Type 0} (p : X → Bool) (xs : List X) (x : X) → list_all p xs ≡ true → Contains xs x → p x ≡ true
-all_passes p xs x h c = All-contains (λ y. p y ≡ true) xs x (AllPass-from_list_all p xs h) c
-
 idle_within : (found : Option ℕ) (bound number : ℕ) → found ≡ Some bound → not (exceeds found number) ≡ true → number ≤ bound
 idle_within found bound number e t = go (nat_lt bound number) refl (sym (ap (λ o. not (exceeds o number)) e) ∙ t)
   where

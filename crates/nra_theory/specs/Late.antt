@@ -43,12 +43,8 @@ pub record MayStop (k n threshold : ℕ) (low high : ℕ → ℕ) (seen : List �
 pub record Keeps (k : ℕ) (low high : ℕ → ℕ) (seen : List ℕ) (is_top is_candidate : ℕ → Bool) : Type 0 where
   pub first : AreFirstByLow k low seen is_top
   pub apart : (object : ℕ) → is_candidate object ≡ true → Contains seen object × (is_top object ≡ false)
-  pub given_up : (inside outside : ℕ) → is_top inside ≡ true → Contains seen outside → is_top outside ≡ false → is_candidate outside ≡ false → high outside ≤ low inside
-
--- kept lows are the present lows, and kept highs at least the present highs
-pub record AreKept (low high kept_low kept_high : ℕ → ℕ) (seen : List ℕ) : Type 0 where
-  pub lows : (object : ℕ) → Contains seen object → kept_low object ≡ low object
-  pub highs : (object : ℕ) → Contains seen object → high object ≤ kept_high object
+  pub given_up : (inside outside : ℕ) → is_top inside ≡ true → Contains seen outside → is_top outside ≡ false → is_candidate outside ≡ false
+      → high outside ≤ low inside
 
 -- the set with one object more, or less; with one in place of another
 abbrev pub with_one : (ℕ → Bool) → ℕ → ℕ → Bool

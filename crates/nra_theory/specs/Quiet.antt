@@ -14,4 +14,7 @@ is_idle V k m A high = not (exceeds (kth_low k (seen_items V m A)) high)
 
 -- at least k objects were seen, and neither the high of a seen object outside the first k nor, where unseen ones of n are left, the threshold is above the k-th largest low
 abbrev pub is_quiet_seen : (List ℕ → ℕ) → ℕ → ℕ → ℕ → List Access → Bool
-is_quiet_seen V k m n A = nat_le k (length (seen_objects A)) && ((nat_le n (length (seen_objects A)) || is_idle V k m A (threshold V m A)) && list_all (λ (item : Item). is_idle V k m A item.high) (drop k (in_order (seen_items V m A))))
+is_quiet_seen V k m n A =
+    nat_le k (length (seen_objects A))
+    && ((nat_le n (length (seen_objects A)) || is_idle V k m A (threshold V m A))
+    && list_all (λ (item : Item). is_idle V k m A item.high) (drop k (in_order (seen_items V m A))))

@@ -9,6 +9,7 @@ ghost use Rattle.topk_theory.specs.Order.{AreDistinct, in_order, first_k, kth_lo
 ghost use Rattle.topk_theory.specs.Transcript.{Agrees, object_of, named_objects, seen_objects};
 ghost use Rattle.topk_theory.specs.Bounds.{low, high, threshold};
 ghost use Rattle.topk_theory.specs.NoRandom.{is_quiet};
+ghost use Rattle.nra_theory.specs.Quiet.{is_quiet_seen};
 ghost use Rattle.nra_theory.specs.Late.{AreFirstByLow, IsLeastLow, AreOthersWithin, MayStop, Keeps, IsWitness, AreNextBounds, above_low, at_low};
 
 /// On a table that agrees, the algorithm is quiet exactly where it may stop by any k seen objects with the greatest
@@ -21,6 +22,14 @@ pub fn stops_where_the_others_are_within()
         → (k ≤ length (seen_objects A) → IsLeastLow (low V (length D) A) is_top bound)
         → (is_quiet V k (length D) D A ≡ true) ↔ MayStop k n (threshold V (length D) A) (low V (length D) A)
         (high V (length D) A) (seen_objects A) is_top bound }
+{}
+
+/// What the transcript alone shows is what the definition over the table says: on a table that agrees with it, where
+/// each object that an access names was seen, the algorithm is quiet exactly where the transcript shows it.
+pub fn a_transcript_shows_that_it_is_quiet()
+    ensures { (V : List ℕ → ℕ) (k n : ℕ) (D : List (List Row)) (A : List Access) → 0 < length D
+        → ((object : ℕ) → Contains (named_objects A) object → Contains (seen_objects A) object)
+        → Agrees (length D) n D A → is_quiet V k (length D) D A ≡ is_quiet_seen V k (length D) n A }
 {}
 
 /// With one more access of a table no low falls, no high rises, and only the named object's low changes.

@@ -6,7 +6,7 @@
 mod laws;
 
 pub use laws::{
-    a_walk_without_candidates_ends_within, a_witness_stands_against_the_stop,
-    first_are_those_above_and_the_first_tied, renewed_bounds_close_in,
-    stops_where_the_others_are_within, what_is_given_up_stays_given_up,
+    a_transcript_shows_that_it_is_quiet, a_walk_without_candidates_ends_within,
+    a_witness_stands_against_the_stop, first_are_those_above_and_the_first_tied,
+    renewed_bounds_close_in, stops_where_the_others_are_within, what_is_given_up_stays_given_up,
 };

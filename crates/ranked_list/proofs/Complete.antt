@@ -82,7 +82,8 @@ first_fit c b rows there = record {
   wanted = λ o has. refl;
 }
 
-later_fit : (c : Content) → IsBundle c → (first : List Row) (more : List (List Row)) (rows : List Row) → Contains c.lists first → Contains c.lists rows → RowsFit (first ∷ more) rows
+later_fit : (c : Content) → IsBundle c → (first : List Row) (more : List (List Row)) (rows : List Row) → Contains c.lists first → Contains c.lists rows
+    → RowsFit (first ∷ more) rows
 later_fit c b first more rows also there = record {
   ranked = there_ranked c b rows there;
   small = there_small c b rows there;
@@ -103,12 +104,14 @@ open_there : (c : Content) (front : Front) (names : List (List ℕ)) (lists : Li
 open_there c front names lists s =
     subst (λ ls. Contains ls front.rows) (sym s.lists) (Contains-append_left (all_lists front) lists front.rows (Contains-push front.closed front.rows))
 
-next_there : (c : Content) (front : Front) (names : List (List ℕ)) (rows : List Row) (lists : List (List Row)) → IsSplit c front names (rows ∷ lists) → Contains c.lists rows
+next_there : (c : Content) (front : Front) (names : List (List ℕ)) (rows : List Row) (lists : List (List Row)) → IsSplit c front names (rows ∷ lists)
+    → Contains c.lists rows
 next_there c front names rows lists s =
     subst (λ ls. Contains ls rows) (sym s.lists) (Contains-append_right (all_lists front) (rows ∷ lists) rows (contains_head rows lists))
 
 -- the open list is whole
-split_whole : (c : Content) → IsBundle c → (front : Front) (names : List (List ℕ)) (lists : List (List Row)) → IsSplit c front names lists → is_whole front ≡ true
+split_whole : (c : Content) → IsBundle c → (front : Front) (names : List (List ℕ)) (lists : List (List Row)) → IsSplit c front names lists
+    → is_whole front ≡ true
 split_whole c b front names lists s = by_closed front.closed refl
   where
     count : length front.rows ≡ b.table.0
@@ -136,7 +139,8 @@ none_same (n ∷ names) name all =
     or_from_false : (x y : Bool) → x ≡ false → y ≡ false → (x || y) ≡ false
     or_from_false x y p q = rw (p, q) refl
 
-split_new : (c : Content) → IsBundle c → (front : Front) (name : List ℕ) (names : List (List ℕ)) (lists : List (List Row)) → IsSplit c front (name ∷ names) lists → is_taken front name ≡ false
+split_new : (c : Content) → IsBundle c → (front : Front) (name : List ℕ) (names : List (List ℕ)) (lists : List (List Row))
+    → IsSplit c front (name ∷ names) lists → is_taken front name ≡ false
 split_new c b front name names lists s =
     sym (by_or (list_any same front.names) (same front.name)) ∙ sym (list_any-append same front.names (front.name ∷ [])) ∙ none_same (all_names front) name apart
   where
@@ -155,12 +159,14 @@ split_new c b front name names lists s =
         let there = ap (λ ns. get_or ns k d) s.names ∙ get_or_append_left (all_names front) (name ∷ names) d k l in
         b.apart k (length (all_names front)) d l (omega arith) (there ∙ e ∙ sym here)
 
-split_named : (c : Content) → IsBundle c → (front : Front) (name : List ℕ) (names : List (List ℕ)) (lists : List (List Row)) → IsSplit c front (name ∷ names) lists → is_name name ≡ true
+split_named : (c : Content) → IsBundle c → (front : Front) (name : List ℕ) (names : List (List ℕ)) (lists : List (List Row))
+    → IsSplit c front (name ∷ names) lists → is_name name ≡ true
 split_named c b front name names lists s =
     All-contains IsName c.names name b.names
     (subst (λ ns. Contains ns name) (sym s.names) (Contains-append_right (all_names front) (name ∷ names) name (0, omega arith, refl)))
 
-split_takes : (c : Content) → IsBundle c → (front : Front) (name : List ℕ) (names : List (List ℕ)) (rows : List Row) (lists : List (List Row)) → IsSplit c front (name ∷ names) (rows ∷ lists)
+split_takes : (c : Content) → IsBundle c → (front : Front) (name : List ℕ) (names : List (List ℕ)) (rows : List Row) (lists : List (List Row))
+    → IsSplit c front (name ∷ names) (rows ∷ lists)
     → takes_list front name ≡ true
 split_takes c b front name names rows lists s =
     let all : length c.lists ≡ length (all_lists front) + length (rows ∷ lists) = ap length s.lists ∙ length-append (all_lists front) (rows ∷ lists) in
@@ -171,7 +177,8 @@ split_takes c b front name names rows lists s =
     (not_from_false _ (split_new c b front name names (rows ∷ lists) s))
 
 -- its rows fit
-split_fit : (c : Content) → IsBundle c → (front : Front) (names : List (List ℕ)) (rows : List Row) (lists : List (List Row)) → IsSplit c front names (rows ∷ lists) → RowsFit (all_lists front) rows
+split_fit : (c : Content) → IsBundle c → (front : Front) (names : List (List ℕ)) (rows : List Row) (lists : List (List Row))
+    → IsSplit c front names (rows ∷ lists) → RowsFit (all_lists front) rows
 split_fit c b front names rows lists s = by_closed front.closed refl
   where
     by_closed : (closed : List (List Row)) → front.closed ≡ closed → RowsFit (front.closed ++ front.rows ∷ []) rows
@@ -187,7 +194,8 @@ split_fit c b front names rows lists s = by_closed front.closed refl
         (next_there c front names rows lists s))
 
 -- the list that is next is taken in
-split_next : (c : Content) (front : Front) (name : List ℕ) (names : List (List ℕ)) (rows : List Row) (lists : List (List Row)) → IsSplit c front (name ∷ names) (rows ∷ lists)
+split_next : (c : Content) (front : Front) (name : List ℕ) (names : List (List ℕ)) (rows : List Row) (lists : List (List Row))
+    → IsSplit c front (name ∷ names) (rows ∷ lists)
     → IsSplit c (record { names = all_names front; closed = all_lists front; name = name; rows = rows }) names lists
 split_next c front name names rows lists s = record {
   each = let each = s.each in omega (arith, length_push front.names front.name, length_push front.closed front.rows);
@@ -195,10 +203,12 @@ split_next c front name names rows lists s = record {
   lists = s.lists ∙ sym (append_assoc (all_lists front) (rows ∷ []) lists);
 }
 
-same_content : (c : Content) (names : List (List ℕ)) (lists : List (List Row)) → names ≡ c.names → lists ≡ c.lists → (let a : Content = record { names = names; lists = lists; query = c.query } in a) ≡ c
+same_content : (c : Content) (names : List (List ℕ)) (lists : List (List Row)) → names ≡ c.names → lists ≡ c.lists
+    → (let a : Content = record { names = names; lists = lists; query = c.query } in a) ≡ c
 same_content c names lists n l = rw (n, l) refl
 
-complete_lists : (c : Content) → IsBundle c → (front : Front) (names : List (List ℕ)) (lists : List (List Row)) (from : ℕ) → length names ≡ length lists → IsSplit c front names lists
+complete_lists : (c : Content) → IsBundle c → (front : Front) (names : List (List ℕ)) (lists : List (List Row)) (from : ℕ) → length names ≡ length lists
+    → IsSplit c front names lists
     → read_on front from (sections names lists ++ query_line c.query ∷ []) ≡ Ok c
 complete_lists c b front [] [] from e s =
     read_on-query front from (query_line c.query) [] (query_line c.query ∷ []) c.query refl (sym (part_of-query_line c.query))
@@ -221,7 +231,8 @@ complete_lists c b front (name ∷ names) (rows ∷ lists) from e s =
 pub complete : (c : Content) → IsBundle c → read_all (bundle_lines c) ≡ Ok c
 complete c b = by_first c.names c.lists refl refl
   where
-    by_first : (names : List (List ℕ)) (lists : List (List Row)) → c.names ≡ names → c.lists ≡ lists → read_all (sections c.names c.lists ++ query_line c.query ∷ []) ≡ Ok c
+    by_first : (names : List (List ℕ)) (lists : List (List Row)) → c.names ≡ names → c.lists ≡ lists
+        → read_all (sections c.names c.lists ++ query_line c.query ∷ []) ≡ Ok c
     by_first names [] n l = absurd (let some = b.some in omega (arith, ap length l))
     by_first [] (rows ∷ lists) n l = absurd (let each = b.each_named in omega (arith, ap length n, ap length l))
     by_first (name ∷ names) (rows ∷ lists) n l =

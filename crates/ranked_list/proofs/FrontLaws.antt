@@ -58,7 +58,7 @@ front_lines front = sections (all_names front) (all_lists front)
 
 -- ---- lines
 
-zip-push : (names : List (List ℕ)) (lists : List (List Row)) (name : List ℕ) (rows : List Row) → length names ≡ length lists
+pub zip-push : (names : List (List ℕ)) (lists : List (List Row)) (name : List ℕ) (rows : List Row) → length names ≡ length lists
     → zip (names ++ name ∷ []) (lists ++ rows ∷ []) ≡ zip names lists ++ (name, rows) ∷ []
 zip-push [] [] name rows e = refl
 zip-push [] (l ∷ ls) name rows e = absurd (omega arith)
@@ -72,20 +72,23 @@ sections-push names lists name rows e =
     ∙ flat_map-append (λ list. section list.0 list.1) (zip names lists) ((name, rows) ∷ [])
     ∙ ap (λ more. sections names lists ++ more) (append-nil (section name rows))
 
-pub front_lines-row : (front : Front) (row : Row) → length front.names ≡ length front.closed → front_lines (with_row front row) ≡ front_lines front ++ row_line row ∷ []
+pub front_lines-row : (front : Front) (row : Row) → length front.names ≡ length front.closed
+    → front_lines (with_row front row) ≡ front_lines front ++ row_line row ∷ []
 front_lines-row front row each =
     sections-push front.names front.closed front.name (front.rows ++ row ∷ []) each
     ∙ ap (λ rows. sections front.names front.closed ++ list_line front.name ∷ rows) (map_push row_line front.rows row)
     ∙ sym (append_assoc (sections front.names front.closed) (section front.name front.rows) (row_line row ∷ []))
     ∙ ap (λ ls. ls ++ row_line row ∷ []) (sym (sections-push front.names front.closed front.name front.rows each))
 
-pub front_lines-list : (front : Front) (name : List ℕ) → length front.names ≡ length front.closed → front_lines (with_list front name) ≡ front_lines front ++ list_line name ∷ []
+pub front_lines-list : (front : Front) (name : List ℕ) → length front.names ≡ length front.closed
+    → front_lines (with_list front name) ≡ front_lines front ++ list_line name ∷ []
 front_lines-list front name each =
     sections-push (all_names front) (all_lists front) name [] (omega (arith, length_push front.names front.name, length_push front.closed front.rows))
 
 -- ---- a row more
 
-wanted_has : (closed : List (List Row)) (rows : List Row) (row : Row) → Fits closed rows → length rows < room closed → is_wanted closed row.object ≡ true → Fits closed (rows ++ row ∷ [])
+wanted_has : (closed : List (List Row)) (rows : List Row) (row : Row) → Fits closed rows → length rows < room closed → is_wanted closed row.object ≡ true
+    → Fits closed (rows ++ row ∷ [])
 wanted_has [] rows row fits space wanted = omega (arith, length_push rows row)
 wanted_has (first ∷ more) rows row fits space wanted = (
   omega (arith, length_push rows row),
@@ -156,10 +159,12 @@ IsTable-push n lists rows t sized ranked to from = record {
 }
 
 -- where the objects are those of the first list they are those of each
-same_to_all : (n : ℕ) (first : List Row) (more : List (List Row)) (rows : List Row) → IsTable n (first ∷ more) → SameObjects first rows → All (λ others. SameObjects others rows) (first ∷ more)
+same_to_all : (n : ℕ) (first : List Row) (more : List (List Row)) (rows : List Row) → IsTable n (first ∷ more) → SameObjects first rows
+    → All (λ others. SameObjects others rows) (first ∷ more)
 same_to_all n first more rows t same = λ k d l o has. same o (t.same k d l 0 d (omega arith) o has)
 
-same_from_all : (n : ℕ) (first : List Row) (more : List (List Row)) (rows : List Row) → IsTable n (first ∷ more) → SameObjects rows first → All (SameObjects rows) (first ∷ more)
+same_from_all : (n : ℕ) (first : List Row) (more : List (List Row)) (rows : List Row) → IsTable n (first ∷ more) → SameObjects rows first
+    → All (SameObjects rows) (first ∷ more)
 same_from_all n first more rows t same = λ k d l o has. t.same 0 d (omega arith) k d l o (same o has)
 
 -- what a whole list says
@@ -170,7 +175,8 @@ pub whole_same : (first : List Row) (more : List (List Row)) (rows : List Row) �
 whole_same first more rows h = eqb-true (length rows) (length first) h
 
 -- a whole list and those before it are lists of one table
-pub AreLists-push : (n : ℕ) (closed : List (List Row)) (rows : List Row) → AreLists n closed → IsRanked rows → All Small rows → Fits closed rows → is_whole_after closed rows ≡ true
+pub AreLists-push : (n : ℕ) (closed : List (List Row)) (rows : List Row) → AreLists n closed → IsRanked rows → All Small rows → Fits closed rows
+    → is_whole_after closed rows ≡ true
     → (count : ℕ) × AreLists count (closed ++ rows ∷ [])
 AreLists-push n [] rows a ranked small fits whole = (
   length rows,

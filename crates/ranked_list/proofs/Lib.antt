@@ -2,6 +2,7 @@ pub mod PartLaws
 pub mod TrackLaws
 pub mod ReadLaws
 pub mod Members
+pub mod OptionLaws
 pub mod RankLaws
 pub mod FrontLaws
 pub mod Viable

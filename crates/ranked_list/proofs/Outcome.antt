@@ -67,10 +67,12 @@ outcome_taken lines after read then from next ls goes grown outcome =
 
 -- ---- one line after a front
 
-step : (front : Front) (from : ℕ) (next : List ℕ) (part : Part) → part_of next ≡ part → (rest : List (List ℕ)) → read_on front from (next ∷ rest) ≡ read_part front from rest (λ f. read_on f (from + 1) rest) part
+step : (front : Front) (from : ℕ) (next : List ℕ) (part : Part) → part_of next ≡ part → (rest : List (List ℕ))
+    → read_on front from (next ∷ rest) ≡ read_part front from rest (λ f. read_on f (from + 1) rest) part
 step front from next part is rest = read_on-cons front from next rest ∙ ap (read_part front from rest (λ f. read_on f (from + 1) rest)) is
 
-refused : (front : Front) (from : ℕ) (next : List ℕ) (ls : List (List ℕ)) (part : Part) → IsFront front → part_of next ≡ part → ((text : List ℕ) → part ≡ query_part text → ⊥) → takes_part front part ≡ false
+refused : (front : Front) (from : ℕ) (next : List ℕ) (ls : List (List ℕ)) (part : Part) → IsFront front → part_of next ≡ part
+    → ((text : List ℕ) → part ≡ query_part text → ⊥) → takes_part front part ≡ false
     → Outcome (front_lines front) (read_on front from) from (next ∷ ls) (read_on front from (next ∷ ls))
 refused front from next ls part f is other refuses =
     outcome_fault (front_lines front) (read_on front from) from next ls (viable front f) (λ rest.
@@ -84,7 +86,8 @@ taken front from next ls part is takes grown outcome =
     outcome_taken (front_lines front) (front_lines (with_part front part)) (read_on front from) (read_on (with_part front part) (from + 1)) from next ls
     (λ rest. step front from next part is rest ∙ read_part-takes front from rest (λ f. read_on f (from + 1) rest) part takes) grown outcome
 
-queried : (front : Front) (from : ℕ) (next : List ℕ) (ls : List (List ℕ)) (query : List ℕ) → IsFront front → part_of next ≡ query_part query → next ≡ query_line query → All (λ byte. byte ≢ 10) query
+queried : (front : Front) (from : ℕ) (next : List ℕ) (ls : List (List ℕ)) (query : List ℕ) → IsFront front → part_of next ≡ query_part query
+    → next ≡ query_line query → All (λ byte. byte ≢ 10) query
     → (b : Bool) → is_whole front ≡ b → Outcome (front_lines front) (read_on front from) from (next ∷ ls) (read_on front from (next ∷ ls))
 queried front from next ls query f is spelled one_line false short =
     outcome_fault (front_lines front) (read_on front from) from next ls (viable front f) (λ rest.
@@ -119,7 +122,8 @@ query_text_of : (next query : List ℕ) → next ≡ query_line query → All (�
 query_text_of next query e all = All-drop (λ byte. byte ≢ 10) 6 (query_line query) (subst (All (λ byte. byte ≢ 10)) e all)
 
 -- what the reading after a front finds out
-pub outcome : (front : Front) (from : ℕ) (ls : List (List ℕ)) → IsFront front → AreLines ls → Outcome (front_lines front) (read_on front from) from ls (read_on front from ls)
+pub outcome : (front : Front) (from : ℕ) (ls : List (List ℕ)) → IsFront front → AreLines ls
+    → Outcome (front_lines front) (read_on front from) from ls (read_on front from ls)
 outcome front from [] f lines =
     subst (Outcome (front_lines front) (read_on front from) from []) (sym (read_on-nil front from)) (record {
       before = 0;
@@ -132,7 +136,8 @@ outcome front from (next ∷ ls) f lines =
     by_part front from next ls f (All-head (λ line. All (λ byte. byte ≢ 10) line) next ls lines) (part_of next) refl (part_means next)
     (λ after g. outcome after (from + 1) ls g (All-tail (λ line. All (λ byte. byte ≢ 10) line) next ls lines))
   where
-    by_part : (front : Front) (from : ℕ) (next : List ℕ) (ls : List (List ℕ)) → IsFront front → All (λ byte. byte ≢ 10) next → (part : Part) → part_of next ≡ part → PartMeans next part
+    by_part : (front : Front) (from : ℕ) (next : List ℕ) (ls : List (List ℕ)) → IsFront front → All (λ byte. byte ≢ 10) next → (part : Part)
+        → part_of next ≡ part → PartMeans next part
         → ((after : Front) → IsFront after → Outcome (front_lines after) (read_on after (from + 1)) (from + 1) ls (read_on after (from + 1) ls))
         → Outcome (front_lines front) (read_on front from) from (next ∷ ls) (read_on front from (next ∷ ls))
     by_part front from next ls f line (list_part name) is means more =
@@ -165,7 +170,8 @@ outcome_all [] lines = record { before = 0; at = refl; within = omega arith; beg
 outcome_all (next ∷ ls) lines =
     by_first (part_of next) refl (part_means next)
   where
-    first_fault : (part : Part) → part_of next ≡ part → ((rest : List (List ℕ)) → read_first rest part ≡ Err 1) → Outcome [] read_all 1 (next ∷ ls) (read_all (next ∷ ls))
+    first_fault : (part : Part) → part_of next ≡ part → ((rest : List (List ℕ)) → read_first rest part ≡ Err 1)
+        → Outcome [] read_all 1 (next ∷ ls) (read_all (next ∷ ls))
     first_fault part is fails = outcome_fault [] read_all 1 next ls begins_none (λ rest. ap (read_first rest) is ∙ fails rest)
 
     by_first : (part : Part) → part_of next ≡ part → PartMeans next part → Outcome [] read_all 1 (next ∷ ls) (read_all (next ∷ ls))

@@ -23,11 +23,13 @@ pub part_of-no_name : (line name : List ℕ) → rest_after (codes "list ") line
 unfolding part_of
 part_of-no_name line name h named = rw (h, named) refl
 
-pub part_of-query : (line text : List ℕ) → rest_after (codes "list ") line ≡ None → rest_after (codes "query ") line ≡ Some text → part_of line ≡ query_part text
+pub part_of-query : (line text : List ℕ) → rest_after (codes "list ") line ≡ None → rest_after (codes "query ") line ≡ Some text
+    → part_of line ≡ query_part text
 unfolding part_of
 part_of-query line text h q = rw (h, q) refl
 
-pub part_of-row : (line : List ℕ) → rest_after (codes "list ") line ≡ None → rest_after (codes "query ") line ≡ None → part_of line ≡ row_part_of (cut_at 44 line)
+pub part_of-row : (line : List ℕ) → rest_after (codes "list ") line ≡ None → rest_after (codes "query ") line ≡ None
+    → part_of line ≡ row_part_of (cut_at 44 line)
 unfolding part_of
 part_of-row line h q = rw (h, q) refl
 

@@ -78,7 +78,8 @@ above_last rows k d last falling l is =
     (cases_order k (length rows - 1)))
 
 -- a row in order, whose object is new, makes a ranked list longer
-pub IsRanked-push : (rows : List Row) (row : Row) → IsRanked rows → in_order (last_row rows) row ≡ true → is_member nat_eq (objects rows) row.object ≡ false → IsRanked (rows ++ row ∷ [])
+pub IsRanked-push : (rows : List Row) (row : Row) → IsRanked rows → in_order (last_row rows) row ≡ true → is_member nat_eq (objects rows) row.object ≡ false
+    → IsRanked (rows ++ row ∷ [])
 IsRanked-push rows row ranked order new = record {
   distinct = all_pairs_push Apart rows row ranked.distinct (λ k d l e. both_ways _ new (subst (λ o. is_member nat_eq (objects rows) o ≡ true) e (has_object rows k d l)));
   falling = all_pairs_push Falls rows row ranked.falling (λ k d l. below_all k d l (last_row rows) refl);

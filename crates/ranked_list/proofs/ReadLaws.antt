@@ -12,7 +12,8 @@ pub ends_alone : (front : Front) (line : ℕ) (ls : List (List ℕ)) (go : Front
     → read_part front line ls go (query_part query) ≡ Ok (with_query front query)
 ends_alone front line ls go query whole none = rw (whole, none) refl
 
-pub ends_before_more : (front : Front) (line : ℕ) (ls more : List (List ℕ)) (next : List ℕ) (go : Front → Result Content ℕ) (query : List ℕ) → is_whole front ≡ true → ls ≡ next ∷ more
+pub ends_before_more : (front : Front) (line : ℕ) (ls more : List (List ℕ)) (next : List ℕ) (go : Front → Result Content ℕ) (query : List ℕ)
+    → is_whole front ≡ true → ls ≡ next ∷ more
     → read_part front line ls go (query_part query) ≡ Err (line + 1)
 ends_before_more front line ls more next go query whole some = rw (whole, some) refl
 
@@ -39,7 +40,8 @@ read_part-takes front line ls go (query_part text) takes = absurd (false≢true 
 read_part-takes front line ls go no_part takes = absurd (false≢true takes)
 
 -- and one that may not is at fault, but for the query's
-pub read_part-refuses : (front : Front) (line : ℕ) (ls : List (List ℕ)) (go : Front → Result Content ℕ) (part : Part) → ((text : List ℕ) → part ≡ query_part text → ⊥) → takes_part front part ≡ false
+pub read_part-refuses : (front : Front) (line : ℕ) (ls : List (List ℕ)) (go : Front → Result Content ℕ) (part : Part)
+    → ((text : List ℕ) → part ≡ query_part text → ⊥) → takes_part front part ≡ false
     → read_part front line ls go part ≡ Err line
 read_part-refuses front line ls go (list_part name) other refuses = rw refuses refl
 read_part-refuses front line ls go (row_part row) other refuses = rw refuses refl
@@ -54,7 +56,8 @@ no_query (Query query) other text e = other query refl
 no_query Other other text e = absurd cc
 
 -- the steps, with the lines named by an equation
-pub read_on-takes : (front : Front) (line : ℕ) (next : List ℕ) (ls all : List (List ℕ)) (part : Part) → all ≡ next ∷ ls → part ≡ part_of next → takes_part front part ≡ true
+pub read_on-takes : (front : Front) (line : ℕ) (next : List ℕ) (ls all : List (List ℕ)) (part : Part) → all ≡ next ∷ ls → part ≡ part_of next
+    → takes_part front part ≡ true
     → read_on front line all ≡ read_on (with_part front part) (line + 1) ls
 read_on-takes front line next ls all part e is takes =
     ap (read_on front line) e ∙ read_on-cons front line next ls ∙ ap (read_part front line ls (λ front. read_on front (line + 1) ls)) (sym is)
@@ -75,7 +78,8 @@ read_on-query front line next ls all query e is =
 pub read_all-none : (all : List (List ℕ)) → all ≡ [] → read_all all ≡ Err 1
 read_all-none all e = ap read_all e
 
-pub read_all-first : (next : List ℕ) (ls all : List (List ℕ)) (name : List ℕ) → all ≡ next ∷ ls → list_part name ≡ part_of next → read_all all ≡ read_on (first_front name) 2 ls
+pub read_all-first : (next : List ℕ) (ls all : List (List ℕ)) (name : List ℕ) → all ≡ next ∷ ls → list_part name ≡ part_of next
+    → read_all all ≡ read_on (first_front name) 2 ls
 read_all-first next ls all name e is = ap read_all e ∙ ap (read_first ls) (sym is)
 
 pub read_all-other : (next : List ℕ) (ls all : List (List ℕ)) (line : Line) → all ≡ next ∷ ls → part_read line ≡ part_of next

@@ -34,26 +34,31 @@ at_place rows place row is =
     }
 
 -- what `check_next` finds is the order
-pub found_order : {T : Type 0} (place : ℕ) (last : Option Row) (row : Row) (r : Result T RowFault) → FindsOrder place last row r → is_err r ≡ false → in_order last row ≡ true
+pub found_order : {T : Type 0} (place : ℕ) (last : Option Row) (row : Row) (r : Result T RowFault) → FindsOrder place last row r → is_err r ≡ false
+    → in_order last row ≡ true
 found_order place last row (Ok done) h e = order_from last row h.0 (λ above is. h.1 above is)
 found_order place last row (Err fault) h e = absurd (both_ways _ e refl)
 
-pub found_fault : {T : Type 0} (place : ℕ) (last : Option Row) (row : Row) (r : Result T RowFault) → FindsOrder place last row r → is_err r ≡ true → in_order last row ≡ true → ⊥
+pub found_fault : {T : Type 0} (place : ℕ) (last : Option Row) (row : Row) (r : Result T RowFault) → FindsOrder place last row r → is_err r ≡ true
+    → in_order last row ≡ true → ⊥
 found_fault place last row (Ok done) h e order = both_ways _ refl e
 found_fault place last row (Err (TooHigh at grade)) h e order = let cap = order_cap last row order in omega (arith, h.0)
 found_fault place None row (Err (OutOfOrder at before after)) h e order = h.1
 found_fault place (Some above) row (Err (OutOfOrder at before after)) h e order = let below = order_below above row order in omega (arith, h.1.0)
 
 -- a row at fault makes the list not ranked
-pub fault_of_order : (rows : List Row) (place : ℕ) (row : Row) → IsAt rows place row → (in_order (last_row (take place rows)) row ≡ true → ⊥) → IsRanked rows → ⊥
+pub fault_of_order : (rows : List Row) (place : ℕ) (row : Row) → IsAt rows place row → (in_order (last_row (take place rows)) row ≡ true → ⊥) → IsRanked rows
+    → ⊥
 fault_of_order rows place row at fault ranked = fault (next_in_order (take place rows) row (drop (place + 1) rows) (subst IsRanked at.whole ranked))
 
-pub fault_of_object : (rows : List Row) (place : ℕ) (row : Row) → IsAt rows place row → is_member nat_eq (objects (take place rows)) row.object ≡ true → IsRanked rows → ⊥
+pub fault_of_object : (rows : List Row) (place : ℕ) (row : Row) → IsAt rows place row → is_member nat_eq (objects (take place rows)) row.object ≡ true
+    → IsRanked rows → ⊥
 fault_of_object rows place row at has ranked = both_ways _ (next_is_new (take place rows) row (drop (place + 1) rows) (subst IsRanked at.whole ranked)) has
 
 -- ---- the objects of a list among others
 
-pub among_more : (rows : List Row) (place : ℕ) (row : Row) (test : ℕ → Bool) → IsAt rows place row → ((o : ℕ) → is_member nat_eq (objects (take place rows)) o ≡ true → test o ≡ true) → test row.object ≡ true
+pub among_more : (rows : List Row) (place : ℕ) (row : Row) (test : ℕ → Bool) → IsAt rows place row
+    → ((o : ℕ) → is_member nat_eq (objects (take place rows)) o ≡ true → test o ≡ true) → test row.object ≡ true
     → (o : ℕ) → is_member nat_eq (objects (take (place + 1) rows)) o ≡ true → test o ≡ true
 among_more rows place row test at before here o has =
     ⊎_elim (λ e. before o e) (λ e. subst (λ x. test x ≡ true) (sym (eqb-true o row.object e)) here)
@@ -65,7 +70,8 @@ has_at rows place row at = ap (λ rows. is_member nat_eq (objects rows) row.obje
 -- ---- lists
 
 -- lists that are all like the first are a table
-pub table_from_alike : (lists : List (List Row)) (first : List Row) (test : ℕ → Bool) → Some first ≡ slice_get lists 0 → TellsObjects test first → All (IsAlike (length first) test) lists → IsTable (length first) lists
+pub table_from_alike : (lists : List (List Row)) (first : List Row) (test : ℕ → Bool) → Some first ≡ slice_get lists 0 → TellsObjects test first
+    → All (IsAlike (length first) test) lists → IsTable (length first) lists
 table_from_alike lists first test is tells alike = record {
   sized = λ k d l. let one = alike k d l in one.sized;
   ranked = λ k d l. let one = alike k d l in one.ranked;
@@ -78,7 +84,8 @@ table_from_alike lists first test is tells alike = record {
 }
 
 -- and each list of a table is like the first
-pub alike_in_table : (n : ℕ) (lists : List (List Row)) (first : List Row) (test : ℕ → Bool) → Some first ≡ slice_get lists 0 → TellsObjects test first → IsTable n lists
+pub alike_in_table : (n : ℕ) (lists : List (List Row)) (first : List Row) (test : ℕ → Bool) → Some first ≡ slice_get lists 0 → TellsObjects test first
+    → IsTable n lists
     → (k : ℕ) (d : List Row) → k < length lists → IsAlike (length first) test (get_or lists k d)
 alike_in_table n lists first test is tells t k d l =
     let here : get_or lists 0 first ≡ first = get_or_from_slice_get lists 0 first first (sym is) in

@@ -1,17 +1,16 @@
--- What the reader keeps, one step on.
-use Rattle.std.proofs.Common.{◌≡◌, ℕ, Bool, true, false, cond, eqb, ◌||◌, List, [], ◌∷◌, ◌++◌, map, Some, None, refl, sym, ap, ◌∙◌, subst, arith, length, ne_eqb}
+-- What the reader keeps, one row on.
+use Rattle.std.proofs.Common.{◌≡◌, ◌≤◌, ◌⊎◌, inl, inr, ℕ, Bool, true, false, cond, eqb, ◌||◌, List, [], ◌∷◌, ◌++◌, map, Option, Some, is_some, refl, sym, ap, ◌∙◌, subst, arith, eq-eqb, eqb-true}
 use Rattle.std.specs.Prelude.{nat_eq}
 use Rattle.std.specs.List.{list_any}
 use Rattle.std.specs.Set.{is_member}
-use Rattle.std.specs.HashSet.{contains}
+use Rattle.std.specs.Option.{IfSome}
 use Rattle.std.proofs.lemmas.List.{map_push}
 use Rattle.std.proofs.lemmas.List.Folds.{list_any-append}
 use Rattle.std.proofs.lemmas.Bool.Decides.{nat_tests}
 use Rattle.ranked_list.specs.declared.row.Row.{Row}
 use Rattle.ranked_list.specs.Table.{objects}
-use Rattle.ranked_list.specs.declared.reader.Reader.{Reader}
-use Rattle.ranked_list.specs.Reading.{Front, last_row, TellsObjects, with_list}
-use Rattle.ranked_list.specs.Tracking.{front_of, IsTracked, TellsFirst}
+use Rattle.ranked_list.specs.Reading.{last_row, TellsObjects}
+use Rattle.ranked_list.specs.Tracking.{has_number, TellsFirst}
 
 pub last_row-push : (rows : List Row) (row : Row) → last_row (rows ++ row ∷ []) ≡ Some row
 last_row-push [] row = refl
@@ -19,7 +18,8 @@ last_row-push (first ∷ []) row = refl
 last_row-push (first ∷ next ∷ rows) row = last_row-push (next ∷ rows) row
 
 -- a row more has its object among the objects
-pub is_member-push : (rows : List Row) (row : Row) (object : ℕ) → is_member nat_eq (objects (rows ++ row ∷ [])) object ≡ (is_member nat_eq (objects rows) object || eqb object row.object)
+pub is_member-push : (rows : List Row) (row : Row) (object : ℕ)
+    → is_member nat_eq (objects (rows ++ row ∷ [])) object ≡ (is_member nat_eq (objects rows) object || eqb object row.object)
 is_member-push rows row object =
     ap (λ xs. is_member nat_eq xs object) (map_push (λ (r : Row). r.object) rows row)
     ∙ list_any-append (eqb object) (objects rows) (row.object ∷ [])
@@ -51,41 +51,36 @@ TellsObjects-push before after rows row tells adds = λ object.
     by_test true false b e = absurd cc
     by_test false true b e = absurd cc
 
--- what a reader is after a list has begun
-pub record Begins (before after : Reader) (name : List ℕ) : Type 0 where
-  pub names : map (λ n. n.items) after.names.items ≡ map (λ n. n.items) before.names.items ++ before.name.items ∷ []
-  pub closed : after.closed.items ≡ before.closed.items ++ before.rows ∷ []
-  pub name_is : after.name.items ≡ name
-  pub rows : after.rows ≡ []
-  pub last : after.last ≡ None
-  pub seen : after.seen.keys ≡ []
-  pub first : after.first ≡ cond (eqb (length before.closed.items) 0) before.seen before.first
+has_number-cond : (t : Bool) (number : ℕ) (before : Option ℕ) → has_number number (cond t (Some number) before) ≡ cond t true (has_number number before)
+has_number-cond true number before = eq-eqb number number refl
+has_number-cond false number before = refl
 
-same_front : (names names' : List (List ℕ)) (closed closed' : List (List Row)) (name name' : List ℕ) (rows rows' : List Row) → names ≡ names' → closed ≡ closed' → name ≡ name' → rows ≡ rows'
-    → (let a : Front = record { names = names; closed = closed; name = name; rows = rows } in a) ≡ record { names = names'; closed = closed'; name = name'; rows = rows' }
-same_front names names' closed closed' name name' rows rows' n c m r = rw (n, c, m, r) refl
+is_some-cond : (t : Bool) (number : ℕ) (before : Option ℕ) → (t ≡ true → is_some before ≡ true) → is_some (cond t (Some number) before) ≡ is_some before
+is_some-cond true number before has = sym (has refl)
+is_some-cond false number before has = refl
 
-pub front_of-begins : (before after : Reader) (name : List ℕ) → Begins before after name → front_of after ≡ with_list (front_of before) name
-front_of-begins before after name b = same_front _ _ _ _ _ _ _ _ b.names b.closed b.name_is b.rows
+module _ (number : ℕ) (before after : ℕ → Option ℕ) (row : Row) (marks : (object : ℕ) → after object ≡ cond (eqb row.object object) (Some number) (before object)) where
+  -- where the object of a row more is given the number of the open list, that number tells the objects of the list
+  pub seen-marked : (rows : List Row) → TellsObjects (λ object. has_number number (before object)) rows
+      → TellsObjects (λ object. has_number number (after object)) (rows ++ row ∷ [])
+  seen-marked rows tells =
+      TellsObjects-push (λ object. has_number number (before object)) (λ object. has_number number (after object)) rows row tells
+      (λ object. ap (has_number number) (marks object) ∙ has_number-cond (eqb row.object object) number (before object))
 
-first_kept : (before : Reader) (first : ℕ → Bool) (closed : List (List Row)) → IsTracked before → closed ≡ before.closed.items
-    → ((o : ℕ) → first o ≡ cond (eqb (length closed) 0) (contains nat_eq before.seen o) (contains nat_eq before.first o))
-    → TellsFirst first (closed ++ before.rows ∷ [])
-first_kept before first [] t e is = λ o. is o ∙ t.seen o
-first_kept before first (list ∷ more) t e is = λ o.
-    is o ∙ ap (λ b. cond b (contains nat_eq before.seen o) (contains nat_eq before.first o)) (ne_eqb (length (list ∷ more)) 0 (omega arith))
-    ∙ (let told : TellsFirst (contains nat_eq before.first) (list ∷ more) = subst (TellsFirst (contains nat_eq before.first)) (sym e) t.first in told o)
+  -- and having a number tells the objects of the first list, where the row's had one or there is no first list
+  pub first-marked : (closed : List (List Row)) → (closed ≡ []) ⊎ (is_some (before row.object) ≡ true) → TellsFirst (λ object. is_some (before object)) closed
+      → TellsFirst (λ object. is_some (after object)) closed
+  first-marked [] had tells = tt
+  first-marked (first ∷ more) (inl none) tells = absurd cc
+  first-marked (first ∷ more) (inr had) tells = λ object.
+      ap is_some (marks object)
+      ∙ is_some-cond (eqb row.object object) number (before object) (λ same. subst (λ o. is_some (before o) ≡ true) (eqb-true row.object object same) had)
+      ∙ tells object
 
-pub IsTracked-begins : (before after : Reader) (name : List ℕ) → IsTracked before → Begins before after name → IsTracked after
-IsTracked-begins before after name t b = record {
-  last = b.last ∙ sym (ap last_row b.rows);
-  seen = λ o. ap (λ ks. list_any (nat_eq o) ks) b.seen ∙ sym (ap (λ rows. is_member nat_eq (objects rows) o) b.rows);
-  first =
-      subst (TellsFirst (contains nat_eq after.first)) (sym b.closed)
-      (first_kept before (contains nat_eq after.first) before.closed.items t refl
-      (λ o. ap (λ s. contains nat_eq s o) b.first ∙ contains_cond (eqb (length before.closed.items) 0) o));
-}
-  where
-    contains_cond : (c : Bool) (o : ℕ) → contains nat_eq (cond c before.seen before.first) o ≡ cond c (contains nat_eq before.seen o) (contains nat_eq before.first o)
-    contains_cond true o = refl
-    contains_cond false o = refl
+  -- and no number is greater
+  pub past-marked : ((object : ℕ) → IfSome (before object) (λ m. m ≤ number)) → (object : ℕ) → IfSome (after object) (λ m. m ≤ number)
+  past-marked past object = subst (λ (m : Option ℕ). IfSome m (λ n. n ≤ number)) (sym (marks object)) (by_test (eqb row.object object) (before object) (past object))
+    where
+      by_test : (t : Bool) (own : Option ℕ) → IfSome own (λ n. n ≤ number) → IfSome (cond t (Some number) own) (λ n. n ≤ number)
+      by_test true own past = omega arith
+      by_test false own past = past

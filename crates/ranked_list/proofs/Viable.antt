@@ -21,7 +21,8 @@ least_row object = record { object = object; grade = 0 }
 least_in_order : (o : Option Row) (object : ℕ) → in_order o (least_row object) ≡ true
 least_in_order o object = order_from o (least_row object) (omega arith) (λ above e. omega arith)
 
-pub takes_from : (front : Front) (row : Row) → length front.rows < room front.closed → in_order (last_row front.rows) row ≡ true → is_wanted front.closed row.object ≡ true
+pub takes_from : (front : Front) (row : Row) → length front.rows < room front.closed → in_order (last_row front.rows) row ≡ true
+    → is_wanted front.closed row.object ≡ true
     → is_member nat_eq (objects front.rows) row.object ≡ false → takes_row front row ≡ true
 takes_from front row space order wanted new =
     and_from _ (not (is_member nat_eq (objects front.rows) row.object))
@@ -70,7 +71,8 @@ added rows row =
 has_first : (object : ℕ) (wanted xs : List ℕ) → is_member nat_eq xs object ≡ true → Within wanted xs → Within (object ∷ wanted) xs
 has_first object wanted xs has within o h = ⊎_elim (λ e. subst (λ x. is_member nat_eq xs x ≡ true) (sym (eqb-true o object e)) has) (λ rest. within o rest) (or_cases (eqb o object) (is_member nat_eq wanted o) h)
 
-fill : (first : List Row) (others : List (List Row)) (front : Front) (wanted : List ℕ) → front.closed ≡ first ∷ others → IsFront front → All Small first → Within wanted (objects first) → Filled front wanted
+fill : (first : List Row) (others : List (List Row)) (front : Front) (wanted : List ℕ) → front.closed ≡ first ∷ others → IsFront front → All Small first
+    → Within wanted (objects first) → Filled front wanted
 fill first others front [] e f small within = record { after = front; goes = goes_nowhere front f; keeps = λ o has. has; has = λ o has. absurd (false≢true has) }
 fill first others front (object ∷ wanted) e f small within =
     ⊎_elim
@@ -98,7 +100,8 @@ fill first others front (object ∷ wanted) e f small within =
     there : is_member nat_eq (objects first) object ≡ true
     there = within object (or_left (eqb object object) _ (eq-eqb object object refl))
 
-    takes_least : (first : List Row) (others : List (List Row)) (front : Front) (object : ℕ) → front.closed ≡ first ∷ others → IsFront front → is_member nat_eq (objects first) object ≡ true
+    takes_least : (first : List Row) (others : List (List Row)) (front : Front) (object : ℕ) → front.closed ≡ first ∷ others → IsFront front
+        → is_member nat_eq (objects first) object ≡ true
         → is_member nat_eq (objects front.rows) object ≡ false → takes_row front (least_row object) ≡ true
     takes_least first others front object e f there lacks =
         let fits : Fits (first ∷ others) front.rows = subst (λ closed. Fits closed front.rows) e f.fits in

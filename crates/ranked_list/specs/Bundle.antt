@@ -10,6 +10,7 @@ use Rattle.ranked_list.specs.declared.bundle.Bundle.{Bundle}
 use Rattle.ranked_list.specs.declared.bundle.BundleFault.{BundleFault}
 use Rattle.ranked_list.specs.declared.bundle.BundleFault.TheVariants.{BadBundle, Memory}
 use Rattle.ranked_list.specs.Table.{IsTable}
+use Rattle.limits.specs.declared.TheConstants.{MAX_BUNDLE_LISTS, MAX_OBJECTS}
 
 -- what a bundle says: the names of its lists, the lists, and the text of its query
 pub record Content : Type 0 where
@@ -24,11 +25,11 @@ content bundle = record { names = map (λ name. name.items) bundle.names.items; 
 -- a bundle: 1 to 64 lists, each with a name of its own, that are a table of 1 to 200,000 rows, over objects of 32 bits; and one line of query text
 pub record IsBundle (c : Content) : Type 0 where
   pub some : 1 ≤ length c.lists
-  pub few : length c.lists ≤ 64
+  pub few : length c.lists ≤ MAX_BUNDLE_LISTS
   pub each_named : length c.names ≡ length c.lists
   pub names : All IsName c.names
   pub apart : AllPairs (λ (above : List ℕ) (below : List ℕ). above ≢ below) c.names
-  pub table : (n : ℕ) × (1 ≤ n) × (n ≤ 200000) × IsTable n c.lists
+  pub table : (n : ℕ) × (1 ≤ n) × (n ≤ MAX_OBJECTS) × IsTable n c.lists
   pub small : All (λ rows. All (λ row. row.object < 2 ^ 32) rows) c.lists
   pub one_line : All (λ byte. byte ≢ 10) c.query
 

@@ -15,6 +15,7 @@ use Rattle.ranked_list.specs.declared.line.Line.{Line}
 use Rattle.ranked_list.specs.declared.line.Line.TheVariants.{Heading, Entry, Query, Other}
 use Rattle.ranked_list.specs.Table.{objects, top_grade}
 use Rattle.ranked_list.specs.Bundle.{Content}
+use Rattle.limits.specs.declared.TheConstants.{MAX_BUNDLE_LISTS, MAX_OBJECTS}
 
 -- what one line may be: the beginning of a list, a row, the query, or none of these
 pub data Part : Type 0 where
@@ -83,7 +84,7 @@ TellsObjects test rows = (object : ℕ) → test object ≡ is_member nat_eq (ob
 
 -- how many rows the next list may have
 abbrev pub room : List (List Row) → ℕ
-room [] = 200000
+room [] = MAX_OBJECTS
 room (first ∷ more) = length first
 
 -- whether the next list may have an object
@@ -94,7 +95,8 @@ is_wanted (first ∷ more) object = is_member nat_eq (objects first) object
 -- whether a row may come next
 abbrev pub takes_row : Front → Row → Bool
 takes_row front row =
-    ((nat_lt (length front.rows) (room front.closed) && in_order (last_row front.rows) row) && is_wanted front.closed row.object) && not (is_member nat_eq (objects front.rows) row.object)
+    ((nat_lt (length front.rows) (room front.closed) && in_order (last_row front.rows) row) && is_wanted front.closed row.object)
+    && not (is_member nat_eq (objects front.rows) row.object)
 
 abbrev pub with_row : Front → Row → Front
 with_row front row = record front { rows = front.rows ++ row ∷ [] }
@@ -113,7 +115,7 @@ is_taken front name = list_any (λ other. bytes_eq other name) front.names || by
 
 -- whether a list with this name may begin
 abbrev pub takes_list : Front → List ℕ → Bool
-takes_list front name = (is_whole front && nat_lt (length front.closed + 1) 64) && not (is_taken front name)
+takes_list front name = (is_whole front && nat_lt (length front.closed + 1) MAX_BUNDLE_LISTS) && not (is_taken front name)
 
 abbrev pub with_list : Front → List ℕ → Front
 with_list front name = record { names = front.names ++ front.name ∷ []; closed = front.closed ++ front.rows ∷ []; name = name; rows = [] }

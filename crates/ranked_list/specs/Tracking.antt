@@ -1,8 +1,8 @@
 -- What the crate's reader of bundles keeps beside the front that it has read.
-use Rattle.std.specs.Prelude.{◌≡◌, ℕ, Bool, true, List, [], ◌∷◌, map, length, nat_eq}
+use Rattle.std.specs.Prelude.{◌≡◌, ◌==◌, ◌≤◌, ℕ, Bool, true, false, Option, None, Some, List, [], ◌∷◌, map, length, is_some, nat_eq, IfSome}
 use Rattle.std.specs.Set.{is_member}
 use Rattle.ranked_list.specs.Table.{IsRanked, objects}
-use Rattle.std.specs.HashSet.{contains}
+use Rattle.std.specs.HashMap.{get}
 use Rattle.std.specs.declared.result.Result.{Result}
 use Rattle.std.specs.declared.result.Result.TheVariants.{Ok, Err}
 use Rattle.ranked_list.specs.declared.row.Row.{Row}
@@ -22,11 +22,19 @@ abbrev pub TellsFirst : (ℕ → Bool) → List (List Row) → Type 0
 TellsFirst test [] = Unit {0}
 TellsFirst test (first ∷ more) = TellsObjects test first
 
--- the reader keeps the last row of its open list, the objects of that list, and those of the first list
+-- the object has this number
+abbrev pub has_number : ℕ → Option ℕ → Bool
+has_number number None = false
+has_number number (Some own) = own == number
+
+-- the reader keeps the last row of its open list, the number of that list, and of each object the number of the last list that has it: the open list has the
+-- objects of its number, the first list has all that have a number, and no number is greater
 pub record IsTracked (reader : Reader) : Type 0 where
   pub last : reader.last ≡ last_row reader.rows
-  pub seen : TellsObjects (contains nat_eq reader.seen) reader.rows
-  pub first : TellsFirst (contains nat_eq reader.first) reader.closed.items
+  pub number : reader.number ≡ length reader.closed.items
+  pub seen : TellsObjects (λ object. has_number reader.number (get nat_eq reader.given object)) reader.rows
+  pub first : TellsFirst (λ object. is_some (get nat_eq reader.given object)) reader.closed.items
+  pub past : (object : ℕ) → IfSome (get nat_eq reader.given object) (λ number. number ≤ reader.number)
 
 -- a list is ranked and has so many rows, all of objects that pass the test
 pub record IsAlike (count : ℕ) (test : ℕ → Bool) (rows : List Row) : Type 0 where

@@ -1,9 +1,13 @@
 //! Objects with bounds on their aggregates.
 
+ghost use Rattle.ranked_list.specs.declared.item.Item.{Item};
+ghost use Rattle.std.specs.Slice.Iter.{iter_rest};
+ghost use Rattle.std.specs.Iterator.Adapters.{IterYieldsInOrder};
 ghost use Rattle.std.specs.Prelude.{◌≡◌, ◌==◌, ◌<◌, ◌^◌, length, slice_get, vec_len};
 ghost use Rattle.std.specs.Option.{option_copied};
 
 use std::marker::Model;
+use std::slice::Iter;
 
 /// An object with a lower and an upper bound of its aggregate.
 #[derive(Clone, Copy, Debug, PartialEq, Eq)]
@@ -66,5 +70,14 @@ impl Items {
         ensures { option_copied result ≡ slice_get self.now place }
     {
         self.items.get(place as usize)
+    }
+
+    /// The items, in their order.
+    pub fn iter(&self) -> Iter<'_, Item>
+        ensures rest { iter_rest result ≡ self.now }
+        ensures few { length (iter_rest result) < 2 ^ 32 }
+        ensures runs { IterYieldsInOrder Item }
+    {
+        self.items.iter()
     }
 }

@@ -19,7 +19,7 @@ pub use mem_list::MemList;
 pub use need::Need;
 pub use order::{RowFault, check_next};
 pub use page_rows::PageRows;
-pub use row::{Row, TOP_GRADE};
+pub use row::Row;
 use std::alloc::{AllocError, AllocFailed};
 pub use table::is_table;
 

@@ -1,11 +1,15 @@
 //! A ranked list in memory.
 
+ghost use Rattle.ranked_list.specs.declared.row.Row.{Row};
+ghost use Rattle.std.specs.Slice.Iter.{iter_rest};
+ghost use Rattle.std.specs.Iterator.Adapters.{IterYieldsInOrder};
 ghost use Rattle.std.specs.Prelude.{◌≡◌, ◌==◌, ◌+◌, ◌-◌, ◌<◌, ◌^◌, [], ◌∷◌, ◌++◌, length, slice_get, OnOk, OnErr};
 
 use super::Memory;
 use super::row::Row;
 use std::alloc::Global;
 use std::marker::Model;
+use std::slice::Iter;
 
 /// Rows in order, which contracts see as their list.
 #[derive(Debug, Drop)]
@@ -40,7 +44,8 @@ impl MemList {
         ensures ok { OnOk result (self.new ≡ self.old ++ row ∷ []) }
         ensures err { OnErr result (self.new ≡ self.old) }
     {
-        self.rows.push(row).map_err(|_| Memory)
+        self.rows.push(row)?;
+        Ok(())
     }
 
     /// How many rows there are.
@@ -62,5 +67,14 @@ impl MemList {
         ensures { result ≡ slice_get self.now place }
     {
         self.rows.get(place as usize).copied()
+    }
+
+    /// The rows, in their order.
+    pub fn iter(&self) -> Iter<'_, Row>
+        ensures rest { iter_rest result ≡ self.now }
+        ensures few { length (iter_rest result) < 2 ^ 32 }
+        ensures runs { IterYieldsInOrder Row }
+    {
+        self.rows.iter()
     }
 }

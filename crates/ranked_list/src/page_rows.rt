@@ -1,10 +1,14 @@
 //! The rows of one page.
 
+ghost use Rattle.ranked_list.specs.declared.row.Row.{Row};
+ghost use Rattle.std.specs.Slice.Iter.{iter_rest};
+ghost use Rattle.std.specs.Iterator.Adapters.{IterYieldsInOrder};
 ghost use Rattle.std.specs.Prelude.{◌≡◌, ◌==◌, ◌<◌, ◌^◌, length, slice_get, vec_len};
 ghost use Rattle.std.specs.Option.{option_copied};
 
 use super::row::Row;
 use std::marker::Model;
+use std::slice::Iter;
 
 /// The rows of one page in order, which contracts see as their list.
 #[derive(Debug, Drop)]
@@ -59,5 +63,14 @@ impl PageRows {
         ensures { option_copied result ≡ slice_get self.now place }
     {
         self.rows.get(place as usize)
+    }
+
+    /// The rows, in their order.
+    pub fn iter(&self) -> Iter<'_, Row>
+        ensures rest { iter_rest result ≡ self.now }
+        ensures few { length (iter_rest result) < 2 ^ 32 }
+        ensures runs { IterYieldsInOrder Row }
+    {
+        self.rows.iter()
     }
 }

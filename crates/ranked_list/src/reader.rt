@@ -11,18 +11,13 @@ use super::Memory;
 use super::bundle::Bundle;
 use super::line::Line;
 use super::mem_list::MemList;
-use super::objects::put;
+use super::objects::mark;
 use super::order::check_next;
 use super::row::Row;
+use limits::{MAX_BUNDLE_LISTS, MAX_OBJECTS};
 use std::alloc::Global;
-use std::collections::HashSet;
+use std::collections::HashMap;
 use std::mem::replace;
-
-/// The most rows that a list may have.
-const MOST_ROWS: u32 = 200_000;
-
-/// The most lists that a bundle may have.
-const MOST_LISTS: usize = 64;
 
 /// The lists of a bundle so far, of which the last is open.
 #[derive(Drop)]
@@ -37,10 +32,10 @@ pub(crate) struct Reader {
     rows: MemList,
     /// The last of these rows.
     last: Option<Row>,
-    /// Their objects.
-    seen: HashSet<u32>,
-    /// The objects of the first list, once it is whole.
-    first: HashSet<u32>,
+    /// The number of the open list, from 0.
+    number: u8,
+    /// For each object the number of the last list that has it.
+    given: HashMap<u32, u8>,
 }
 
 impl Reader {
@@ -54,12 +49,13 @@ impl Reader {
             name: Vec::from_slice(alloc, name)?,
             rows: MemList::make(alloc),
             last: None,
-            seen: HashSet::new(alloc),
-            first: HashSet::new(alloc),
+            number: 0,
+            given: HashMap::new(alloc),
         })
     }
 
-    /// Puts a row at the end of the open list, if it may come there, and says whether it did.
+    /// Puts a row at the end of the open list, if it may come there, and says whether it did. Where it didn't, the
+    /// reader is of no more use.
     pub(crate) fn add_row(&mut self, row: Row) -> Result<bool, Memory>
         requires { IsTracked self.old }
         ensures tells { IfOk result (λ took. took ≡ takes_row (front_of self.old) row) }
@@ -68,10 +64,11 @@ impl Reader {
         if self.rows.len() >= self.room() || check_next(0, self.last, row).is_err() {
             return Ok(false);
         }
-        if !self.closed.is_empty() && !self.first.contains(&row.object) {
+        let before = mark(&mut self.given, row.object, self.number)?;
+        if !self.closed.is_empty() && before.is_none() {
             return Ok(false);
         }
-        if !put(&mut self.seen, row.object)? {
+        if before == Some(self.number) {
             return Ok(false);
         }
         self.rows.push(row)?;
@@ -85,16 +82,15 @@ impl Reader {
         ensures tells { IfOk result (λ took. took ≡ takes_list (front_of self.old) name.now) }
         ensures begins { IfOk result (λ took. IsTrue took → IsTracked self.new × (front_of self.new ≡ with_list (front_of self.old) name.now)) }
     {
-        if !self.is_whole() || self.closed.len() + 1 >= MOST_LISTS || self.is_taken(name) {
+        if !self.is_whole() || self.closed.len() + 1 >= MAX_BUNDLE_LISTS || self.is_taken(name) {
             return Ok(false);
         }
         let name = Vec::from_slice(alloc, name)?;
         self.names.push(replace(&mut self.name, name))?;
-        let objects = replace(&mut self.seen, HashSet::new(alloc));
-        self.keep_first(objects);
         self.closed
             .push(replace(&mut self.rows, MemList::make(alloc)))?;
         self.last = None;
+        self.number += 1;
         Ok(true)
     }
 
@@ -111,22 +107,13 @@ impl Reader {
         }
     }
 
-    /// Keeps the objects of the list that ends, if it is the first.
-    fn keep_first(&mut self, objects: HashSet<u32>)
-        ensures { self.new ≡ record self.old { first = (if length self.old.closed.items == 0 then objects else self.old.first) } }
-    {
-        if self.closed.is_empty() {
-            self.first = objects;
-        }
-    }
-
     /// How many rows the open list may have.
     fn room(&self) -> u32
         ensures { result ≡ room self.now.closed.items }
     {
         match self.closed.first() {
             Some(first) => first.len(),
-            None => MOST_ROWS,
+            None => MAX_OBJECTS,
         }
     }
 
@@ -157,8 +144,8 @@ impl Reader {
             name,
             rows,
             last: _,
-            seen: _,
-            first: _,
+            number: _,
+            given: _,
         } = self;
         names.push(name)?;
         closed.push(rows)?;

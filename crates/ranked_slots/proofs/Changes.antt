@@ -7,7 +7,7 @@ use Rattle.std.specs.Cmp.{nat_cmp_is}
 use Rattle.std.specs.declared.cmp.Ordering.TheVariants.{Greater}
 use Rattle.std.specs.declared.cmp.Reverse.{Reverse}
 use Rattle.std.proofs.lemmas.Bool.{cases_eq, cases_lt}
-use Rattle.std.proofs.lemmas.List.{length-set, get_or-set_same, get_or-set_other}
+use Rattle.std.proofs.lemmas.List.{length-set, get_or-set_same, get_or-set_other, length_push, get_or_push}
 use Rattle.std.proofs.lemmas.Option.{none-some, same_Some, slice_get_past, slice_get_within, slice_get-get_or}
 use Rattle.indexed_heap.specs.Ranks.{rank_at}
 use Rattle.ranked_slots.specs.declared.slots.Entry.{Entry}
@@ -28,8 +28,7 @@ get_set_other xs i j x apart =
     ]
 
 pub get_last : {X : Type 0} (xs : List X) (x : X) → slice_get (xs ++ x ∷ []) (length xs) ≡ Some x
-get_last [] x = refl
-get_last (y ∷ xs) x = get_last xs x
+get_last xs x = slice_get-get_or (xs ++ x ∷ []) (length xs) x (omega (arith, length_push xs x)) ∙ ap (λ y. Some y) (get_or_push xs x x (length xs) refl)
 
 pub get_before : {X : Type 0} (xs : List X) (x : X) (i : ℕ) → i ≢ length xs → slice_get (xs ++ x ∷ []) i ≡ slice_get xs i
 get_before [] x zero apart = absurd (apart refl)
@@ -142,7 +141,8 @@ kept_renewed most capacity entries ranks slots at old rank keeps there =
     }
 
 -- ---- a key in place of another
-pub kept_replaced : (most capacity : ℕ) (entries : List Entry) (ranks : List (Option (Reverse ℕ))) (slots : List (Option ℕ)) (at : ℕ) (old : Entry) (key rank : ℕ)
+pub kept_replaced : (most capacity : ℕ) (entries : List Entry) (ranks : List (Option (Reverse ℕ))) (slots : List (Option ℕ)) (at : ℕ) (old : Entry)
+    (key rank : ℕ)
     → Keeps most capacity entries ranks slots → slice_get entries at ≡ Some old → key < length slots → HasNone entries key
     → Keeps most capacity (set entries at (record { key = key; rank = rank })) (set ranks at (Some (record { 0 = rank }))) (set (set slots old.key None) key (Some at))
 kept_replaced most capacity entries ranks slots at old key rank keeps there within absent =
@@ -193,7 +193,8 @@ kept_replaced most capacity entries ranks slots at old key rank keeps there with
     }
 
 -- ---- what the calls keep, by the equations that they have
-pub added : (most capacity capacity_now : ℕ) (entries entries_now : List Entry) (ranks ranks_now : List (Option (Reverse ℕ))) (slots : List (Option ℕ)) (key rank last : ℕ)
+pub added : (most capacity capacity_now : ℕ) (entries entries_now : List Entry) (ranks ranks_now : List (Option (Reverse ℕ))) (slots : List (Option ℕ))
+    (key rank last : ℕ)
     → Keeps most capacity entries ranks slots → key < length slots → HasNone entries key → length entries < most → last ≡ length entries → capacity ≤ capacity_now
     → entries_now ≡ entries ++ record { key = key; rank = rank } ∷ [] → ranks_now ≡ set ranks last (Some (record { 0 = rank }))
     → Keeps most capacity_now entries_now ranks_now (set slots key (Some last))
@@ -217,14 +218,16 @@ added most capacity capacity_now entries entries_now ranks ranks_now slots key r
 pub at_slot : (entries : List Entry) (slot : ℕ) (read : Entry) → slot < length entries → read ≡ get_or entries slot read → slice_get entries slot ≡ Some read
 at_slot entries slot read lt is = slice_get-get_or entries slot read lt ∙ ap (λ e. Some e) (sym is)
 
-pub renewed : (most capacity : ℕ) (entries : List Entry) (ranks ranks_now : List (Option (Reverse ℕ))) (slots : List (Option ℕ)) (at : ℕ) (old : Entry) (rank : ℕ)
+pub renewed : (most capacity : ℕ) (entries : List Entry) (ranks ranks_now : List (Option (Reverse ℕ))) (slots : List (Option ℕ)) (at : ℕ) (old : Entry)
+    (rank : ℕ)
     → Keeps most capacity entries ranks slots → at < length entries → old ≡ get_or entries at old → ranks_now ≡ set ranks at (Some (record { 0 = rank }))
     → Keeps most capacity (set entries at (record { key = old.key; rank = rank })) ranks_now slots
 renewed most capacity entries ranks ranks_now slots at old rank keeps lt is ranks_are =
     subst (λ rs. Keeps most capacity (set entries at (record { key = old.key; rank = rank })) rs slots) (sym ranks_are)
     (kept_renewed most capacity entries ranks slots at old rank keeps (at_slot entries at old lt is))
 
-pub replaced : (most capacity : ℕ) (entries : List Entry) (ranks ranks_now : List (Option (Reverse ℕ))) (slots : List (Option ℕ)) (at : ℕ) (old : Entry) (key rank : ℕ)
+pub replaced : (most capacity : ℕ) (entries : List Entry) (ranks ranks_now : List (Option (Reverse ℕ))) (slots : List (Option ℕ)) (at : ℕ) (old : Entry)
+    (key rank : ℕ)
     → Keeps most capacity entries ranks slots → at < length entries → old ≡ get_or entries at old → key < length slots → HasNone entries key
     → ranks_now ≡ set ranks at (Some (record { 0 = rank }))
     → Keeps most capacity (set entries at (record { key = key; rank = rank })) ranks_now (set (set slots old.key None) key (Some at))
@@ -237,7 +240,7 @@ known_entry : (found : Option Entry) (rank : Reverse ℕ) → option_map reverse
 known_entry None rank e = absurd (none-some rank e)
 known_entry (Some entry) rank e = (entry, refl, ap (λ (r : Reverse ℕ). r.0) (same_Some (reversed entry) rank e))
 
-no_greater : (a b : ℕ) → nat_cmp a b ≢ Greater → a ≤ b
+pub no_greater : (a b : ℕ) → nat_cmp a b ≢ Greater → a ≤ b
 no_greater a b none = elim (cases_lt b a) [ inl lt ↦ absurd (none (sym (nat_cmp_is a b Greater lt))) | inr upto ↦ upto ]
 
 pub least_found : (most capacity : ℕ) (entries : List Entry) (ranks : List (Option (Reverse ℕ))) (slots : List (Option ℕ)) (slot : ℕ) (rank : Reverse ℕ)

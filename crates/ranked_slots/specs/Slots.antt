@@ -4,6 +4,7 @@ use Rattle.std.specs.Option.{option_map}
 use Rattle.std.specs.declared.cmp.Reverse.{Reverse}
 use Rattle.indexed_heap.specs.Ranks.{rank_at}
 use Rattle.ranked_slots.specs.declared.slots.Entry.{Entry}
+use Rattle.limits.specs.declared.TheConstants.{MAX_OBJECTS}
 
 -- how many slots there are, below what the keys are, and the keys with their ranks, slot by slot
 pub record Slots : Type 0 where
@@ -43,8 +44,8 @@ reversed entry = record { 0 = entry.rank }
 
 -- what is kept
 pub record Keeps (most capacity : ℕ) (entries : List Entry) (ranks : List (Option (Reverse ℕ))) (slots : List (Option ℕ)) : Type 0 where
-  pub few : most ≤ 200000
-  pub small : length slots ≤ 200000
+  pub few : most ≤ MAX_OBJECTS
+  pub small : length slots ≤ MAX_OBJECTS
   pub reserved : most ≤ capacity
   pub within : length entries ≤ most
   pub sized : length ranks ≡ most

@@ -9,6 +9,3 @@ pub use slots::{Entry, RankedSlots};
 /// No memory was left.
 #[derive(Clone, Copy, Debug, PartialEq, Eq)]
 pub struct Memory;
-
-/// The greatest room, in keys.
-pub const MAX_ROOM: u32 = 200_000;

@@ -5,6 +5,7 @@ ghost use Rattle.ranked_slots.specs.Slots.{HasNone, IsAt, IsLeast, AreDistinctKe
 
 use super::Memory;
 use indexed_heap::IndexedHeap;
+use limits::MAX_OBJECTS;
 use std::alloc::Global;
 use std::cmp::Reverse;
 use std::marker::Model;
@@ -41,8 +42,8 @@ impl Model for RankedSlots {
 impl RankedSlots {
     /// No keys, with `most` slots and room for the keys below `room`.
     pub fn make(alloc: Global, most: u32, room: u32) -> Result<RankedSlots, Memory>
-        requires slots { most ≤ 200000 }
-        requires room { room ≤ 200000 }
+        requires slots { most ≤ MAX_OBJECTS }
+        requires room { room ≤ MAX_OBJECTS }
         ensures { IfOk result (λ made. made ≡ record { most = most; room = room; entries = [] }) }
     {
         let Ok(entries) = Vec::with_capacity(alloc, most as usize) else {
@@ -67,7 +68,7 @@ impl RankedSlots {
     pub fn len(&self) -> u32
         ensures len { result ≡ length self.now.entries }
         ensures few { result ≤ self.now.most }
-        ensures small { result ≤ 200000 }
+        ensures small { result ≤ MAX_OBJECTS }
         ensures distinct { AreDistinctKeys self.now.entries }
     {
         self.entries.len() as u32

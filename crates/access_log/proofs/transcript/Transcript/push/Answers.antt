@@ -7,7 +7,8 @@ use Rattle.access_log.proofs.Pushing.{refusal, no_room, few_named, still_agrees,
 use Rattle.access_log.proofs.transcript.Transcript.push.Goals as goal
 
 -- the place of the object among those that the accesses name
-place_is : (a : Access) (A : List Access) (keys : List ℕ) (object : ℕ) (place : Option ℕ) → place ≡ position (nat_eq object) keys → object ≡ object_of a → keys ≡ named_objects A → place ≡ position (nat_eq (object_of a)) (named_objects A)
+place_is : (a : Access) (A : List Access) (keys : List ℕ) (object : ℕ) (place : Option ℕ) → place ≡ position (nat_eq object) keys → object ≡ object_of a
+    → keys ≡ named_objects A → place ≡ position (nat_eq (object_of a)) (named_objects A)
 place_is a A keys object place e f g = e ∙ ap (λ x. position (nat_eq x) keys) f ∙ ap (position (nat_eq (object_of a))) g
 
 pub returns-in-Some-clause-cause : goal.returns-in-Some-clause-cause
