@@ -34,17 +34,21 @@ slice_get-take (suc n) (x ∷ xs) zero below = refl
 slice_get-take (suc n) (x ∷ xs) (suc i) below = slice_get-take n xs i (omega arith)
 
 -- the ranks of the first are ranks of a place
-pub top_joined : (k : ℕ) (top : List (Option Rank)) (rest : List (Option (Reverse Rank))) → IsHalved k top rest → (place : ℕ) (rank : Rank) → rank_at top place ≡ Some rank → rank_at (joined top rest) place ≡ Some rank
+pub top_joined : (k : ℕ) (top : List (Option Rank)) (rest : List (Option (Reverse Rank))) → IsHalved k top rest → (place : ℕ) (rank : Rank)
+    → rank_at top place ≡ Some rank → rank_at (joined top rest) place ≡ Some rank
 top_joined k top rest halved place rank at = at-joined top rest halved.same_room place ∙ ap (λ (r : Option Rank). either r (rank_at rest place)) at
 
 -- a place that has a rank has it among the first or among the others
-side_of : (k : ℕ) (top : List (Option Rank)) (rest : List (Option (Reverse Rank))) → IsHalved k top rest → (place : ℕ) (rank : Rank) → rank_at (joined top rest) place ≡ Some rank → (rank_at top place ≡ Some rank) ⊎ ((other : Reverse Rank) × (rank_at rest place ≡ Some other) × (other.0 ≡ rank))
+side_of : (k : ℕ) (top : List (Option Rank)) (rest : List (Option (Reverse Rank))) → IsHalved k top rest → (place : ℕ) (rank : Rank)
+    → rank_at (joined top rest) place ≡ Some rank
+    → (rank_at top place ≡ Some rank) ⊎ ((other : Reverse Rank) × (rank_at rest place ≡ Some other) × (other.0 ≡ rank))
 side_of k top rest halved place rank at = by_case (rank_at top place) (rank_at rest place) refl refl
   where
     whole : either (rank_at top place) (rank_at rest place) ≡ Some rank
     whole = sym (at-joined top rest halved.same_room place) ∙ at
 
-    by_case : (a : Option Rank) (b : Option (Reverse Rank)) → rank_at top place ≡ a → rank_at rest place ≡ b → (rank_at top place ≡ Some rank) ⊎ ((other : Reverse Rank) × (rank_at rest place ≡ Some other) × (other.0 ≡ rank))
+    by_case : (a : Option Rank) (b : Option (Reverse Rank)) → rank_at top place ≡ a → rank_at rest place ≡ b
+        → (rank_at top place ≡ Some rank) ⊎ ((other : Reverse Rank) × (rank_at rest place ≡ Some other) × (other.0 ≡ rank))
     by_case (Some a) b is is' = inl (is ∙ sym (ap (λ (r : Option Rank). either r (rank_at rest place)) is) ∙ whole)
     by_case None (Some b) is is' =
         inr (b, is', same_Some b.0 rank (sym (ap (λ (r : Option Rank). either r (rank_at rest place)) is ∙ ap (either None) is') ∙ whole))
@@ -52,7 +56,8 @@ side_of k top rest halved place rank at = by_case (rank_at top place) (rank_at r
 
 -- ---- places and objects
 -- distinct keys have one place each
-pub one_place : (keys : List ℕ) → AllPairs (λ (a : ℕ) (b : ℕ). a ≢ b) keys → (p q object : ℕ) → slice_get keys p ≡ Some object → slice_get keys q ≡ Some object → p ≡ q
+pub one_place : (keys : List ℕ) → AllPairs (λ (a : ℕ) (b : ℕ). a ≢ b) keys → (p q object : ℕ) → slice_get keys p ≡ Some object → slice_get keys q ≡ Some object
+    → p ≡ q
 one_place keys distinct p q object at at' =
     let within = slice_get_within keys p object at in
     let within' = slice_get_within keys q object at' in
@@ -66,11 +71,13 @@ one_place keys distinct p q object at at' =
       ]
     ]
 
-pub HaveOnePlace-joined : (places : List ℕ) (ranks : List (Option Rank)) → AllPairs (λ (a : ℕ) (b : ℕ). a ≢ b) places → AreRanksOf places ranks → HaveOnePlace ranks
+pub HaveOnePlace-joined : (places : List ℕ) (ranks : List (Option Rank)) → AllPairs (λ (a : ℕ) (b : ℕ). a ≢ b) places → AreRanksOf places ranks
+    → HaveOnePlace ranks
 HaveOnePlace-joined places ranks distinct are = λ p q a b at at' same.
     one_place places distinct p q a.object (are.own p a at) (are.own q b at' ∙ ap (λ (o : ℕ). Some o) (sym same))
 
-pub has_it : (object : ℕ) (ranks : List (Option Rank)) (place : ℕ) (rank : Rank) → rank_at ranks place ≡ Some rank → rank.object ≡ object → has_object object (items_in ranks) ≡ true
+pub has_it : (object : ℕ) (ranks : List (Option Rank)) (place : ℕ) (rank : Rank) → rank_at ranks place ≡ Some rank → rank.object ≡ object
+    → has_object object (items_in ranks) ≡ true
 has_it object [] place rank at same = absurd (none-some rank at)
 has_it object (None ∷ ranks) zero rank at same = absurd (none-some rank at)
 has_it object (None ∷ ranks) (suc place) rank at same = has_it object ranks place rank at same
@@ -83,7 +90,8 @@ has_it object (Some first ∷ ranks) (suc place) rank at same =
     or_true true = refl
     or_true false = refl
 
-pub lacks_it : (object : ℕ) (ranks : List (Option Rank)) → ((place : ℕ) (rank : Rank) → rank_at ranks place ≡ Some rank → rank.object ≢ object) → has_object object (items_in ranks) ≡ false
+pub lacks_it : (object : ℕ) (ranks : List (Option Rank)) → ((place : ℕ) (rank : Rank) → rank_at ranks place ≡ Some rank → rank.object ≢ object)
+    → has_object object (items_in ranks) ≡ false
 lacks_it object [] apart = refl
 lacks_it object (None ∷ ranks) apart = lacks_it object ranks (λ place. apart (suc place))
 lacks_it object (Some first ∷ ranks) apart =
@@ -109,7 +117,8 @@ module _ (k : ℕ) (top : List (Option Rank)) (rest : List (Option (Reverse Rank
   member_in place rank at =
       Contains-permutation (items_in (joined top rest)) (risen (items_in (joined top rest))) (item_of rank) permuted (in_items (joined top rest) place rank at)
 
-  member_from : (item : Item) → Contains (risen (items_in (joined top rest))) item → (place : ℕ) × (rank : Rank) × (rank_at (joined top rest) place ≡ Some rank) × (item_of rank ≡ item)
+  member_from : (item : Item) → Contains (risen (items_in (joined top rest))) item
+      → (place : ℕ) × (rank : Rank) × (rank_at (joined top rest) place ≡ Some rank) × (item_of rank ≡ item)
   member_from item there =
       from_items (joined top rest) item
       (Contains-permutation (risen (items_in (joined top rest))) (items_in (joined top rest)) item (IsPermutation-sym (items_in (joined top rest)) (risen (items_in (joined top rest))) permuted) there)
@@ -186,7 +195,8 @@ module _ (k : ℕ) (top : List (Option Rank)) (rest : List (Option (Reverse Rank
       let there = first_in is.there.0 last is.there.1 in
       slice_get-get_or (in_order (items_in top)) (k - 1) (item_of last) within ∙ ap (λ (i : Item). Some i) (is_it there within (cases_eq there.0 (k - 1)))
     where
-      is_it : (there : Contains (in_order (items_in top)) (item_of last)) → k - 1 < length (in_order (items_in top)) → (there.0 ≡ k - 1) ⊎ (there.0 ≢ k - 1) → get_or (in_order (items_in top)) (k - 1) (item_of last) ≡ item_of last
+      is_it : (there : Contains (in_order (items_in top)) (item_of last)) → k - 1 < length (in_order (items_in top)) → (there.0 ≡ k - 1) ⊎ (there.0 ≢ k - 1)
+          → get_or (in_order (items_in top)) (k - 1) (item_of last) ≡ item_of last
       is_it there within (inl e) = ap (λ p. get_or (in_order (items_in top)) p (item_of last)) (sym e) ∙ there.2
       is_it there within (inr other) =
           let few = halved.few in
@@ -200,7 +210,8 @@ module _ (k : ℕ) (top : List (Option Rank)) (rest : List (Option (Reverse Rank
           absurd (not_ahead (get_or (in_order (items_in top)) (k - 1) (item_of last)) (item_of last) (subst (λ (i : Item). item_cmp i (item_of last) ≢ Greater) found.3 upto)
           (subst (λ (i : Item). IsBefore i (get_or (in_order (items_in top)) (k - 1) (item_of last))) there.2 before))
 
-  pub kth_is : (last : Option Rank) → MatchOption last (HasFewer k top) (IsLast k top) → option_map (λ (rank : Rank). rank.low) last ≡ kth_low k (risen (items_in (joined top rest)))
+  pub kth_is : (last : Option Rank) → MatchOption last (HasFewer k top) (IsLast k top)
+      → option_map (λ (rank : Rank). rank.low) last ≡ kth_low k (risen (items_in (joined top rest)))
   kth_is None fewer =
       let left = nothing_left fewer in
       let size = length-in_order (risen (items_in (joined top rest))) in
@@ -213,7 +224,9 @@ module _ (k : ℕ) (top : List (Option Rank)) (rest : List (Option (Reverse Rank
       (sym (slice_get-take k (in_order (risen (items_in (joined top rest)))) (k - 1) below) ∙ ap (λ (items : List Item). slice_get items (k - 1)) (sym first_is) ∙ last_at last is))
 
   -- the low of the last is the k-th largest, and without a last they are fewer
-  pub kth_counts : (last : Option Rank) → MatchOption last (HasFewer k top) (IsLast k top) → MatchOption (option_map (λ (rank : Rank). rank.low) last) (length (risen (items_in (joined top rest))) < k) (IsKthLargest k (lows (risen (items_in (joined top rest)))))
+  pub kth_counts : (last : Option Rank) → MatchOption last (HasFewer k top) (IsLast k top)
+      → MatchOption (option_map (λ (rank : Rank). rank.low) last) (length (risen (items_in (joined top rest))) < k)
+      (IsKthLargest k (lows (risen (items_in (joined top rest)))))
   kth_counts last is =
       subst (λ (low : Option ℕ). MatchOption low (length (risen (items_in (joined top rest))) < k) (IsKthLargest k (lows (risen (items_in (joined top rest)))))) (sym (kth_is last is))
       (kth_low-counts k (risen (items_in (joined top rest))) halved.positive items_apart)
@@ -224,7 +237,8 @@ module _ (k : ℕ) (top : List (Option Rank)) (rest : List (Option (Reverse Rank
       ap (has_object object) (sym first_is)
       ∙ sym (list_any-IsPermutation (λ (item : Item). item.object == object) (items_in top) (in_order (items_in top)) (in_order-permutes (items_in top)))
 
-  pub top_is : (keys : List ℕ) (object place : ℕ) → AllPairs (λ (a : ℕ) (b : ℕ). a ≢ b) keys → AreRanksOf keys (joined top rest) → slice_get keys place ≡ Some object → is_some (rank_at top place) ≡ has_object object (first_k k (risen (items_in (joined top rest))))
+  pub top_is : (keys : List ℕ) (object place : ℕ) → AllPairs (λ (a : ℕ) (b : ℕ). a ≢ b) keys → AreRanksOf keys (joined top rest)
+      → slice_get keys place ≡ Some object → is_some (rank_at top place) ≡ has_object object (first_k k (risen (items_in (joined top rest))))
   top_is keys object place distinct are at = by_case (rank_at top place) refl ∙ sym (has_first object)
     where
       by_case : (rank : Option Rank) → rank_at top place ≡ rank → is_some (rank_at top place) ≡ has_object object (items_in top)
@@ -237,7 +251,8 @@ module _ (k : ℕ) (top : List (Option Rank)) (rest : List (Option (Reverse Rank
           let e = one_place keys distinct other place object (are.own other rank (top_joined k top rest halved other rank at') ∙ ap (λ (o : ℕ). Some o) same) at in
           none-some rank (sym (ap (rank_at top) e ∙ is) ∙ at')))
 
-  pub no_top : (keys : List ℕ) (object : ℕ) → AreRanksOf keys (joined top rest) → ((place : ℕ) → slice_get keys place ≡ Some object → ⊥) → false ≡ has_object object (first_k k (risen (items_in (joined top rest))))
+  pub no_top : (keys : List ℕ) (object : ℕ) → AreRanksOf keys (joined top rest) → ((place : ℕ) → slice_get keys place ≡ Some object → ⊥)
+      → false ≡ has_object object (first_k k (risen (items_in (joined top rest))))
   no_top keys object are absent =
       sym (has_first object
       ∙ lacks_it object top (λ place rank at same. absent place (are.own place rank (top_joined k top rest halved place rank at) ∙ ap (λ (o : ℕ). Some o) same)))

@@ -52,7 +52,8 @@ before_so a b holds above = false≢true (sym (ap is_lt above) ∙ holds)
 pub at_same : {T : Type 0} (ranks : List (Option T)) (place : ℕ) (rank : Option T) → place < length ranks → rank_at (set ranks place rank) place ≡ rank
 at_same ranks place rank within = get_or-set_same ranks place rank None within
 
-pub at_other : {T : Type 0} (ranks : List (Option T)) (place other : ℕ) (rank : Option T) → other ≢ place → rank_at (set ranks place rank) other ≡ rank_at ranks other
+pub at_other : {T : Type 0} (ranks : List (Option T)) (place other : ℕ) (rank : Option T) → other ≢ place
+    → rank_at (set ranks place rank) other ≡ rank_at ranks other
 at_other ranks place other rank apart = get_or-set_other ranks place other rank None apart
 
 -- a place with a rank is within
@@ -67,23 +68,27 @@ within_at ranks place rank at =
 abbrev pub one : {T : Type 0} → Option T → ℕ
 one rank = cond (is_some rank) 1 0
 
-count_written : {T : Type 0} (ranks : List (Option T)) (place : ℕ) (rank : Option T) → place < length ranks → count_by is_some (set ranks place rank) + one (rank_at ranks place) ≡ count_by is_some ranks + one rank
+count_written : {T : Type 0} (ranks : List (Option T)) (place : ℕ) (rank : Option T) → place < length ranks
+    → count_by is_some (set ranks place rank) + one (rank_at ranks place) ≡ count_by is_some ranks + one rank
 count_written {T = T} ranks place rank within = sum_by-set (λ (r : Option T). one r) ranks place rank None within
 
 -- a rank in place of another keeps the count
-count_kept : {T : Type 0} (ranks : List (Option T)) (place : ℕ) (old new : T) → rank_at ranks place ≡ Some old → count_by is_some (set ranks place (Some new)) ≡ count_by is_some ranks
+count_kept : {T : Type 0} (ranks : List (Option T)) (place : ℕ) (old new : T) → rank_at ranks place ≡ Some old
+    → count_by is_some (set ranks place (Some new)) ≡ count_by is_some ranks
 count_kept {T = T} ranks place old new at =
     let changed = count_written ranks place (Some new) (within_at ranks place old at) in
     let here = ap (λ (r : Option T). one r) at in
     omega arith
 
-count_more : {T : Type 0} (ranks : List (Option T)) (place : ℕ) (new : T) → place < length ranks → rank_at ranks place ≡ None → count_by is_some (set ranks place (Some new)) ≡ suc (count_by is_some ranks)
+count_more : {T : Type 0} (ranks : List (Option T)) (place : ℕ) (new : T) → place < length ranks → rank_at ranks place ≡ None
+    → count_by is_some (set ranks place (Some new)) ≡ suc (count_by is_some ranks)
 count_more {T = T} ranks place new within at =
     let changed = count_written ranks place (Some new) within in
     let here = ap (λ (r : Option T). one r) at in
     omega arith
 
-count_less : {T : Type 0} (ranks : List (Option T)) (place : ℕ) (old : T) → rank_at ranks place ≡ Some old → suc (count_by is_some (set ranks place None)) ≡ count_by is_some ranks
+count_less : {T : Type 0} (ranks : List (Option T)) (place : ℕ) (old : T) → rank_at ranks place ≡ Some old
+    → suc (count_by is_some (set ranks place None)) ≡ count_by is_some ranks
 count_less {T = T} ranks place old at =
     let changed = count_written ranks place None (within_at ranks place old at) in
     let here = ap (λ (r : Option T). one r) at in
@@ -98,7 +103,8 @@ count_none {T = T} (rank ∷ ranks) none =
     omega arith
 
 -- ---- a changed rank
-pub top_changed : (k place : ℕ) (rank old : Rank) (top : List (Option Rank)) (rest : List (Option (Reverse Rank))) → IsHalved k top rest → rank_at top place ≡ Some old → IsHalvedBut place k (set top place (Some rank)) rest
+pub top_changed : (k place : ℕ) (rank old : Rank) (top : List (Option Rank)) (rest : List (Option (Reverse Rank))) → IsHalved k top rest
+    → rank_at top place ≡ Some old → IsHalvedBut place k (set top place (Some rank)) rest
 top_changed k place rank old top rest halved at =
     let same = count_kept top place old rank at in record {
       positive = halved.positive;
@@ -113,7 +119,8 @@ top_changed k place rank old top rest halved at =
     apart_at p a b in_top in_rest (inl e) = halved.apart place old b at (ap (rank_at rest) (sym e) ∙ in_rest)
     apart_at p a b in_top in_rest (inr other) = halved.apart p a b (sym (at_other top place p (Some rank) other) ∙ in_top) in_rest
 
-pub rest_changed : (k place : ℕ) (rank : Reverse Rank) (top : List (Option Rank)) (rest : List (Option (Reverse Rank))) → IsHalved k top rest → rank_at top place ≡ None → IsHalvedBut place k top (set rest place (Some rank))
+pub rest_changed : (k place : ℕ) (rank : Reverse Rank) (top : List (Option Rank)) (rest : List (Option (Reverse Rank))) → IsHalved k top rest
+    → rank_at top place ≡ None → IsHalvedBut place k top (set rest place (Some rank))
 rest_changed k place rank top rest halved at = record {
   positive = halved.positive;
   same_room = length-set rest place (Some rank) ∙ halved.same_room;
@@ -128,7 +135,8 @@ rest_changed k place rank top rest halved at = record {
     apart_at p a b in_top in_rest (inr other) = halved.apart p a b in_top (sym (at_other rest place p (Some rank) other) ∙ in_rest)
 
 -- a place has no rank among the first where it has one among the others
-pub absent_from_top : (k changed key : ℕ) (best : Reverse Rank) (top : List (Option Rank)) (rest : List (Option (Reverse Rank))) → IsHalvedBut changed k top rest → rank_at rest key ≡ Some best → rank_at top key ≡ None
+pub absent_from_top : (k changed key : ℕ) (best : Reverse Rank) (top : List (Option Rank)) (rest : List (Option (Reverse Rank)))
+    → IsHalvedBut changed k top rest → rank_at rest key ≡ Some best → rank_at top key ≡ None
 absent_from_top k changed key best top rest halved at = absent (rank_at top key) refl
   where
     absent : (rank : Option Rank) → rank_at top key ≡ rank → rank_at top key ≡ None
@@ -137,7 +145,8 @@ absent_from_top k changed key best top rest halved at = absent (rank_at top key)
 
 -- ---- parted anew
 -- without others
-pub none_left : (k changed : ℕ) (top : List (Option Rank)) (rest : List (Option (Reverse Rank))) → IsHalvedBut changed k top rest → HasNone rest → IsHalved k top rest
+pub none_left : (k changed : ℕ) (top : List (Option Rank)) (rest : List (Option (Reverse Rank))) → IsHalvedBut changed k top rest → HasNone rest
+    → IsHalved k top rest
 none_left k changed top rest halved none = record {
   positive = halved.positive;
   same_room = halved.same_room;
@@ -148,7 +157,8 @@ none_left k changed top rest halved none = record {
 }
 
 -- with fewer than k among the first
-pub raised : (k changed key : ℕ) (best : Reverse Rank) (top : List (Option Rank)) (rest : List (Option (Reverse Rank))) → IsHalvedBut changed k top rest → rank_at rest key ≡ Some best → count_by is_some top < k → IsHalved k (set top key (Some best.0)) (set rest key None)
+pub raised : (k changed key : ℕ) (best : Reverse Rank) (top : List (Option Rank)) (rest : List (Option (Reverse Rank))) → IsHalvedBut changed k top rest
+    → rank_at rest key ≡ Some best → count_by is_some top < k → IsHalved k (set top key (Some best.0)) (set rest key None)
 raised k changed key best top rest halved at fewer =
     let within : key < length top = let w = within_at rest key best at in let s = halved.same_room in omega arith in
     let more = count_more top key best.0 within (absent_from_top k changed key best top rest halved at) in record {
@@ -173,7 +183,9 @@ raised k changed key best top rest halved at fewer =
         other (only q b (sym (at_other rest key q None other) ∙ in_rest) ∙ sym (only key best at))
 
 -- where the first of the others stands no earlier than the last of the first
-pub still_parted : (k changed : ℕ) (best : Reverse Rank) (last : Rank) (top : List (Option Rank)) (rest : List (Option (Reverse Rank))) → IsHalvedBut changed k top rest → k ≤ count_by is_some top → ((q : ℕ) (b : Reverse Rank) → rank_at rest q ≡ Some b → rank_cmp best.0 b.0 ≢ Greater) → ((p : ℕ) (a : Rank) → rank_at top p ≡ Some a → rank_cmp a last ≢ Greater) → is_lt (rank_cmp best.0 last) ≡ false → IsHalved k top rest
+pub still_parted : (k changed : ℕ) (best : Reverse Rank) (last : Rank) (top : List (Option Rank)) (rest : List (Option (Reverse Rank)))
+    → IsHalvedBut changed k top rest → k ≤ count_by is_some top → ((q : ℕ) (b : Reverse Rank) → rank_at rest q ≡ Some b → rank_cmp best.0 b.0 ≢ Greater)
+    → ((p : ℕ) (a : Rank) → rank_at top p ≡ Some a → rank_cmp a last ≢ Greater) → is_lt (rank_cmp best.0 last) ≡ false → IsHalved k top rest
 still_parted k changed best last top rest halved whole first_other last_first denied = record {
   positive = halved.positive;
   same_room = halved.same_room;
@@ -191,7 +203,11 @@ abbrev IsLowered : ℕ → ℕ → Rank → List (Option (Reverse Rank)) → ℕ
 IsLowered key lastkey last rest q b = ((q ≡ lastkey) × (b.0 ≡ last)) ⊎ ((q ≢ lastkey) × (q ≢ key) × (rank_at rest q ≡ Some b))
 
 -- where it stands earlier, the two change sides
-pub exchanged : (k changed key lastkey : ℕ) (best : Reverse Rank) (last : Rank) (top : List (Option Rank)) (rest : List (Option (Reverse Rank))) → IsHalvedBut changed k top rest → k ≤ count_by is_some top → rank_at rest key ≡ Some best → rank_at top lastkey ≡ Some last → ((q : ℕ) (b : Reverse Rank) → rank_at rest q ≡ Some b → rank_cmp best.0 b.0 ≢ Greater) → ((p : ℕ) (a : Rank) → rank_at top p ≡ Some a → rank_cmp a last ≢ Greater) → is_lt (rank_cmp best.0 last) ≡ true → IsHalved k (set (set top key (Some best.0)) lastkey None) (set (set rest key None) lastkey (Some (record { 0 = last })))
+pub exchanged : (k changed key lastkey : ℕ) (best : Reverse Rank) (last : Rank) (top : List (Option Rank)) (rest : List (Option (Reverse Rank)))
+    → IsHalvedBut changed k top rest → k ≤ count_by is_some top → rank_at rest key ≡ Some best → rank_at top lastkey ≡ Some last
+    → ((q : ℕ) (b : Reverse Rank) → rank_at rest q ≡ Some b → rank_cmp best.0 b.0 ≢ Greater)
+    → ((p : ℕ) (a : Rank) → rank_at top p ≡ Some a → rank_cmp a last ≢ Greater) → is_lt (rank_cmp best.0 last) ≡ true
+    → IsHalved k (set (set top key (Some best.0)) lastkey None) (set (set rest key None) lastkey (Some (record { 0 = last })))
 exchanged k changed key lastkey best last top rest halved whole at_rest at_top first_other last_first holds =
     let within_rest = within_at rest key best at_rest in
     let within_top = within_at top lastkey last at_top in
@@ -215,7 +231,8 @@ exchanged k changed key lastkey best last top rest halved whole at_rest at_top f
     different : lastkey ≢ key
     different e = halved.apart lastkey last best at_top (ap (rank_at rest) e ∙ at_rest)
 
-    from_top : (p : ℕ) (a : Rank) → rank_at (set (set top key (Some best.0)) lastkey None) p ≡ Some a → (p ≡ lastkey) ⊎ (p ≢ lastkey) → (p ≡ key) ⊎ (p ≢ key) → IsRaised key lastkey best top p a
+    from_top : (p : ℕ) (a : Rank) → rank_at (set (set top key (Some best.0)) lastkey None) p ≡ Some a → (p ≡ lastkey) ⊎ (p ≢ lastkey) → (p ≡ key) ⊎ (p ≢ key)
+        → IsRaised key lastkey best top p a
     from_top p a in_top (inl e) _ =
         let within : lastkey < length (set top key (Some best.0)) = rw length-set (within_at top lastkey last at_top) in
         absurd (none-some a (sym (at_same (set top key (Some best.0)) lastkey None within) ∙ ap (rank_at (set (set top key (Some best.0)) lastkey None)) (sym e) ∙ in_top))
@@ -225,7 +242,8 @@ exchanged k changed key lastkey best last top rest halved whole at_rest at_top f
     from_top p a in_top (inr other) (inr apart) =
         inr (apart, other, sym (at_other (set top key (Some best.0)) lastkey p None other ∙ at_other top key p (Some best.0) apart) ∙ in_top)
 
-    from_rest : (q : ℕ) (b : Reverse Rank) → rank_at (set (set rest key None) lastkey (Some (record { 0 = last }))) q ≡ Some b → (q ≡ lastkey) ⊎ (q ≢ lastkey) → (q ≡ key) ⊎ (q ≢ key) → IsLowered key lastkey last rest q b
+    from_rest : (q : ℕ) (b : Reverse Rank) → rank_at (set (set rest key None) lastkey (Some (record { 0 = last }))) q ≡ Some b → (q ≡ lastkey) ⊎ (q ≢ lastkey)
+        → (q ≡ key) ⊎ (q ≢ key) → IsLowered key lastkey last rest q b
     from_rest q b in_rest (inl e) _ =
         let within : lastkey < length (set rest key None) = let w = within_at top lastkey last at_top in let s = halved.same_room in rw length-set (omega arith) in
         inl (e, ap (λ (r : Reverse Rank). r.0) (same_Some b (record { 0 = last }) (sym in_rest ∙ ap (rank_at (set (set rest key None) lastkey (Some (record { 0 = last })))) e ∙ at_same (set rest key None) lastkey (Some (record { 0 = last })) within)))
@@ -265,7 +283,3 @@ exchanged k changed key lastkey best last top rest halved whole at_rest at_top f
 pub tested : {T : Type 0} (rank : Option T) → is_some rank ≡ true → (r : T) × (rank ≡ Some r)
 tested None e = absurd (false≢true e)
 tested (Some r) e = (r, refl)
-
-pub untested : {T : Type 0} (rank : Option T) → is_some rank ≡ false → rank ≡ None
-untested None e = refl
-untested (Some r) e = absurd (false≢true (sym e))

@@ -26,7 +26,8 @@ apart_keys true false x y z h = refl
 apart_keys false u x y z h = refl
 
 -- after an item was put its object has it, and each other object has the item it had
-pub item_at-put_item : (object : ℕ) (item : Item) (items : List Item) → item_at object (put_item item items) ≡ cond (item.object == object) (Some item) (item_at object items)
+pub item_at-put_item : (object : ℕ) (item : Item) (items : List Item)
+    → item_at object (put_item item items) ≡ cond (item.object == object) (Some item) (item_at object items)
 item_at-put_item object item [] = refl
 item_at-put_item object item (held ∷ others) =
     let t = item.object == object in
@@ -94,7 +95,8 @@ Contains-from_item_at object (first ∷ rest) item found =
     ] refl found
 
 -- the first item is the one of its object
-first_of : (first : Item) (rest : List Item) (item : Item) → AreDistinct (first ∷ rest) → first.object ≡ item.object → Contains (first ∷ rest) item → first ≡ item
+first_of : (first : Item) (rest : List Item) (item : Item) → AreDistinct (first ∷ rest) → first.object ≡ item.object → Contains (first ∷ rest) item
+    → first ≡ item
 first_of first rest item apart same (zero, within, is) = is
 first_of first rest item apart same (suc k, within, is) =
     absurd (AreDistinct-first first rest apart k item (omega arith) (same ∙ ap (λ (i : Item). i.object) (sym is)))
@@ -111,7 +113,8 @@ item_at-from_Contains (first ∷ rest) item apart there =
     ] refl
 
 -- the order follows from what each object has
-pub in_order-looked_up : (items others : List Item) → AreDistinct items → AreDistinct others → ((object : ℕ) → item_at object others ≡ item_at object items) → in_order others ≡ in_order items
+pub in_order-looked_up : (items others : List Item) → AreDistinct items → AreDistinct others → ((object : ℕ) → item_at object others ≡ item_at object items)
+    → in_order others ≡ in_order items
 in_order-looked_up items others apart apart' same =
     in_order-same items others apart apart' (λ item. (
       λ there. (Contains-from_item_at item.object items item (sym (same item.object) ∙ item_at-from_Contains others item apart' there)).0,

@@ -39,7 +39,8 @@ items_of_none (suc n) = items_of_none n
 pub no_items : (ranks : List (Option Rank)) (room : ℕ) → ranks ≡ replicate room None → risen (items_in ranks) ≡ []
 no_items ranks room is = ap (λ (r : List (Option Rank)). risen (items_in r)) is ∙ ap risen (items_of_none room)
 
-pub kept_none : (places : Keys) (k room : ℕ) (top : List (Option Rank)) (rest : List (Option (Reverse Rank))) → places ≡ record { room = room; keys = [] } → room ≤ 200000 → IsHalved k top rest → joined top rest ≡ replicate room None → IsKept places k top rest
+pub kept_none : (places : Keys) (k room : ℕ) (top : List (Option Rank)) (rest : List (Option (Reverse Rank))) → places ≡ record { room = room; keys = [] }
+    → room ≤ 200000 → IsHalved k top rest → joined top rest ≡ replicate room None → IsKept places k top rest
 kept_none places k room top rest is few halved empty =
     subst (λ (p : Keys). IsKept p k top rest) (sym is) (record {
       fits = record { few = few; within = omega arith; distinct = λ i j d below within. absurd (omega arith) };
@@ -61,14 +62,16 @@ at_least (suc n) (Some first ∷ ranks) each =
     omega (arith, more, sum_by-cons (λ (r : Option Rank). one r) (Some first) ranks)
 
 -- an object without a place has no item
-pub unplaced : (places : Keys) (k object : ℕ) (top : List (Option Rank)) (rest : List (Option (Reverse Rank))) → IsKept places k top rest → list_any (nat_eq object) places.keys ≡ false → has_object object (risen (items_in (joined top rest))) ≡ false
+pub unplaced : (places : Keys) (k object : ℕ) (top : List (Option Rank)) (rest : List (Option (Reverse Rank))) → IsKept places k top rest
+    → list_any (nat_eq object) places.keys ≡ false → has_object object (risen (items_in (joined top rest))) ≡ false
 unplaced places k object top rest kept none =
     let ranks = joined top rest in
     let apart = items_distinct ranks (HaveOnePlace-joined places.keys ranks kept.fits.distinct kept.ranks) in
     sym (list_any-IsPermutation (λ (item : Item). item.object == object) (items_in ranks) (risen (items_in ranks)) (risen-permutes (items_in ranks) apart))
     ∙ lacks_it object ranks (λ place rank at same. none_at object places.keys place none (kept.ranks.own place rank at ∙ ap (λ (o : ℕ). Some o) same))
 
-pub places_counted : (places : Keys) (k : ℕ) (top : List (Option Rank)) (rest : List (Option (Reverse Rank))) → IsKept places k top rest → length places.keys ≤ length (risen (items_in (joined top rest)))
+pub places_counted : (places : Keys) (k : ℕ) (top : List (Option Rank)) (rest : List (Option (Reverse Rank))) → IsKept places k top rest
+    → length places.keys ≤ length (risen (items_in (joined top rest)))
 places_counted places k top rest kept =
     let ranks = joined top rest in
     let apart = items_distinct ranks (HaveOnePlace-joined places.keys ranks kept.fits.distinct kept.ranks) in
@@ -83,10 +86,12 @@ record IsPlaced (object place : ℕ) (before after : List ℕ) : Type 0 where
   pub extends : (p o : ℕ) → slice_get before p ≡ Some o → slice_get after p ≡ Some o
   pub longer : (p : ℕ) → p < length after → (p ≡ place) ⊎ (p < length before)
 
-placed : (object place : ℕ) (before after : List ℕ) → slice_get after place ≡ Some object → MatchBool (list_any (nat_eq object) before) (after ≡ before) (after ≡ before ++ object ∷ []) → IsPlaced object place before after
+placed : (object place : ℕ) (before after : List ℕ) → slice_get after place ≡ Some object
+    → MatchBool (list_any (nat_eq object) before) (after ≡ before) (after ≡ before ++ object ∷ []) → IsPlaced object place before after
 placed object place before after at added = by_case (list_any (nat_eq object) before) refl added
   where
-    by_case : (found : Bool) → list_any (nat_eq object) before ≡ found → MatchBool found (after ≡ before) (after ≡ before ++ object ∷ []) → IsPlaced object place before after
+    by_case : (found : Bool) → list_any (nat_eq object) before ≡ found → MatchBool found (after ≡ before) (after ≡ before ++ object ∷ [])
+        → IsPlaced object place before after
     by_case true _ is = record {
       at = at;
       extends = λ p o here. ap (λ (ks : List ℕ). slice_get ks p) is ∙ here;
@@ -137,7 +142,8 @@ module _ (places after : Keys) (k object place : ℕ) (rank : Rank) (top : List 
             apart (one_place after.keys fits.distinct other place object (is.extends other another.object (kept.ranks.own other another here) ∙ ap (λ (o : ℕ). Some o) (same ∙ of_object)) at);
       }
 
-  pub items_put : (top' : List (Option Rank)) (rest' : List (Option (Reverse Rank))) → joined top' rest' ≡ set (joined top rest) place (Some rank) → risen (items_in (joined top' rest')) ≡ put_item (item_of rank) (risen (items_in (joined top rest)))
+  pub items_put : (top' : List (Option Rank)) (rest' : List (Option (Reverse Rank))) → joined top' rest' ≡ set (joined top rest) place (Some rank)
+      → risen (items_in (joined top' rest')) ≡ put_item (item_of rank) (risen (items_in (joined top rest)))
   items_put top' rest' is = ap (λ (r : List (Option Rank)). risen (items_in r)) is ∙ risen-written (joined top rest) place rank may_have
 
   written_ranks : AreRanksOf after.keys (set (joined top rest) place (Some rank))
@@ -148,7 +154,8 @@ module _ (places after : Keys) (k object place : ℕ) (rank : Rank) (top : List 
         each = λ p below. each_at p (is.longer p below) (cases_eq p place);
       }
     where
-      own_at : (p : ℕ) (r : Rank) → rank_at (set (joined top rest) place (Some rank)) p ≡ Some r → (p ≡ place) ⊎ (p ≢ place) → slice_get after.keys p ≡ Some r.object
+      own_at : (p : ℕ) (r : Rank) → rank_at (set (joined top rest) place (Some rank)) p ≡ Some r → (p ≡ place) ⊎ (p ≢ place)
+          → slice_get after.keys p ≡ Some r.object
       own_at p r here (inl e) =
           let within : place < length (joined top rest) = rw length-joined place_within in
           let same : rank ≡ r = same_Some rank r (sym (at_same (joined top rest) place (Some rank) within) ∙ ap (rank_at (set (joined top rest) place (Some rank))) (sym e) ∙ here) in
@@ -156,14 +163,16 @@ module _ (places after : Keys) (k object place : ℕ) (rank : Rank) (top : List 
       own_at p r here (inr other) =
           (placed object place places.keys after.keys at added).extends p r.object (kept.ranks.own p r (sym (at_other (joined top rest) place p (Some rank) other) ∙ here))
 
-      each_at : (p : ℕ) → (p ≡ place) ⊎ (p < length places.keys) → (p ≡ place) ⊎ (p ≢ place) → is_some (rank_at (set (joined top rest) place (Some rank)) p) ≡ true
+      each_at : (p : ℕ) → (p ≡ place) ⊎ (p < length places.keys) → (p ≡ place) ⊎ (p ≢ place)
+          → is_some (rank_at (set (joined top rest) place (Some rank)) p) ≡ true
       each_at p which (inl e) =
           let within : place < length (joined top rest) = rw length-joined place_within in
           ap (λ q. is_some (rank_at (set (joined top rest) place (Some rank)) q)) e ∙ ap is_some (at_same (joined top rest) place (Some rank) within)
       each_at p (inl e) (inr other) = absurd (other e)
       each_at p (inr below) (inr other) = ap is_some (at_other (joined top rest) place p (Some rank) other) ∙ kept.ranks.each p below
 
-  pub kept_put : (top' : List (Option Rank)) (rest' : List (Option (Reverse Rank))) → IsHalved k top' rest' → joined top' rest' ≡ set (joined top rest) place (Some rank) → IsKept after k top' rest'
+  pub kept_put : (top' : List (Option Rank)) (rest' : List (Option (Reverse Rank))) → IsHalved k top' rest'
+      → joined top' rest' ≡ set (joined top rest) place (Some rank) → IsKept after k top' rest'
   kept_put top' rest' halved is = record {
     fits = fits;
     size =

@@ -49,7 +49,8 @@ pushed_at object keys others place is at =
     ap (λ (ks : List ℕ). slice_get ks place) is ∙ slice_get-get_or (keys ++ object ∷ []) place object within
     ∙ ap (λ (o : ℕ). Some o) (get_or_push keys object object place (sym at))
 
-pub fits_more : (places after : Keys) (object : ℕ) → FitsRoom places → list_any (nat_eq object) places.keys ≡ false → length places.keys < places.room → after ≡ record places { keys = places.keys ++ object ∷ [] } → FitsRoom after
+pub fits_more : (places after : Keys) (object : ℕ) → FitsRoom places → list_any (nat_eq object) places.keys ≡ false → length places.keys < places.room
+    → after ≡ record places { keys = places.keys ++ object ∷ [] } → FitsRoom after
 fits_more places after object fits none room is =
     subst FitsRoom (sym is) (record {
       few = fits.few;
@@ -57,7 +58,8 @@ fits_more places after object fits none room is =
       distinct = λ i j d below within. distinct_at i j d below within (cases_lt j (length places.keys));
     })
   where
-    distinct_at : (i j d : ℕ) → i < j → j < length (places.keys ++ object ∷ []) → (j < length places.keys) ⊎ (length places.keys ≤ j) → get_or (places.keys ++ object ∷ []) i d ≢ get_or (places.keys ++ object ∷ []) j d
+    distinct_at : (i j d : ℕ) → i < j → j < length (places.keys ++ object ∷ []) → (j < length places.keys) ⊎ (length places.keys ≤ j)
+        → get_or (places.keys ++ object ∷ []) i d ≢ get_or (places.keys ++ object ∷ []) j d
     distinct_at i j d below within (inl inner) =
         let here = get_or_append_left places.keys (object ∷ []) d i (omega arith) in
         let there = get_or_append_left places.keys (object ∷ []) d j inner in

@@ -50,7 +50,8 @@ none_below object (item ∷ items) above =
 its_own : (item : Item) (items : List Item) → item_at item.object (item ∷ items) ≡ Some item
 its_own item items = ap (λ b. cond b (Some item) (item_at item.object items)) (eq-eqb item.object item.object refl)
 
-all_above : (object : ℕ) (item : Item) (items : List Item) → object < item.object → IsRising (item ∷ items) → All (λ (other : Item). object < other.object) (item ∷ items)
+all_above : (object : ℕ) (item : Item) (items : List Item) → object < item.object → IsRising (item ∷ items)
+    → All (λ (other : Item). object < other.object) (item ∷ items)
 all_above object item items below rising zero d within = below
 all_above object item items below rising (suc k) d within = let above = first_rises item items rising k d (omega arith) in omega arith
 
@@ -112,7 +113,8 @@ in_items (None ∷ ranks) (suc place) rank at = in_items ranks place rank at
 in_items (Some first ∷ ranks) zero rank at = subst (λ (r : Rank). Contains (item_of first ∷ items_in ranks) (item_of r)) (same_Some first rank at) (contains_here (item_of first) (items_in ranks))
 in_items (Some first ∷ ranks) (suc place) rank at = contains_there (item_of first) (items_in ranks) (item_of rank) (in_items ranks place rank at)
 
-pub from_items : (ranks : List (Option Rank)) (item : Item) → Contains (items_in ranks) item → (place : ℕ) × (rank : Rank) × (rank_at ranks place ≡ Some rank) × (item_of rank ≡ item)
+pub from_items : (ranks : List (Option Rank)) (item : Item) → Contains (items_in ranks) item
+    → (place : ℕ) × (rank : Rank) × (rank_at ranks place ≡ Some rank) × (item_of rank ≡ item)
 from_items [] item there = absurd (contains_nil item there)
 from_items (None ∷ ranks) item there =
     let found = from_items ranks item there in
@@ -149,7 +151,8 @@ items_distinct (Some first ∷ ranks) apart =
 
 -- ---- one place's rank is written
 -- an object that no place has has no item
-no_item : (object : ℕ) (ranks : List (Option Rank)) → ((place : ℕ) (rank : Rank) → rank_at ranks place ≡ Some rank → rank.object ≢ object) → item_at object (items_in ranks) ≡ None
+no_item : (object : ℕ) (ranks : List (Option Rank)) → ((place : ℕ) (rank : Rank) → rank_at ranks place ≡ Some rank → rank.object ≢ object)
+    → item_at object (items_in ranks) ≡ None
 no_item object [] apart = refl
 no_item object (None ∷ ranks) apart = no_item object ranks (λ place. apart (suc place))
 no_item object (Some first ∷ ranks) apart =
@@ -161,14 +164,16 @@ pub record MayHave (ranks : List (Option Rank)) (place : ℕ) (rank : Rank) : Ty
   pub same : (old : Rank) → rank_at ranks place ≡ Some old → old.object ≡ rank.object
   pub others : (other : ℕ) (another : Rank) → other ≢ place → rank_at ranks other ≡ Some another → another.object ≢ rank.object
 
-may_have_rest : (first : Option Rank) (ranks : List (Option Rank)) (place : ℕ) (rank : Rank) → MayHave (first ∷ ranks) (suc place) rank → MayHave ranks place rank
+may_have_rest : (first : Option Rank) (ranks : List (Option Rank)) (place : ℕ) (rank : Rank) → MayHave (first ∷ ranks) (suc place) rank
+    → MayHave ranks place rank
 may_have_rest first ranks place rank may = record {
   within = let w = may.within in omega arith;
   same = λ old at. may.same old at;
   others = λ other another apart at. let apart' : suc other ≢ suc place = λ e. apart (omega arith) in may.others (suc other) another apart' at;
 }
 
-pub item_at-written : (object : ℕ) (ranks : List (Option Rank)) (place : ℕ) (rank : Rank) → MayHave ranks place rank → item_at object (items_in (set ranks place (Some rank))) ≡ cond (rank.object == object) (Some (item_of rank)) (item_at object (items_in ranks))
+pub item_at-written : (object : ℕ) (ranks : List (Option Rank)) (place : ℕ) (rank : Rank) → MayHave ranks place rank
+    → item_at object (items_in (set ranks place (Some rank))) ≡ cond (rank.object == object) (Some (item_of rank)) (item_at object (items_in ranks))
 item_at-written object [] place rank may = absurd (let w = may.within in omega arith)
 item_at-written object (None ∷ ranks) zero rank may = refl
 item_at-written object (Some first ∷ ranks) zero rank may =
@@ -192,7 +197,8 @@ item_at-written object (Some first ∷ ranks) (suc place) rank may =
     ] refl
 
 -- a rank that is written puts its item
-pub risen-written : (ranks : List (Option Rank)) (place : ℕ) (rank : Rank) → MayHave ranks place rank → risen (items_in (set ranks place (Some rank))) ≡ put_item (item_of rank) (risen (items_in ranks))
+pub risen-written : (ranks : List (Option Rank)) (place : ℕ) (rank : Rank) → MayHave ranks place rank
+    → risen (items_in (set ranks place (Some rank))) ≡ put_item (item_of rank) (risen (items_in ranks))
 risen-written ranks place rank may =
     rising_one (risen (items_in (set ranks place (Some rank)))) (put_item (item_of rank) (risen (items_in ranks)))
     (risen-rises (items_in (set ranks place (Some rank)))) (put_item-rises (item_of rank) (risen (items_in ranks)) (risen-rises (items_in ranks)))
@@ -207,12 +213,14 @@ items_in-append [] others = refl
 items_in-append (None ∷ ranks) others = items_in-append ranks others
 items_in-append (Some first ∷ ranks) others = ap (λ (items : List Item). item_of first ∷ items) (items_in-append ranks others)
 
-pub items_more : (ranks : List (Option Rank)) (place : ℕ) (rank : Rank) → place < length ranks → rank_at ranks place ≡ Some rank → items_in (take (place + 1) ranks) ≡ items_in (take place ranks) ++ item_of rank ∷ []
+pub items_more : (ranks : List (Option Rank)) (place : ℕ) (rank : Rank) → place < length ranks → rank_at ranks place ≡ Some rank
+    → items_in (take (place + 1) ranks) ≡ items_in (take place ranks) ++ item_of rank ∷ []
 items_more ranks place rank within at =
     ap items_in (take_more ranks place None within) ∙ items_in-append (take place ranks) (rank_at ranks place ∷ [])
     ∙ ap (λ (r : Option Rank). items_in (take place ranks) ++ items_in (r ∷ [])) at
 
-pub items_same : (ranks : List (Option Rank)) (place : ℕ) → place < length ranks → rank_at ranks place ≡ None → items_in (take (place + 1) ranks) ≡ items_in (take place ranks)
+pub items_same : (ranks : List (Option Rank)) (place : ℕ) → place < length ranks → rank_at ranks place ≡ None
+    → items_in (take (place + 1) ranks) ≡ items_in (take place ranks)
 items_same ranks place within at =
     ap items_in (take_more ranks place None within) ∙ items_in-append (take place ranks) (rank_at ranks place ∷ [])
     ∙ ap (λ (r : Option Rank). items_in (take place ranks) ++ items_in (r ∷ [])) at ∙ append-nil (items_in (take place ranks))

@@ -13,6 +13,7 @@ use super::order::put_in_order;
 use super::rank::Rank;
 use super::ranking::Ranking;
 use indexed_heap::IndexedHeap;
+use limits::MAX_OBJECTS;
 use ranked_list::{Item, Items};
 use room_map::RoomMap;
 use std::alloc::Global;
@@ -46,7 +47,7 @@ impl Board {
     /// call but `first` takes memory.
     pub fn make(alloc: Global, k: u32, room: u32) -> Result<Board, Memory>
         requires positive { 1 ≤ k }
-        requires room { room ≤ 200000 }
+        requires room { room ≤ MAX_OBJECTS }
         ensures same_k { IfOk result (λ board. board.k ≡ k) }
         ensures same_room { IfOk result (λ board. board.room ≡ room) }
         ensures empty { IfOk result (λ board. board.items ≡ []) }

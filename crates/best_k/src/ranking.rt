@@ -7,6 +7,7 @@ ghost use Rattle.best_k.specs.Halves.{IsHalved, IsHalvedBut, IsLast, HasFewer, j
 use super::Memory;
 use super::rank::Rank;
 use indexed_heap::IndexedHeap;
+use limits::MAX_OBJECTS;
 use std::alloc::Global;
 use std::cmp::Reverse;
 
@@ -23,7 +24,7 @@ impl Ranking {
     /// No ranks, with room for the places below `room`.
     pub(crate) fn make(alloc: Global, k: u32, room: u32) -> Result<Ranking, Memory>
         requires positive { 1 ≤ k }
-        requires room { room ≤ 200000 }
+        requires room { room ≤ MAX_OBJECTS }
         ensures same_k { IfOk result (λ ranking. ranking.k ≡ k) }
         ensures halved { IfOk result (λ ranking. IsHalved ranking.k ranking.top ranking.rest) }
         ensures empty { IfOk result (λ ranking. joined ranking.top ranking.rest ≡ replicate room None) }

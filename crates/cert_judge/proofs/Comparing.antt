@@ -1,19 +1,15 @@
 -- The figures of a certificate against those that its accesses give, line by line.
-use Rattle.std.proofs.Common.{◌≡◌, ◌≢◌, ℕ, zero, suc, ◌≤◌, ◌<◌, ◌+◌, ◌-◌, ◌==◌, ◌&&◌, Bool, true, false, List, [], ◌∷◌, ◌++◌, length, map, take, Some, slice_get, refl, sym, ap, ap₂, ◌∙◌, subst, arith, eqb-true, eq-eqb, length-append}
+use Rattle.std.proofs.Common.{◌≡◌, ◌≢◌, ℕ, ◌≤◌, ◌<◌, ◌+◌, ◌-◌, ◌==◌, ◌&&◌, Bool, true, false, List, [], ◌∷◌, ◌++◌, length, map, take, Some, slice_get, sym, ap, ap₂, ◌∙◌, subst, arith, eqb-true, eq-eqb, length-append}
 use Rattle.std.proofs.lemmas.Bool.{and_parts, and_from, true≢false}
 use Rattle.std.proofs.lemmas.List.{take_more, take_all, take-append-le, length-map}
 use Rattle.ranked_list.specs.declared.item.Item.{Item}
 use Rattle.topk_theory.specs.Bounds.{low, high, bounded}
 use Rattle.topk_theory.specs.Threshold.{item_objects}
 use Rattle.topk_theory.specs.declared.access.Access.{Access}
-use Rattle.topk_theory.proofs.AgreementLists.{slice_get_in_range, slice_get_reads}
+use Rattle.topk_theory.proofs.AgreementLists.{slice_get_behind, slice_get_in_range, slice_get_reads, get_front}
 use Rattle.cert_text.specs.declared.certificate.Certificate.{Certificate}
 use Rattle.cert_judge.specs.Figures.{item_figures, stop_figures, figures_of, refigured, IsFirstDifference, HasItsFigures, IsFirstFigure}
-
-get_map : {X Y : Type 0} (f : X → Y) (xs : List X) (i : ℕ) (x : X) → slice_get xs i ≡ Some x → slice_get (map f xs) i ≡ Some (f x)
-get_map f [] i x e = absurd (cc)
-get_map f (y ∷ xs) zero x e = let same : y ≡ x = cc in ap (λ z. Some (f z)) same
-get_map f (y ∷ xs) (suc i) x e = get_map f xs i x e
+use Rattle.cert_judge.proofs.Putting.{get_mapped}
 
 -- the figures that the accesses give the objects of items
 abbrev pub given_figures : (List ℕ → ℕ) → ℕ → List Access → List Item → List (List ℕ)
@@ -22,15 +18,16 @@ given_figures V m A items = map item_figures (map (bounded V m A) (item_objects 
 given_at : (V : List ℕ → ℕ) (m : ℕ) (A : List Access) (items : List Item) (i : ℕ) (item : Item) → slice_get items i ≡ Some item
     → slice_get (given_figures V m A items) i ≡ Some (low V m A item.object ∷ high V m A item.object ∷ [])
 given_at V m A items i item e =
-    get_map item_figures (map (bounded V m A) (item_objects items)) i (bounded V m A item.object)
-    (get_map (bounded V m A) (item_objects items) i item.object (get_map (λ (z : Item). z.object) items i item e))
+    get_mapped item_figures (map (bounded V m A) (item_objects items)) i (bounded V m A item.object)
+    (get_mapped (bounded V m A) (item_objects items) i item.object (get_mapped (λ (z : Item). z.object) items i item e))
 
 pub given_length : (V : List ℕ → ℕ) (m : ℕ) (A : List Access) (items : List Item) → length (map item_figures items) ≡ length (given_figures V m A items)
 given_length V m A items =
     length-map items item_figures
     ∙ sym (length-map (map (bounded V m A) (item_objects items)) item_figures ∙ length-map (item_objects items) (bounded V m A) ∙ length-map items (λ (z : Item). z.object))
 
-step_same : (xs ys : List (List ℕ)) (i : ℕ) (x : List ℕ) → take i xs ≡ take i ys → slice_get xs i ≡ Some x → slice_get ys i ≡ Some x → take (i + 1) xs ≡ take (i + 1) ys
+step_same : (xs ys : List (List ℕ)) (i : ℕ) (x : List ℕ) → take i xs ≡ take i ys → slice_get xs i ≡ Some x → slice_get ys i ≡ Some x
+    → take (i + 1) xs ≡ take (i + 1) ys
 step_same xs ys i x e a b =
     take_more xs i x (slice_get_in_range xs i x a) ∙ ap₂ (λ front z. front ++ z ∷ []) e (slice_get_reads xs i x x a ∙ sym (slice_get_reads ys i x x b))
     ∙ sym (take_more ys i x (slice_get_in_range ys i x b))
@@ -42,7 +39,7 @@ pub same_more : (V : List ℕ → ℕ) (m : ℕ) (A : List Access) (items : List
 same_more V m A items i item same e test t before =
     let both = and_parts (item.low == low V m A item.object) (item.high == high V m A item.object) (sym test ∙ t) in
     let figures : item_figures item ≡ low V m A item.object ∷ high V m A item.object ∷ [] = ap₂ (λ a b. a ∷ b ∷ []) (eqb-true item.low (low V m A item.object) both.0) (eqb-true item.high (high V m A item.object) both.1) in
-    step_same (map item_figures items) (given_figures V m A items) i (item_figures item) before (get_map item_figures items i item e) (given_at V m A items i item e ∙ ap Some (sym figures))
+    step_same (map item_figures items) (given_figures V m A items) i (item_figures item) before (get_mapped item_figures items i item e) (given_at V m A items i item e ∙ ap Some (sym figures))
 
 head_is : (xs ys : List ℕ) (a b c d : ℕ) → a ∷ b ∷ [] ≡ c ∷ d ∷ [] → (a ≡ c) × (b ≡ d)
 head_is xs ys a b c d e = (cc, cc)
@@ -52,35 +49,28 @@ pub differs_here : (V : List ℕ → ℕ) (m : ℕ) (A : List Access) (items : L
     → same ≡ ((item.low == low V m A item.object) && (item.high == high V m A item.object)) → same ≡ false
     → take i (map item_figures items) ≡ take i (given_figures V m A items) → IsFirstDifference (map item_figures items) (given_figures V m A items) i
 differs_here V m A items i item same e test f before = record {
-  within = slice_get_in_range (map item_figures items) i (item_figures item) (get_map item_figures items i item e);
+  within = slice_get_in_range (map item_figures items) i (item_figures item) (get_mapped item_figures items i item e);
   before = before;
   here = λ equal.
       let given = given_at V m A items i item e in
-      let mine = get_map item_figures items i item e in
+      let mine = get_mapped item_figures items i item e in
       let figures : item_figures item ≡ low V m A item.object ∷ high V m A item.object ∷ [] = cc in
       let both = head_is [] [] item.low item.high (low V m A item.object) (high V m A item.object) figures in
       true≢false (sym (test ∙ and_from (item.low == low V m A item.object) (item.high == high V m A item.object) (eq-eqb item.low (low V m A item.object) both.0) (eq-eqb item.high (high V m A item.object) both.1)) ∙ f);
 }
 
 -- no figure of an item differs
-pub same_items : (V : List ℕ → ℕ) (m : ℕ) (A : List Access) (items : List Item) (i : ℕ) → length items ≤ i → take i (map item_figures items) ≡ take i (given_figures V m A items)
+pub same_items : (V : List ℕ → ℕ) (m : ℕ) (A : List Access) (items : List Item) (i : ℕ) → length items ≤ i
+    → take i (map item_figures items) ≡ take i (given_figures V m A items)
     → map item_figures items ≡ given_figures V m A items
 same_items V m A items i past e =
     let mine : length (map item_figures items) ≡ length items = length-map items item_figures in
     let given = given_length V m A items in
     sym (take_all i (map item_figures items) (omega arith)) ∙ e ∙ take_all i (given_figures V m A items) (omega arith)
 
-get_front : {X : Type 0} (xs ys : List X) (i : ℕ) → i < length xs → slice_get (xs ++ ys) i ≡ slice_get xs i
-get_front [] ys i l = absurd (omega arith)
-get_front (x ∷ xs) ys zero l = refl
-get_front (x ∷ xs) ys (suc i) l = get_front xs ys i (omega arith)
-
-get_last : {X : Type 0} (xs : List X) (x : X) → slice_get (xs ++ x ∷ []) (length xs) ≡ Some x
-get_last [] x = refl
-get_last (y ∷ xs) x = get_last xs x
-
 -- a difference among the items is one of the certificate
-pub among_items : (c : Certificate) (xs ys : List (List ℕ)) (place line : ℕ) → figures_of c ≡ xs ++ stop_figures c ∷ [] → figures_of (refigured c) ≡ ys ++ stop_figures (refigured c) ∷ []
+pub among_items : (c : Certificate) (xs ys : List (List ℕ)) (place line : ℕ) → figures_of c ≡ xs ++ stop_figures c ∷ []
+    → figures_of (refigured c) ≡ ys ++ stop_figures (refigured c) ∷ []
     → length xs ≡ length ys → IsFirstDifference xs ys place → line ≡ 4 + place → IsFirstFigure c line
 among_items c xs ys place line e f long d is =
     let within : place < length xs = d.within in
@@ -96,7 +86,8 @@ among_items c xs ys place line e f long d is =
     )
 
 -- the items' figures are the given ones, and those of the stop line differ
-pub at_stop : (c : Certificate) (xs ys : List (List ℕ)) (place line : ℕ) → figures_of c ≡ xs ++ stop_figures c ∷ [] → figures_of (refigured c) ≡ ys ++ stop_figures (refigured c) ∷ []
+pub at_stop : (c : Certificate) (xs ys : List (List ℕ)) (place line : ℕ) → figures_of c ≡ xs ++ stop_figures c ∷ []
+    → figures_of (refigured c) ≡ ys ++ stop_figures (refigured c) ∷ []
     → xs ≡ ys → (stop_figures c ≢ stop_figures (refigured c)) → place ≡ length xs → line ≡ 4 + place → IsFirstFigure c line
 at_stop c xs ys place line e f same differ at is =
     let s = stop_figures c in
@@ -107,14 +98,15 @@ at_stop c xs ys place line e f same differ at is =
         within = subst (λ zs. length xs < length zs) (sym e) (omega (arith, length-append xs (s ∷ [])));
         before = ap (take (length xs)) e ∙ take-append-le (length xs) xs (s ∷ []) (omega arith) ∙ ap (take (length xs)) same ∙ sym (ap (take (length xs)) f ∙ take-append-le (length xs) ys (t ∷ []) (omega (arith, ap length same)));
         here = λ equal.
-            let a : slice_get (figures_of c) (length xs) ≡ Some s = ap (λ zs. slice_get zs (length xs)) e ∙ get_last xs s in
-            let b : slice_get (figures_of (refigured c)) (length xs) ≡ Some t = ap (λ zs. slice_get zs (length xs)) f ∙ ap (slice_get (ys ++ t ∷ [])) (ap length same) ∙ get_last ys t in
+            let a : slice_get (figures_of c) (length xs) ≡ Some s = ap (λ zs. slice_get zs (length xs)) e ∙ slice_get_behind xs s [] in
+            let b : slice_get (figures_of (refigured c)) (length xs) ≡ Some t = ap (λ zs. slice_get zs (length xs)) f ∙ ap (slice_get (ys ++ t ∷ [])) (ap length same) ∙ slice_get_behind ys t [] in
             let one : s ≡ t = cc in
             differ one;
       }),
     )
 
 -- all figures are the given ones
-pub as_given : (c : Certificate) (xs ys : List (List ℕ)) → figures_of c ≡ xs ++ stop_figures c ∷ [] → figures_of (refigured c) ≡ ys ++ stop_figures (refigured c) ∷ []
+pub as_given : (c : Certificate) (xs ys : List (List ℕ)) → figures_of c ≡ xs ++ stop_figures c ∷ []
+    → figures_of (refigured c) ≡ ys ++ stop_figures (refigured c) ∷ []
     → xs ≡ ys → stop_figures c ≡ stop_figures (refigured c) → HasItsFigures c
 as_given c xs ys e f same stop = e ∙ ap₂ (λ zs s. zs ++ s ∷ []) same stop ∙ sym f

@@ -1,11 +1,11 @@
 -- A transcript, one access after another.
-use Rattle.std.proofs.Common.{◌≡◌, ℕ, ◌≤◌, ◌<◌, ◌+◌, ◌-◌, true, false, cond, List, [], ◌∷◌, ◌++◌, length, take, Some, slice_get, Err, refl, sym, ap, ap₂, ◌∙◌, subst, arith, length-take}
-use Rattle.std.proofs.lemmas.List.{take_more, take_all}
+use Rattle.std.proofs.Common.{◌≡◌, ℕ, ◌≤◌, ◌<◌, ◌+◌, ◌-◌, true, false, cond, List, length, take, Some, slice_get, Err, refl, sym, ap, ap₂, ◌∙◌, subst, arith, length-take}
+use Rattle.std.proofs.lemmas.List.{take_all}
 use Rattle.ranked_list.specs.declared.row.Row.{Row}
 use Rattle.monotone_fn.specs.Shape.{list_count}
 use Rattle.topk_theory.specs.declared.access.Access.{Access}
 use Rattle.topk_theory.specs.Transcript.{object_of}
-use Rattle.topk_theory.proofs.AgreementLists.{slice_get_in_range, slice_get_reads}
+use Rattle.topk_theory.proofs.AgreementLists.{front_next, slice_get_in_range}
 use Rattle.access_log.specs.Log.{Log, with_access, is_named, AgreesWith, IsConsistent, IsFirstNumber, IsWithinLimits}
 use Rattle.access_log.specs.Refusal.{Refuses}
 use Rattle.access_log.specs.declared.fault.PushFault.{PushFault}
@@ -14,16 +14,14 @@ use Rattle.cert_text.specs.declared.certificate.Certificate.{Certificate}
 use Rattle.cert_text.specs.Certificate.{IsCertificate}
 use Rattle.cert_judge.specs.Transcripts.{made_of, front, IsFirstInconsistent, Pushes, Makes}
 
-next_taken : (A : List Access) (place : ℕ) (a : Access) → slice_get A place ≡ Some a → take place A ++ a ∷ [] ≡ take (place + 1) A
-next_taken A place a e = sym (take_more A place a (slice_get_in_range A place a e) ∙ ap (λ z. take place A ++ z ∷ []) (slice_get_reads A place a a e))
-
 -- one access more
 pub next_front : (m n : ℕ) (A : List Access) (place : ℕ) (a : Access) → slice_get A place ≡ Some a → with_access (front m n A place) a ≡ front m n A (place + 1)
 next_front m n A place a e =
     let spare : cond (is_named (front m n A place) (object_of a)) 0 (0 - 1) ≡ 0 = elim (is_named (front m n A place) (object_of a)) as (λ b. cond b 0 (0 - 1) ≡ 0) [ true ↦ refl | false ↦ refl ] in
-    ap₂ (λ (accesses : List Access) (objects : ℕ). record { lists = m; count = n; accesses = accesses; spare_objects = objects; spare_accesses = 0 }) (next_taken A place a e) spare
+    ap₂ (λ (accesses : List Access) (objects : ℕ). record { lists = m; count = n; accesses = accesses; spare_objects = objects; spare_accesses = 0 }) (front_next A place a e) spare
 
-pub pushed : (m n : ℕ) (A : List Access) (place : ℕ) (a : Access) (log after : Log) → log ≡ front m n A place → slice_get A place ≡ Some a → after ≡ with_access log a → after ≡ front m n A (place + 1)
+pub pushed : (m n : ℕ) (A : List Access) (place : ℕ) (a : Access) (log after : Log) → log ≡ front m n A place → slice_get A place ≡ Some a
+    → after ≡ with_access log a → after ≡ front m n A (place + 1)
 pushed m n A place a log after is e new = new ∙ ap (λ l. with_access l a) is ∙ next_front m n A place a e
 
 -- all accesses
@@ -31,7 +29,8 @@ pub pushed_all : (m n : ℕ) (A : List Access) (place : ℕ) (log : Log) → log
 pushed_all m n A place log is past = is ∙ ap (made_of m n) (take_all place A past)
 
 -- the access with which no table agrees any more
-refused_here : (m n : ℕ) (A : List Access) (place : ℕ) (a : Access) (at kind : ℕ) → IsConsistent (front m n A place) → slice_get A place ≡ Some a → at ≡ length (take place A) + 1
+refused_here : (m n : ℕ) (A : List Access) (place : ℕ) (a : Access) (at kind : ℕ) → IsConsistent (front m n A place) → slice_get A place ≡ Some a
+    → at ≡ length (take place A) + 1
     → IsFirstNumber (front m n A place) a kind → ((D : List (List Row)) → ¬ AgreesWith D (with_access (front m n A place) a)) → IsFirstInconsistent m n A at kind
 refused_here m n A place a at kind some e is number none =
     let within : place < length A = slice_get_in_range A place a e in
@@ -44,7 +43,8 @@ refused_here m n A place a at kind some e is number none =
       its_kind = (a, subst (λ k. slice_get A k ≡ Some a) back e, subst (λ k. IsFirstNumber (front m n A k) a kind) back number);
     }
 
-pub refused : (m n : ℕ) (A : List Access) (place : ℕ) (a : Access) (log after : Log) (fault : PushFault) → log ≡ front m n A place → IsConsistent log → slice_get A place ≡ Some a
+pub refused : (m n : ℕ) (A : List Access) (place : ℕ) (a : Access) (log after : Log) (fault : PushFault) → log ≡ front m n A place → IsConsistent log
+    → slice_get A place ≡ Some a
     → Refuses log a fault → Pushes m n A after (Err fault)
 refused m n A place a log after (Inconsistent at kind) is some e h =
     let cause : Refuses (front m n A place) a (Inconsistent at kind) = subst (λ l. Refuses l a (Inconsistent at kind)) is h in

@@ -2,14 +2,14 @@
 use Rattle.std.proofs.Common.{◌≡◌, ℕ, ◌+◌, ◌<◌, ◌≤◌, ◌==◌, ◌&&◌, Bool, true, false, cond, List, [], ◌∷◌, ◌++◌, length, map, take, Contains, Some, slice_get, Result, Ok, Err, IfOk, sym, ap, subst, ◌∙◌, arith, length-append, codes}
 use Rattle.std.specs.List.{onto_first}
 use Rattle.std.specs.Global.{Vec}
-use Rattle.std.proofs.lemmas.List.{take_more, map-append, length-map}
+use Rattle.std.proofs.lemmas.List.{map-append, length-map}
 use Rattle.line_text.specs.Lines.{lines, before_lines, begins_with_end}
 use Rattle.line_text.proofs.LineLaws.{lines-nil, lines-cons}
 use Rattle.ranked_list.specs.declared.item.Item.{Item}
 use Rattle.monotone_fn.specs.Value.{value}
 use Rattle.topk_theory.specs.Threshold.{item_objects}
 use Rattle.topk_theory.specs.Transcript.{seen_objects}
-use Rattle.topk_theory.proofs.AgreementLists.{slice_get_in_range, slice_get_reads, member_of_all}
+use Rattle.topk_theory.proofs.AgreementLists.{front_next, member_of_all}
 use Rattle.access_log.specs.Log.{Log, IsConsistent}
 use Rattle.query_text.specs.Bytes.{bytes_of}
 use Rattle.cert_text.specs.declared.certificate.Certificate.{Certificate}
@@ -26,18 +26,19 @@ use Rattle.cert_judge.specs.Transcripts.{log_of}
 use Rattle.cert_judge.specs.Judging.{IsJudged, TellsOf, TellsOfIts, Tells}
 
 -- one name more
-pub copied_more : (copied after : List (Vec ℕ)) (bytes : Vec ℕ) (names : List (List ℕ)) (i : ℕ) (name : List ℕ) → bytes_of copied ≡ take i names → slice_get names i ≡ Some name
+pub copied_more : (copied after : List (Vec ℕ)) (bytes : Vec ℕ) (names : List (List ℕ)) (i : ℕ) (name : List ℕ) → bytes_of copied ≡ take i names
+    → slice_get names i ≡ Some name
     → bytes.items ≡ name → after ≡ copied ++ bytes ∷ [] → bytes_of after ≡ take (i + 1) names
 copied_more copied after bytes names i name before e is more =
     ap bytes_of more ∙ map-append (λ (v : Vec ℕ). v.items) copied (bytes ∷ []) ∙ ap (λ s. s ++ bytes.items ∷ []) before ∙ ap (λ b. take i names ++ b ∷ []) is
-    ∙ sym (take_more names i name (slice_get_in_range names i name e) ∙ ap (λ z. take i names ++ z ∷ []) (slice_get_reads names i name name e))
+    ∙ front_next names i name e
 
 -- one object more
 pub objects_more : (items : List Item) (i : ℕ) (item : Item) (objects after : List ℕ) → slice_get items i ≡ Some item → objects ≡ item_objects (take i items)
     → after ≡ objects ++ item.object ∷ [] → after ≡ item_objects (take (i + 1) items)
 objects_more items i item objects after e before more =
     more ∙ ap (λ s. s ++ item.object ∷ []) before
-    ∙ sym (ap item_objects (take_more items i item (slice_get_in_range items i item e) ∙ ap (λ z. take i items ++ z ∷ []) (slice_get_reads items i item item e)) ∙ map-append (λ (z : Item). z.object) (take i items) (item ∷ []))
+    ∙ sym (ap item_objects (sym (front_next items i item e)) ∙ map-append (λ (z : Item). z.object) (take i items) (item ∷ []))
 
 pub objects_few : (items : List Item) (objects : List ℕ) (most : ℕ) → objects ≡ item_objects items → length items < most → length objects < most
 objects_few items objects most e few = omega (arith, ap length e, length-map items (λ (z : Item). z.object))
@@ -51,7 +52,8 @@ judged_as c log Y r made objects some h = record {
 }
 
 -- the object inside is seen
-pub seen_inside : (c : Certificate) (inside outside low high : ℕ) → IsJudged c (Ok (verdict.Beaten inside outside low high)) → Contains (seen_objects c.accesses) inside
+pub seen_inside : (c : Certificate) (inside outside low high : ℕ) → IsJudged c (Ok (verdict.Beaten inside outside low high))
+    → Contains (seen_objects c.accesses) inside
 seen_inside c inside outside low high h = member_of_all (Contains (seen_objects c.accesses)) (item_objects c.items) inside h.judged.0.seen h.judged.1.least.is_one
 
 -- a text has no more lines than bytes
@@ -82,7 +84,8 @@ few_accesses bytes c spells =
     omega (arith, lines_short bytes, ap length spells.spelled, rest, accesses)
 
 -- what is told of the certificate that the lines spell is told of the lines
-tells_from : (ls : List (List ℕ)) (c : Certificate) (told : Told) → Spells ls c → ((d : Certificate) → Spells ls d → d ≡ c) → TellsOf c told → TellsOfIts ls told
+tells_from : (ls : List (List ℕ)) (c : Certificate) (told : Told) → Spells ls c → ((d : Certificate) → Spells ls d → d ≡ c) → TellsOf c told
+    → TellsOfIts ls told
 tells_from ls c told spells same h = record { some = (c, spells); each = λ d s. subst (λ e. TellsOf e told) (sym (same d s)) h }
 
 tells_lines : (ls : List (List ℕ)) (c : Certificate) (told : Told) → Spells ls c → ((d : Certificate) → Spells ls d → d ≡ c) → TellsOf c told → Tells ls told
@@ -95,6 +98,7 @@ tells_lines ls c (Figure line) spells same h = tells_from ls c (Figure line) spe
 tells_lines ls c Fixes spells same h = tells_from ls c Fixes spells same h
 tells_lines ls c (Beaten inside outside low high counter) spells same h = tells_from ls c (Beaten inside outside low high counter) spells same h
 
-pub told_result : (ls : List (List ℕ)) (c : Certificate) (r : Result Told Memory) → Spells ls c → ((d : Certificate) → Spells ls d → d ≡ c) → IfOk r (TellsOf c) → IfOk r (Tells ls)
+pub told_result : (ls : List (List ℕ)) (c : Certificate) (r : Result Told Memory) → Spells ls c → ((d : Certificate) → Spells ls d → d ≡ c)
+    → IfOk r (TellsOf c) → IfOk r (Tells ls)
 told_result ls c (Ok told) spells same h = tells_lines ls c told spells same h
 told_result ls c (Err memory) spells same h = tt

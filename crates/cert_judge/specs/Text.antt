@@ -11,11 +11,14 @@ use Rattle.cert_judge.specs.declared.told.Told.TheVariants.{BadLine, Inconsisten
 abbrev pub refused_line : List ℕ → List ℕ → List ℕ
 refused_line name fields = codes "refused " ++ name ++ flat_map (λ field. 32 ∷ decimal field) fields
 
+-- a word and its number
+abbrev pub named : List ℕ → ℕ → List ℕ
+named word number = word ++ decimal number
+
 -- `beaten inside I low L outside O high H`
 abbrev pub beaten_line : ℕ → ℕ → ℕ → ℕ → List ℕ
 beaten_line inside low outside high =
-    concat (codes "beaten inside " ∷ decimal inside ∷ codes " low " ∷ decimal low
-    ∷ codes " outside " ∷ decimal outside ∷ codes " high " ∷ decimal high ∷ [])
+    concat (named (codes "beaten inside ") inside ∷ named (codes " low ") low ∷ named (codes " outside ") outside ∷ named (codes " high ") high ∷ [])
 
 -- the lines of what is told: one, and below that of a beaten answer the lines of the counter
 abbrev pub told_lines : Told → List (List ℕ)

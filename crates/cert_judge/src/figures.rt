@@ -3,7 +3,6 @@
 ghost use Rattle.std.specs.Prelude.{◌≡◌, ◌<◌, ◌^◌, ◌==◌, ◌&&◌, ◌↔◌, length, map, MatchOption, IsTrue};
 ghost use Rattle.monotone_fn.specs.Shape.{list_count};
 ghost use Rattle.monotone_fn.specs.Value.{value};
-ghost use Rattle.topk_theory.specs.Transcript.{depth};
 ghost use Rattle.topk_theory.specs.Bounds.{low, high, bounded};
 ghost use Rattle.topk_theory.specs.Threshold.{item_objects};
 ghost use Rattle.cert_text.specs.Certificate.{IsCertificate};
@@ -11,7 +10,7 @@ ghost use Rattle.cert_judge.specs.Transcripts.{log_of};
 ghost use Rattle.cert_judge.specs.Figures.{item_figures, stop_figures, refigured, FirstOf, HasItsFigures, IsFirstFigure};
 
 use access_log::{Item, Transcript};
-use cert_text::Certificate;
+use cert_text::{Certificate, depth_of};
 use monotone_fn::Expr;
 use ranked_list::Items;
 
@@ -44,17 +43,6 @@ fn first_item(transcript: &Transcript, expr: &Expr, items: &Items) -> Option<u32
         }
     }
     None
-}
-
-/// The greatest depth of a list.
-fn depth_of(transcript: &Transcript) -> u64
-    ensures { result ≡ depth transcript.now.lists transcript.now.accesses }
-{
-    let mut depth: u32 = 0;
-    for list in 0..transcript.lists() {
-        depth = depth.max(transcript.depth(list));
-    }
-    u64::from(depth)
 }
 
 /// Whether the figures of the stop line are those that the accesses give.

@@ -119,7 +119,11 @@ pub fn judge_text(alloc: Global, bytes: &[u8]) -> Result<Told, Memory>
     ensures { IfOk result (Tells (lines bytes.now)) }
 {
     match read_certificate(alloc, bytes) {
-        Ok(certificate) => told_of(alloc, &certificate),
+        Ok(certificate) => {
+            let told = told_of(alloc, &certificate);
+            drop(certificate);
+            told
+        }
         Err(CertFault::BadLine { line }) => Ok(Told::BadLine { line }),
         Err(CertFault::Memory) => Err(Memory),
     }

@@ -3,7 +3,7 @@
 use ranked_list::Bundle;
 
 /// What is told of a text that may be a certificate: the first of these that holds.
-#[derive(Debug, Drop)]
+#[derive(Drop)]
 pub enum Told {
     /// It is no certificate. The line, counted from 1, is the first with which no certificate begins, or the
     /// number of lines plus one.

@@ -1,6 +1,6 @@
 //! What is told of a text, written.
 
-ghost use Rattle.std.specs.Prelude.{◌≡◌, ◌++◌, ◌∷◌, [], map, OnOk, OnErr};
+ghost use Rattle.std.specs.Prelude.{◌≡◌, ◌++◌, ◌∷◌, [], OnOk, OnErr};
 ghost use Rattle.std.specs.List.{flat_map};
 ghost use Rattle.std.specs.Fmt.{decimal};
 ghost use Rattle.std.specs.Io.KnownBytes.{Appends};
@@ -8,11 +8,12 @@ ghost use Rattle.tk_io.specs.Faults.{HasCause};
 ghost use Rattle.tk_io.specs.Whole.{TookFront};
 ghost use Rattle.tk_io.specs.Pieces.{Puts};
 ghost use Rattle.line_text.specs.Lines.{unlines};
-ghost use Rattle.ranked_list.specs.Bundle.{content, row_line, section, bundle_lines};
-ghost use Rattle.cert_judge.specs.Text.{refused_line, beaten_line, told_text};
+ghost use Rattle.ranked_list.specs.Bundle.{content, section, bundle_lines};
+ghost use Rattle.cert_judge.specs.Text.{refused_line, named, beaten_line, told_text};
 
 use super::told::Told;
-use ranked_list::{Bundle, MemList, Row};
+use ranked_list::{Bundle, MemList};
+use table_text::put_rows;
 use tk_io::{Failed, Pieces, Sink};
 
 /// Puts a space and a number behind the bytes that wait.
@@ -45,6 +46,31 @@ fn put_refused<K: Sink>(out: &mut K, pieces: &mut Pieces, name: &[u8], fields: &
     pieces.put(out, b"\n");
 }
 
+/// Puts the line of a refusal with one field behind the bytes that wait.
+fn put_one<K: Sink>(out: &mut K, pieces: &mut Pieces, name: &[u8], field: u64)
+    ensures { Puts (K.held out.old) (K.held out.new) (K.faults out.old) (K.faults out.new) pieces.old pieces.new
+        (refused_line name.now (field ∷ []) ++ 10 ∷ []) }
+{
+    put_refused(out, pieces, name, &[field]);
+}
+
+/// Puts the line of a refusal with two fields behind the bytes that wait.
+fn put_two<K: Sink>(out: &mut K, pieces: &mut Pieces, name: &[u8], first: u64, second: u64)
+    ensures { Puts (K.held out.old) (K.held out.new) (K.faults out.old) (K.faults out.new) pieces.old pieces.new
+        (refused_line name.now (first ∷ second ∷ []) ++ 10 ∷ []) }
+{
+    put_refused(out, pieces, name, &[first, second]);
+}
+
+/// Puts a word and its number behind the bytes that wait.
+fn put_named<K: Sink>(out: &mut K, pieces: &mut Pieces, word: &[u8], number: u64)
+    ensures { Puts (K.held out.old) (K.held out.new) (K.faults out.old) (K.faults out.new) pieces.old pieces.new
+        (named word.now number) }
+{
+    pieces.put(out, word);
+    pieces.put_number(out, number);
+}
+
 /// Puts the first line of a beaten answer behind the bytes that wait.
 fn put_beaten<K: Sink>(
     out: &mut K,
@@ -57,39 +83,11 @@ fn put_beaten<K: Sink>(
     ensures { Puts (K.held out.old) (K.held out.new) (K.faults out.old) (K.faults out.new) pieces.old pieces.new
         (beaten_line inside low outside high ++ 10 ∷ []) }
 {
-    pieces.put(out, b"beaten inside ");
-    pieces.put_number(out, u64::from(inside));
-    pieces.put(out, b" low ");
-    pieces.put_number(out, low);
-    pieces.put(out, b" outside ");
-    pieces.put_number(out, u64::from(outside));
-    pieces.put(out, b" high ");
-    pieces.put_number(out, high);
+    put_named(out, pieces, b"beaten inside ", u64::from(inside));
+    put_named(out, pieces, b" low ", low);
+    put_named(out, pieces, b" outside ", u64::from(outside));
+    put_named(out, pieces, b" high ", high);
     pieces.put(out, b"\n");
-}
-
-/// Puts the line of a row behind the bytes that wait.
-fn put_row<K: Sink>(out: &mut K, pieces: &mut Pieces, row: Row)
-    ensures { Puts (K.held out.old) (K.held out.new) (K.faults out.old) (K.faults out.new) pieces.old pieces.new
-        (row_line row ++ 10 ∷ []) }
-{
-    pieces.put_number(out, u64::from(row.object));
-    pieces.put(out, b",");
-    pieces.put_number(out, u64::from(row.grade));
-    pieces.put(out, b"\n");
-}
-
-/// Puts the lines of rows behind the bytes that wait.
-fn put_rows<K: Sink>(out: &mut K, pieces: &mut Pieces, rows: &MemList)
-    ensures { Puts (K.held out.old) (K.held out.new) (K.faults out.old) (K.faults out.new) pieces.old pieces.new
-        (unlines (map row_line rows.now)) }
-{
-    for place in 0..rows.len() {
-        let Some(row) = rows.get(place) else {
-            unreachable!();
-        };
-        put_row(out, pieces, row);
-    }
 }
 
 /// Puts the lines of a list behind the bytes that wait.
@@ -123,23 +121,18 @@ fn put_told<K: Sink>(out: &mut K, pieces: &mut Pieces, told: &Told)
         (told_text told.now) }
 {
     match told {
-        Told::BadLine { line } => put_refused(out, pieces, b"BadLine", &[*line]),
+        Told::BadLine { line } => put_one(out, pieces, b"BadLine", *line),
         Told::Inconsistent { at, kind } => {
-            put_refused(out, pieces, b"Inconsistent", &[*at, u64::from(*kind)]);
+            put_two(out, pieces, b"Inconsistent", *at, u64::from(*kind));
         }
-        Told::WildGuess { at } => put_refused(out, pieces, b"WildGuess", &[*at]),
+        Told::WildGuess { at } => put_one(out, pieces, b"WildGuess", *at),
         Told::WrongSize { given, k } => {
-            put_refused(
-                out,
-                pieces,
-                b"WrongSize",
-                &[u64::from(*given), u64::from(*k)],
-            );
+            put_two(out, pieces, b"WrongSize", u64::from(*given), u64::from(*k));
         }
         Told::UnseenAnswer { object } => {
-            put_refused(out, pieces, b"UnseenAnswer", &[u64::from(*object)]);
+            put_one(out, pieces, b"UnseenAnswer", u64::from(*object));
         }
-        Told::Figure { line } => put_refused(out, pieces, b"Figure", &[*line]),
+        Told::Figure { line } => put_one(out, pieces, b"Figure", *line),
         Told::Fixes => pieces.put(out, b"fixes\n"),
         Told::Beaten {
             inside,

@@ -67,7 +67,8 @@ lacks_from_none byte (first ∷ text) h =
         All-cons (λ b. b ≢ byte) first text (λ e. false≢true (sym is ∙ eq-eqb first byte e)) (below refl)
 
 -- the cut at the place that `position` gives
-pub cut_at_place : (byte : ℕ) (text : List ℕ) (place : ℕ) → position (λ b. eqb b byte) text ≡ Some place → cut_at byte text ≡ Some (take place text, drop (place + 1) text)
+pub cut_at_place : (byte : ℕ) (text : List ℕ) (place : ℕ) → position (λ b. eqb b byte) text ≡ Some place
+    → cut_at byte text ≡ Some (take place text, drop (place + 1) text)
 cut_at_place byte text place h =
     let facts = position-Some (λ b. eqb b byte) text place 0 h in
     let within : place < length text = facts.0 in

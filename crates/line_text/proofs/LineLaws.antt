@@ -6,9 +6,14 @@ use Rattle.std.specs.Str.Lines as std
 use Rattle.std.proofs.lemmas.List.Elements.{All-head, All-tail, All-cons, All-nil, All-contains, Contains-push, All-same}
 use Rattle.std.proofs.lemmas.Bool.{cases_eq, cond-false, true≢false, false≢true}
 use Rattle.std.proofs.lemmas.List.{take-append-drop, drop_more, drop_all}
+use Rattle.std.proofs.lemmas.Grind.{flat_map-append}
 use Rattle.line_text.specs.Cuts.{cut_at}
 use Rattle.line_text.proofs.CutLaws.{cut_at-some, lacks_from_none}
 use Rattle.line_text.specs.Lines.{begins_with_end, before_lines, lines, unlines, IsPlainLine}
+
+-- the text of two parts of a list of lines
+pub unlines-append : (xs ys : List (List ℕ)) → unlines (xs ++ ys) ≡ unlines xs ++ unlines ys
+unlines-append xs ys = flat_map-append (λ (line : List ℕ). line ++ 10 ∷ []) xs ys
 
 -- a byte that isn't LF
 abbrev pub NoEnd : ℕ → Type 0
@@ -37,7 +42,8 @@ strip-cons first second rest =
     let f : length (second ∷ rest) - 1 ≡ length rest = omega arith in
     rw (e, f) (by_return (eqb (get_or (second ∷ rest) (length rest) 0) 13))
   where
-    by_return : (b : Bool) → cond b (first ∷ take (length rest) (second ∷ rest)) (first ∷ second ∷ rest) ≡ first ∷ cond b (take (length rest) (second ∷ rest)) (second ∷ rest)
+    by_return : (b : Bool)
+        → cond b (first ∷ take (length rest) (second ∷ rest)) (first ∷ second ∷ rest) ≡ first ∷ cond b (take (length rest) (second ∷ rest)) (second ∷ rest)
     by_return true = refl
     by_return false = refl
 

@@ -13,7 +13,7 @@ use Rattle.topk_theory.specs.Transcript.{named_objects, seen_objects}
 use Rattle.topk_theory.specs.Bounds.{bounded, low, high}
 use Rattle.topk_theory.specs.Threshold.{item_objects}
 use Rattle.topk_theory.specs.NoRandom.{seen_items, first_seen, nra_answer}
-use Rattle.topk_theory.proofs.AgreementLists.{contains_map_from, all_from_members}
+use Rattle.topk_theory.proofs.AgreementLists.{contains_map_from, all_from_members, take_within}
 use Rattle.topk_theory.proofs.Agreement.{seen_is_named}
 use Rattle.topk_theory.proofs.BoundsLaws.{low_holds, high_holds}
 use Rattle.topk_theory.proofs.NoRandomLaws.{nra_answer_top}
@@ -27,7 +27,6 @@ use Rattle.nra_core.specs.Place.{need_at}
 use Rattle.nra_core.specs.Kept.{Keeps}
 use Rattle.nra_core.specs.Machine.{IsAnswer, HaveTrueBounds}
 use Rattle.nra_theory.proofs.SeenItems.{of_seen}
-use Rattle.nra_theory.proofs.Behind.{within_whole}
 use Rattle.late_bounds.specs.declared.late.LateBounds.{LateBounds}
 use Rattle.nra_core.proofs.Steps.{run_of}
 use Rattle.nra_core.proofs.Runs.{need_of_row}
@@ -57,18 +56,19 @@ answers base late place answer kept done is =
     subst (λ xs. IsTop V k D (item_objects xs)) (sym (exact D agrees)) (nra_answer_top V k n D (value-monotone base.expr) (held_asked base.expr k base.room m n A D kept.base agrees)) in
     let named : (o : ℕ) → Contains (item_objects answer) o → Contains (named_objects A) o = λ o c.
     let from = contains_map_from (λ (item : Item). item.object) answer o c in
-    let there = within_whole k (in_order (seen_items V m A)) from.0 (subst (λ xs. Contains xs from.0) is from.1) in
+    let there = take_within k (in_order (seen_items V m A)) from.0 (subst (λ xs. Contains xs from.0) is from.1) in
     subst (λ x. Contains (named_objects A) x) from.2 (seen_is_named A from.0.object (of_seen V m A from.0 there).0) in
     answer_by no_random_answer (shown base (need_at place)) answer kept.base.agreeing exact top named
 
-pub true_bounds : (base : Base) (place : Place) (answer : List Item) → answer ≡ first_seen (value base.expr) base.k base.transcript.lists base.transcript.accesses
+pub true_bounds : (base : Base) (place : Place) (answer : List Item)
+    → answer ≡ first_seen (value base.expr) base.k base.transcript.lists base.transcript.accesses
     → HaveTrueBounds (shown base (need_at place)) answer
 true_bounds base place answer first =
     let V = value base.expr in
     let m : ℕ = base.transcript.lists in
     let A = base.transcript.accesses in
     let is : (item : Item) → Contains answer item → item ≡ bounded V m A item.object = λ item c.
-    (of_seen V m A item (within_whole base.k (in_order (seen_items V m A)) item (subst (λ xs. Contains xs item) first c))).1 in
+    (of_seen V m A item (take_within base.k (in_order (seen_items V m A)) item (subst (λ xs. Contains xs item) first c))).1 in
     let low_is : (item : Item) → Contains answer item → item.low ≡ low V m A item.object = λ item c. ap (λ (i : Item). i.low) (is item c) in
     let high_is : (item : Item) → Contains answer item → item.high ≡ high V m A item.object = λ item c. ap (λ (i : Item). i.high) (is item c) in
     record {
@@ -81,10 +81,12 @@ true_bounds base place answer first =
     }
 
 -- the items that what is kept gives are the first k
-pub first_of : (base : Base) (late : LateBounds) (place : Place) (items : List Item) → Keeps base late place → items ≡ first_k late.k (seen_items (value base.expr) base.transcript.lists base.transcript.accesses)
+pub first_of : (base : Base) (late : LateBounds) (place : Place) (items : List Item) → Keeps base late place
+    → items ≡ first_k late.k (seen_items (value base.expr) base.transcript.lists base.transcript.accesses)
     → items ≡ first_seen (value base.expr) base.k base.transcript.lists base.transcript.accesses
 first_of base late place items kept is = is ∙ ap (λ k. first_k k (seen_items (value base.expr) base.transcript.lists base.transcript.accesses)) kept.asked
 
 -- and so many are seen
-pub many_seen : (base : Base) (late : LateBounds) (place : Place) → Keeps base late place → need_at place ≡ Done → late.k ≤ length (seen_objects base.transcript.accesses)
+pub many_seen : (base : Base) (late : LateBounds) (place : Place) → Keeps base late place → need_at place ≡ Done
+    → late.k ≤ length (seen_objects base.transcript.accesses)
 many_seen base late place kept done = let many = kept.enough (done_from_need place done) in let asked = kept.asked in omega arith

@@ -38,7 +38,8 @@ use Rattle.nra_core.proofs.Steps.{on_row, row_of, list_follows, depth_made, run_
 use Rattle.nra_core.proofs.Runs.{need_of_row, need_when_done, kept_depth}
 
 -- at the beginning
-pub kept_start : (e : Tree) (k room m n : ℕ) (late : LateBounds) → IsHeld e k room m n [] → IsLateAfter e m [] late → late.k ≡ k → IsKept e k room m n [] late (record { list = 0; depth = 1; done = false })
+pub kept_start : (e : Tree) (k room m n : ℕ) (late : LateBounds) → IsHeld e k room m n [] → IsLateAfter e m [] late → late.k ≡ k
+    → IsKept e k room m n [] late (record { list = 0; depth = 1; done = false })
 kept_start e k room m n late held bounds asked = record {
   base = held;
   in_row = omega (arith, held.some_list);
@@ -51,7 +52,8 @@ kept_start e k room m n late held bounds asked = record {
   };
 }
 
-pub stands_start : (e : Tree) (k n room : ℕ) (costs : Costs) (base : Base) (late : LateBounds) (items : List Item) (capacity : ℕ) → IsBegun e k n room costs (shown base Done) → Holds base → IsReserved base
+pub stands_start : (e : Tree) (k n room : ℕ) (costs : Costs) (base : Base) (late : LateBounds) (items : List Item) (capacity : ℕ)
+    → IsBegun e k n room costs (shown base Done) → Holds base → IsReserved base
     → ((e : Tree) (m : ℕ) → IsLateAfter e m [] late) → late.k ≡ k → late.first.room ≡ min room n → items ≡ [] → min room n ≤ capacity → Stands base late items capacity (record { list = 0; depth = 1; done = false })
 stands_start e k n room costs base late items capacity begun held reserved bounds asked bounded none roomy =
     let m : ℕ = base.transcript.lists in
@@ -70,7 +72,8 @@ stands_start e k n room costs base late items capacity begun held reserved bound
 after_list : (m : ℕ) (quiet : Bool) (place : Place) → place.list + 1 < m → place_after m quiet place ≡ record place { list = place.list + 1 }
 after_list m quiet place short = ap (λ b. cond {A = Place} b (record place { list = place.list + 1 }) (cond {A = Place} quiet (record place { done = true }) (record { list = 0; depth = place.depth + 1; done = false }))) (lt-ltb (place.list + 1) m short)
 
-after_depth : (m : ℕ) (quiet : Bool) (place : Place) → m ≤ place.list + 1 → place_after m quiet place ≡ cond {A = Place} quiet (record place { done = true }) (record { list = 0; depth = place.depth + 1; done = false })
+after_depth : (m : ℕ) (quiet : Bool) (place : Place) → m ≤ place.list + 1
+    → place_after m quiet place ≡ cond {A = Place} quiet (record place { done = true }) (record { list = 0; depth = place.depth + 1; done = false })
 after_depth m quiet place whole = ap (λ b. cond {A = Place} b (record place { list = place.list + 1 }) (cond {A = Place} quiet (record place { done = true }) (record { list = 0; depth = place.depth + 1; done = false }))) (le-ltb (place.list + 1) m whole)
 
 -- what a table that agrees with the row knows of the machine before it
@@ -79,7 +82,8 @@ record IsAfterRow (e : Tree) (k n : ℕ) (before A : List Access) (place : Place
   on : OnRow (value e) k n D before place
   in_row : place.list < length D
 
-row_before : (e : Tree) (k room m n : ℕ) (A : List Access) (late : LateBounds) (place : Place) (a : Access) (D : List (List Row)) → IsKept e k room m n A late place → place.done ≡ false → Agrees m n D (A ++ a ∷ []) → IsAfterRow e k n A (A ++ a ∷ []) place D
+row_before : (e : Tree) (k room m n : ℕ) (A : List Access) (late : LateBounds) (place : Place) (a : Access) (D : List (List Row))
+    → IsKept e k room m n A late place → place.done ≡ false → Agrees m n D (A ++ a ∷ []) → IsAfterRow e k n A (A ++ a ∷ []) place D
 row_before e k room m n A late place a D kept open' agrees = record {
   agrees = subst (λ c. Agrees c n D (A ++ a ∷ [])) (sym agrees.lists) agrees;
   on = row_of (value e) k n D A place open' (kept.on_table D (agrees_front m n D A (a ∷ []) agrees));
@@ -87,7 +91,8 @@ row_before e k room m n A late place a D kept open' agrees = record {
 }
 
 -- a row that isn't the last of its depth
-kept_list : (e : Tree) (k room m n : ℕ) (A : List Access) (late late' : LateBounds) (place : Place) (object grade : ℕ) → IsKept e k room m n A late place → place.done ≡ false → SomeAgrees m n (A ++ Sorted place.list object grade ∷ []) → MayFollow room A (Sorted place.list object grade)
+kept_list : (e : Tree) (k room m n : ℕ) (A : List Access) (late late' : LateBounds) (place : Place) (object grade : ℕ) → IsKept e k room m n A late place
+    → place.done ≡ false → SomeAgrees m n (A ++ Sorted place.list object grade ∷ []) → MayFollow room A (Sorted place.list object grade)
     → IsLateAfter e m (A ++ Sorted place.list object grade ∷ []) late' → late'.k ≡ k → place.list + 1 < m → IsKept e k room m n (A ++ Sorted place.list object grade ∷ []) late' (record place { list = place.list + 1 })
 kept_list e k room m n A late late' place object grade kept open' some follows bounds asked short =
     let a : Access = Sorted place.list object grade in
@@ -109,7 +114,10 @@ record IsRead (e : Tree) (k n : ℕ) (place : Place) (A : List Access) (D : List
   read : A ≡ nra_run_to D place.depth
   told : is_quiet (value e) k (length D) D A ≡ quiet
 
-read_of : (e : Tree) (k room m n : ℕ) (A : List Access) (late : LateBounds) (place : Place) (object grade : ℕ) (quiet : Bool) (D : List (List Row)) → IsKept e k room m n A late place → place.done ≡ false → IsHeld e k room m n (A ++ Sorted place.list object grade ∷ []) → m ≤ place.list + 1 → is_quiet_seen (value e) k m n (A ++ Sorted place.list object grade ∷ []) ≡ quiet → Agrees m n D (A ++ Sorted place.list object grade ∷ []) → IsRead e k n place (A ++ Sorted place.list object grade ∷ []) D quiet
+read_of : (e : Tree) (k room m n : ℕ) (A : List Access) (late : LateBounds) (place : Place) (object grade : ℕ) (quiet : Bool) (D : List (List Row))
+    → IsKept e k room m n A late place → place.done ≡ false → IsHeld e k room m n (A ++ Sorted place.list object grade ∷ []) → m ≤ place.list + 1
+    → is_quiet_seen (value e) k m n (A ++ Sorted place.list object grade ∷ []) ≡ quiet → Agrees m n D (A ++ Sorted place.list object grade ∷ [])
+    → IsRead e k n place (A ++ Sorted place.list object grade ∷ []) D quiet
 read_of e k room m n A late place object grade quiet D kept open' base last shows agrees =
     let V = value e in
     let a : Access = Sorted place.list object grade in
@@ -126,7 +134,8 @@ enough_seen : (V : List ℕ → ℕ) (k m n : ℕ) (A : List Access) → is_quie
 enough_seen V k m n A quiet = leb-true k (length (seen_objects A)) (and_parts (nat_le k (length (seen_objects A))) _ quiet).0
 
 -- the last row of a depth
-kept_end : (e : Tree) (k room m n : ℕ) (A : List Access) (late late' : LateBounds) (place : Place) (object grade : ℕ) (quiet : Bool) → IsKept e k room m n A late place → place.done ≡ false → IsHeld e k room m n (A ++ Sorted place.list object grade ∷ [])
+kept_end : (e : Tree) (k room m n : ℕ) (A : List Access) (late late' : LateBounds) (place : Place) (object grade : ℕ) (quiet : Bool)
+    → IsKept e k room m n A late place → place.done ≡ false → IsHeld e k room m n (A ++ Sorted place.list object grade ∷ [])
     → IsLateAfter e m (A ++ Sorted place.list object grade ∷ []) late' → late'.k ≡ k → m ≤ place.list + 1 → is_quiet_seen (value e) k m n (A ++ Sorted place.list object grade ∷ []) ≡ quiet
     → IsKept e k room m n (A ++ Sorted place.list object grade ∷ []) late' (cond {A = Place} quiet (record place { done = true }) (record { list = 0; depth = place.depth + 1; done = false }))
 kept_end e k room m n A late late' place object grade true kept open' base bounds asked last shows = record {
@@ -151,7 +160,8 @@ kept_end e k room m n A late late' place object grade false kept open' base boun
 }
 
 -- a machine that is told a row
-kept_row : (e : Tree) (k room m n : ℕ) (A : List Access) (late late' : LateBounds) (place : Place) (object grade : ℕ) → IsKept e k room m n A late place → place.done ≡ false → SomeAgrees m n (A ++ Sorted place.list object grade ∷ []) → MayFollow room A (Sorted place.list object grade)
+kept_row : (e : Tree) (k room m n : ℕ) (A : List Access) (late late' : LateBounds) (place : Place) (object grade : ℕ) → IsKept e k room m n A late place
+    → place.done ≡ false → SomeAgrees m n (A ++ Sorted place.list object grade ∷ []) → MayFollow room A (Sorted place.list object grade)
     → IsLateAfter e m (A ++ Sorted place.list object grade ∷ []) late' → late'.k ≡ k
     → IsKept e k room m n (A ++ Sorted place.list object grade ∷ []) late' (place_after m (is_quiet_seen (value e) k m n (A ++ Sorted place.list object grade ∷ [])) place)
 kept_row e k room m n A late late' place object grade kept open' some follows bounds asked =
@@ -167,10 +177,6 @@ kept_row e k room m n A late late' place object grade kept open' some follows bo
     ]
 
 -- ---- what the calls need
--- the row that is needed, as the machine keeps it
-pub may_row : (base : Base) (place : Place) (t : MachineState) (row : Row) → shown base (need_at place) ≡ t → MayBeNextRow t.log t.need row → MayBeNextRow base.transcript (need_at place) row
-may_row base place t row is may = subst (λ (s : MachineState). MayBeNextRow s.log s.need row) (sym is) may
-
 -- a row may be next only where the run isn't made
 pub next_row_is : (log : Log) (place : Place) (row : Row) → MayBeNextRow log (need_at place) row → place.done ≡ false
 next_row_is log place row may =
@@ -180,7 +186,8 @@ next_row_is log place row may =
     ]
 
 -- the row that is needed can be told
-pub can_row : (base : Base) (late : LateBounds) (place : Place) (row : Row) → Keeps base late place → MayBeNextRow base.transcript (need_at place) row → HasRoomFor (shown base Done) row.object → CanTake base (Sorted place.list row.object row.grade)
+pub can_row : (base : Base) (late : LateBounds) (place : Place) (row : Row) → Keeps base late place → MayBeNextRow base.transcript (need_at place) row
+    → HasRoomFor (shown base Done) row.object → CanTake base (Sorted place.list row.object row.grade)
 can_row base late place row kept may fits =
     let open' = next_row_is base.transcript place row may in
     let only : MayBeNextRow base.transcript (RowAt place.list place.depth) row = subst (λ need. MayBeNextRow base.transcript need row) (need_of_row place open') may in
@@ -200,7 +207,9 @@ pub record IsReady (after : Base) (late : LateBounds) (place : Place) (object : 
   pub in_row : place.list < after.transcript.lists
   pub deep : place.depth ≤ 200000
 
-pub ready : (before after : Base) (late : LateBounds) (items : List Item) (capacity : ℕ) (place : Place) (row : Row) → Stands before late items capacity place → MayBeNextRow before.transcript (need_at place) row → IsTold (Sorted place.list row.object row.grade) before after → Holds after → IsReady after late place row.object
+pub ready : (before after : Base) (late : LateBounds) (items : List Item) (capacity : ℕ) (place : Place) (row : Row) → Stands before late items capacity place
+    → MayBeNextRow before.transcript (need_at place) row → IsTold (Sorted place.list row.object row.grade) before after → Holds after
+    → IsReady after late place row.object
 ready before after late items capacity place row stands may tells held =
     let kept = stands.kept in
     let A = before.transcript.accesses in
@@ -222,7 +231,9 @@ ready before after late items capacity place row stands may tells held =
       deep = omega (arith, kept_depth before late place kept (next_row_is before.transcript place row may), kept.base.counted);
     }
 
-pub row_kept : (before after : Base) (late late' : LateBounds) (place place' : Place) (row : Row) → Keeps before late place → MayBeNextRow before.transcript (need_at place) row → HasRoomFor (shown before Done) row.object → IsTold (Sorted place.list row.object row.grade) before after
+pub row_kept : (before after : Base) (late late' : LateBounds) (place place' : Place) (row : Row) → Keeps before late place
+    → MayBeNextRow before.transcript (need_at place) row → HasRoomFor (shown before Done) row.object
+    → IsTold (Sorted place.list row.object row.grade) before after
     → SomeAgrees after.transcript.lists after.transcript.count after.transcript.accesses → IsLateAfter after.expr after.transcript.lists after.transcript.accesses late' → late'.k ≡ after.k
     → place' ≡ place_after after.transcript.lists (is_quiet_seen (value after.expr) after.k after.transcript.lists after.transcript.count after.transcript.accesses) place → Keeps after late' place'
 row_kept before after late late' place place' row kept may follows tells some bounds asked is_place =
@@ -238,7 +249,9 @@ row_kept before after late late' place place' row kept may follows tells some bo
     subst (λ (p : Place). Keeps after late' p) (sym is_place) (then bounds asked)
 
 -- what is told of a row
-pub row_taken : (before after : Base) (place place' : Place) (row : Row) (t : MachineState) → shown before (need_at place) ≡ t → MayBeNextRow before.transcript (need_at place) row → HasRoomFor (shown before Done) row.object → IsTold (Sorted place.list row.object row.grade) before after → HasRoomFor t row.object × Takes (row_access t.need row) t (shown after (need_at place'))
+pub row_taken : (before after : Base) (place place' : Place) (row : Row) (t : MachineState) → shown before (need_at place) ≡ t
+    → MayBeNextRow before.transcript (need_at place) row → HasRoomFor (shown before Done) row.object
+    → IsTold (Sorted place.list row.object row.grade) before after → HasRoomFor t row.object × Takes (row_access t.need row) t (shown after (need_at place'))
 row_taken before after place place' row t is may room_for tells =
     let access : row_access (need_at place) row ≡ Sorted place.list row.object row.grade = ap (λ need. row_access need row) (need_of_row place (next_row_is before.transcript place row may)) in
     subst (λ (s : MachineState). HasRoomFor s row.object × Takes (row_access s.need row) s (shown after (need_at place'))) is (

@@ -32,7 +32,8 @@ need_of_row place open' = ap (λ b. cond b Done (RowAt place.list place.depth)) 
 pub need_when_done : (place : Place) → place.done ≡ true → need_at place ≡ Done
 need_when_done place done = ap (λ b. cond b Done (RowAt place.list place.depth)) done
 
-needed : (base : Base) (late : LateBounds) (place : Place) (D : List (List Row)) → Keeps base late place → AgreesWith D base.transcript → IsAt (nra_run (value base.expr) base.k D) base.transcript.accesses (need_at place) × CanServe D (need_at place)
+needed : (base : Base) (late : LateBounds) (place : Place) (D : List (List Row)) → Keeps base late place → AgreesWith D base.transcript
+    → IsAt (nra_run (value base.expr) base.k D) base.transcript.accesses (need_at place) × CanServe D (need_at place)
 needed base late place D kept agrees =
     let V = value base.expr in
     let A = base.transcript.accesses in

@@ -21,4 +21,5 @@ IsAnswer t items = IsAnswerBy no_random_answer t items
 pub record HaveTrueBounds (t : MachineState) (items : List Item) : Type 0 where
   pub lows : All (λ (item : Item). item.low ≡ low (value t.expr) t.log.lists t.log.accesses item.object) items
   pub highs : All (λ (item : Item). item.high ≡ high (value t.expr) t.log.lists t.log.accesses item.object) items
-  pub hold : (D : List (List Row)) → AgreesWith D t.log → All (λ (item : Item). (item.low ≤ aggregate (value t.expr) D item.object) × (aggregate (value t.expr) D item.object ≤ item.high)) items
+  pub hold : (D : List (List Row)) → AgreesWith D t.log
+      → All (λ (item : Item). (item.low ≤ aggregate (value t.expr) D item.object) × (aggregate (value t.expr) D item.object ≤ item.high)) items

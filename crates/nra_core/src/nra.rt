@@ -10,6 +10,7 @@ ghost use Rattle.nra_core.specs.Place.{place_after};
 use super::place::Place;
 use access_log::{Access, Answer, CoreFault, Item, Items, Transcript};
 use late_bounds::LateBounds;
+use limits::MAX_OBJECTS;
 use machine_base::{Base, Memory, Need};
 use monotone_fn::{Costs, Expr};
 use ranked_list::Row;
@@ -64,7 +65,7 @@ impl Nra {
     ) -> Result<Nra, Memory>
         requires asked { 1 ≤ k }
         requires fits { k ≤ count }
-        requires counted { count ≤ 200000 }
+        requires counted { count ≤ MAX_OBJECTS }
         requires roomy { 1 ≤ room }
         ensures begun { IfOk result (IsBegun expr k count room costs) }
         ensures run { IfOk result MakesItsRun }
@@ -156,7 +157,7 @@ fn follow(base: &Base, late: &mut LateBounds, place: Place) -> Place
     requires late { KeepsLate base.now.expr base.now.transcript late.old }
     requires asked { late.old.k ≡ base.now.k }
     requires in_row { place.list < base.now.transcript.lists }
-    requires deep { place.depth ≤ 200000 }
+    requires deep { place.depth ≤ MAX_OBJECTS }
     ensures late { KeepsLate base.now.expr base.now.transcript late.new }
     ensures asked { late.new.k ≡ base.now.k }
     ensures room { late.new.first.room ≡ late.old.first.room }

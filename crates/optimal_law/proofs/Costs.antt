@@ -26,7 +26,7 @@ use Rattle.optimal_law.proofs.Threshold.{ta_stops_in_time}
 sorted_cons : (a : Access) (A : List Access) → sorted_count (a ∷ A) ≡ cond {A = ℕ} (is_sorted a) 1 0 + sorted_count A
 sorted_cons a A = sum_by-cons (λ access. cond {A = ℕ} (is_sorted access) 1 0) a A
 
-random_cons : (a : Access) (A : List Access) → random_count (a ∷ A) ≡ cond {A = ℕ} (not (is_sorted a)) 1 0 + random_count A
+pub random_cons : (a : Access) (A : List Access) → random_count (a ∷ A) ≡ cond {A = ℕ} (not (is_sorted a)) 1 0 + random_count A
 random_cons a A = sum_by-cons (λ access. cond {A = ℕ} (not (is_sorted access)) 1 0) a A
 
 sorted_append : (A B : List Access) → sorted_count (A ++ B) ≡ sorted_count A + sorted_count B
@@ -107,7 +107,7 @@ all_random at D (o ∷ os) h =
     suc_times : (a b : ℕ) → suc a * b ≡ a * b + b
     suc_times a b = grind arith
 
-new_few : (D : List (List Row)) (at : ℕ) → length (new_objects D at) ≤ length D
+pub new_few : (D : List (List Row)) (at : ℕ) → length (new_objects D at) ≤ length D
 new_few D at =
     let tops : List ℕ = map (λ (rows : List Row). (row_at rows at).object) D in
     let kept : length (filter (λ object. not (stands D (at - 1) object)) (each_once tops)) ≤ length (each_once tops) = (let e = length-filter (λ object. not (stands D (at - 1) object)) (each_once tops) in let le = count_by-le-length (λ object. not (stands D (at - 1) object)) (each_once tops) in omega (arith, e, le)) in

@@ -1,28 +1,28 @@
 -- How deep a transcript reads: against the objects that it sees, and its bottoms against the rows of the table.
-use Rattle.std.proofs.Common.{◌≡◌, ℕ, zero, suc, ◌+◌, ◌-◌, ◌<◌, ◌≤◌, inl, inr, true, cond, ◌==◌, max, List, [], ◌∷◌, ◌++◌, length, map, drop, Contains, Some, None, unwrap_or, slice_index_or, filter_map, refl, sym, ap, subst, ◌∙◌, arith, eq-eqb}
-use Rattle.std.specs.List.{fold, range_with_len}
+use Rattle.std.proofs.Common.{◌≡◌, ℕ, zero, suc, ◌+◌, ◌-◌, ◌<◌, ◌≤◌, inl, inr, true, cond, ◌==◌, max, List, [], ◌∷◌, ◌++◌, length, map, drop, Contains, Some, None, slice_index_or, filter_map, refl, sym, ap, subst, ◌∙◌, arith, eq-eqb}
+use Rattle.std.specs.List.{fold}
 use Rattle.std.proofs.lemmas.Bool.{cases_Bool, eqb-false}
-use Rattle.std.proofs.lemmas.List.FromFn.{length-range_with_len, get_or-range_with_len}
 use Rattle.std.proofs.lemmas.List.Sums.{sum_by-cons}
 use Rattle.ranked_list.specs.declared.row.Row.{Row}
 use Rattle.ranked_list.specs.Table.{IsRanked, objects, place_in, top_grade}
 use Rattle.topk_theory.specs.declared.access.Access.{Access}
 use Rattle.topk_theory.specs.declared.access.Access.TheVariants.{Sorted, Random}
 use Rattle.monotone_fn.specs.Value.{IsMonotone}
-use Rattle.topk_theory.specs.Transcript.{Agrees, IsTame, last_grade, list_at, list_numbers, sorted_row, sorted_rows, given_rows, sorted_object, seen_objects, is_sorted, sorted_count, depth, depth_of, bottom_of}
-use Rattle.topk_theory.specs.Bounds.{known_grade, low, high, threshold}
+use Rattle.topk_theory.specs.Transcript.{Agrees, last_grade, list_at, list_numbers, sorted_row, sorted_rows, sorted_object, seen_objects, is_sorted, sorted_count, depth, depth_of, bottom_of}
+use Rattle.topk_theory.specs.Bounds.{threshold}
 use Rattle.topk_theory.specs.Threshold.{row_at, stands, threshold_at}
 use Rattle.topk_theory.proofs.AgreementLists.{contains_nil, contains_cases, contains_here, contains_there, contains_map, contains_map_from, begins_splits, distinct_fits}
 use Rattle.topk_theory.proofs.AgreementNames.{each_once_complete, each_once_within, each_once_distinct}
-use Rattle.topk_theory.proofs.AgreementRows.{list_at_ranked, list_at_contains, grade_among_row}
-use Rattle.topk_theory.proofs.Agreement.{agrees_in_range, given_from, known_cases, row_of, contains_middle}
-use Rattle.topk_theory.proofs.Adversary.{same_places}
+use Rattle.topk_theory.proofs.AgreementRows.{list_at_ranked, list_at_contains}
+use Rattle.topk_theory.proofs.Agreement.{agrees_in_range}
 use Rattle.topk_theory.proofs.BoundsLaws.{Falls, Falls-from_ranked, map_places, zip_numbers}
 use Rattle.topk_theory.proofs.ConsistentRows.{ranked_front}
+use Rattle.topk_theory.proofs.ListNumbers.{number_in, number_below}
 use Rattle.topk_theory.proofs.NoRandomQuiet.{sorted_is_seen}
 use Rattle.topk_theory.proofs.ThresholdDepth.{stands_within}
-use Rattle.topk_theory.proofs.ThresholdRun.{access_from_seen, contains_filter_map, seen_from_access, seen_more}
-use Rattle.topk_theory.proofs.ThresholdTables.{distinct_objects, length-objects}
+use Rattle.topk_theory.proofs.ThresholdRun.{access_from_seen, contains_filter_map}
+use Rattle.ranked_list.proofs.RankLaws.{length-objects}
+use Rattle.topk_theory.proofs.ThresholdTables.{distinct_objects}
 
 -- the greatest of numbers, from one on
 fold_from : (start : ℕ) (xs : List ℕ) → start ≤ fold max start xs
@@ -42,17 +42,6 @@ fold_below start [] bound l h = l
 fold_below start (x ∷ xs) bound l h =
     let first : x ≤ bound = h x (contains_here x xs) in
     fold_below (max start x) xs bound (omega arith) (λ y c. h y (contains_there x xs y c))
-
--- the numbers of the lists
-number_in : (m list : ℕ) → list < m → Contains (list_numbers m) list
-number_in m list l = (list, (let e : length (range_with_len 0 m) ≡ m = length-range_with_len 0 m in omega arith), get_or-range_with_len 0 m list list l ∙ (let z : 0 + list ≡ list = omega arith in z))
-
-number_below : (m list : ℕ) → Contains (list_numbers m) list → list < m
-number_below m list c =
-    let e : length (range_with_len 0 m) ≡ m = length-range_with_len 0 m in
-    let at : c.0 < length (range_with_len 0 m) = c.1 in
-    let same : list ≡ 0 + c.0 = sym c.2 ∙ get_or-range_with_len 0 m c.0 list (omega arith) in
-    omega arith
 
 pub depth_above : (m : ℕ) (A : List Access) (list : ℕ) → list < m → depth_of list A ≤ depth m A
 depth_above m A list l = fold_above 0 (map (λ i. depth_of i A) (list_numbers m)) (depth_of list A) (contains_map (λ i. depth_of i A) (list_numbers m) list (number_in m list l))
@@ -113,7 +102,8 @@ falls_at above (row ∷ rows) (suc place) h =
     let more : (slice_index_or rows place (record { object = 0; grade = 0 })).grade ≤ row.grade = falls_at row.grade rows place h.1 in
     omega arith
 
-last_above : (above : ℕ) (front rest : List Row) (place : ℕ) → Falls above (front ++ rest) → length front ≤ suc place → (slice_index_or (front ++ rest) place (record { object = 0; grade = 0 })).grade ≤ last_grade above front
+last_above : (above : ℕ) (front rest : List Row) (place : ℕ) → Falls above (front ++ rest) → length front ≤ suc place
+    → (slice_index_or (front ++ rest) place (record { object = 0; grade = 0 })).grade ≤ last_grade above front
 last_above above [] rest place h l = falls_at above rest place h
 last_above above (row ∷ []) rest zero h l = omega arith
 last_above above (row ∷ next ∷ front) rest zero h l = absurd (omega arith)
@@ -166,34 +156,6 @@ seen_stands_below m n D A object at h deep c =
     let before : place_in (list_at D list) object < length read = subst (λ rows. place_in rows object < length read) (sym split) (place_in_front read (drop (length read) (list_at D list)) object (contains_map (λ (z : Row). z.object) read row here)) in
     let le : depth_of list A ≤ depth m A = depth_above m A list l in
     stands_within D (list_at D list) at object (list_at_contains D list (subst (λ k. list < k) (sym h.lists) l)) (omega arith)
-
--- of an object that a tame transcript hasn't seen it knows nothing
-unknown_here : (A : List Access) (object list : ℕ) → IsTame A → (¬ Contains (seen_objects A) object) → known_grade A object list ≡ None
-unknown_here A object list tame unseen =
-    elim (known_cases (known_grade A object list)) [
-      | inl none ↦ none
-      | inr some ↦ absurd (
-          let from = given_from list A (record { object = object; grade = some.0 }) (grade_among_row (given_rows list A) object some.0 some.1) in
-          unseen (seen_here A object from.0 from.1 from.2 tame from.3 (ap (λ (z : Row). z.object) from.5)))
-    ]
-  where
-    seen_here : (A : List Access) (object : ℕ) (before : List Access) (a : Access) (after : List Access) → IsTame A
-        → A ≡ before ++ a ∷ after → (row_of a).object ≡ object → Contains (seen_objects A) object
-    seen_here A object before (Sorted l o g) after tame e same = subst (λ p. Contains (seen_objects A) p) same (seen_from_access A l o g (subst (λ B. Contains B (Sorted l o g)) (sym e) (contains_middle before (Sorted l o g) after)))
-    seen_here A object before (Random l o g) after tame e same = subst (λ p. Contains (seen_objects A) p) same (subst (λ B. Contains (seen_objects B) o) (sym e) (seen_more before (Random l o g ∷ after) o (tame before after l o g e)))
-
--- so its high is the threshold, and its low the value at zeros
-pub unseen_high : (V : List ℕ → ℕ) (m : ℕ) (A : List Access) (object : ℕ) → IsTame A → (¬ Contains (seen_objects A) object)
-    → high V m A object ≡ threshold V m A
-unseen_high V m A object tame unseen =
-    ap V (same_places (λ list. unwrap_or (known_grade A object list) (bottom_of list A)) (λ list. bottom_of list A) m 0 m (omega arith)
-    (λ list l. ap (λ o. unwrap_or o (bottom_of list A)) (unknown_here A object list tame unseen)))
-
-pub unseen_low : (V : List ℕ → ℕ) (m : ℕ) (A : List Access) (object : ℕ) → IsTame A → (¬ Contains (seen_objects A) object)
-    → low V m A object ≡ V (map (λ list. 0) (list_numbers m))
-unseen_low V m A object tame unseen =
-    ap V (same_places (λ list. unwrap_or (known_grade A object list) 0) (λ list. 0) m 0 m (omega arith)
-    (λ list l. ap (λ o. unwrap_or o 0) (unknown_here A object list tame unseen)))
 
 -- nothing is less than the value at zeros
 pub zeros_least : (V : List ℕ → ℕ) (m : ℕ) (f : ℕ → ℕ) → IsMonotone V → V (map (λ list. 0) (list_numbers m)) ≤ V (map f (list_numbers m))

@@ -1,14 +1,15 @@
 -- The algorithm without random access is quiet by the depth of a transcript without random access that fixes an answer, or by k.
-use Rattle.std.proofs.Common.{◌≡◌, ◌≢◌, ℕ, ◌+◌, ◌<◌, ◌≤◌, ◌==◌, ◌||◌, inl, inr, Bool, true, false, not, cond, max, List, [], ◌∷◌, ◌++◌, length, map, take, filter, All, AllPairs, Contains, Option, Some, None, unwrap_or, refl, sym, ap, subst, ◌∙◌, arith, count_by, nat_lt, leb}
+use Rattle.std.proofs.Common.{◌≡◌, ◌≢◌, ℕ, ◌+◌, ◌<◌, ◌≤◌, ◌==◌, ◌||◌, inl, inr, Bool, true, false, not, max, List, [], ◌∷◌, ◌++◌, length, map, take, filter, All, AllPairs, Contains, Option, Some, None, unwrap_or, refl, sym, ap, subst, ◌∙◌, arith, count_by, nat_lt, leb}
 use Rattle.std.specs.List.{list_any, list_all}
 use Rattle.std.specs.Option.{MatchOption}
-use Rattle.std.proofs.lemmas.Bool.{eq-eqb, cases_Bool, cases_lt, le-leb, le-ltb, lt-ltb, ltb-false, and_from, or_right, true≢false}
+use Rattle.std.proofs.lemmas.Bool.{eq-eqb, cases_Bool, cases_lt, le-leb, le-ltb, lt-ltb, and_from, or_right, true≢false}
 use Rattle.std.proofs.lemmas.List.{length-take-le, length-map, take-take}
 use Rattle.std.proofs.lemmas.List.Kept.{AllPairs-cons}
-use Rattle.std.proofs.lemmas.List.Sums.{length-filter, list_all-from_AllPass, sum_by-cons}
+use Rattle.std.proofs.lemmas.List.Sums.{length-filter, list_all-from_AllPass}
 use Rattle.ranked_list.specs.declared.row.Row.{Row}
 use Rattle.ranked_list.specs.declared.item.Item.{Item}
 use Rattle.ranked_list.specs.Table.{IsTable, top_grade}
+use Rattle.ranked_list.proofs.OptionLaws.{option_cases}
 use Rattle.topk_theory.specs.Order.{IsBefore, IsFirstK, IsKthLargest, in_order, kth_low, lows}
 use Rattle.topk_theory.proofs.FirstK.{first_k-is}
 use Rattle.topk_theory.proofs.InOrder.{length-in_order}
@@ -18,7 +19,7 @@ use Rattle.topk_theory.specs.declared.access.Access.{Access}
 use Rattle.topk_theory.specs.declared.access.Access.TheVariants.{Sorted, Random}
 use Rattle.monotone_fn.specs.Value.{IsMonotone}
 use Rattle.topk_theory.specs.Aggregate.{objects_of, aggregate}
-use Rattle.topk_theory.specs.Transcript.{Agrees, Begins, IsTame, list_at, list_numbers, sorted_rows, random_rows, given_rows, is_sorted, random_count, seen_objects, bottom_of, depth, depth_of}
+use Rattle.topk_theory.specs.Transcript.{Agrees, Begins, IsTame, list_at, list_numbers, sorted_rows, random_rows, given_rows, random_count, seen_objects, bottom_of, depth, depth_of}
 use Rattle.topk_theory.specs.Bounds.{known_grade, bounded, low, high, threshold}
 use Rattle.topk_theory.specs.Fixes.{FixesOver}
 use Rattle.topk_theory.specs.Adversary.{BoundsPart}
@@ -27,7 +28,7 @@ use Rattle.topk_theory.specs.NoRandom.{seen_items, first_seen, exceeds, is_viabl
 use Rattle.topk_theory.proofs.AgreementLists.{contains_nil, contains_map, contains_map_from, all_from_members, member_of_all, distinct_fits, contains_cases}
 use Rattle.topk_theory.proofs.AgreementNames.{has, has_contains, has_not}
 use Rattle.topk_theory.proofs.AgreementRows.{list_at_length, grade_among_row}
-use Rattle.topk_theory.proofs.Agreement.{known_cases, seen_in_table, seen_distinct, depth_fits}
+use Rattle.topk_theory.proofs.Agreement.{seen_in_table, seen_distinct, depth_fits}
 use Rattle.topk_theory.proofs.Adversary.{fixes_parts}
 use Rattle.topk_theory.proofs.BoundsLaws.{zip_numbers, low_holds, high_holds}
 use Rattle.topk_theory.proofs.ConsistentRows.{last_is_least}
@@ -35,16 +36,16 @@ use Rattle.topk_theory.proofs.ConsistentTable.{agrees_coherent, given_split}
 use Rattle.topk_theory.proofs.NoRandomLaws.{run_agrees, nra_depth_is_least, items_distinct, first_distinct}
 use Rattle.topk_theory.proofs.NoRandomRun.{run_rows, run_asks}
 use Rattle.topk_theory.proofs.NoRandomTop.{object_of_seen}
+use Rattle.topk_theory.proofs.NoRandomQuiet.{exceeds_less}
+use Rattle.topk_theory.proofs.Unseen.{unseen_high, unseen_low}
 use Rattle.topk_theory.proofs.ThresholdLists.{any_from_member, contains_filter, count_map, map_map}
 use Rattle.topk_theory.proofs.ThresholdTop.{objects_from_distinct}
 use Rattle.optimal_law.specs.Optimal.{FixesBySorted}
-use Rattle.optimal_law.proofs.Depths.{depth_above, depth_below, depth_of_seen, unseen_high, unseen_low, zeros_least}
+use Rattle.optimal_law.proofs.Depths.{depth_above, depth_below, depth_of_seen, zeros_least}
 use Rattle.optimal_law.proofs.Threshold.{outside_or_within, table_objects}
+use Rattle.optimal_law.proofs.Costs.{random_cons}
 
 -- a transcript without random access
-random_cons : (a : Access) (A : List Access) → random_count (a ∷ A) ≡ cond {A = ℕ} (not (is_sorted a)) 1 0 + random_count A
-random_cons a A = sum_by-cons (λ access. cond {A = ℕ} (not (is_sorted access)) 1 0) a A
-
 no_random_here : (list object grade : ℕ) (A : List Access) → random_count (Random list object grade ∷ A) ≡ 0 → ⊥
 no_random_here list object grade A e = absurd (let h = random_cons (Random list object grade) A in omega (arith, h, e))
 
@@ -104,7 +105,7 @@ fixes_deeper V k n at D A Y table within h none deep fixes = record {
 bottom_least : (m n : ℕ) (D : List (List Row)) (B : List Access) (object list : ℕ) → Agrees m n D B → random_count B ≡ 0 → list < m
     → bottom_of list B ≤ unwrap_or (known_grade B object list) (bottom_of list B)
 bottom_least m n D B object list h none l =
-    elim (known_cases (known_grade B object list)) [
+    elim (option_cases (known_grade B object list)) [
       | inl unknown ↦ subst (λ o. bottom_of list B ≤ unwrap_or o (bottom_of list B)) (sym unknown) (omega arith)
       | inr some ↦ subst (λ o. bottom_of list B ≤ unwrap_or o (bottom_of list B)) (sym some.1)
           (elim (given_split list B (record { object = object; grade = some.0 }) (grade_among_row (given_rows list B) object some.0 some.1)) [
@@ -169,10 +170,6 @@ outside_idle V k m n D B Y outside monotone h here out =
             omega arith),
       ))
     ]
-
-exceeds_less : (found : Option ℕ) (number less : ℕ) → less ≤ number → exceeds found number ≡ false → exceeds found less ≡ false
-exceeds_less None number less le e = e
-exceeds_less (Some bound) number less le e = let up : number ≤ bound = ltb-false bound number e in le-ltb bound less (omega arith)
 
 -- a seen member of the answer that stands behind an object outside it has no greater a high than that object
 behind_outside : (inside outside : Item) → IsBefore outside inside → outside.high ≤ inside.low → outside.low ≤ outside.high

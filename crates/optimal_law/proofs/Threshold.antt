@@ -25,9 +25,11 @@ use Rattle.topk_theory.proofs.ThresholdDepth.{table_holds}
 use Rattle.topk_theory.proofs.ThresholdLaws.{least_depth}
 use Rattle.topk_theory.proofs.ThresholdLists.{contains_filter, member_from_any, none_from_any}
 use Rattle.topk_theory.proofs.ThresholdRun.{object_stands, row_object}
-use Rattle.topk_theory.proofs.ThresholdTables.{length-objects, distinct_objects}
+use Rattle.ranked_list.proofs.RankLaws.{length-objects}
+use Rattle.topk_theory.proofs.ThresholdTables.{distinct_objects}
 use Rattle.optimal_law.specs.Optimal.{FixesTamely}
-use Rattle.optimal_law.proofs.Depths.{depth_below, depth_seen, seen_stands_below, threshold_below, unseen_high, unseen_low, zeros_least}
+use Rattle.topk_theory.proofs.Unseen.{unseen_high, unseen_low}
+use Rattle.optimal_law.proofs.Depths.{depth_below, depth_seen, seen_stands_below, threshold_below, zeros_least}
 
 -- some member is outside another list, or all of them are in it
 pub outside_or_within : (xs ys : List ℕ) → ((x : ℕ) × Contains xs x × (¬ Contains ys x)) ⊎ ((x : ℕ) → Contains xs x → Contains ys x)

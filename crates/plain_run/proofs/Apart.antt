@@ -23,7 +23,8 @@ made_apart f os keeps apart = λ i j d lt within same.
     apart i j 0 lt (omega arith)
     (sym (keeps (get_or os i 0)) ∙ sym (ap (λ (item : Item). item.object) at_i) ∙ same ∙ ap (λ (item : Item). item.object) at_j ∙ keeps (get_or os j 0))
 
-pub scored_apart : (V : List ℕ → ℕ) (D : List (List Row)) (e : Tree) (depth : ℕ) (items : List Item) → IsPosed D e → items ≡ map (scored V D) (objects_to D depth) → AreDistinct items
+pub scored_apart : (V : List ℕ → ℕ) (D : List (List Row)) (e : Tree) (depth : ℕ) (items : List Item) → IsPosed D e
+    → items ≡ map (scored V D) (objects_to D depth) → AreDistinct items
 scored_apart V D e depth items h same =
     subst AreDistinct (sym same) (made_apart (scored V D) (objects_to D depth) (λ o. refl)
     (AllPairs-filter (λ (a : ℕ) (b : ℕ). a ≢ b) (stands D depth) (objects_of D) (objects_of_distinct h.table.0 D h.table.1)))

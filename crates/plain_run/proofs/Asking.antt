@@ -1,41 +1,21 @@
 -- The unknown grades of an object, list by list.
-use Rattle.std.proofs.Common.{◌≡◌, ℕ, zero, suc, ◌+◌, ◌<◌, inl, inr, true, false, cond, List, [], ◌∷◌, ◌++◌, length, map, filter, Contains, is_none, refl, sym, ap, subst, ◌∙◌, arith, append_assoc, append-nil, nat_lt, slice_index_or}
-use Rattle.std.specs.List.{range_with_len}
-use Rattle.std.proofs.lemmas.Bool.{cases_Bool, cond-true, cond-false, lt-ltb}
+use Rattle.std.proofs.Common.{◌≡◌, ℕ, zero, suc, ◌+◌, ◌<◌, true, false, cond, List, [], ◌∷◌, ◌++◌, length, map, Contains, is_none, refl, sym, ap, ◌∙◌, arith, append_assoc, append-nil, nat_lt, slice_index_or}
+use Rattle.std.proofs.lemmas.Bool.{lt-ltb}
 use Rattle.std.proofs.lemmas.List.{map-append}
-use Rattle.std.proofs.lemmas.List.Elements.{filter-append}
-use Rattle.std.proofs.lemmas.List.FromFn.{length-range_with_len, get_or-range_with_len}
 use Rattle.ranked_list.specs.declared.row.Row.{Row}
 use Rattle.ranked_list.specs.Table.{grade_in}
 use Rattle.topk_theory.specs.declared.access.Access.{Access}
 use Rattle.topk_theory.specs.declared.access.Access.TheVariants.{Random}
 use Rattle.topk_theory.specs.Transcript.{list_at, list_numbers}
 use Rattle.topk_theory.specs.Bounds.{known_grade}
-use Rattle.topk_theory.specs.Combined.{unknown_lists, missing_grades}
+use Rattle.topk_theory.specs.Combined.{unknown_lists}
+use Rattle.topk_theory.proofs.ListNumbers.{number_in}
 use Rattle.topk_theory.proofs.ThresholdLists.{contains_filter}
-
-numbers_from : (n a j : ℕ) → a + n ≡ j → range_with_len a (suc n) ≡ range_with_len a n ++ j ∷ []
-numbers_from zero a j e = let same : a ≡ j = omega (arith, e) in ap (λ x. x ∷ []) same
-numbers_from (suc n) a j e = ap (λ xs. a ∷ xs) (numbers_from n (a + 1) j (omega (arith, e)))
-
-numbers_more : (n : ℕ) → list_numbers (n + 1) ≡ list_numbers n ++ n ∷ []
-numbers_more n = let one : n + 1 ≡ suc n = omega arith in ap (range_with_len 0) one ∙ numbers_from n 0 n (omega arith)
-
--- one more list
-pub unknown_more : (n : ℕ) (A : List Access) (object : ℕ) → unknown_lists (n + 1) A object ≡ unknown_lists n A object ++ cond (is_none (known_grade A object n)) (n ∷ []) []
-unknown_more n A object =
-    ap (filter (λ list. is_none (known_grade A object list))) (numbers_more n)
-    ∙ filter-append (λ list. is_none (known_grade A object list)) (list_numbers n) (n ∷ [])
-
-pub none_more : (n : ℕ) (A : List Access) (object : ℕ) → is_none (known_grade A object n) ≡ false → unknown_lists n A object ≡ [] → unknown_lists (n + 1) A object ≡ []
-none_more n A object known none =
-    unknown_more n A object ∙ ap (λ xs. xs ++ cond {A = List ℕ} (is_none (known_grade A object n)) (n ∷ []) []) none ∙ cond-false (is_none (known_grade A object n)) (n ∷ []) [] known
-
-number_in : (n list : ℕ) → list < n → Contains (list_numbers n) list
-number_in n list l = let none : 0 + list ≡ list = omega arith in (list, (let size = length-range_with_len 0 n in omega (arith, size, l)), get_or-range_with_len 0 n list list l ∙ none)
+use Rattle.topk_theory.proofs.UnknownLists.{unknown_split}
 
 -- some list has an unknown grade
-pub some_open : (n list : ℕ) (A : List Access) (object : ℕ) → list < n → is_none (known_grade A object list) ≡ true → nat_lt 0 (length (unknown_lists n A object)) ≡ true
+pub some_open : (n list : ℕ) (A : List Access) (object : ℕ) → list < n → is_none (known_grade A object list) ≡ true
+    → nat_lt 0 (length (unknown_lists n A object)) ≡ true
 some_open n list A object l unknown =
     let c : Contains (unknown_lists n A object) list = contains_filter (λ other. is_none (known_grade A object other)) (list_numbers n) list (number_in n list l) unknown in
     lt-ltb 0 (length (unknown_lists n A object)) (let within = c.1 in omega (arith, within))
@@ -50,7 +30,7 @@ missing_so_far D A object n = map (λ list. Random list object (grade_in (list_a
 missing_more : (D : List (List Row)) (A : List Access) (object n : ℕ) → missing_so_far D A object (n + 1)
     ≡ missing_so_far D A object n ++ cond (is_none (known_grade A object n)) (Random n object (grade_in (list_at D n) object) ∷ []) []
 missing_more D A object n =
-    ap (map (λ list. Random list object (grade_in (list_at D list) object))) (unknown_more n A object)
+    ap (map (λ list. Random list object (grade_in (list_at D list) object))) (unknown_split n 1 A object)
     ∙ map-append (λ list. Random list object (grade_in (list_at D list) object)) (unknown_lists n A object) (cond (is_none (known_grade A object n)) (n ∷ []) [])
     ∙ ap (λ xs. missing_so_far D A object n ++ xs) (elim (is_none (known_grade A object n)) as (λ t. map (λ list. Random list object (grade_in (list_at D list) object)) (cond {A = List ℕ} t (n ∷ []) []) ≡ cond {A = List Access} t (Random n object (grade_in (list_at D n) object) ∷ []) []) [ true ↦ refl | false ↦ refl ])
 

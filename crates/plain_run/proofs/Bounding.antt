@@ -1,5 +1,5 @@
 -- The bounds of an object, from the grades that are known and the bottoms.
-use Rattle.std.proofs.Common.{◌≡◌, ℕ, suc, ◌≤◌, inl, inr, ◌==◌, List, [], ◌∷◌, map, Option, unwrap_or, zip, refl, sym, ap, ap₂, subst, ◌∙◌, arith}
+use Rattle.std.proofs.Common.{◌≡◌, ℕ, suc, ◌≤◌, inl, inr, ◌==◌, List, [], ◌∷◌, map, Option, unwrap_or, sym, ap, ap₂, subst, ◌∙◌, arith}
 use Rattle.std.proofs.lemmas.Bool.{cases_Bool}
 use Rattle.ranked_list.specs.Table.{top_grade}
 use Rattle.topk_theory.specs.declared.access.Access.{Access}
@@ -7,6 +7,7 @@ use Rattle.topk_theory.specs.declared.access.Access.TheVariants.{Sorted, Random}
 use Rattle.topk_theory.specs.Transcript.{last_grade, sorted_rows, bottom_of, list_numbers}
 use Rattle.topk_theory.specs.Bounds.{known_grade, low, high}
 use Rattle.topk_theory.proofs.AgreementLists.{contains_map_from, all_from_members}
+use Rattle.topk_theory.proofs.BoundsLaws.{bottoms_filled}
 use Rattle.topk_theory.proofs.ThresholdLists.{map_map}
 use Rattle.monotone_fn.specs.Tree.{Tree}
 use Rattle.monotone_fn.specs.Value as expression
@@ -36,7 +37,8 @@ last_at_most list above (Sorted other object grade ∷ A) l h =
     ]
 last_at_most list above (Random other object grade ∷ A) l h = last_at_most list above A l (capped_rest (Random other object grade) A h)
 
-pub known_capped : (A : List Access) (m object : ℕ) (xs : List (Option ℕ)) → AreCapped A → xs ≡ map (λ list. known_grade A object list) (list_numbers m) → AreGradesWhereKnown xs
+pub known_capped : (A : List Access) (m object : ℕ) (xs : List (Option ℕ)) → AreCapped A → xs ≡ map (λ list. known_grade A object list) (list_numbers m)
+    → AreGradesWhereKnown xs
 known_capped A m object xs h e =
     subst AreGradesWhereKnown (sym e)
     (all_from_members (λ g. unwrap_or g 0 ≤ top_grade) (map (λ list. known_grade A object list) (list_numbers m)) (λ g c.
@@ -51,17 +53,13 @@ bottoms_capped A m xs h e =
     subst (λ b. b ≤ top_grade) from.2 (last_at_most from.0 top_grade A (omega arith) h)))
 
 -- the bounds are the values at these
-zipped : {X Y : Type 0} → (f : ℕ → X) (g : ℕ → Y) (xs : List ℕ) → zip (map f xs) (map g xs) ≡ map (λ x. (f x, g x)) xs
-zipped f g [] = refl
-zipped f g (x ∷ xs) = ap (λ ys. (f x, g x) ∷ ys) (zipped f g xs)
-
-filled : (f : ℕ → Option ℕ) (g : ℕ → ℕ) (xs : List ℕ) → expression.with_bottoms (map f xs) (map g xs) ≡ map (λ x. unwrap_or (f x) (g x)) xs
-filled f g xs = ap (map (λ p. unwrap_or p.0 p.1)) (zipped f g xs) ∙ map_map (λ p. unwrap_or p.0 p.1) (λ x. (f x, g x)) xs
-
-pub low_answer : (e : Tree) (m : ℕ) (A : List Access) (object r : ℕ) (xs : List (Option ℕ)) → xs ≡ map (λ list. known_grade A object list) (list_numbers m) → r ≡ expression.low e xs → r ≡ low (expression.value e) m A object
+pub low_answer : (e : Tree) (m : ℕ) (A : List Access) (object r : ℕ) (xs : List (Option ℕ)) → xs ≡ map (λ list. known_grade A object list) (list_numbers m)
+    → r ≡ expression.low e xs → r ≡ low (expression.value e) m A object
 low_answer e m A object r xs f g =
     g ∙ ap (expression.low e) f ∙ ap (expression.value e) (map_map (λ grade. unwrap_or grade 0) (λ list. known_grade A object list) (list_numbers m))
 
-pub high_answer : (e : Tree) (m : ℕ) (A : List Access) (object r : ℕ) (xs : List (Option ℕ)) (ys : List ℕ) → xs ≡ map (λ list. known_grade A object list) (list_numbers m) → ys ≡ map (λ list. bottom_of list A) (list_numbers m) → r ≡ expression.high e xs ys → r ≡ high (expression.value e) m A object
+pub high_answer : (e : Tree) (m : ℕ) (A : List Access) (object r : ℕ) (xs : List (Option ℕ)) (ys : List ℕ)
+    → xs ≡ map (λ list. known_grade A object list) (list_numbers m) → ys ≡ map (λ list. bottom_of list A) (list_numbers m) → r ≡ expression.high e xs ys
+    → r ≡ high (expression.value e) m A object
 high_answer e m A object r xs ys f b g =
-    g ∙ ap₂ (expression.high e) f b ∙ ap (expression.value e) (filled (λ list. known_grade A object list) (λ list. bottom_of list A) (list_numbers m))
+    g ∙ ap₂ (expression.high e) f b ∙ ap (expression.value e) (bottoms_filled (λ list. known_grade A object list) (λ list. bottom_of list A) (list_numbers m))

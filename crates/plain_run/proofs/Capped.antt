@@ -57,21 +57,26 @@ blocks_capped V k phase D (suc depth) h =
     All-append (λ (access : Access). grade_of access ≤ top_grade) row (phase_after V k phase (suc depth) D row)
     (row_capped D (ca_run_to V k phase D depth) (suc depth) h (blocks_capped V k phase D depth h)) (phase_capped V k phase (suc depth) D row h)
 
-pub row_read_capped : (D : List (List Row)) (e : Tree) (A accesses : List Access) (depth : ℕ) → IsPosed D e → AreCapped A → accesses ≡ A ++ sorted_block 0 depth D → AreCapped accesses
+pub row_read_capped : (D : List (List Row)) (e : Tree) (A accesses : List Access) (depth : ℕ) → IsPosed D e → AreCapped A
+    → accesses ≡ A ++ sorted_block 0 depth D → AreCapped accesses
 row_read_capped D e A accesses depth h a same = subst AreCapped (sym same) (row_capped D A depth (posed_capped D e h) a)
 
-pub run_capped : (V : List ℕ → ℕ) (k phase : ℕ) (D : List (List Row)) (e : Tree) (depth : ℕ) (accesses : List Access) → IsPosed D e → accesses ≡ ca_run_to V k phase D depth → AreCapped accesses
+pub run_capped : (V : List ℕ → ℕ) (k phase : ℕ) (D : List (List Row)) (e : Tree) (depth : ℕ) (accesses : List Access) → IsPosed D e
+    → accesses ≡ ca_run_to V k phase D depth → AreCapped accesses
 run_capped V k phase D e depth accesses h same = subst AreCapped (sym same) (blocks_capped V k phase D depth (posed_capped D e h))
 
 -- whether it is quiet at a depth, where the table has m lists
-pub quiet_at : (V : List ℕ → ℕ) (k phase m : ℕ) (D : List (List Row)) (A : List Access) (depth : ℕ) (b : Bool) → length D ≡ m → A ≡ ca_run_to V k phase D depth → b ≡ is_quiet V k m D A → b ≡ is_quiet V k (length D) D (ca_run_to V k phase D depth)
+pub quiet_at : (V : List ℕ → ℕ) (k phase m : ℕ) (D : List (List Row)) (A : List Access) (depth : ℕ) (b : Bool) → length D ≡ m → A ≡ ca_run_to V k phase D depth
+    → b ≡ is_quiet V k m D A → b ≡ is_quiet V k (length D) D (ca_run_to V k phase D depth)
 quiet_at V k phase m D A depth b e h q = q ∙ ap₂ (λ n B. is_quiet V k n D B) (sym e) h
 
 -- what follows a row that isn't at a phase's end, and one that is
-pub between : (V : List ℕ → ℕ) (k phase depth : ℕ) (D : List (List Row)) (A : List Access) (b : Bool) → ((depth % phase) == 0) ≡ false → phase_after V k phase depth D A ≡ []
+pub between : (V : List ℕ → ℕ) (k phase depth : ℕ) (D : List (List Row)) (A : List Access) (b : Bool) → ((depth % phase) == 0) ≡ false
+    → phase_after V k phase depth D A ≡ []
 between V k phase depth D A b f = ap (λ t. cond {A = List Access} t (grades_of_choice D A (choice V k (length D) A)) []) f
 
-pub at_end : (V : List ℕ → ℕ) (k phase depth m : ℕ) (D : List (List Row)) (A : List Access) (chosen : Option ℕ) → ((depth % phase) == 0) ≡ true → length D ≡ m → chosen ≡ choice V k m A → phase_after V k phase depth D A ≡ grades_of_choice D A chosen
+pub at_end : (V : List ℕ → ℕ) (k phase depth m : ℕ) (D : List (List Row)) (A : List Access) (chosen : Option ℕ) → ((depth % phase) == 0) ≡ true → length D ≡ m
+    → chosen ≡ choice V k m A → phase_after V k phase depth D A ≡ grades_of_choice D A chosen
 at_end V k phase depth m D A chosen t e same =
     ap (λ b. cond {A = List Access} b (grades_of_choice D A (choice V k (length D) A)) []) t ∙ ap (grades_of_choice D A) (ap (λ n. choice V k n A) e ∙ sym same)
 
@@ -79,5 +84,6 @@ at_end V k phase depth m D A chosen t e same =
 pub highs_apart : (V : List ℕ → ℕ) (m : ℕ) (A : List Access) (k : ℕ) (items : List Item) → items ≡ map (by_high V m A) (candidates V k m A) → AreDistinct items
 highs_apart V m A k items same = subst AreDistinct (sym same) (made_apart (by_high V m A) (candidates V k m A) (λ o. refl) (AllPairs-filter (λ (a : ℕ) (b : ℕ). a ≢ b) (λ object. is_viable V k m A object && nat_lt 0 (length (unknown_lists m A object))) (seen_objects A) (seen_distinct A)))
 
-pub answer_apart : (V : List ℕ → ℕ) (k m : ℕ) (D : List (List Row)) (A : List Access) (items : List Item) → items ≡ map (scored V D) (item_objects (first_seen V k m A)) → AreDistinct items
+pub answer_apart : (V : List ℕ → ℕ) (k m : ℕ) (D : List (List Row)) (A : List Access) (items : List Item)
+    → items ≡ map (scored V D) (item_objects (first_seen V k m A)) → AreDistinct items
 answer_apart V k m D A items same = subst AreDistinct (sym same) (made_apart (scored V D) (item_objects (first_seen V k m A)) (λ o. refl) (objects_from_distinct (first_seen V k m A) (first_distinct V k m A)))

@@ -12,7 +12,8 @@ use Rattle.plain_run.specs.Posed.{IsPosed, AreCapped}
 use Rattle.plain_run.proofs.Making.{posed_capped, read_capped}
 
 -- no grade that is read is above the greatest
-pub block_capped : (list depth : ℕ) (D : List (List Row)) → All (λ rows. All (λ (row : Row). row.grade ≤ top_grade) rows) D → AreCapped (sorted_block list depth D)
+pub block_capped : (list depth : ℕ) (D : List (List Row)) → All (λ rows. All (λ (row : Row). row.grade ≤ top_grade) rows) D
+    → AreCapped (sorted_block list depth D)
 block_capped list depth [] h = All-nil (λ (access : Access). grade_of access ≤ top_grade)
 block_capped list depth (rows ∷ D) h =
     All-cons (λ (access : Access). grade_of access ≤ top_grade) _ (sorted_block (list + 1) depth D) (read_capped rows (depth - 1) (h 0 rows (omega arith)))
@@ -27,5 +28,6 @@ pub capped_to : (D : List (List Row)) (e : Tree) (depth : ℕ) (accesses : List 
 capped_to D e depth accesses h same = subst AreCapped (sym same) (descent_capped D depth (posed_capped D e h))
 
 -- whether it is quiet at a depth, where the table has m lists
-pub quiet_at : (V : List ℕ → ℕ) (k m : ℕ) (D : List (List Row)) (A : List Access) (depth : ℕ) (b : Bool) → length D ≡ m → A ≡ nra_run_to D depth → b ≡ is_quiet V k m D A → b ≡ is_quiet V k (length D) D (nra_run_to D depth)
+pub quiet_at : (V : List ℕ → ℕ) (k m : ℕ) (D : List (List Row)) (A : List Access) (depth : ℕ) (b : Bool) → length D ≡ m → A ≡ nra_run_to D depth
+    → b ≡ is_quiet V k m D A → b ≡ is_quiet V k (length D) D (nra_run_to D depth)
 quiet_at V k m D A depth b e h q = q ∙ ap₂ (λ n B. is_quiet V k n D B) (sym e) h

@@ -29,7 +29,8 @@ each_once_step xs x =
       | inr f ↦ cond-false (has x (each_once xs)) (each_once xs) (each_once xs ++ x ∷ []) f ∙ sym (each_once_push_new xs x (has_not x (each_once xs) f))
     ]
 
-pub each_once_more : {X : Type 0} → (f : X → ℕ) (D : List X) (i : ℕ) (d : X) (old new : List ℕ) → i < length D → old ≡ each_once (map f (take i D)) → new ≡ cond (has (f (slice_index_or D i d)) old) old (old ++ f (slice_index_or D i d) ∷ []) → new ≡ each_once (map f (take (i + 1) D))
+pub each_once_more : {X : Type 0} → (f : X → ℕ) (D : List X) (i : ℕ) (d : X) (old new : List ℕ) → i < length D → old ≡ each_once (map f (take i D))
+    → new ≡ cond (has (f (slice_index_or D i d)) old) old (old ++ f (slice_index_or D i d) ∷ []) → new ≡ each_once (map f (take (i + 1) D))
 each_once_more f D i d old new l h e =
     e ∙ ap (λ z. cond (has (f (slice_index_or D i d)) z) z (z ++ f (slice_index_or D i d) ∷ [])) h
     ∙ each_once_step (map f (take i D)) (f (slice_index_or D i d))
@@ -39,7 +40,9 @@ each_once_more f D i d old new l h e =
 pub posed_capped : (D : List (List Row)) (e : Tree) → IsPosed D e → All (λ rows. All (λ (row : Row). row.grade ≤ top_grade) rows) D
 posed_capped D e h = λ i d l. (h.table.1.ranked i d l).capped
 
-pub grades_capped : (D : List (List Row)) (e : Tree) (f : List Row → ℕ) (grades : List ℕ) → IsPosed D e → ((rows : List Row) → All (λ (row : Row). row.grade ≤ top_grade) rows → f rows ≤ top_grade) → take (length D) grades ≡ map f D → AreGrades (take (length D) grades)
+pub grades_capped : (D : List (List Row)) (e : Tree) (f : List Row → ℕ) (grades : List ℕ) → IsPosed D e
+    → ((rows : List Row) → All (λ (row : Row). row.grade ≤ top_grade) rows → f rows ≤ top_grade) → take (length D) grades ≡ map f D
+    → AreGrades (take (length D) grades)
 grades_capped D e f grades h low same =
     subst AreGrades (sym same) (all_from_members (λ g. g ≤ top_grade) (map f D) (λ g c.
     let from = contains_map_from f D g c in
@@ -50,10 +53,12 @@ read_capped [] place h = omega arith
 read_capped (row ∷ rows) zero h = h 0 row (omega arith)
 read_capped (row ∷ rows) (suc place) h = read_capped rows place (λ k d l. h (suc k) d (omega arith))
 
-pub aggregate_capped : (D : List (List Row)) (e : Tree) (object : ℕ) (grades : List ℕ) → IsPosed D e → take (length D) grades ≡ map (λ rows. grade_in rows object) D → AreGrades (take (length D) grades)
+pub aggregate_capped : (D : List (List Row)) (e : Tree) (object : ℕ) (grades : List ℕ) → IsPosed D e
+    → take (length D) grades ≡ map (λ rows. grade_in rows object) D → AreGrades (take (length D) grades)
 aggregate_capped D e object grades h same =
     grades_capped D e (λ rows. grade_in rows object) grades h (λ rows a. subst (λ g. g ≤ top_grade) (grade_at_place rows object) (read_capped rows (place_in rows object) a)) same
 
-pub threshold_capped : (D : List (List Row)) (e : Tree) (depth : ℕ) (grades : List ℕ) → IsPosed D e → take (length D) grades ≡ map (λ rows. (row_at rows depth).grade) D → AreGrades (take (length D) grades)
+pub threshold_capped : (D : List (List Row)) (e : Tree) (depth : ℕ) (grades : List ℕ) → IsPosed D e
+    → take (length D) grades ≡ map (λ rows. (row_at rows depth).grade) D → AreGrades (take (length D) grades)
 threshold_capped D e depth grades h same =
     grades_capped D e (λ rows. (row_at rows depth).grade) grades h (λ rows a. read_capped rows (depth - 1) a) same

@@ -11,14 +11,16 @@ unwrap_get (x ∷ xs) zero d = refl
 unwrap_get (x ∷ xs) (suc i) d = unwrap_get xs i d
 
 -- the first row with the object is at its place
-pub place_found : (rows : List Row) (place object : ℕ) → place < length rows → (slice_index_or rows place no_row).object ≡ object → ((k : ℕ) → k < place → (slice_index_or rows k no_row).object ≢ object) → place_in rows object ≡ place
+pub place_found : (rows : List Row) (place object : ℕ) → place < length rows → (slice_index_or rows place no_row).object ≡ object
+    → ((k : ℕ) → k < place → (slice_index_or rows k no_row).object ≢ object) → place_in rows object ≡ place
 place_found [] place object l e h = absurd (omega arith)
 place_found (row ∷ rows) zero object l e h = cond-true (row.object == object) 0 (suc (place_in rows object)) (eq-eqb row.object object e)
 place_found (row ∷ rows) (suc place) object l e h =
     cond-false (row.object == object) 0 (suc (place_in rows object)) (ne_eqb row.object object (h 0 (omega arith)))
     ∙ ap suc (place_found rows place object (omega arith) e (λ k m. h (suc k) (omega arith)))
 
-pub place_absent : (rows : List Row) (object : ℕ) → ((k : ℕ) → k < length rows → (slice_index_or rows k no_row).object ≢ object) → place_in rows object ≡ length rows
+pub place_absent : (rows : List Row) (object : ℕ) → ((k : ℕ) → k < length rows → (slice_index_or rows k no_row).object ≢ object)
+    → place_in rows object ≡ length rows
 place_absent [] object h = refl
 place_absent (row ∷ rows) object h =
     cond-false (row.object == object) 0 (suc (place_in rows object)) (ne_eqb row.object object (h 0 (omega arith)))

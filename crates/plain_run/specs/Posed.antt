@@ -4,9 +4,9 @@ use Rattle.ranked_list.specs.declared.row.Row.{Row}
 use Rattle.ranked_list.specs.Table.{IsTable, top_grade}
 use Rattle.monotone_fn.specs.Tree.{Tree}
 use Rattle.monotone_fn.specs.Shape.{list_count}
-use Rattle.monotone_fn.specs.declared.limits.TheConstants.{MAX_LISTS}
 use Rattle.topk_theory.specs.declared.access.Access.{Access}
 use Rattle.topk_theory.specs.Transcript.{grade_of}
+use Rattle.limits.specs.declared.TheConstants.{MAX_LISTS}
 
 -- the lists are a table, at most eight of them, and as many as the expression has
 pub record IsPosed (D : List (List Row)) (expr : Tree) : Type 0 where

@@ -10,8 +10,9 @@ ghost use Rattle.plain_run.specs.Posed.{AreCapped};
 
 use super::Memory;
 use super::each_once::add_object;
-use monotone_fn::{Expr, MAX_LISTS};
-use ranked_list::{Item, TOP_GRADE};
+use limits::{MAX_LISTS, TOP_GRADE};
+use monotone_fn::Expr;
+use ranked_list::Item;
 use std::alloc::Global;
 use topk_theory::Access;
 

@@ -8,7 +8,8 @@ ghost use Rattle.monotone_fn.specs.Value.{value};
 ghost use Rattle.plain_run.specs.Posed.{IsPosed, no_row};
 
 use super::Memory;
-use monotone_fn::{Expr, MAX_LISTS};
+use limits::MAX_LISTS;
+use monotone_fn::Expr;
 use ranked_list::{MemList, Row};
 use std::alloc::Global;
 

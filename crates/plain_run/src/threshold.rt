@@ -8,7 +8,8 @@ ghost use Rattle.plain_run.specs.Posed.{IsPosed};
 use super::Memory;
 use super::order::first_k;
 use super::table::{aggregate, count_of, objects_of, place_in, row_at};
-use monotone_fn::{Expr, MAX_LISTS};
+use limits::MAX_LISTS;
+use monotone_fn::Expr;
 use ranked_list::{Item, MemList};
 use std::alloc::Global;
 

@@ -32,7 +32,8 @@ read_once bytes p q is_p is_q =
 no_memory : (fault : QueryFault) (refusal : Refusal) → fault ≡ Memory → text_refusal fault ≡ Some refusal → ⊥
 no_memory fault refusal is e = let none : text_refusal Memory ≡ Some refusal = subst (λ f. text_refusal f ≡ Some refusal) is e in absurd cc
 
-read_faultless : (bytes : List ℕ) (q : Query) (fault : QueryFault) (refusal : Refusal) → Reads bytes (Ok q) → text_refusal fault ≡ Some refusal → Reads bytes (Err fault) → ⊥
+read_faultless : (bytes : List ℕ) (q : Query) (fault : QueryFault) (refusal : Refusal) → Reads bytes (Ok q) → text_refusal fault ≡ Some refusal
+    → Reads bytes (Err fault) → ⊥
 read_faultless bytes q fault refusal is_q e bad =
     elim (read_back bytes (Err fault) bad q is_q.0.lawful is_q.1 is_q.0.text) [
       | inl other ↦ absurd cc
@@ -76,7 +77,8 @@ IsOfLists cause = ⊥
 of_lists : (cause : Cause) → Contains list_causes cause → IsOfLists cause
 of_lists cause h = member_of_all IsOfLists list_causes cause (All-from_recursion IsOfLists list_causes (tt, (tt, (tt, (tt, (tt, tt)))))) h
 
-gives_here : (x : Line) (q : Query) (lists : List Listed) (cause : Cause) (refusal : Refusal) → IsHere x q lists → ListsGive q lists cause refusal → Gives x cause refusal
+gives_here : (x : Line) (q : Query) (lists : List Listed) (cause : Cause) (refusal : Refusal) → IsHere x q lists → ListsGive q lists cause refusal
+    → Gives x cause refusal
 gives_here x q lists Cause.many_queries refusal here h = absurd h
 gives_here x q lists Cause.text refusal here h = absurd h
 gives_here x q lists Cause.unknown_list refusal here h = absurd h
@@ -87,7 +89,8 @@ gives_here x q lists Cause.counts_differ refusal here h = record { query = q; li
 gives_here x q lists Cause.k_above_count refusal here h = record { query = q; lists = lists; reads = here.reads; listed = here.listed; holds = h }
 gives_here x q lists Cause.no_random refusal here h = record { query = q; lists = lists; reads = here.reads; listed = here.listed; holds = h }
 
-gives_back : (x : Line) (q : Query) (lists : List Listed) (cause : Cause) (refusal : Refusal) → IsHere x q lists → IsOfLists cause → Gives x cause refusal → ListsGive q lists cause refusal
+gives_back : (x : Line) (q : Query) (lists : List Listed) (cause : Cause) (refusal : Refusal) → IsHere x q lists → IsOfLists cause → Gives x cause refusal
+    → ListsGive q lists cause refusal
 gives_back x q lists Cause.many_queries refusal here of h = absurd of
 gives_back x q lists Cause.text refusal here of h = absurd of
 gives_back x q lists Cause.unknown_list refusal here of h = absurd of
@@ -129,7 +132,8 @@ all_cons : (P : Cause → Type 0) (cause : Cause) (causes : List Cause) → P ca
 all_cons P cause causes here rest =
     all_from_members P (cause ∷ causes) (λ other h. elim (contains_cases cause causes other h) [ inl same ↦ subst P same here | inr later ↦ member_of_all P causes other rest later ])
 
-none_before : (x : Line) (q : Query) (lists : List Listed) (earlier : List Cause) → IsHere x q lists → ((cause : Cause) → Contains earlier cause → IsOfLists cause) → NoneOf (ListsGive q lists) earlier
+none_before : (x : Line) (q : Query) (lists : List Listed) (earlier : List Cause) → IsHere x q lists
+    → ((cause : Cause) → Contains earlier cause → IsOfLists cause) → NoneOf (ListsGive q lists) earlier
     → NoneOf (Gives x) (Cause.many_queries ∷ Cause.text ∷ Cause.unknown_list ∷ earlier)
 none_before x q lists earlier here of none =
     let rest : All (Never x) earlier = all_from_members (Never x) earlier
@@ -166,7 +170,8 @@ faults_name_none Memory = tt
 text_names_none : (fault : QueryFault) (refusal : Refusal) → text_refusal fault ≡ Some refusal → refused_lists refusal ≡ []
 text_names_none fault refusal e = subst (λ o. IfSome o (λ r. refused_lists r ≡ [])) e (faults_name_none fault)
 
-pub refused_text : (x : Line) (fault : QueryFault) (refusal : Refusal) → x.number ≤ most_queries → text_refusal fault ≡ Some refusal → Reads x.bytes (Err fault) → IsRefused admission_causes x refusal None
+pub refused_text : (x : Line) (fault : QueryFault) (refusal : Refusal) → x.number ≤ most_queries → text_refusal fault ≡ Some refusal
+    → Reads x.bytes (Err fault) → IsRefused admission_causes x refusal None
 refused_text x fault refusal few e reads = record {
   first = record {
     cause = Cause.text;
@@ -180,7 +185,8 @@ refused_text x fault refusal few e reads = record {
   named = subst (All (λ list. list < 0)) (sym (text_names_none fault refusal e)) (All-from_recursion (λ list. list < 0) [] tt);
 }
 
-pub refused_unknown : (x : Line) (q : Query) (refusal : Refusal) (list : ℕ) → x.number ≤ most_queries → Reads x.bytes (Ok q) → refusal ≡ UnknownList list → position is_none (map x.view.listed q.names) ≡ Some list → IsRefused admission_causes x refusal (Some q)
+pub refused_unknown : (x : Line) (q : Query) (refusal : Refusal) (list : ℕ) → x.number ≤ most_queries → Reads x.bytes (Ok q) → refusal ≡ UnknownList list
+    → position is_none (map x.view.listed q.names) ≡ Some list → IsRefused admission_causes x refusal (Some q)
 refused_unknown x q refusal list few reads is unknown =
     let within : list < length (map x.view.listed q.names) = (position-Some is_none (map x.view.listed q.names) list None unknown).0 in
     let below : list < length q.names = omega (arith, within, length-map q.names x.view.listed) in
@@ -198,7 +204,8 @@ refused_unknown x q refusal list few reads is unknown =
     }
 
 -- a cause that lies in the lists
-pub refused_lists_why : (x : Line) (q : Query) (lists : List Listed) (refusal : Refusal) → IsHere x q lists → Screens q lists (Err refusal) → IsRefused admission_causes x refusal (Some q)
+pub refused_lists_why : (x : Line) (q : Query) (lists : List Listed) (refusal : Refusal) → IsHere x q lists → Screens q lists (Err refusal)
+    → IsRefused admission_causes x refusal (Some q)
 refused_lists_why x q lists refusal here why =
     let f = why.0 in
     let before : (cause : Cause) → Contains f.earlier cause → IsOfLists cause = λ cause h. of_lists cause (subst (λ cs. Contains cs cause) (sym f.order) (Contains-append_left f.earlier (f.cause ∷ f.later) cause h)) in
@@ -216,7 +223,8 @@ refused_lists_why x q lists refusal here why =
     }
 
 -- a query is ready
-pub ready_admitted : (x : Line) (ready : Ready) (lists : List Listed) → IsHere x ready.query lists → Screens ready.query lists (Ok ready.count) → map (λ list. list.source) lists ≡ ready.sources.items → IsAdmitted x ready
+pub ready_admitted : (x : Line) (ready : Ready) (lists : List Listed) → IsHere x ready.query lists → Screens ready.query lists (Ok ready.count)
+    → map (λ list. list.source) lists ≡ ready.sources.items → IsAdmitted x ready
 ready_admitted x ready lists here screens sources =
     let many = listed_many x.view ready.query lists here.listed in
     let some : 0 < length lists = omega (arith, many, lists_counted ready.query here.reads.0.lawful, here.reads.1.lists.some) in
@@ -240,10 +248,12 @@ ready_admitted x ready lists here screens sources =
     }
 
 -- a query that was weighed over the lists of the line's view
-pub ready_weighed : (x : Line) (ready : Ready) → x.number ≤ most_queries → Reads x.bytes (Ok ready.query) → Weighs x.view ready.query (Fits ready.count ready.sources) → IsAdmitted x ready
+pub ready_weighed : (x : Line) (ready : Ready) → x.number ≤ most_queries → Reads x.bytes (Ok ready.query)
+    → Weighs x.view ready.query (Fits ready.count ready.sources) → IsAdmitted x ready
 ready_weighed x ready few reads weighed = ready_admitted x ready weighed.0 (record { few = few; reads = reads; listed = weighed.1 }) weighed.2 weighed.3
 
-pub query_weighed : (x : Line) (q : Query) (refusal : Refusal) → x.number ≤ most_queries → Reads x.bytes (Ok q) → Weighs x.view q (NotReady refusal) → IsRefused admission_causes x refusal (Some q)
+pub query_weighed : (x : Line) (q : Query) (refusal : Refusal) → x.number ≤ most_queries → Reads x.bytes (Ok q) → Weighs x.view q (NotReady refusal)
+    → IsRefused admission_causes x refusal (Some q)
 query_weighed x q refusal few reads weighed =
     elim weighed [
       | inl unknown ↦ refused_unknown x q refusal unknown.0 few reads unknown.1 unknown.2

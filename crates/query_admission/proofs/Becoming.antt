@@ -23,7 +23,8 @@ use Rattle.query_admission.specs.Becomes.{Becomes}
 use Rattle.query_admission.proofs.Admitting.{read_once, lists_once}
 
 -- what admission refuses is refused
-pub refused_line : (x : Line) (refusal : Refusal) (query : Option Query) (count : ℕ) → IsRefused admission_causes x refusal query → Becomes x query count (Refused refusal)
+pub refused_line : (x : Line) (refusal : Refusal) (query : Option Query) (count : ℕ) → IsRefused admission_causes x refusal query
+    → Becomes x query count (Refused refusal)
 refused_line x refusal query count refused =
     let f = refused.first in
     record {
@@ -39,7 +40,8 @@ refused_line x refusal query count refused =
       named = refused.named;
     }
 
-pub refused_writable : (query : Option Query) (x : Line) (causes : List Cause) (refusal : Refusal) → IsRefused causes x refusal query → IsOutcome query (Refused refusal)
+pub refused_writable : (query : Option Query) (x : Line) (causes : List Cause) (refusal : Refusal) → IsRefused causes x refusal query
+    → IsOutcome query (Refused refusal)
 refused_writable None x causes refusal refused = refused.named
 refused_writable (Some q) x causes refusal refused = refused.named
 
@@ -54,7 +56,8 @@ told_once (rows ∷ D) (others ∷ E) e =
     ap (λ r. r ∷ D) here ∙ ap (λ ds. others ∷ ds) (told_once D E rest)
 
 -- a query that is ready is refused for its room
-pub full_line : (x : Line) (ready : Ready) (D : List (List Row)) (room count : ℕ) → IsAdmitted x ready → AreTold x.view ready.query D → IsOverRoom ready.query ready.count D room → Becomes x (Some ready.query) count (Refused (RoomFull room))
+pub full_line : (x : Line) (ready : Ready) (D : List (List Row)) (room count : ℕ) → IsAdmitted x ready → AreTold x.view ready.query D
+    → IsOverRoom ready.query ready.count D room → Becomes x (Some ready.query) count (Refused (RoomFull room))
 full_line x ready D room count admitted told over = record {
   first = record {
     cause = Cause.room_full;
@@ -75,7 +78,8 @@ full_line x ready D room count admitted told over = record {
 }
 
 -- a query that is ready and fits its room isn't refused
-fits_room : (x : Line) (ready : Ready) (D : List (List Row)) → IsAdmitted x ready → AreTold x.view ready.query D → ((room : ℕ) → ¬ IsOverRoom ready.query ready.count D room) → (refusal : Refusal) → ¬ Gives x Cause.room_full refusal
+fits_room : (x : Line) (ready : Ready) (D : List (List Row)) → IsAdmitted x ready → AreTold x.view ready.query D
+    → ((room : ℕ) → ¬ IsOverRoom ready.query ready.count D room) → (refusal : Refusal) → ¬ Gives x Cause.room_full refusal
 fits_room x ready D admitted told fits refusal over =
     let q = ready.query in
     let h = over.holds in
@@ -92,7 +96,8 @@ one_more_cause : (P : Cause → Type 0) (causes : List Cause) (cause : Cause) �
 one_more_cause P causes cause all here = All-push P causes cause all here
 
 -- a query that is ready is answered
-pub answered_line : (x : Line) (ready : Ready) (D : List (List Row)) (answer : Answer) → IsAdmitted x ready → AreTold x.view ready.query D → AnswersOver ready D answer → Becomes x (Some ready.query) ready.count (Answered answer)
+pub answered_line : (x : Line) (ready : Ready) (D : List (List Row)) (answer : Answer) → IsAdmitted x ready → AreTold x.view ready.query D
+    → AnswersOver ready D answer → Becomes x (Some ready.query) ready.count (Answered answer)
 answered_line x ready D answer admitted told over = record {
   unrefused = one_more_cause (λ cause. (refusal : Refusal) → ¬ Gives x cause refusal) admission_causes Cause.room_full admitted.unrefused (fits_room x ready D admitted told over.roomy);
   reads = admitted.reads;
@@ -104,11 +109,13 @@ answered_line x ready D answer admitted told over = record {
 }
 
 -- what costs may be
-cost_small : (cost : Option Costs) → IfSome cost (λ c. IsCount c.sorted × IsCount c.random) → ((unwrap_or cost (record { sorted = 1; random = 1 })).sorted ≤ 1000000) × ((unwrap_or cost (record { sorted = 1; random = 1 })).random ≤ 1000000)
+pub cost_small : (cost : Option Costs) → IfSome cost (λ c. IsCount c.sorted × IsCount c.random)
+    → ((unwrap_or cost (record { sorted = 1; random = 1 })).sorted ≤ 1000000) × ((unwrap_or cost (record { sorted = 1; random = 1 })).random ≤ 1000000)
 cost_small None h = (omega arith, omega arith)
 cost_small (Some cost) h = (h.0.1, h.1.1)
 
-pub answered_writable : (ready : Ready) (answer : Answer) → IsReady ready → IsAnswered ready.query ready.count answer → IsOutcome (Some ready.query) (Answered answer)
+pub answered_writable : (ready : Ready) (answer : Answer) → IsReady ready → IsAnswered ready.query ready.count answer
+    → IsOutcome (Some ready.query) (Answered answer)
 answered_writable ready answer is right =
     let costs = cost_small ready.query.cost is.lawful.cost in
     record { sorted = costs.0; random = costs.1; accesses = answered_short ready.query ready.count answer is.lawful is.expr.lists.some is.fits is.counted right }

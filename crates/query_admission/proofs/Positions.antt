@@ -3,6 +3,7 @@ use Rattle.std.proofs.Common.{◌≡◌, ℕ, zero, suc, ◌+◌, ◌<◌, ◌�
 use Rattle.std.specs.List.{position, position_or_len}
 use Rattle.std.proofs.lemmas.List.Quantifiers.{position-Some}
 use Rattle.std.proofs.lemmas.Bool.{ltb-false}
+use Rattle.query_text.proofs.ListLaws.{none_is}
 use Rattle.query_admission.specs.View.{most_objects, size_passes, is_closed, is_large, size_at, count_of}
 use Rattle.query_admission.specs.declared.lists.Listed.{Listed}
 
@@ -14,18 +15,13 @@ nothing = record { size = None; random = false; source = 0 }
 pub found_within : (test : Listed → Bool) (lists : List Listed) (place : ℕ) → position test lists ≡ Some place → place < length lists
 found_within test lists place e = (position-Some test lists place nothing e).0
 
-pub found_passes : (test : Listed → Bool) (lists : List Listed) (place : ℕ) → position test lists ≡ Some place → test (slice_index_or lists place nothing) ≡ true
+pub found_passes : (test : Listed → Bool) (lists : List Listed) (place : ℕ) → position test lists ≡ Some place
+    → test (slice_index_or lists place nothing) ≡ true
 found_passes test lists place e = (position-Some test lists place nothing e).1
 
 -- where none is found none passes
-past_none : (n m : ℕ) → cond (nat_lt n m) (Some n) None ≡ None → m ≤ n
-past_none n m h = by_test (nat_lt n m) refl h
-  where
-    by_test : (b : Bool) → nat_lt n m ≡ b → cond b (Some n) None ≡ None → m ≤ n
-    by_test true is h = absurd cc
-    by_test false is h = ltb-false n m is
-
-none_passes : (test : Listed → Bool) (lists : List Listed) (place : ℕ) → length lists ≤ position_or_len test lists → place < length lists → test (slice_index_or lists place nothing) ≡ false
+none_passes : (test : Listed → Bool) (lists : List Listed) (place : ℕ) → length lists ≤ position_or_len test lists → place < length lists
+    → test (slice_index_or lists place nothing) ≡ false
 none_passes test [] place h l = absurd (omega arith)
 none_passes test (list ∷ lists) zero h l = by_test (test list) refl h
   where
@@ -38,8 +34,9 @@ none_passes test (list ∷ lists) (suc place) h l = none_passes test lists place
     by_test true h = absurd (omega arith)
     by_test false h = omega arith
 
-pub none_at : (test : Listed → Bool) (lists : List Listed) (place : ℕ) → position test lists ≡ None → place < length lists → test (slice_index_or lists place nothing) ≡ false
-none_at test lists place e l = none_passes test lists place (past_none (position_or_len test lists) (length lists) e) l
+pub none_at : (test : Listed → Bool) (lists : List Listed) (place : ℕ) → position test lists ≡ None → place < length lists
+    → test (slice_index_or lists place nothing) ≡ false
+none_at test lists place e l = none_passes test lists place (none_is (position_or_len test lists) (length lists) e) l
 
 -- a size that passes a test is stated
 pub passing_stated : (test : ℕ → Bool) (size : Option ℕ) → size_passes test size ≡ true → size ≡ None → ⊥
@@ -47,7 +44,8 @@ passing_stated test None e none = absurd cc
 passing_stated test (Some size) e none = absurd cc
 
 -- a list that isn't large states a small size
-pub small_size : (lists : List Listed) (place size : ℕ) → position is_large lists ≡ None → place < length lists → (slice_index_or lists place nothing).size ≡ Some size → size ≤ most_objects
+pub small_size : (lists : List Listed) (place size : ℕ) → position is_large lists ≡ None → place < length lists
+    → (slice_index_or lists place nothing).size ≡ Some size → size ≤ most_objects
 small_size lists place size e l stated =
     let passes : size_passes (nat_lt most_objects) (slice_index_or lists place nothing).size ≡ false = none_at is_large lists place e l in
     ltb-false most_objects size (subst (λ s. size_passes (nat_lt most_objects) s ≡ false) stated passes)

@@ -12,7 +12,8 @@ use Rattle.query_admission.specs.Causes.{Line, Cause, admission_causes, Gives}
 use Rattle.query_admission.specs.Admission.{IsAdmitted}
 use Rattle.query_admission.proofs.Positions.{nothing, none_at, found_within, size_there}
 
-never : (x : Line) (ready : Ready) (cause : Cause) (place : ℕ) (refusal : Refusal) → IsAdmitted x ready → place < length admission_causes → slice_index_or admission_causes place cause ≡ cause → ¬ Gives x cause refusal
+never : (x : Line) (ready : Ready) (cause : Cause) (place : ℕ) (refusal : Refusal) → IsAdmitted x ready → place < length admission_causes
+    → slice_index_or admission_causes place cause ≡ cause → ¬ Gives x cause refusal
 never x ready cause place refusal admitted l is = member_of_all (λ c. (any : Refusal) → ¬ Gives x c any) admission_causes cause admitted.unrefused (place, l, is) refusal
 
 -- where a test is passed nowhere, no place is found
@@ -43,7 +44,8 @@ all_same x ready admitted = no_place (position (differs ready.count) admitted.li
 same_number : (m n : ℕ) → not (m == n) ≡ false → m ≡ n
 same_number m n e = eqb-true m n (not-false (m == n) e)
 
-pub admitted_states : (x : Line) (ready : Ready) (admitted : IsAdmitted x ready) (place : ℕ) → place < length admitted.lists → (slice_index_or admitted.lists place nothing).size ≡ Some ready.count
+pub admitted_states : (x : Line) (ready : Ready) (admitted : IsAdmitted x ready) (place : ℕ) → place < length admitted.lists
+    → (slice_index_or admitted.lists place nothing).size ≡ Some ready.count
 admitted_states x ready admitted place within =
     let lists = admitted.lists in
     let opened : is_none (slice_index_or lists place nothing).size ≡ false = none_at is_closed lists place (all_opened x ready admitted) within in
@@ -53,7 +55,8 @@ admitted_states x ready admitted place within =
     stated.1 ∙ ap Some number
 
 -- where the algorithm asks for grades each list offers random access
-pub admitted_offers : (x : Line) (ready : Ready) (admitted : IsAdmitted x ready) → IsTrue (asks_grades ready.query.algorithm) → (place : ℕ) → place < length admitted.lists → (slice_index_or admitted.lists place nothing).random ≡ true
+pub admitted_offers : (x : Line) (ready : Ready) (admitted : IsAdmitted x ready) → IsTrue (asks_grades ready.query.algorithm) → (place : ℕ)
+    → place < length admitted.lists → (slice_index_or admitted.lists place nothing).random ≡ true
 admitted_offers x ready admitted asks place within =
     let offered : position lacks_random admitted.lists ≡ None = no_place (position lacks_random admitted.lists) (λ at e.
     never x ready Cause.no_random 7 (NoRandom at) admitted (omega arith) refl

@@ -12,7 +12,8 @@ use Rattle.query_admission.specs.declared.lists.Listed.{Listed}
 use Rattle.query_admission.proofs.Positions.{found_within}
 
 -- the lists that a refusal names are lists of the query
-pub lists_named : (q : Query) (lists : List Listed) (cause : Cause) (refusal : Refusal) → 0 < length lists → ListsGive q lists cause refusal → All (λ list. list < length lists) (refused_lists refusal)
+pub lists_named : (q : Query) (lists : List Listed) (cause : Cause) (refusal : Refusal) → 0 < length lists → ListsGive q lists cause refusal
+    → All (λ list. list < length lists) (refused_lists refusal)
 lists_named q lists Cause.many_queries refusal some h = absurd h
 lists_named q lists Cause.text refusal some h = absurd h
 lists_named q lists Cause.unknown_list refusal some h = absurd h
@@ -33,7 +34,8 @@ lists_named q lists Cause.no_random refusal some h =
     (All-from_recursion (λ list. list < length lists) (h.0 ∷ []) (found_within lacks_random lists h.0 h.3, tt))
 
 -- a cause that holds after others that don't is the first
-pub first_cause : (q : Query) (lists : List Listed) (cause : Cause) (earlier later : List Cause) (refusal : Refusal) → list_causes ≡ earlier ++ cause ∷ later → 0 < length lists
+pub first_cause : (q : Query) (lists : List Listed) (cause : Cause) (earlier later : List Cause) (refusal : Refusal) → list_causes ≡ earlier ++ cause ∷ later
+    → 0 < length lists
     → AllByRecursion (λ other. (any : Refusal) → ¬ ListsGive q lists other any) earlier → ListsGive q lists cause refusal → Screens q lists (Err refusal)
 first_cause q lists cause earlier later refusal order some none gives = (
   record {
@@ -48,5 +50,6 @@ first_cause q lists cause earlier later refusal order some none gives = (
 )
 
 -- where none of them holds there is none
-pub no_cause : (q : Query) (lists : List Listed) → AllByRecursion (λ other. (any : Refusal) → ¬ ListsGive q lists other any) list_causes → NoneOf (ListsGive q lists) list_causes
+pub no_cause : (q : Query) (lists : List Listed) → AllByRecursion (λ other. (any : Refusal) → ¬ ListsGive q lists other any) list_causes
+    → NoneOf (ListsGive q lists) list_causes
 no_cause q lists none = All-from_recursion (λ other. (any : Refusal) → ¬ ListsGive q lists other any) list_causes none

@@ -5,7 +5,8 @@ use Rattle.std.proofs.lemmas.Bool.{lt-ltb}
 use Rattle.query_admission.specs.declared.lists.Listed.{Listed}
 
 -- the first names are known, and the next one isn't: it is the first that has no list
-first_unknown_from : (known_by : List ℕ → Option Listed) (names : List (List ℕ)) (known : List Listed) (place : ℕ) (name : List ℕ) → map known_by (take place names) ≡ map Some known → slice_get names place ≡ Some name → known_by name ≡ None
+first_unknown_from : (known_by : List ℕ → Option Listed) (names : List (List ℕ)) (known : List Listed) (place : ℕ) (name : List ℕ)
+    → map known_by (take place names) ≡ map Some known → slice_get names place ≡ Some name → known_by name ≡ None
     → (position_or_len is_none (map known_by names) ≡ place) × (place < length (map known_by names))
 first_unknown_from known_by [] known place name so_far at none = absurd cc
 first_unknown_from known_by (first ∷ names) known zero name so_far at none =
@@ -21,7 +22,8 @@ first_unknown_from known_by (first ∷ names) (list ∷ known) (suc place) name 
     ap (λ o. cond (not (is_none o)) (1 + position_or_len is_none (map known_by names)) 0) found in
     (omega (arith, one, later.0), omega (arith, later.1))
 
-pub first_unknown : (known_by : List ℕ → Option Listed) (names : List (List ℕ)) (known : List Listed) (place : ℕ) (name : List ℕ) → map known_by (take place names) ≡ map Some known → Some name ≡ slice_get names place → None ≡ known_by name
+pub first_unknown : (known_by : List ℕ → Option Listed) (names : List (List ℕ)) (known : List Listed) (place : ℕ) (name : List ℕ)
+    → map known_by (take place names) ≡ map Some known → Some name ≡ slice_get names place → None ≡ known_by name
     → position is_none (map known_by names) ≡ Some place
 first_unknown known_by names known place name so_far at none =
     let p = first_unknown_from known_by names known place name so_far (sym at) (sym none) in
@@ -29,7 +31,8 @@ first_unknown known_by names known place name so_far at none =
     (ap (λ b. cond b (Some place) None) (lt-ltb place (length (map known_by names)) p.1))
 
 -- one more name is known
-pub known_more : (known_by : List ℕ → Option Listed) (names : List (List ℕ)) (known : List Listed) (place : ℕ) (name : List ℕ) (list : Listed) → map known_by (take place names) ≡ map Some known → Some name ≡ slice_get names place → Some list ≡ known_by name
+pub known_more : (known_by : List ℕ → Option Listed) (names : List (List ℕ)) (known : List Listed) (place : ℕ) (name : List ℕ) (list : Listed)
+    → map known_by (take place names) ≡ map Some known → Some name ≡ slice_get names place → Some list ≡ known_by name
     → map known_by (take (suc place) names) ≡ map Some (known ++ list ∷ [])
 known_more known_by [] known place name list so_far at found = absurd cc
 known_more known_by (first ∷ names) [] zero name list so_far at found =

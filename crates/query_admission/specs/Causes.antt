@@ -12,6 +12,7 @@ use Rattle.query_core.specs.Algorithms.{asks_grades}
 use Rattle.query_core.specs.OneAnswer.{IsOverRoom}
 use Rattle.query_admission.specs.View.{View, AreListed, AreTold, is_closed, is_large, differs, lacks_random, size_at, count_of}
 use Rattle.query_admission.specs.declared.lists.Listed.{Listed}
+use Rattle.limits.specs.declared.TheConstants.{MAX_QUERIES}
 
 -- a query line: the lists that it may name, its number in the input, from 1, and its bytes
 pub record Line : Type 0 where
@@ -21,7 +22,7 @@ pub record Line : Type 0 where
 
 -- the most query lines of an input
 abbrev pub most_queries : ℕ
-most_queries = 64
+most_queries = MAX_QUERIES
 
 -- what refuses a query line
 pub data Cause : Type 0 where
@@ -37,7 +38,8 @@ pub data Cause : Type 0 where
 
 -- the causes that are tried before a query runs, in their order; all causes
 abbrev pub admission_causes : List Cause
-admission_causes = Cause.many_queries ∷ Cause.text ∷ Cause.unknown_list ∷ Cause.not_opened ∷ Cause.too_large ∷ Cause.counts_differ ∷ Cause.k_above_count ∷ Cause.no_random ∷ []
+admission_causes =
+    Cause.many_queries ∷ Cause.text ∷ Cause.unknown_list ∷ Cause.not_opened ∷ Cause.too_large ∷ Cause.counts_differ ∷ Cause.k_above_count ∷ Cause.no_random ∷ []
 
 abbrev pub line_causes : List Cause
 line_causes = admission_causes ++ Cause.room_full ∷ []
@@ -69,11 +71,14 @@ pub record Over (x : Line) (P : Query → List Listed → Type 0) : Type 0 where
 -- a cause that lies in what a query's lists say of themselves gives this refusal
 abbrev pub ListsGive : Query → List Listed → Cause → Refusal → Type 0
 ListsGive q lists Cause.not_opened refusal = (list : ℕ) × (refusal ≡ NotOpened list) × (position is_closed lists ≡ Some list)
-ListsGive q lists Cause.too_large refusal = (list count : ℕ) × (refusal ≡ TooLarge list count) × (position is_large lists ≡ Some list) × (size_at lists list ≡ Some count)
+ListsGive q lists Cause.too_large refusal =
+    (list count : ℕ) × (refusal ≡ TooLarge list count) × (position is_large lists ≡ Some list) × (size_at lists list ≡ Some count)
 ListsGive q lists Cause.counts_differ refusal =
-    (n other m : ℕ) × (refusal ≡ CountsDiffer 0 n other m) × (count_of lists ≡ Some n) × (position (differs n) lists ≡ Some other) × (size_at lists other ≡ Some m)
+    (n other m : ℕ) × (refusal ≡ CountsDiffer 0 n other m) × (count_of lists ≡ Some n) × (position (differs n) lists ≡ Some other)
+    × (size_at lists other ≡ Some m)
 ListsGive q lists Cause.k_above_count refusal = (n : ℕ) × (refusal ≡ KAboveCount q.k n) × (count_of lists ≡ Some n) × (n < q.k)
-ListsGive q lists Cause.no_random refusal = (list : ℕ) × (refusal ≡ NoRandom list) × IsTrue (asks_grades q.algorithm) × (position lacks_random lists ≡ Some list)
+ListsGive q lists Cause.no_random refusal =
+    (list : ℕ) × (refusal ≡ NoRandom list) × IsTrue (asks_grades q.algorithm) × (position lacks_random lists ≡ Some list)
 ListsGive q lists other refusal = ⊥
 
 -- the cause holds of the line, and gives this refusal
@@ -82,7 +87,8 @@ Gives x Cause.many_queries refusal = (refusal ≡ ManyQueries most_queries) × (
 Gives x Cause.text refusal = (fault : QueryFault) × (text_refusal fault ≡ Some refusal) × Reads x.bytes (Err fault)
 Gives x Cause.unknown_list refusal = Spelled x (λ q. (list : ℕ) × (refusal ≡ UnknownList list) × (position is_none (map x.view.listed q.names) ≡ Some list))
 Gives x Cause.room_full refusal =
-    Over x (λ q lists. (D : List (List Row)) × (n room : ℕ) × (refusal ≡ RoomFull room) × AreTold x.view q D × (count_of lists ≡ Some n) × IsOverRoom q n D room)
+    Over x (λ q lists. (D : List (List Row)) × (n room : ℕ) × (refusal ≡ RoomFull room) × AreTold x.view q D × (count_of lists ≡ Some n)
+    × IsOverRoom q n D room)
 Gives x cause refusal = Over x (λ q lists. ListsGive q lists cause refusal)
 
 -- none of the causes holds

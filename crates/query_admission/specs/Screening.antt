@@ -34,7 +34,8 @@ Screens q lists (Err refusal) = IsFirstOf (ListsGive q lists) list_causes refusa
 
 -- what a query comes to over the lists of a view: a name has no list, or its lists are there and screened
 abbrev pub Weighs : View → Query → Weighed → Type 0
-Weighs view q (Ready count sources) = (lists : List Listed) × AreListed view q lists × Screens q lists (Ok count) × (map (λ list. list.source) lists ≡ sources.items)
+Weighs view q (Ready count sources) =
+    (lists : List Listed) × AreListed view q lists × Screens q lists (Ok count) × (map (λ list. list.source) lists ≡ sources.items)
 Weighs view q (NotReady refusal) =
     ((list : ℕ) × (refusal ≡ UnknownList list) × (position is_none (map view.listed q.names) ≡ Some list))
     ⊎ ((lists : List Listed) × AreListed view q lists × Screens q lists (Err refusal))

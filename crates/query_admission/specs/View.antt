@@ -3,10 +3,11 @@ use Rattle.std.specs.Prelude.{◌≡◌, ◌==◌, ℕ, Bool, false, not, nat_lt
 use Rattle.ranked_list.specs.declared.row.Row.{Row}
 use Rattle.query_text.specs.declared.query.Query.{Query}
 use Rattle.query_admission.specs.declared.lists.Listed.{Listed}
+use Rattle.limits.specs.declared.TheConstants.{MAX_OBJECTS}
 
 -- the most objects of a list that a query may name
 abbrev pub most_objects : ℕ
-most_objects = 200000
+most_objects = MAX_OBJECTS
 
 -- what is known by a name: what its list says of itself, None where no list has the name; and the list's rows, where they are told
 pub record View : Type 0 where

@@ -12,12 +12,10 @@ use super::lists::{Listed, Lists};
 use super::screen::screen;
 use super::seek::{Sought, seek};
 use cert_text::Refusal;
+use limits::{MAX_LISTS, MAX_QUERIES};
 use query_core::Ready;
 use query_text::{Query, QueryFault, read};
 use std::alloc::Global;
-
-/// The most query lines of an input.
-pub const MAX_QUERIES: u64 = 64;
 
 /// What a query comes to over lists: ready with its count and the numbers of its sources, or refused.
 #[derive(Debug, Drop)]
@@ -101,7 +99,7 @@ fn admit_query<L: Lists>(alloc: Global, lists: &L, query: Query) -> Result<Admit
 /// Finds the lists of a query, and weighs it against what they say of themselves.
 fn weigh<L: Lists>(alloc: Global, lists: &L, query: &Query) -> Result<Weighed, Memory>
     requires some { 0 < length query.now.names }
-    requires few { length query.now.names ≤ 8 }
+    requires few { length query.now.names ≤ MAX_LISTS }
     ensures { IfOk result (Weighs (L.view lists.now) query.now) }
 {
     let known = match seek(alloc, lists, &query.names) {

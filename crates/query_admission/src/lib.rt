@@ -7,9 +7,9 @@ mod lists;
 mod screen;
 mod seek;
 
-pub use admission::{MAX_QUERIES, admit};
+pub use admission::admit;
 pub use admitted::Admitted;
-pub use lists::{Listed, Lists, MAX_OBJECTS};
+pub use lists::{Listed, Lists};
 
 /// No memory was left.
 #[derive(Clone, Copy, Debug, PartialEq, Eq)]

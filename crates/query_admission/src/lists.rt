@@ -3,9 +3,6 @@
 ghost use Rattle.std.specs.Prelude.{◌≡◌};
 ghost use Rattle.query_admission.specs.View.{View};
 
-/// The most objects of a list that a query may name.
-pub const MAX_OBJECTS: u32 = 200_000;
-
 /// What a list says of itself.
 #[derive(Clone, Copy, Debug, PartialEq, Eq)]
 pub struct Listed {

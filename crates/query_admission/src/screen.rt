@@ -7,8 +7,9 @@ ghost use Rattle.query_admission.specs.View.{is_closed, is_large, differs, lacks
 ghost use Rattle.query_admission.specs.Causes.{Cause, ListsGive};
 ghost use Rattle.query_admission.specs.Screening.{Decides, Screens};
 
-use super::lists::{Listed, MAX_OBJECTS};
+use super::lists::Listed;
 use cert_text::Refusal;
+use limits::{MAX_LISTS, MAX_OBJECTS};
 use query_core::asks_grades;
 use query_text::Query;
 
@@ -62,7 +63,7 @@ fn first_lacking(lists: &[Listed]) -> Option<usize>
 
 /// The first list that wasn't opened, if there is one.
 fn not_opened(lists: &[Listed]) -> Option<Refusal>
-    requires { length lists.now ≤ 8 }
+    requires { length lists.now ≤ MAX_LISTS }
     ensures why { (query : AnyQuery) → Decides (ListsGive query lists.now Cause.not_opened) result }
     ensures none { IfNone result (position is_closed lists.now ≡ None) }
 {
@@ -74,7 +75,7 @@ fn not_opened(lists: &[Listed]) -> Option<Refusal>
 
 /// The first list that is too large, if there is one.
 fn too_large(lists: &[Listed]) -> Option<Refusal>
-    requires { length lists.now ≤ 8 }
+    requires { length lists.now ≤ MAX_LISTS }
     ensures why { (query : AnyQuery) → Decides (ListsGive query lists.now Cause.too_large) result }
     ensures none { IfNone result (position is_large lists.now ≡ None) }
 {
@@ -100,7 +101,7 @@ fn count_of(lists: &[Listed]) -> Option<u32>
 
 /// The first list that states another size than the first, if there is one.
 fn counts_differ(lists: &[Listed]) -> Option<Refusal>
-    requires few { length lists.now ≤ 8 }
+    requires few { length lists.now ≤ MAX_LISTS }
     requires small { position is_large lists.now ≡ None }
     ensures { (query : AnyQuery) → Decides (ListsGive query lists.now Cause.counts_differ) result }
 {
@@ -137,7 +138,7 @@ fn k_above_count(query: &Query, lists: &[Listed]) -> Option<Refusal>
 
 /// The first list without random access, where the query's algorithm makes random accesses.
 fn no_random(query: &Query, lists: &[Listed]) -> Option<Refusal>
-    requires { length lists.now ≤ 8 }
+    requires { length lists.now ≤ MAX_LISTS }
     ensures { Decides (ListsGive query.now lists.now Cause.no_random) result }
 {
     if !asks_grades(query.algorithm) {
@@ -152,7 +153,7 @@ fn no_random(query: &Query, lists: &[Listed]) -> Option<Refusal>
 /// The first cause for which a query isn't admitted over its lists, or the count of the query.
 pub(crate) fn screen(query: &Query, lists: &[Listed]) -> Result<u32, Refusal>
     requires some { 0 < length lists.now }
-    requires few { length lists.now ≤ 8 }
+    requires few { length lists.now ≤ MAX_LISTS }
     ensures { Screens query.now lists.now result }
 {
     if let Some(refusal) = not_opened(lists) {

@@ -5,6 +5,7 @@ ghost use Rattle.query_admission.specs.Screening.{IsSought};
 
 use super::Memory;
 use super::lists::{Listed, Lists};
+use limits::MAX_LISTS;
 use query_text::Names;
 use std::alloc::Global;
 
@@ -19,7 +20,7 @@ pub(crate) enum Sought {
 
 /// Finds the lists of these names.
 pub(crate) fn seek<L: Lists>(alloc: Global, lists: &L, names: &Names) -> Result<Sought, Memory>
-    requires { length names.now ≤ 8 }
+    requires { length names.now ≤ MAX_LISTS }
     ensures { IfOk result (IsSought (L.view lists.now) names.now) }
 {
     let mut known = Vec::new(alloc);

@@ -45,7 +45,8 @@ done_from_need m r e =
     not_grade : (l o : ℕ) → Grade l o ≡ Done → ⊥
     not_grade l o e = cc
 
-pub answers : (base : Base) (board : Held) (r : Reading) (items : List Item) → Keeps base board r → need_at base.transcript.lists r ≡ Done → ((others : List Item) → IsFirstK board.k board.items others → others ≡ items) → IsAnswer (shown base (need_at base.transcript.lists r)) items
+pub answers : (base : Base) (board : Held) (r : Reading) (items : List Item) → Keeps base board r → need_at base.transcript.lists r ≡ Done
+    → ((others : List Item) → IsFirstK board.k board.items others → others ≡ items) → IsAnswer (shown base (need_at base.transcript.lists r)) items
 answers base board r items kept done only =
     let V = value base.expr in
     let k : ℕ = base.k in

@@ -18,7 +18,8 @@ use Rattle.topk_theory.proofs.AgreementNames.{each_once_within, each_once_distin
 use Rattle.topk_theory.proofs.AgreementRows.{list_at_contains}
 use Rattle.topk_theory.proofs.Agreement.{agrees_gives, gives_grade}
 use Rattle.topk_theory.proofs.ThresholdLists.{contains_from_filter, none_from_any, length-map}
-use Rattle.topk_theory.proofs.ThresholdTables.{no_row, place_in-lt, object-at_place}
+use Rattle.ranked_list.proofs.RankLaws.{no_row}
+use Rattle.topk_theory.proofs.ThresholdTables.{place_in-lt, object-at_place}
 use Rattle.topk_theory.proofs.ThresholdDepth.{list_holds, table_holds}
 use Rattle.topk_theory.proofs.ThresholdRun.{row_object, random_block_lower}
 use Rattle.ta_core.specs.Reading.{Reading, grades_in_row, filled, filled_first, first_or_zero, with_new, row_added, grade_added, row_begun}
@@ -53,7 +54,8 @@ run_at D zero l = absurd (omega arith)
 run_at D (suc depth) l = let e : depth ≡ suc depth - 1 = omega arith in ap (λ d. ta_run_to D d ++ ta_block D (suc depth)) e
 
 -- with the grades of the row in place, the accesses of what waits are those of the whole objects
-asks_first : (n : ℕ) (D : List (List Row)) (depth : ℕ) (waiting : List ℕ) → IsTable n D → 1 ≤ depth → depth ≤ n → asks D depth waiting (filled_first (objects_at depth D) (bottoms_at depth D) waiting) ≡ flat_map (λ object. random_block 0 depth object D) waiting
+asks_first : (n : ℕ) (D : List (List Row)) (depth : ℕ) (waiting : List ℕ) → IsTable n D → 1 ≤ depth → depth ≤ n
+    → asks D depth waiting (filled_first (objects_at depth D) (bottoms_at depth D) waiting) ≡ flat_map (λ object. random_block 0 depth object D) waiting
 asks_first n D depth [] t positive within = refl
 asks_first n D depth (object ∷ waiting) t positive within =
     let g : List ℕ = grades_in_row object (objects_at depth D) (bottoms_at depth D) in
@@ -61,12 +63,16 @@ asks_first n D depth (object ∷ waiting) t positive within =
     ap (λ block. block ++ flat_map (λ other. random_block 0 depth other D) waiting)
     (ap (λ at. random_block at depth object (drop (length g) D)) (sym zero_on) ∙ sym (skips n D D 0 depth object t (λ rows h. h) positive within))
 
-first_grades : (n : ℕ) (D : List (List Row)) (depth : ℕ) (waiting : List ℕ) → IsTable n D → 1 ≤ depth → depth ≤ n → AreFirstGrades D waiting (filled_first (objects_at depth D) (bottoms_at depth D) waiting)
+first_grades : (n : ℕ) (D : List (List Row)) (depth : ℕ) (waiting : List ℕ) → IsTable n D → 1 ≤ depth → depth ≤ n
+    → AreFirstGrades D waiting (filled_first (objects_at depth D) (bottoms_at depth D) waiting)
 first_grades n D depth [] t positive within = tt
 first_grades n D depth (object ∷ waiting) t positive within = row_grades n D D depth object t (λ rows h. h) positive within
 
 -- the last row of a depth
-pub row_is_last : (V : List ℕ → ℕ) (k n : ℕ) (D : List (List Row)) (A : List Access) (r : Reading) (row : Row) (is_new : Bool) → OnRow V k n D A r → Agrees (length D) n D (A ++ Sorted (length r.objects) row.object row.grade ∷ []) → (is_new ≡ true → ¬ Contains (seen_objects A) row.object) → (is_new ≡ false → Contains (seen_objects A) row.object) → suc (length r.objects) ≡ length D → OnAsks V k n D (A ++ Sorted (length r.objects) row.object row.grade ∷ []) (row_added (length D) r row is_new)
+pub row_is_last : (V : List ℕ → ℕ) (k n : ℕ) (D : List (List Row)) (A : List Access) (r : Reading) (row : Row) (is_new : Bool) → OnRow V k n D A r
+    → Agrees (length D) n D (A ++ Sorted (length r.objects) row.object row.grade ∷ []) → (is_new ≡ true → ¬ Contains (seen_objects A) row.object)
+    → (is_new ≡ false → Contains (seen_objects A) row.object) → suc (length r.objects) ≡ length D
+    → OnAsks V k n D (A ++ Sorted (length r.objects) row.object row.grade ∷ []) (row_added (length D) r row is_new)
 row_is_last V k n D A r row is_new on agrees unseen seen last =
     let a = added V k n D A r row is_new on agrees unseen seen in
     let d : ℕ = r.depth in
@@ -104,11 +110,13 @@ row_is_last V k n D A r row is_new on agrees unseen seen last =
     }
 
 -- an object that is new stands in no list above the row
-new_is_low : (D : List (List Row)) (rows : List Row) (depth object : ℕ) → Contains D rows → stands D (depth - 1) object ≡ false → depth - 1 ≤ place_in rows object
+new_is_low : (D : List (List Row)) (rows : List Row) (depth object : ℕ) → Contains D rows → stands D (depth - 1) object ≡ false
+    → depth - 1 ≤ place_in rows object
 new_is_low D rows depth object h s = ltb-false (place_in rows object) (depth - 1) (none_from_any (λ (other : List Row). nat_lt (place_in other object) (depth - 1)) D rows s h)
 
 -- where the row has another object in a list, the object stands lower there
-pub stands_lower : (n : ℕ) (D : List (List Row)) (rows : List Row) (depth object : ℕ) → IsTable n D → Contains D rows → 1 ≤ depth → Contains (objects_of D) object → stands D (depth - 1) object ≡ false → (row_at rows depth).object ≢ object → depth ≤ place_in rows object
+pub stands_lower : (n : ℕ) (D : List (List Row)) (rows : List Row) (depth object : ℕ) → IsTable n D → Contains D rows → 1 ≤ depth
+    → Contains (objects_of D) object → stands D (depth - 1) object ≡ false → (row_at rows depth).object ≢ object → depth ≤ place_in rows object
 stands_lower n D rows depth object t h positive o new other =
     let low : depth - 1 ≤ place_in rows object = new_is_low D rows depth object h new in
     let held : place_in rows object < length rows = place_in-lt rows object (list_holds n D rows object t h o) in
@@ -119,7 +127,10 @@ stands_lower n D rows depth object t h positive o new other =
     ]
 
 -- one more grade of the first object that waits
-pub grade_goes_on : (V : List ℕ → ℕ) (k n : ℕ) (D : List (List Row)) (A : List Access) (r : Reading) (object : ℕ) (waiting : List ℕ) (grade : ℕ) → OnAsks V k n D A r → r.waiting ≡ object ∷ waiting → length r.grades < length D → slice_index r.objects (length r.grades) ≢ object → Agrees (length D) n D (A ++ Random (length r.grades) object grade ∷ []) → OnAsks V k n D (A ++ Random (length r.grades) object grade ∷ []) (grade_added r grade)
+pub grade_goes_on : (V : List ℕ → ℕ) (k n : ℕ) (D : List (List Row)) (A : List Access) (r : Reading) (object : ℕ) (waiting : List ℕ) (grade : ℕ)
+    → OnAsks V k n D A r → r.waiting ≡ object ∷ waiting → length r.grades < length D → slice_index r.objects (length r.grades) ≢ object
+    → Agrees (length D) n D (A ++ Random (length r.grades) object grade ∷ [])
+    → OnAsks V k n D (A ++ Random (length r.grades) object grade ∷ []) (grade_added r grade)
 grade_goes_on V k n D A r object waiting grade on is short other agrees =
     let d : ℕ = r.depth in
     let t : IsTable n D = agrees.table in
@@ -187,12 +198,14 @@ grade_goes_on V k n D A r object waiting grade on is short other agrees =
     contains_dropped (y ∷ xs) (suc k) x h = contains_there y xs x (contains_dropped xs k x h)
 
 -- an object whose grades are all there
-pub all_grades : (V : List ℕ → ℕ) (k n : ℕ) (D : List (List Row)) (A : List Access) (r : Reading) (object : ℕ) (waiting : List ℕ) → OnAsks V k n D A r → r.waiting ≡ object ∷ waiting → length r.grades ≡ length D → V r.grades ≡ aggregate V D object
+pub all_grades : (V : List ℕ → ℕ) (k n : ℕ) (D : List (List Row)) (A : List Access) (r : Reading) (object : ℕ) (waiting : List ℕ) → OnAsks V k n D A r
+    → r.waiting ≡ object ∷ waiting → length r.grades ≡ length D → V r.grades ≡ aggregate V D object
 all_grades V k n D A r object waiting on is whole =
     let known : r.grades ≡ take (length r.grades) (grades_of D object) = subst (λ ws. AreFirstGrades D ws r.grades) is on.grades_are in
     ap V (known ∙ take_all (length r.grades) (grades_of D object) (omega (arith, whole, length-map (λ (rows : List Row). grade_in rows object) D)))
 
-pub object_settles : (V : List ℕ → ℕ) (k n : ℕ) (D : List (List Row)) (A : List Access) (r : Reading) (object : ℕ) (waiting : List ℕ) → OnAsks V k n D A r → r.waiting ≡ object ∷ waiting → length r.grades ≡ length D → OnAsks V k n D A (record r { waiting = waiting; grades = [] })
+pub object_settles : (V : List ℕ → ℕ) (k n : ℕ) (D : List (List Row)) (A : List Access) (r : Reading) (object : ℕ) (waiting : List ℕ) → OnAsks V k n D A r
+    → r.waiting ≡ object ∷ waiting → length r.grades ≡ length D → OnAsks V k n D A (record r { waiting = waiting; grades = [] })
 object_settles V k n D A r object waiting on is whole = record {
   at = on.at;
   objects_are = on.objects_are;
@@ -216,10 +229,12 @@ object_settles V k n D A r object waiting on is whole = record {
     asks_anew (o ∷ ws) = refl
 
 -- a whole row of which nothing waits
-pub row_is_made : (V : List ℕ → ℕ) (k n : ℕ) (D : List (List Row)) (A : List Access) (r : Reading) → OnAsks V k n D A r → r.waiting ≡ [] → A ≡ ta_run_to D r.depth
+pub row_is_made : (V : List ℕ → ℕ) (k n : ℕ) (D : List (List Row)) (A : List Access) (r : Reading) → OnAsks V k n D A r → r.waiting ≡ []
+    → A ≡ ta_run_to D r.depth
 row_is_made V k n D A r on is = sym (append-nil A) ∙ ap (λ ws. A ++ asks D r.depth ws r.grades) (sym is) ∙ on.ahead
 
-pub row_follows : (V : List ℕ → ℕ) (k n : ℕ) (D : List (List Row)) (A : List Access) (r : Reading) → IsMonotone V → IsAsked k n D → OnAsks V k n D A r → r.waiting ≡ [] → ta_stop V k D r.depth ≡ false → OnRow V k n D A (row_begun (r.depth + 1))
+pub row_follows : (V : List ℕ → ℕ) (k n : ℕ) (D : List (List Row)) (A : List Access) (r : Reading) → IsMonotone V → IsAsked k n D → OnAsks V k n D A r
+    → r.waiting ≡ [] → ta_stop V k D r.depth ≡ false → OnRow V k n D A (row_begun (r.depth + 1))
 row_follows V k n D A r monotone asked on is goes = record {
   at = next_reached (ta_stop V k D) n (ta_depth V k D) r.depth (own V k n D monotone asked) on.at goes;
   unread = asked.lists;

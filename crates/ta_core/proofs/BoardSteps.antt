@@ -22,6 +22,7 @@ use Rattle.topk_theory.proofs.Agreement.{objects_of_distinct}
 use Rattle.topk_theory.proofs.ThresholdLists.{contains_filter, contains_from_filter, count_map, length-map, filter_here, filter_gone}
 use Rattle.topk_theory.proofs.ThresholdTop.{objects_from_distinct, scored_distinct, scored_member}
 use Rattle.topk_theory.proofs.ThresholdRun.{seen_from_access, access_from_seen, seen_more, run_sees, seen_stands}
+use Rattle.topk_theory.proofs.InOrder.{AreDistinct-rest}
 use Rattle.ta_core.specs.Reading.{with_new, enough}
 use Rattle.ta_core.specs.OnTable.{bottoms_at, OnBoard}
 use Rattle.ta_core.proofs.Rows.{stands_object}
@@ -95,10 +96,8 @@ put_from item (held ∷ items) x h =
 distinct_head_of : (held : Item) (items : List Item) (x : Item) → AreDistinct (held ∷ items) → Contains items x → held.object ≢ x.object
 distinct_head_of held items x d h = λ e. d 0 (suc h.0) x (omega arith) (omega (arith, h.1)) (e ∙ sym (ap (λ (i : Item). i.object) h.2))
 
-distinct_tail_of : (held : Item) (items : List Item) → AreDistinct (held ∷ items) → AreDistinct items
-distinct_tail_of held items d = λ i j e l m. d (suc i) (suc j) e (omega arith) (omega arith)
-
-pub put_distinct : (item : Item) (items : List Item) → AreDistinct items → ((x : Item) → Contains items x → item.object ≢ x.object) → AreDistinct (put_item item items)
+pub put_distinct : (item : Item) (items : List Item) → AreDistinct items → ((x : Item) → Contains items x → item.object ≢ x.object)
+    → AreDistinct (put_item item items)
 put_distinct item [] d n = λ i j e l m. absurd (omega arith)
 put_distinct item (held ∷ items) d n =
     elim (cases_order item.object held.object) [
@@ -112,12 +111,13 @@ put_distinct item (held ∷ items) d n =
               | inl same ↦ λ e. n held (contains_here held items) (ap (λ (i : Item). i.object) same ∙ sym e)
               | inr r ↦ distinct_head_of held items x d r
             ]))
-            (put_distinct item items (distinct_tail_of held items d) (λ x h. n x (contains_there held items x h))))
+            (put_distinct item items (AreDistinct-rest held items d) (λ x h. n x (contains_there held items x h))))
       ]
     ]
 
 -- after one more sorted access
-seen_by_sorted : (A : List Access) (list object grade x : ℕ) → Contains (seen_objects (A ++ Sorted list object grade ∷ [])) x → Contains (seen_objects A) x ⊎ (object ≡ x)
+seen_by_sorted : (A : List Access) (list object grade x : ℕ) → Contains (seen_objects (A ++ Sorted list object grade ∷ [])) x
+    → Contains (seen_objects A) x ⊎ (object ≡ x)
 seen_by_sorted A list object grade x h =
     let from = access_from_seen (A ++ Sorted list object grade ∷ []) x h in
     elim (Contains-append_cases A (Sorted list object grade ∷ []) (Sorted from.0 x from.1) from.2) [
@@ -153,7 +153,8 @@ waits_new : (waiting : List ℕ) (object : ℕ) (is_new : Bool) → is_new ≡ t
 waits_new waiting object true e = Contains-push waiting object
 waits_new waiting object false e = absurd (true≢false (sym e))
 
-pub waits_from : (waiting : List ℕ) (object : ℕ) (is_new : Bool) (x : ℕ) → Contains (with_new waiting object is_new) x → Contains waiting x ⊎ ((is_new ≡ true) × (object ≡ x))
+pub waits_from : (waiting : List ℕ) (object : ℕ) (is_new : Bool) (x : ℕ) → Contains (with_new waiting object is_new) x
+    → Contains waiting x ⊎ ((is_new ≡ true) × (object ≡ x))
 waits_from waiting object true x h =
     elim (Contains-append_cases waiting (object ∷ []) x h) [
       | inl k ↦ inl k
@@ -161,7 +162,9 @@ waits_from waiting object true x h =
     ]
 waits_from waiting object false x h = inl h
 
-pub board_after_row : (V : List ℕ → ℕ) (D : List (List Row)) (A : List Access) (waiting : List ℕ) (items : List Item) (list object grade : ℕ) (is_new : Bool) → OnBoard V D A waiting items → (is_new ≡ true → ¬ Contains (seen_objects A) object) → (is_new ≡ false → Contains (seen_objects A) object) → OnBoard V D (A ++ Sorted list object grade ∷ []) (with_new waiting object is_new) items
+pub board_after_row : (V : List ℕ → ℕ) (D : List (List Row)) (A : List Access) (waiting : List ℕ) (items : List Item) (list object grade : ℕ) (is_new : Bool)
+    → OnBoard V D A waiting items → (is_new ≡ true → ¬ Contains (seen_objects A) object) → (is_new ≡ false → Contains (seen_objects A) object)
+    → OnBoard V D (A ++ Sorted list object grade ∷ []) (with_new waiting object is_new) items
 board_after_row V D A waiting items list object grade is_new on unseen seen = record {
   distinct = on.distinct;
   held = λ x h n.
@@ -183,7 +186,8 @@ board_after_row V D A waiting items list object grade is_new on unseen seen = re
       );
 }
 
-pub board_after_grade : (V : List ℕ → ℕ) (D : List (List Row)) (A : List Access) (waiting : List ℕ) (items : List Item) (list object grade : ℕ) → OnBoard V D A waiting items → OnBoard V D (A ++ Random list object grade ∷ []) waiting items
+pub board_after_grade : (V : List ℕ → ℕ) (D : List (List Row)) (A : List Access) (waiting : List ℕ) (items : List Item) (list object grade : ℕ)
+    → OnBoard V D A waiting items → OnBoard V D (A ++ Random list object grade ∷ []) waiting items
 board_after_grade V D A waiting items list object grade on = record {
   distinct = on.distinct;
   held = λ x h n. on.held x (seen_by_random A list object grade x h) n;
@@ -191,7 +195,9 @@ board_after_grade V D A waiting items list object grade on = record {
 }
 
 -- an object whose grades are all there is put on the board
-pub board_after_put : (V : List ℕ → ℕ) (D : List (List Row)) (A : List Access) (object : ℕ) (waiting : List ℕ) (items : List Item) → OnBoard V D A (object ∷ waiting) items → AllPairs (λ (one : ℕ) (other : ℕ). one ≢ other) (object ∷ waiting) → Contains (seen_objects A) object → OnBoard V D A waiting (put_item (scored V D object) items)
+pub board_after_put : (V : List ℕ → ℕ) (D : List (List Row)) (A : List Access) (object : ℕ) (waiting : List ℕ) (items : List Item)
+    → OnBoard V D A (object ∷ waiting) items → AllPairs (λ (one : ℕ) (other : ℕ). one ≢ other) (object ∷ waiting) → Contains (seen_objects A) object
+    → OnBoard V D A waiting (put_item (scored V D object) items)
 board_after_put V D A object waiting items on apart seen =
     let absent : (x : Item) → Contains items x → object ≢ x.object = λ x h. λ e. (on.only x h).1 (subst (λ z. Contains (object ∷ waiting) z) e (contains_here object waiting)) in
     record {
@@ -223,7 +229,8 @@ record Holds (V : List ℕ → ℕ) (D : List (List Row)) (depth : ℕ) (items :
   held : (object : ℕ) → Contains (objects_to D depth) object → Contains items (scored V D object)
   only : (item : Item) → Contains items item → Contains (objects_to D depth) item.object × (scored V D item.object ≡ item)
 
-holds : (V : List ℕ → ℕ) (n : ℕ) (D : List (List Row)) (depth : ℕ) (items : List Item) → IsTable n D → depth ≤ n → OnBoard V D (ta_run_to D depth) [] items → Holds V D depth items
+holds : (V : List ℕ → ℕ) (n : ℕ) (D : List (List Row)) (depth : ℕ) (items : List Item) → IsTable n D → depth ≤ n → OnBoard V D (ta_run_to D depth) [] items
+    → Holds V D depth items
 holds V n D depth items t within on = record {
   distinct = on.distinct;
   held = λ object h.
@@ -239,7 +246,8 @@ rows_distinct : (n : ℕ) (D : List (List Row)) (depth : ℕ) → IsTable n D �
 rows_distinct n D depth t = AllPairs-filter (λ (a : ℕ) (b : ℕ). a ≢ b) (stands D depth) (objects_of D) (objects_of_distinct n D t)
 
 -- the items on the board with a low of at least a bound are as many as the objects with such an aggregate
-same_count : (V : List ℕ → ℕ) (n : ℕ) (D : List (List Row)) (depth bound : ℕ) (items : List Item) → IsTable n D → Holds V D depth items → count_by (nat_le bound) (lows items) ≡ count_by (λ object. nat_le bound (aggregate V D object)) (objects_to D depth)
+same_count : (V : List ℕ → ℕ) (n : ℕ) (D : List (List Row)) (depth bound : ℕ) (items : List Item) → IsTable n D → Holds V D depth items
+    → count_by (nat_le bound) (lows items) ≡ count_by (λ object. nat_le bound (aggregate V D object)) (objects_to D depth)
 same_count V n D depth bound items t on =
     let good : ℕ → Bool = λ object. nat_le bound (aggregate V D object) in
     let high : Item → Bool = λ item. nat_le bound item.low in
@@ -262,7 +270,8 @@ same_count V n D depth bound items t on =
     omega arith
 
 -- so the board tells where the algorithm stops
-pub board_tells_stop : (V : List ℕ → ℕ) (k n : ℕ) (D : List (List Row)) (depth : ℕ) (items : List Item) → IsTable n D → depth ≤ n → OnBoard V D (ta_run_to D depth) [] items → enough k (V (bottoms_at depth D)) items ≡ ta_stop V k D depth
+pub board_tells_stop : (V : List ℕ → ℕ) (k n : ℕ) (D : List (List Row)) (depth : ℕ) (items : List Item) → IsTable n D → depth ≤ n
+    → OnBoard V D (ta_run_to D depth) [] items → enough k (V (bottoms_at depth D)) items ≡ ta_stop V k D depth
 board_tells_stop V k n D depth items t within on =
     ap (nat_le k) (same_count V n D depth (threshold_at V D depth) items t (holds V n D depth items t within on))
 
@@ -301,7 +310,8 @@ enough_from_few k bound items few =
     lt-leb k (count_by (nat_le bound) (lows items)) (omega arith)
 
 -- the first k of the board are the first k of the depth's objects
-pub board_first : (V : List ℕ → ℕ) (k n : ℕ) (D : List (List Row)) (depth : ℕ) (items first : List Item) → IsTable n D → depth ≤ n → OnBoard V D (ta_run_to D depth) [] items → IsFirstK k (map (scored V D) (objects_to D depth)) first → IsFirstK k items first
+pub board_first : (V : List ℕ → ℕ) (k n : ℕ) (D : List (List Row)) (depth : ℕ) (items first : List Item) → IsTable n D → depth ≤ n
+    → OnBoard V D (ta_run_to D depth) [] items → IsFirstK k (map (scored V D) (objects_to D depth)) first → IsFirstK k items first
 board_first V k n D depth items first t within on is =
     let h = holds V n D depth items t within on in
     let all : List Item = map (scored V D) (objects_to D depth) in
@@ -324,7 +334,8 @@ board_first V k n D depth items first t within on is =
     }
 
 -- the objects of a board that were seen are no more than were seen
-pub place_filled : (seen : List ℕ) (items : List Item) → AreDistinct items → ((item : Item) → Contains items item → Contains seen item.object) → length items ≤ length seen
+pub place_filled : (seen : List ℕ) (items : List Item) → AreDistinct items → ((item : Item) → Contains items item → Contains seen item.object)
+    → length items ≤ length seen
 place_filled seen items distinct of_seen =
     let fits : length (item_objects items) ≤ length seen =
     distinct_fits (item_objects items) seen (objects_from_distinct items distinct)
@@ -333,7 +344,8 @@ place_filled seen items distinct of_seen =
     omega arith
 
 -- and fewer, where one that was seen isn't there
-pub place_left : (seen : List ℕ) (items : List Item) (object : ℕ) → AreDistinct items → ((item : Item) → Contains items item → Contains seen item.object × (item.object ≢ object)) → Contains seen object → length items < length seen
+pub place_left : (seen : List ℕ) (items : List Item) (object : ℕ) → AreDistinct items
+    → ((item : Item) → Contains items item → Contains seen item.object × (item.object ≢ object)) → Contains seen object → length items < length seen
 place_left seen items object distinct others is_seen =
     let apart : AllPairs (λ (a : ℕ) (b : ℕ). a ≢ b) (object ∷ item_objects items) =
     AllPairs-cons (λ (a : ℕ) (b : ℕ). a ≢ b) object (item_objects items)

@@ -31,7 +31,8 @@ use Rattle.ta_core.proofs.Sound.{sound_row, sound_grade, IsFed, fed_row, fed_gra
 use Rattle.ta_core.proofs.Runs.{first_member, first_is_member}
 
 -- at the beginning
-pub kept_start : (e : Tree) (k room m n : ℕ) (board : Held) → IsHeld e k room m n [] → board.k ≡ k → board.room ≡ room → board.items ≡ [] → IsKept e k room m n [] board (row_begun 1)
+pub kept_start : (e : Tree) (k room m n : ℕ) (board : Held) → IsHeld e k room m n [] → board.k ≡ k → board.room ≡ room → board.items ≡ []
+    → IsKept e k room m n [] board (row_begun 1)
 kept_start e k room m n board held same_k same_room empty = record {
   base = held;
   same_k = same_k;
@@ -65,7 +66,14 @@ kept_start e k room m n board held same_k same_room empty = record {
 }
 
 -- on a table that agrees, one more row
-table_row : (V : List ℕ → ℕ) (k n : ℕ) (D : List (List Row)) (A : List Access) (r : Reading) (items : List Item) (row : Row) (is_new : Bool) → IsMonotone V → IsAsked k n D → r.done ≡ false → length r.objects < length D → length r.grades ≡ 0 → length r.bottoms ≡ length r.objects → ((o : ℕ) → Contains (with_new r.waiting row.object is_new) o → Contains (seen_objects (A ++ Sorted (length r.objects) row.object row.grade ∷ [])) o) → OnTable V k n D A r items → Agrees (length D) n D (A ++ Sorted (length r.objects) row.object row.grade ∷ []) → (is_new ≡ true → ¬ Contains (seen_objects A) row.object) → (is_new ≡ false → Contains (seen_objects A) row.object) → OnTable V k n D (A ++ Sorted (length r.objects) row.object row.grade ∷ []) (followed V k (length D) (items_after V (length D) items (row_added (length D) r row is_new)) (row_added (length D) r row is_new)) (items_after V (length D) items (row_added (length D) r row is_new))
+table_row : (V : List ℕ → ℕ) (k n : ℕ) (D : List (List Row)) (A : List Access) (r : Reading) (items : List Item) (row : Row) (is_new : Bool) → IsMonotone V
+    → IsAsked k n D → r.done ≡ false → length r.objects < length D → length r.grades ≡ 0 → length r.bottoms ≡ length r.objects
+    → ((o : ℕ) → Contains (with_new r.waiting row.object is_new) o → Contains (seen_objects (A ++ Sorted (length r.objects) row.object row.grade ∷ [])) o)
+    → OnTable V k n D A r items → Agrees (length D) n D (A ++ Sorted (length r.objects) row.object row.grade ∷ [])
+    → (is_new ≡ true → ¬ Contains (seen_objects A) row.object) → (is_new ≡ false → Contains (seen_objects A) row.object)
+    → OnTable V k n D (A ++ Sorted (length r.objects) row.object row.grade ∷ [])
+    (followed V k (length D) (items_after V (length D) items (row_added (length D) r row is_new)) (row_added (length D) r row is_new))
+    (items_after V (length D) items (row_added (length D) r row is_new))
 table_row V k n D A r items row is_new up asked open' short none same sees on agrees unseen seen =
     let a : Access = Sorted (length r.objects) row.object row.grade in
     let r' : Reading = row_added (length D) r row is_new in
@@ -79,7 +87,14 @@ table_row V k n D A r items row is_new up asked open' short none same sees on ag
     ]
 
 -- and one more grade
-table_grade : (V : List ℕ → ℕ) (k n : ℕ) (D : List (List Row)) (A : List Access) (r : Reading) (items : List Item) (grade : ℕ) → IsMonotone V → IsAsked k n D → r.done ≡ false → length r.objects ≡ length D → length r.bottoms ≡ length r.objects → 0 < length r.waiting → length r.grades < length D → slice_index r.objects (length r.grades) ≢ first_or_zero r.waiting → ((o : ℕ) → Contains r.waiting o → Contains (seen_objects (A ++ Random (length r.grades) (first_or_zero r.waiting) grade ∷ [])) o) → OnTable V k n D A r items → Agrees (length D) n D (A ++ Random (length r.grades) (first_or_zero r.waiting) grade ∷ []) → OnTable V k n D (A ++ Random (length r.grades) (first_or_zero r.waiting) grade ∷ []) (followed V k (length D) (items_after V (length D) items (grade_added r grade)) (grade_added r grade)) (items_after V (length D) items (grade_added r grade))
+table_grade : (V : List ℕ → ℕ) (k n : ℕ) (D : List (List Row)) (A : List Access) (r : Reading) (items : List Item) (grade : ℕ) → IsMonotone V → IsAsked k n D
+    → r.done ≡ false → length r.objects ≡ length D → length r.bottoms ≡ length r.objects → 0 < length r.waiting → length r.grades < length D
+    → slice_index r.objects (length r.grades) ≢ first_or_zero r.waiting
+    → ((o : ℕ) → Contains r.waiting o → Contains (seen_objects (A ++ Random (length r.grades) (first_or_zero r.waiting) grade ∷ [])) o)
+    → OnTable V k n D A r items → Agrees (length D) n D (A ++ Random (length r.grades) (first_or_zero r.waiting) grade ∷ [])
+    → OnTable V k n D (A ++ Random (length r.grades) (first_or_zero r.waiting) grade ∷ [])
+    (followed V k (length D) (items_after V (length D) items (grade_added r grade)) (grade_added r grade))
+    (items_after V (length D) items (grade_added r grade))
 table_grade V k n D A r items grade up asked open' whole same waits short other sees on agrees =
     let a : Access = Random (length r.grades) (first_or_zero r.waiting) grade in
     let first = first_member r.waiting waits in
@@ -99,7 +114,9 @@ abbrev pub reading_then : Tree → ℕ → Held → Reading → Reading
 reading_then e m board told = followed (value e) board.k m board.items told
 
 -- what is kept after one more access, where it is sound whatever the table, and on each table that agrees
-kept_with : (e : Tree) (k room m n : ℕ) (A : List Access) (a : Access) (board : Held) (told : Reading) → board.k ≡ k → board.room ≡ room → IsHeld e k room m n (A ++ a ∷ []) → (let items : List Item = items_after (value e) m board.items told in IsSound m (A ++ a ∷ []) (followed (value e) k m items told) × IsAtRest m (followed (value e) k m items told))
+kept_with : (e : Tree) (k room m n : ℕ) (A : List Access) (a : Access) (board : Held) (told : Reading) → board.k ≡ k → board.room ≡ room
+    → IsHeld e k room m n (A ++ a ∷ [])
+    → (let items : List Item = items_after (value e) m board.items told in IsSound m (A ++ a ∷ []) (followed (value e) k m items told) × IsAtRest m (followed (value e) k m items told))
     → ((D : List (List Row)) → Agrees m n D (A ++ a ∷ []) → OnTable (value e) k n D (A ++ a ∷ []) (followed (value e) k (length D) (items_after (value e) (length D) board.items told) told) (items_after (value e) (length D) board.items told))
     → IsKept e k room m n (A ++ a ∷ []) (board_then e m board told) (reading_then e m (board_then e m board told) told)
 kept_with e k room m n A a board told same_k same_room held sound on_table =
@@ -117,7 +134,9 @@ kept_with e k room m n A a board told same_k same_room held sound on_table =
     })
 
 -- a machine that is fed a row
-pub kept_row : (e : Tree) (k room m n : ℕ) (A : List Access) (board : Held) (r : Reading) (row : Row) (is_new : Bool) → IsKept e k room m n A board r → r.done ≡ false → length r.objects < m → row.grade ≤ 1000000 → TellsNew A row.object is_new → Contains (seen_objects A) row.object ⊎ (length (seen_objects A) < room) → SomeAgrees m n (A ++ Sorted (length r.objects) row.object row.grade ∷ [])
+pub kept_row : (e : Tree) (k room m n : ℕ) (A : List Access) (board : Held) (r : Reading) (row : Row) (is_new : Bool) → IsKept e k room m n A board r
+    → r.done ≡ false → length r.objects < m → row.grade ≤ 1000000 → TellsNew A row.object is_new
+    → Contains (seen_objects A) row.object ⊎ (length (seen_objects A) < room) → SomeAgrees m n (A ++ Sorted (length r.objects) row.object row.grade ∷ [])
     → IsKept e k room m n (A ++ Sorted (length r.objects) row.object row.grade ∷ []) (board_then e m board (row_added m r row is_new)) (reading_then e m (board_then e m board (row_added m r row is_new)) (row_added m r row is_new))
 kept_row e k room m n A board r row is_new kept open' short capped new follows some =
     let V = value e in
@@ -136,7 +155,8 @@ kept_row e k room m n A board r row is_new kept open' short capped new follows s
     subst (λ c. OnTable V k n D (A ++ a ∷ []) (followed V k (length D) (items_after V (length D) board.items (row_added c r row is_new)) (row_added c r row is_new)) (items_after V (length D) board.items (row_added c r row is_new))) wide then)
 
 -- a machine that is fed a grade
-pub kept_grade : (e : Tree) (k room m n : ℕ) (A : List Access) (board : Held) (r : Reading) (grade : ℕ) → IsKept e k room m n A board r → r.done ≡ false → m ≤ length r.objects → grade ≤ 1000000 → SomeAgrees m n (A ++ Random (length r.grades) (first_or_zero r.waiting) grade ∷ [])
+pub kept_grade : (e : Tree) (k room m n : ℕ) (A : List Access) (board : Held) (r : Reading) (grade : ℕ) → IsKept e k room m n A board r → r.done ≡ false
+    → m ≤ length r.objects → grade ≤ 1000000 → SomeAgrees m n (A ++ Random (length r.grades) (first_or_zero r.waiting) grade ∷ [])
     → IsKept e k room m n (A ++ Random (length r.grades) (first_or_zero r.waiting) grade ∷ []) (board_then e m board (grade_added r grade)) (reading_then e m (board_then e m board (grade_added r grade)) (grade_added r grade))
 kept_grade e k room m n A board r grade kept open' whole capped some =
     let V = value e in

@@ -6,13 +6,15 @@ use Rattle.ranked_list.specs.Table.{IsRanked, IsTable, place_in, grade_in}
 use Rattle.topk_theory.specs.Aggregate.{grades_of}
 use Rattle.topk_theory.specs.Threshold.{row_at, random_block}
 use Rattle.topk_theory.proofs.AgreementLists.{contains_here, contains_there}
-use Rattle.topk_theory.proofs.ThresholdTables.{no_row, place_in-object, grade_in-at_place}
+use Rattle.ranked_list.proofs.RankLaws.{no_row}
+use Rattle.topk_theory.proofs.ThresholdTables.{place_in-object, grade_in-at_place}
 use Rattle.topk_theory.proofs.ThresholdDepth.{list_sized, list_ranked}
 use Rattle.topk_theory.proofs.ThresholdRun.{random_block_here}
 use Rattle.ta_core.specs.Reading.{grades_in_row}
 use Rattle.ta_core.specs.OnTable.{objects_at, bottoms_at}
 
-has_here : (object other bottom : ℕ) (os bs : List ℕ) → (other == object) ≡ true → grades_in_row object (other ∷ os) (bottom ∷ bs) ≡ bottom ∷ grades_in_row object os bs
+has_here : (object other bottom : ℕ) (os bs : List ℕ) → (other == object) ≡ true
+    → grades_in_row object (other ∷ os) (bottom ∷ bs) ≡ bottom ∷ grades_in_row object os bs
 has_here object other bottom os bs t = ap (λ b. cond b (bottom ∷ grades_in_row object os bs) []) t
 
 has_not_here : (object other bottom : ℕ) (os bs : List ℕ) → (other == object) ≡ false → grades_in_row object (other ∷ os) (bottom ∷ bs) ≡ []
@@ -29,7 +31,8 @@ length-grades_in_row object (other ∷ os) (bottom ∷ bs) =
     ]
 
 -- in the first list where they end the row has another object
-pub grades_in_row_end : (object : ℕ) (os bs : List ℕ) → length bs ≡ length os → length (grades_in_row object os bs) < length os → slice_index os (length (grades_in_row object os bs)) ≢ object
+pub grades_in_row_end : (object : ℕ) (os bs : List ℕ) → length bs ≡ length os → length (grades_in_row object os bs) < length os
+    → slice_index os (length (grades_in_row object os bs)) ≢ object
 grades_in_row_end object [] bs e l = absurd (omega arith)
 grades_in_row_end object (other ∷ os) [] e l = absurd (omega arith)
 grades_in_row_end object (other ∷ os) (bottom ∷ bs) e l =
@@ -54,7 +57,8 @@ grades_in_row_none object (other ∷ os) (bottom ∷ bs) n =
     ]
 
 -- the place and the grade of an object that a row has
-pub row_place : (n : ℕ) (D : List (List Row)) (rows : List Row) (depth object : ℕ) → IsTable n D → Contains D rows → 1 ≤ depth → depth ≤ n → (row_at rows depth).object ≡ object → (place_in rows object ≡ depth - 1) × (grade_in rows object ≡ (row_at rows depth).grade)
+pub row_place : (n : ℕ) (D : List (List Row)) (rows : List Row) (depth object : ℕ) → IsTable n D → Contains D rows → 1 ≤ depth → depth ≤ n
+    → (row_at rows depth).object ≡ object → (place_in rows object ≡ depth - 1) × (grade_in rows object ≡ (row_at rows depth).grade)
 row_place n D rows depth object t h positive within e =
     let long : length rows ≡ n = list_sized n D rows t h in
     let ranked : IsRanked rows = list_ranked n D rows t h in
@@ -62,7 +66,9 @@ row_place n D rows depth object t h positive within e =
     (place, grade_in-at_place rows object no_row (omega arith) ∙ ap (λ p. (slice_index_or rows p no_row).grade) place)
 
 -- the accesses of an object skip the lists in which the row has it
-pub skips : (n : ℕ) (D L : List (List Row)) (start depth object : ℕ) → IsTable n D → ((rows : List Row) → Contains L rows → Contains D rows) → 1 ≤ depth → depth ≤ n → random_block start depth object L ≡ random_block (start + length (grades_in_row object (objects_at depth L) (bottoms_at depth L))) depth object (drop (length (grades_in_row object (objects_at depth L) (bottoms_at depth L))) L)
+pub skips : (n : ℕ) (D L : List (List Row)) (start depth object : ℕ) → IsTable n D → ((rows : List Row) → Contains L rows → Contains D rows) → 1 ≤ depth
+    → depth ≤ n
+    → random_block start depth object L ≡ random_block (start + length (grades_in_row object (objects_at depth L) (bottoms_at depth L))) depth object (drop (length (grades_in_row object (objects_at depth L) (bottoms_at depth L))) L)
 skips n D [] start depth object t within positive fits = refl
 skips n D (rows ∷ L) start depth object t within positive fits =
     let row : Row = row_at rows depth in
@@ -82,7 +88,10 @@ skips n D (rows ∷ L) start depth object t within positive fits =
     ]
 
 -- and the row's grades are the object's
-pub row_grades : (n : ℕ) (D L : List (List Row)) (depth object : ℕ) → IsTable n D → ((rows : List Row) → Contains L rows → Contains D rows) → 1 ≤ depth → depth ≤ n → grades_in_row object (objects_at depth L) (bottoms_at depth L) ≡ take (length (grades_in_row object (objects_at depth L) (bottoms_at depth L))) (grades_of L object)
+pub row_grades : (n : ℕ) (D L : List (List Row)) (depth object : ℕ) → IsTable n D → ((rows : List Row) → Contains L rows → Contains D rows) → 1 ≤ depth
+    → depth ≤ n
+    → grades_in_row object (objects_at depth L) (bottoms_at depth L) ≡ take (length (grades_in_row object (objects_at depth L) (bottoms_at depth L)))
+    (grades_of L object)
 row_grades n D [] depth object t within positive fits = refl
 row_grades n D (rows ∷ L) depth object t within positive fits =
     let row : Row = row_at rows depth in

@@ -21,7 +21,8 @@ use Rattle.ta_core.specs.OnTable.{OnRow, asks, OnAsks}
 use Rattle.ta_core.proofs.Rows.{reads_rows, own}
 use Rattle.ta_core.proofs.Asks.{run_at, stands_lower, map_at}
 
-pub row_next : (V : List ℕ → ℕ) (k n : ℕ) (D : List (List Row)) (A : List Access) (r : Reading) → IsMonotone V → IsAsked k n D → OnRow V k n D A r → IsAt (ta_run V k D) A (RowAt (length r.objects) r.depth) × CanServe D (RowAt (length r.objects) r.depth)
+pub row_next : (V : List ℕ → ℕ) (k n : ℕ) (D : List (List Row)) (A : List Access) (r : Reading) → IsMonotone V → IsAsked k n D → OnRow V k n D A r
+    → IsAt (ta_run V k D) A (RowAt (length r.objects) r.depth) × CanServe D (RowAt (length r.objects) r.depth)
 row_next V k n D A r monotone asked on =
     let d : ℕ = r.depth in
     let later : List Access = flat_map (λ o. random_block 0 d o D) (new_objects D d) in
@@ -29,7 +30,8 @@ row_next V k n D A r monotone asked on =
     (append_assoc (ta_run_to D (d - 1)) (sorted_block 0 d D) later ∙ sym (run_at D d on.at.positive))
 
 -- the run goes on with the random access of the first object that waits in the next list
-pub grade_ahead : (V : List ℕ → ℕ) (k n : ℕ) (D : List (List Row)) (A : List Access) (r : Reading) (object : ℕ) (waiting : List ℕ) → IsTable n D → OnAsks V k n D A r → r.waiting ≡ object ∷ waiting → length r.grades < length D → slice_index r.objects (length r.grades) ≢ object
+pub grade_ahead : (V : List ℕ → ℕ) (k n : ℕ) (D : List (List Row)) (A : List Access) (r : Reading) (object : ℕ) (waiting : List ℕ) → IsTable n D
+    → OnAsks V k n D A r → r.waiting ≡ object ∷ waiting → length r.grades < length D → slice_index r.objects (length r.grades) ≢ object
     → A ++ Random (length r.grades) object (grade_in (list_at D (length r.grades)) object) ∷ (random_block (length r.grades + 1) r.depth object (drop (suc (length r.grades)) D) ++ flat_map (λ o. random_block 0 r.depth o D) waiting) ≡ ta_run_to D r.depth
 grade_ahead V k n D A r object waiting table on is short other =
     let j : ℕ = length r.grades in
@@ -44,7 +46,9 @@ grade_ahead V k n D A r object waiting table on is short other =
     ∙ ap (λ ws. A ++ asks D d ws r.grades) (sym is)
     ∙ on.ahead
 
-pub grade_needed : (V : List ℕ → ℕ) (k n : ℕ) (D : List (List Row)) (A : List Access) (r : Reading) (object : ℕ) (waiting : List ℕ) → IsMonotone V → IsAsked k n D → OnAsks V k n D A r → r.waiting ≡ object ∷ waiting → length r.grades < length D → slice_index r.objects (length r.grades) ≢ object → IsAt (ta_run V k D) A (Grade (length r.grades) object) × CanServe D (Grade (length r.grades) object)
+pub grade_needed : (V : List ℕ → ℕ) (k n : ℕ) (D : List (List Row)) (A : List Access) (r : Reading) (object : ℕ) (waiting : List ℕ) → IsMonotone V
+    → IsAsked k n D → OnAsks V k n D A r → r.waiting ≡ object ∷ waiting → length r.grades < length D → slice_index r.objects (length r.grades) ≢ object
+    → IsAt (ta_run V k D) A (Grade (length r.grades) object) × CanServe D (Grade (length r.grades) object)
 grade_needed V k n D A r object waiting monotone asked on is short other =
     let j : ℕ = length r.grades in
     let d : ℕ = r.depth in

@@ -17,7 +17,8 @@ use Rattle.topk_theory.proofs.AgreementLists.{contains_at, contains_map, contain
 use Rattle.topk_theory.proofs.AgreementNames.{has, has_contains, has_not, each_once_complete, each_once_within, each_once_push_old, each_once_push_new}
 use Rattle.topk_theory.proofs.AgreementRows.{list_at_contains}
 use Rattle.topk_theory.proofs.ThresholdLists.{filter_here, filter_gone}
-use Rattle.topk_theory.proofs.ThresholdTables.{no_row, object-at_place}
+use Rattle.ranked_list.proofs.RankLaws.{no_row}
+use Rattle.topk_theory.proofs.ThresholdTables.{object-at_place}
 use Rattle.topk_theory.proofs.ThresholdDepth.{list_sized, table_holds, stands_from}
 use Rattle.topk_theory.proofs.ThresholdRun.{list_number, run_rows, sorted_members, contains_sorted, seen_from_access, access_from_seen, seen_more, run_sees, seen_stands}
 use Rattle.machine_base.specs.Depths.{read_to}
@@ -48,7 +49,8 @@ stands_object n D depth object t within s =
     table_holds n D from.0 object t from.1
     (subst (λ o. Contains (objects from.0) o) (object-at_place from.0 object no_row place) (contains_map (λ (row : Row). row.object) from.0 (slice_index_or from.0 (place_in from.0 object) no_row) (contains_at from.0 (place_in from.0 object) no_row place)))
 
-pub seen_in_row : (n : ℕ) (D : List (List Row)) (depth j object : ℕ) → IsTable n D → 1 ≤ depth → depth ≤ n → Contains (seen_objects (read_to (ta_run_to D) D depth j)) object → (stands D (depth - 1) object ≡ true) ⊎ Contains (objects_at depth (take j D)) object
+pub seen_in_row : (n : ℕ) (D : List (List Row)) (depth j object : ℕ) → IsTable n D → 1 ≤ depth → depth ≤ n
+    → Contains (seen_objects (read_to (ta_run_to D) D depth j)) object → (stands D (depth - 1) object ≡ true) ⊎ Contains (objects_at depth (take j D)) object
 seen_in_row n D depth j object t positive within h =
     let from = access_from_seen (read_to (ta_run_to D) D depth j) object h in
     elim (Contains-append_cases (ta_run_to D (depth - 1)) (sorted_block 0 depth (take j D)) (Sorted from.0 object from.1) from.2) [
@@ -59,7 +61,8 @@ seen_in_row n D depth j object t positive within h =
           inr (subst (λ o. Contains (objects_at depth (take j D)) o) (sym same) (contains_map (λ (rows : List Row). (row_at rows depth).object) (take j D) (list_at (take j D) k.0) (list_at_contains (take j D) k.0 k.1)))
     ]
 
-pub row_sees : (D : List (List Row)) (depth j object : ℕ) → Contains (objects_at depth (take j D)) object → Contains (seen_objects (read_to (ta_run_to D) D depth j)) object
+pub row_sees : (D : List (List Row)) (depth j object : ℕ) → Contains (objects_at depth (take j D)) object
+    → Contains (seen_objects (read_to (ta_run_to D) D depth j)) object
 row_sees D depth j object h =
     let from = contains_map_from (λ (rows : List Row). (row_at rows depth).object) (take j D) object h in
     let number = list_number (take j D) from.0 from.1 in
@@ -68,7 +71,8 @@ row_sees D depth j object h =
     subst (λ o. Contains (seen_objects (read_to (ta_run_to D) D depth j)) o) same
     (seen_from_access (read_to (ta_run_to D) D depth j) (0 + number.0) row.object row.grade (Contains-append_right (ta_run_to D (depth - 1)) (sorted_block 0 depth (take j D)) (Sorted (0 + number.0) row.object row.grade) (contains_sorted 0 number.0 depth (take j D) number.1)))
 
-pub stands_sees : (n : ℕ) (D : List (List Row)) (depth j object : ℕ) → IsTable n D → depth ≤ n → stands D (depth - 1) object ≡ true → Contains (seen_objects (read_to (ta_run_to D) D depth j)) object
+pub stands_sees : (n : ℕ) (D : List (List Row)) (depth j object : ℕ) → IsTable n D → depth ≤ n → stands D (depth - 1) object ≡ true
+    → Contains (seen_objects (read_to (ta_run_to D) D depth j)) object
 stands_sees n D depth j object t within s =
     seen_more (ta_run_to D (depth - 1)) (sorted_block 0 depth (take j D)) object (run_sees n D (depth - 1) object t s (stands_object n D (depth - 1) object t (omega arith) s))
 
@@ -85,7 +89,8 @@ new_with_seen p xs x h =
           ∙ append-nil (filter p (each_once xs))
     ]
 
-new_with_unseen : (p : ℕ → Bool) (xs : List ℕ) (x : ℕ) → (¬ Contains xs x) → p x ≡ true → filter p (each_once (xs ++ x ∷ [])) ≡ filter p (each_once xs) ++ x ∷ []
+new_with_unseen : (p : ℕ → Bool) (xs : List ℕ) (x : ℕ) → (¬ Contains xs x) → p x ≡ true
+    → filter p (each_once (xs ++ x ∷ [])) ≡ filter p (each_once xs) ++ x ∷ []
 new_with_unseen p xs x n t =
     ap (filter p) (each_once_push_new xs x (λ c. n (each_once_within xs x c)))
     ∙ filter-append p (each_once xs) (x ∷ [])
@@ -98,7 +103,9 @@ pub record Added (n : ℕ) (D : List (List Row)) (A : List Access) (r : Reading)
   pub waiting_are : with_new r.waiting row.object is_new ≡ filter (λ object. not (stands D (r.depth - 1) object)) (each_once (r.objects ++ row.object ∷ []))
   pub made : A ++ Sorted (length r.objects) row.object row.grade ∷ [] ≡ read_to (ta_run_to D) D r.depth (suc (length r.objects))
 
-pub added : (V : List ℕ → ℕ) (k n : ℕ) (D : List (List Row)) (A : List Access) (r : Reading) (row : Row) (is_new : Bool) → OnRow V k n D A r → Agrees (length D) n D (A ++ Sorted (length r.objects) row.object row.grade ∷ []) → (is_new ≡ true → ¬ Contains (seen_objects A) row.object) → (is_new ≡ false → Contains (seen_objects A) row.object) → Added n D A r row is_new
+pub added : (V : List ℕ → ℕ) (k n : ℕ) (D : List (List Row)) (A : List Access) (r : Reading) (row : Row) (is_new : Bool) → OnRow V k n D A r
+    → Agrees (length D) n D (A ++ Sorted (length r.objects) row.object row.grade ∷ []) → (is_new ≡ true → ¬ Contains (seen_objects A) row.object)
+    → (is_new ≡ false → Contains (seen_objects A) row.object) → Added n D A r row is_new
 added V k n D A r row is_new on agrees unseen seen =
     let j : ℕ = length r.objects in
     let d : ℕ = r.depth in
@@ -145,7 +152,10 @@ added V k n D A r row is_new on agrees unseen seen =
     }
 
 -- a row of which lists are left
-pub row_goes_on : (V : List ℕ → ℕ) (k n : ℕ) (D : List (List Row)) (A : List Access) (r : Reading) (row : Row) (is_new : Bool) → OnRow V k n D A r → Agrees (length D) n D (A ++ Sorted (length r.objects) row.object row.grade ∷ []) → (is_new ≡ true → ¬ Contains (seen_objects A) row.object) → (is_new ≡ false → Contains (seen_objects A) row.object) → suc (length r.objects) < length D → OnRow V k n D (A ++ Sorted (length r.objects) row.object row.grade ∷ []) (row_added (length D) r row is_new)
+pub row_goes_on : (V : List ℕ → ℕ) (k n : ℕ) (D : List (List Row)) (A : List Access) (r : Reading) (row : Row) (is_new : Bool) → OnRow V k n D A r
+    → Agrees (length D) n D (A ++ Sorted (length r.objects) row.object row.grade ∷ []) → (is_new ≡ true → ¬ Contains (seen_objects A) row.object)
+    → (is_new ≡ false → Contains (seen_objects A) row.object) → suc (length r.objects) < length D
+    → OnRow V k n D (A ++ Sorted (length r.objects) row.object row.grade ∷ []) (row_added (length D) r row is_new)
 row_goes_on V k n D A r row is_new on agrees unseen seen short =
     let a = added V k n D A r row is_new on agrees unseen seen in
     let long : suc (length r.objects) ≡ length (r.objects ++ row.object ∷ []) = omega (arith, length-append r.objects (row.object ∷ [])) in

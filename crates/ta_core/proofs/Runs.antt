@@ -42,7 +42,8 @@ pub first_member : (xs : List ℕ) → 0 < length xs → (x : ℕ) × (rest : Li
 first_member [] l = absurd (omega arith)
 first_member (x ∷ rest) l = (x, rest, refl)
 
-needed : (base : Base) (board : Held) (r : Reading) (D : List (List Row)) → Keeps base board r → AgreesWith D base.transcript → IsAt (ta_run (value base.expr) base.k D) base.transcript.accesses (need_at base.transcript.lists r) × CanServe D (need_at base.transcript.lists r)
+needed : (base : Base) (board : Held) (r : Reading) (D : List (List Row)) → Keeps base board r → AgreesWith D base.transcript
+    → IsAt (ta_run (value base.expr) base.k D) base.transcript.accesses (need_at base.transcript.lists r) × CanServe D (need_at base.transcript.lists r)
 needed base board r D kept agrees =
     let V = value base.expr in
     let k : ℕ = base.k in
@@ -74,7 +75,8 @@ pub first_is_member : (ws : List ℕ) → 0 < length ws → Contains ws (first_o
 first_is_member [] l = absurd (omega arith)
 first_is_member (w ∷ ws) l = contains_here w ws
 
-pub first_seen : (base : Base) (board : Held) (r : Reading) → Keeps base board r → 0 < length r.waiting → Contains (seen_objects base.transcript.accesses) (first_or_zero r.waiting)
+pub first_seen : (base : Base) (board : Held) (r : Reading) → Keeps base board r → 0 < length r.waiting
+    → Contains (seen_objects base.transcript.accesses) (first_or_zero r.waiting)
 first_seen base board r kept waits = member_of_all (Contains (seen_objects base.transcript.accesses)) r.waiting (first_or_zero r.waiting) kept.sound.waiting_seen (first_is_member r.waiting waits)
 
 tame_need : (base : Base) (board : Held) (r : Reading) → Keeps base board r → IsOfSeen base.transcript (need_at base.transcript.lists r)

@@ -39,7 +39,8 @@ length-with_new ws object true = omega (arith, length-append ws (object ∷ []))
 length-with_new ws object false = omega arith
 
 -- an object that waits behind the first isn't the row's first
-later_still : (os ws : List ℕ) (object : ℕ) (is_new : Bool) → length ws ≤ length os → ((x : ℕ) → Contains (drop 1 ws) x → slice_index os 0 ≢ x) → (is_new ≡ true → ¬ Contains os object) → (x : ℕ) → Contains (drop 1 (with_new ws object is_new)) x → slice_index (os ++ object ∷ []) 0 ≢ x
+later_still : (os ws : List ℕ) (object : ℕ) (is_new : Bool) → length ws ≤ length os → ((x : ℕ) → Contains (drop 1 ws) x → slice_index os 0 ≢ x)
+    → (is_new ≡ true → ¬ Contains os object) → (x : ℕ) → Contains (drop 1 (with_new ws object is_new)) x → slice_index (os ++ object ∷ []) 0 ≢ x
 later_still [] [] object true few later fresh x h = absurd (contains_nil x h)
 later_still [] [] object false few later fresh x h = absurd (contains_nil x h)
 later_still [] (w ∷ ws) object is_new few later fresh x h = absurd (omega arith)
@@ -53,7 +54,9 @@ later_still (o ∷ os) (w ∷ ws) object true few later fresh x h =
 later_still (o ∷ os) (w ∷ ws) object false few later fresh x h = later x h
 
 -- after one more row
-pub sound_row : (m : ℕ) (A : List Access) (r : Reading) (row : Row) (is_new : Bool) → IsSound m A r → length r.objects < m → length r.grades ≡ 0 → row.grade ≤ 1000000 → (is_new ≡ true → ¬ Contains (seen_objects A) row.object) → IsSound m (A ++ Sorted (length r.objects) row.object row.grade ∷ []) (row_added m r row is_new)
+pub sound_row : (m : ℕ) (A : List Access) (r : Reading) (row : Row) (is_new : Bool) → IsSound m A r → length r.objects < m → length r.grades ≡ 0
+    → row.grade ≤ 1000000 → (is_new ≡ true → ¬ Contains (seen_objects A) row.object)
+    → IsSound m (A ++ Sorted (length r.objects) row.object row.grade ∷ []) (row_added m r row is_new)
 sound_row m A r row is_new s short none capped fresh =
     let a : Access = Sorted (length r.objects) row.object row.grade in
     let seen : Contains (seen_objects (A ++ a ∷ [])) row.object = seen_from_access (A ++ a ∷ []) (length r.objects) row.object row.grade (Contains-push A a) in
@@ -85,7 +88,8 @@ sound_row m A r row is_new s short none capped fresh =
     }
 
 -- after one more grade
-pub sound_grade : (m : ℕ) (A : List Access) (r : Reading) (grade : ℕ) → IsSound m A r → 0 < length r.waiting → grade ≤ 1000000 → IsSound m (A ++ Random (length r.grades) (first_or_zero r.waiting) grade ∷ []) (grade_added r grade)
+pub sound_grade : (m : ℕ) (A : List Access) (r : Reading) (grade : ℕ) → IsSound m A r → 0 < length r.waiting → grade ≤ 1000000
+    → IsSound m (A ++ Random (length r.grades) (first_or_zero r.waiting) grade ∷ []) (grade_added r grade)
 sound_grade m A r grade s waits capped =
     let a : Access = Random (length r.grades) (first_or_zero r.waiting) grade in
     let more : (x : ℕ) → Contains (seen_objects A) x → Contains (seen_objects (A ++ a ∷ [])) x = λ x h. seen_more A (a ∷ []) x h in
@@ -107,7 +111,8 @@ pub record IsFed (m : ℕ) (r : Reading) : Type 0 where
   pub within : length r.grades ≤ m
   pub after_row : m ≤ length r.objects → 0 < length r.waiting → length r.grades < m → slice_index r.objects (length r.grades) ≢ first_or_zero r.waiting
 
-pub fed_row : (m : ℕ) (r : Reading) (row : Row) (is_new : Bool) → 1 ≤ m → length r.objects < m → length r.bottoms ≡ length r.objects → IsFed m (row_added m r row is_new)
+pub fed_row : (m : ℕ) (r : Reading) (row : Row) (is_new : Bool) → 1 ≤ m → length r.objects < m → length r.bottoms ≡ length r.objects
+    → IsFed m (row_added m r row is_new)
 fed_row m r row is_new positive short same =
     let os : List ℕ = r.objects ++ row.object ∷ [] in
     let bs : List ℕ = r.bottoms ++ row.grade ∷ [] in
@@ -134,14 +139,18 @@ fed_row m r row is_new positive short same =
           }
     ]
   where
-    at_most : length (r.objects ++ row.object ∷ []) ≡ length r.objects + 1 → (length (r.objects ++ row.object ∷ []) ≡ m → ⊥) → m ≤ length (r.objects ++ row.object ∷ []) → ⊥
+    at_most : length (r.objects ++ row.object ∷ []) ≡ length r.objects + 1 → (length (r.objects ++ row.object ∷ []) ≡ m → ⊥)
+        → m ≤ length (r.objects ++ row.object ∷ []) → ⊥
     at_most long n l = n (omega arith)
 
-    first_fed : (os bs ws : List ℕ) → length bs ≡ length os → (length (filled_first os bs ws) ≡ length os → 0 < length os → 0 < length ws) × (length (filled_first os bs ws) ≤ length os) × (0 < length ws → length (filled_first os bs ws) < length os → slice_index os (length (filled_first os bs ws)) ≢ first_or_zero ws)
+    first_fed : (os bs ws : List ℕ) → length bs ≡ length os
+        → (length (filled_first os bs ws) ≡ length os → 0 < length os → 0 < length ws) × (length (filled_first os bs ws) ≤ length os) × (0 < length ws
+        → length (filled_first os bs ws) < length os → slice_index os (length (filled_first os bs ws)) ≢ first_or_zero ws)
     first_fed os bs [] e = ((λ a b. absurd (omega arith)), omega arith, (λ w. absurd (omega arith)))
     first_fed os bs (object ∷ ws) e = ((λ a b. omega arith), length-grades_in_row object os bs, (λ w h. grades_in_row_end object os bs e h))
 
-pub fed_grade : (m : ℕ) (r : Reading) (grade : ℕ) → length r.objects ≡ m → length r.bottoms ≡ length r.objects → 0 < length r.waiting → length r.grades < m → IsFed m (grade_added r grade)
+pub fed_grade : (m : ℕ) (r : Reading) (grade : ℕ) → length r.objects ≡ m → length r.bottoms ≡ length r.objects → 0 < length r.waiting → length r.grades < m
+    → IsFed m (grade_added r grade)
 fed_grade m r grade whole same waits short =
     let object : ℕ = first_or_zero r.waiting in
     let g : List ℕ = r.grades ++ grade ∷ [] in
@@ -180,7 +189,9 @@ first_later [] l = absurd (omega arith)
 first_later (w ∷ []) l = absurd (omega arith)
 first_later (w ∷ v ∷ ws) l = contains_here v ws
 
-sound_moved : (m : ℕ) (A : List Access) (stops : Bool) (r : Reading) → IsSound m A r → 1 ≤ m → r.done ≡ false → (length r.objects < m → length r.grades ≡ 0) → (m ≤ length r.objects → 0 < length r.waiting → (length r.grades < m) × (slice_index r.objects (length r.grades) ≢ first_or_zero r.waiting)) → IsSound m A (moved m stops r) × IsAtRest m (moved m stops r)
+sound_moved : (m : ℕ) (A : List Access) (stops : Bool) (r : Reading) → IsSound m A r → 1 ≤ m → r.done ≡ false → (length r.objects < m → length r.grades ≡ 0)
+    → (m ≤ length r.objects → 0 < length r.waiting → (length r.grades < m) × (slice_index r.objects (length r.grades) ≢ first_or_zero r.waiting))
+    → IsSound m A (moved m stops r) × IsAtRest m (moved m stops r)
 sound_moved m A stops r s positive open' in_row after_row =
     elim (cases_eq (length r.objects) m) [
       | inr n ↦
@@ -222,7 +233,8 @@ sound_moved m A stops r s positive open' in_row after_row =
           record { in_row = λ l. refl; after_row = λ o l. absurd (omega arith) },
         )
 
-pub sound_followed : (V : List ℕ → ℕ) (k m : ℕ) (A : List Access) (items : List Item) (r : Reading) → 1 ≤ m → r.done ≡ false → IsSound m A r → IsFed m r → IsSound m A (followed V k m items r) × IsAtRest m (followed V k m items r)
+pub sound_followed : (V : List ℕ → ℕ) (k m : ℕ) (A : List Access) (items : List Item) (r : Reading) → 1 ≤ m → r.done ≡ false → IsSound m A r → IsFed m r
+    → IsSound m A (followed V k m items r) × IsAtRest m (followed V k m items r)
 sound_followed V k m A items r positive open' s fed =
     let stops : Bool = enough k (V r.bottoms) items in
     elim (cases_eq (length r.grades) m) [

@@ -24,7 +24,8 @@ on_row V k n D A r open' on =
     subst (λ b. MatchBool b (IsMade V k D A r) (MatchBool (nat_lt (length r.objects) (length D)) (OnRow V k n D A r) (OnAsks V k n D A r))) (sym open')
     (subst (λ b. MatchBool b (OnRow V k n D A r) (OnAsks V k n D A r)) (sym (lt-ltb (length r.objects) (length D) on.unread)) on)
 
-on_asks : (V : List ℕ → ℕ) (k n : ℕ) (D : List (List Row)) (A : List Access) (r : Reading) → r.done ≡ false → length D ≤ length r.objects → OnAsks V k n D A r → OnReading V k n D A r
+on_asks : (V : List ℕ → ℕ) (k n : ℕ) (D : List (List Row)) (A : List Access) (r : Reading) → r.done ≡ false → length D ≤ length r.objects → OnAsks V k n D A r
+    → OnReading V k n D A r
 on_asks V k n D A r open' whole on =
     subst (λ b. MatchBool b (IsMade V k D A r) (MatchBool (nat_lt (length r.objects) (length D)) (OnRow V k n D A r) (OnAsks V k n D A r))) (sym open')
     (subst (λ b. MatchBool b (OnRow V k n D A r) (OnAsks V k n D A r)) (sym (le-ltb (length r.objects) (length D) whole)) on)
@@ -33,17 +34,20 @@ made : (V : List ℕ → ℕ) (k n : ℕ) (D : List (List Row)) (A : List Access
 made V k n D A r done on =
     subst (λ b. MatchBool b (IsMade V k D A r) (MatchBool (nat_lt (length r.objects) (length D)) (OnRow V k n D A r) (OnAsks V k n D A r))) (sym done) on
 
-pub row_of_reading : (V : List ℕ → ℕ) (k n : ℕ) (D : List (List Row)) (A : List Access) (r : Reading) → r.done ≡ false → length r.objects < length D → OnReading V k n D A r → OnRow V k n D A r
+pub row_of_reading : (V : List ℕ → ℕ) (k n : ℕ) (D : List (List Row)) (A : List Access) (r : Reading) → r.done ≡ false → length r.objects < length D
+    → OnReading V k n D A r → OnRow V k n D A r
 row_of_reading V k n D A r open' short on =
     subst (λ b. MatchBool b (OnRow V k n D A r) (OnAsks V k n D A r)) (lt-ltb (length r.objects) (length D) short)
     (subst (λ b. MatchBool b (IsMade V k D A r) (MatchBool (nat_lt (length r.objects) (length D)) (OnRow V k n D A r) (OnAsks V k n D A r))) open' on)
 
-pub asks_of_reading : (V : List ℕ → ℕ) (k n : ℕ) (D : List (List Row)) (A : List Access) (r : Reading) → r.done ≡ false → length D ≤ length r.objects → OnReading V k n D A r → OnAsks V k n D A r
+pub asks_of_reading : (V : List ℕ → ℕ) (k n : ℕ) (D : List (List Row)) (A : List Access) (r : Reading) → r.done ≡ false → length D ≤ length r.objects
+    → OnReading V k n D A r → OnAsks V k n D A r
 asks_of_reading V k n D A r open' whole on =
     subst (λ b. MatchBool b (OnRow V k n D A r) (OnAsks V k n D A r)) (le-ltb (length r.objects) (length D) whole)
     (subst (λ b. MatchBool b (IsMade V k D A r) (MatchBool (nat_lt (length r.objects) (length D)) (OnRow V k n D A r) (OnAsks V k n D A r))) open' on)
 
-pub made_of_reading : (V : List ℕ → ℕ) (k n : ℕ) (D : List (List Row)) (A : List Access) (r : Reading) → r.done ≡ true → OnReading V k n D A r → IsMade V k D A r
+pub made_of_reading : (V : List ℕ → ℕ) (k n : ℕ) (D : List (List Row)) (A : List Access) (r : Reading) → r.done ≡ true → OnReading V k n D A r
+    → IsMade V k D A r
 made_of_reading V k n D A r done on =
     subst (λ b. MatchBool b (IsMade V k D A r) (MatchBool (nat_lt (length r.objects) (length D)) (OnRow V k n D A r) (OnAsks V k n D A r))) done on
 
@@ -61,13 +65,16 @@ moved_on m stops r h = ap (λ b. cond b (cond stops (record r { done = true }) (
     open_row (inl n) = ap (λ b. b && (length r.waiting == 0)) (ne_eqb (length r.objects) m n)
     open_row (inr w) = and_right (length r.objects == m) (length r.waiting == 0) (ne_eqb (length r.waiting) 0 (λ e. absurd (omega arith)))
 
-pub moved_down : (m : ℕ) (stops : Bool) (r : Reading) → length r.objects ≡ m → length r.waiting ≡ 0 → moved m stops r ≡ cond stops (record r { done = true }) (row_begun (r.depth + 1))
+pub moved_down : (m : ℕ) (stops : Bool) (r : Reading) → length r.objects ≡ m → length r.waiting ≡ 0
+    → moved m stops r ≡ cond stops (record r { done = true }) (row_begun (r.depth + 1))
 moved_down m stops r e w =
     ap (λ b. cond b (cond stops (record r { done = true }) (row_begun (r.depth + 1))) r)
     (ap (λ b. b && (length r.waiting == 0)) (eq-eqb (length r.objects) m e) ∙ eq-eqb (length r.waiting) 0 w)
 
 -- in a row nothing else follows
-pub row_follows_on : (V : List ℕ → ℕ) (k n : ℕ) (D : List (List Row)) (A : List Access) (r : Reading) (items : List Item) → 0 < length D → r.done ≡ false → length r.grades ≡ 0 → OnRow V k n D A r → OnBoard V D A r.waiting items → OnTable V k n D A (followed V k (length D) (items_after V (length D) items r) r) (items_after V (length D) items r)
+pub row_follows_on : (V : List ℕ → ℕ) (k n : ℕ) (D : List (List Row)) (A : List Access) (r : Reading) (items : List Item) → 0 < length D → r.done ≡ false
+    → length r.grades ≡ 0 → OnRow V k n D A r → OnBoard V D A r.waiting items
+    → OnTable V k n D A (followed V k (length D) (items_after V (length D) items r) r) (items_after V (length D) items r)
 row_follows_on V k n D A r items l open' none on board =
     let m : ℕ = length D in
     let unscored : length r.grades ≢ m = λ e. absurd (omega arith) in
@@ -79,7 +86,8 @@ row_follows_on V k n D A r items l open' none on board =
     (subst (λ xs. OnTable V k n D A r xs) (sym same_items) (record { reading = on_row V k n D A r open' on; board = board }))
 
 -- a whole row goes on with what waits, ends the run or makes room for the next row
-row_moves : (V : List ℕ → ℕ) (k n : ℕ) (D : List (List Row)) (A : List Access) (r : Reading) (items : List Item) → IsMonotone V → IsAsked k n D → r.done ≡ false → OnAsks V k n D A r → OnBoard V D A r.waiting items → OnTable V k n D A (moved (length D) (enough k (V r.bottoms) items) r) items
+row_moves : (V : List ℕ → ℕ) (k n : ℕ) (D : List (List Row)) (A : List Access) (r : Reading) (items : List Item) → IsMonotone V → IsAsked k n D
+    → r.done ≡ false → OnAsks V k n D A r → OnBoard V D A r.waiting items → OnTable V k n D A (moved (length D) (enough k (V r.bottoms) items) r) items
 row_moves V k n D A r items monotone asked open' on board =
     let m : ℕ = length D in
     let long : length r.objects ≡ m = ap length on.objects_are ∙ length-map (λ (rows : List Row). (row_at rows r.depth).object) D in
@@ -120,7 +128,10 @@ row_moves V k n D A r items monotone asked open' on board =
     empty_list [] e = refl
     empty_list (x ∷ xs) e = absurd (omega arith)
 
-pub asks_follow_on : (V : List ℕ → ℕ) (k n : ℕ) (D : List (List Row)) (A : List Access) (r : Reading) (items : List Item) → IsMonotone V → IsAsked k n D → r.done ≡ false → (length r.grades ≡ length D → 0 < length r.waiting) → ((object : ℕ) → Contains r.waiting object → Contains (seen_objects A) object) → OnAsks V k n D A r → OnBoard V D A r.waiting items → OnTable V k n D A (followed V k (length D) (items_after V (length D) items r) r) (items_after V (length D) items r)
+pub asks_follow_on : (V : List ℕ → ℕ) (k n : ℕ) (D : List (List Row)) (A : List Access) (r : Reading) (items : List Item) → IsMonotone V → IsAsked k n D
+    → r.done ≡ false → (length r.grades ≡ length D → 0 < length r.waiting) → ((object : ℕ) → Contains r.waiting object → Contains (seen_objects A) object)
+    → OnAsks V k n D A r → OnBoard V D A r.waiting items
+    → OnTable V k n D A (followed V k (length D) (items_after V (length D) items r) r) (items_after V (length D) items r)
 asks_follow_on V k n D A r items monotone asked open' filled seen on board =
     let m : ℕ = length D in
     elim (cases_eq (length r.grades) m) [
@@ -132,7 +143,8 @@ asks_follow_on V k n D A r items monotone asked open' filled seen on board =
       | inl whole ↦ scored_on r.waiting refl whole
     ]
   where
-    scored_on : (ws : List ℕ) → r.waiting ≡ ws → length r.grades ≡ length D → OnTable V k n D A (followed V k (length D) (items_after V (length D) items r) r) (items_after V (length D) items r)
+    scored_on : (ws : List ℕ) → r.waiting ≡ ws → length r.grades ≡ length D
+        → OnTable V k n D A (followed V k (length D) (items_after V (length D) items r) r) (items_after V (length D) items r)
     scored_on [] is whole = absurd (omega (arith, filled whole, ap length is))
     scored_on (object ∷ waiting) is whole =
         let m : ℕ = length D in

@@ -30,7 +30,8 @@ use Rattle.ta_core.proofs.Runs.{first_member}
 use Rattle.ta_core.proofs.Steps.{asks_of_reading}
 
 -- ---- lists of different numbers
-distinct_append : (xs ys : List ℕ) → AllPairs (λ (a b : ℕ). a ≢ b) xs → AllPairs (λ (a b : ℕ). a ≢ b) ys → ((x : ℕ) → Contains xs x → ¬ Contains ys x) → AllPairs (λ (a b : ℕ). a ≢ b) (xs ++ ys)
+distinct_append : (xs ys : List ℕ) → AllPairs (λ (a b : ℕ). a ≢ b) xs → AllPairs (λ (a b : ℕ). a ≢ b) ys → ((x : ℕ) → Contains xs x → ¬ Contains ys x)
+    → AllPairs (λ (a b : ℕ). a ≢ b) (xs ++ ys)
 distinct_append [] ys apart others none = others
 distinct_append (x ∷ xs) ys apart others none =
     AllPairs-cons (λ (a b : ℕ). a ≢ b) x (xs ++ ys)
@@ -56,7 +57,8 @@ distinct_apart (z ∷ xs) x ys apart c =
 asked_append : (list : ℕ) (A B : List Access) → asked_of_list list (A ++ B) ≡ asked_of_list list A ++ asked_of_list list B
 asked_append list A B = ap objects (random_rows_append list A B) ∙ map-append (λ (row : Row). row.object) (random_rows list A) (random_rows list B)
 
-asked_if : (here : Bool) {then : Bool} (row : Row) (rows : List Row) → here ≡ then → objects (cons_option (cond here (Some row) None) rows) ≡ objects (cons_option (cond then (Some row) None) rows)
+asked_if : (here : Bool) {then : Bool} (row : Row) (rows : List Row) → here ≡ then
+    → objects (cons_option (cond here (Some row) None) rows) ≡ objects (cons_option (cond then (Some row) None) rows)
 asked_if here row rows e = ap (λ b. objects (cons_option (cond b (Some row) None) rows)) e
 
 asked_here : (list object grade : ℕ) (A : List Access) → asked_of_list list (Random list object grade ∷ A) ≡ object ∷ asked_of_list list A
@@ -78,7 +80,8 @@ none_above list start depth object (rows ∷ D) l =
           ∙ later
     ]
 
-one_of_block : (list start depth object : ℕ) (D : List (List Row)) → (asked_of_list list (random_block start depth object D) ≡ []) ⊎ (asked_of_list list (random_block start depth object D) ≡ object ∷ [])
+one_of_block : (list start depth object : ℕ) (D : List (List Row))
+    → (asked_of_list list (random_block start depth object D) ≡ []) ⊎ (asked_of_list list (random_block start depth object D) ≡ object ∷ [])
 one_of_block list start depth object [] = inl refl
 one_of_block list start depth object (rows ∷ D) =
     elim (cases_lt (place_in rows object) depth) [
@@ -107,7 +110,8 @@ one_of_block list start depth object (rows ∷ D) =
 abbrev blocks : ℕ → List (List Row) → List ℕ → List Access
 blocks depth D os = flat_map (λ object. random_block 0 depth object D) os
 
-asked_blocks : (list depth object : ℕ) (D : List (List Row)) (os : List ℕ) → asked_of_list list (blocks depth D (object ∷ os)) ≡ asked_of_list list (random_block 0 depth object D) ++ asked_of_list list (blocks depth D os)
+asked_blocks : (list depth object : ℕ) (D : List (List Row)) (os : List ℕ)
+    → asked_of_list list (blocks depth D (object ∷ os)) ≡ asked_of_list list (random_block 0 depth object D) ++ asked_of_list list (blocks depth D os)
 asked_blocks list depth object D os = asked_append list (random_block 0 depth object D) (blocks depth D os)
 
 within_blocks : (list depth : ℕ) (D : List (List Row)) (os : List ℕ) (o : ℕ) → Contains (asked_of_list list (blocks depth D os)) o → Contains os o
@@ -124,7 +128,8 @@ within_blocks list depth D (object ∷ os) o c =
       | inr there ↦ contains_there object os o (within_blocks list depth D os o there)
     ]
 
-blocks_once : (list depth : ℕ) (D : List (List Row)) (os : List ℕ) → AllPairs (λ (a b : ℕ). a ≢ b) os → AllPairs (λ (a b : ℕ). a ≢ b) (asked_of_list list (blocks depth D os))
+blocks_once : (list depth : ℕ) (D : List (List Row)) (os : List ℕ) → AllPairs (λ (a b : ℕ). a ≢ b) os
+    → AllPairs (λ (a b : ℕ). a ≢ b) (asked_of_list list (blocks depth D os))
 blocks_once list depth D [] apart = apart
 blocks_once list depth D (object ∷ os) apart =
     let later : AllPairs (λ (a b : ℕ). a ≢ b) (asked_of_list list (blocks depth D os)) = blocks_once list depth D os (distinct_tail object os apart) in
@@ -146,7 +151,8 @@ random_row_of list (Random other object grade) row e =
 seen_in : (A B : List Access) (o : ℕ) → A ≡ B → Contains (seen_objects B) o → Contains (seen_objects A) o
 seen_in A B o e c = subst (λ (C : List Access). Contains (seen_objects C) o) (sym e) c
 
-asked_stands : (n : ℕ) (D : List (List Row)) (depth list o : ℕ) → IsTable n D → depth ≤ n → Contains (asked_of_list list (ta_run_to D depth)) o → stands D depth o ≡ true
+asked_stands : (n : ℕ) (D : List (List Row)) (depth list o : ℕ) → IsTable n D → depth ≤ n → Contains (asked_of_list list (ta_run_to D depth)) o
+    → stands D depth o ≡ true
 asked_stands n D depth list o t within c =
     let run : List Access = ta_run_to D depth in
     let row = contains_map_from (λ (r : Row). r.object) (random_rows list run) o c in
@@ -168,7 +174,8 @@ new_unstands D depth o c =
 new_distinct : (D : List (List Row)) (depth : ℕ) → AllPairs (λ (a b : ℕ). a ≢ b) (new_objects D depth)
 new_distinct D depth = AllPairs-filter (λ (a b : ℕ). a ≢ b) (λ object. not (stands D (depth - 1) object)) (each_once (map (λ (rows : List Row). (row_at rows depth).object) D)) (each_once_distinct (map (λ (rows : List Row). (row_at rows depth).object) D))
 
-run_asked : (D : List (List Row)) (depth list : ℕ) → asked_of_list list (ta_run_to D (suc depth)) ≡ asked_of_list list (ta_run_to D depth) ++ asked_of_list list (blocks (suc depth) D (new_objects D (suc depth)))
+run_asked : (D : List (List Row)) (depth list : ℕ)
+    → asked_of_list list (ta_run_to D (suc depth)) ≡ asked_of_list list (ta_run_to D depth) ++ asked_of_list list (blocks (suc depth) D (new_objects D (suc depth)))
 run_asked D depth list =
     asked_append list (ta_run_to D depth) (ta_block D (suc depth))
     ∙ ap (λ os. asked_of_list list (ta_run_to D depth) ++ os)
@@ -185,14 +192,16 @@ run_once n D (suc depth) list t within =
     (λ o before here. true≢false (sym (asked_stands n D depth list o t (omega arith) before) ∙ new_unstands D depth o (within_blocks list (suc depth) D (new_objects D (suc depth)) o here))))
 
 -- so the next random access of the run is none that was made
-pub unasked : (n : ℕ) (D : List (List Row)) (depth list object grade : ℕ) (A later : List Access) → IsTable n D → depth ≤ n → A ++ Random list object grade ∷ later ≡ ta_run_to D depth → ¬ Contains (asked_of_list list A) object
+pub unasked : (n : ℕ) (D : List (List Row)) (depth list object grade : ℕ) (A later : List Access) → IsTable n D → depth ≤ n
+    → A ++ Random list object grade ∷ later ≡ ta_run_to D depth → ¬ Contains (asked_of_list list A) object
 unasked n D depth list object grade A later t within path =
     let parts : asked_of_list list (ta_run_to D depth) ≡ asked_of_list list A ++ object ∷ asked_of_list list later =
     ap (asked_of_list list) (sym path) ∙ asked_append list A (Random list object grade ∷ later) ∙ ap (λ os. asked_of_list list A ++ os) (asked_here list object grade later) in
     distinct_apart (asked_of_list list A) object (asked_of_list list later) (subst (AllPairs (λ (a b : ℕ). a ≢ b)) parts (run_once n D depth list t within))
 
 -- so of the first object that waits no access asked the list that comes next
-pub waiting_unasked : (e : Tree) (k room m n : ℕ) (A : List Access) (board : Held) (r : Reading) → IsKept e k room m n A board r → r.done ≡ false → m ≤ length r.objects → ¬ Contains (asked_of_list (length r.grades) A) (first_or_zero r.waiting)
+pub waiting_unasked : (e : Tree) (k room m n : ℕ) (A : List Access) (board : Held) (r : Reading) → IsKept e k room m n A board r → r.done ≡ false
+    → m ≤ length r.objects → ¬ Contains (asked_of_list (length r.grades) A) (first_or_zero r.waiting)
 waiting_unasked e k room m n A board r kept open' whole =
     let V = value e in
     let D = kept.base.agreeing.0 in

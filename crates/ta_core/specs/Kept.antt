@@ -26,7 +26,8 @@ pub record IsSound (m : ℕ) (A : List Access) (r : Reading) : Type 0 where
 -- between accesses: in a row no grades are there, and after it the first object that waits misses one
 pub record IsAtRest (m : ℕ) (r : Reading) : Type 0 where
   pub in_row : length r.objects < m → length r.grades ≡ 0
-  pub after_row : r.done ≡ false → m ≤ length r.objects → (0 < length r.waiting) × (length r.grades < m) × (slice_index r.objects (length r.grades) ≢ first_or_zero r.waiting)
+  pub after_row : r.done ≡ false → m ≤ length r.objects
+      → (0 < length r.waiting) × (length r.grades < m) × (slice_index r.objects (length r.grades) ≢ first_or_zero r.waiting)
 
 -- what is kept over m lists of n objects after the accesses A
 pub record IsKept (e : Tree) (k room m n : ℕ) (A : List Access) (board : Held) (r : Reading) : Type 0 where

@@ -30,7 +30,8 @@ pub record OnRow (V : List ℕ → ℕ) (k n : ℕ) (D : List (List Row)) (A : L
 -- the random accesses to come of the objects that wait, where these grades of the first are there
 abbrev pub asks : List (List Row) → ℕ → List ℕ → List ℕ → List Access
 asks D depth [] grades = []
-asks D depth (object ∷ waiting) grades = random_block (length grades) depth object (drop (length grades) D) ++ flat_map (λ other. random_block 0 depth other D) waiting
+asks D depth (object ∷ waiting) grades =
+    random_block (length grades) depth object (drop (length grades) D) ++ flat_map (λ other. random_block 0 depth other D) waiting
 
 -- the grades are the first ones of the first object
 abbrev pub AreFirstGrades : List (List Row) → List ℕ → List ℕ → Type 0

@@ -86,4 +86,5 @@ followed V k m items r = moved m (enough k (V r.bottoms) items) (settled m r)
 
 -- what is next
 abbrev pub need_at : ℕ → Reading → Need
-need_at m r = if r.done then Done else (if nat_lt (length r.objects) m then RowAt (length r.objects) r.depth else Grade (length r.grades) (first_or_zero r.waiting))
+need_at m r =
+    if r.done then Done else (if nat_lt (length r.objects) m then RowAt (length r.objects) r.depth else Grade (length r.grades) (first_or_zero r.waiting))

@@ -5,7 +5,8 @@ use Rattle.ta_core.specs.Reading.{Reading, filled}
 
 -- the reading of a progress
 abbrev pub reading_of : Progress → Reading
-reading_of p = record { depth = p.depth; objects = p.objects.items; bottoms = p.bottoms.items; waiting = p.waiting.items; grades = p.grades.items; done = p.done }
+reading_of p =
+    record { depth = p.depth; objects = p.objects.items; bottoms = p.bottoms.items; waiting = p.waiting.items; grades = p.grades.items; done = p.done }
 
 -- the grades of the first object that waits, with those that follow in the row
 abbrev pub filled_for : List ℕ → List ℕ → List ℕ → List ℕ → List ℕ

@@ -5,7 +5,7 @@ ghost use Rattle.ta_core.specs.Reading.{filled, row_added, grade_added, settled,
 ghost use Rattle.ta_core.specs.Shown.{reading_of, filled_for};
 
 use arrayvec::ArrayVec;
-use monotone_fn::MAX_LISTS;
+use limits::MAX_LISTS;
 use ranked_list::{Need, Row};
 
 /// At most one number for each list.

@@ -11,6 +11,7 @@ ghost use Rattle.ta_core.specs.Shown.{reading_of};
 use super::progress::Progress;
 use access_log::{Access, Answer, CoreFault, Transcript};
 use best_k::Board;
+use limits::MAX_OBJECTS;
 use machine_base::{Base, Memory, Need};
 use monotone_fn::{Costs, Expr};
 use ranked_list::Row;
@@ -62,7 +63,7 @@ impl Ta {
     ) -> Result<Ta, Memory>
         requires asked { 1 ≤ k }
         requires fits { k ≤ count }
-        requires counted { count ≤ 200000 }
+        requires counted { count ≤ MAX_OBJECTS }
         requires roomy { 1 ≤ room }
         ensures begun { IfOk result (IsBegun expr k count room costs) }
         ensures run { IfOk result MakesItsRun }

@@ -11,7 +11,10 @@ use Rattle.topk_theory.proofs.AgreementLists.{contains_map, contains_map_from, a
 use Rattle.topk_theory.proofs.ConsistentRows.{by_grade_ranked, by_grade_members, by_grade_has, graded_distinct, graded_has}
 use Rattle.topk_theory.proofs.AdversaryOrder.{by_grade_is}
 use Rattle.table_make.specs.Made.{next_state, state_after, grade_of, made_grade, made_list, made_table}
-use Rattle.table_make.proofs.Sorting.{AreApart}
+
+-- no two rows are of one object
+abbrev pub AreApart : List Row → Type 0
+AreApart rows = AllPairs (λ (row : Row) (other : Row). row.object ≢ other.object) rows
 
 -- the grades of the states after one state
 abbrev pub grade_after : ℕ → ℕ → ℕ
@@ -25,7 +28,8 @@ rows_after state count = graded (grade_after state) (range_with_len 1 count)
 pub state_more : (state steps : ℕ) → state_after state (steps + 1) ≡ next_state (state_after state steps)
 state_more state steps = let e : steps + 1 ≡ suc steps = omega arith in ap (state_after state) e
 
-pub rows_more : (state steps : ℕ) → rows_after state (steps + 1) ≡ rows_after state steps ++ record { object = steps + 1; grade = grade_of (next_state (state_after state steps)) } ∷ []
+pub rows_more : (state steps : ℕ)
+    → rows_after state (steps + 1) ≡ rows_after state steps ++ record { object = steps + 1; grade = grade_of (next_state (state_after state steps)) } ∷ []
 rows_more state steps =
     map-range_with_len_more (λ object. record { object = object; grade = grade_after state object }) 1 steps (steps + 1) (omega arith)
     ∙ ap (λ s. rows_after state steps ++ record { object = steps + 1; grade = grade_of s } ∷ []) (state_more state steps)
@@ -68,7 +72,8 @@ list_next start count lists =
 pub table_more : (start count lists : ℕ) → made_table start count (lists + 1) ≡ made_table start count lists ++ made_list start count lists ∷ []
 table_more start count lists = map-range_with_len_more (made_list start count) 0 lists lists (omega arith)
 
-pub state_pushed_on : (start count lists before now : ℕ) → before ≡ state_after start (lists * count) → now ≡ state_after before count → now ≡ state_after start ((lists + 1) * count)
+pub state_pushed_on : (start count lists before now : ℕ) → before ≡ state_after start (lists * count) → now ≡ state_after before count
+    → now ≡ state_after start ((lists + 1) * count)
 state_pushed_on start count lists before now at step = step ∙ ap (λ s. state_after s count) at ∙ state_next start count lists
 
 pub table_pushed : (start count lists before : ℕ) (table pushed : List (List Row)) (list : List Row) → table ≡ made_table start count lists

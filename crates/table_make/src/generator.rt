@@ -3,7 +3,7 @@
 ghost use Rattle.std.specs.Prelude.{◌≡◌};
 ghost use Rattle.table_make.specs.Made.{next_state, grade_of};
 
-use ranked_list::TOP_GRADE;
+use limits::TOP_GRADE;
 
 /// What a state is multiplied with, and what is added then. Both are Knuth's, of MMIX.
 const MULTIPLIER: u64 = 6_364_136_223_846_793_005;

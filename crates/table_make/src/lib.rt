@@ -2,7 +2,6 @@
 #![tactic(auto)]
 
 mod generator;
-mod order;
 mod table;
 
 pub use table::make_table;

@@ -8,9 +8,9 @@ ghost use Rattle.table_make.specs.Made.{state_after, grade_of, made_table};
 
 use super::Memory;
 use super::generator::Generator;
-use super::order::put_in_order;
 use ranked_list::{MemList, Row};
 use std::alloc::Global;
+use topk_theory::sort_by_grade;
 
 /// The rows of the objects 1 to `count`, with the next grades of the generator.
 fn next_rows(alloc: Global, generator: &mut Generator, count: u32) -> Result<Vec<Row>, Memory>
@@ -50,7 +50,7 @@ fn next_list(alloc: Global, generator: &mut Generator, count: u32) -> Result<Mem
     ensures state { OnOk result (generator.new.state ≡ state_after generator.old.state count) }
 {
     let mut rows = next_rows(alloc, generator, count)?;
-    put_in_order(&mut rows);
+    sort_by_grade(&mut rows);
     list_of(alloc, &rows)
 }
 

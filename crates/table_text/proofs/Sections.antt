@@ -1,67 +1,27 @@
 -- One text put after another.
-use Rattle.std.proofs.Common.{◌≡◌, inl, inr, ℕ, ◌≤◌, ◌<◌, ◌+◌, List, [], ◌∷◌, ◌++◌, length, take, get_or, map, Option, Some, None, refl, sym, ap, ◌∙◌, subst, append-nil, arith}
-use Rattle.std.specs.List.{flat_map, slice_get, zip}
-use Rattle.std.proofs.lemmas.Option.{slice_get_within, get_or_from_slice_get, slice_get_cases}
-use Rattle.std.proofs.lemmas.List.{take_more, map-append, take_all, length-take-le}
+use Rattle.std.proofs.Common.{◌≡◌, ℕ, ◌<◌, ◌+◌, List, [], ◌∷◌, ◌++◌, length, take, get_or, map, Option, sym, ap, ◌∙◌, subst, append-nil, arith}
+use Rattle.std.specs.List.{flat_map, zip}
+use Rattle.std.proofs.lemmas.List.{take_more, take_all, length-take-le}
 use Rattle.std.proofs.lemmas.List.FromFn.{map-range_with_len_more, length-map-range_with_len}
 use Rattle.std.proofs.lemmas.Grind.{flat_map-append}
 use Rattle.line_text.specs.Lines.{unlines}
+use Rattle.line_text.proofs.LineLaws.{unlines-append}
 use Rattle.ranked_list.specs.declared.row.Row.{Row}
 use Rattle.ranked_list.specs.Bundle.{list_line, row_line, section, sections}
+use Rattle.ranked_list.proofs.FrontLaws.{zip-push}
 use Rattle.tk_io.specs.Pieces.{Puts}
-use Rattle.tk_io.proofs.Putting.{puts_then}
+use Rattle.tk_io.proofs.Putting.{puts_then, puts_as}
 use Rattle.table_text.specs.Numbered.{list_name, list_names}
 
--- the same text in other words
-pub puts_as : (hb hn : Option (List ℕ)) (fb fn : ℕ) (before now : Option (List ℕ)) (a b : List ℕ) → a ≡ b → Puts hb hn fb fn before now b → Puts hb hn fb fn before now a
-puts_as hb hn fb fn before now a b same puts = subst (Puts hb hn fb fn before now) (sym same) puts
-
-pub unlines-append : (xs ys : List (List ℕ)) → unlines (xs ++ ys) ≡ unlines xs ++ unlines ys
-unlines-append xs ys = flat_map-append (λ (line : List ℕ). line ++ 10 ∷ []) xs ys
-
--- ---- rows
-rows_more : (rows : List Row) (i : ℕ) (row : Row) → slice_get rows i ≡ Some row
-    → unlines (map row_line (take (i + 1) rows)) ≡ unlines (map row_line (take i rows)) ++ (row_line row ++ 10 ∷ [])
-rows_more rows i row found =
-    ap (λ xs. unlines (map row_line xs)) (take_more rows i row (slice_get_within rows i row found) ∙ ap (λ (r : Row). take i rows ++ r ∷ []) (get_or_from_slice_get rows i row row found))
-    ∙ ap unlines (map-append row_line (take i rows) (row ∷ []))
-    ∙ unlines-append (map row_line (take i rows)) (row_line row ∷ [])
-    ∙ ap (λ t. unlines (map row_line (take i rows)) ++ t) (append-nil (row_line row ++ 10 ∷ []))
-
--- one row more was put
-pub puts_row : (rows : List Row) (i : ℕ) (row : Row) (hb hm hn : Option (List ℕ)) (fb fm fn : ℕ) (before mid now : Option (List ℕ)) → slice_get rows i ≡ Some row
-    → Puts hb hm fb fm before mid (unlines (map row_line (take i rows))) → Puts hm hn fm fn mid now (row_line row ++ 10 ∷ [])
-    → Puts hb hn fb fn before now (unlines (map row_line (take (i + 1) rows)))
-puts_row rows i row hb hm hn fb fm fn before mid now found first second =
-    puts_as hb hn fb fn before now _ _ (rows_more rows i row found)
-    (puts_then hb hm hn fb fm fn before mid now (unlines (map row_line (take i rows))) (row_line row ++ 10 ∷ []) first second)
-
--- all were
-pub puts_rows : (rows : List Row) (i : ℕ) (hb hn : Option (List ℕ)) (fb fn : ℕ) (before now : Option (List ℕ)) → length rows ≤ i
-    → Puts hb hn fb fn before now (unlines (map row_line (take i rows))) → Puts hb hn fb fn before now (unlines (map row_line rows))
-puts_rows rows i hb hn fb fn before now past puts = subst (λ xs. Puts hb hn fb fn before now (unlines (map row_line xs))) (take_all i rows past) puts
-
--- no row at a place: the list ends before it
-pub past_slice_get : {X : Type 0} (xs : List X) (i : ℕ) → slice_get xs i ≡ None → length xs ≤ i
-past_slice_get xs i none = elim (slice_get_cases xs i).1 [ inl found ↦ absurd cc | inr past ↦ past.0 ]
-
--- ---- sections
 pub puts_section : (name : List ℕ) (rows : List Row) (hb hm hn : Option (List ℕ)) (fb fm fn : ℕ) (before mid now : Option (List ℕ))
     → Puts hb hm fb fm before mid (list_line name ++ 10 ∷ []) → Puts hm hn fm fn mid now (unlines (map row_line rows)) → Puts hb hn fb fn before now (unlines (section name rows))
 puts_section name rows hb hm hn fb fm fn before mid now first second =
     puts_then hb hm hn fb fm fn before mid now (list_line name ++ 10 ∷ []) (unlines (map row_line rows)) first second
 
-zip_more : (names : List (List ℕ)) (lists : List (List Row)) (name : List ℕ) (rows : List Row) → length names ≡ length lists
-    → zip (names ++ name ∷ []) (lists ++ rows ∷ []) ≡ zip names lists ++ (name, rows) ∷ []
-zip_more [] [] name rows same = refl
-zip_more [] (l ∷ lists) name rows same = absurd (omega (arith, same))
-zip_more (n ∷ names) [] name rows same = absurd (omega (arith, same))
-zip_more (n ∷ names) (l ∷ lists) name rows same = ap (λ (z : List (List ℕ × List Row)). (n, l) ∷ z) (zip_more names lists name rows (omega (arith, same)))
-
 sections_more : (names : List (List ℕ)) (lists : List (List Row)) (name : List ℕ) (rows : List Row) → length names ≡ length lists
     → unlines (sections (names ++ name ∷ []) (lists ++ rows ∷ [])) ≡ unlines (sections names lists) ++ unlines (section name rows)
 sections_more names lists name rows same =
-    ap (λ (z : List (List ℕ × List Row)). unlines (flat_map (λ list. section list.0 list.1) z)) (zip_more names lists name rows same)
+    ap (λ (z : List (List ℕ × List Row)). unlines (flat_map (λ list. section list.0 list.1) z)) (zip-push names lists name rows same)
     ∙ ap unlines (flat_map-append (λ (list : List ℕ × List Row). section list.0 list.1) (zip names lists) ((name, rows) ∷ []))
     ∙ unlines-append (sections names lists) (section name rows ++ [])
     ∙ ap (λ ls. unlines (sections names lists) ++ unlines ls) (append-nil (section name rows))
@@ -77,7 +37,8 @@ lists_more lists place d within =
     ∙ sections_more (list_names place) (take place lists) (list_name (place + 1)) (get_or lists place d) as_many
 
 -- one list more was put
-pub puts_list : (lists : List (List Row)) (place : ℕ) (d : List Row) (hb hm hn : Option (List ℕ)) (fb fm fn : ℕ) (before mid now : Option (List ℕ)) → place < length lists
+pub puts_list : (lists : List (List Row)) (place : ℕ) (d : List Row) (hb hm hn : Option (List ℕ)) (fb fm fn : ℕ) (before mid now : Option (List ℕ))
+    → place < length lists
     → Puts hb hm fb fm before mid (unlines (sections (list_names place) (take place lists))) → Puts hm hn fm fn mid now (unlines (section (list_name (place + 1)) (get_or lists place d)))
     → Puts hb hn fb fn before now (unlines (sections (list_names (place + 1)) (take (place + 1) lists)))
 puts_list lists place d hb hm hn fb fm fn before mid now within first second =

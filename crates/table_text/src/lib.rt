@@ -4,4 +4,5 @@
 mod rows;
 mod table;
 
+pub use rows::put_rows;
 pub use table::write_table;

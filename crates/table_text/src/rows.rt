@@ -19,15 +19,12 @@ fn put_row<K: Sink>(out: &mut K, pieces: &mut Pieces, row: Row)
     pieces.put(out, b"\n");
 }
 
-/// Puts the lines of rows behind the bytes that wait.
-pub(crate) fn put_rows<K: Sink>(out: &mut K, pieces: &mut Pieces, rows: &MemList)
+/// Puts the lines of rows behind the bytes that wait: `OBJECT,GRADE`, from the top down.
+pub fn put_rows<K: Sink>(out: &mut K, pieces: &mut Pieces, rows: &MemList)
     ensures { Puts (K.held out.old) (K.held out.new) (K.faults out.old) (K.faults out.new) pieces.old pieces.new
         (unlines (map row_line rows.now)) }
 {
-    for place in 0..rows.len() {
-        let Some(row) = rows.get(place) else {
-            unreachable!();
-        };
-        put_row(out, pieces, row);
+    for row in rows.iter() {
+        put_row(out, pieces, *row);
     }
 }

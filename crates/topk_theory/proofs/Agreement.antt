@@ -6,6 +6,7 @@ use Rattle.std.proofs.lemmas.List.{map-append, length_push, length-map, get_or_p
 use Rattle.std.proofs.lemmas.List.Elements.{filter_map-append, Contains-append_left, Contains-append_right, All-push}
 use Rattle.ranked_list.specs.declared.row.Row.{Row}
 use Rattle.ranked_list.specs.Table.{IsTable, grade_in, top_grade}
+use Rattle.ranked_list.proofs.OptionLaws.{option_cases}
 use Rattle.topk_theory.specs.declared.access.Access.{Access}
 use Rattle.topk_theory.specs.declared.access.Access.TheVariants.{Sorted, Random}
 use Rattle.topk_theory.specs.Aggregate.{objects_of}
@@ -22,19 +23,23 @@ same_list list row = cond-true {A = Option Row} (list == list) (Some row) None (
 other_list : (other list : ℕ) (row : Row) → other ≢ list → cond (other == list) (Some row) None ≡ None
 other_list other list row n = cond-false {A = Option Row} (other == list) (Some row) None (ne_eqb other list n)
 
-pub sorted_rows_sorted : (list : ℕ) (A : List Access) (object grade : ℕ) → sorted_rows list (A ++ Sorted list object grade ∷ []) ≡ sorted_rows list A ++ record { object = object; grade = grade } ∷ []
+pub sorted_rows_sorted : (list : ℕ) (A : List Access) (object grade : ℕ)
+    → sorted_rows list (A ++ Sorted list object grade ∷ []) ≡ sorted_rows list A ++ record { object = object; grade = grade } ∷ []
 sorted_rows_sorted list A object grade = filter_map_push_some (sorted_row list) A (Sorted list object grade) _ (same_list list (record { object = object; grade = grade }))
 
-pub sorted_rows_other : (list other : ℕ) (A : List Access) (object grade : ℕ) → other ≢ list → sorted_rows list (A ++ Sorted other object grade ∷ []) ≡ sorted_rows list A
+pub sorted_rows_other : (list other : ℕ) (A : List Access) (object grade : ℕ) → other ≢ list
+    → sorted_rows list (A ++ Sorted other object grade ∷ []) ≡ sorted_rows list A
 sorted_rows_other list other A object grade n = filter_map_push_none (sorted_row list) A (Sorted other object grade) (other_list other list (record { object = object; grade = grade }) n)
 
 pub sorted_rows_random : (list other : ℕ) (A : List Access) (object grade : ℕ) → sorted_rows list (A ++ Random other object grade ∷ []) ≡ sorted_rows list A
 sorted_rows_random list other A object grade = filter_map_push_none (sorted_row list) A (Random other object grade) refl
 
-pub random_rows_random : (list : ℕ) (A : List Access) (object grade : ℕ) → random_rows list (A ++ Random list object grade ∷ []) ≡ random_rows list A ++ record { object = object; grade = grade } ∷ []
+pub random_rows_random : (list : ℕ) (A : List Access) (object grade : ℕ)
+    → random_rows list (A ++ Random list object grade ∷ []) ≡ random_rows list A ++ record { object = object; grade = grade } ∷ []
 random_rows_random list A object grade = filter_map_push_some (random_row list) A (Random list object grade) _ (same_list list (record { object = object; grade = grade }))
 
-pub random_rows_other : (list other : ℕ) (A : List Access) (object grade : ℕ) → other ≢ list → random_rows list (A ++ Random other object grade ∷ []) ≡ random_rows list A
+pub random_rows_other : (list other : ℕ) (A : List Access) (object grade : ℕ) → other ≢ list
+    → random_rows list (A ++ Random other object grade ∷ []) ≡ random_rows list A
 random_rows_other list other A object grade n = filter_map_push_none (random_row list) A (Random other object grade) (other_list other list (record { object = object; grade = grade }) n)
 
 pub random_rows_sorted : (list other : ℕ) (A : List Access) (object grade : ℕ) → random_rows list (A ++ Sorted other object grade ∷ []) ≡ random_rows list A
@@ -54,7 +59,8 @@ given_rows_other list A a n = filter_map_push_none (given_row list) A a (other_l
 pub depth_of_sorted : (list : ℕ) (A : List Access) (object grade : ℕ) → depth_of list (A ++ Sorted list object grade ∷ []) ≡ depth_of list A + 1
 depth_of_sorted list A object grade = ap (length {A = Row}) (sorted_rows_sorted list A object grade) ∙ length_push (sorted_rows list A) (record { object = object; grade = grade })
 
-pub depth_of_other : (list other : ℕ) (A : List Access) (object grade : ℕ) → other ≢ list → depth_of list (A ++ Sorted other object grade ∷ []) ≡ depth_of list A
+pub depth_of_other : (list other : ℕ) (A : List Access) (object grade : ℕ) → other ≢ list
+    → depth_of list (A ++ Sorted other object grade ∷ []) ≡ depth_of list A
 depth_of_other list other A object grade n = ap (length {A = Row}) (sorted_rows_other list other A object grade n)
 
 pub depth_of_random : (list other : ℕ) (A : List Access) (object grade : ℕ) → depth_of list (A ++ Random other object grade ∷ []) ≡ depth_of list A
@@ -67,7 +73,8 @@ last_grade_push above (r ∷ rows) row = last_grade_push r.grade rows row
 pub bottom_of_sorted : (list : ℕ) (A : List Access) (object grade : ℕ) → bottom_of list (A ++ Sorted list object grade ∷ []) ≡ grade
 bottom_of_sorted list A object grade = ap (last_grade top_grade) (sorted_rows_sorted list A object grade) ∙ last_grade_push top_grade (sorted_rows list A) (record { object = object; grade = grade })
 
-pub bottom_of_other : (list other : ℕ) (A : List Access) (object grade : ℕ) → other ≢ list → bottom_of list (A ++ Sorted other object grade ∷ []) ≡ bottom_of list A
+pub bottom_of_other : (list other : ℕ) (A : List Access) (object grade : ℕ) → other ≢ list
+    → bottom_of list (A ++ Sorted other object grade ∷ []) ≡ bottom_of list A
 bottom_of_other list other A object grade n = ap (last_grade top_grade) (sorted_rows_other list other A object grade n)
 
 pub bottom_of_random : (list other : ℕ) (A : List Access) (object grade : ℕ) → bottom_of list (A ++ Random other object grade ∷ []) ≡ bottom_of list A
@@ -77,13 +84,16 @@ bottom_of_random list other A object grade = ap (last_grade top_grade) (sorted_r
 pub named_objects_old : (A : List Access) (a : Access) → Contains (named_objects A) (object_of a) → named_objects (A ++ a ∷ []) ≡ named_objects A
 named_objects_old A a h = ap each_once (map-append object_of A (a ∷ [])) ∙ each_once_push_old (map object_of A) (object_of a) h
 
-pub named_objects_new : (A : List Access) (a : Access) → (¬ Contains (named_objects A) (object_of a)) → named_objects (A ++ a ∷ []) ≡ named_objects A ++ object_of a ∷ []
+pub named_objects_new : (A : List Access) (a : Access) → (¬ Contains (named_objects A) (object_of a))
+    → named_objects (A ++ a ∷ []) ≡ named_objects A ++ object_of a ∷ []
 named_objects_new A a n = ap each_once (map-append object_of A (a ∷ [])) ∙ each_once_push_new (map object_of A) (object_of a) n
 
-pub seen_objects_old : (A : List Access) (list object grade : ℕ) → Contains (seen_objects A) object → seen_objects (A ++ Sorted list object grade ∷ []) ≡ seen_objects A
+pub seen_objects_old : (A : List Access) (list object grade : ℕ) → Contains (seen_objects A) object
+    → seen_objects (A ++ Sorted list object grade ∷ []) ≡ seen_objects A
 seen_objects_old A list object grade h = ap each_once (filter_map_push_some sorted_object A (Sorted list object grade) object refl) ∙ each_once_push_old (filter_map sorted_object A) object h
 
-pub seen_objects_new : (A : List Access) (list object grade : ℕ) → (¬ Contains (seen_objects A) object) → seen_objects (A ++ Sorted list object grade ∷ []) ≡ seen_objects A ++ object ∷ []
+pub seen_objects_new : (A : List Access) (list object grade : ℕ) → (¬ Contains (seen_objects A) object)
+    → seen_objects (A ++ Sorted list object grade ∷ []) ≡ seen_objects A ++ object ∷ []
 seen_objects_new A list object grade n = ap each_once (filter_map_push_some sorted_object A (Sorted list object grade) object refl) ∙ each_once_push_new (filter_map sorted_object A) object n
 
 pub seen_objects_random : (A : List Access) (list object grade : ℕ) → seen_objects (A ++ Random list object grade ∷ []) ≡ seen_objects A
@@ -147,7 +157,8 @@ drawn_gives m T A (Random list object grade) B h =
     (subst (λ rows. Contains rows row) (sym e) (contains_middle (random_rows list A) row rest))
 
 -- one more access that is given is drawn too
-drawn_sorted : (m : ℕ) (T : Told) (A : List Access) (list object grade : ℕ) → IsDrawn m T A → Gives T A (Sorted list object grade) → (at : ℕ) → at < m → Begins (sorted_rows at (A ++ Sorted list object grade ∷ [])) (list_at T.rows at)
+drawn_sorted : (m : ℕ) (T : Told) (A : List Access) (list object grade : ℕ) → IsDrawn m T A → Gives T A (Sorted list object grade) → (at : ℕ) → at < m
+    → Begins (sorted_rows at (A ++ Sorted list object grade ∷ [])) (list_at T.rows at)
 drawn_sorted m T A list object grade h g at l =
     elim (cases_eq list at) [
       | inl e ↦ subst (λ k. Begins (sorted_rows k (A ++ Sorted list object grade ∷ [])) (list_at T.rows k)) e
@@ -156,7 +167,8 @@ drawn_sorted m T A list object grade h g at l =
       | inr n ↦ subst (λ rows. Begins rows (list_at T.rows at)) (sym (sorted_rows_other at list A object grade n)) (h.sorted at l)
     ]
 
-drawn_random : (m : ℕ) (T : Told) (A : List Access) (list object grade : ℕ) → IsDrawn m T A → Gives T A (Random list object grade) → (at : ℕ) → at < m → All (Contains (list_at T.known at)) (random_rows at (A ++ Random list object grade ∷ []))
+drawn_random : (m : ℕ) (T : Told) (A : List Access) (list object grade : ℕ) → IsDrawn m T A → Gives T A (Random list object grade) → (at : ℕ) → at < m
+    → All (Contains (list_at T.known at)) (random_rows at (A ++ Random list object grade ∷ []))
 drawn_random m T A list object grade h g at l =
     elim (cases_eq list at) [
       | inl e ↦ subst (λ k. All (Contains (list_at T.known k)) (random_rows k (A ++ Random list object grade ∷ []))) e
@@ -202,19 +214,23 @@ pub gives_row : (D : List (List Row)) (A : List Access) (a : Access) → Gives (
 gives_row D A (Sorted list object grade) g = slice_get_contains (list_at D list) (depth_of list A) _ g
 gives_row D A (Random list object grade) g = g
 
-pub gives_place : (n : ℕ) (D : List (List Row)) (A : List Access) (list object grade : ℕ) → IsTable n D → list < length D → Gives (whole D) A (Sorted list object grade) → depth_of list A < n
+pub gives_place : (n : ℕ) (D : List (List Row)) (A : List Access) (list object grade : ℕ) → IsTable n D → list < length D
+    → Gives (whole D) A (Sorted list object grade) → depth_of list A < n
 gives_place n D A list object grade t l g =
     let p : depth_of list A < length (list_at D list) = slice_get_in_range (list_at D list) (depth_of list A) _ g in
     let e : length (list_at D list) ≡ n = list_at_length n D list t l in
     omega arith
 
-pub gives_at : (D : List (List Row)) (A : List Access) (list object grade : ℕ) (d : Row) → Gives (whole D) A (Sorted list object grade) → slice_index_or (list_at D list) (depth_of list A) d ≡ record { object = object; grade = grade }
+pub gives_at : (D : List (List Row)) (A : List Access) (list object grade : ℕ) (d : Row) → Gives (whole D) A (Sorted list object grade)
+    → slice_index_or (list_at D list) (depth_of list A) d ≡ record { object = object; grade = grade }
 gives_at D A list object grade d g = slice_get_reads (list_at D list) (depth_of list A) _ d g
 
-pub gives_grade : (n : ℕ) (D : List (List Row)) (A : List Access) (a : Access) → IsTable n D → list_of a < length D → Gives (whole D) A a → grade_in (list_at D (list_of a)) (object_of a) ≡ grade_of a
+pub gives_grade : (n : ℕ) (D : List (List Row)) (A : List Access) (a : Access) → IsTable n D → list_of a < length D → Gives (whole D) A a
+    → grade_in (list_at D (list_of a)) (object_of a) ≡ grade_of a
 gives_grade n D A a t l g = grade_in_row (list_at D (list_of a)) (object_of a) (grade_of a) (list_at_ranked n D (list_of a) t l) (gives_row D A a g)
 
-pub gives_object : (n : ℕ) (D : List (List Row)) (A : List Access) (a : Access) → IsTable n D → list_of a < length D → Gives (whole D) A a → Contains (objects_of D) (object_of a)
+pub gives_object : (n : ℕ) (D : List (List Row)) (A : List Access) (a : Access) → IsTable n D → list_of a < length D → Gives (whole D) A a
+    → Contains (objects_of D) (object_of a)
 gives_object n D A a t l g = objects_from_each n D (list_of a) (object_of a) t l (object_of_row (list_at D (list_of a)) (row_of a) (gives_row D A a g))
 
 -- a list of a table has rows, so an access that the table gives reads one of its lists
@@ -258,30 +274,30 @@ given_from list (a ∷ A) row c =
       | inr f ↦ let r : Contains (given_rows list A) row = subst (λ o. Contains (cons_option o (given_rows list A)) row) (cond-false {A = Option Row} (list_of a == list) (Some (row_of a)) None f) c in given_there list a A row (given_from list A row r)
     ]
 
-given_agrees : (m n : ℕ) (D : List (List Row)) (A : List Access) (list : ℕ) (row : Row) → Agrees m n D A → Contains (given_rows list A) row → Contains (list_at D list) row
+given_agrees : (m n : ℕ) (D : List (List Row)) (A : List Access) (list : ℕ) (row : Row) → Agrees m n D A → Contains (given_rows list A) row
+    → Contains (list_at D list) row
 given_agrees m n D A list row h c =
     let from = given_from list A row c in
     subst (λ k. Contains (list_at D k) row) from.4
     (subst (λ r. Contains (list_at D (list_of from.1)) r) from.5
     (gives_row D from.0 from.1 (agrees_gives m n D from.0 from.1 from.2 (subst (λ B. Agrees m n D B) from.3 h))))
 
-pub known_in_table : (m n : ℕ) (D : List (List Row)) (A : List Access) (object list grade : ℕ) → Agrees m n D A → known_grade A object list ≡ Some grade → Contains (list_at D list) (record { object = object; grade = grade })
+pub known_in_table : (m n : ℕ) (D : List (List Row)) (A : List Access) (object list grade : ℕ) → Agrees m n D A → known_grade A object list ≡ Some grade
+    → Contains (list_at D list) (record { object = object; grade = grade })
 known_in_table m n D A object list grade h e = given_agrees m n D A list _ h (grade_among_row (given_rows list A) object grade e)
 
-pub known_grade_is : (m n : ℕ) (D : List (List Row)) (A : List Access) (object list grade : ℕ) → Agrees m n D A → list < m → known_grade A object list ≡ Some grade → grade_in (list_at D list) object ≡ grade
+pub known_grade_is : (m n : ℕ) (D : List (List Row)) (A : List Access) (object list grade : ℕ) → Agrees m n D A → list < m
+    → known_grade A object list ≡ Some grade → grade_in (list_at D list) object ≡ grade
 known_grade_is m n D A object list grade h l e =
     grade_in_row (list_at D list) object grade (list_at_ranked n D list h.table (subst (λ k. list < k) (sym h.lists) l)) (known_in_table m n D A object list grade h e)
-
-pub known_cases : (o : Option ℕ) → (o ≡ None) ⊎ ((g : ℕ) × (o ≡ Some g))
-known_cases None = inl refl
-known_cases (Some g) = inr (g, refl)
 
 -- one more access: the known grades
 pub known_grade_kept : (A B : List Access) (object list grade : ℕ) → known_grade A object list ≡ Some grade → known_grade (A ++ B) object list ≡ Some grade
 known_grade_kept A B object list grade e =
     ap (λ rows. grade_among rows object) (given_rows_append list A B) ∙ grade_among_append_some (given_rows list A) (given_rows list B) object grade e
 
-pub known_grade_same : (A : List Access) (a : Access) → known_grade A (object_of a) (list_of a) ≡ None → known_grade (A ++ a ∷ []) (object_of a) (list_of a) ≡ Some (grade_of a)
+pub known_grade_same : (A : List Access) (a : Access) → known_grade A (object_of a) (list_of a) ≡ None
+    → known_grade (A ++ a ∷ []) (object_of a) (list_of a) ≡ Some (grade_of a)
 known_grade_same A a e =
     ap (λ rows. grade_among rows (object_of a)) (given_rows_same A a)
     ∙ grade_among_append_none (given_rows (list_of a) A) (row_of a ∷ []) (object_of a) e
@@ -291,7 +307,8 @@ grade_among_push_other : (rows : List Row) (row : Row) (object : ℕ) → row.ob
 grade_among_push_other [] row object n = cond-false {A = Option ℕ} (row.object == object) (Some row.grade) None (ne_eqb row.object object n)
 grade_among_push_other (r ∷ rows) row object n = ap (λ o. cond (r.object == object) (Some r.grade) o) (grade_among_push_other rows row object n)
 
-pub known_grade_other_object : (A : List Access) (a : Access) (object list : ℕ) → object_of a ≢ object → known_grade (A ++ a ∷ []) object list ≡ known_grade A object list
+pub known_grade_other_object : (A : List Access) (a : Access) (object list : ℕ) → object_of a ≢ object
+    → known_grade (A ++ a ∷ []) object list ≡ known_grade A object list
 known_grade_other_object A a object list n =
     elim (cases_eq (list_of a) list) [
       | inl e ↦ subst (λ k. known_grade (A ++ a ∷ []) object k ≡ known_grade A object k) e
@@ -299,13 +316,15 @@ known_grade_other_object A a object list n =
       | inr m ↦ ap (λ rows. grade_among rows object) (given_rows_other list A a m)
     ]
 
-pub known_grade_other_list : (A : List Access) (a : Access) (object list : ℕ) → list_of a ≢ list → known_grade (A ++ a ∷ []) object list ≡ known_grade A object list
+pub known_grade_other_list : (A : List Access) (a : Access) (object list : ℕ) → list_of a ≢ list
+    → known_grade (A ++ a ∷ []) object list ≡ known_grade A object list
 known_grade_other_list A a object list n = ap (λ rows. grade_among rows object) (given_rows_other list A a n)
 
 -- on a table that agrees, one more access that it gives makes the grade known
-pub known_grade_given : (m n : ℕ) (D : List (List Row)) (A : List Access) (a : Access) → Agrees m n D (A ++ a ∷ []) → known_grade (A ++ a ∷ []) (object_of a) (list_of a) ≡ Some (grade_of a)
+pub known_grade_given : (m n : ℕ) (D : List (List Row)) (A : List Access) (a : Access) → Agrees m n D (A ++ a ∷ [])
+    → known_grade (A ++ a ∷ []) (object_of a) (list_of a) ≡ Some (grade_of a)
 known_grade_given m n D A a h =
-    elim (known_cases (known_grade A (object_of a) (list_of a))) [
+    elim (option_cases (known_grade A (object_of a) (list_of a))) [
       | inl none ↦ known_grade_same A a none
       | inr some ↦ known_grade_kept A (a ∷ []) (object_of a) (list_of a) some.0 some.1 ∙ ap Some (sym (known_grade_is m n D A (object_of a) (list_of a) some.0 (agrees_front m n D A (a ∷ []) h) l some.1) ∙ gives_grade n D A a h.table (subst (λ k. list_of a < k) (sym h.lists) l) (agrees_gives m n D A a [] h))
     ]
@@ -327,7 +346,8 @@ access_object m n D A a h c =
     let split = contains_access A a c in
     gives_object n D split.0 a h.table (subst (λ k. list_of a < k) (sym h.lists) (agrees_in_range m n D A a h c)) (agrees_gives m n D split.0 a split.1 (subst (λ B. Agrees m n D B) split.2 h))
 
-pub named_in_table : (m n : ℕ) (D : List (List Row)) (A : List Access) (object : ℕ) → Agrees m n D A → Contains (named_objects A) object → Contains (objects_of D) object
+pub named_in_table : (m n : ℕ) (D : List (List Row)) (A : List Access) (object : ℕ) → Agrees m n D A → Contains (named_objects A) object
+    → Contains (objects_of D) object
 named_in_table m n D A object h c =
     let from = contains_map_from object_of A object (each_once_within (map object_of A) object c) in
     subst (λ o. Contains (objects_of D) o) from.2 (access_object m n D A from.0 h from.1)
@@ -351,7 +371,8 @@ sorted_is_named (Random list other grade ∷ A) object c = contains_there other 
 pub seen_is_named : (A : List Access) (object : ℕ) → Contains (seen_objects A) object → Contains (named_objects A) object
 seen_is_named A object c = each_once_complete (map object_of A) object (sorted_is_named A object (each_once_within (filter_map sorted_object A) object c))
 
-pub seen_in_table : (m n : ℕ) (D : List (List Row)) (A : List Access) (object : ℕ) → Agrees m n D A → Contains (seen_objects A) object → Contains (objects_of D) object
+pub seen_in_table : (m n : ℕ) (D : List (List Row)) (A : List Access) (object : ℕ) → Agrees m n D A → Contains (seen_objects A) object
+    → Contains (objects_of D) object
 seen_in_table m n D A object h c = named_in_table m n D A object h (seen_is_named A object c)
 
 pub seen_distinct : (A : List Access) → AllPairs (λ (x : ℕ) (y : ℕ). x ≢ y) (seen_objects A)

@@ -1,7 +1,10 @@
 -- Members of lists, fronts of lists, and what one more member changes.
-use Rattle.std.proofs.Common.{◌≡◌, ◌≢◌, ℕ, zero, suc, ◌<◌, ◌≤◌, ◌⊎◌, inl, inr, List, [], ◌∷◌, ◌++◌, length, map, take, drop, All, AllPairs, Contains, Option, Some, None, slice_get, slice_index_or, filter_map, refl, sym, ap, subst, ◌∙◌, arith, append_assoc, append-nil, length-append, take-append-drop, take_at}
+use Rattle.std.proofs.Common.{◌≡◌, ◌≢◌, ℕ, zero, suc, ◌+◌, ◌<◌, ◌≤◌, ◌⊎◌, inl, inr, List, [], ◌∷◌, ◌++◌, length, map, take, drop, All, AllPairs, Contains, Option, Some, None, slice_get, slice_index_or, filter_map, refl, sym, ap, subst, ◌∙◌, arith, append_assoc, append-nil, length-append, take-append-drop, take_at, get_or}
 use Rattle.std.specs.List.{AllZip, cons_option}
-use Rattle.std.proofs.lemmas.List.Elements.{filter_map-append, length_all_zip, AllZip-get_or}
+use Rattle.std.proofs.lemmas.List.{take_more}
+use Rattle.std.proofs.lemmas.List.Elements.{filter_map-append, length_all_zip, AllZip-get_or, Contains-append_left}
+use Rattle.std.proofs.lemmas.Option.{slice_get_within, get_or_from_slice_get}
+use Rattle.std.proofs.lemmas.Bool.{cases_order}
 use Rattle.monotone_fn.specs.Value.{NoSmaller}
 use Rattle.topk_theory.specs.Transcript.{Begins}
 
@@ -74,6 +77,14 @@ slice_get_from_read [] k d l = absurd (omega arith)
 slice_get_from_read (y ∷ xs) zero d l = refl
 slice_get_from_read (y ∷ xs) (suc k) d l = slice_get_from_read xs k d (omega arith)
 
+-- a member of a front is one of the list
+pub take_within : {X : Type 0} → (k : ℕ) (xs : List X) (x : X) → Contains (take k xs) x → Contains xs x
+take_within k xs x c = subst (λ ys. Contains ys x) (take-append-drop k xs) (Contains-append_left (take k xs) (drop k xs) x c)
+
+-- a front with the next member
+pub front_next : {X : Type 0} → (xs : List X) (k : ℕ) (x : X) → slice_get xs k ≡ Some x → take k xs ++ x ∷ [] ≡ take (k + 1) xs
+front_next xs k x e = sym (take_more xs k x (slice_get_in_range xs k x e) ∙ ap (λ y. take k xs ++ y ∷ []) (slice_get_reads xs k x x e))
+
 -- a list begins with each front of itself
 pub begins_with : {X : Type 0} → (front rest : List X) → Begins front (front ++ rest)
 begins_with front rest = take_at front rest (length front) refl
@@ -106,10 +117,13 @@ begins_more (f ∷ front) (w ∷ whole) y h e =
     same_cons w f (take (length (front ++ y ∷ [])) whole) (front ++ y ∷ []) first (begins_more front whole y rest e)
 
 -- a longer list has what a front of it has, and begins with what the front begins with
-slice_get_front : {X : Type 0} → (front rest : List X) (k : ℕ) (x : X) → slice_get front k ≡ Some x → slice_get (front ++ rest) k ≡ Some x
-slice_get_front [] rest k x e = absurd (cc)
-slice_get_front (y ∷ front) rest zero x e = e
-slice_get_front (y ∷ front) rest (suc k) x e = slice_get_front front rest k x e
+pub get_front : {X : Type 0} → (front rest : List X) (k : ℕ) → k < length front → slice_get (front ++ rest) k ≡ slice_get front k
+get_front [] rest k l = absurd (omega arith)
+get_front (y ∷ front) rest zero l = refl
+get_front (y ∷ front) rest (suc k) l = get_front front rest k (omega arith)
+
+pub slice_get_front : {X : Type 0} → (front rest : List X) (k : ℕ) (x : X) → slice_get front k ≡ Some x → slice_get (front ++ rest) k ≡ Some x
+slice_get_front front rest k x e = get_front front rest k (slice_get_in_range front k x e) ∙ e
 
 pub begins_get : {X : Type 0} → (front whole : List X) (k : ℕ) (x : X) → Begins front whole → slice_get front k ≡ Some x → slice_get whole k ≡ Some x
 begins_get front whole k x h e = rw (begins_splits front whole h) (slice_get_front front (drop (length front) whole) k x e)
@@ -128,10 +142,12 @@ no_smaller lesser greater h = record {
 pub filter_map_push : {X Y : Type 0} → (h : X → Option Y) (xs : List X) (x : X) → filter_map h (xs ++ x ∷ []) ≡ filter_map h xs ++ cons_option (h x) []
 filter_map_push h xs x = filter_map-append h xs (x ∷ [])
 
-pub filter_map_through : {X Y : Type 0} → (h : X → Option Y) (xs : List X) (x : X) (ys : List X) → filter_map h (xs ++ x ∷ ys) ≡ filter_map h xs ++ cons_option (h x) (filter_map h ys)
+pub filter_map_through : {X Y : Type 0} → (h : X → Option Y) (xs : List X) (x : X) (ys : List X)
+    → filter_map h (xs ++ x ∷ ys) ≡ filter_map h xs ++ cons_option (h x) (filter_map h ys)
 filter_map_through h xs x ys = filter_map-append h xs (x ∷ ys)
 
-pub filter_map_push_some : {X Y : Type 0} → (h : X → Option Y) (xs : List X) (x : X) (y : Y) → h x ≡ Some y → filter_map h (xs ++ x ∷ []) ≡ filter_map h xs ++ y ∷ []
+pub filter_map_push_some : {X Y : Type 0} → (h : X → Option Y) (xs : List X) (x : X) (y : Y) → h x ≡ Some y
+    → filter_map h (xs ++ x ∷ []) ≡ filter_map h xs ++ y ∷ []
 filter_map_push_some h xs x y e = filter_map_push h xs x ∙ ap (λ o. filter_map h xs ++ cons_option o []) e
 
 pub filter_map_push_none : {X Y : Type 0} → (h : X → Option Y) (xs : List X) (x : X) → h x ≡ None → filter_map h (xs ++ x ∷ []) ≡ filter_map h xs
@@ -159,6 +175,17 @@ distinct_head x xs y d h = λ e. d 0 (suc h.0) y (omega arith) (omega (arith, h.
 
 pub distinct_tail : (x : ℕ) (xs : List ℕ) → AllPairs (λ (a : ℕ) (b : ℕ). a ≢ b) (x ∷ xs) → AllPairs (λ (a : ℕ) (b : ℕ). a ≢ b) xs
 distinct_tail x xs d = λ i j e l m. d (suc i) (suc j) e (omega arith) (omega arith)
+
+-- a number has one place among numbers that differ
+pub one_place : (xs : List ℕ) (p q x : ℕ) → AllPairs (λ (a : ℕ) (b : ℕ). a ≢ b) xs → slice_get xs p ≡ Some x → slice_get xs q ≡ Some x → p ≡ q
+one_place xs p q x apart at_p at_q =
+    let in_p = slice_get_within xs p x at_p in
+    let in_q = slice_get_within xs q x at_q in
+    let same : get_or xs p x ≡ get_or xs q x = get_or_from_slice_get xs p x x at_p ∙ sym (get_or_from_slice_get xs q x x at_q) in
+    elim (cases_order p q) [
+      | inl e ↦ e
+      | inr other ↦ elim other [ inl lt ↦ absurd (apart p q x lt in_q same) | inr gt ↦ absurd (apart q p x gt in_p (sym same)) ]
+    ]
 
 pub distinct_fits : (xs ys : List ℕ) → AllPairs (λ (a : ℕ) (b : ℕ). a ≢ b) xs → ((x : ℕ) → Contains xs x → Contains ys x) → length xs ≤ length ys
 distinct_fits [] ys d within = omega arith

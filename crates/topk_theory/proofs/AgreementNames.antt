@@ -4,6 +4,8 @@ use Rattle.std.specs.List.{list_any}
 use Rattle.std.proofs.lemmas.Bool.{cases_Bool, or_cases, or_right, true≢false}
 use Rattle.std.proofs.lemmas.List.Kept.{AllPairs-cons}
 use Rattle.std.proofs.lemmas.List.Elements.{Contains-append_left, Contains-push, Contains-push_cases}
+use Rattle.std.proofs.lemmas.List.Folds.{list_any-append}
+use Rattle.std.proofs.Math.Bool.{or-false}
 use Rattle.topk_theory.specs.Transcript.{each_once_after, each_once}
 use Rattle.topk_theory.proofs.AgreementLists.{contains_nil, contains_here, contains_there, contains_cases, all_from_members}
 
@@ -95,7 +97,8 @@ pub each_once_distinct : (xs : List ℕ) → AllPairs (λ (a : ℕ) (b : ℕ). a
 each_once_distinct xs = each_distinct [] xs
 
 -- one more member
-after_push : (before xs : List ℕ) (x : ℕ) → each_once_after before (xs ++ x ∷ []) ≡ each_once_after before xs ++ cond (has x (before ++ each_once_after before xs)) [] (x ∷ [])
+after_push : (before xs : List ℕ) (x : ℕ)
+    → each_once_after before (xs ++ x ∷ []) ≡ each_once_after before xs ++ cond (has x (before ++ each_once_after before xs)) [] (x ∷ [])
 after_push before [] x = ap (λ b. cond (has x b) [] (x ∷ [])) (sym (append-nil before))
 after_push before (y ∷ xs) x =
     elim (cases_Bool (has y before)) [
@@ -110,3 +113,7 @@ each_once_push_old xs x h = after_push [] xs x ∙ ap (λ b. each_once xs ++ con
 
 pub each_once_push_new : (xs : List ℕ) (x : ℕ) → (¬ Contains (each_once xs) x) → each_once (xs ++ x ∷ []) ≡ each_once xs ++ x ∷ []
 each_once_push_new xs x n = after_push [] xs x ∙ ap (λ b. each_once xs ++ cond b [] (x ∷ [])) (not_has x (each_once xs) n)
+
+-- one member more at the end
+pub has_push : (x : ℕ) (xs : List ℕ) (y : ℕ) → has x (xs ++ y ∷ []) ≡ (has x xs || (y == x))
+has_push x xs y = list_any-append (λ z. z == x) xs (y ∷ []) ∙ ap (λ b. has x xs || b) (or-false (y == x))

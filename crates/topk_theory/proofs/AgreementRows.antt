@@ -28,7 +28,8 @@ row_is row object grade p q = ap₂ row_with p q
     row_with o g = record { object = o; grade = g }
 
 -- in a ranked list an object has one row, whose grade is the object's
-pub grade_in_row : (rows : List Row) (object grade : ℕ) → IsRanked rows → Contains rows (record { object = object; grade = grade }) → grade_in rows object ≡ grade
+pub grade_in_row : (rows : List Row) (object grade : ℕ) → IsRanked rows → Contains rows (record { object = object; grade = grade })
+    → grade_in rows object ≡ grade
 grade_in_row [] object grade r h = absurd (contains_nil _ h)
 grade_in_row (row ∷ rows) object grade r h =
     elim (contains_cases row rows _ h) [
@@ -105,7 +106,8 @@ list_at_ranked n D list t l = t.ranked list [] l
 pub list_at_length : (n : ℕ) (D : List (List Row)) (list : ℕ) → IsTable n D → list < length D → length (list_at D list) ≡ n
 list_at_length n D list t l = t.sized list [] l
 
-pub list_at_same : (n : ℕ) (D : List (List Row)) (list other : ℕ) (object : ℕ) → IsTable n D → list < length D → other < length D → Contains (objects (list_at D list)) object → Contains (objects (list_at D other)) object
+pub list_at_same : (n : ℕ) (D : List (List Row)) (list other : ℕ) (object : ℕ) → IsTable n D → list < length D → other < length D
+    → Contains (objects (list_at D list)) object → Contains (objects (list_at D other)) object
 list_at_same n D list other object t l o h = t.same list [] l other [] o object h
 
 objects_of_first : (D : List (List Row)) → objects_of D ≡ objects (list_at D 0)
@@ -113,10 +115,12 @@ objects_of_first [] = refl
 objects_of_first (rows ∷ lists) = refl
 
 -- the objects of a table are those of each list
-pub objects_in_each : (n : ℕ) (D : List (List Row)) (list object : ℕ) → IsTable n D → list < length D → Contains (objects_of D) object → Contains (objects (list_at D list)) object
+pub objects_in_each : (n : ℕ) (D : List (List Row)) (list object : ℕ) → IsTable n D → list < length D → Contains (objects_of D) object
+    → Contains (objects (list_at D list)) object
 objects_in_each n D list object t l h = list_at_same n D 0 list object t (omega arith) l (subst (λ os. Contains os object) (objects_of_first D) h)
 
-pub objects_from_each : (n : ℕ) (D : List (List Row)) (list object : ℕ) → IsTable n D → list < length D → Contains (objects (list_at D list)) object → Contains (objects_of D) object
+pub objects_from_each : (n : ℕ) (D : List (List Row)) (list object : ℕ) → IsTable n D → list < length D → Contains (objects (list_at D list)) object
+    → Contains (objects_of D) object
 objects_from_each n D list object t l h = subst (λ os. Contains os object) (sym (objects_of_first D)) (list_at_same n D list 0 object t l (omega arith) h)
 
 pub objects_distinct : (rows : List Row) → IsRanked rows → AllPairs (λ (a : ℕ) (b : ℕ). a ≢ b) (objects rows)

@@ -137,7 +137,8 @@ phase_is V k phase depth D A = record {
     here : {X : List Access} → depth % phase ≡ 0 → grades_of_choice D A (choice V k (length D) A) ≡ X → phase_after V k phase depth D A ≡ X
     here e is = ap (λ t. cond {A = List Access} t (grades_of_choice D A (choice V k (length D) A)) []) (eq-eqb (depth % phase) 0 e) ∙ is
 
-pub phase_only : (V : List ℕ → ℕ) (k phase depth : ℕ) (D : List (List Row)) (A following : List Access) → IsPhase V k phase depth D A following → following ≡ phase_after V k phase depth D A
+pub phase_only : (V : List ℕ → ℕ) (k phase depth : ℕ) (D : List (List Row)) (A following : List Access) → IsPhase V k phase depth D A following
+    → following ≡ phase_after V k phase depth D A
 phase_only V k phase depth D A following is =
     let made = phase_is V k phase depth D A in
     elim (cases_Bool ((depth % phase) == 0)) [

@@ -76,7 +76,8 @@ not_both : (t : Bool) → t ≡ true → t ≡ false → ⊥
 not_both t is isn = cc
 
 -- a run goes down to the least depth
-run_depth : (V : List ℕ → ℕ) (k phase n : ℕ) (D : List (List Row)) (A : List Access) → IsMonotone V → IsAsked k n D → (run : IsCombinedRun V k phase D A) → run.depth ≡ ca_depth V k phase D
+run_depth : (V : List ℕ → ℕ) (k phase n : ℕ) (D : List (List Row)) (A : List Access) → IsMonotone V → IsAsked k n D → (run : IsCombinedRun V k phase D A)
+    → run.depth ≡ ca_depth V k phase D
 run_depth V k phase n D A monotone asked run =
     let least = depth_is_least V k phase n D monotone asked in
     let quiet : is_quiet V k (length D) D (ca_run_to V k phase D run.depth) ≡ true = subst (λ B. is_quiet V k (length D) D B ≡ true) (blocks_only V k phase D run.depth run.blocks run.made) run.quiet in
@@ -89,12 +90,14 @@ run_depth V k phase n D A monotone asked run =
     ]
 
 -- and is the one that is computed
-pub run_only : (V : List ℕ → ℕ) (k phase n : ℕ) (D : List (List Row)) (A : List Access) → IsMonotone V → IsAsked k n D → IsCombinedRun V k phase D A → A ≡ ca_run V k phase D
+pub run_only : (V : List ℕ → ℕ) (k phase n : ℕ) (D : List (List Row)) (A : List Access) → IsMonotone V → IsAsked k n D → IsCombinedRun V k phase D A
+    → A ≡ ca_run V k phase D
 run_only V k phase n D A monotone asked run =
     let same : run.blocks ≡ ca_blocks V k phase D = blocks_only V k phase D run.depth run.blocks run.made ∙ ap (ca_run_to V k phase D) (run_depth V k phase n D A monotone asked run) in
     run.whole ∙ ap (λ B. B ++ finish V k D B) same
 
-pub run_within : (V : List ℕ → ℕ) (k phase n : ℕ) (D : List (List Row)) (A : List Access) → IsMonotone V → IsAsked k n D → (run : IsCombinedRun V k phase D A) → run.depth ≤ n
+pub run_within : (V : List ℕ → ℕ) (k phase n : ℕ) (D : List (List Row)) (A : List Access) → IsMonotone V → IsAsked k n D → (run : IsCombinedRun V k phase D A)
+    → run.depth ≤ n
 run_within V k phase n D A monotone asked run =
     let least = depth_is_least V k phase n D monotone asked in
     let within = least.within in
@@ -127,7 +130,8 @@ record SameObjects (Y Z : List ℕ) : Type 0 where
   within : (o : ℕ) → Contains Z o → Contains Y o
   back : (o : ℕ) → Contains Y o → Contains Z o
 
-scored_same : (V : List ℕ → ℕ) (D : List (List Row)) (Y : List ℕ) → AllPairs (λ (a : ℕ) (b : ℕ). a ≢ b) Y → SameObjects Y (item_objects (first_k (length Y) (map (scored V D) Y)))
+scored_same : (V : List ℕ → ℕ) (D : List (List Row)) (Y : List ℕ) → AllPairs (λ (a : ℕ) (b : ℕ). a ≢ b) Y
+    → SameObjects Y (item_objects (first_k (length Y) (map (scored V D) Y)))
 scored_same V D Y apart =
     let items : List Item = map (scored V D) Y in
     let first : List Item = first_k (length Y) items in

@@ -1,6 +1,5 @@
 -- What the combined algorithm reads of a table: its blocks are one, they agree with the table, and they make no wild guess.
 use Rattle.std.proofs.Common.{◌≡◌, ◌≤◌, ◌<◌, ◌+◌, ◌-◌, ◌%◌, ◌==◌, inl, inr, ℕ, zero, suc, true, false, cond, List, [], ◌∷◌, ◌++◌, length, take, All, Contains, is_none, refl, sym, ap, subst, ◌∙◌, arith, get_or, append_assoc, append-nil}
-use Rattle.std.specs.List.{range_with_len}
 use Rattle.std.proofs.Math.Seq.{take-suc}
 use Rattle.std.proofs.lemmas.List.Elements.{All-append, All-contains}
 use Rattle.ranked_list.specs.declared.row.Row.{Row}
@@ -14,7 +13,8 @@ use Rattle.topk_theory.specs.Bounds.{known_grade}
 use Rattle.topk_theory.specs.Threshold.{row_at, sorted_block}
 use Rattle.topk_theory.specs.NoRandom.{first_seen, seen_items}
 use Rattle.topk_theory.specs.Combined.{unknown_lists, missing_grades, AreBlocks, choice, grades_of_choice, phase_after, finish, ca_run_to}
-use Rattle.topk_theory.proofs.AgreementLists.{contains_nil, contains_here, contains_there, contains_cases, contains_map_from}
+use Rattle.topk_theory.proofs.AgreementLists.{contains_nil, contains_here, contains_there, contains_map_from}
+use Rattle.topk_theory.proofs.ListNumbers.{number_below}
 use Rattle.topk_theory.proofs.AgreementRows.{row_of_object, list_at_length, objects_in_each}
 use Rattle.topk_theory.proofs.Agreement.{sorted_rows_append, random_rows_append, agrees_push, agrees_none, seen_in_table}
 use Rattle.topk_theory.proofs.ThresholdLists.{contains_from_filter, contains_flat_map}
@@ -31,7 +31,8 @@ blocks_are V k phase D (suc depth) =
     let row : List Access = ca_run_to V k phase D depth ++ sorted_block 0 (suc depth) D in
     (ca_run_to V k phase D depth, phase_after V k phase (suc depth) D row, blocks_are V k phase D depth, phase_is V k phase (suc depth) D row, refl)
 
-pub blocks_only : (V : List ℕ → ℕ) (k phase : ℕ) (D : List (List Row)) (depth : ℕ) (A : List Access) → AreBlocks V k phase D depth A → A ≡ ca_run_to V k phase D depth
+pub blocks_only : (V : List ℕ → ℕ) (k phase : ℕ) (D : List (List Row)) (depth : ℕ) (A : List Access) → AreBlocks V k phase D depth A
+    → A ≡ ca_run_to V k phase D depth
 blocks_only V k phase D zero A is = is
 blocks_only V k phase D (suc depth) A (before, following, made, is, whole) =
     let same : before ≡ ca_run_to V k phase D depth = blocks_only V k phase D depth before made in
@@ -47,21 +48,16 @@ pub record Asks (D : List (List Row)) (may : ℕ → Type 0) (a : Access) : Type
   pub within : list < length D
   pub allowed : may object
 
-numbers_below : (m list : ℕ) → Contains (list_numbers m) list → list < m
-numbers_below m list c = let lt = below m 0 list c in omega arith
-  where
-    below : (n start x : ℕ) → Contains (range_with_len start n) x → x < start + n
-    below zero start x c = absurd (contains_nil x c)
-    below (suc n) start x c = elim (contains_cases start (range_with_len (start + 1) n) x c) [ inl e ↦ omega arith | inr t ↦ (let lt = below n (start + 1) x t in omega arith) ]
-
-missing_ask : (D : List (List Row)) (A : List Access) (object : ℕ) (may : ℕ → Type 0) (a : Access) → may object → Contains (missing_grades D A object) a → Asks D may a
+missing_ask : (D : List (List Row)) (A : List Access) (object : ℕ) (may : ℕ → Type 0) (a : Access) → may object → Contains (missing_grades D A object) a
+    → Asks D may a
 missing_ask D A object may a allowed c =
     let from = contains_map_from (λ list. Random list object (grade_in (list_at D list) object)) (unknown_lists (length D) A object) a c in
     let kept = contains_from_filter (λ list. is_none (known_grade A object list)) (list_numbers (length D)) from.0 from.1 in
-    record { list = from.0; object = object; is = sym from.2; within = numbers_below (length D) from.0 kept.0; allowed = allowed }
+    record { list = from.0; object = object; is = sym from.2; within = number_below (length D) from.0 kept.0; allowed = allowed }
 
 -- what follows a row asks for seen objects, and so does the finish
-pub phase_asks : (V : List ℕ → ℕ) (k phase depth : ℕ) (D : List (List Row)) (A : List Access) (a : Access) → Contains (phase_after V k phase depth D A) a → Asks D (Contains (seen_objects A)) a
+pub phase_asks : (V : List ℕ → ℕ) (k phase depth : ℕ) (D : List (List Row)) (A : List Access) (a : Access) → Contains (phase_after V k phase depth D A) a
+    → Asks D (Contains (seen_objects A)) a
 phase_asks V k phase depth D A a c = elim ((depth % phase) == 0) as (λ t. Contains (cond {A = List Access} t (grades_of_choice D A (choice V k (length D) A)) []) a → Asks D (Contains (seen_objects A)) a) [
   | true ↦ λ h. elim (choice_law V k (length D) A) [
     | inl some ↦ missing_ask D A some.0 (Contains (seen_objects A)) a some.2.may.seen (subst (λ o. Contains (grades_of_choice D A o) a) some.1 h)
@@ -70,21 +66,24 @@ phase_asks V k phase depth D A a c = elim ((depth % phase) == 0) as (λ t. Conta
   | false ↦ λ h. absurd (contains_nil a h)
 ] c
 
-pub finish_asks : (V : List ℕ → ℕ) (k : ℕ) (D : List (List Row)) (A : List Access) (a : Access) → All (Contains (seen_items V (length D) A)) (first_seen V k (length D) A) → Contains (finish V k D A) a → Asks D (Contains (seen_objects A)) a
+pub finish_asks : (V : List ℕ → ℕ) (k : ℕ) (D : List (List Row)) (A : List Access) (a : Access)
+    → All (Contains (seen_items V (length D) A)) (first_seen V k (length D) A) → Contains (finish V k D A) a → Asks D (Contains (seen_objects A)) a
 finish_asks V k D A a held c =
     let piece = contains_flat_map (λ (item : Item). missing_grades D A item.object) (first_seen V k (length D) A) a c in
     let seen = object_of_seen V (length D) A piece.0 (All-contains (Contains (seen_items V (length D) A)) (first_seen V k (length D) A) piece.0 held piece.1) in
     missing_ask D A piece.0.object (Contains (seen_objects A)) a seen.0 piece.2
 
 -- random accesses read no row
-pub asks_unsorted : (D : List (List Row)) (may : ℕ → Type 0) (list : ℕ) (B : List Access) → ((a : Access) → Contains B a → Asks D may a) → sorted_rows list B ≡ []
+pub asks_unsorted : (D : List (List Row)) (may : ℕ → Type 0) (list : ℕ) (B : List Access) → ((a : Access) → Contains B a → Asks D may a)
+    → sorted_rows list B ≡ []
 asks_unsorted D may list [] each = refl
 asks_unsorted D may list (a ∷ B) each =
     let is = (each a (contains_here a B)).is in
     subst (λ x. sorted_rows list (x ∷ B) ≡ []) (sym is) (asks_unsorted D may list B (λ b c. each b (contains_there a B b c)))
 
 -- a table that agrees with a transcript agrees with what it is asked of its objects too
-pub asks_agree : (n : ℕ) (D : List (List Row)) (may : ℕ → Type 0) (A B : List Access) → IsTable n D → ((o : ℕ) → may o → Contains (objects_of D) o) → Agrees (length D) n D A → ((a : Access) → Contains B a → Asks D may a) → Agrees (length D) n D (A ++ B)
+pub asks_agree : (n : ℕ) (D : List (List Row)) (may : ℕ → Type 0) (A B : List Access) → IsTable n D → ((o : ℕ) → may o → Contains (objects_of D) o)
+    → Agrees (length D) n D A → ((a : Access) → Contains B a → Asks D may a) → Agrees (length D) n D (A ++ B)
 asks_agree n D may A [] table of agrees each = subst (Agrees (length D) n D) (sym (append-nil A)) agrees
 asks_agree n D may A (a ∷ B) table of agrees each =
     let ask = each a (contains_here a B) in
@@ -94,7 +93,8 @@ asks_agree n D may A (a ∷ B) table of agrees each =
     (asks_agree n D may (A ++ a ∷ []) B table of (agrees_push (length D) n D A a agrees (subst (Gives (whole D) A) (sym ask.is) gives)) (λ b c. each b (contains_there a B b c)))
 
 -- the rows of a depth, after those above
-pub rows_extend : (n depth : ℕ) (D : List (List Row)) (A : List Access) (list : ℕ) → IsTable n D → depth + 1 ≤ n → list < length D → sorted_rows list A ≡ take depth (list_at D list) → sorted_rows list (A ++ sorted_block 0 (depth + 1) D) ≡ take (depth + 1) (list_at D list)
+pub rows_extend : (n depth : ℕ) (D : List (List Row)) (A : List Access) (list : ℕ) → IsTable n D → depth + 1 ≤ n → list < length D
+    → sorted_rows list A ≡ take depth (list_at D list) → sorted_rows list (A ++ sorted_block 0 (depth + 1) D) ≡ take (depth + 1) (list_at D list)
 rows_extend n depth D A list table le lt before =
     let size : length (list_at D list) ≡ n = list_at_length n D list table lt in
     let block : sorted_rows (0 + list) (sorted_block 0 (depth + 1) D) ≡ row_at (list_at D list) (depth + 1) ∷ [] = block_at list 0 (depth + 1) D lt in
@@ -107,7 +107,8 @@ rows_extend n depth D A list table le lt before =
     ∙ sym (take-suc (list_at D list) depth no_row (omega arith)) ∙ ap (λ d. take d (list_at D list)) one
 
 -- a table that agrees with all down to a depth agrees with the next row of each list
-pub row_agrees : (n depth : ℕ) (D : List (List Row)) (A : List Access) → IsTable n D → depth + 1 ≤ n → Agrees (length D) n D A → ((list : ℕ) → list < length D → sorted_rows list A ≡ take depth (list_at D list)) → Agrees (length D) n D (A ++ sorted_block 0 (depth + 1) D)
+pub row_agrees : (n depth : ℕ) (D : List (List Row)) (A : List Access) → IsTable n D → depth + 1 ≤ n → Agrees (length D) n D A
+    → ((list : ℕ) → list < length D → sorted_rows list A ≡ take depth (list_at D list)) → Agrees (length D) n D (A ++ sorted_block 0 (depth + 1) D)
 row_agrees n depth D A table le agrees rows = record {
   lists = refl;
   table = table;
@@ -120,7 +121,8 @@ row_agrees n depth D A table le agrees rows = record {
 }
 
 -- down to a depth the blocks read the first rows of each list
-pub ca_rows : (V : List ℕ → ℕ) (k phase n depth : ℕ) (D : List (List Row)) (list : ℕ) → IsTable n D → depth ≤ n → list < length D → sorted_rows list (ca_run_to V k phase D depth) ≡ take depth (list_at D list)
+pub ca_rows : (V : List ℕ → ℕ) (k phase n depth : ℕ) (D : List (List Row)) (list : ℕ) → IsTable n D → depth ≤ n → list < length D
+    → sorted_rows list (ca_run_to V k phase D depth) ≡ take depth (list_at D list)
 ca_rows V k phase n zero D list table le lt = refl
 ca_rows V k phase n (suc depth) D list table le lt =
     let A : List Access = ca_run_to V k phase D depth in

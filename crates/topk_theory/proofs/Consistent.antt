@@ -1,5 +1,5 @@
 -- The eight kinds: where one holds no table agrees with the longer transcript, and where none does one is built.
-use Rattle.std.proofs.Common.{◌≡◌, ◌≢◌, ℕ, zero, suc, ◌+◌, ◌-◌, ◌<◌, ◌≤◌, inl, inr, not, List, [], ◌∷◌, ◌++◌, length, map, take, drop, All, AllPairs, Contains, refl, sym, ap, subst, subst₂, ◌∙◌, arith, min, length-append, length-take, append_assoc, append-nil, take-append-drop}
+use Rattle.std.proofs.Common.{◌≡◌, ◌≢◌, ℕ, zero, suc, ◌+◌, ◌-◌, ◌<◌, ◌≤◌, inl, inr, not, List, [], ◌∷◌, ◌++◌, length, map, take, All, AllPairs, Contains, refl, sym, ap, subst, subst₂, ◌∙◌, arith, min, length-append, length-take, append_assoc, append-nil}
 use Rattle.std.specs.List.{range_with_len, slice_index_or}
 use Rattle.std.proofs.lemmas.Bool.{cases_Bool, not-true}
 use Rattle.std.proofs.lemmas.List.FromFn.{length-range_with_len, get_or-range_with_len}
@@ -15,15 +15,18 @@ use Rattle.topk_theory.specs.Fixes.{IsObjectSet}
 use Rattle.topk_theory.specs.Consistent.{Kind, IsOfKind, SomeAgrees, HasNoFault}
 use Rattle.topk_theory.specs.Adversary.{completed, unnamed, object_set}
 use Rattle.topk_theory.specs.Consistent.Kind.{no_such_list, above_top, too_many_objects, rises, repeats, clashes, falls_short, above_bottom}
-use Rattle.topk_theory.proofs.AgreementLists.{contains_here, contains_there, contains_map_from, all_from_members, member_of_all, distinct_fits, distinct_head, distinct_tail}
+use Rattle.topk_theory.proofs.AgreementLists.{contains_here, contains_there, contains_map_from, all_from_members, member_of_all, distinct_fits, distinct_head, distinct_tail, take_within}
 use Rattle.topk_theory.proofs.AgreementNames.{has, has_contains, has_not, each_once_within}
 use Rattle.topk_theory.proofs.AgreementRows.{object_of_row}
 use Rattle.topk_theory.proofs.Agreement.{agrees_front, named_distinct, named_objects_new, contains_middle, sorted_rows_sorted, sorted_rows_random, random_rows_random, random_rows_sorted, bottom_of_sorted}
+use Rattle.topk_theory.proofs.ListNumbers.{number_below}
 use Rattle.topk_theory.proofs.ConsistentRows.{AreCoherent, ranked_capped, behind_below_last, ranked_parts_apart, filter_has, filter_from}
 use Rattle.topk_theory.proofs.ConsistentTable.{IsCoherent, coherent_none, coherent_push, agrees_coherent, given_split, MayComplete, completed_agrees, completed_objects}
 
 -- where the longer transcript is coherent its last access is of no kind
-free_sorted : (m n : ℕ) (A : List Access) (list object grade : ℕ) → IsCoherent m n (A ++ Sorted list object grade ∷ []) → AreCoherent (sorted_rows list A ++ record { object = object; grade = grade } ∷ []) (random_rows list A) → (kind : Kind) → ¬ IsOfKind m n A (Sorted list object grade) kind
+free_sorted : (m n : ℕ) (A : List Access) (list object grade : ℕ) → IsCoherent m n (A ++ Sorted list object grade ∷ [])
+    → AreCoherent (sorted_rows list A ++ record { object = object; grade = grade } ∷ []) (random_rows list A) → (kind : Kind)
+    → ¬ IsOfKind m n A (Sorted list object grade) kind
 free_sorted m n A list object grade h c no_such_list = λ k.
     let l : list < m = member_of_all (λ access. list_of access < m) _ (Sorted list object grade) h.in_range (contains_middle A (Sorted list object grade) []) in omega arith
 free_sorted m n A list object grade h c above_top = λ k.
@@ -55,7 +58,9 @@ free_sorted m n A list object grade h c falls_short = λ k.
     omega arith
 free_sorted m n A list object grade h c above_bottom = λ k. k
 
-free_random : (m n : ℕ) (A : List Access) (list object grade : ℕ) → IsCoherent m n (A ++ Random list object grade ∷ []) → AreCoherent (sorted_rows list A) (random_rows list A ++ record { object = object; grade = grade } ∷ []) → (kind : Kind) → ¬ IsOfKind m n A (Random list object grade) kind
+free_random : (m n : ℕ) (A : List Access) (list object grade : ℕ) → IsCoherent m n (A ++ Random list object grade ∷ [])
+    → AreCoherent (sorted_rows list A) (random_rows list A ++ record { object = object; grade = grade } ∷ []) → (kind : Kind)
+    → ¬ IsOfKind m n A (Random list object grade) kind
 free_random m n A list object grade h c no_such_list = λ k.
     let l : list < m = member_of_all (λ access. list_of access < m) _ (Random list object grade) h.in_range (contains_middle A (Random list object grade) []) in omega arith
 free_random m n A list object grade h c above_top = λ k.
@@ -96,7 +101,8 @@ pub kind_excludes : (m n : ℕ) (A : List Access) (a : Access) (kind : Kind) →
 kind_excludes m n A a kind k D = λ h. coherent_free m n A a (agrees_coherent m n D (A ++ a ∷ []) h) kind k
 
 -- n objects, those that are named first and then the least others
-distinct_append : (xs ys : List ℕ) → AllPairs (λ (x : ℕ) (y : ℕ). x ≢ y) xs → AllPairs (λ (x : ℕ) (y : ℕ). x ≢ y) ys → ((x : ℕ) → Contains xs x → ¬ Contains ys x) → AllPairs (λ (x : ℕ) (y : ℕ). x ≢ y) (xs ++ ys)
+distinct_append : (xs ys : List ℕ) → AllPairs (λ (x : ℕ) (y : ℕ). x ≢ y) xs → AllPairs (λ (x : ℕ) (y : ℕ). x ≢ y) ys
+    → ((x : ℕ) → Contains xs x → ¬ Contains ys x) → AllPairs (λ (x : ℕ) (y : ℕ). x ≢ y) (xs ++ ys)
 distinct_append [] ys d e apart = e
 distinct_append (x ∷ xs) ys d e apart =
     AllPairs-cons (λ (a : ℕ) (b : ℕ). a ≢ b) x (xs ++ ys)
@@ -105,9 +111,6 @@ distinct_append (x ∷ xs) ys d e apart =
       | inr t ↦ λ same. apart x (contains_here x xs) (subst (λ z. Contains ys z) (sym same) t)
     ]))
     (distinct_append xs ys (distinct_tail x xs d) e (λ z c. apart z (contains_there x xs z c)))
-
-take_within : (k : ℕ) (xs : List ℕ) (x : ℕ) → Contains (take k xs) x → Contains xs x
-take_within k xs x c = subst (λ z. Contains z x) (take-append-drop k xs) (Contains-append_left (take k xs) (drop k xs) x c)
 
 distinct_take : (k : ℕ) (xs : List ℕ) → AllPairs (λ (x : ℕ) (y : ℕ). x ≢ y) xs → AllPairs (λ (x : ℕ) (y : ℕ). x ≢ y) (take k xs)
 distinct_take zero xs d = λ i j e l m. absurd (omega arith)
@@ -122,13 +125,6 @@ range_distinct n = λ i j d l m.
     let size : length (range_with_len 0 n) ≡ n = length-range_with_len 0 n in
     let a : slice_index_or (range_with_len 0 n) i d ≡ 0 + i = get_or-range_with_len 0 n i d (omega arith) in
     let b : slice_index_or (range_with_len 0 n) j d ≡ 0 + j = get_or-range_with_len 0 n j d (omega arith) in
-    omega arith
-
-range_below : (n x : ℕ) → Contains (range_with_len 0 n) x → x < n
-range_below n x c =
-    let size : length (range_with_len 0 n) ≡ n = length-range_with_len 0 n in
-    let at : c.0 < length (range_with_len 0 n) = c.1 in
-    let e : x ≡ 0 + c.0 = sym c.2 ∙ get_or-range_with_len 0 n c.0 x (omega arith) in
     omega arith
 
 unnamed_many : (n : ℕ) (names : List ℕ) → n ≤ length names + length (unnamed n names)
@@ -151,11 +147,12 @@ object_set_is n names d l = record {
       (λ x c t. has_not x names (not-true (has x names) (filter_from (λ o. not (has o names)) (range_with_len 0 n) x (take_within (n - length names) (unnamed n names) x t)).1) c);
 }
 
-pub object_set_below : (n bound : ℕ) (names : List ℕ) (x : ℕ) → n ≤ bound → ((o : ℕ) → Contains names o → o < bound) → Contains (object_set n names) x → x < bound
+pub object_set_below : (n bound : ℕ) (names : List ℕ) (x : ℕ) → n ≤ bound → ((o : ℕ) → Contains names o → o < bound) → Contains (object_set n names) x
+    → x < bound
 object_set_below n bound names x l below c =
     elim (Contains-append_cases names (take (n - length names) (unnamed n names)) x c) [
       | inl t ↦ below x t
-      | inr t ↦ let r : x < n = range_below n x (filter_from (λ o. not (has o names)) (range_with_len 0 n) x (take_within (n - length names) (unnamed n names) x t)).0 in omega arith
+      | inr t ↦ let r : x < n = number_below n x (filter_from (λ o. not (has o names)) (range_with_len 0 n) x (take_within (n - length names) (unnamed n names) x t)).0 in omega arith
     ]
 
 -- the table that is built: the rows that were read, and then the other objects with their known grades or the list's bottom
@@ -170,7 +167,8 @@ bottoms_fit m n A h = record {
 pub coherent_agrees : (m n : ℕ) (A : List Access) → IsCoherent m n A → SomeAgrees m n A
 coherent_agrees m n A h = (completed (λ list object. bottom_of list A) (object_set n (named_objects A)) m A, completed_agrees (λ list object. bottom_of list A) (object_set n (named_objects A)) m n A (bottoms_fit m n A h))
 
-pub coherent_agrees_below : (m n bound : ℕ) (A : List Access) → IsCoherent m n A → n ≤ bound → All (λ access. object_of access < bound) A → (D : List (List Row)) × Agrees m n D A × All (λ object. object < bound) (objects_of D)
+pub coherent_agrees_below : (m n bound : ℕ) (A : List Access) → IsCoherent m n A → n ≤ bound → All (λ access. object_of access < bound) A
+    → (D : List (List Row)) × Agrees m n D A × All (λ object. object < bound) (objects_of D)
 coherent_agrees_below m n bound A h l below =
     let D = completed (λ list object. bottom_of list A) (object_set n (named_objects A)) m A in (
       D,
@@ -185,7 +183,9 @@ coherent_agrees_below m n bound A h l below =
 pub no_kind_agrees : (m n : ℕ) (A : List Access) (a : Access) → SomeAgrees m n A → ((kind : Kind) → ¬ IsOfKind m n A a kind) → SomeAgrees m n (A ++ a ∷ [])
 no_kind_agrees m n A a some free = coherent_agrees m n (A ++ a ∷ []) (coherent_push m n A a (agrees_coherent m n some.0 A some.1) free)
 
-pub no_kind_agrees_below : (m n bound : ℕ) (A : List Access) (a : Access) → SomeAgrees m n A → ((kind : Kind) → ¬ IsOfKind m n A a kind) → n ≤ bound → All (λ access. object_of access < bound) (A ++ a ∷ []) → (D : List (List Row)) × Agrees m n D (A ++ a ∷ []) × All (λ object. object < bound) (objects_of D)
+pub no_kind_agrees_below : (m n bound : ℕ) (A : List Access) (a : Access) → SomeAgrees m n A → ((kind : Kind) → ¬ IsOfKind m n A a kind) → n ≤ bound
+    → All (λ access. object_of access < bound) (A ++ a ∷ [])
+    → (D : List (List Row)) × Agrees m n D (A ++ a ∷ []) × All (λ object. object < bound) (objects_of D)
 no_kind_agrees_below m n bound A a some free = coherent_agrees_below m n bound (A ++ a ∷ []) (coherent_push m n A a (agrees_coherent m n some.0 A some.1) free)
 
 -- a whole transcript: some table agrees exactly where no access is of any kind against those before it

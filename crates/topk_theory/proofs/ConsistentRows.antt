@@ -6,6 +6,7 @@ use Rattle.std.proofs.lemmas.List.Elements.{Contains-append_left, Contains-appen
 use Rattle.std.proofs.lemmas.List.Kept.{AllPairs-cons, AllPairs-filter}
 use Rattle.ranked_list.specs.declared.row.Row.{Row}
 use Rattle.ranked_list.specs.Table.{IsRanked, objects, grade_in, top_grade}
+use Rattle.ranked_list.proofs.FrontLaws.{IsRanked-nil}
 use Rattle.topk_theory.specs.Transcript.{last_grade}
 use Rattle.topk_theory.specs.Consistent.{HasOther, HasAbove}
 use Rattle.topk_theory.specs.Adversary.{is_above, put_row, by_grade, graded, unread, filled}
@@ -22,14 +23,8 @@ pub record AreCoherent (read looked : List Row) : Type 0 where
   pub below : (row : Row) → Contains looked row → (¬ Contains (objects read) row.object) → row.grade ≤ last_grade top_grade read
 
 -- ranked lists, by the first row and the rest
-pub ranked_nil : IsRanked []
-ranked_nil = record {
-  distinct = λ i j d l m. absurd (omega arith);
-  falling = λ i j d l m. absurd (omega arith);
-  capped = λ k d l. absurd (omega arith);
-}
-
-pub ranked_cons : (row : Row) (rows : List Row) → IsRanked rows → row.grade ≤ top_grade → ((other : Row) → Contains rows other → row.object ≢ other.object) → ((other : Row) → Contains rows other → other.grade ≤ row.grade) → IsRanked (row ∷ rows)
+pub ranked_cons : (row : Row) (rows : List Row) → IsRanked rows → row.grade ≤ top_grade → ((other : Row) → Contains rows other → row.object ≢ other.object)
+    → ((other : Row) → Contains rows other → other.grade ≤ row.grade) → IsRanked (row ∷ rows)
 ranked_cons row rows r top apart below = record {
   distinct = AllPairs-cons (λ (above : Row) (below : Row). above.object ≢ below.object) row rows (all_from_members (λ (z : Row). row.object ≢ z.object) rows apart) r.distinct;
   falling = AllPairs-cons (λ (above : Row) (below : Row). below.grade ≤ above.grade) row rows (all_from_members (λ (z : Row). z.grade ≤ row.grade) rows below) r.falling;
@@ -46,7 +41,9 @@ pub ranked_capped : (rows : List Row) (row : Row) → IsRanked rows → Contains
 ranked_capped rows row r h = member_of_all (λ (z : Row). z.grade ≤ top_grade) rows row r.capped h
 
 -- two parts that are ranked and go together
-pub ranked_append : (front back : List Row) → IsRanked front → IsRanked back → ((row other : Row) → Contains front row → Contains back other → row.object ≢ other.object) → ((row other : Row) → Contains front row → Contains back other → other.grade ≤ row.grade) → IsRanked (front ++ back)
+pub ranked_append : (front back : List Row) → IsRanked front → IsRanked back
+    → ((row other : Row) → Contains front row → Contains back other → row.object ≢ other.object)
+    → ((row other : Row) → Contains front row → Contains back other → other.grade ≤ row.grade) → IsRanked (front ++ back)
 ranked_append [] back f b apart below = b
 ranked_append (row ∷ front) back f b apart below =
     ranked_cons row (front ++ back)
@@ -63,14 +60,15 @@ ranked_append (row ∷ front) back f b apart below =
 
 -- the parts of a ranked list
 pub ranked_front : (front back : List Row) → IsRanked (front ++ back) → IsRanked front
-ranked_front [] back r = ranked_nil
+ranked_front [] back r = IsRanked-nil
 ranked_front (row ∷ front) back r =
     ranked_cons row front (ranked_front front back (ranked_tail row (front ++ back) r))
     (ranked_capped (row ∷ (front ++ back)) row r (contains_here row (front ++ back)))
     (λ other c. ranked_head_apart row (front ++ back) other r (Contains-append_left front back other c))
     (λ other c. ranked_head_above row (front ++ back) other r (Contains-append_left front back other c))
 
-pub ranked_parts_below : (front back : List Row) (row other : Row) → IsRanked (front ++ back) → Contains front row → Contains back other → other.grade ≤ row.grade
+pub ranked_parts_below : (front back : List Row) (row other : Row) → IsRanked (front ++ back) → Contains front row → Contains back other
+    → other.grade ≤ row.grade
 ranked_parts_below [] back row other r c d = absurd (contains_nil row c)
 ranked_parts_below (first ∷ front) back row other r c d =
     elim (contains_cases first front row c) [
@@ -78,7 +76,8 @@ ranked_parts_below (first ∷ front) back row other r c d =
       | inr t ↦ ranked_parts_below front back row other (ranked_tail first (front ++ back) r) t d
     ]
 
-pub ranked_parts_apart : (front back : List Row) (row other : Row) → IsRanked (front ++ back) → Contains front row → Contains back other → row.object ≢ other.object
+pub ranked_parts_apart : (front back : List Row) (row other : Row) → IsRanked (front ++ back) → Contains front row → Contains back other
+    → row.object ≢ other.object
 ranked_parts_apart [] back row other r c d = absurd (contains_nil row c)
 ranked_parts_apart (first ∷ front) back row other r c d =
     elim (contains_cases first front row c) [
@@ -128,7 +127,8 @@ last_below_top rows r =
     ]
 
 -- what a ranked list says of the rows that were read from it and looked up in it
-pub ranked_coherent : (read rest looked : List Row) → IsRanked (read ++ rest) → ((row : Row) → Contains looked row → Contains (read ++ rest) row) → AreCoherent read looked
+pub ranked_coherent : (read rest looked : List Row) → IsRanked (read ++ rest) → ((row : Row) → Contains looked row → Contains (read ++ rest) row)
+    → AreCoherent read looked
 ranked_coherent read rest looked r within = record {
   ranked = ranked_front read rest r;
   capped = λ row c. ranked_capped (read ++ rest) row r (within row c);
@@ -140,14 +140,17 @@ ranked_coherent read rest looked r within = record {
   ];
 }
   where
-    ranked_one_grade : (rows : List Row) (row other : Row) → IsRanked rows → Contains rows row → Contains rows other → row.object ≡ other.object → row.grade ≡ other.grade
+    ranked_one_grade : (rows : List Row) (row other : Row) → IsRanked rows → Contains rows row → Contains rows other → row.object ≡ other.object
+        → row.grade ≡ other.grade
     ranked_one_grade rows row other r c d e =
         sym (grade_in_row rows row.object row.grade r c) ∙ ap (λ o. grade_in rows o) e ∙ grade_in_row rows other.object other.grade r d
 
-pub coherent_read : (read looked : List Row) (object grade : ℕ) → AreCoherent read looked → grade ≤ top_grade → grade ≤ last_grade top_grade read → (¬ Contains (objects read) object) → (¬ HasOther looked object grade) → (¬ HasAbove looked read object grade) → AreCoherent (read ++ record { object = object; grade = grade } ∷ []) looked
+pub coherent_read : (read looked : List Row) (object grade : ℕ) → AreCoherent read looked → grade ≤ top_grade → grade ≤ last_grade top_grade read
+    → (¬ Contains (objects read) object) → (¬ HasOther looked object grade) → (¬ HasAbove looked read object grade)
+    → AreCoherent (read ++ record { object = object; grade = grade } ∷ []) looked
 coherent_read read looked object grade h top falls new same short = record {
   ranked = ranked_append read (row ∷ []) h.ranked
-      (ranked_cons row [] ranked_nil top (λ other c. absurd (contains_nil other c)) (λ other c. absurd (contains_nil other c)))
+      (ranked_cons row [] IsRanked-nil top (λ other c. absurd (contains_nil other c)) (λ other c. absurd (contains_nil other c)))
       (λ x y c d. λ e. new (subst (λ o. Contains (objects read) o) (e ∙ ap (λ (z : Row). z.object) (only y d)) (object_of_row read x c)))
       (λ x y c d. subst (λ (z : Row). z.grade ≤ x.grade) (sym (only y d)) (let low : last_grade top_grade read ≤ x.grade = last_is_least top_grade read x h.ranked c in omega arith));
   capped = h.capped;
@@ -178,7 +181,9 @@ coherent_read read looked object grade h top falls new same short = record {
     last_push above [] r = refl
     last_push above (first ∷ rows) r = last_push first.grade rows r
 
-pub coherent_looked : (read looked : List Row) (object grade : ℕ) → AreCoherent read looked → grade ≤ top_grade → (¬ HasOther read object grade) → (¬ HasOther looked object grade) → ((¬ Contains (objects read) object) → grade ≤ last_grade top_grade read) → AreCoherent read (looked ++ record { object = object; grade = grade } ∷ [])
+pub coherent_looked : (read looked : List Row) (object grade : ℕ) → AreCoherent read looked → grade ≤ top_grade → (¬ HasOther read object grade)
+    → (¬ HasOther looked object grade) → ((¬ Contains (objects read) object) → grade ≤ last_grade top_grade read)
+    → AreCoherent read (looked ++ record { object = object; grade = grade } ∷ [])
 coherent_looked read looked object grade h top same_read same_looked below = record {
   ranked = h.ranked;
   capped = λ x c. elim (Contains-push_cases looked row x c) [
@@ -278,7 +283,8 @@ not_above_grade : (row other : Row) → is_above row other ≡ false → row.gra
 not_above_grade row other e = ltb-false other.grade row.grade (or_parts (nat_lt other.grade row.grade) (row.grade == other.grade && nat_lt row.object other.object) e).0
 
 -- rows of distinct objects with lawful grades, put in this order, are ranked
-put_ranked : (row : Row) (rows : List Row) → IsRanked rows → row.grade ≤ top_grade → ((other : Row) → Contains rows other → row.object ≢ other.object) → IsRanked (put_row row rows)
+put_ranked : (row : Row) (rows : List Row) → IsRanked rows → row.grade ≤ top_grade → ((other : Row) → Contains rows other → row.object ≢ other.object)
+    → IsRanked (put_row row rows)
 put_ranked row [] r top apart = ranked_cons row [] r top apart (λ other c. absurd (contains_nil other c))
 put_ranked row (first ∷ rows) r top apart =
     elim (cases_Bool (is_above row first)) [
@@ -301,8 +307,9 @@ put_ranked row (first ∷ rows) r top apart =
           ]))
     ]
 
-pub by_grade_ranked : (rows : List Row) → AllPairs (λ (above : Row) (below : Row). above.object ≢ below.object) rows → All (λ (row : Row). row.grade ≤ top_grade) rows → IsRanked (by_grade rows)
-by_grade_ranked [] d a = ranked_nil
+pub by_grade_ranked : (rows : List Row) → AllPairs (λ (above : Row) (below : Row). above.object ≢ below.object) rows
+    → All (λ (row : Row). row.grade ≤ top_grade) rows → IsRanked (by_grade rows)
+by_grade_ranked [] d a = IsRanked-nil
 by_grade_ranked (row ∷ rows) d a =
     put_ranked row (by_grade rows)
     (by_grade_ranked rows (λ i j e l m. d (suc i) (suc j) e (omega arith) (omega arith)) (λ k e l. a (suc k) e (omega arith)))
@@ -310,7 +317,8 @@ by_grade_ranked (row ∷ rows) d a =
     (λ other c. let in_rows = by_grade_members rows other c in λ same. d 0 (suc in_rows.0) other (omega arith) (omega (arith, in_rows.1)) (same ∙ sym (ap (λ (z : Row). z.object) in_rows.2)))
 
 -- the rows of objects that have these grades, and a list that is filled with them
-pub graded_distinct : (G : ℕ → ℕ) (os : List ℕ) → AllPairs (λ (x : ℕ) (y : ℕ). x ≢ y) os → AllPairs (λ (above : Row) (below : Row). above.object ≢ below.object) (graded G os)
+pub graded_distinct : (G : ℕ → ℕ) (os : List ℕ) → AllPairs (λ (x : ℕ) (y : ℕ). x ≢ y) os
+    → AllPairs (λ (above : Row) (below : Row). above.object ≢ below.object) (graded G os)
 graded_distinct G [] d = λ i j e l m. absurd (omega arith)
 graded_distinct G (o ∷ os) d =
     AllPairs-cons (λ (above : Row) (below : Row). above.object ≢ below.object) (record { object = o; grade = G o }) (graded G os)
@@ -361,21 +369,24 @@ unread_has : (read : List Row) (O : List ℕ) (o : ℕ) → Contains O o → (¬
 unread_has read O o c n = filter_has (λ p. not (has p (objects read))) O o c (ap not (not_has o (objects read) n))
 
 -- the filled list has the rows that it is made for
-pub filled_other : (G : ℕ → ℕ) (O : List ℕ) (read : List Row) (o : ℕ) → Contains O o → (¬ Contains (objects read) o) → Contains (filled G O read) (record { object = o; grade = G o })
+pub filled_other : (G : ℕ → ℕ) (O : List ℕ) (read : List Row) (o : ℕ) → Contains O o → (¬ Contains (objects read) o)
+    → Contains (filled G O read) (record { object = o; grade = G o })
 filled_other G O read o c n =
     Contains-append_right read (by_grade (graded G (unread read O))) _ (by_grade_has (graded G (unread read O)) _ (graded_has G (unread read O) o (unread_has read O o c n)))
 
 pub filled_read : (G : ℕ → ℕ) (O : List ℕ) (read : List Row) (row : Row) → Contains read row → Contains (filled G O read) row
 filled_read G O read row c = Contains-append_left read (by_grade (graded G (unread read O))) row c
 
-rest_row : (G : ℕ → ℕ) (O : List ℕ) (read : List Row) (row : Row) → Contains (by_grade (graded G (unread read O))) row → Contains O row.object × (¬ Contains (objects read) row.object) × (row.grade ≡ G row.object)
+rest_row : (G : ℕ → ℕ) (O : List ℕ) (read : List Row) (row : Row) → Contains (by_grade (graded G (unread read O))) row
+    → Contains O row.object × (¬ Contains (objects read) row.object) × (row.grade ≡ G row.object)
 rest_row G O read row c =
     let g = graded_row G (unread read O) row (by_grade_members (graded G (unread read O)) row c) in
     let u = unread_from read O row.object g.0 in
     (u.0, u.1, g.1)
 
 -- it is ranked, where the rows were and the other grades are no greater than the last of them
-pub filled_ranked : (G : ℕ → ℕ) (O : List ℕ) (read : List Row) → AllPairs (λ (x : ℕ) (y : ℕ). x ≢ y) O → IsRanked read → ((o : ℕ) → (¬ Contains (objects read) o) → G o ≤ last_grade top_grade read) → IsRanked (filled G O read)
+pub filled_ranked : (G : ℕ → ℕ) (O : List ℕ) (read : List Row) → AllPairs (λ (x : ℕ) (y : ℕ). x ≢ y) O → IsRanked read
+    → ((o : ℕ) → (¬ Contains (objects read) o) → G o ≤ last_grade top_grade read) → IsRanked (filled G O read)
 filled_ranked G O read d r low =
     ranked_append read (by_grade (graded G (unread read O))) r
     (by_grade_ranked (graded G (unread read O))
@@ -395,7 +406,8 @@ filled_ranked G O read d r low =
     omega arith)
 
 -- its objects are those of O, and so it has as many rows
-pub filled_objects : (G : ℕ → ℕ) (O : List ℕ) (read : List Row) (o : ℕ) → ((p : ℕ) → Contains (objects read) p → Contains O p) → Contains (objects (filled G O read)) o → Contains O o
+pub filled_objects : (G : ℕ → ℕ) (O : List ℕ) (read : List Row) (o : ℕ) → ((p : ℕ) → Contains (objects read) p → Contains O p)
+    → Contains (objects (filled G O read)) o → Contains O o
 filled_objects G O read o within c =
     let from = contains_map_from (λ (z : Row). z.object) (filled G O read) o c in
     subst (λ p. Contains O p) from.2
@@ -412,7 +424,8 @@ filled_has_objects G O read o c =
       | inr f ↦ object_of_row (filled G O read) (record { object = o; grade = G o }) (filled_other G O read o c (has_not o (objects read) f))
     ]
 
-pub filled_length : (G : ℕ → ℕ) (O : List ℕ) (read : List Row) → AllPairs (λ (x : ℕ) (y : ℕ). x ≢ y) O → IsRanked (filled G O read) → ((p : ℕ) → Contains (objects read) p → Contains O p) → length (filled G O read) ≡ length O
+pub filled_length : (G : ℕ → ℕ) (O : List ℕ) (read : List Row) → AllPairs (λ (x : ℕ) (y : ℕ). x ≢ y) O → IsRanked (filled G O read)
+    → ((p : ℕ) → Contains (objects read) p → Contains O p) → length (filled G O read) ≡ length O
 filled_length G O read d r within =
     let e : length (objects (filled G O read)) ≡ length (filled G O read) = length-map (filled G O read) (λ (z : Row). z.object) in
     let most : length (objects (filled G O read)) ≤ length O = distinct_fits (objects (filled G O read)) O (objects_distinct (filled G O read) r) (λ o c. filled_objects G O read o within c) in
@@ -420,7 +433,8 @@ filled_length G O read d r within =
     omega arith
 
 -- the rows that were looked up are in it, where G has their grades
-pub filled_looked : (G : ℕ → ℕ) (O : List ℕ) (read looked : List Row) (row : Row) → AreCoherent read looked → Contains looked row → Contains O row.object → ((¬ Contains (objects read) row.object) → G row.object ≡ row.grade) → Contains (filled G O read) row
+pub filled_looked : (G : ℕ → ℕ) (O : List ℕ) (read looked : List Row) (row : Row) → AreCoherent read looked → Contains looked row → Contains O row.object
+    → ((¬ Contains (objects read) row.object) → G row.object ≡ row.grade) → Contains (filled G O read) row
 filled_looked G O read looked row h c o known =
     elim (cases_Bool (has row.object (objects read))) [
       | inl t ↦ let from = contains_map_from (λ (z : Row). z.object) read row.object (has_contains row.object (objects read) t) in

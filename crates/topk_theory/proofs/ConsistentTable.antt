@@ -6,6 +6,8 @@ use Rattle.std.proofs.lemmas.List.FromFn.{length-range_with_len, get_or-range_wi
 use Rattle.std.proofs.lemmas.List.Elements.{Contains-append_right, All-push}
 use Rattle.ranked_list.specs.declared.row.Row.{Row}
 use Rattle.ranked_list.specs.Table.{IsRanked, IsTable, objects, grade_in, top_grade}
+use Rattle.ranked_list.proofs.OptionLaws.{option_cases}
+use Rattle.ranked_list.proofs.FrontLaws.{IsRanked-nil}
 use Rattle.topk_theory.specs.declared.access.Access.{Access}
 use Rattle.topk_theory.specs.declared.access.Access.TheVariants.{Sorted, Random}
 use Rattle.topk_theory.specs.Aggregate.{objects_of}
@@ -18,11 +20,12 @@ use Rattle.topk_theory.specs.Consistent.Kind.{no_such_list, above_top, too_many_
 use Rattle.topk_theory.proofs.AgreementLists.{contains_nil, contains_here, contains_there, contains_cases, contains_map_from, all_from_members, member_of_all, begins_with, begins_splits}
 use Rattle.topk_theory.proofs.AgreementNames.{has, has_contains, has_not}
 use Rattle.topk_theory.proofs.AgreementRows.{grade_in_row, object_of_row, grade_among_row, grade_among_none, list_at_ranked}
-use Rattle.topk_theory.proofs.Agreement.{row_of, given_from, known_cases, named_contains, named_count, named_objects_old, named_objects_new, agrees_in_range, known_grade_is, sorted_rows_sorted, sorted_rows_other, sorted_rows_random, random_rows_random, random_rows_other, random_rows_sorted}
-use Rattle.topk_theory.proofs.ConsistentRows.{AreCoherent, ranked_nil, ranked_coherent, coherent_read, coherent_looked, filled_other, filled_ranked, filled_objects, filled_has_objects, filled_length, filled_looked}
+use Rattle.topk_theory.proofs.Agreement.{row_of, given_from, named_contains, named_count, named_objects_old, named_objects_new, agrees_in_range, known_grade_is, sorted_rows_sorted, sorted_rows_other, sorted_rows_random, random_rows_random, random_rows_other, random_rows_sorted}
+use Rattle.topk_theory.proofs.ConsistentRows.{AreCoherent, ranked_coherent, coherent_read, coherent_looked, filled_other, filled_ranked, filled_objects, filled_has_objects, filled_length, filled_looked}
 
 -- the rows that accesses gave are those that were read and those that were looked up
-given_here : (list : ℕ) (a : Access) (A : List Access) (row : Row) → Contains (given_rows list (a ∷ A)) row → ((list_of a ≡ list) × (row_of a ≡ row)) ⊎ Contains (given_rows list A) row
+given_here : (list : ℕ) (a : Access) (A : List Access) (row : Row) → Contains (given_rows list (a ∷ A)) row
+    → ((list_of a ≡ list) × (row_of a ≡ row)) ⊎ Contains (given_rows list A) row
 given_here list a A row c =
     elim (cases_Bool (list_of a == list)) [
       | inl t ↦ elim (contains_cases (row_of a) (given_rows list A) row (subst (λ o. Contains (cons_option o (given_rows list A)) row) (cond-true {A = Option Row} (list_of a == list) (Some (row_of a)) None t) c)) [
@@ -42,7 +45,8 @@ some_there list other row rows x c =
       | inr f ↦ subst (λ o. Contains (cons_option o rows) x) (sym (cond-false {A = Option Row} (other == list) (Some row) None f)) c
     ]
 
-some_from : (list other : ℕ) (row : Row) (rows : List Row) (x : Row) → Contains (cons_option (cond (other == list) (Some row) None) rows) x → ((other ≡ list) × (row ≡ x)) ⊎ Contains rows x
+some_from : (list other : ℕ) (row : Row) (rows : List Row) (x : Row) → Contains (cons_option (cond (other == list) (Some row) None) rows) x
+    → ((other ≡ list) × (row ≡ x)) ⊎ Contains rows x
 some_from list other row rows x c =
     elim (cases_Bool (other == list)) [
       | inl t ↦ elim (contains_cases row rows x (subst (λ o. Contains (cons_option o rows) x) (cond-true {A = Option Row} (other == list) (Some row) None t) c)) [
@@ -52,7 +56,8 @@ some_from list other row rows x c =
       | inr f ↦ inr (subst (λ o. Contains (cons_option o rows) x) (cond-false {A = Option Row} (other == list) (Some row) None f) c)
     ]
 
-pub given_split : (list : ℕ) (A : List Access) (row : Row) → Contains (given_rows list A) row → Contains (sorted_rows list A) row ⊎ Contains (random_rows list A) row
+pub given_split : (list : ℕ) (A : List Access) (row : Row) → Contains (given_rows list A) row
+    → Contains (sorted_rows list A) row ⊎ Contains (random_rows list A) row
 given_split list [] row c = absurd (contains_nil row c)
 given_split list (Sorted other object grade ∷ A) row c =
     elim (some_from list other (record { object = object; grade = grade }) (given_rows list A) row c) [
@@ -107,7 +112,7 @@ coherent_none m n = record {
   in_range = λ k d l. absurd (omega arith);
   fits = omega arith;
   each = λ list l. record {
-    ranked = ranked_nil;
+    ranked = IsRanked-nil;
     capped = λ row c. absurd (contains_nil row c);
     same_read = λ row other c d e. absurd (contains_nil row c);
     same_looked = λ row other c d e. absurd (contains_nil row c);
@@ -152,7 +157,8 @@ push_top m n A a free = elim (cases_lt top_grade (grade_of a)) [ inl l ↦ absur
 push_in_range : (m n : ℕ) (A : List Access) (a : Access) → (¬ IsOfKind m n A a no_such_list) → list_of a < m
 push_in_range m n A a free = elim (cases_lt (list_of a) m) [ inl l ↦ l | inr l ↦ absurd (free l) ]
 
-push_each : (m n : ℕ) (A : List Access) (a : Access) → IsCoherent m n A → ((kind : Kind) → ¬ IsOfKind m n A a kind) → (at : ℕ) → at < m → AreCoherent (sorted_rows at (A ++ a ∷ [])) (random_rows at (A ++ a ∷ []))
+push_each : (m n : ℕ) (A : List Access) (a : Access) → IsCoherent m n A → ((kind : Kind) → ¬ IsOfKind m n A a kind) → (at : ℕ) → at < m
+    → AreCoherent (sorted_rows at (A ++ a ∷ [])) (random_rows at (A ++ a ∷ []))
 push_each m n A (Sorted list object grade) h free at l =
     elim (cases_eq list at) [
       | inl e ↦ subst (λ k. AreCoherent (sorted_rows k (A ++ Sorted list object grade ∷ [])) (random_rows k (A ++ Sorted list object grade ∷ []))) e
@@ -185,12 +191,14 @@ coherent_push m n A a h free = record {
 }
 
 -- the table over O in which each known grade stands, and each unknown one is as chosen
-pub completed_at : (choose : ℕ → ℕ → ℕ) (O : List ℕ) (m : ℕ) (A : List Access) (list : ℕ) → list < m → list_at (completed choose O m A) list ≡ filled (chosen choose A list) O (sorted_rows list A)
+pub completed_at : (choose : ℕ → ℕ → ℕ) (O : List ℕ) (m : ℕ) (A : List Access) (list : ℕ) → list < m
+    → list_at (completed choose O m A) list ≡ filled (chosen choose A list) O (sorted_rows list A)
 completed_at choose O m A list l = get_or-map-range_with_len (λ k. filled (chosen choose A k) O (sorted_rows k A)) 0 m list list [] l (omega arith)
 
-chosen_known : (choose : ℕ → ℕ → ℕ) (A : List Access) (list : ℕ) (row : Row) → AreCoherent (sorted_rows list A) (random_rows list A) → Contains (random_rows list A) row → (¬ Contains (objects (sorted_rows list A)) row.object) → chosen choose A list row.object ≡ row.grade
+chosen_known : (choose : ℕ → ℕ → ℕ) (A : List Access) (list : ℕ) (row : Row) → AreCoherent (sorted_rows list A) (random_rows list A)
+    → Contains (random_rows list A) row → (¬ Contains (objects (sorted_rows list A)) row.object) → chosen choose A list row.object ≡ row.grade
 chosen_known choose A list row h c unread =
-    elim (known_cases (known_grade A row.object list)) [
+    elim (option_cases (known_grade A row.object list)) [
       | inl none ↦ absurd (grade_among_none (given_rows list A) row.object none (object_of_row (given_rows list A) row (random_given list A row c)))
       | inr some ↦ ap (λ o. unwrap_or o (choose list row.object)) some.1
           ∙ elim (given_split list A (record { object = row.object; grade = some.0 }) (grade_among_row (given_rows list A) row.object some.0 some.1)) [
@@ -199,9 +207,10 @@ chosen_known choose A list row h c unread =
           ]
     ]
 
-chosen_low : (choose : ℕ → ℕ → ℕ) (A : List Access) (list object : ℕ) → AreCoherent (sorted_rows list A) (random_rows list A) → choose list object ≤ bottom_of list A → (¬ Contains (objects (sorted_rows list A)) object) → chosen choose A list object ≤ bottom_of list A
+chosen_low : (choose : ℕ → ℕ → ℕ) (A : List Access) (list object : ℕ) → AreCoherent (sorted_rows list A) (random_rows list A)
+    → choose list object ≤ bottom_of list A → (¬ Contains (objects (sorted_rows list A)) object) → chosen choose A list object ≤ bottom_of list A
 chosen_low choose A list object h low unread =
-    elim (known_cases (known_grade A object list)) [
+    elim (option_cases (known_grade A object list)) [
       | inl none ↦ subst (λ o. unwrap_or o (choose list object) ≤ bottom_of list A) (sym none) low
       | inr some ↦ subst (λ o. unwrap_or o (choose list object) ≤ bottom_of list A) (sym some.1)
           (elim (given_split list A (record { object = object; grade = some.0 }) (grade_among_row (given_rows list A) object some.0 some.1)) [
@@ -217,18 +226,21 @@ pub record MayComplete (choose : ℕ → ℕ → ℕ) (O : List ℕ) (m n : ℕ)
   pub named : (object : ℕ) → Contains (named_objects A) object → Contains O object
   pub low : (list object : ℕ) → choose list object ≤ bottom_of list A
 
-read_named : (choose : ℕ → ℕ → ℕ) (O : List ℕ) (m n : ℕ) (A : List Access) (list object : ℕ) → MayComplete choose O m n A → Contains (objects (sorted_rows list A)) object → Contains O object
+read_named : (choose : ℕ → ℕ → ℕ) (O : List ℕ) (m n : ℕ) (A : List Access) (list object : ℕ) → MayComplete choose O m n A
+    → Contains (objects (sorted_rows list A)) object → Contains O object
 read_named choose O m n A list object h c =
     let from = contains_map_from (λ (z : Row). z.object) (sorted_rows list A) object c in
     subst (λ o. Contains O o) from.2 (h.named from.0.object (given_named list A from.0 (sorted_given list A from.0 from.1)))
 
-completed_ranked : (choose : ℕ → ℕ → ℕ) (O : List ℕ) (m n : ℕ) (A : List Access) (list : ℕ) → MayComplete choose O m n A → list < m → IsRanked (filled (chosen choose A list) O (sorted_rows list A))
+completed_ranked : (choose : ℕ → ℕ → ℕ) (O : List ℕ) (m n : ℕ) (A : List Access) (list : ℕ) → MayComplete choose O m n A → list < m
+    → IsRanked (filled (chosen choose A list) O (sorted_rows list A))
 completed_ranked choose O m n A list h l =
     filled_ranked (chosen choose A list) O (sorted_rows list A) h.over.distinct (h.coherent.each list l).ranked
     (λ object unread. chosen_low choose A list object (h.coherent.each list l) (h.low list object) unread)
 
 -- a member of the table is one of its lists
-completed_member : (choose : ℕ → ℕ → ℕ) (O : List ℕ) (m : ℕ) (A : List Access) (rows : List Row) → Contains (completed choose O m A) rows → (list : ℕ) × (list < m) × (filled (chosen choose A list) O (sorted_rows list A) ≡ rows)
+completed_member : (choose : ℕ → ℕ → ℕ) (O : List ℕ) (m : ℕ) (A : List Access) (rows : List Row) → Contains (completed choose O m A) rows
+    → (list : ℕ) × (list < m) × (filled (chosen choose A list) O (sorted_rows list A) ≡ rows)
 completed_member choose O m A rows c =
     let from = contains_map_from (λ list. filled (chosen choose A list) O (sorted_rows list A)) (list_numbers m) rows c in
     let at : from.1.0 < length (range_with_len 0 m) = from.1.1 in
@@ -272,20 +284,23 @@ completed_agrees choose O m n A h = record {
 }
 
 -- its objects are those of O, and each grade is the known one or else the chosen one
-pub completed_objects : (choose : ℕ → ℕ → ℕ) (O : List ℕ) (m n : ℕ) (A : List Access) (object : ℕ) → MayComplete choose O m n A → Contains (objects_of (completed choose O m A)) object → Contains O object
+pub completed_objects : (choose : ℕ → ℕ → ℕ) (O : List ℕ) (m n : ℕ) (A : List Access) (object : ℕ) → MayComplete choose O m n A
+    → Contains (objects_of (completed choose O m A)) object → Contains O object
 completed_objects choose O zero n A object h c = absurd (contains_nil object c)
 completed_objects choose O (suc m) n A object h c = filled_objects (chosen choose A 0) O (sorted_rows 0 A) object (λ p d. read_named choose O (suc m) n A 0 p h d) c
 
-pub completed_has_objects : (choose : ℕ → ℕ → ℕ) (O : List ℕ) (m : ℕ) (A : List Access) (object : ℕ) → 0 < m → Contains O object → Contains (objects_of (completed choose O m A)) object
+pub completed_has_objects : (choose : ℕ → ℕ → ℕ) (O : List ℕ) (m : ℕ) (A : List Access) (object : ℕ) → 0 < m → Contains O object
+    → Contains (objects_of (completed choose O m A)) object
 completed_has_objects choose O zero A object l c = absurd (omega arith)
 completed_has_objects choose O (suc m) A object l c = filled_has_objects (chosen choose A 0) O (sorted_rows 0 A) object c
 
 pub completed_over : (choose : ℕ → ℕ → ℕ) (O : List ℕ) (m n : ℕ) (A : List Access) → 0 < m → MayComplete choose O m n A → IsOver O (completed choose O m A)
 completed_over choose O m n A l h = λ object. ((λ c. completed_objects choose O m n A object h c), (λ c. completed_has_objects choose O m A object l c))
 
-pub completed_grade : (choose : ℕ → ℕ → ℕ) (O : List ℕ) (m n : ℕ) (A : List Access) (list object : ℕ) → MayComplete choose O m n A → list < m → Contains O object → grade_in (list_at (completed choose O m A) list) object ≡ chosen choose A list object
+pub completed_grade : (choose : ℕ → ℕ → ℕ) (O : List ℕ) (m n : ℕ) (A : List Access) (list object : ℕ) → MayComplete choose O m n A → list < m
+    → Contains O object → grade_in (list_at (completed choose O m A) list) object ≡ chosen choose A list object
 completed_grade choose O m n A list object h l c =
-    elim (known_cases (known_grade A object list)) [
+    elim (option_cases (known_grade A object list)) [
       | inl none ↦ ap (λ rows. grade_in rows object) (completed_at choose O m A list l)
           ∙ grade_in_row (filled (chosen choose A list) O (sorted_rows list A)) object (chosen choose A list object) (completed_ranked choose O m n A list h l)
           (filled_other (chosen choose A list) O (sorted_rows list A) object c (λ d.

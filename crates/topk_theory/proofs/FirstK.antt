@@ -41,7 +41,8 @@ has-take (suc k) (first ∷ rest) item h =
     ] h
 
 -- what is before each of some items is before one that is among them
-less_of_member : (first : Item) (rest : List Item) (item : Item) → AllByRecursion (λ other. item_cmp first other ≡ Less) rest → has_item rest item ≡ true → item_cmp first item ≡ Less
+less_of_member : (first : Item) (rest : List Item) (item : Item) → AllByRecursion (λ other. item_cmp first other ≡ Less) rest → has_item rest item ≡ true
+    → item_cmp first item ≡ Less
 less_of_member first [] item all there = absurd (false≢true there)
 less_of_member first (next ∷ rest) item all there =
     elim (or_cases (is_at (item_cmp item) next) (has_item rest item) there) [
@@ -49,7 +50,9 @@ less_of_member first (next ∷ rest) item all there =
       | inr later ↦ less_of_member first rest item all.1 later
     ]
 
-after_step : (first : Item) (taken rest : List Item) (inside outside : Item) → AllByRecursion (λ other. item_cmp first other ≡ Less) rest → (has_item taken inside ≡ true → item_cmp inside outside ≡ Less) → has_item (first ∷ taken) inside ≡ true → has_item rest outside ≡ true → item_cmp inside outside ≡ Less
+after_step : (first : Item) (taken rest : List Item) (inside outside : Item) → AllByRecursion (λ other. item_cmp first other ≡ Less) rest
+    → (has_item taken inside ≡ true → item_cmp inside outside ≡ Less) → has_item (first ∷ taken) inside ≡ true → has_item rest outside ≡ true
+    → item_cmp inside outside ≡ Less
 after_step first taken rest inside outside above later within there =
     elim (or_cases (is_at (item_cmp inside) first) (has_item taken inside) within) [
       | inl same ↦
@@ -59,7 +62,8 @@ after_step first taken rest inside outside above later within there =
     ]
 
 -- of ascending items, what is not among the first k is after each of them
-after_taken : (k : ℕ) (items : List Item) (inside outside : Item) → Ascend items → has_item (take k items) inside ≡ true → has_item items outside ≡ true → has_item (take k items) outside ≡ false → item_cmp inside outside ≡ Less
+after_taken : (k : ℕ) (items : List Item) (inside outside : Item) → Ascend items → has_item (take k items) inside ≡ true → has_item items outside ≡ true
+    → has_item (take k items) outside ≡ false → item_cmp inside outside ≡ Less
 after_taken zero items inside outside up within there beyond = absurd (false≢true within)
 after_taken (suc k) [] inside outside up within there beyond = absurd (false≢true within)
 after_taken (suc k) (first ∷ rest) inside outside up within there beyond =
@@ -93,7 +97,8 @@ AllByRecursion-append : (P : Item → Type 0) (xs ys : List Item) → AllByRecur
 AllByRecursion-append P [] ys left right = right
 AllByRecursion-append P (x ∷ xs) ys left right = (left.0, AllByRecursion-append P xs ys left.1 right)
 
-Ascend-append : (xs ys : List Item) → Ascend xs → Ascend ys → ((a b : Item) → has_item xs a ≡ true → has_item ys b ≡ true → item_cmp a b ≡ Less) → Ascend (xs ++ ys)
+Ascend-append : (xs ys : List Item) → Ascend xs → Ascend ys → ((a b : Item) → has_item xs a ≡ true → has_item ys b ≡ true → item_cmp a b ≡ Less)
+    → Ascend (xs ++ ys)
 Ascend-append [] ys left right across = right
 Ascend-append (x ∷ xs) ys left right across =
     let itself : has_item (x ∷ xs) x ≡ true = ap (λ r. is_eq r || has_item xs x) (tied_itself items_total x) in

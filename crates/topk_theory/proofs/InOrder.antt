@@ -41,7 +41,8 @@ pub Contains-from_has : (items : List Item) (item : Item) → has_item items ite
 Contains-from_has items item h = Contains-from_any (tells_apart exact_items) item items h
 
 -- lists with the same items answer the test alike
-pub same_has : (others items : List Item) → ((item : Item) → Contains others item ↔ Contains items item) → (item : Item) → has_item others item ≡ has_item items item
+pub same_has : (others items : List Item) → ((item : Item) → Contains others item ↔ Contains items item) → (item : Item)
+    → has_item others item ≡ has_item items item
 same_has others items same item =
     elim (cases_Bool (has_item items item)) [
       | inl found ↦ has_from_Contains others item ((same item).1 (Contains-from_has items item found)) ∙ sym found
@@ -82,7 +83,8 @@ with_placed-permutes item (first ∷ rest) =
     ]
 
 -- what is before an item and those in order is before each when it is placed
-before_placed : (first item : Item) (rest : List Item) → item_cmp first item ≡ Less → AllByRecursion (λ other. item_cmp first other ≡ Less) rest → AllByRecursion (λ other. item_cmp first other ≡ Less) (with_placed item rest)
+before_placed : (first item : Item) (rest : List Item) → item_cmp first item ≡ Less → AllByRecursion (λ other. item_cmp first other ≡ Less) rest
+    → AllByRecursion (λ other. item_cmp first other ≡ Less) (with_placed item rest)
 before_placed first item [] less all = (less, tt)
 before_placed first item (next ∷ rest) less all =
     elim (is_before item next) as (λ b. AllByRecursion (λ other. item_cmp first other ≡ Less) (cond b (item ∷ next ∷ rest) (next ∷ with_placed item rest))) [
@@ -145,13 +147,15 @@ ascending_one xs ys up upwards same =
     btree_set_from_contains items_total (record { keys = xs }) (record { keys = ys }) up upwards same exact_items
 
 -- and no other list of the same items is
-pub in_order-only : (items others : List Item) → AreDistinct items → IsInOrder others → ((item : Item) → Contains others item ↔ Contains items item) → others ≡ in_order items
+pub in_order-only : (items others : List Item) → AreDistinct items → IsInOrder others → ((item : Item) → Contains others item ↔ Contains items item)
+    → others ≡ in_order items
 in_order-only items others apart ordered same =
     ascending_one others (in_order items) (Ascend-from_IsInOrder others ordered) (in_order-ascends items apart)
     (λ item. same_has others items same item ∙ sym (has-in_order items item))
 
 -- the order is of the items alone, however they are listed
-pub in_order-same : (items others : List Item) → AreDistinct items → AreDistinct others → ((item : Item) → Contains others item ↔ Contains items item) → in_order others ≡ in_order items
+pub in_order-same : (items others : List Item) → AreDistinct items → AreDistinct others → ((item : Item) → Contains others item ↔ Contains items item)
+    → in_order others ≡ in_order items
 in_order-same items others apart apart' same =
     ascending_one (in_order others) (in_order items) (in_order-ascends others apart') (in_order-ascends items apart)
     (λ item. has-in_order others item ∙ same_has others items same item ∙ sym (has-in_order items item))

@@ -9,22 +9,18 @@ use Rattle.std.proofs.lemmas.List.Sums.{sum_by-cons}
 use Rattle.std.proofs.lemmas.Map.Keys.{sorted_head, sorted_tail}
 use Rattle.std.proofs.lemmas.Option.{none-some, same_Some}
 use Rattle.ranked_list.specs.declared.item.Item.{Item}
+use Rattle.ranked_list.proofs.Members.{past_end}
 use Rattle.topk_theory.specs.Order.{item_cmp, AreDistinct, in_order, kth_low, lows, IsKthLargest}
 use Rattle.topk_theory.proofs.OrderLaws.{items_total, before_from_less}
 use Rattle.topk_theory.proofs.SortedKeys.{less_at}
 use Rattle.topk_theory.proofs.InOrder.{Ascend, in_order-ascends, in_order-permutes, length-in_order}
 
--- a list without an element at a place is no longer than that
-pub length_le_from_None : {X : Type 0} (xs : List X) (i : ℕ) → slice_get xs i ≡ None → length xs ≤ i
-length_le_from_None [] i h = omega arith
-length_le_from_None (x ∷ xs) zero h = absurd (none-some x (sym h))
-length_le_from_None (x ∷ xs) (suc i) h = omega (arith, length_le_from_None xs i h)
-
 -- a later item has no greater low
 low_falls : (a b : Item) → item_cmp a b ≡ Less → b.low ≤ a.low
 low_falls a b less = elim (before_from_less a b less) [ inl low ↦ omega arith | inr tie ↦ omega arith ]
 
-none_greater : (first : Item) (rest : List Item) → AllByRecursion (λ other. item_cmp first other ≡ Less) rest → count_by (λ n. nat_lt first.low n) (lows rest) ≡ 0
+none_greater : (first : Item) (rest : List Item) → AllByRecursion (λ other. item_cmp first other ≡ Less) rest
+    → count_by (λ n. nat_lt first.low n) (lows rest) ≡ 0
 none_greater first [] all = refl
 none_greater first (next ∷ rest) all =
     sum_by-cons (λ n. cond (nat_lt first.low n) 1 0) next.low (lows rest)
@@ -46,7 +42,8 @@ few_greater (first ∷ rest) (suc i) item up at =
     omega (arith, sum_by-cons (λ n. cond (nat_lt item.low n) 1 0) first.low (lows rest), at_most_one (nat_lt item.low first.low), few_greater rest i item (sorted_tail item_cmp first rest up) at)
 
 -- it and those before it are no less
-enough_no_less : (items : List Item) (i : ℕ) (item : Item) → Ascend items → slice_get items i ≡ Some item → suc i ≤ count_by (λ n. nat_le item.low n) (lows items)
+enough_no_less : (items : List Item) (i : ℕ) (item : Item) → Ascend items → slice_get items i ≡ Some item
+    → suc i ≤ count_by (λ n. nat_le item.low n) (lows items)
 enough_no_less [] i item up at = absurd (none-some item at)
 enough_no_less (first ∷ rest) zero item up at =
     subst (λ (it : Item). 1 ≤ count_by (λ n. nat_le it.low n) (lows (first ∷ rest))) (same_Some first item at)
@@ -63,9 +60,10 @@ counted_in_order p items =
     sum_by-IsPermutation (λ n. cond (p n) 1 0) (lows items) (lows (in_order items))
     (IsPermutation-map (λ (item : Item). item.low) items (in_order items) (in_order-permutes items))
 
-by_count : (k : ℕ) (items : List Item) (item : Option Item) → 1 ≤ k → AreDistinct items → slice_get (in_order items) (k - 1) ≡ item → MatchOption (option_map (λ (it : Item). it.low) item) (length items < k) (IsKthLargest k (lows items))
+by_count : (k : ℕ) (items : List Item) (item : Option Item) → 1 ≤ k → AreDistinct items → slice_get (in_order items) (k - 1) ≡ item
+    → MatchOption (option_map (λ (it : Item). it.low) item) (length items < k) (IsKthLargest k (lows items))
 by_count k items None positive apart at =
-    let few = length_le_from_None (in_order items) (k - 1) at in
+    let few = past_end (in_order items) (k - 1) at in
     omega (arith, length-in_order items)
 by_count k items (Some item) positive apart at =
     let up = in_order-ascends items apart in

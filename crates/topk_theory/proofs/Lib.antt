@@ -14,6 +14,7 @@ pub mod ConsistentTable
 pub mod FirstK
 pub mod InOrder
 pub mod KthLow
+pub mod ListNumbers
 pub mod NoRandomLaws
 pub mod NoRandomQuiet
 pub mod NoRandomRun
@@ -21,10 +22,13 @@ pub mod NoRandomTop
 pub mod OrderLaws
 pub mod SortedItems
 pub mod SortedKeys
+pub mod SortedRows
 pub mod ThresholdDepth
 pub mod ThresholdLaws
 pub mod ThresholdLists
 pub mod ThresholdRun
 pub mod ThresholdTables
 pub mod ThresholdTop
+pub mod UnknownLists
+pub mod Unseen
 pub mod WorkedRows

@@ -40,12 +40,14 @@ sorted_is_seen list object (Random other o g ∷ A) c = sorted_is_seen list obje
 abbrev pub GivesAll : List (List Row) → List Access → Type 0
 GivesAll D A = (list : ℕ) → list < length D → sorted_rows list A ≡ list_at D list
 
-full_known : (n : ℕ) (D : List (List Row)) (A : List Access) (list object : ℕ) → IsTable n D → GivesAll D A → list < length D → Contains (objects_of D) object → (known_grade A object list ≡ None) → ⊥
+full_known : (n : ℕ) (D : List (List Row)) (A : List Access) (list object : ℕ) → IsTable n D → GivesAll D A → list < length D → Contains (objects_of D) object
+    → (known_grade A object list ≡ None) → ⊥
 full_known n D A list object table full lt here none =
     grade_among_none (sorted_rows list A) object (sorted_none list object A none) (subst (λ rows. Contains (objects rows) object) (sym (full list lt)) (objects_in_each n D list object table lt here))
 
 -- every object of the table is seen there
-pub full_seen : (n : ℕ) (D : List (List Row)) (A : List Access) (object : ℕ) → IsTable n D → GivesAll D A → 0 < length D → Contains (objects_of D) object → Contains (seen_objects A) object
+pub full_seen : (n : ℕ) (D : List (List Row)) (A : List Access) (object : ℕ) → IsTable n D → GivesAll D A → 0 < length D → Contains (objects_of D) object
+    → Contains (seen_objects A) object
 full_seen n D A object table full some here =
     each_once_complete (filter_map sorted_object A) object (sorted_is_seen 0 object A (subst (λ rows. Contains (objects rows) object) (sym (full 0 some)) (objects_in_each n D 0 object table some here)))
 
@@ -60,11 +62,12 @@ same_where_known : (known : Option ℕ) (bottom : ℕ) → (known ≡ None → �
 same_where_known None bottom some = absurd (some refl)
 same_where_known (Some grade) bottom some = omega arith
 
-full_bounds : (V : List ℕ → ℕ) (n : ℕ) (D : List (List Row)) (A : List Access) (object : ℕ) → IsMonotone V → IsTable n D → GivesAll D A → Contains (objects_of D) object → high V (length D) A object ≤ low V (length D) A object
+full_bounds : (V : List ℕ → ℕ) (n : ℕ) (D : List (List Row)) (A : List Access) (object : ℕ) → IsMonotone V → IsTable n D → GivesAll D A
+    → Contains (objects_of D) object → high V (length D) A object ≤ low V (length D) A object
 full_bounds V n D A object monotone table full here =
     monotone _ _ (zip_numbers (λ list. unwrap_or (known_grade A object list) (bottom_of list A)) (λ list. unwrap_or (known_grade A object list) 0) (length D) (λ list lt. same_where_known (known_grade A object list) (bottom_of list A) (full_known n D A list object table full lt here)))
 
-exceeds_less : (found : Option ℕ) (number less : ℕ) → less ≤ number → exceeds found number ≡ false → exceeds found less ≡ false
+pub exceeds_less : (found : Option ℕ) (number less : ℕ) → less ≤ number → exceeds found number ≡ false → exceeds found less ≡ false
 exceeds_less None number less le e = e
 exceeds_less (Some bound) number less le e = let up = ltb-false bound number e in le-ltb bound less (omega arith)
 
@@ -81,7 +84,8 @@ not_before : (outside inside : Item) → (IsBefore outside inside → ⊥) → o
 not_before outside inside h = elim (cases_lt inside.low outside.low) [ inl gt ↦ absurd (h (inl gt)) | inr le ↦ le ]
 
 -- whoever is outside the first k of enough items has no greater a low than the k-th
-outside_low : (k : ℕ) (items : List Item) (outside : Item) → 1 ≤ k → k ≤ length (in_order items) → IsFirstK k items (first_k k items) → Contains items outside → (Contains (first_k k items) outside → ⊥) → exceeds (kth_low k items) outside.low ≡ false
+outside_low : (k : ℕ) (items : List Item) (outside : Item) → 1 ≤ k → k ≤ length (in_order items) → IsFirstK k items (first_k k items) → Contains items outside
+    → (Contains (first_k k items) outside → ⊥) → exceeds (kth_low k items) outside.low ≡ false
 outside_low k items outside one enough first here out =
     let last : Item = get_or (in_order items) (k - 1) outside in
     let found : slice_get (in_order items) (k - 1) ≡ Some last = slice_get-get_or (in_order items) (k - 1) outside (omega arith) in
@@ -91,7 +95,9 @@ outside_low k items outside one enough first here out =
     ap (λ o. exceeds (option_map (λ (item : Item). item.low) o) outside.low) found ∙ le-ltb last.low outside.low le
 
 -- such a transcript is quiet
-pub full_quiet : (V : List ℕ → ℕ) (k n : ℕ) (D : List (List Row)) (A : List Access) → IsMonotone V → IsTable n D → GivesAll D A → 0 < length D → 1 ≤ k → k ≤ n → length (in_order (seen_items V (length D) A)) ≡ length (seen_items V (length D) A) → IsFirstK k (seen_items V (length D) A) (first_seen V k (length D) A) → is_quiet V k (length D) D A ≡ true
+pub full_quiet : (V : List ℕ → ℕ) (k n : ℕ) (D : List (List Row)) (A : List Access) → IsMonotone V → IsTable n D → GivesAll D A → 0 < length D → 1 ≤ k → k ≤ n
+    → length (in_order (seen_items V (length D) A)) ≡ length (seen_items V (length D) A) → IsFirstK k (seen_items V (length D) A) (first_seen V k (length D) A)
+    → is_quiet V k (length D) D A ≡ true
 full_quiet V k n D A monotone table full some one fits whole first =
     let m = length D in
     let count : n ≤ length (seen_objects A) = full_count n D A table full some in

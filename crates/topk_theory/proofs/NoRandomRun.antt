@@ -1,6 +1,5 @@
 -- What the algorithm without random access reads: the rows of each list down to a depth.
 use Rattle.std.proofs.Common.{◌≡◌, ◌≤◌, ◌<◌, ◌==◌, ◌+◌, ◌-◌, ℕ, zero, suc, true, false, not, cond, List, [], ◌∷◌, ◌++◌, length, take, refl, sym, ap, subst, ◌∙◌, arith, get_or}
-use Rattle.std.proofs.lemmas.Bool.{eq-eqb, ne_eqb}
 use Rattle.std.proofs.Math.Seq.{take-suc}
 use Rattle.std.proofs.lemmas.List.Sums.{sum_by-cons, sum_by-append}
 use Rattle.ranked_list.specs.declared.row.Row.{Row}
@@ -11,30 +10,20 @@ use Rattle.topk_theory.specs.Threshold.{row_at, sorted_block}
 use Rattle.topk_theory.specs.NoRandom.{nra_run_to}
 use Rattle.topk_theory.proofs.Agreement.{sorted_rows_append, random_rows_append}
 use Rattle.topk_theory.proofs.AgreementRows.{list_at_length}
+use Rattle.topk_theory.proofs.ThresholdRun.{block_of_list}
 
--- a block of lists from a number on reads none before it, and one row of each
-block_past : (list base depth : ℕ) (lists : List (List Row)) → list < base → sorted_rows list (sorted_block base depth lists) ≡ []
-block_past list base depth [] lt = refl
-block_past list base depth (rows ∷ lists) lt =
-    let other : (base == list) ≡ false = ne_eqb base list (λ e. omega arith) in
-    rw other (block_past list (base + 1) depth lists (omega arith))
-
-pub block_at : (k base depth : ℕ) (lists : List (List Row)) → k < length lists → sorted_rows (base + k) (sorted_block base depth lists) ≡ row_at (list_at lists k) depth ∷ []
-block_at k base depth [] lt = absurd (omega arith)
-block_at zero base depth (rows ∷ lists) lt =
-    let same : (base == (base + 0)) ≡ true = eq-eqb base (base + 0) (omega arith) in
-    rw same (ap (λ t. row_at rows depth ∷ t) (block_past (base + 0) (base + 1) depth lists (omega arith)))
-block_at (suc k) base depth (rows ∷ lists) lt =
-    let other : (base == (base + suc k)) ≡ false = ne_eqb base (base + suc k) (λ e. omega arith) in
-    let next : base + suc k ≡ (base + 1) + k = omega arith in
-    rw other (subst (λ l. sorted_rows l (sorted_block (base + 1) depth lists) ≡ row_at (list_at lists k) depth ∷ []) (sym next) (block_at k (base + 1) depth lists (omega arith)))
+-- a block of lists from a number on reads one row of each
+pub block_at : (k base depth : ℕ) (lists : List (List Row)) → k < length lists
+    → sorted_rows (base + k) (sorted_block base depth lists) ≡ row_at (list_at lists k) depth ∷ []
+block_at k base depth lists l = block_of_list (base + k) base k depth lists refl l
 
 pub block_random : (list base depth : ℕ) (lists : List (List Row)) → random_rows list (sorted_block base depth lists) ≡ []
 block_random list base depth [] = refl
 block_random list base depth (rows ∷ lists) = block_random list (base + 1) depth lists
 
 -- down to a depth the run reads the first rows of each list, and nothing by random access
-pub run_rows : (n depth : ℕ) (D : List (List Row)) (list : ℕ) → IsTable n D → depth ≤ n → list < length D → sorted_rows list (nra_run_to D depth) ≡ take depth (list_at D list)
+pub run_rows : (n depth : ℕ) (D : List (List Row)) (list : ℕ) → IsTable n D → depth ≤ n → list < length D
+    → sorted_rows list (nra_run_to D depth) ≡ take depth (list_at D list)
 run_rows n zero D list table le lt = refl
 run_rows n (suc depth) D list table le lt =
     let size : length (list_at D list) ≡ n = list_at_length n D list table lt in

@@ -22,11 +22,11 @@ pub record BoundsHold (V : List ℕ → ℕ) (m : ℕ) (D : List (List Row)) (A 
   pub below : (object : ℕ) → Contains (objects_of D) object → low V m A object ≤ aggregate V D object
   pub above : (object : ℕ) → Contains (objects_of D) object → aggregate V D object ≤ high V m A object
 
-all_passes : {X : Type 0} (p : X → Bool) (xs : List X) (x : X) → list_all p xs ≡ true → Contains xs x → p x ≡ true
+pub all_passes : {X : Type 0} (p : X → Bool) (xs : List X) (x : X) → list_all p xs ≡ true → Contains xs x → p x ≡ true
 all_passes p xs x h c = All-contains (λ y. p y ≡ true) xs x (AllPass-from_list_all p xs h) c
 
 -- who stands before another has no smaller a low
-before_low : (a b : Item) → IsBefore a b → b.low ≤ a.low
+pub before_low : (a b : Item) → IsBefore a b → b.low ≤ a.low
 before_low a b (inl h) = omega arith
 before_low a b (inr h) = let e = h.0 in omega arith
 
@@ -40,7 +40,8 @@ mapped_some f None b e = absurd (let h : ⊥ = cc in h)
 mapped_some f (Some x) b e = (x, refl, (let h : f x ≡ b = cc in h))
 
 -- the low of the k-th is no greater than that of any of the first k
-kth_low_least : (k : ℕ) (items : List Item) (inside : Item) (bound : ℕ) → 1 ≤ k → AllPairs IsBefore (first_k k items) → Contains (first_k k items) inside → kth_low k items ≡ Some bound → bound ≤ inside.low
+kth_low_least : (k : ℕ) (items : List Item) (inside : Item) (bound : ℕ) → 1 ≤ k → AllPairs IsBefore (first_k k items) → Contains (first_k k items) inside
+    → kth_low k items ≡ Some bound → bound ≤ inside.low
 kth_low_least k items inside bound one ordered c e =
     let found = mapped_some (λ (item : Item). item.low) (slice_get (in_order items) (k - 1)) bound e in
     let within = slice_get_within (in_order items) (k - 1) found.0 found.1 in
@@ -52,7 +53,8 @@ kth_low_least k items inside bound one ordered c e =
     omega arith
 
 -- the objects of items are those that they were made of
-pub object_of_seen : (V : List ℕ → ℕ) (m : ℕ) (A : List Access) (item : Item) → Contains (seen_items V m A) item → Contains (seen_objects A) item.object × (item ≡ bounded V m A item.object)
+pub object_of_seen : (V : List ℕ → ℕ) (m : ℕ) (A : List Access) (item : Item) → Contains (seen_items V m A) item
+    → Contains (seen_objects A) item.object × (item ≡ bounded V m A item.object)
 object_of_seen V m A item c =
     let from = contains_map_from (bounded V m A) (seen_objects A) item c in
     let same : item.object ≡ from.0 = ap (λ (i : Item). i.object) (sym from.2) in
@@ -62,7 +64,8 @@ not_true : (b : Bool) → not b ≡ true → b ≡ false
 not_true true e = sym e
 not_true false e = refl
 
-pub has_item : (object : ℕ) (items : List Item) → list_any (λ (item : Item). item.object == object) items ≡ true → Contains (map (λ (item : Item). item.object) items) object
+pub has_item : (object : ℕ) (items : List Item) → list_any (λ (item : Item). item.object == object) items ≡ true
+    → Contains (map (λ (item : Item). item.object) items) object
 has_item object [] e = absurd (let h : ⊥ = cc in h)
 has_item object (item ∷ items) e =
     elim (or_cases (item.object == object) (list_any (λ (i : Item). i.object == object) items) e) [
@@ -71,7 +74,8 @@ has_item object (item ∷ items) e =
     ]
 
 -- what isn't a member of the first k isn't viable where all is quiet
-outside_quiet : (V : List ℕ → ℕ) (k m : ℕ) (D : List (List Row)) (A : List Access) (object : ℕ) → is_quiet V k m D A ≡ true → Contains (objects_of D) object → (¬ Contains (map (λ (item : Item). item.object) (first_seen V k m A)) object) → is_viable V k m A object ≡ false
+outside_quiet : (V : List ℕ → ℕ) (k m : ℕ) (D : List (List Row)) (A : List Access) (object : ℕ) → is_quiet V k m D A ≡ true → Contains (objects_of D) object
+    → (¬ Contains (map (λ (item : Item). item.object) (first_seen V k m A)) object) → is_viable V k m A object ≡ false
 outside_quiet V k m D A object quiet here outside =
     let each = (and_parts (leb k (length (seen_objects A))) (list_all (λ o. list_any (λ (item : Item). item.object == o) (first_seen V k m A) || not (is_viable V k m A o)) (objects_of D)) quiet).1 in
     let passes = all_passes (λ o. list_any (λ (item : Item). item.object == o) (first_seen V k m A) || not (is_viable V k m A o)) (objects_of D) object each here in
@@ -94,7 +98,9 @@ distinct_objects items apart = λ i j d lt in_range same.
     apart i j none lt (omega arith) (sym at_i ∙ same ∙ at_j)
 
 -- where all is quiet and the bounds hold, the first k are a top k of the table
-pub quiet_top : (V : List ℕ → ℕ) (k m : ℕ) (D : List (List Row)) (A : List Access) → 1 ≤ k → BoundsHold V m D A → ((object : ℕ) → Contains (seen_objects A) object → Contains (objects_of D) object) → AreDistinct (first_seen V k m A) → IsFirstK k (seen_items V m A) (first_seen V k m A) → is_quiet V k m D A ≡ true → IsTop V k D (map (λ (item : Item). item.object) (first_seen V k m A))
+pub quiet_top : (V : List ℕ → ℕ) (k m : ℕ) (D : List (List Row)) (A : List Access) → 1 ≤ k → BoundsHold V m D A
+    → ((object : ℕ) → Contains (seen_objects A) object → Contains (objects_of D) object) → AreDistinct (first_seen V k m A)
+    → IsFirstK k (seen_items V m A) (first_seen V k m A) → is_quiet V k m D A ≡ true → IsTop V k D (map (λ (item : Item). item.object) (first_seen V k m A))
 quiet_top V k m D A one hold seen distinct first quiet =
     let enough = leb-true k (length (seen_objects A)) (and_parts (leb k (length (seen_objects A))) (list_all (λ o. list_any (λ (item : Item). item.object == o) (first_seen V k m A) || not (is_viable V k m A o)) (objects_of D)) quiet).0 in
     let made : length (seen_items V m A) ≡ length (seen_objects A) = length-map (seen_objects A) (bounded V m A) in

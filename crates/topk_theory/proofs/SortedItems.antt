@@ -78,7 +78,8 @@ sorted_ascend (item ∷ next ∷ rest) few sorted =
     Ascend-cons item (next ∷ rest) (first, less_than_all items_total item next rest first (sorted_head item_cmp next rest others)) others
 
 -- what a sort gives of items of different objects is these in order
-pub sorted_in_order : (items sorted : List Item) → AreDistinct items → IsPermutation items sorted → IsSortedBy (λ a b. is_lt (item_cmp a b)) sorted → sorted ≡ in_order items
+pub sorted_in_order : (items sorted : List Item) → AreDistinct items → IsPermutation items sorted → IsSortedBy (λ a b. is_lt (item_cmp a b)) sorted
+    → sorted ≡ in_order items
 sorted_in_order items sorted apart same up =
     let few : (object : ℕ) → sum_by (one_of object) sorted ≤ 1 = λ object.
     let before = at_most_one object items apart in

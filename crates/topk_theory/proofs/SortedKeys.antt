@@ -41,7 +41,8 @@ module _ {K : Type 0} {R : K → K → Ordering} (o : IsTotalOrder R) where
   less_at k (z ∷ zs) (suc i) p a h = less_at k zs i p a.1 h
 
   -- an added key that is before the one at a place moves it on by one
-  pub slice_get-insert_before : (x : K) (ks : List K) (i : ℕ) (p : K) → has ks x ≡ false → slice_get ks i ≡ Some p → R x p ≡ Less → slice_get (insert_key R ks x) (suc i) ≡ Some p
+  pub slice_get-insert_before : (x : K) (ks : List K) (i : ℕ) (p : K) → has ks x ≡ false → slice_get ks i ≡ Some p → R x p ≡ Less
+      → slice_get (insert_key R ks x) (suc i) ≡ Some p
   slice_get-insert_before x [] i p absent h b = absurd (none-some p h)
   slice_get-insert_before x (k ∷ ks) zero p absent h b =
       let less : R x k ≡ Less = subst (λ (y : K). R x y ≡ Less) (sym (same_Some k p h)) b in
@@ -54,7 +55,8 @@ module _ {K : Type 0} {R : K → K → Ordering} (o : IsTotalOrder R) where
       ] absent
 
   -- an added key that is after the one at a place leaves it there
-  pub slice_get-insert_after : (x : K) (ks : List K) (i : ℕ) (p : K) → IsStrictlySortedBy R ks → slice_get ks i ≡ Some p → R p x ≡ Less → slice_get (insert_key R ks x) i ≡ Some p
+  pub slice_get-insert_after : (x : K) (ks : List K) (i : ℕ) (p : K) → IsStrictlySortedBy R ks → slice_get ks i ≡ Some p → R p x ≡ Less
+      → slice_get (insert_key R ks x) i ≡ Some p
   slice_get-insert_after x [] i p s h b = absurd (none-some p h)
   slice_get-insert_after x (k ∷ ks) zero p s h b =
       let greater : R x k ≡ Greater = greater_from_less k x (subst (λ (y : K). R y x ≡ Less) (sym (same_Some k p h)) b) in
@@ -80,7 +82,8 @@ module _ {K : Type 0} {R : K → K → Ordering} (o : IsTotalOrder R) where
       false≢true (sym none ∙ ap (λ r. is_eq r || has ks y) (sym less) ∙ h)
 
   -- a removed key that is not after the one at a place brings the next one there
-  pub slice_get-remove_upto : (y : K) (ks : List K) (i : ℕ) (p : K) → IsStrictlySortedBy R ks → has ks y ≡ true → slice_get ks i ≡ Some p → is_le (R y p) ≡ true → slice_get (remove_key (is_at (R y)) ks) i ≡ slice_get ks (suc i)
+  pub slice_get-remove_upto : (y : K) (ks : List K) (i : ℕ) (p : K) → IsStrictlySortedBy R ks → has ks y ≡ true → slice_get ks i ≡ Some p
+      → is_le (R y p) ≡ true → slice_get (remove_key (is_at (R y)) ks) i ≡ slice_get ks (suc i)
   slice_get-remove_upto y [] i p s m h b = absurd (none-some p h)
   slice_get-remove_upto y (k ∷ ks) zero p s m h b =
       elim (R y k) as (λ r. R y k ≡ r → slice_get (cond (is_eq r) ks (k ∷ remove_key (is_at (R y)) ks)) 0 ≡ slice_get ks 0) [
@@ -96,7 +99,8 @@ module _ {K : Type 0} {R : K → K → Ordering} (o : IsTotalOrder R) where
       ] refl
 
   -- a removed key that is after the one at a place leaves it there
-  pub slice_get-remove_after : (y : K) (ks : List K) (i : ℕ) (p : K) → IsStrictlySortedBy R ks → slice_get ks i ≡ Some p → R p y ≡ Less → slice_get (remove_key (is_at (R y)) ks) i ≡ Some p
+  pub slice_get-remove_after : (y : K) (ks : List K) (i : ℕ) (p : K) → IsStrictlySortedBy R ks → slice_get ks i ≡ Some p → R p y ≡ Less
+      → slice_get (remove_key (is_at (R y)) ks) i ≡ Some p
   slice_get-remove_after y [] i p s h b = absurd (none-some p h)
   slice_get-remove_after y (k ∷ ks) zero p s h b =
       let greater : R y k ≡ Greater = greater_from_less k y (subst (λ (z : K). R z y ≡ Less) (sym (same_Some k p h)) b) in
@@ -132,7 +136,8 @@ module _ {K : Type 0} {R : K → K → Ordering} (o : IsTotalOrder R) where
       ∙ ap (λ (zs : List K). k ∷ zs) (filter-after_all p ks a.1)
 
   -- the keys after the one at a place
-  pub filter-after : (ks : List K) (i : ℕ) (p : K) → IsStrictlySortedBy R ks → slice_get ks i ≡ Some p → filter (λ q. is_lt (R p q) && true) ks ≡ drop (suc i) ks
+  pub filter-after : (ks : List K) (i : ℕ) (p : K) → IsStrictlySortedBy R ks → slice_get ks i ≡ Some p
+      → filter (λ q. is_lt (R p q) && true) ks ≡ drop (suc i) ks
   filter-after [] i p s h = absurd (none-some p h)
   filter-after (k ∷ ks) zero p s h =
       let tied : R p k ≡ Equal = subst (λ (z : K). R z k ≡ Equal) (same_Some k p h) (tied_itself o k) in
@@ -144,7 +149,8 @@ module _ {K : Type 0} {R : K → K → Ordering} (o : IsTotalOrder R) where
       ∙ filter-after ks i p (sorted_tail R k ks s) h
 
   -- a key that is there is among the first ones where it is not after the last of them
-  pub has-take : (q : K) (ks : List K) (i : ℕ) (p : K) → IsStrictlySortedBy R ks → has ks q ≡ true → slice_get ks i ≡ Some p → has (take (suc i) ks) q ≡ is_le (R q p)
+  pub has-take : (q : K) (ks : List K) (i : ℕ) (p : K) → IsStrictlySortedBy R ks → has ks q ≡ true → slice_get ks i ≡ Some p
+      → has (take (suc i) ks) q ≡ is_le (R q p)
   has-take q [] i p s m h = absurd (none-some p h)
   has-take q (k ∷ ks) zero p s m h =
       subst (λ (z : K). (is_eq (R q k) || false) ≡ is_le (R q z)) (same_Some k p h)

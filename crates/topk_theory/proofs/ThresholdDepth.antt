@@ -8,13 +8,15 @@ use Rattle.topk_theory.specs.Aggregate.{objects_of, grades_of, aggregate}
 use Rattle.topk_theory.specs.Threshold.{row_at, stands, objects_to, threshold_at, ta_stop, least_from, ta_depth, IsLeastDepth}
 use Rattle.topk_theory.proofs.AgreementLists.{contains_nil, contains_here, member_of_all}
 use Rattle.topk_theory.proofs.ThresholdLists.{filter_all, count_all, any_from_member, member_from_any, none_from_any, no_smaller_map}
-use Rattle.topk_theory.proofs.ThresholdTables.{no_row, place_in-lt, grade_in-at_place, length-objects}
+use Rattle.ranked_list.proofs.RankLaws.{no_row}
+use Rattle.topk_theory.proofs.ThresholdTables.{place_in-lt, grade_in-at_place}
+use Rattle.topk_theory.proofs.Agreement.{objects_of_count}
 
 -- the least number that passes a test
-least_here : (p : ℕ → Bool) (more start : ℕ) → p start ≡ true → least_from p (suc more) start ≡ start
+pub least_here : (p : ℕ → Bool) (more start : ℕ) → p start ≡ true → least_from p (suc more) start ≡ start
 least_here p more start t = ap (λ b. cond b start (least_from p more (start + 1))) t
 
-least_later : (p : ℕ → Bool) (more start : ℕ) → p start ≡ false → least_from p (suc more) start ≡ least_from p more (start + 1)
+pub least_later : (p : ℕ → Bool) (more start : ℕ) → p start ≡ false → least_from p (suc more) start ≡ least_from p more (start + 1)
 least_later p more start f = ap (λ b. cond b start (least_from p more (start + 1))) f
 
 pub least_from-start : (p : ℕ → Bool) (more start : ℕ) → start ≤ least_from p more start
@@ -59,27 +61,27 @@ list_sized n D rows t h = member_of_all (λ (rows : List Row). length rows ≡ n
 pub list_ranked : (n : ℕ) (D : List (List Row)) (rows : List Row) → IsTable n D → Contains D rows → IsRanked rows
 list_ranked n D rows t h = member_of_all IsRanked D rows t.ranked h
 
-pub list_holds : (n : ℕ) (D : List (List Row)) (rows : List Row) (object : ℕ) → IsTable n D → Contains D rows → Contains (objects_of D) object → Contains (objects rows) object
+pub list_holds : (n : ℕ) (D : List (List Row)) (rows : List Row) (object : ℕ) → IsTable n D → Contains D rows → Contains (objects_of D) object
+    → Contains (objects rows) object
 list_holds n [] rows object t h o = absurd (contains_nil object o)
 list_holds n (first ∷ lists) rows object t h o =
     member_of_all (λ (others : List Row). (object : ℕ) → Contains (objects first) object → Contains (objects others) object) (first ∷ lists) rows
     (member_of_all (λ (some : List Row). All (λ (others : List Row). (object : ℕ) → Contains (objects some) object → Contains (objects others) object) (first ∷ lists)) (first ∷ lists) first t.same (contains_here first lists)) h object o
 
-pub table_holds : (n : ℕ) (D : List (List Row)) (rows : List Row) (object : ℕ) → IsTable n D → Contains D rows → Contains (objects rows) object → Contains (objects_of D) object
+pub table_holds : (n : ℕ) (D : List (List Row)) (rows : List Row) (object : ℕ) → IsTable n D → Contains D rows → Contains (objects rows) object
+    → Contains (objects_of D) object
 table_holds n [] rows object t h o = absurd (contains_nil rows h)
 table_holds n (first ∷ lists) rows object t h o =
     member_of_all (λ (others : List Row). (object : ℕ) → Contains (objects rows) object → Contains (objects others) object) (first ∷ lists) first
     (member_of_all (λ (some : List Row). All (λ (others : List Row). (object : ℕ) → Contains (objects some) object → Contains (objects others) object) (first ∷ lists)) (first ∷ lists) rows t.same h) (contains_here first lists) object o
 
-pub place_within : (n : ℕ) (D : List (List Row)) (rows : List Row) (object : ℕ) → IsTable n D → Contains D rows → Contains (objects_of D) object → place_in rows object < n
+pub place_within : (n : ℕ) (D : List (List Row)) (rows : List Row) (object : ℕ) → IsTable n D → Contains D rows → Contains (objects_of D) object
+    → place_in rows object < n
 place_within n D rows object t h o = omega (arith, place_in-lt rows object (list_holds n D rows object t h o), list_sized n D rows t h)
 
-pub length-objects_of : (n : ℕ) (D : List (List Row)) → IsTable n D → 0 < length D → length (objects_of D) ≡ n
-length-objects_of n [] t l = absurd (omega arith)
-length-objects_of n (first ∷ lists) t l = length-objects first ∙ list_sized n (first ∷ lists) first t (contains_here first lists)
-
 -- grades never rise from the top down
-pub grades_fall : (rows : List Row) (i j : ℕ) (d : Row) → IsRanked rows → i ≤ j → j < length rows → (slice_index_or rows j d).grade ≤ (slice_index_or rows i d).grade
+pub grades_fall : (rows : List Row) (i j : ℕ) (d : Row) → IsRanked rows → i ≤ j → j < length rows
+    → (slice_index_or rows j d).grade ≤ (slice_index_or rows i d).grade
 grades_fall rows i j d r le l =
     elim (cases_order i j) [
       | inl e ↦ let same : (slice_index_or rows i d).grade ≡ (slice_index_or rows j d).grade = ap (λ p. (slice_index_or rows p d).grade) e in omega arith
@@ -87,27 +89,31 @@ grades_fall rows i j d r le l =
     ]
 
 -- against the grade at a depth
-pub grade_above : (n : ℕ) (D : List (List Row)) (rows : List Row) (object depth : ℕ) → IsTable n D → Contains D rows → Contains (objects_of D) object → depth ≤ n → place_in rows object < depth → (row_at rows depth).grade ≤ grade_in rows object
+pub grade_above : (n : ℕ) (D : List (List Row)) (rows : List Row) (object depth : ℕ) → IsTable n D → Contains D rows → Contains (objects_of D) object
+    → depth ≤ n → place_in rows object < depth → (row_at rows depth).grade ≤ grade_in rows object
 grade_above n D rows object depth t h o within above =
     let long : length rows ≡ n = list_sized n D rows t h in
     let fall : (slice_index_or rows (depth - 1) no_row).grade ≤ (slice_index_or rows (place_in rows object) no_row).grade = grades_fall rows (place_in rows object) (depth - 1) no_row (list_ranked n D rows t h) (omega arith) (omega arith) in
     omega (arith, grade_in-at_place rows object no_row (place_in-lt rows object (list_holds n D rows object t h o)))
 
-pub grade_below : (n : ℕ) (D : List (List Row)) (rows : List Row) (object depth : ℕ) → IsTable n D → Contains D rows → Contains (objects_of D) object → 1 ≤ depth → depth ≤ place_in rows object → grade_in rows object ≤ (row_at rows depth).grade
+pub grade_below : (n : ℕ) (D : List (List Row)) (rows : List Row) (object depth : ℕ) → IsTable n D → Contains D rows → Contains (objects_of D) object
+    → 1 ≤ depth → depth ≤ place_in rows object → grade_in rows object ≤ (row_at rows depth).grade
 grade_below n D rows object depth t h o positive below =
     let placed : place_in rows object < length rows = place_in-lt rows object (list_holds n D rows object t h o) in
     let fall : (slice_index_or rows (place_in rows object) no_row).grade ≤ (slice_index_or rows (depth - 1) no_row).grade = grades_fall rows (depth - 1) (place_in rows object) no_row (list_ranked n D rows t h) (omega arith) placed in
     omega (arith, grade_in-at_place rows object no_row placed)
 
 -- an object that stands in no list down to a depth has an aggregate of at most the threshold there
-pub unseen_at_most : (V : List ℕ → ℕ) (n : ℕ) (D : List (List Row)) (object depth : ℕ) → IsMonotone V → IsTable n D → Contains (objects_of D) object → 1 ≤ depth → stands D depth object ≡ false → aggregate V D object ≤ threshold_at V D depth
+pub unseen_at_most : (V : List ℕ → ℕ) (n : ℕ) (D : List (List Row)) (object depth : ℕ) → IsMonotone V → IsTable n D → Contains (objects_of D) object
+    → 1 ≤ depth → stands D depth object ≡ false → aggregate V D object ≤ threshold_at V D depth
 unseen_at_most V n D object depth monotone t o positive unseen =
     monotone (grades_of D object) (map (λ (rows : List Row). (row_at rows depth).grade) D)
     (no_smaller_map (λ (rows : List Row). grade_in rows object) (λ (rows : List Row). (row_at rows depth).grade) D
     (λ rows h. grade_below n D rows object depth t h o positive (ltb-false (place_in rows object) depth (none_from_any (λ (rows : List Row). nat_lt (place_in rows object) depth) D rows unseen h))))
 
 -- an object that stands in each list down to a depth has at least that aggregate
-pub seen_at_least : (V : List ℕ → ℕ) (n : ℕ) (D : List (List Row)) (object depth : ℕ) → IsMonotone V → IsTable n D → Contains (objects_of D) object → depth ≤ n → ((rows : List Row) → Contains D rows → place_in rows object < depth) → threshold_at V D depth ≤ aggregate V D object
+pub seen_at_least : (V : List ℕ → ℕ) (n : ℕ) (D : List (List Row)) (object depth : ℕ) → IsMonotone V → IsTable n D → Contains (objects_of D) object → depth ≤ n
+    → ((rows : List Row) → Contains D rows → place_in rows object < depth) → threshold_at V D depth ≤ aggregate V D object
 seen_at_least V n D object depth monotone t o within above =
     monotone (map (λ (rows : List Row). (row_at rows depth).grade) D) (grades_of D object)
     (no_smaller_map (λ (rows : List Row). (row_at rows depth).grade) (λ (rows : List Row). grade_in rows object) D
@@ -135,13 +141,14 @@ stops_at_last V k n D monotone t l fits =
     let counted : count_by passes (objects_to D n) ≡ n =
     ap (count_by passes) (rows_to_last n D t l)
     ∙ count_all passes (objects_of D) (λ object o. le-leb (threshold_at V D n) (aggregate V D object) (seen_at_least V n D object n monotone t o (omega arith) (λ rows h. place_within n D rows object t h o)))
-    ∙ length-objects_of n D t l in
+    ∙ objects_of_count n D t l in
     le-leb k (count_by passes (objects_to D n)) (omega arith)
 
 -- the depth of the algorithm is the least at which it stops
-pub ta_depth_is_least : (V : List ℕ → ℕ) (k n : ℕ) (D : List (List Row)) → IsMonotone V → IsTable n D → 0 < length D → 1 ≤ k → k ≤ n → IsLeastDepth V k n D (ta_depth V k D)
+pub ta_depth_is_least : (V : List ℕ → ℕ) (k n : ℕ) (D : List (List Row)) → IsMonotone V → IsTable n D → 0 < length D → 1 ≤ k → k ≤ n
+    → IsLeastDepth V k n D (ta_depth V k D)
 ta_depth_is_least V k n D monotone t l positive fits =
-    let long : length (objects_of D) ≡ n = length-objects_of n D t l in
+    let long : length (objects_of D) ≡ n = objects_of_count n D t l in
     let more : ℕ = length (objects_of D) - 1 in
     let last : 1 + more ≡ n = omega arith in
     record {

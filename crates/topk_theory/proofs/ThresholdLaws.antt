@@ -24,7 +24,8 @@ agreeing_run V k n D monotone asked = run_agrees n D (ta_depth V k D) asked.tabl
 pub tame_run : (V : List ℕ → ℕ) (k n : ℕ) (D : List (List Row)) → IsMonotone V → IsAsked k n D → IsTame (ta_run V k D)
 tame_run V k n D monotone asked = run_tame n D (ta_depth V k D) asked.table (least_depth V k n D monotone asked).within
 
-pub seen_answer : (V : List ℕ → ℕ) (k n : ℕ) (D : List (List Row)) → IsMonotone V → IsAsked k n D → All (Contains (seen_objects (ta_run V k D))) (item_objects (ta_answer V k D))
+pub seen_answer : (V : List ℕ → ℕ) (k n : ℕ) (D : List (List Row)) → IsMonotone V → IsAsked k n D
+    → All (Contains (seen_objects (ta_run V k D))) (item_objects (ta_answer V k D))
 seen_answer V k n D monotone asked =
     let depth : ℕ = ta_depth V k D in
     let items = map (scored V D) (objects_to D depth) in

@@ -17,7 +17,8 @@ use Rattle.topk_theory.proofs.AgreementNames.{each_once_within, each_once_comple
 use Rattle.topk_theory.proofs.AgreementRows.{object_of_row, row_of_object, list_at_contains, list_at_length}
 use Rattle.topk_theory.proofs.Agreement.{sorted_rows_append}
 use Rattle.topk_theory.proofs.ThresholdLists.{contains_flat_map, contains_from_filter}
-use Rattle.topk_theory.proofs.ThresholdTables.{no_row, place_in-lt, place_in-object, object-at_place}
+use Rattle.ranked_list.proofs.RankLaws.{no_row}
+use Rattle.topk_theory.proofs.ThresholdTables.{place_in-lt, place_in-object, object-at_place}
 use Rattle.topk_theory.proofs.ThresholdDepth.{list_ranked, list_sized, list_holds, table_holds, stands_within, stands_from}
 
 -- the members of a list that is made by a choice
@@ -61,7 +62,8 @@ block_of_others list start depth (rows ∷ D) l =
     ap (λ b. cons_option (cond b (Some (row_at rows depth)) None) (sorted_rows list (sorted_block (start + 1) depth D))) (ne_eqb start list (λ e. absurd (omega arith)))
     ∙ block_of_others list (start + 1) depth D (omega arith)
 
-pub block_of_list : (list start i depth : ℕ) (D : List (List Row)) → list ≡ start + i → i < length D → sorted_rows list (sorted_block start depth D) ≡ row_at (list_at D i) depth ∷ []
+pub block_of_list : (list start i depth : ℕ) (D : List (List Row)) → list ≡ start + i → i < length D
+    → sorted_rows list (sorted_block start depth D) ≡ row_at (list_at D i) depth ∷ []
 block_of_list list start i depth [] e l = absurd (omega arith)
 block_of_list list start zero depth (rows ∷ D) e l =
     ap (λ b. cons_option (cond b (Some (row_at rows depth)) None) (sorted_rows list (sorted_block (start + 1) depth D))) (eq-eqb start list (omega arith))
@@ -71,26 +73,22 @@ block_of_list list start (suc i) depth (rows ∷ D) e l =
     ∙ block_of_list list (start + 1) i depth D (omega arith) (omega arith)
 
 -- random accesses give no row from the top
-random_here : (start depth object : ℕ) (rows : List Row) (D : List (List Row)) → place_in rows object < depth → random_block start depth object (rows ∷ D) ≡ random_block (start + 1) depth object D
-random_here start depth object rows D l =
+pub random_block_here : (start depth object : ℕ) (rows : List Row) (D : List (List Row)) → place_in rows object < depth
+    → random_block start depth object (rows ∷ D) ≡ random_block (start + 1) depth object D
+random_block_here start depth object rows D l =
     ap (λ b. cond b (random_block (start + 1) depth object D) (Random start object (grade_in rows object) ∷ random_block (start + 1) depth object D)) (lt-ltb (place_in rows object) depth l)
 
-random_lower : (start depth object : ℕ) (rows : List Row) (D : List (List Row)) → depth ≤ place_in rows object → random_block start depth object (rows ∷ D) ≡ Random start object (grade_in rows object) ∷ random_block (start + 1) depth object D
-random_lower start depth object rows D l =
+pub random_block_lower : (start depth object : ℕ) (rows : List Row) (D : List (List Row)) → depth ≤ place_in rows object
+    → random_block start depth object (rows ∷ D) ≡ Random start object (grade_in rows object) ∷ random_block (start + 1) depth object D
+random_block_lower start depth object rows D l =
     ap (λ b. cond b (random_block (start + 1) depth object D) (Random start object (grade_in rows object) ∷ random_block (start + 1) depth object D)) (le-ltb (place_in rows object) depth l)
-
-pub random_block_here : (start depth object : ℕ) (rows : List Row) (D : List (List Row)) → place_in rows object < depth → random_block start depth object (rows ∷ D) ≡ random_block (start + 1) depth object D
-random_block_here start depth object rows D l = random_here start depth object rows D l
-
-pub random_block_lower : (start depth object : ℕ) (rows : List Row) (D : List (List Row)) → depth ≤ place_in rows object → random_block start depth object (rows ∷ D) ≡ Random start object (grade_in rows object) ∷ random_block (start + 1) depth object D
-random_block_lower start depth object rows D l = random_lower start depth object rows D l
 
 pub block_of_random : (list start depth object : ℕ) (D : List (List Row)) → sorted_rows list (random_block start depth object D) ≡ []
 block_of_random list start depth object [] = refl
 block_of_random list start depth object (rows ∷ D) =
     elim (cases_lt (place_in rows object) depth) [
-      | inl l ↦ ap (sorted_rows list) (random_here start depth object rows D l) ∙ block_of_random list (start + 1) depth object D
-      | inr l ↦ ap (sorted_rows list) (random_lower start depth object rows D l) ∙ block_of_random list (start + 1) depth object D
+      | inl l ↦ ap (sorted_rows list) (random_block_here start depth object rows D l) ∙ block_of_random list (start + 1) depth object D
+      | inr l ↦ ap (sorted_rows list) (random_block_lower start depth object rows D l) ∙ block_of_random list (start + 1) depth object D
     ]
 
 pub block_of_randoms : (list depth : ℕ) (D : List (List Row)) (os : List ℕ) → sorted_rows list (flat_map (λ object. random_block 0 depth object D) os) ≡ []
@@ -108,7 +106,8 @@ block_rows list depth D l =
     ∙ block_of_list list 0 list depth D (omega arith) l
 
 -- down to a depth the run has read so many rows of each list
-pub run_rows : (n : ℕ) (D : List (List Row)) (list depth : ℕ) → IsTable n D → list < length D → depth ≤ n → sorted_rows list (ta_run_to D depth) ≡ take depth (list_at D list)
+pub run_rows : (n : ℕ) (D : List (List Row)) (list depth : ℕ) → IsTable n D → list < length D → depth ≤ n
+    → sorted_rows list (ta_run_to D depth) ≡ take depth (list_at D list)
 run_rows n D list zero t l within = refl
 run_rows n D list (suc depth) t l within =
     let rows = list_at D list in
@@ -122,7 +121,8 @@ run_rows n D list (suc depth) t l within =
     ∙ sym (take-suc rows depth no_row inside)
 
 -- the members of a block
-pub sorted_members : (start depth : ℕ) (D : List (List Row)) (a : Access) → Contains (sorted_block start depth D) a → (i : ℕ) × (i < length D) × (a ≡ Sorted (start + i) (row_at (list_at D i) depth).object (row_at (list_at D i) depth).grade)
+pub sorted_members : (start depth : ℕ) (D : List (List Row)) (a : Access) → Contains (sorted_block start depth D) a
+    → (i : ℕ) × (i < length D) × (a ≡ Sorted (start + i) (row_at (list_at D i) depth).object (row_at (list_at D i) depth).grade)
 sorted_members start depth [] a h = absurd (contains_nil a h)
 sorted_members start depth (rows ∷ D) a h =
     elim (contains_cases (Sorted start (row_at rows depth).object (row_at rows depth).grade) (sorted_block (start + 1) depth D) a h) [
@@ -132,7 +132,8 @@ sorted_members start depth (rows ∷ D) a h =
           (suc k.0, omega (arith, k.1), k.2 ∙ ap (λ l. Sorted l (row_at (list_at D k.0) depth).object (row_at (list_at D k.0) depth).grade) (omega arith))
     ]
 
-pub contains_sorted : (start i depth : ℕ) (D : List (List Row)) → i < length D → Contains (sorted_block start depth D) (Sorted (start + i) (row_at (list_at D i) depth).object (row_at (list_at D i) depth).grade)
+pub contains_sorted : (start i depth : ℕ) (D : List (List Row)) → i < length D
+    → Contains (sorted_block start depth D) (Sorted (start + i) (row_at (list_at D i) depth).object (row_at (list_at D i) depth).grade)
 contains_sorted start i depth [] l = absurd (omega arith)
 contains_sorted start zero depth (rows ∷ D) l =
     let e : start ≡ start + 0 = omega arith in
@@ -143,27 +144,31 @@ contains_sorted start (suc i) depth (rows ∷ D) l =
     subst (λ list. Contains (sorted_block start depth (rows ∷ D)) (Sorted list (row_at (list_at D i) depth).object (row_at (list_at D i) depth).grade)) e
     (contains_there (Sorted start (row_at rows depth).object (row_at rows depth).grade) (sorted_block (start + 1) depth D) _ (contains_sorted (start + 1) i depth D (omega arith)))
 
-pub random_members : (start depth object : ℕ) (D : List (List Row)) (a : Access) → Contains (random_block start depth object D) a → (i : ℕ) × (i < length D) × (a ≡ Random (start + i) object (grade_in (list_at D i) object))
+pub random_members : (start depth object : ℕ) (D : List (List Row)) (a : Access) → Contains (random_block start depth object D) a
+    → (i : ℕ) × (i < length D) × (a ≡ Random (start + i) object (grade_in (list_at D i) object))
 random_members start depth object [] a h = absurd (contains_nil a h)
 random_members start depth object (rows ∷ D) a h =
     elim (cases_lt (place_in rows object) depth) [
-      | inl l ↦ further (random_members (start + 1) depth object D a (subst (λ B. Contains B a) (random_here start depth object rows D l) h))
-      | inr l ↦ elim (contains_cases (Random start object (grade_in rows object)) (random_block (start + 1) depth object D) a (subst (λ B. Contains B a) (random_lower start depth object rows D l) h)) [
+      | inl l ↦ further (random_members (start + 1) depth object D a (subst (λ B. Contains B a) (random_block_here start depth object rows D l) h))
+      | inr l ↦ elim (contains_cases (Random start object (grade_in rows object)) (random_block (start + 1) depth object D) a (subst (λ B. Contains B a) (random_block_lower start depth object rows D l) h)) [
         | inl e ↦ (0, omega arith, sym e ∙ ap (λ l. Random l object (grade_in rows object)) (omega arith))
         | inr r ↦ further (random_members (start + 1) depth object D a r)
       ]
     ]
   where
-    further : (i : ℕ) × (i < length D) × (a ≡ Random (start + 1 + i) object (grade_in (list_at D i) object)) → (i : ℕ) × (i < length (rows ∷ D)) × (a ≡ Random (start + i) object (grade_in (list_at (rows ∷ D) i) object))
+    further : (i : ℕ) × (i < length D) × (a ≡ Random (start + 1 + i) object (grade_in (list_at D i) object))
+        → (i : ℕ) × (i < length (rows ∷ D)) × (a ≡ Random (start + i) object (grade_in (list_at (rows ∷ D) i) object))
     further k = (suc k.0, omega (arith, k.1), k.2 ∙ ap (λ l. Random l object (grade_in (list_at D k.0) object)) (omega arith))
 
 -- an object of a row of the table is one of its objects
-pub row_object : (n : ℕ) (D : List (List Row)) (rows : List Row) (depth : ℕ) → IsTable n D → Contains D rows → 1 ≤ depth → depth ≤ n → Contains (objects rows) (row_at rows depth).object
+pub row_object : (n : ℕ) (D : List (List Row)) (rows : List Row) (depth : ℕ) → IsTable n D → Contains D rows → 1 ≤ depth → depth ≤ n
+    → Contains (objects rows) (row_at rows depth).object
 row_object n D rows depth t h positive within =
     let long : length rows ≡ n = list_sized n D rows t h in
     object_of_row rows (row_at rows depth) (contains_at rows (depth - 1) no_row (omega arith))
 
-pub new_is_object : (n : ℕ) (D : List (List Row)) (object depth : ℕ) → IsTable n D → 1 ≤ depth → depth ≤ n → Contains (new_objects D depth) object → (rows : List Row) × Contains D rows × ((row_at rows depth).object ≡ object) × Contains (objects_of D) object
+pub new_is_object : (n : ℕ) (D : List (List Row)) (object depth : ℕ) → IsTable n D → 1 ≤ depth → depth ≤ n → Contains (new_objects D depth) object
+    → (rows : List Row) × Contains D rows × ((row_at rows depth).object ≡ object) × Contains (objects_of D) object
 new_is_object n D object depth t positive within h =
     let kept = contains_from_filter (λ (object : ℕ). not (stands D (depth - 1) object)) (each_once (map (λ (rows : List Row). (row_at rows depth).object) D)) object h in
     let from = contains_map_from (λ (rows : List Row). (row_at rows depth).object) D object (each_once_within (map (λ (rows : List Row). (row_at rows depth).object) D) object kept.0) in
@@ -256,7 +261,8 @@ pub seen_more : (A B : List Access) (object : ℕ) → Contains (seen_objects A)
 seen_more A B object h = let k = access_from_seen A object h in seen_from_access (A ++ B) k.0 object k.1 (Contains-append_left A B (Sorted k.0 object k.1) k.2)
 
 -- the run sees what stands down to its depth, and nothing else
-pub run_sees : (n : ℕ) (D : List (List Row)) (depth object : ℕ) → IsTable n D → stands D depth object ≡ true → Contains (objects_of D) object → Contains (seen_objects (ta_run_to D depth)) object
+pub run_sees : (n : ℕ) (D : List (List Row)) (depth object : ℕ) → IsTable n D → stands D depth object ≡ true → Contains (objects_of D) object
+    → Contains (seen_objects (ta_run_to D depth)) object
 run_sees n D depth object t s o =
     let from = stands_from D depth object s in
     let number = list_number D from.0 from.1 in
@@ -269,14 +275,16 @@ run_sees n D depth object t s o =
     subst (λ o. Contains (seen_objects (ta_run_to D depth)) o) same (seen_from_access (ta_run_to D depth) (0 + number.0) (row_at (list_at D number.0) j).object (row_at (list_at D number.0) j).grade placed)
 
 -- an object at a depth of a list stands there
-pub object_stands : (n : ℕ) (D : List (List Row)) (rows : List Row) (j depth : ℕ) → IsTable n D → Contains D rows → 1 ≤ j → j ≤ depth → j ≤ n → stands D depth (row_at rows j).object ≡ true
+pub object_stands : (n : ℕ) (D : List (List Row)) (rows : List Row) (j depth : ℕ) → IsTable n D → Contains D rows → 1 ≤ j → j ≤ depth → j ≤ n
+    → stands D depth (row_at rows j).object ≡ true
 object_stands n D rows j depth t h positive within fits =
     let long : length rows ≡ n = list_sized n D rows t h in
     let ranked : IsRanked rows = list_ranked n D rows t h in
     let place : place_in rows (row_at rows j).object ≡ j - 1 = place_in-object rows (j - 1) no_row ranked.distinct (omega arith) in
     stands_within D rows depth (row_at rows j).object h (omega arith)
 
-pub seen_stands : (n : ℕ) (D : List (List Row)) (depth object : ℕ) → IsTable n D → depth ≤ n → Contains (seen_objects (ta_run_to D depth)) object → stands D depth object ≡ true
+pub seen_stands : (n : ℕ) (D : List (List Row)) (depth object : ℕ) → IsTable n D → depth ≤ n → Contains (seen_objects (ta_run_to D depth)) object
+    → stands D depth object ≡ true
 seen_stands n D depth object t within h =
     let from = access_from_seen (ta_run_to D depth) object h in
     let block = run_members D depth (Sorted from.0 object from.1) from.2 in
@@ -295,7 +303,8 @@ seen_stands n D depth object t within h =
     not_both l o g l' o' g' e = cc
 
 -- where a list of two parts is cut
-cut : {X : Type 0} (xs ys zs : List X) (w : X) (ws : List X) → xs ++ ys ≡ zs ++ w ∷ ws → ((us : List X) × (xs ≡ zs ++ w ∷ us)) ⊎ ((us : List X) × (zs ≡ xs ++ us) × (ys ≡ us ++ w ∷ ws))
+cut : {X : Type 0} (xs ys zs : List X) (w : X) (ws : List X) → xs ++ ys ≡ zs ++ w ∷ ws
+    → ((us : List X) × (xs ≡ zs ++ w ∷ us)) ⊎ ((us : List X) × (zs ≡ xs ++ us) × (ys ≡ us ++ w ∷ ws))
 cut [] ys zs w ws e = inr (zs, refl, e)
 cut (x ∷ xs) ys [] w ws e = let same : x ≡ w = cc in inl (xs, ap (λ z. z ∷ xs) same)
 cut (x ∷ xs) ys (z ∷ zs) w ws e =
@@ -310,7 +319,8 @@ cut (x ∷ xs) ys (z ∷ zs) w ws e =
     same_cons a b xs ys p q = cc
 
 -- random accesses of seen objects leave a transcript tame
-pub tame_append : (A B : List Access) → IsTame A → ((list object grade : ℕ) → Contains B (Random list object grade) → Contains (seen_objects A) object) → IsTame (A ++ B)
+pub tame_append : (A B : List Access) → IsTame A → ((list object grade : ℕ) → Contains B (Random list object grade) → Contains (seen_objects A) object)
+    → IsTame (A ++ B)
 tame_append A B tame more earlier later list object grade e =
     elim (cut A B earlier (Random list object grade) later e) [
       | inl k ↦ tame earlier k.0 list object grade k.1

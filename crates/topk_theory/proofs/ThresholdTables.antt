@@ -3,11 +3,8 @@ use Rattle.std.proofs.Common.{◌≡◌, ◌≢◌, ℕ, zero, suc, ◌<◌, inl
 use Rattle.std.proofs.lemmas.Bool.{cases_Bool, cases_order, eqb-false}
 use Rattle.ranked_list.specs.declared.row.Row.{Row}
 use Rattle.ranked_list.specs.Table.{objects, place_in, grade_in}
+use Rattle.ranked_list.proofs.RankLaws.{no_row, length-objects}
 use Rattle.topk_theory.proofs.AgreementLists.{contains_nil, contains_cases, contains_at, contains_map}
-
--- a row of no list
-abbrev pub no_row : Row
-no_row = record { object = 0; grade = 0 }
 
 place_found : (row : Row) (rows : List Row) (o : ℕ) → (row.object == o) ≡ true → place_in (row ∷ rows) o ≡ 0
 place_found row rows o t = ap (λ b. cond b 0 (suc (place_in rows o))) t
@@ -56,11 +53,8 @@ map_object_at [] k d e l = absurd (omega arith)
 map_object_at (row ∷ rows) zero d e l = refl
 map_object_at (row ∷ rows) (suc k) d e l = map_object_at rows k d e (omega arith)
 
-pub length-objects : (rows : List Row) → length (objects rows) ≡ length rows
-length-objects [] = refl
-length-objects (row ∷ rows) = ap suc (length-objects rows)
-
-pub distinct_objects : (rows : List Row) → AllPairs (λ (above : Row) (below : Row). above.object ≢ below.object) rows → AllPairs (λ (a : ℕ) (b : ℕ). a ≢ b) (objects rows)
+pub distinct_objects : (rows : List Row) → AllPairs (λ (above : Row) (below : Row). above.object ≢ below.object) rows
+    → AllPairs (λ (a : ℕ) (b : ℕ). a ≢ b) (objects rows)
 distinct_objects rows d i j e l m =
     let n : length (objects rows) ≡ length rows = length-objects rows in
     let here : i < length rows = omega arith in
@@ -68,7 +62,8 @@ distinct_objects rows d i j e l m =
     λ same. d i j no_row l there (sym (map_object_at rows i no_row e here) ∙ same ∙ map_object_at rows j no_row e there)
 
 -- in a list of distinct objects the object of a row stands at the row's place, and has the row's grade
-pub place_in-object : (rows : List Row) (i : ℕ) (d : Row) → AllPairs (λ (above : Row) (below : Row). above.object ≢ below.object) rows → i < length rows → place_in rows (slice_index_or rows i d).object ≡ i
+pub place_in-object : (rows : List Row) (i : ℕ) (d : Row) → AllPairs (λ (above : Row) (below : Row). above.object ≢ below.object) rows → i < length rows
+    → place_in rows (slice_index_or rows i d).object ≡ i
 place_in-object rows i d apart l =
     let o : ℕ = (slice_index_or rows i d).object in
     let held : Contains (objects rows) o = contains_map (λ (row : Row). row.object) rows (slice_index_or rows i d) (contains_at rows i d l) in
@@ -76,5 +71,6 @@ place_in-object rows i d apart l =
     let same : (slice_index_or rows (place_in rows o) d).object ≡ o = object-at_place rows o d p in
     same_place rows (place_in rows o) i d apart p l same
   where
-    same_place : (rows : List Row) (p i : ℕ) (d : Row) → AllPairs (λ (above : Row) (below : Row). above.object ≢ below.object) rows → p < length rows → i < length rows → (slice_index_or rows p d).object ≡ (slice_index_or rows i d).object → p ≡ i
+    same_place : (rows : List Row) (p i : ℕ) (d : Row) → AllPairs (λ (above : Row) (below : Row). above.object ≢ below.object) rows → p < length rows
+        → i < length rows → (slice_index_or rows p d).object ≡ (slice_index_or rows i d).object → p ≡ i
     same_place rows p i d apart h l same = elim (cases_order p i) [ inl e ↦ e | inr r ↦ elim r [ inl lt ↦ absurd (apart p i d lt l same) | inr gt ↦ absurd (apart i p d gt h (sym same)) ] ]

@@ -43,7 +43,8 @@ scored_objects V D (o ∷ os) = ap (λ ys. o ∷ ys) (scored_objects V D os)
 pub scored_distinct : (V : List ℕ → ℕ) (D : List (List Row)) (os : List ℕ) → AllPairs (λ (a : ℕ) (b : ℕ). a ≢ b) os → AreDistinct (map (scored V D) os)
 scored_distinct V D os apart = distinct_from_objects (map (scored V D) os) (subst (λ ys. AllPairs (λ (a : ℕ) (b : ℕ). a ≢ b) ys) (sym (scored_objects V D os)) apart)
 
-pub scored_member : (V : List ℕ → ℕ) (D : List (List Row)) (os : List ℕ) (item : Item) → Contains (map (scored V D) os) item → Contains os item.object × (scored V D item.object ≡ item)
+pub scored_member : (V : List ℕ → ℕ) (D : List (List Row)) (os : List ℕ) (item : Item) → Contains (map (scored V D) os) item
+    → Contains os item.object × (scored V D item.object ≡ item)
 scored_member V D os item h =
     let from = contains_map_from (scored V D) os item h in
     let same : from.0 ≡ item.object = ap (λ (i : Item). i.object) from.2 in
@@ -53,7 +54,9 @@ before_itself : (item : Item) → IsBefore item item → ⊥
 before_itself item b = elim b [ inl l ↦ omega arith | inr r ↦ elim r.1 [ inl l ↦ omega arith | inr s ↦ let l : item.object < item.object = s.1 in omega arith ] ]
 
 -- where at least k items have a low of at least a bound, each of the first k has one
-first_at_least : (V : List ℕ → ℕ) (k bound : ℕ) (D : List (List Row)) (os : List ℕ) (first : List Item) (inside : Item) → AllPairs (λ (a : ℕ) (b : ℕ). a ≢ b) os → IsFirstK k (map (scored V D) os) first → k ≤ count_by (λ object. nat_le bound (aggregate V D object)) os → Contains first inside → bound ≤ inside.low
+first_at_least : (V : List ℕ → ℕ) (k bound : ℕ) (D : List (List Row)) (os : List ℕ) (first : List Item) (inside : Item)
+    → AllPairs (λ (a : ℕ) (b : ℕ). a ≢ b) os → IsFirstK k (map (scored V D) os) first → k ≤ count_by (λ object. nat_le bound (aggregate V D object)) os
+    → Contains first inside → bound ≤ inside.low
 first_at_least V k bound D os first inside apart is enough h =
     elim (cases_lt inside.low bound) [
       | inr reaches ↦ reaches
@@ -88,7 +91,8 @@ first_at_least V k bound D os first inside apart is enough h =
     ]
 
 -- the first k of what is seen at a depth at which the algorithm stops are a top k
-pub first_is_top : (V : List ℕ → ℕ) (k n : ℕ) (D : List (List Row)) (depth : ℕ) (first : List Item) → IsMonotone V → IsTable n D → 1 ≤ depth → ta_stop V k D depth ≡ true → IsFirstK k (map (scored V D) (objects_to D depth)) first → IsTop V k D (item_objects first)
+pub first_is_top : (V : List ℕ → ℕ) (k n : ℕ) (D : List (List Row)) (depth : ℕ) (first : List Item) → IsMonotone V → IsTable n D → 1 ≤ depth
+    → ta_stop V k D depth ≡ true → IsFirstK k (map (scored V D) (objects_to D depth)) first → IsTop V k D (item_objects first)
 first_is_top V k n D depth first monotone t positive stops is =
     let os = objects_to D depth in
     let items = map (scored V D) os in
@@ -126,12 +130,14 @@ first_is_top V k n D depth first monotone t positive stops is =
     }
 
 -- the answer of the algorithm
-pub answer_is_first : (V : List ℕ → ℕ) (k n : ℕ) (D : List (List Row)) → IsTable n D → IsFirstK k (map (scored V D) (objects_to D (ta_depth V k D))) (ta_answer V k D)
+pub answer_is_first : (V : List ℕ → ℕ) (k n : ℕ) (D : List (List Row)) → IsTable n D
+    → IsFirstK k (map (scored V D) (objects_to D (ta_depth V k D))) (ta_answer V k D)
 answer_is_first V k n D t =
     let os = objects_to D (ta_depth V k D) in
     first_k-is k (map (scored V D) os) (scored_distinct V D os (AllPairs-filter (λ (a : ℕ) (b : ℕ). a ≢ b) (stands D (ta_depth V k D)) (objects_of D) (objects_of_distinct n D t)))
 
-pub answer_is_top : (V : List ℕ → ℕ) (k n : ℕ) (D : List (List Row)) → IsMonotone V → IsTable n D → 0 < length D → 1 ≤ k → k ≤ n → IsTop V k D (item_objects (ta_answer V k D))
+pub answer_is_top : (V : List ℕ → ℕ) (k n : ℕ) (D : List (List Row)) → IsMonotone V → IsTable n D → 0 < length D → 1 ≤ k → k ≤ n
+    → IsTop V k D (item_objects (ta_answer V k D))
 answer_is_top V k n D monotone t l positive fits =
     let least = ta_depth_is_least V k n D monotone t l positive fits in
     first_is_top V k n D (ta_depth V k D) (ta_answer V k D) monotone t least.from_one least.stops (answer_is_first V k n D t)

@@ -218,7 +218,8 @@ second-in-first object (suc zero, inside, same) = (2, lit< tt, same)
 second-in-first object (suc (suc zero), inside, same) = (0, lit< tt, same)
 second-in-first object (suc (suc (suc more)), inside, same) = absurd (omega arith)
 
-three-same : (i j : ℕ) (d e : List Row) → i < 2 → j < 2 → (object : ℕ) → Contains (objects (slice_index_or three i d)) object → Contains (objects (slice_index_or three j e)) object
+three-same : (i j : ℕ) (d e : List Row) → i < 2 → j < 2 → (object : ℕ) → Contains (objects (slice_index_or three i d)) object
+    → Contains (objects (slice_index_or three j e)) object
 three-same zero zero d e hi hj object held = held
 three-same zero (suc zero) d e hi hj object held = first-in-second object held
 three-same (suc zero) zero d e hi hj object held = second-in-first object held

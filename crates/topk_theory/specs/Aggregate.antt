@@ -21,4 +21,5 @@ pub record IsTop (V : List ℕ → ℕ) (k : ℕ) (D : List (List Row)) (Y : Lis
   pub sized : length Y ≡ k
   pub distinct : AllPairs (λ (y : ℕ) (z : ℕ). y ≢ z) Y
   pub members : All (Contains (objects_of D)) Y
-  pub unbeaten : (inside outside : ℕ) → Contains Y inside → Contains (objects_of D) outside → ¬ Contains Y outside → aggregate V D outside ≤ aggregate V D inside
+  pub unbeaten : (inside outside : ℕ) → Contains Y inside → Contains (objects_of D) outside → ¬ Contains Y outside
+      → aggregate V D outside ≤ aggregate V D inside

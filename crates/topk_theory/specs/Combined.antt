@@ -46,7 +46,9 @@ pub record IsPhase (V : List ℕ → ℕ) (k phase depth : ℕ) (D : List (List 
 -- A is made of the blocks down to a depth: in each the row, and then what follows it
 abbrev pub AreBlocks : (List ℕ → ℕ) → ℕ → ℕ → List (List Row) → ℕ → List Access → Type 0
 AreBlocks V k phase D zero A = A ≡ []
-AreBlocks V k phase D (suc depth) A = (before following : List Access) × AreBlocks V k phase D depth before × IsPhase V k phase (suc depth) D (before ++ sorted_block 0 (suc depth) D) following × (A ≡ (before ++ sorted_block 0 (suc depth) D) ++ following)
+AreBlocks V k phase D (suc depth) A =
+    (before following : List Access) × AreBlocks V k phase D depth before × IsPhase V k phase (suc depth) D (before ++ sorted_block 0 (suc depth) D) following
+    × (A ≡ (before ++ sorted_block 0 (suc depth) D) ++ following)
 
 -- the finish after the accesses of A: the unknown grades of the first k seen objects, in their order
 abbrev pub finish : (List ℕ → ℕ) → ℕ → List (List Row) → List Access → List Access
@@ -86,7 +88,9 @@ phase_after V k phase depth D A = if (depth % phase) == 0 then grades_of_choice 
 -- the blocks down to a depth
 abbrev pub ca_run_to : (List ℕ → ℕ) → ℕ → ℕ → List (List Row) → ℕ → List Access
 ca_run_to V k phase D zero = []
-ca_run_to V k phase D (suc depth) = (ca_run_to V k phase D depth ++ sorted_block 0 (suc depth) D) ++ phase_after V k phase (suc depth) D (ca_run_to V k phase D depth ++ sorted_block 0 (suc depth) D)
+ca_run_to V k phase D (suc depth) =
+    (ca_run_to V k phase D depth ++ sorted_block 0 (suc depth) D)
+    ++ phase_after V k phase (suc depth) D (ca_run_to V k phase D depth ++ sorted_block 0 (suc depth) D)
 
 -- the least depth at whose end the algorithm is quiet
 abbrev pub ca_depth : (List ℕ → ℕ) → ℕ → ℕ → List (List Row) → ℕ

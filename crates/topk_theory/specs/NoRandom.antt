@@ -29,7 +29,9 @@ is_viable V k m A object = exceeds (kth_low k (seen_items V m A)) (high V m A ob
 
 -- at least k objects were seen, and no object of the table outside the first k is viable
 abbrev pub is_quiet : (List ℕ → ℕ) → ℕ → ℕ → List (List Row) → List Access → Bool
-is_quiet V k m D A = nat_le k (length (seen_objects A)) && list_all (λ object. list_any (λ item. item.object == object) (first_seen V k m A) || not (is_viable V k m A object)) (objects_of D)
+is_quiet V k m D A =
+    nat_le k (length (seen_objects A))
+    && list_all (λ object. list_any (λ item. item.object == object) (first_seen V k m A) || not (is_viable V k m A object)) (objects_of D)
 
 -- the sorted accesses at each place down to a depth
 abbrev pub nra_run_to : List (List Row) → ℕ → List Access

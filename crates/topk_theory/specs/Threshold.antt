@@ -59,7 +59,9 @@ new_objects D depth = filter (λ object. not (stands D (depth - 1) object)) (eac
 -- the random accesses of an object at a depth: the lists in which it stands lower, in their order
 abbrev pub random_block : ℕ → ℕ → ℕ → List (List Row) → List Access
 random_block list depth object [] = []
-random_block list depth object (rows ∷ lists) = if nat_lt (place_in rows object) depth then random_block (list + 1) depth object lists else Random list object (grade_in rows object) ∷ random_block (list + 1) depth object lists
+random_block list depth object (rows ∷ lists) =
+    if nat_lt (place_in rows object) depth then random_block (list + 1) depth object lists else Random list object (grade_in rows object)
+    ∷ random_block (list + 1) depth object lists
 
 -- the accesses of a depth: the row, then the missing grades of its new objects
 abbrev pub ta_block : List (List Row) → ℕ → List Access

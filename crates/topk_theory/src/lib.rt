@@ -1,4 +1,5 @@
-//! What topk claims, over whole tables and transcripts: the definitions, and the laws above them.
+//! What topk claims, over whole tables and transcripts: the definitions, and the laws above them. Beside
+//! them rows are put in the order of a ranked list.
 #![tactic(auto)]
 
 mod access;
@@ -7,6 +8,7 @@ mod laws_combined;
 mod laws_no_random;
 mod laws_threshold;
 mod laws_transcript;
+mod row_order;
 
 pub use access::Access;
 pub use laws_adversary::{
@@ -29,3 +31,4 @@ pub use laws_transcript::{
     some_table_agrees_where_no_access_is_at_fault, tables_agree_access_by_access,
     the_first_kind_is_one, what_is_drawn_stays_drawn, what_is_known_is_true,
 };
+pub use row_order::sort_by_grade;

@@ -1,6 +1,6 @@
 use Rattle.std.proofs.Common.{◌∙◌, sym, arith}
 use Rattle.std.proofs.lemmas.List.{take_all}
-use Rattle.cert_judge.proofs.Putting.{past_end}
+use Rattle.ranked_list.proofs.Members.{past_end}
 use Rattle.cert_judge.proofs.Telling.{copied_more}
 use Rattle.cert_judge.proofs.counter.copied_names.Goals as goal
 

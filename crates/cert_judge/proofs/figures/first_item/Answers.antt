@@ -1,6 +1,6 @@
 use Rattle.std.proofs.Common.{sym, refl, arith}
 use Rattle.monotone_fn.specs.Value.{value}
-use Rattle.cert_judge.proofs.Putting.{past_end}
+use Rattle.ranked_list.proofs.Members.{past_end}
 use Rattle.cert_judge.proofs.Comparing.{same_more, differs_here, same_items}
 use Rattle.cert_judge.proofs.figures.first_item.Goals as goal
 

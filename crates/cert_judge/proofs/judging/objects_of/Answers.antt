@@ -1,7 +1,7 @@
 use Rattle.std.proofs.Common.{◌∙◌, sym, ap, arith}
 use Rattle.std.proofs.lemmas.List.{take_all}
 use Rattle.topk_theory.specs.Threshold.{item_objects}
-use Rattle.cert_judge.proofs.Putting.{past_end}
+use Rattle.ranked_list.proofs.Members.{past_end}
 use Rattle.cert_judge.proofs.Telling.{objects_more, objects_few}
 use Rattle.cert_judge.proofs.judging.objects_of.Goals as goal
 

@@ -1,5 +1,5 @@
 use Rattle.std.proofs.Common.{sym, arith}
-use Rattle.cert_judge.proofs.Putting.{past_end}
+use Rattle.ranked_list.proofs.Members.{past_end}
 use Rattle.cert_judge.proofs.Making.{pushed, pushed_all, refused}
 use Rattle.cert_judge.proofs.transcript.push_all.Goals as goal
 

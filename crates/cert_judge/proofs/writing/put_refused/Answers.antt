@@ -1,8 +1,7 @@
 use Rattle.std.proofs.Common.{ℕ, List, [], ◌∷◌, ◌++◌, codes, ap, append_assoc}
-use Rattle.tk_io.proofs.Putting.{puts_then}
+use Rattle.tk_io.proofs.Putting.{puts_then, puts_as}
 use Rattle.std.specs.List.{flat_map}
 use Rattle.std.specs.Fmt.{decimal}
-use Rattle.cert_judge.proofs.Putting.{puts_as}
 use Rattle.cert_judge.proofs.writing.put_refused.Goals as goal
 
 pub returns : goal.returns

@@ -1,4 +1,3 @@
-use Rattle.std.proofs.Common.{◌∙◌, sym, arith}
 use Rattle.plain_run.proofs.Asking.{missing_next, at_list}
 use Rattle.plain_run.proofs.phases.add_missing_grades.Goals as goal
 

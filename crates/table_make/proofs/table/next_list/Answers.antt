@@ -1,10 +1,9 @@
 use Rattle.std.proofs.Common.{length, subst, sym, ap, ◌∙◌, arith}
-use Rattle.table_make.proofs.Sorting.{AreApart}
-use Rattle.table_make.proofs.Making.{grade_after, rows_apart, rows_length}
+use Rattle.table_make.proofs.Making.{AreApart, grade_after, rows_apart, rows_length}
 use Rattle.table_make.proofs.table.next_list.Goals as goal
 
-pub put_in_order-requires : goal.put_in_order-requires
-put_in_order-requires c =
+pub sort_by_grade-requires : goal.sort_by_grade-requires
+sort_by_grade-requires c =
     subst AreApart (sym (c.deref_mut.ensures.value ∙ c.in_ok-rows.ensures.rows)) (rows_apart (grade_after c.args.generator.now.state) c.args.count)
 
 pub list_of-requires : goal.list_of-requires

@@ -1,7 +1,6 @@
 use Rattle.std.proofs.Common.{[], ◌∷◌, ◌++◌, append_assoc, ap₂, sym, ◌∙◌}
 use Rattle.std.specs.Fmt.{decimal}
-use Rattle.tk_io.proofs.Putting.{puts_then}
-use Rattle.table_text.proofs.Sections.{puts_as}
+use Rattle.tk_io.proofs.Putting.{puts_then, puts_as}
 use Rattle.table_text.proofs.rows.put_row.Goals as goal
 
 pub returns : goal.returns

@@ -1,17 +1,27 @@
-use Rattle.std.proofs.Common.{sym, arith}
-use Rattle.tk_io.proofs.Putting.{puts_none}
-use Rattle.table_text.proofs.Sections.{puts_row, puts_rows, past_slice_get}
+use Rattle.std.proofs.Common.{ℕ, List, [], ◌∷◌, ◌++◌, length, map, Some, sym, ap, ◌∙◌, arith}
+use Rattle.std.specs.Slice.Iter.{iter_rest}
+use Rattle.std.proofs.lemmas.Iterator.{YieldsList-from_slice}
+use Rattle.std.proofs.lemmas.Iterator.Consumers.{YieldsList-turn, YieldsList-end}
+use Rattle.std.proofs.lemmas.List.{length_push}
+use Rattle.std.proofs.lemmas.Option.{slice_get-get_or}
+use Rattle.line_text.specs.Lines.{unlines}
+use Rattle.tk_io.proofs.Putting.{puts_none, puts_next_of, puts_all}
+use Rattle.ranked_list.specs.declared.row.Row.{Row}
+use Rattle.ranked_list.specs.Bundle.{row_line}
 use Rattle.table_text.proofs.rows.put_rows.Goals as goal
 
-pub loop-place-init : goal.loop-place-init
-loop-place-init g c = puts_none _ _ _
+pub loop-row-init : goal.loop-row-init
+loop-row-init g c = puts_none _ _ _
 
-pub loop-place-preserved : goal.loop-place-preserved
-loop-place-preserved g c =
-    puts_row c.args.rows.now c.loop-place.place c.in-Some.row _ _ _ _ _ _ _ _ _ (sym c.in-Some.ensures) c.loop-place.invariant c.put_row.ensures
-
-pub unreachable-requires : goal.unreachable-requires
-unreachable-requires g c = let past = past_slice_get c.args.rows.now c.loop-place.place (sym c.in_default.ensures) in omega arith
+pub loop-row-preserved : goal.loop-row-preserved
+loop-row-preserved g c =
+    let rows = c.args.rows.now in
+    let t = YieldsList-turn (YieldsList-from_slice rows (ap iter_rest c.into_iter-row-iterator.ensures.into_iter_gives ∙ c.iter-row-items.ensures.rest)) c.loop-row.yielded _ c.loop-row.yielded_by _ _ c.in-Some.row c.in-Some.is c.next.ensures.steps in
+    rw (length_push c.loop-row.yielded c.in-Some.row)
+    (puts_next_of (λ (line : List ℕ). line ++ 10 ∷ []) row_line rows (length c.loop-row.yielded) c.in-Some.row.now _ _ _ _ _ _ _ _ _
+    (slice_get-get_or rows (length c.loop-row.yielded) c.in-Some.row.now t.0 ∙ ap Some (sym t.1)) c.loop-row.invariant c.put_row.ensures)
 
 pub returns : goal.returns
-returns g c = puts_rows c.args.rows.now c.loop-place.place _ _ _ _ _ _ (omega arith) c.loop-place.invariant
+returns g c =
+    let t = YieldsList-end (YieldsList-from_slice c.args.rows.now (ap iter_rest c.into_iter-row-iterator.ensures.into_iter_gives ∙ c.iter-row-items.ensures.rest)) c.loop-row.yielded _ c.loop-row.yielded_by _ _ c.in-None.is c.next.ensures.steps in
+    puts_all (λ (rows : List Row). unlines (map row_line rows)) c.args.rows.now (length c.loop-row.yielded) _ _ _ _ _ _ (omega (arith, t.1)) c.loop-row.invariant

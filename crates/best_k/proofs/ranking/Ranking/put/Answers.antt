@@ -1,10 +1,11 @@
 use Rattle.std.proofs.Common.{◌≡◌, ◌∙◌, ℕ, Option, Some, List, set, sym, ap, subst}
 use Rattle.std.specs.declared.cmp.Reverse.{Reverse}
 use Rattle.indexed_heap.specs.Ranks.{rank_at}
+use Rattle.ranked_list.proofs.OptionLaws.{none_unless_some}
 use Rattle.best_k.specs.declared.rank.Rank.{Rank}
 use Rattle.best_k.specs.declared.ranking.Ranking.{Ranking}
 use Rattle.best_k.specs.Halves.{IsHalvedBut, joined}
-use Rattle.best_k.proofs.Halving.{top_changed, rest_changed, tested, untested}
+use Rattle.best_k.proofs.Halving.{top_changed, rest_changed, tested}
 use Rattle.best_k.proofs.Joining.{joined_top, joined_rest}
 use Rattle.best_k.proofs.ranking.Ranking.put.Goals as goal
 use Rattle.best_k.proofs.ranking.Ranking.put.Goals.{then-contains, else-contains}
@@ -20,7 +21,7 @@ settle-requires c =
           let old = tested (rank_at top c.args.place) (sym w.if-contains.ensures) in
           subst P (sym w.self-is) (c.args.place, subst (λ (t : List (Option Rank)). IsHalvedBut c.args.place k t rest) (sym w.put.ensures) (top_changed k c.args.place c.args.rank old.0 top rest c.requires.halved old.1))
       | else-contains w ↦
-          let none = untested (rank_at top c.args.place) (sym w.if-contains.ensures) in
+          let none = none_unless_some (rank_at top c.args.place) (sym w.if-contains.ensures) in
           subst P (sym w.self-is) (c.args.place, subst (λ (r : List (Option (Reverse Rank))). IsHalvedBut c.args.place k top r) (sym w.put-else-contains.ensures) (rest_changed k c.args.place (record { 0 = c.args.rank }) top rest c.requires.halved none))
     ]
 
@@ -33,6 +34,6 @@ returns-clause-joined c =
     ∙ elim c.if-contains.branch [
       | then-contains w ↦ subst P (sym w.self-is) (ap (λ (t : List (Option Rank)). joined t rest) w.put.ensures ∙ joined_top top rest c.args.place c.args.rank c.requires.halved.same_room c.requires.within)
       | else-contains w ↦
-          let none = untested (rank_at top c.args.place) (sym w.if-contains.ensures) in
+          let none = none_unless_some (rank_at top c.args.place) (sym w.if-contains.ensures) in
           subst P (sym w.self-is) (ap (joined top) w.put-else-contains.ensures ∙ joined_rest top rest c.args.place (record { 0 = c.args.rank }) c.requires.halved.same_room c.requires.within none)
     ]

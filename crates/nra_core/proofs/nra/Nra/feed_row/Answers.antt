@@ -1,8 +1,10 @@
 use Rattle.std.proofs.Common.{subst, sym, ◌∙◌, arith}
+use Rattle.machine_base.proofs.Held.{may_row}
 use Rattle.nra_core.specs.Machine.{MakesItsRun}
 use Rattle.nra_core.proofs.Runs.{kept_makes}
-use Rattle.nra_core.proofs.Feeds.{ready, can_row, may_row, row_kept, row_taken}
+use Rattle.nra_core.proofs.Feeds.{ready, can_row, row_kept, row_taken}
 use Rattle.nra_core.proofs.nra.Nra.feed_row.Goals as goal
+use Rattle.nra_core.specs.Place.{need_at}
 
 pub returns-in_err-test_room-clause-run : goal.returns-in_err-test_room-clause-run
 returns-in_err-test_room-clause-run c =
@@ -12,12 +14,12 @@ returns-in_err-test_room-clause-run c =
 pub tell-requires-clause-can : goal.tell-requires-clause-can
 tell-requires-clause-can c =
     let a = c.self.inside in
-    can_row a.base a.late a.place c.args.row c.self.invariant.kept (may_row a.base a.place c.args.self.now c.args.row c.self.view_is c.requires) c.in_ok-test_room.ensures.fits
+    can_row a.base a.late a.place c.args.row c.self.invariant.kept (may_row a.base (need_at a.place) c.args.self.now c.args.row c.self.view_is c.requires) c.in_ok-test_room.ensures.fits
 
 pub note-requires-clause-before : goal.note-requires-clause-before
 note-requires-clause-before c =
     let a = c.self.inside in
-    (ready a.base c.tell.new.self a.late a.items.items a.items.cap a.place c.args.row c.self.invariant (may_row a.base a.place c.args.self.now c.args.row c.self.view_is c.requires) c.tell.ensures.told c.tell.ensures.held).was
+    (ready a.base c.tell.new.self a.late a.items.items a.items.cap a.place c.args.row c.self.invariant (may_row a.base (need_at a.place) c.args.self.now c.args.row c.self.view_is c.requires) c.tell.ensures.told c.tell.ensures.held).was
 
 pub follow-self-inside-requires-clause-asked : goal.follow-self-inside-requires-clause-asked
 follow-self-inside-requires-clause-asked c = c.note.ensures.k ∙ c.self.invariant.kept.asked ∙ sym c.tell.ensures.told.k
@@ -25,19 +27,19 @@ follow-self-inside-requires-clause-asked c = c.note.ensures.k ∙ c.self.invaria
 pub follow-self-inside-requires-clause-in_row : goal.follow-self-inside-requires-clause-in_row
 follow-self-inside-requires-clause-in_row c =
     let a = c.self.inside in
-    (ready a.base c.tell.new.self a.late a.items.items a.items.cap a.place c.args.row c.self.invariant (may_row a.base a.place c.args.self.now c.args.row c.self.view_is c.requires) c.tell.ensures.told c.tell.ensures.held).in_row
+    (ready a.base c.tell.new.self a.late a.items.items a.items.cap a.place c.args.row c.self.invariant (may_row a.base (need_at a.place) c.args.self.now c.args.row c.self.view_is c.requires) c.tell.ensures.told c.tell.ensures.held).in_row
 
 pub follow-self-inside-requires-clause-deep : goal.follow-self-inside-requires-clause-deep
 follow-self-inside-requires-clause-deep c =
     let a = c.self.inside in
-    (ready a.base c.tell.new.self a.late a.items.items a.items.cap a.place c.args.row c.self.invariant (may_row a.base a.place c.args.self.now c.args.row c.self.view_is c.requires) c.tell.ensures.told c.tell.ensures.held).deep
+    (ready a.base c.tell.new.self a.late a.items.items a.items.cap a.place c.args.row c.self.invariant (may_row a.base (need_at a.place) c.args.self.now c.args.row c.self.view_is c.requires) c.tell.ensures.told c.tell.ensures.held).deep
 
 pub invariant_of-self : goal.invariant_of-self
 invariant_of-self c =
     let a = c.self.inside in
     let stands = c.self.invariant in
     record {
-      kept = row_kept a.base c.tell.new.self a.late c.follow-self-inside.new.late a.place c.follow-self-inside.result c.args.row stands.kept (may_row a.base a.place c.args.self.now c.args.row c.self.view_is c.requires) c.in_ok-test_room.ensures.fits c.tell.ensures.told
+      kept = row_kept a.base c.tell.new.self a.late c.follow-self-inside.new.late a.place c.follow-self-inside.result c.args.row stands.kept (may_row a.base (need_at a.place) c.args.self.now c.args.row c.self.view_is c.requires) c.in_ok-test_room.ensures.fits c.tell.ensures.told
           c.tell.ensures.held.agreeing c.follow-self-inside.ensures.late c.follow-self-inside.ensures.asked c.follow-self-inside.ensures.place;
       reserved = c.tell.ensures.reserved;
       bounded = omega (arith, stands.bounded, c.tell.ensures.told.room, c.note.ensures.room, c.follow-self-inside.ensures.room);
@@ -48,7 +50,7 @@ invariant_of-self c =
 pub returns-clause-fed : goal.returns-clause-fed
 returns-clause-fed c =
     let a = c.self.inside in
-    row_taken a.base c.tell.new.self a.place c.follow-self-inside.result c.args.row c.args.self.now c.self.view_is (may_row a.base a.place c.args.self.now c.args.row c.self.view_is c.requires) c.in_ok-test_room.ensures.fits c.tell.ensures.told
+    row_taken a.base c.tell.new.self a.place c.follow-self-inside.result c.args.row c.args.self.now c.self.view_is (may_row a.base (need_at a.place) c.args.self.now c.args.row c.self.view_is c.requires) c.in_ok-test_room.ensures.fits c.tell.ensures.told
 
 pub returns-clause-run : goal.returns-clause-run
 returns-clause-run c = kept_makes c.tell.new.self c.follow-self-inside.new.late c.follow-self-inside.result (invariant_of-self c).kept

@@ -1,18 +1,21 @@
 use Rattle.std.proofs.Common.{length, get_or}
 use Rattle.topk_theory.specs.declared.access.Access.TheVariants.{Random}
+use Rattle.machine_base.proofs.Held.{may_grade}
 use Rattle.ta_core.specs.Reading.{first_or_zero, need_at}
 use Rattle.ta_core.specs.Shown.{reading_of}
 use Rattle.ta_core.proofs.Runs.{kept_makes}
-use Rattle.ta_core.proofs.Calls.{IsReady, IsFed, may_grade, waits_first, can_grade, grade_fed, fed_ready, fed_kept, grade_taken}
+use Rattle.ta_core.proofs.Calls.{IsReady, IsFed, waits_first, can_grade, grade_fed, fed_ready, fed_kept, grade_taken}
 use Rattle.ta_core.proofs.ta.Ta.feed_grade.Goals as goal
 use Rattle.ta_core.proofs.ta.Ta.feed_grade.Goals.{After-add_grade}
 
 -- its access is told, and the reading has it
-fed : (c : After-add_grade) → IsFed c.self.inside.base c.tell.new.self c.self.inside.board (reading_of c.add_grade.new.self) (Random (length (reading_of c.self.inside.progress).grades) (first_or_zero (reading_of c.self.inside.progress).waiting) c.args.grade)
+fed : (c : After-add_grade)
+    → IsFed c.self.inside.base c.tell.new.self c.self.inside.board (reading_of c.add_grade.new.self)
+    (Random (length (reading_of c.self.inside.progress).grades) (first_or_zero (reading_of c.self.inside.progress).waiting) c.args.grade)
 fed c =
     let a = c.self.inside in
     grade_fed a.base c.tell.new.self a.board (reading_of a.progress) (reading_of c.add_grade.new.self) c.args.grade c.len.result (get_or c.deref.result.now 0 0)
-    c.self.invariant.kept (may_grade a.base (reading_of a.progress) c.args.self.now c.args.grade c.self.view_is c.requires) c.len.ensures.value (waits_first (reading_of a.progress) c.deref.result.now c.deref.ensures.0) c.tell.ensures.told c.tell.ensures.held.agreeing c.add_grade.ensures
+    c.self.invariant.kept (may_grade a.base (need_at a.base.transcript.lists (reading_of a.progress)) c.args.self.now c.args.grade c.self.view_is c.requires) c.len.ensures.value (waits_first (reading_of a.progress) c.deref.result.now c.deref.ensures.0) c.tell.ensures.told c.tell.ensures.held.agreeing c.add_grade.ensures
 
 ready : (c : After-add_grade) → IsReady c.tell.new.self.transcript.lists c.self.inside.board (reading_of c.add_grade.new.self)
 ready c =
@@ -22,7 +25,7 @@ ready c =
 pub tell-requires-clause-can : goal.tell-requires-clause-can
 tell-requires-clause-can c =
     let a = c.self.inside in
-    can_grade a.base a.board (reading_of a.progress) c.args.grade c.len.result (get_or c.deref.result.now 0 0) c.self.invariant.kept (may_grade a.base (reading_of a.progress) c.args.self.now c.args.grade c.self.view_is c.requires) c.len.ensures.value (waits_first (reading_of a.progress) c.deref.result.now c.deref.ensures.0)
+    can_grade a.base a.board (reading_of a.progress) c.args.grade c.len.result (get_or c.deref.result.now 0 0) c.self.invariant.kept (may_grade a.base (need_at a.base.transcript.lists (reading_of a.progress)) c.args.self.now c.args.grade c.self.view_is c.requires) c.len.ensures.value (waits_first (reading_of a.progress) c.deref.result.now c.deref.ensures.0)
 
 pub score-requires-clause-grades : goal.score-requires-clause-grades
 score-requires-clause-grades c = (ready (goal.at.score-requires-clause-grades c).After-add_grade).grades
@@ -41,7 +44,7 @@ invariant_of-self c =
 pub returns-clause-fed : goal.returns-clause-fed
 returns-clause-fed c =
     let a = c.self.inside in
-    grade_taken a.base c.tell.new.self (reading_of a.progress) (need_at c.tell.new.self.transcript.lists (reading_of c.follow.new.progress)) c.args.grade c.len.result (get_or c.deref.result.now 0 0) c.args.self.now c.self.view_is (may_grade a.base (reading_of a.progress) c.args.self.now c.args.grade c.self.view_is c.requires) c.len.ensures.value (waits_first (reading_of a.progress) c.deref.result.now c.deref.ensures.0) c.tell.ensures.told
+    grade_taken a.base c.tell.new.self (reading_of a.progress) (need_at c.tell.new.self.transcript.lists (reading_of c.follow.new.progress)) c.args.grade c.len.result (get_or c.deref.result.now 0 0) c.args.self.now c.self.view_is (may_grade a.base (need_at a.base.transcript.lists (reading_of a.progress)) c.args.self.now c.args.grade c.self.view_is c.requires) c.len.ensures.value (waits_first (reading_of a.progress) c.deref.result.now c.deref.ensures.0) c.tell.ensures.told
 
 pub returns-clause-run : goal.returns-clause-run
 returns-clause-run c = kept_makes c.tell.new.self c.score.new.board (reading_of c.follow.new.progress) (invariant_of-self c).kept

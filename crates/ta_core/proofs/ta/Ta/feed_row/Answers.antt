@@ -1,20 +1,23 @@
 use Rattle.std.proofs.Common.{length, subst, ap, ◌∙◌}
 use Rattle.topk_theory.specs.declared.access.Access.TheVariants.{Sorted}
+use Rattle.machine_base.proofs.Held.{may_row}
 use Rattle.ta_core.specs.Reading.{row_added, need_at}
 use Rattle.ta_core.specs.Shown.{reading_of}
 use Rattle.ta_core.specs.Machine.{MakesItsRun}
 use Rattle.ta_core.proofs.Runs.{kept_makes}
-use Rattle.ta_core.proofs.Calls.{IsReady, IsFed, may_row, can_row, row_fed, fed_ready, fed_kept, row_taken}
+use Rattle.ta_core.proofs.Calls.{IsReady, IsFed, can_row, row_fed, fed_ready, fed_kept, row_taken}
 use Rattle.ta_core.proofs.ta.Ta.feed_row.Goals as goal
 use Rattle.ta_core.proofs.ta.Ta.feed_row.Goals.{After-add_row}
 
 -- its access is told, and the reading has it
-fed : (c : After-add_row) → IsFed c.self.inside.base c.tell.new.self c.self.inside.board (reading_of c.add_row.new.self) (Sorted (length (reading_of c.self.inside.progress).objects) c.args.row.object c.args.row.grade)
+fed : (c : After-add_row)
+    → IsFed c.self.inside.base c.tell.new.self c.self.inside.board (reading_of c.add_row.new.self)
+    (Sorted (length (reading_of c.self.inside.progress).objects) c.args.row.object c.args.row.grade)
 fed c =
     let a = c.self.inside in
     let ok = c.in_ok-is_new.ensures in
     row_fed a.base c.tell.new.self a.board (reading_of a.progress) (reading_of c.add_row.new.self) c.args.row c.len.result c.in_ok-is_new.is_new
-    c.self.invariant.kept (may_row a.base (reading_of a.progress) c.args.self.now c.args.row c.self.view_is c.requires) ok.new ok.fits c.len.ensures.value c.tell.ensures.told c.tell.ensures.held.agreeing
+    c.self.invariant.kept (may_row a.base (need_at a.base.transcript.lists (reading_of a.progress)) c.args.self.now c.args.row c.self.view_is c.requires) ok.new ok.fits c.len.ensures.value c.tell.ensures.told c.tell.ensures.held.agreeing
     (c.add_row.ensures ∙ ap (λ m. row_added m (reading_of a.progress) c.args.row c.in_ok-is_new.is_new) c.lists.ensures.lists)
 
 ready : (c : After-add_row) → IsReady c.tell.new.self.transcript.lists c.self.inside.board (reading_of c.add_row.new.self)
@@ -30,7 +33,7 @@ returns-in_err-is_new-clause-run c =
 pub tell-requires-clause-can : goal.tell-requires-clause-can
 tell-requires-clause-can c =
     let a = c.self.inside in
-    can_row a.base a.board (reading_of a.progress) c.args.row c.len.result c.self.invariant.kept (may_row a.base (reading_of a.progress) c.args.self.now c.args.row c.self.view_is c.requires) c.in_ok-is_new.ensures.fits c.len.ensures.value
+    can_row a.base a.board (reading_of a.progress) c.args.row c.len.result c.self.invariant.kept (may_row a.base (need_at a.base.transcript.lists (reading_of a.progress)) c.args.self.now c.args.row c.self.view_is c.requires) c.in_ok-is_new.ensures.fits c.len.ensures.value
 
 pub score-requires-clause-grades : goal.score-requires-clause-grades
 score-requires-clause-grades c = (ready (goal.at.score-requires-clause-grades c).After-add_row).grades
@@ -52,7 +55,7 @@ invariant_of-self c =
 pub returns-clause-fed : goal.returns-clause-fed
 returns-clause-fed c =
     let a = c.self.inside in
-    row_taken a.base c.tell.new.self (reading_of a.progress) (need_at c.tell.new.self.transcript.lists (reading_of c.follow.new.progress)) c.args.row c.len.result c.args.self.now c.self.view_is (may_row a.base (reading_of a.progress) c.args.self.now c.args.row c.self.view_is c.requires) c.in_ok-is_new.ensures.fits c.len.ensures.value c.tell.ensures.told
+    row_taken a.base c.tell.new.self (reading_of a.progress) (need_at c.tell.new.self.transcript.lists (reading_of c.follow.new.progress)) c.args.row c.len.result c.args.self.now c.self.view_is (may_row a.base (need_at a.base.transcript.lists (reading_of a.progress)) c.args.self.now c.args.row c.self.view_is c.requires) c.in_ok-is_new.ensures.fits c.len.ensures.value c.tell.ensures.told
 
 pub returns-clause-run : goal.returns-clause-run
 returns-clause-run c = kept_makes c.tell.new.self c.score.new.board (reading_of c.follow.new.progress) (invariant_of-self c).kept

@@ -9,7 +9,7 @@ use std::cmp::Reverse;
 
 /// Puts rows of different objects in order: by grade falling, then by the object's number rising.
 /// Takes no memory.
-pub(crate) fn put_in_order(rows: &mut [Row])
+pub fn sort_by_grade(rows: &mut [Row])
     requires { AllPairs (λ (row : Row) (other : Row). row.object ≢ other.object) rows.old }
     ensures rows { rows.new ≡ by_grade rows.old }
     ensures count { length rows.new ≡ length rows.old }
