@@ -1,5 +1,5 @@
 -- From the end of a machine's run to a right answer of its query.
-use Rattle.std.proofs.Common.{◌≡◌, ℕ, ◌<◌, ◌≤◌, ◌^◌, min, List, [], length, All, Option, Some, None, Result, Ok, Err, unwrap_or, IfSome, sym, ap, ◌∙◌, subst, arith}
+use Rattle.std.proofs.Common.{◌≡◌, ℕ, ◌<◌, ◌≤◌, ◌^◌, min, List, [], ◌∷◌, length, All, Contains, Option, Some, None, Result, Ok, Err, unwrap_or, IfSome, sym, ap, ◌∙◌, subst, arith}
 use Rattle.ranked_list.specs.declared.row.Row.{Row}
 use Rattle.ranked_list.specs.declared.need.Need.TheVariants.{Done}
 use Rattle.ranked_list.specs.Table.{IsTable}
@@ -8,13 +8,14 @@ use Rattle.monotone_fn.specs.Tree.{Tree}
 use Rattle.monotone_fn.specs.Value.{value}
 use Rattle.monotone_fn.specs.Shape.{list_count}
 use Rattle.monotone_fn.proofs.Laws.{value-monotone}
-use Rattle.topk_theory.specs.Aggregate.{IsTop}
+use Rattle.topk_theory.specs.Aggregate.{IsTop, objects_of}
 use Rattle.topk_theory.specs.Asked.{Asked}
 use Rattle.topk_theory.specs.Fixes.{Fixes}
 use Rattle.topk_theory.specs.Threshold.{IsAsked, item_objects}
 use Rattle.topk_theory.specs.declared.access.Access.{Access}
 use Rattle.topk_theory.specs.Transcript.{Told, whole, Agrees, seen_objects}
 use Rattle.topk_theory.proofs.Agreement.{agrees_none}
+use Rattle.topk_theory.proofs.AgreementLists.{member_of_all, contains_here, contains_nil}
 use Rattle.access_log.specs.Log.{Log, AgreesWith}
 use Rattle.access_log.specs.declared.answer.Answer.{Answer}
 use Rattle.query_core.specs.declared.drive.DriveFault.{DriveFault}
@@ -33,7 +34,7 @@ use Rattle.query_core.specs.declared.ready.Ready.{Ready}
 use Rattle.query_core.specs.Ready.{IsReady}
 use Rattle.query_core.specs.Algorithms.{run_by, items_by, IsNearBy}
 use Rattle.query_text.specs.Costs.{costs_in_force}
-use Rattle.query_core.specs.OneAnswer.{asked_by, one_run, one_items, HasTrueBounds, IsOneAnswer, IsAnswered}
+use Rattle.query_core.specs.OneAnswer.{asked_by, one_run, one_items, HasTrueBounds, HasTrueItems, IsOneAnswer, IsAnswered}
 use Rattle.query_core.specs.Machines.{algorithm_of, state_of, IsMachineFor}
 use Rattle.query_core.specs.Driving.{run_sees, Continues, IsFedFrom, TookOne, IsEnd, CanDrive, Steps, StopsDriving, Finishes, Drives, RunsOver}
 use Rattle.query_core.proofs.ListCount.{lists_counted}
@@ -49,12 +50,14 @@ asking_same : (e f : Tree) (j k : ℕ) (c d : Costs) → e ≡ f → j ≡ k →
 asking_same e f j k c d p q r = ap (λ x. asking x j c) p ∙ (ap (λ x. asking f x c) q ∙ ap (λ x. asking f k x) r)
 
 -- a machine that came on from one that began for a query is asked what the query asks
-pub asked_same : (q : Query) (n room : ℕ) (first last : MachineState) → IsBegun q.expr q.k n room (costs_in_force q) first → Continues first last → asked_of last ≡ asked_by q
+pub asked_same : (q : Query) (n room : ℕ) (first last : MachineState) → IsBegun q.expr q.k n room (costs_in_force q) first → Continues first last
+    → asked_of last ≡ asked_by q
 asked_same q n room first last begun goes =
     asking_same last.expr q.expr last.k q.k last.costs (costs_in_force q) (goes.expr ∙ begun.expr) (goes.k ∙ begun.asked) (goes.costs ∙ begun.costs)
 
 -- a table that agrees with the log of a machine is asked
-law_asked : (a : Algorithm) (t : MachineState) (D : List (List Row)) → MakesRun (run_by a) t → 0 < list_count t.expr → AgreesWith D t.log → IsAsked t.k t.log.count D
+law_asked : (a : Algorithm) (t : MachineState) (D : List (List Row)) → MakesRun (run_by a) t → 0 < list_count t.expr → AgreesWith D t.log
+    → IsAsked t.k t.log.count D
 law_asked a t D run some agrees = record {
   table = agrees.table;
   lists = omega (arith, agrees.lists, run.posed.lists);
@@ -73,7 +76,8 @@ same_back : (one other : Log) → IsSameLog one other → IsSameLog other one
 same_back one other same = record { lists = sym same.lists; count = sym same.count; accesses = sym same.accesses }
 
 -- the end of a machine's run is the one answer on each table that agrees
-one_on : (a : Algorithm) (q : Query) (last : MachineState) (answer : Answer) (D : List (List Row)) → a ≡ q.algorithm → last.expr ≡ q.expr → last.k ≡ q.k → asked_of last ≡ asked_by q → 0 < list_count last.expr
+one_on : (a : Algorithm) (q : Query) (last : MachineState) (answer : Answer) (D : List (List Row)) → a ≡ q.algorithm → last.expr ≡ q.expr → last.k ≡ q.k
+    → asked_of last ≡ asked_by q → 0 < list_count last.expr
     → MakesRun (run_by a) last → last.need ≡ Done → IsAnswerBy (items_by a) last answer.items → IsSameLog answer.transcript last.log → AgreesWith D last.log → IsOneAnswer q D answer
 one_on a q last answer D same expr k asked some run done items log agrees =
     let is : answer.items ≡ one_items q D = items.exact.on_each D agrees ∙ (ap (λ x. items_by a x D) asked ∙ ap (λ b. items_by b (asked_by q) D) same) in
@@ -86,7 +90,8 @@ one_on a q last answer D same expr k asked some run done items log agrees =
       bounds = subst (All (HasTrueBounds (value q.expr) D)) (sym is) (items_true q.algorithm (asked_by q) last.log.count D (value-monotone q.expr) posed);
     }
 
-fixed_same : (q : Query) (last : MachineState) (log : Log) (Y : List ℕ) → last.expr ≡ q.expr → last.k ≡ q.k → IsSameLog log last.log → Fixes (value last.expr) last.k last.log.lists last.log.count last.log.accesses Y → Fixes (value q.expr) q.k log.lists log.count log.accesses Y
+fixed_same : (q : Query) (last : MachineState) (log : Log) (Y : List ℕ) → last.expr ≡ q.expr → last.k ≡ q.k → IsSameLog log last.log
+    → Fixes (value last.expr) last.k last.log.lists last.log.count last.log.accesses Y → Fixes (value q.expr) q.k log.lists log.count log.accesses Y
 fixed_same q last log Y expr k same fixes =
     subst (λ A. Fixes (value q.expr) q.k log.lists log.count A Y) (sym same.accesses)
     (subst (λ n. Fixes (value q.expr) q.k log.lists n last.log.accesses Y) (sym same.count)
@@ -95,13 +100,65 @@ fixed_same q last log Y expr k same fixes =
     (subst (λ e. Fixes (value e) last.k last.log.lists last.log.count last.log.accesses Y) expr fixes))))
 
 -- a transcript that is an algorithm's run on every table that agrees is near the best
-near_of : (a : Algorithm) (asked : Asked) (m n : ℕ) (A : List Access) → IsMonotone asked.value → IsAlwaysRun (run_by a asked) asked.k m n A → IsNearBy a asked m n A
+near_of : (a : Algorithm) (asked : Asked) (m n : ℕ) (A : List Access) → IsMonotone asked.value → IsAlwaysRun (run_by a asked) asked.k m n A
+    → IsNearBy a asked m n A
 near_of Ta asked m n A monotone always = ta_near_best asked.value asked.k m n asked.costs.sorted asked.costs.random A monotone always
 near_of Nra asked m n A monotone always = nra_near_shallowest asked.value asked.k m n A monotone always
 near_of Ca asked m n A monotone always = tt
 
+-- a table that has an object has a list, and so has one with a top k
+some_listed : (D : List (List Row)) (object : ℕ) → Contains (objects_of D) object → 0 < length D
+some_listed [] object c = absurd (contains_nil object c)
+some_listed (rows ∷ D) object c = omega arith
+
+top_listed : (V : List ℕ → ℕ) (k : ℕ) (D : List (List Row)) (Y : List ℕ) → 1 ≤ k → IsTop V k D Y → 0 < length D
+top_listed V k D [] some top = let none : 0 ≡ k = top.sized in absurd (omega (arith, some, none))
+top_listed V k D (y ∷ Y) some top = some_listed D y (member_of_all (Contains (objects_of D)) (y ∷ Y) y top.members (contains_here y Y))
+
+-- the answer of a machine that is at the end of its run is as near the best as its algorithm promises
+answer_near : (a : Algorithm) (t : MachineState) (answer : Answer) → MakesRun (run_by a) t → t.need ≡ Done → IsAnswerBy (items_by a) t answer.items
+    → IsSameLog answer.transcript t.log
+    → IsNearBy a (asked_of t) answer.transcript.lists answer.transcript.count answer.transcript.accesses
+answer_near a t answer run done items same =
+    let D = run.consistent.0 in
+    let agrees : AgreesWith D t.log = run.consistent.1 in
+    let some : 0 < length D = top_listed (value t.expr) t.k D (item_objects answer.items) run.posed.positive (items.top.on_each D agrees) in
+    near_of a (asked_of t) answer.transcript.lists answer.transcript.count answer.transcript.accesses (value-monotone t.expr) (record {
+      lists = omega (arith, some, agrees.lists, same.lists);
+      positive = run.posed.positive;
+      fits = omega (arith, run.posed.fits, same.count);
+      always = λ E on. same.accesses ∙ whole_run (run_by a) t run done E (agrees_same E answer.transcript t.log same on);
+    })
+
+-- its bounds are true on every table that agrees
+answer_true : (a : Algorithm) (t : MachineState) (answer : Answer) → MakesRun (run_by a) t → IsAnswerBy (items_by a) t answer.items
+    → IsSameLog answer.transcript t.log → HasTrueItems (value t.expr) answer
+answer_true a t answer run items same = λ D agrees.
+    let on : AgreesWith D t.log = agrees_same D answer.transcript t.log same agrees in
+    let posed : IsAsked t.k t.log.count D = record {
+      table = on.table;
+      lists = top_listed (value t.expr) t.k D (item_objects answer.items) run.posed.positive (items.top.on_each D on);
+      positive = run.posed.positive;
+      fits = run.posed.fits;
+    } in
+    subst (All (HasTrueBounds (value t.expr) D)) (sym (items.exact.on_each D on)) (items_true a (asked_of t) t.log.count D (value-monotone t.expr) posed)
+
+-- the same of a machine, whose algorithm and state are these
+pub machine_near : (machine : Machine) (a : Algorithm) (t : MachineState) (answer : Answer) → algorithm_of machine ≡ a → state_of machine ≡ t
+    → MakesRun (run_by a) t → (state_of machine).need ≡ Done → IsAnswerBy (items_by a) t answer.items → IsSameLog answer.transcript t.log
+    → IsNearBy (algorithm_of machine) (asked_of (state_of machine)) answer.transcript.lists answer.transcript.count answer.transcript.accesses
+machine_near machine a t answer same is run done items log =
+    subst (λ b. IsNearBy b (asked_of (state_of machine)) answer.transcript.lists answer.transcript.count answer.transcript.accesses) (sym same)
+    (subst (λ s. IsNearBy a (asked_of s) answer.transcript.lists answer.transcript.count answer.transcript.accesses) (sym is)
+    (answer_near a t answer run (ap (λ (s : MachineState). s.need) (sym is) ∙ done) items log))
+
+pub machine_true : (machine : Machine) (a : Algorithm) (t : MachineState) (answer : Answer) → state_of machine ≡ t → MakesRun (run_by a) t
+    → IsAnswerBy (items_by a) t answer.items → IsSameLog answer.transcript t.log → HasTrueItems (value (state_of machine).expr) answer
+machine_true machine a t answer is run items log = subst (λ (s : MachineState). HasTrueItems (value s.expr) answer) (sym is) (answer_true a t answer run items log)
+
 -- the end of the run of a machine that began for a query is a right answer of it; no table is told
-pub end_answered : (a : Algorithm) (q : Query) (n room : ℕ) (T : Told) (first : MachineState) (answer : Answer) → a ≡ q.algorithm → 0 < list_count q.expr → IsBegun q.expr q.k n room (costs_in_force q) first → IsEnd a T first answer → IsAnswered q n answer
+pub end_answered : (a : Algorithm) (q : Query) (n room : ℕ) (T : Told) (first : MachineState) (answer : Answer) → a ≡ q.algorithm → 0 < list_count q.expr
+    → IsBegun q.expr q.k n room (costs_in_force q) first → IsEnd a T first answer → IsAnswered q n answer
 end_answered a q n room T first answer same some begun end =
     let last = end.last in
     let expr : last.expr ≡ q.expr = end.goes.expr ∙ begun.expr in
@@ -117,16 +174,13 @@ end_answered a q n room T first answer same some begun end =
       some = (end.run.consistent.0, agrees_same end.run.consistent.0 last.log answer.transcript (same_back answer.transcript last.log end.log) end.run.consistent.1);
       every = on;
       fixed = fixed_same q last answer.transcript (item_objects answer.items) expr k end.log end.items.fixed.fixes;
-      near = near_of q.algorithm (asked_by q) answer.transcript.lists answer.transcript.count answer.transcript.accesses (value-monotone q.expr) (record {
-        lists = omega (arith, end.log.lists, lists, some);
-        positive = omega (arith, end.run.posed.positive, k);
-        fits = omega (arith, end.run.posed.fits, k, end.log.count);
-        always = λ D agrees. (on D agrees).run;
-      });
+      near = subst (λ b. IsNearBy b (asked_by q) answer.transcript.lists answer.transcript.count answer.transcript.accesses) same
+          (subst (λ x. IsNearBy a x answer.transcript.lists answer.transcript.count answer.transcript.accesses) asked (answer_near a last answer end.run end.done end.items end.log));
     }
 
 -- a machine that begins for a query can be driven over its lists
-pub begun_drives : (ready : Ready) (D : List (List Row)) (room : ℕ) (t : MachineState) → IsReady ready → IsTable ready.count D → length D ≡ list_count ready.query.expr → 0 < list_count ready.query.expr
+pub begun_drives : (ready : Ready) (D : List (List Row)) (room : ℕ) (t : MachineState) → IsReady ready → IsTable ready.count D
+    → length D ≡ list_count ready.query.expr → 0 < list_count ready.query.expr
     → IsBegun ready.query.expr ready.query.k ready.count room (costs_in_force ready.query) t → CanDrive D t
 begun_drives ready D room t is table many some begun = record {
   asked = subst (λ k. IsAsked k t.log.count D) (sym begun.asked) (subst (λ n. IsAsked ready.query.k n D) (sym begun.count) (record {
@@ -151,7 +205,8 @@ room_stated None n full e l = absurd (omega arith)
 room_stated (Some other) n full e l = let same : other ≡ full = omega arith in ap Some same
 
 -- what comes of driving the machine of a query over its lists is what comes of the query
-pub drives_ready : (ready : Ready) (D : List (List Row)) (machine : Machine) (result : Result Answer DriveFault) → IsReady ready → IsTable ready.count D → length D ≡ list_count ready.query.expr → 0 < list_count ready.query.expr → IsMachineFor ready machine
+pub drives_ready : (ready : Ready) (D : List (List Row)) (machine : Machine) (result : Result Answer DriveFault) → IsReady ready → IsTable ready.count D
+    → length D ≡ list_count ready.query.expr → 0 < list_count ready.query.expr → IsMachineFor ready machine
     → Drives (algorithm_of machine) D (state_of machine) result → RunsOver ready D result
 drives_ready ready D machine (Ok answer) is table many some for end =
     let q = ready.query in
@@ -189,7 +244,8 @@ drives_ready ready D machine (Err (RoomFull room)) is table many some for stoppe
 drives_ready ready D machine (Err Memory) is table many some for stopped = tt
 
 -- the answer of a machine that came to its end is the end of its run
-pub finishes_end : (D : List (List Row)) (first last : Machine) (result : Result Answer DriveFault) → algorithm_of last ≡ algorithm_of first → Continues (state_of first) (state_of last) → IsFedFrom (whole D) (state_of last) → (state_of last).need ≡ Done
+pub finishes_end : (D : List (List Row)) (first last : Machine) (result : Result Answer DriveFault) → algorithm_of last ≡ algorithm_of first
+    → Continues (state_of first) (state_of last) → IsFedFrom (whole D) (state_of last) → (state_of last).need ≡ Done
     → Finishes last result → Drives (algorithm_of first) D (state_of first) result
 finishes_end D first last (Ok answer) same goes fed done finishes = record {
   last = state_of last;
@@ -203,7 +259,9 @@ finishes_end D first last (Ok answer) same goes fed done finishes = record {
 finishes_end D first last (Err fault) same goes fed done finishes = subst (StopsDriving (algorithm_of first) D (state_of first)) (sym finishes) tt
 
 -- what stops a machine later stops the first one
-pub stops_first : (D : List (List Row)) (first last : Machine) (fault : DriveFault) → algorithm_of last ≡ algorithm_of first → Continues (state_of first) (state_of last) → StopsDriving (algorithm_of last) D (state_of last) fault → StopsDriving (algorithm_of first) D (state_of first) fault
+pub stops_first : (D : List (List Row)) (first last : Machine) (fault : DriveFault) → algorithm_of last ≡ algorithm_of first
+    → Continues (state_of first) (state_of last) → StopsDriving (algorithm_of last) D (state_of last) fault
+    → StopsDriving (algorithm_of first) D (state_of first) fault
 stops_first D first last (RoomFull room) same goes stopped =
     let s = state_of first in
     let t = state_of last in
@@ -214,7 +272,9 @@ stops_first D first last (RoomFull room) same goes stopped =
 stops_first D first last Memory same goes stopped = tt
 
 -- a machine that took one more access makes its machine step
-pub steps : (D : List (List Row)) (before after : Machine) → algorithm_of after ≡ algorithm_of before → length (state_of before).log.accesses < length (run_by (algorithm_of before) (asked_of (state_of before)) D) → TookOne (whole D) (state_of before) (state_of after) → Steps D before after
+pub steps : (D : List (List Row)) (before after : Machine) → algorithm_of after ≡ algorithm_of before
+    → length (state_of before).log.accesses < length (run_by (algorithm_of before) (asked_of (state_of before)) D)
+    → TookOne (whole D) (state_of before) (state_of after) → Steps D before after
 steps D before after same within took = record { algorithm = same; took = took; within = within }
 
 -- a query's room, where it states one, lets it see an object
@@ -223,7 +283,8 @@ room_some None n h l = l
 room_some (Some stated) n h l = h.0
 
 -- the run of a right answer is short
-pub answered_short : (q : Query) (n : ℕ) (answer : Answer) → IsLawful q → 0 < list_count q.expr → q.k ≤ n → n ≤ 200000 → IsAnswered q n answer → length answer.transcript.accesses < 2 ^ 40
+pub answered_short : (q : Query) (n : ℕ) (answer : Answer) → IsLawful q → 0 < list_count q.expr → q.k ≤ n → n ≤ 200000 → IsAnswered q n answer
+    → length answer.transcript.accesses < 2 ^ 40
 answered_short q n answer lawful some fits counted answered =
     let D = answered.some.0 in
     let agrees : AgreesWith D answer.transcript = answered.some.1 in
@@ -235,4 +296,5 @@ answered_short q n answer lawful some fits counted answered =
       fits = fits;
     } in
     let few : length D ≤ 8 = omega (arith, many, lists_counted q lawful, lawful.few) in
-    subst (λ (A : List Access). length A < 2 ^ 40) (sym (answered.every D agrees).run) (run_short q.algorithm (asked_by q) n D (value-monotone q.expr) asked few counted)
+    let short = run_short q.algorithm (asked_by q) n D (value-monotone q.expr) asked few counted in
+    subst (λ (A : List Access). length A < 2 ^ 40) (sym (answered.every D agrees).run) (omega (arith, short))

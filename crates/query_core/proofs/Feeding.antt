@@ -52,7 +52,8 @@ continues_on first middle last p q = record {
 }
 
 -- one more sorted access sees at most one more object, and exactly one more where it is new
-seen_with : (A : List Access) (list object grade room : ℕ) → length (seen_objects A) ≤ room → Contains (seen_objects A) object ⊎ (length (seen_objects A) < room) → length (seen_objects (A ++ Sorted list object grade ∷ [])) ≤ room
+seen_with : (A : List Access) (list object grade room : ℕ) → length (seen_objects A) ≤ room
+    → Contains (seen_objects A) object ⊎ (length (seen_objects A) < room) → length (seen_objects (A ++ Sorted list object grade ∷ [])) ≤ room
 seen_with A list object grade room roomy fits =
     elim (cases_Bool (has object (seen_objects A))) [
       | inl old ↦ rw (seen_objects_old A list object grade (has_contains object (seen_objects A) old)) roomy
@@ -63,7 +64,8 @@ seen_with A list object grade room roomy fits =
     ]
 
 -- a machine that takes an access which is told took one
-took_access : (T : Told) (before after : MachineState) (access : Access) → Continues before after → after.log.accesses ≡ before.log.accesses ++ access ∷ [] → IsDrawn before.log.lists T (before.log.accesses ++ access ∷ [])
+took_access : (T : Told) (before after : MachineState) (access : Access) → Continues before after → after.log.accesses ≡ before.log.accesses ++ access ∷ []
+    → IsDrawn before.log.lists T (before.log.accesses ++ access ∷ [])
     → length (seen_objects (before.log.accesses ++ access ∷ [])) ≤ before.room → TookOne T before after
 took_access T before after access goes logged drawn roomy = record {
   goes = goes;
@@ -78,7 +80,8 @@ takes_on : (before after : MachineState) (access : Access) → Takes access befo
 takes_on before after access takes = record { expr = takes.expr; k = takes.k; room = takes.room; costs = takes.costs; lists = takes.log.lists; count = takes.log.count }
 
 -- the row at the depth that is needed is given next
-row_gives : (T : Told) (t : MachineState) (list depth : ℕ) (row : Row) → IsNextRow t.log list depth → slice_get (list_at T.rows list) (depth - 1) ≡ Some row → Gives T t.log.accesses (Sorted list row.object row.grade)
+row_gives : (T : Told) (t : MachineState) (list depth : ℕ) (row : Row) → IsNextRow t.log list depth → slice_get (list_at T.rows list) (depth - 1) ≡ Some row
+    → Gives T t.log.accesses (Sorted list row.object row.grade)
 row_gives T t list depth row range found =
     let place : depth - 1 ≡ depth_of list t.log.accesses = omega (arith, range.next) in
     ap (slice_get (list_at T.rows list)) (sym place) ∙ found
@@ -90,7 +93,8 @@ grade_range : (a : Algorithm) (t : MachineState) (list object : ℕ) → MakesRu
 grade_range a t list object run need = subst (IsInRange t.log) need (in_range (run_by a) t run)
 
 -- a machine that takes the row which is told at the depth that it needs took one; no table is spoken of
-pub row_took : (a : Algorithm) (T : Told) (before after : MachineState) (list depth : ℕ) (row : Row) → IsFedFrom T before → MakesRun (run_by a) before → before.need ≡ RowAt list depth → slice_get (list_at T.rows list) (depth - 1) ≡ Some row
+pub row_took : (a : Algorithm) (T : Told) (before after : MachineState) (list depth : ℕ) (row : Row) → IsFedFrom T before → MakesRun (run_by a) before
+    → before.need ≡ RowAt list depth → slice_get (list_at T.rows list) (depth - 1) ≡ Some row
     → HasRoomFor before row.object → Takes (row_access before.need row) before after → TookOne T before after
 row_took a T before after list depth row fed run need found fits takes =
     let range = row_range a before list depth run need in
@@ -101,7 +105,8 @@ row_took a T before after list depth row fed run need found fits takes =
     (seen_with before.log.accesses list row.object row.grade before.room fed.roomy fits)
 
 -- a machine that takes a grade which is told took one
-pub grade_took : (a : Algorithm) (T : Told) (before after : MachineState) (list object grade : ℕ) → IsFedFrom T before → MakesRun (run_by a) before → before.need ≡ Grade list object → Contains (list_at T.known list) (record { object = object; grade = grade })
+pub grade_took : (a : Algorithm) (T : Told) (before after : MachineState) (list object grade : ℕ) → IsFedFrom T before → MakesRun (run_by a) before
+    → before.need ≡ Grade list object → Contains (list_at T.known list) (record { object = object; grade = grade })
     → Takes (grade_access before.need grade) before after → TookOne T before after
 grade_took a T before after list object grade fed run need known takes =
     let access = Random list object grade in
@@ -122,12 +127,14 @@ can_still D before after can took = record {
 }
 
 -- which access of the run a need is of
-needs_row : (made : List Access) (next : Option Access) (list depth : ℕ) → RowAt list depth ≡ need_of made next → (object : ℕ) × (grade : ℕ) × (next ≡ Some (Sorted list object grade))
+needs_row : (made : List Access) (next : Option Access) (list depth : ℕ) → RowAt list depth ≡ need_of made next
+    → (object : ℕ) × (grade : ℕ) × (next ≡ Some (Sorted list object grade))
 needs_row made None list depth e = absurd (cc)
 needs_row made (Some (Sorted other object grade)) list depth e = let same : other ≡ list = cc in (object, grade, ap (λ l. Some (Sorted l object grade)) same)
 needs_row made (Some (Random other object grade)) list depth e = absurd (cc)
 
-needs_grade : (made : List Access) (next : Option Access) (list object : ℕ) → Grade list object ≡ need_of made next → (grade : ℕ) × (next ≡ Some (Random list object grade))
+needs_grade : (made : List Access) (next : Option Access) (list object : ℕ) → Grade list object ≡ need_of made next
+    → (grade : ℕ) × (next ≡ Some (Random list object grade))
 needs_grade made None list object e = absurd (cc)
 needs_grade made (Some (Sorted other given grade)) list object e = absurd (cc)
 needs_grade made (Some (Random other named grade)) list object e = (grade, cc)
@@ -139,7 +146,8 @@ record RowNeeded (a : Algorithm) (D : List (List Row)) (t : MachineState) (list 
   within : length t.log.accesses < length (run_by a (asked_of t) D)
   next : (object : ℕ) × (grade : ℕ) × (slice_get (run_by a (asked_of t) D) (length t.log.accesses) ≡ Some (Sorted list object grade))
 
-row_needed : (a : Algorithm) (D : List (List Row)) (t : MachineState) (list depth : ℕ) (row : Row) → AgreesWith D t.log → MakesRun (run_by a) t → t.need ≡ RowAt list depth → slice_get (list_at D list) (depth - 1) ≡ Some row → RowNeeded a D t list row
+row_needed : (a : Algorithm) (D : List (List Row)) (t : MachineState) (list depth : ℕ) (row : Row) → AgreesWith D t.log → MakesRun (run_by a) t
+    → t.need ≡ RowAt list depth → slice_get (list_at D list) (depth - 1) ≡ Some row → RowNeeded a D t list row
 row_needed a D t list depth row agrees run need found =
     let made = t.log.accesses in
     let all = run_by a (asked_of t) D in
@@ -153,32 +161,38 @@ row_needed a D t list depth row agrees run need found =
     }
 
 -- what a machine needs can be had of the table
-pub row_served : (a : Algorithm) (D : List (List Row)) (t : MachineState) (list depth : ℕ) → AgreesWith D t.log → MakesRun (run_by a) t → t.need ≡ RowAt list depth → (list < length D) × (1 ≤ depth) × (depth ≤ length (list_at D list))
+pub row_served : (a : Algorithm) (D : List (List Row)) (t : MachineState) (list depth : ℕ) → AgreesWith D t.log → MakesRun (run_by a) t
+    → t.need ≡ RowAt list depth → (list < length D) × (1 ≤ depth) × (depth ≤ length (list_at D list))
 row_served a D t list depth agrees run need = subst (CanServe D) need (run.served D agrees)
 
-pub grade_served : (a : Algorithm) (D : List (List Row)) (t : MachineState) (list object : ℕ) → AgreesWith D t.log → MakesRun (run_by a) t → t.need ≡ Grade list object → (list < length D) × Contains (objects_of D) object
+pub grade_served : (a : Algorithm) (D : List (List Row)) (t : MachineState) (list object : ℕ) → AgreesWith D t.log → MakesRun (run_by a) t
+    → t.need ≡ Grade list object → (list < length D) × Contains (objects_of D) object
 grade_served a D t list object agrees run need = subst (CanServe D) need (run.served D agrees)
 
 -- the row of the table may be fed, and the run has one more access
-pub may_feed_row : (a : Algorithm) (D : List (List Row)) (t : MachineState) (list depth : ℕ) (row : Row) → AgreesWith D t.log → MakesRun (run_by a) t → t.need ≡ RowAt list depth → slice_get (list_at D list) (depth - 1) ≡ Some row → MayBeNextRow t.log t.need row
+pub may_feed_row : (a : Algorithm) (D : List (List Row)) (t : MachineState) (list depth : ℕ) (row : Row) → AgreesWith D t.log → MakesRun (run_by a) t
+    → t.need ≡ RowAt list depth → slice_get (list_at D list) (depth - 1) ≡ Some row → MayBeNextRow t.log t.need row
 may_feed_row a D t list depth row agrees run need found =
     subst (λ n. MayBeNextRow t.log n row) (sym need)
     (λ kind h. absurd (kind_excludes t.log.lists t.log.count t.log.accesses (Sorted list row.object row.grade) kind h D (row_needed a D t list depth row agrees run need found).longer))
 
-pub row_within : (a : Algorithm) (D : List (List Row)) (t : MachineState) (list depth : ℕ) → AgreesWith D t.log → MakesRun (run_by a) t → t.need ≡ RowAt list depth → length t.log.accesses < length (run_by a (asked_of t) D)
+pub row_within : (a : Algorithm) (D : List (List Row)) (t : MachineState) (list depth : ℕ) → AgreesWith D t.log → MakesRun (run_by a) t
+    → t.need ≡ RowAt list depth → length t.log.accesses < length (run_by a (asked_of t) D)
 row_within a D t list depth agrees run need =
     let all = run_by a (asked_of t) D in
     let needs = needs_row t.log.accesses (slice_get all (length t.log.accesses)) list depth (sym need ∙ (run.on_run D agrees).next) in
     slice_get_in_range all (length t.log.accesses) _ needs.2
 
-pub grade_within : (a : Algorithm) (D : List (List Row)) (t : MachineState) (list object : ℕ) → AgreesWith D t.log → MakesRun (run_by a) t → t.need ≡ Grade list object → length t.log.accesses < length (run_by a (asked_of t) D)
+pub grade_within : (a : Algorithm) (D : List (List Row)) (t : MachineState) (list object : ℕ) → AgreesWith D t.log → MakesRun (run_by a) t
+    → t.need ≡ Grade list object → length t.log.accesses < length (run_by a (asked_of t) D)
 grade_within a D t list object agrees run need =
     let all = run_by a (asked_of t) D in
     let needs = needs_grade t.log.accesses (slice_get all (length t.log.accesses)) list object (sym need ∙ (run.on_run D agrees).next) in
     slice_get_in_range all (length t.log.accesses) _ needs.1
 
 -- the run goes on with the row that the table has
-run_goes_on : (a : Algorithm) (D : List (List Row)) (t : MachineState) (list : ℕ) (row : Row) → IsAsked t.k t.log.count D → Begins t.log.accesses (run_by a (asked_of t) D) → RowNeeded a D t list row
+run_goes_on : (a : Algorithm) (D : List (List Row)) (t : MachineState) (list : ℕ) (row : Row) → IsAsked t.k t.log.count D
+    → Begins t.log.accesses (run_by a (asked_of t) D) → RowNeeded a D t list row
     → (rest : List Access) × (run_by a (asked_of t) D ≡ (t.log.accesses ++ Sorted list row.object row.grade ∷ []) ++ rest)
 run_goes_on a D t list row asked begins knows =
     let all = run_by a (asked_of t) D in
@@ -197,7 +211,8 @@ run_goes_on a D t list row asked begins knows =
     (rest, split ∙ ap (λ o. (made ++ Sorted list o grade ∷ []) ++ rest) same_object ∙ ap (λ g. (made ++ Sorted list row.object g ∷ []) ++ rest) same_grade)
 
 -- an object for which there is no room is one that the run sees beyond the room
-no_room_sees : (a : Algorithm) (D : List (List Row)) (t : MachineState) (list depth : ℕ) (row : Row) → IsAsked t.k t.log.count D → AgreesWith D t.log → MakesRun (run_by a) t → t.need ≡ RowAt list depth → slice_get (list_at D list) (depth - 1) ≡ Some row
+no_room_sees : (a : Algorithm) (D : List (List Row)) (t : MachineState) (list depth : ℕ) (row : Row) → IsAsked t.k t.log.count D → AgreesWith D t.log
+    → MakesRun (run_by a) t → t.need ≡ RowAt list depth → slice_get (list_at D list) (depth - 1) ≡ Some row
     → (¬ HasRoomFor t row.object) → (t.room < length (seen_objects (t.log.accesses ++ Sorted list row.object row.grade ∷ []))) × (length (seen_objects (t.log.accesses ++ Sorted list row.object row.grade ∷ [])) ≤ length (run_sees a D t))
 no_room_sees a D t list depth row asked agrees run need found full =
     let made = t.log.accesses in
@@ -212,12 +227,15 @@ no_room_sees a D t list depth row asked agrees run need found full =
     )
 
 -- what a row's refusal says
-pub stranger_fed : {A : Type 0} → (row : Row) (before after : MachineState) (result : Result A CoreFault) (fault : CoreFault) (object count : ℕ) → RowFed row before after result → result ≡ Err fault → fault ≡ Strangers object count → (¬ HasRoomFor before row.object) × (before.room ≡ before.log.count)
+pub stranger_fed : {A : Type 0} → (row : Row) (before after : MachineState) (result : Result A CoreFault) (fault : CoreFault) (object count : ℕ)
+    → RowFed row before after result → result ≡ Err fault → fault ≡ Strangers object count → (¬ HasRoomFor before row.object) × (before.room ≡ before.log.count)
 stranger_fed row before after result fault object count fed is of =
     let refused = subst (RowFed row before after) (is ∙ ap Err of) fed in
     (refused.0, refused.1)
 
-pub room_fed : {A : Type 0} → (row : Row) (before after : MachineState) (result : Result A CoreFault) (fault : CoreFault) (room : ℕ) → RowFed row before after result → result ≡ Err fault → fault ≡ RoomFull room → (¬ HasRoomFor before row.object) × (before.room < before.log.count) × (room ≡ before.room)
+pub room_fed : {A : Type 0} → (row : Row) (before after : MachineState) (result : Result A CoreFault) (fault : CoreFault) (room : ℕ)
+    → RowFed row before after result → result ≡ Err fault → fault ≡ RoomFull room
+    → (¬ HasRoomFor before row.object) × (before.room < before.log.count) × (room ≡ before.room)
 room_fed row before after result fault room fed is of =
     let refused = subst (RowFed row before after) (is ∙ ap Err of) fed in
     (refused.0, refused.1, refused.2)
@@ -232,40 +250,50 @@ no_stranger a D before list depth row can run need found full whole =
     seen_count before.log.lists before.log.count D _ some (row_needed a D before list depth row can.agrees run need found).longer in
     absurd (omega (arith, sees.0, all_seen, whole))
 
-pub room_stops : (a : Algorithm) (D : List (List Row)) (before : MachineState) (list depth : ℕ) (row : Row) (room : ℕ) → CanDrive D before → MakesRun (run_by a) before
+pub room_stops : (a : Algorithm) (D : List (List Row)) (before : MachineState) (list depth : ℕ) (row : Row) (room : ℕ) → CanDrive D before
+    → MakesRun (run_by a) before
     → before.need ≡ RowAt list depth → slice_get (list_at D list) (depth - 1) ≡ Some row → (¬ HasRoomFor before row.object) → before.room < before.log.count → room ≡ before.room → StopsDriving a D before (NoRoom room)
 room_stops a D before list depth row room can run need found full less is =
     let sees = no_room_sees a D before list depth row can.asked can.agrees run need found full in
     (is, omega (arith, less, is), omega (arith, sees.0, sees.1, is))
 
 -- a grade that the table has there may be fed
-pub may_feed_grade : (D : List (List Row)) (t : MachineState) (list object grade : ℕ) → AgreesWith D t.log → t.need ≡ Grade list object → grade_among (list_at D list) object ≡ Some grade → MayBeNextGrade t.log t.need grade
+pub may_feed_grade : (D : List (List Row)) (t : MachineState) (list object grade : ℕ) → AgreesWith D t.log → t.need ≡ Grade list object
+    → grade_among (list_at D list) object ≡ Some grade → MayBeNextGrade t.log t.need grade
 may_feed_grade D t list object grade agrees need found =
     let longer = agrees_push t.log.lists t.log.count D t.log.accesses (Random list object grade) agrees (grade_among_row (list_at D list) object grade found) in
     subst (λ n. MayBeNextGrade t.log n grade) (sym need) (λ kind h. kind_excludes t.log.lists t.log.count t.log.accesses (Random list object grade) kind h D longer)
 
 -- the table has the grade that is needed
-pub grade_there : (a : Algorithm) (D : List (List Row)) (t : MachineState) (list object : ℕ) → AgreesWith D t.log → MakesRun (run_by a) t → t.need ≡ Grade list object → grade_among (list_at D list) object ≢ None
+pub grade_there : (a : Algorithm) (D : List (List Row)) (t : MachineState) (list object : ℕ) → AgreesWith D t.log → MakesRun (run_by a) t
+    → t.need ≡ Grade list object → grade_among (list_at D list) object ≢ None
 grade_there a D t list object agrees run need none =
     let served = grade_served a D t list object agrees run need in
     grade_among_none (list_at D list) object none (objects_in_each t.log.count D list object agrees.table served.0 served.1)
 
 -- the row that is needed, and what is found of the grade that is needed, as they are read at the place of a list
-pub row_told : (a : Algorithm) (D : List (List Row)) (t : MachineState) (list depth place : ℕ) (rows : List Row) (row : Row) → CanDrive D t → MakesRun (run_by a) t → t.need ≡ RowAt list depth → place ≡ list → rows ≡ slice_index_or D place rows → Some row ≡ slice_get rows (depth - 1) → slice_get (list_at D list) (depth - 1) ≡ Some row
+pub row_told : (a : Algorithm) (D : List (List Row)) (t : MachineState) (list depth place : ℕ) (rows : List Row) (row : Row) → CanDrive D t
+    → MakesRun (run_by a) t → t.need ≡ RowAt list depth → place ≡ list → rows ≡ slice_index_or D place rows → Some row ≡ slice_get rows (depth - 1)
+    → slice_get (list_at D list) (depth - 1) ≡ Some row
 row_told a D t list depth place rows row can run need same is found =
     let served = row_served a D t list depth can.agrees run need in
     let read : rows ≡ list_at D list = get_or_read D place rows (omega (arith, served.0, same)) is [] ∙ ap (list_at D) same in
     ap (λ r. slice_get r (depth - 1)) (sym read) ∙ sym found
 
-pub grade_told : (a : Algorithm) (D : List (List Row)) (t : MachineState) (list object place : ℕ) (rows : List Row) (found : Option ℕ) → CanDrive D t → MakesRun (run_by a) t → t.need ≡ Grade list object → place ≡ list → rows ≡ slice_index_or D place rows → found ≡ grade_among rows object → grade_among (list_at D list) object ≡ found
+pub grade_told : (a : Algorithm) (D : List (List Row)) (t : MachineState) (list object place : ℕ) (rows : List Row) (found : Option ℕ) → CanDrive D t
+    → MakesRun (run_by a) t → t.need ≡ Grade list object → place ≡ list → rows ≡ slice_index_or D place rows → found ≡ grade_among rows object
+    → grade_among (list_at D list) object ≡ found
 grade_told a D t list object place rows found can run need same is grade =
     let served = grade_served a D t list object can.agrees run need in
     let read : rows ≡ list_at D list = get_or_read D place rows (omega (arith, served.0, same)) is [] ∙ ap (list_at D) same in
     ap (λ r. grade_among r object) (sym read) ∙ sym grade
 
 -- what becomes of the row of the table, and of its grade
-pub row_fed : (a : Algorithm) (D : List (List Row)) (before after : MachineState) (list depth : ℕ) (row : Row) → CanDrive D before → MakesRun (run_by a) before → before.need ≡ RowAt list depth → slice_get (list_at D list) (depth - 1) ≡ Some row → HasRoomFor before row.object → Takes (row_access before.need row) before after → TookOne (whole D) before after
+pub row_fed : (a : Algorithm) (D : List (List Row)) (before after : MachineState) (list depth : ℕ) (row : Row) → CanDrive D before → MakesRun (run_by a) before
+    → before.need ≡ RowAt list depth → slice_get (list_at D list) (depth - 1) ≡ Some row → HasRoomFor before row.object
+    → Takes (row_access before.need row) before after → TookOne (whole D) before after
 row_fed a D before after list depth row can run need found fits takes = row_took a (whole D) before after list depth row (fed_whole D before can) run need found fits takes
 
-pub grade_fed : (a : Algorithm) (D : List (List Row)) (before after : MachineState) (list object grade : ℕ) → CanDrive D before → MakesRun (run_by a) before → before.need ≡ Grade list object → grade_among (list_at D list) object ≡ Some grade → GradeFed grade before after → TookOne (whole D) before after
+pub grade_fed : (a : Algorithm) (D : List (List Row)) (before after : MachineState) (list object grade : ℕ) → CanDrive D before → MakesRun (run_by a) before
+    → before.need ≡ Grade list object → grade_among (list_at D list) object ≡ Some grade → GradeFed grade before after → TookOne (whole D) before after
 grade_fed a D before after list object grade can run need found fed = grade_took a (whole D) before after list object grade (fed_whole D before can) run need (grade_among_row (list_at D list) object grade found) fed

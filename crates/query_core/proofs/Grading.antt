@@ -10,7 +10,8 @@ drop_at (first ∷ rows) zero row e = let same : first ≡ row = cc in ap (λ r.
 drop_at (first ∷ rows) (suc place) row e = drop_at rows place row e
 
 -- the grades from a place down are those from the next place down, but for the object of the row at the place
-pub grades_more : (rows : List Row) (place : ℕ) (row : Row) (object : ℕ) → 0 < place → Some row ≡ slice_get rows (place - 1) → grade_among (drop (place - 1) rows) object ≡ cond (row.object == object) (Some row.grade) (grade_among (drop place rows) object)
+pub grades_more : (rows : List Row) (place : ℕ) (row : Row) (object : ℕ) → 0 < place → Some row ≡ slice_get rows (place - 1)
+    → grade_among (drop (place - 1) rows) object ≡ cond (row.object == object) (Some row.grade) (grade_among (drop place rows) object)
 grades_more rows zero row object l e = absurd (omega arith)
 grades_more rows (suc place) row object l e =
     let same : suc place - 1 ≡ place = omega arith in

@@ -1,5 +1,5 @@
 -- How long a run is at most.
-use Rattle.std.proofs.Common.{◌≡◌, ℕ, zero, suc, ◌+◌, ◌-◌, ◌*◌, ◌^◌, ◌<◌, ◌≤◌, Bool, true, false, cond, not, List, [], ◌∷◌, ◌++◌, length, map, filter, nat_lt, ◌%◌, ◌==◌, Option, Some, None, is_none, refl, arith, length-append}
+use Rattle.std.proofs.Common.{◌≡◌, ℕ, zero, suc, ◌+◌, ◌-◌, ◌*◌, ◌^◌, ◌<◌, ◌≤◌, true, false, cond, List, [], ◌∷◌, ◌++◌, length, nat_lt, ◌%◌, ◌==◌, Option, Some, None, is_none, refl, arith, length-append}
 use Rattle.std.specs.List.{list_any, flat_map}
 use Rattle.std.proofs.lemmas.List.{length-map}
 use Rattle.std.proofs.lemmas.List.FromFn.{length-range_with_len}
@@ -11,10 +11,10 @@ use Rattle.topk_theory.specs.declared.access.Access.{Access}
 use Rattle.topk_theory.specs.declared.access.Access.TheVariants.{Random}
 use Rattle.monotone_fn.specs.Value.{IsMonotone}
 use Rattle.topk_theory.specs.Asked.{Asked}
-use Rattle.topk_theory.specs.Transcript.{each_once, each_once_after, list_at, list_numbers}
+use Rattle.topk_theory.specs.Transcript.{each_once_after, list_at, list_numbers}
 use Rattle.topk_theory.specs.Bounds.{known_grade}
 use Rattle.topk_theory.specs.Combined.{phase_length, unknown_lists, missing_grades, choice, grades_of_choice, phase_after, finish, ca_run_to, ca_depth, ca_blocks, ca_run}
-use Rattle.topk_theory.specs.Threshold.{IsAsked, row_at, stands, new_objects, sorted_block, random_block, ta_block, ta_run_to, ta_run, ta_depth}
+use Rattle.topk_theory.specs.Threshold.{IsAsked, new_objects, sorted_block, random_block, ta_block, ta_run_to, ta_run, ta_depth}
 use Rattle.topk_theory.specs.NoRandom.{nra_run_to, nra_run, nra_depth, seen_items, first_seen, is_quiet}
 use Rattle.topk_theory.proofs.ThresholdLaws.{least_depth}
 use Rattle.topk_theory.proofs.NoRandomLaws.{nra_depth_is_least, items_distinct}
@@ -22,8 +22,10 @@ use Rattle.topk_theory.proofs.FirstK.{first_k-is}
 use Rattle.topk_theory.specs.Aggregate.{objects_of}
 use Rattle.topk_theory.proofs.Agreement.{objects_of_count}
 use Rattle.topk_theory.proofs.ThresholdDepth.{least_from-end}
+use Rattle.topk_theory.proofs.ThresholdLists.{filter_fits}
 use Rattle.query_text.specs.declared.algorithm.Algorithm.{Algorithm}
 use Rattle.query_text.specs.declared.algorithm.Algorithm.TheVariants.{Ta, Nra, Ca}
+use Rattle.optimal_law.proofs.Costs.{new_few}
 use Rattle.query_core.specs.Algorithms.{run_by}
 
 sorted_long : (list depth : ℕ) (D : List (List Row)) → length (sorted_block list depth D) ≡ length D
@@ -37,13 +39,6 @@ random_long list depth object (rows ∷ D) =
     let more_than : List Access → Type 0 = λ accesses. length accesses ≤ length (rows ∷ D) in
     elim (nat_lt (place_in rows object) depth) as (λ b. more_than (cond b (random_block (list + 1) depth object D) (Random list object (grade_in rows object) ∷ random_block (list + 1) depth object D)))
     [ true ↦ omega arith | false ↦ omega arith ]
-
-filter_long : (p : ℕ → Bool) (xs : List ℕ) → length (filter p xs) ≤ length xs
-filter_long p [] = omega arith
-filter_long p (x ∷ xs) =
-    let more : length (filter p xs) ≤ length xs = filter_long p xs in
-    let fits : List ℕ → Type 0 = λ ys. length ys ≤ length (x ∷ xs) in
-    elim (p x) as (λ b. fits (cond b (x ∷ filter p xs) (filter p xs))) [ true ↦ omega arith | false ↦ omega arith ]
 
 each_long : (before xs : List ℕ) → length (each_once_after before xs) ≤ length xs
 each_long before [] = omega arith
@@ -60,14 +55,6 @@ flat_long f most each (x ∷ xs) =
     let here : length (f x) ≤ most = each x in
     omega (arith, length-append (f x) (flat_map f xs))
 
-new_few : (D : List (List Row)) (depth : ℕ) → length (new_objects D depth) ≤ length D
-new_few D depth =
-    let row = map (λ (rows : List Row). (row_at rows depth).object) D in
-    let within : length (new_objects D depth) ≤ length (each_once row) = filter_long (λ object. not (stands D (depth - 1) object)) (each_once row) in
-    let once : length (each_once row) ≤ length row = each_long [] row in
-    let all : length row ≡ length D = length-map D (λ (rows : List Row). (row_at rows depth).object) in
-    omega arith
-
 block_long : (D : List (List Row)) (depth : ℕ) → length (ta_block D depth) ≤ length D + length D * length D
 block_long D depth =
     let rows : length (sorted_block 0 depth D) ≡ length D = sorted_long 0 depth D in
@@ -83,7 +70,7 @@ run_to_long D (suc depth) =
     let here : length (ta_block D (suc depth)) ≤ length D + length D * length D = block_long D (suc depth) in
     omega (arith, length-append (ta_run_to D depth) (ta_block D (suc depth)))
 
-ta_short : (V : List ℕ → ℕ) (k n : ℕ) (D : List (List Row)) → IsMonotone V → IsAsked k n D → length D ≤ 8 → n ≤ 200000 → length (ta_run V k D) < 2 ^ 40
+ta_short : (V : List ℕ → ℕ) (k n : ℕ) (D : List (List Row)) → IsMonotone V → IsAsked k n D → length D ≤ 8 → n ≤ 200000 → length (ta_run V k D) < 2 ^ 24
 ta_short V k n D monotone asked few counted =
     let deep : ta_depth V k D ≤ n = (least_depth V k n D monotone asked).within in
     let m = length D in
@@ -100,7 +87,7 @@ rows_long D (suc depth) =
     let here : length (sorted_block 0 (suc depth) D) ≡ length D = sorted_long 0 (suc depth) D in
     omega (arith, length-append (nra_run_to D depth) (sorted_block 0 (suc depth) D))
 
-nra_short : (V : List ℕ → ℕ) (k n : ℕ) (D : List (List Row)) → IsMonotone V → IsAsked k n D → length D ≤ 8 → n ≤ 200000 → length (nra_run V k D) < 2 ^ 40
+nra_short : (V : List ℕ → ℕ) (k n : ℕ) (D : List (List Row)) → IsMonotone V → IsAsked k n D → length D ≤ 8 → n ≤ 200000 → length (nra_run V k D) < 2 ^ 24
 nra_short V k n D monotone asked few counted =
     let deep : nra_depth V k D ≤ n = (nra_depth_is_least V k n D monotone asked).within in
     let long : length (nra_run V k D) ≤ nra_depth V k D * length D = rows_long D (nra_depth V k D) in
@@ -110,7 +97,7 @@ nra_short V k n D monotone asked few counted =
 missing_long : (D : List (List Row)) (A : List Access) (object : ℕ) → length (missing_grades D A object) ≤ length D
 missing_long D A object =
     let asks : length (missing_grades D A object) ≡ length (unknown_lists (length D) A object) = length-map (unknown_lists (length D) A object) (λ list. Random list object (grade_in (list_at D list) object)) in
-    let some : length (unknown_lists (length D) A object) ≤ length (list_numbers (length D)) = filter_long (λ list. is_none (known_grade A object list)) (list_numbers (length D)) in
+    let some : length (unknown_lists (length D) A object) ≤ length (list_numbers (length D)) = filter_fits (λ list. is_none (known_grade A object list)) (list_numbers (length D)) in
     let all : length (list_numbers (length D)) ≡ length D = length-range_with_len 0 (length D) in
     omega arith
 
@@ -142,7 +129,8 @@ finish_long V k D A =
     let most : length D * length first ≤ length D * k = mul-le-mul_left (length D) short in
     omega arith
 
-ca_short : (V : List ℕ → ℕ) (k phase n : ℕ) (D : List (List Row)) → IsMonotone V → IsAsked k n D → length D ≤ 8 → n ≤ 200000 → length (ca_run V k phase D) < 2 ^ 40
+ca_short : (V : List ℕ → ℕ) (k phase n : ℕ) (D : List (List Row)) → IsMonotone V → IsAsked k n D → length D ≤ 8 → n ≤ 200000
+    → length (ca_run V k phase D) < 2 ^ 24
 ca_short V k phase n D monotone asked few counted =
     let count : length (objects_of D) ≡ n = objects_of_count n D asked.table asked.lists in
     let some = asked.positive in
@@ -157,8 +145,9 @@ ca_short V k phase n D monotone asked few counted =
     let fits : k ≤ n = asked.fits in
     omega (arith, length-append (ca_blocks V k phase D) (finish V k D (ca_blocks V k phase D)))
 
--- a run over 8 lists of 200,000 objects at most has fewer than 2^40 accesses
-pub run_short : (a : Algorithm) (asked : Asked) (n : ℕ) (D : List (List Row)) → IsMonotone asked.value → IsAsked asked.k n D → length D ≤ 8 → n ≤ 200000 → length (run_by a asked D) < 2 ^ 40
+-- a run over 8 lists of 200,000 objects at most has fewer than 2^24 accesses
+pub run_short : (a : Algorithm) (asked : Asked) (n : ℕ) (D : List (List Row)) → IsMonotone asked.value → IsAsked asked.k n D → length D ≤ 8 → n ≤ 200000
+    → length (run_by a asked D) < 2 ^ 24
 run_short Ta asked n D monotone is few counted = ta_short asked.value asked.k n D monotone is few counted
 run_short Nra asked n D monotone is few counted = nra_short asked.value asked.k n D monotone is few counted
 run_short Ca asked n D monotone is few counted = ca_short asked.value asked.k (phase_length asked.costs.sorted asked.costs.random) n D monotone is few counted

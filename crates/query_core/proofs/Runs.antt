@@ -25,7 +25,8 @@ use Rattle.query_core.specs.Algorithms.{run_by, items_by}
 use Rattle.query_core.specs.OneAnswer.{HasTrueBounds}
 
 -- on a table each algorithm's run is what the table gives
-pub runs_agree : (a : Algorithm) (asked : Asked) (n : ℕ) (D : List (List Row)) → IsMonotone asked.value → IsAsked asked.k n D → Agrees (length D) n D (run_by a asked D)
+pub runs_agree : (a : Algorithm) (asked : Asked) (n : ℕ) (D : List (List Row)) → IsMonotone asked.value → IsAsked asked.k n D
+    → Agrees (length D) n D (run_by a asked D)
 runs_agree Ta asked n D monotone is = agreeing_run asked.value asked.k n D monotone is
 runs_agree Nra asked n D monotone is = run_agrees n (nra_depth asked.value asked.k D) D is.table (nra_depth_is_least asked.value asked.k n D monotone is).within
 runs_agree Ca asked n D monotone is = combined_agrees asked.value asked.k (phase_length asked.costs.sorted asked.costs.random) n D monotone is
@@ -38,13 +39,15 @@ scored_true : (V : List ℕ → ℕ) (D : List (List Row)) (objects : List ℕ) 
 scored_true V D [] = tt
 scored_true V D (object ∷ objects) = ((omega arith, omega arith), scored_true V D objects)
 
-bounded_true : (V : List ℕ → ℕ) (n : ℕ) (D : List (List Row)) (A : List Access) (objects : List ℕ) → IsMonotone V → Agrees (length D) n D A → AllByRecursion (HasTrueBounds V D) (map (bounded V (length D) A) objects)
+bounded_true : (V : List ℕ → ℕ) (n : ℕ) (D : List (List Row)) (A : List Access) (objects : List ℕ) → IsMonotone V → Agrees (length D) n D A
+    → AllByRecursion (HasTrueBounds V D) (map (bounded V (length D) A) objects)
 bounded_true V n D A [] monotone agrees = tt
 bounded_true V n D A (object ∷ objects) monotone agrees =
     ((low_holds V (length D) n D A object monotone agrees, high_holds V (length D) n D A object monotone agrees), bounded_true V n D A objects monotone agrees)
 
 -- each item that an algorithm answers has true bounds
-pub items_true : (a : Algorithm) (asked : Asked) (n : ℕ) (D : List (List Row)) → IsMonotone asked.value → IsAsked asked.k n D → All (HasTrueBounds asked.value D) (items_by a asked D)
+pub items_true : (a : Algorithm) (asked : Asked) (n : ℕ) (D : List (List Row)) → IsMonotone asked.value → IsAsked asked.k n D
+    → All (HasTrueBounds asked.value D) (items_by a asked D)
 items_true Ta asked n D monotone is =
     let items = map (scored asked.value D) (objects_to D (ta_depth asked.value asked.k D)) in
     all_first (HasTrueBounds asked.value D) asked.k items (scored_true asked.value D (objects_to D (ta_depth asked.value asked.k D)))

@@ -23,8 +23,9 @@ items_by Ta = threshold_answer
 items_by Nra = no_random_answer
 items_by Ca = combined_answer
 
--- how near the best an algorithm's transcript is, over m lists of n objects, on every table that agrees with it, against each other transcript that fixes an answer there:
--- with random access its depth is at most the objects that a tame one sees, and k more, and its cost within a factor; without, its depth is at most the other's, or k; of the combined algorithm nothing is said
+-- how near the best an algorithm's transcript is, over m lists of n objects, on every table that agrees with it, against each other
+-- transcript that fixes an answer there: with random access its depth is at most the objects that a tame one sees, and k more, and its cost
+-- within a factor; without, its depth is at most the other's, or k; of the combined algorithm nothing is said
 abbrev pub IsNearBy : Algorithm → Asked → ℕ → ℕ → List Access → Type 0
 IsNearBy Ta asked m n A = IsNearBest asked.value asked.k m n asked.costs.sorted asked.costs.random A
 IsNearBy Nra asked m n A = IsNearShallowest asked.value asked.k m n A

@@ -71,7 +71,9 @@ pub record IsDriven (D : List (List Row)) (first last : Machine) : Type 0 where
 
 -- what a machine that needs nothing more answers
 abbrev pub Finishes : Machine → Result Answer DriveFault → Type 0
-Finishes machine (Ok answer) = MakesItsRun machine × IsAnswerBy (items_by (algorithm_of machine)) (state_of machine) answer.items × IsSameLog answer.transcript (state_of machine).log
+Finishes machine (Ok answer) =
+    MakesItsRun machine × IsAnswerBy (items_by (algorithm_of machine)) (state_of machine) answer.items
+    × IsSameLog answer.transcript (state_of machine).log
 Finishes machine (Err fault) = fault ≡ Memory
 
 -- why a machine has no answer over a table: its room is less than the count and less than the number of objects that its run sees, or memory was refused

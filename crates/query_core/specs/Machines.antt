@@ -24,7 +24,8 @@ state_of (CaMachine t) = t
 abbrev pub MakesItsRun : Machine → Type 0
 MakesItsRun machine = MakesRun (run_by (algorithm_of machine)) (state_of machine)
 
--- the machine is of the query's algorithm, is asked what the query asks, may see as many objects as the query states or as there are, and has made no access yet
+-- the machine is of the query's algorithm, is asked what the query asks, may see as many objects as the query states or as there are, and
+-- has made no access yet
 pub record IsMachineFor (ready : Ready) (machine : Machine) : Type 0 where
   pub algorithm : algorithm_of machine ≡ ready.query.algorithm
   pub begun : IsBegun ready.query.expr ready.query.k ready.count (unwrap_or ready.query.room ready.count) (costs_in_force ready.query) (state_of machine)

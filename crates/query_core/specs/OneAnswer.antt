@@ -37,6 +37,10 @@ pub record IsOverRoom (q : Query) (n : ℕ) (D : List (List Row)) (room : ℕ) :
 abbrev pub HasTrueBounds : (List ℕ → ℕ) → List (List Row) → Item → Type 0
 HasTrueBounds V D item = (item.low ≤ aggregate V D item.object) × (aggregate V D item.object ≤ item.high)
 
+-- on every table that agrees with the answer's transcript the bounds of its items are true
+abbrev pub HasTrueItems : (List ℕ → ℕ) → Answer → Type 0
+HasTrueItems V answer = (D : List (List Row)) → AgreesWith D answer.transcript → All (HasTrueBounds V D) answer.items
+
 -- the answer is the one answer on D, with the one run as its transcript; its objects are a top k of D, and their bounds are true
 pub record IsOneAnswer (q : Query) (D : List (List Row)) (answer : Answer) : Type 0 where
   pub items : answer.items ≡ one_items q D
@@ -44,7 +48,8 @@ pub record IsOneAnswer (q : Query) (D : List (List Row)) (answer : Answer) : Typ
   pub top : IsTop (value q.expr) q.k D (item_objects answer.items)
   pub bounds : All (HasTrueBounds (value q.expr) D) answer.items
 
--- an answer of a query over lists of n objects is right: some table agrees with its transcript, on every table that agrees it is the one answer, the transcript fixes its objects, and is near the best
+-- an answer of a query over lists of n objects is right: some table agrees with its transcript, on every table that agrees it is the one
+-- answer, the transcript fixes its objects, and is near the best
 pub record IsAnswered (q : Query) (n : ℕ) (answer : Answer) : Type 0 where
   pub lists : answer.transcript.lists ≡ list_count q.expr
   pub count : answer.transcript.count ≡ n

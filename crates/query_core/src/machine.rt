@@ -2,8 +2,10 @@
 
 ghost use Rattle.std.specs.Prelude.{◌≡◌, false, IfOk};
 ghost use Rattle.ranked_list.specs.declared.need.Need.{Need};
-ghost use Rattle.access_log.specs.Machine.{MayBeNextRow, MayBeNextGrade, RowFed, GradeFed, IsInRange, IsNoGrade, IsAnswerBy, IsSameLog};
-ghost use Rattle.query_core.specs.Algorithms.{asks_grades, items_by};
+ghost use Rattle.monotone_fn.specs.Value.{value};
+ghost use Rattle.access_log.specs.Machine.{asked_of, MayBeNextRow, MayBeNextGrade, RowFed, GradeFed, IsInRange, IsNoGrade, IsAnswerBy, IsSameLog};
+ghost use Rattle.query_core.specs.Algorithms.{asks_grades, items_by, IsNearBy};
+ghost use Rattle.query_core.specs.OneAnswer.{HasTrueItems};
 ghost use Rattle.query_core.specs.Ready.{IsReady};
 ghost use Rattle.query_core.specs.Machines.{algorithm_of, state_of, MakesItsRun, IsMachineFor};
 
@@ -118,12 +120,16 @@ impl Machine {
         }
     }
 
-    /// The answer, once nothing is needed, with the transcript.
+    /// The answer, once nothing is needed, with the transcript, which is as near the best as its algorithm promises. Its bounds
+    /// are true on every table that agrees with the transcript.
     pub fn answer(self) -> Result<Answer, Memory>
         requires { (state_of self).need ≡ Need.Done }
         ensures run { MakesItsRun self }
         ensures items { IfOk result (λ answer. IsAnswerBy (items_by (algorithm_of self)) (state_of self) answer.items) }
         ensures transcript { IfOk result (λ answer. IsSameLog answer.transcript (state_of self).log) }
+        ensures near { IfOk result (λ answer. IsNearBy (algorithm_of self) (asked_of (state_of self))
+            answer.transcript.lists answer.transcript.count answer.transcript.accesses) }
+        ensures bounds { IfOk result (HasTrueItems (value (state_of self).expr)) }
     {
         match self {
             Machine::Ta(machine) => match machine.answer() {

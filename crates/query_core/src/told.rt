@@ -64,7 +64,9 @@ impl<'a> ToldList<'a> {
 fn grades_of(alloc: Global, rows: &MemList) -> Result<HashMap<u32, u32>, Memory>
     ensures { IfOk result (λ grades. (object : ℕ) → get nat_eq grades object ≡ grade_among rows.now object) }
 {
-    let mut grades = HashMap::new(alloc);
+    let Ok(mut grades) = HashMap::with_capacity(alloc, rows.len() as usize) else {
+        return Err(Memory);
+    };
     for place in (0..rows.len()).rev() {
         if let Some(row) = rows.get(place) {
             put(&mut grades, row)?;

@@ -1,14 +1,16 @@
 -- The cause of a refusal, as a look gives it, and how it stays.
-use Rattle.std.proofs.Common.{◌≡◌, ◌≤◌, ◌-◌, ◌==◌, ◌&&◌, inl, inr, ℕ, Bool, true, false, cond, Option, Some, None, List, [], ◌∷◌, ◌++◌, length, is_none, slice_get, nat_lt, filter_map, Contains, refl, sym, ap, subst, ◌∙◌, arith, eqb-true}
+use Rattle.std.proofs.Common.{◌≡◌, ◌≤◌, ◌-◌, ◌==◌, inl, inr, ℕ, Bool, true, false, cond, Option, Some, None, List, [], ◌∷◌, ◌++◌, length, is_none, slice_get, nat_lt, filter_map, Contains, refl, sym, ap, subst, ◌∙◌, arith, eqb-true}
 use Rattle.std.specs.Option.{option_map}
-use Rattle.std.proofs.lemmas.Bool.{cases_Bool, ltb-true}
+use Rattle.std.proofs.lemmas.Bool.{cases_Bool, ltb-true, and_parts}
 use Rattle.std.proofs.lemmas.List.Elements.{filter_map-append, Contains-append_left, Contains-append_right, Contains-append_cases}
 use Rattle.std.proofs.lemmas.List.{length-append}
+use Rattle.std.proofs.lemmas.Option.{same_Some}
 use Rattle.ranked_list.specs.declared.row.Row.{Row}
 use Rattle.ranked_list.specs.declared.need.Need.{Need}
 use Rattle.ranked_list.specs.declared.need.Need.TheVariants as need
 use Rattle.turn_lock.specs.declared.facts.Tally.{Tally}
 use Rattle.turn_lock.specs.Facts.{Begins as GoesOnAs, AtMost}
+use Rattle.ranked_list.proofs.OptionLaws.{none_if_is_none}
 use Rattle.topk_theory.specs.Transcript.{Begins}
 use Rattle.topk_theory.specs.Bounds.{grade_among}
 use Rattle.topk_theory.proofs.AgreementLists.{begins_with, begins_get}
@@ -32,6 +34,7 @@ use Rattle.source_state.specs.State.{State, asked_in, asked_as}
 use Rattle.source_state.specs.Looking.{row_or_fault, grade_or, decided, waits_for, newer, told, is_full, Refuses}
 use Rattle.source_state.proofs.Lists.{none_not_some}
 use Rattle.source_state.proofs.LogLaws.{settling_graded}
+use Rattle.source_state.proofs.LookLaws.{held_there}
 use Rattle.query_world.specs.declared.ended.Refusal.{Refusal}
 use Rattle.query_world.specs.declared.ended.Refusal.TheVariants.{Core, Look as LookedFor}
 use Rattle.query_world.specs.Histories.{GoesOn}
@@ -44,7 +47,8 @@ rows_begin log more b =
     let parts : rows_in more ≡ rows_in log ++ rows_in b.rest = ap rows_in b.goes_on ∙ filter_map-append kept_row log b.rest in
     subst (λ rows. Begins (rows_in log) rows) (sym parts) (begins_with (rows_in log) (rows_in b.rest))
 
-pub known_more : (log more : List LogEntry) (row : Row) → GoesOnAs log more → Contains (rows_in log ++ graded_in log) row → Contains (rows_in more ++ graded_in more) row
+pub known_more : (log more : List LogEntry) (row : Row) → GoesOnAs log more → Contains (rows_in log ++ graded_in log) row
+    → Contains (rows_in more ++ graded_in more) row
 known_more log more row b c =
     let rows : rows_in more ≡ rows_in log ++ rows_in b.rest = ap rows_in b.goes_on ∙ filter_map-append kept_row log b.rest in
     let grades : graded_in more ≡ graded_in log ++ graded_in b.rest = ap graded_in b.goes_on ∙ filter_map-append graded_row log b.rest in
@@ -57,7 +61,8 @@ first_more : {X : Type 0} (xs ys : List X) (x : X) → first_of xs ≡ Some x �
 first_more [] ys x e = absurd (none_not_some e)
 first_more (y ∷ xs) ys x e = e
 
-pub settling_more : (log more : List LogEntry) (object : ℕ) (settling : Settling) → GoesOnAs log more → settling_in log object ≡ Some settling → settling_in more object ≡ Some settling
+pub settling_more : (log more : List LogEntry) (object : ℕ) (settling : Settling) → GoesOnAs log more → settling_in log object ≡ Some settling
+    → settling_in more object ≡ Some settling
 settling_more log more object settling b e =
     ap (λ l. settling_in l object) b.goes_on ∙ ap (first_of {X = Settling}) (filter_map-append (settled_as object) log b.rest)
     ∙ first_more (filter_map (settled_as object) log) (filter_map (settled_as object) b.rest) settling e
@@ -131,16 +136,14 @@ had_stays s u n noted why.Garbled later h = failed_more kind.Garbled noted s.tal
 had_stays s u n noted why.Memory later h = failed_more kind.Memory noted s.tally u.tally later.goes.grows.tally h
 
 -- a cause stays one
-pub cause_stays : (s u : State) (t : MachineState) (noted : Tally) (refused : Option Refusal) → IsLater s u → IsCause s t noted refused → IsCause u t noted refused
+pub cause_stays : (s u : State) (t : MachineState) (noted : Tally) (refused : Option Refusal) → IsLater s u → IsCause s t noted refused
+    → IsCause u t noted refused
 cause_stays s u t noted None later h = tt
 cause_stays s u t noted (Some (Core (Strangers object count))) later h = (lacks_more s u t t.need object later h.0, h.1, h.2)
 cause_stays s u t noted (Some (Core (RoomFull room))) later h = ((h.0.0, lacks_more s u t t.need h.0.0 later h.0.1), h.1, h.2)
 cause_stays s u t noted (Some (LookedFor list fault)) later h = (h.0, had_stays s u t.need noted fault later h.1)
 
 -- what a log decides of a need
-some_same : {A : Type 0} {x y : A} → Some x ≡ Some y → x ≡ y
-some_same e = cc
-
 of_row : (found : Option Row) (fault : Option SourceFault) (row : Row) → row_or_fault found fault ≡ Some (look.Row row) → found ≡ Some row
 of_row (Some other) fault row e = let same : other ≡ row = cc in ap (λ r. Some r) same
 of_row None None row e = absurd (none_not_some e)
@@ -170,16 +173,13 @@ row_decided s (need.Grade l object) row e = absurd (of_grade_row object (asked_i
 row_decided s need.Done row e = absurd (none_not_some e)
 
 -- a grade that is answered is a good settled one, or that of a kept row
-of_held : (held : Option ℕ) (grade : ℕ) → option_map look.Grade held ≡ Some (look.Grade grade) → held ≡ Some grade
-of_held None grade e = absurd (none_not_some e)
-of_held (Some other) grade e = let same : other ≡ grade = cc in ap (λ g. Some g) same
-
 of_row_grade : (found : Option Row) (fault : Option SourceFault) (grade : ℕ) → row_or_fault found fault ≡ Some (look.Grade grade) → ⊥
 of_row_grade (Some row) fault grade e = cc
 of_row_grade None None grade e = none_not_some e
 of_row_grade None (Some fault) grade e = cc
 
-known_grade : (s : State) (object grade : ℕ) (asked : Option Asked) (held : Option ℕ) → asked_in s object ≡ asked → grade_among (rows_in s.log) object ≡ held → grade_or object asked held ≡ Some (look.Grade grade)
+known_grade : (s : State) (object grade : ℕ) (asked : Option Asked) (held : Option ℕ) → asked_in s object ≡ asked → grade_among (rows_in s.log) object ≡ held
+    → grade_or object asked held ≡ Some (look.Grade grade)
     → Contains (rows_in s.log ++ graded_in s.log) (record { object = object; grade = grade })
 known_grade s object grade (Some (became.Graded other)) held is at e =
     let same : other ≡ grade = cc in
@@ -188,8 +188,8 @@ known_grade s object grade (Some (became.Graded other)) held is at e =
     Contains-append_right (rows_in s.log) (graded_in s.log) (record { object = object; grade = grade }) (subst (λ g. Contains (graded_in s.log) (record { object = object; grade = g })) same good)
 known_grade s object grade (Some (became.Bad fault)) held is at e = absurd (cc)
 known_grade s object grade (Some became.Missed) held is at e = absurd (cc)
-known_grade s object grade (Some became.Pending) held is at e = Contains-append_left (rows_in s.log) (graded_in s.log) (record { object = object; grade = grade }) (grade_among_row (rows_in s.log) object grade (at ∙ of_held held grade e))
-known_grade s object grade None held is at e = Contains-append_left (rows_in s.log) (graded_in s.log) (record { object = object; grade = grade }) (grade_among_row (rows_in s.log) object grade (at ∙ of_held held grade e))
+known_grade s object grade (Some became.Pending) held is at e = Contains-append_left (rows_in s.log) (graded_in s.log) (record { object = object; grade = grade }) (grade_among_row (rows_in s.log) object grade (at ∙ held_there held grade e))
+known_grade s object grade None held is at e = Contains-append_left (rows_in s.log) (graded_in s.log) (record { object = object; grade = grade }) (grade_among_row (rows_in s.log) object grade (at ∙ held_there held grade e))
 
 pub record IsGradeAt (s : State) (n : Need) (grade : ℕ) : Type 0 where
   pub list : ℕ
@@ -203,7 +203,8 @@ grade_decided s (need.Grade l o) grade e = record { list = l; object = o; is = r
 grade_decided s need.Done grade e = absurd (none_not_some e)
 
 -- a fault that is answered
-of_row_fault : (found : Option Row) (set : Option SourceFault) (fault : SourceFault) → row_or_fault found set ≡ Some (look.Fault (why.Source fault)) → (found ≡ None) × (set ≡ Some fault)
+of_row_fault : (found : Option Row) (set : Option SourceFault) (fault : SourceFault) → row_or_fault found set ≡ Some (look.Fault (why.Source fault))
+    → (found ≡ None) × (set ≡ Some fault)
 of_row_fault (Some row) set fault e = absurd (cc)
 of_row_fault None None fault e = absurd (none_not_some e)
 of_row_fault None (Some other) fault e = let same : other ≡ fault = cc in (refl, ap (λ f. Some f) same)
@@ -212,7 +213,8 @@ of_held_fault : (held : Option ℕ) (fault : LookFault) → option_map look.Grad
 of_held_fault None fault e = none_not_some e
 of_held_fault (Some grade) fault e = cc
 
-of_bad : (s : State) (object : ℕ) (fault : SourceFault) (asked : Option Asked) (held : Option ℕ) → asked_in s object ≡ asked → grade_or object asked held ≡ Some (look.Fault (why.Source fault)) → settling_in s.log object ≡ Some (Bad fault)
+of_bad : (s : State) (object : ℕ) (fault : SourceFault) (asked : Option Asked) (held : Option ℕ) → asked_in s object ≡ asked
+    → grade_or object asked held ≡ Some (look.Fault (why.Source fault)) → settling_in s.log object ≡ Some (Bad fault)
 of_bad s object fault (Some (became.Graded grade)) held is e = absurd (cc)
 of_bad s object fault (Some (became.Bad other)) held is e =
     let same : other ≡ fault = cc in
@@ -231,7 +233,8 @@ of_row_missing (Some row) set object e = cc
 of_row_missing None None object e = none_not_some e
 of_row_missing None (Some other) object e = cc
 
-of_missing : (s : State) (named object : ℕ) (asked : Option Asked) (held : Option ℕ) → asked_in s named ≡ asked → grade_or named asked held ≡ Some (look.Fault (why.Missing object)) → (named ≡ object) × (settling_in s.log object ≡ Some Missed)
+of_missing : (s : State) (named object : ℕ) (asked : Option Asked) (held : Option ℕ) → asked_in s named ≡ asked
+    → grade_or named asked held ≡ Some (look.Fault (why.Missing object)) → (named ≡ object) × (settling_in s.log object ≡ Some Missed)
 of_missing s named object (Some (became.Graded grade)) held is e = absurd (cc)
 of_missing s named object (Some (became.Bad fault)) held is e = absurd (cc)
 of_missing s named object (Some became.Missed) held is e =
@@ -247,7 +250,7 @@ missing_decided s need.Done object e = absurd (none_not_some e)
 
 -- which fails came
 chosen : (b : Bool) (x y : FailKind) (rest : Option FailKind) → cond b (Some x) rest ≡ Some y → (x ≡ y → ⊥) → (b ≡ false) × (rest ≡ Some y)
-chosen true x y rest e apart = absurd (apart (some_same e))
+chosen true x y rest e apart = absurd (apart (same_Some _ _ e))
 chosen false x y rest e apart = (refl, e)
 
 first_chosen : (b : Bool) (x y : FailKind) (rest : Option FailKind) → cond b (Some x) rest ≡ Some y → (rest ≡ Some y → ⊥) → b ≡ true
@@ -255,7 +258,7 @@ first_chosen true x y rest e none = refl
 first_chosen false x y rest e none = absurd (none e)
 
 last_kind : (b : Bool) (x y : FailKind) → cond b (Some x) None ≡ Some y → x ≡ y
-last_kind true x y e = some_same e
+last_kind true x y e = same_Some _ _ e
 last_kind false x y e = absurd (none_not_some e)
 
 two_kinds : (b c : Bool) (x y z : FailKind) → cond b (Some x) (cond c (Some y) None) ≡ Some z → (x ≡ z → ⊥) → y ≡ z
@@ -265,7 +268,7 @@ newer_failed : (what : FailKind) (noted now : Tally) → newer noted now ≡ Som
 newer_failed kind.Failed noted now e =
     ltb-true noted.failed now.failed (first_chosen (nat_lt noted.failed now.failed) kind.Failed kind.Failed _ e
     (λ f. let bad : kind.Garbled ≡ kind.Failed = elim (cases_Bool (nat_lt noted.garbled now.garbled)) [
-      | inl t ↦ some_same (sym (ap (λ b. cond b (Some kind.Garbled) (cond (nat_lt noted.memory now.memory) (Some kind.Memory) None)) t) ∙ f)
+      | inl t ↦ same_Some _ _ (sym (ap (λ b. cond b (Some kind.Garbled) (cond (nat_lt noted.memory now.memory) (Some kind.Memory) None)) t) ∙ f)
       | inr n ↦ absurd (let worse : kind.Memory ≡ kind.Failed = last_kind (nat_lt noted.memory now.memory) kind.Memory kind.Failed (sym (ap (λ b. cond b (Some kind.Garbled) (cond (nat_lt noted.memory now.memory) (Some kind.Memory) None)) n) ∙ f) in cc)
     ] in cc))
 newer_failed kind.Garbled noted now e =
@@ -285,25 +288,18 @@ told_failed waiting n now what e =
     ]
 
 -- no room for one more ask
-both : (a b : Bool) → (a && b) ≡ true → (a ≡ true) × (b ≡ true)
-both true true e = (refl, refl)
-both true false e = absurd (cc)
-both false b e = absurd (cc)
-
-is_absent : (o : Option Asked) → is_none o ≡ true → o ≡ None
-is_absent None e = refl
-is_absent (Some a) e = absurd (cc)
 
 full_looked : (s : State) (n : Need) (kept : ℕ) → is_full s n ≡ true → kept ≡ length s.asks → AreAsksFull s n kept
 full_looked s (need.Row list depth) kept e all = absurd (cc)
 full_looked s (need.Grade list object) kept e all =
-    let parts = both (is_none (asked_in s object)) (length s.asks == s.count) e in
+    let parts = and_parts (is_none (asked_in s object)) (length s.asks == s.count) e in
     let full : length s.asks ≡ s.count = eqb-true (length s.asks) s.count parts.1 in
-    record { full = full; all = all ∙ full; absent = λ c. not_asked s object (is_absent (asked_in s object) parts.0) c }
+    record { full = full; all = all ∙ full; absent = λ c. not_asked s object (none_if_is_none (asked_in s object) parts.0) c }
 full_looked s need.Done kept e all = absurd (cc)
 
 -- the cause of a look's refusal
-pub refusal_cause : (n : Need) (s t : State) (waiting left : Waiting) (fault : LookFault) → Refuses n s t waiting left fault → CanNotBeHad s n waiting.noted fault
+pub refusal_cause : (n : Need) (s t : State) (waiting left : Waiting) (fault : LookFault) → Refuses n s t waiting left fault
+    → CanNotBeHad s n waiting.noted fault
 refusal_cause n s t waiting left (why.Source fault) h = fault_decided s n fault h.decides
 refusal_cause n s t waiting left (why.Missing object) h = missing_decided s n object h.decides
 refusal_cause n s t waiting left (why.AsksFull kept) h = full_looked s n kept h.full h.all

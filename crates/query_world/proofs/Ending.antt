@@ -17,7 +17,8 @@ use Rattle.query_world.specs.Made.{IsOf, AreOf}
 use Rattle.query_world.specs.Endings.{IsAnswerOf, EndsAs, IsRight}
 
 -- the answer of a query is right
-answered : (states : List State) (ready : Ready) (q : Inquiry) (answer : Answer) → IsServed states q → IsOf ready q → IsAnswerOf q answer → IsAnswered ready.query ready.count answer
+answered : (states : List State) (ready : Ready) (q : Inquiry) (answer : Answer) → IsServed states q → IsOf ready q → IsAnswerOf q answer
+    → IsAnswered ready.query ready.count answer
 answered states ready q answer h is ends =
     end_answered (algorithm_of q.machine) ready.query ready.count _ (told_to states q) is.first answer is.algorithm is.is.expr.lists.some is.begun
     (record { last = state_of q.machine; goes = is.goes; fed = h.drawn; run = h.run; done = ends.done; items = ends.items; log = ends.log })
@@ -27,7 +28,8 @@ right states ready q (ended.Answered answer) h is ends = answered states ready q
 right states ready q (ended.Core fault) h is ends = tt
 right states ready q (ended.Look list fault) h is ends = tt
 
-all_right : (states : List State) (readies : List Ready) (queries : List Inquiry) (endings : List Ended) → ((q : Inquiry) → Contains queries q → IsServed states q) → AllZip IsOf readies queries → AllZip EndsAs queries endings → AllZip IsRight readies endings
+all_right : (states : List State) (readies : List Ready) (queries : List Inquiry) (endings : List Ended)
+    → ((q : Inquiry) → Contains queries q → IsServed states q) → AllZip IsOf readies queries → AllZip EndsAs queries endings → AllZip IsRight readies endings
 all_right states [] [] [] h are ends = tt
 all_right states [] [] (e ∷ endings) h are ends = absurd ends
 all_right states [] (q ∷ queries) endings h are ends = absurd are
@@ -36,5 +38,6 @@ all_right states (ready ∷ readies) (q ∷ queries) [] h are ends = absurd ends
 all_right states (ready ∷ readies) (q ∷ queries) (e ∷ endings) h are ends =
     (right states ready q e (h q (contains_here q queries)) are.0 ends.0, all_right states readies queries endings (λ r c. h r (contains_there q queries r c)) are.1 ends.1)
 
-pub ended_right : (readies : List Ready) (w : WorldState) (endings : List Ended) → IsWorld w → AreOf readies w → AllZip EndsAs w.queries endings → AllZip IsRight readies endings
+pub ended_right : (readies : List Ready) (w : WorldState) (endings : List Ended) → IsWorld w → AreOf readies w → AllZip EndsAs w.queries endings
+    → AllZip IsRight readies endings
 ended_right readies w endings h are ends = all_right w.states readies w.queries endings (λ q c. member_of_all (IsServed w.states) w.queries q h.queries c) are ends

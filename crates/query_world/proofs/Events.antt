@@ -1,18 +1,14 @@
 -- What an event of a source, and a look at it, keep of what was read.
-use Rattle.std.proofs.Common.{◌≡◌, ◌<◌, ◌≤◌, ◌+◌, ◌==◌, ◌&&◌, inl, inr, ℕ, false, Option, Some, None, List, [], ◌∷◌, ◌++◌, length, is_none, refl, sym, ap, subst, ◌∙◌, arith, le_refl}
-use Rattle.std.proofs.lemmas.Bool.{eqb-false}
+use Rattle.std.proofs.Common.{◌≡◌, ◌<◌, ◌≤◌, ◌+◌, inl, inr, ℕ, false, Option, Some, None, List, [], ◌∷◌, ◌++◌, length, refl, sym, ap, subst, ◌∙◌, arith, le_refl}
 use Rattle.std.proofs.lemmas.List.{length-append}
 use Rattle.ranked_list.specs.declared.row.Row.{Row}
 use Rattle.ranked_list.specs.declared.need.Need.{Need}
 use Rattle.ranked_list.specs.declared.need.Need.TheVariants as need
 use Rattle.turn_lock.specs.declared.facts.Tally.{Tally}
-use Rattle.turn_lock.specs.Facts.{Begins, AtMost, Grows}
-use Rattle.turn_lock.proofs.Growth.{begins_same, begins_more, at_most_same, grows_same, grows_on}
-use Rattle.source_state.specs.declared.ask.Ask.{Ask as Asking}
-use Rattle.source_state.specs.declared.entry.LogEntry.{LogEntry}
+use Rattle.turn_lock.specs.Facts.{AtMost, Grows}
+use Rattle.turn_lock.proofs.Growth.{begins_same, at_most_same, grows_same}
 use Rattle.source_state.specs.declared.entry.LogEntry.TheVariants as entry
 use Rattle.source_state.specs.declared.entry.Settling.TheVariants as settling
-use Rattle.source_state.specs.declared.entry.Asked.{Asked}
 use Rattle.source_state.specs.declared.entry.FailKind.{FailKind}
 use Rattle.source_state.specs.declared.entry.FailKind.TheVariants as kind
 use Rattle.source_state.specs.declared.entry.SourceFault.{SourceFault}
@@ -24,33 +20,20 @@ use Rattle.source_state.specs.declared.look.Look.{Look}
 use Rattle.source_state.specs.declared.look.Look.TheVariants as look
 use Rattle.source_state.specs.declared.look.LookFault.TheVariants as why
 use Rattle.source_state.specs.Log.{rows_in, fault_in}
-use Rattle.source_state.specs.Asks.{ask_of}
-use Rattle.source_state.specs.State.{State, opened, asks_of, asked_in, row_fault, settle, facts_of, IsSound, IsCounted}
-use Rattle.source_state.specs.Events.{logged, one_asked, row_or, with_rows, counted, after, MayCome}
+use Rattle.source_state.specs.State.{State, opened, asks_of, row_fault, settle, facts_of, IsSound, IsCounted}
+use Rattle.source_state.specs.Events.{logged, row_or, with_rows, counted, after, MayCome}
 use Rattle.source_state.specs.History.{replayed, AllMayCome}
 use Rattle.source_state.specs.Looking.{called, is_full, Looks, MayLook}
 use Rattle.source_state.proofs.Lists.{none_not_some}
 use Rattle.source_state.proofs.LogLaws.{kept_rows, kept_faults, settled_rows}
 use Rattle.source_state.proofs.Sound.{sound_row, sound_fault, sound_settling, sound_ask, settles_well}
+use Rattle.source_state.proofs.AskLaws.{not_asked}
+use Rattle.source_state.proofs.Growing.{logged_grows, ask_grows, rows_grow}
+use Rattle.source_state.proofs.LookLaws.{ask_may}
+use Rattle.source_state.proofs.Told.{replayed_push}
 use Rattle.query_world.specs.Histories.{HasHistory, GoesOn}
-use Rattle.query_world.proofs.Asking.{asked_none}
 
 -- the facts grow
-logged_grows : (s : State) (e : LogEntry) → Grows (facts_of s) (facts_of (logged s e))
-logged_grows s e = record { name = refl; log = begins_more s.log (e ∷ []); asks = begins_same s.asks; mark = le_refl _; tally = at_most_same s.tally }
-
-asked_begins : (found : Option Asking) (object : ℕ) (asks : List ℕ) → Begins asks (one_asked found object asks)
-asked_begins None object asks = begins_more asks (object ∷ [])
-asked_begins (Some ask) object asks = begins_same asks
-
-row_grows : (o : Option SourceFault) (s : State) (row : Row) (next : State → State) → ((t : State) → Grows (facts_of t) (facts_of (next t))) → Grows (facts_of s) (facts_of (row_or o s row next))
-row_grows None s row next h = grows_on (logged_grows s (entry.Kept row)) (h (logged s (entry.Kept row)))
-row_grows (Some fault) s row next h = logged_grows s (entry.Fault fault)
-
-rows_grow : (s : State) (rows : List Row) → Grows (facts_of s) (facts_of (with_rows s rows))
-rows_grow s [] = grows_same (facts_of s)
-rows_grow s (row ∷ rows) = row_grows (row_fault (rows_in s.log) (asks_of s) row) s row (λ t. with_rows t rows) (λ t. rows_grow t rows)
-
 counted_more : (what : FailKind) (tally : Tally) → IsCounted tally → AtMost tally (counted what tally)
 counted_more kind.Failed tally h = record { failed = let c = h.failed in omega arith; garbled = le_refl _; memory = le_refl _ }
 counted_more kind.Garbled tally h = record { failed = le_refl _; garbled = let c = h.garbled in omega arith; memory = le_refl _ }
@@ -63,7 +46,7 @@ counted_fits kind.Memory tally h = record { failed = h.failed; garbled = h.garbl
 
 grows : (s : State) (e : Event) → IsSound s → Grows (facts_of s) (facts_of (after s e))
 grows s (Want depth) sound = record { name = refl; log = begins_same s.log; asks = begins_same s.asks; mark = omega arith; tally = at_most_same s.tally }
-grows s (Ask object) sound = record { name = refl; log = begins_same s.log; asks = asked_begins (ask_of (asks_of s) object) object s.asks; mark = le_refl _; tally = at_most_same s.tally }
+grows s (Ask object) sound = ask_grows s object
 grows s (Page []) sound = logged_grows s (entry.Fault (ShortList s.count (length (rows_in s.log))))
 grows s (Page (row ∷ rows)) sound = rows_grow s (row ∷ rows)
 grows s (Grade object grade) sound = logged_grows s (entry.Settled object (settle (rows_in s.log) object grade))
@@ -80,7 +63,8 @@ closed s (Miss object) fault may set = settled_rows s.log object settling.Missed
 closed s (Fail what) fault may set = refl
 
 -- the state stays sound
-row_sound : (o : Option SourceFault) (s : State) (row : Row) (rows : List Row) → row_fault (rows_in s.log) (asks_of s) row ≡ o → IsSound s → fault_in s.log ≡ None → length (rows_in s.log) < s.count
+row_sound : (o : Option SourceFault) (s : State) (row : Row) (rows : List Row) → row_fault (rows_in s.log) (asks_of s) row ≡ o → IsSound s
+    → fault_in s.log ≡ None → length (rows_in s.log) < s.count
     → (IsSound (logged s (entry.Kept row)) → IsSound (with_rows (logged s (entry.Kept row)) rows)) → IsSound (row_or o s row (λ t. with_rows t rows))
 row_sound None s row rows e sound none room next = next (sound_row s row sound room e)
 row_sound (Some fault) s row rows e sound none room next = sound_fault s fault sound none
@@ -98,7 +82,7 @@ rows_sound s (row ∷ rows) sound none room =
 
 sound_after : (s : State) (e : Event) → IsSound s → MayCome s e → IsSound (after s e)
 sound_after s (Want depth) sound may = record { log = sound.log; distinct = sound.distinct; fits = sound.fits; small = sound.small; want = let w = sound.want in omega (arith, may.1); tally = sound.tally }
-sound_after s (Ask object) sound may = sound_ask s object sound (λ none. may (asked_none s object none))
+sound_after s (Ask object) sound may = sound_ask s object sound (λ none. may (not_asked s object none))
 sound_after s (Page []) sound may = sound_fault s (ShortList s.count (length (rows_in s.log))) sound may.no_fault
 sound_after s (Page (row ∷ rows)) sound may = rows_sound s (row ∷ rows) sound may.no_fault may.fits
 sound_after s (Grade object grade) sound may = sound_settling s object (settle (rows_in s.log) object grade) sound may (settles_well (rows_in s.log) object grade sound.log.ranked)
@@ -106,15 +90,12 @@ sound_after s (Miss object) sound may = sound_settling s object settling.Missed 
 sound_after s (Fail what) sound may = record { log = sound.log; distinct = sound.distinct; fits = sound.fits; small = sound.small; want = sound.want; tally = counted_fits what s.tally sound.tally }
 
 -- one more event of a history
-replayed_push : (s : State) (E : List Event) (e : Event) → replayed s (E ++ e ∷ []) ≡ after (replayed s E) e
-replayed_push s [] e = refl
-replayed_push s (first ∷ E) e = replayed_push (after s first) E e
-
 all_may_push : (s : State) (E : List Event) (e : Event) → AllMayCome s E → MayCome (replayed s E) e → AllMayCome s (E ++ e ∷ [])
 all_may_push s [] e all may = (may, tt)
 all_may_push s (first ∷ E) e all may = (all.0, all_may_push (after s first) E e all.1 may)
 
-history_at : (list count : ℕ) (s : State) → s.list ≡ list → s.count ≡ count → (E : List Event) → AllMayCome (opened list count) E → s ≡ replayed (opened list count) E → HasHistory s
+history_at : (list count : ℕ) (s : State) → s.list ≡ list → s.count ≡ count → (E : List Event) → AllMayCome (opened list count) E
+    → s ≡ replayed (opened list count) E → HasHistory s
 history_at list count s one other E may told = record {
   events = E;
   may = subst (λ l. AllMayCome (opened l s.count) E) (sym one) (subst (λ n. AllMayCome (opened list n) E) (sym other) may);
@@ -148,15 +129,6 @@ moved_after s e sound history may = record {
   history = history_after s e sound history may;
 }
 
--- where no room is lacking an ask may come
-ask_may : (s : State) (object : ℕ) → length s.asks ≤ s.count → (is_none (asked_in s object) && (length s.asks == s.count)) ≡ false → asked_in s object ≡ None → length s.asks < s.count
-ask_may s object few room none =
-    let apart : (length s.asks == s.count) ≡ false = sym (ap (λ (o : Option Asked). is_none o && (length s.asks == s.count)) none) ∙ room in
-    less (length s.asks) s.count few apart
-  where
-    less : (m n : ℕ) → m ≤ n → (m == n) ≡ false → m < n
-    less m n few apart = let differ : m ≡ n → ⊥ = λ e. eqb-false m n apart e in omega arith
-
 -- the want or the ask of a need is an event that may come
 moved_called : (s : State) (n : Need) → IsSound s → HasHistory s → MayLook s n → is_full s n ≡ false → Moved s (called s n)
 moved_called s (need.Row list depth) sound history may room = moved_after s (Want depth) sound history may
@@ -167,7 +139,8 @@ moved_is : (s t u : State) → Moved s u → t ≡ u → Moved s t
 moved_is s t u m e = subst (λ v. Moved s v) (sym e) m
 
 -- a look
-pub look_moved : (n : Need) (s t : State) (waiting left : Waiting) (answer : Look) → IsSound s → HasHistory s → MayLook s n → Looks n s t waiting left answer → Moved s t
+pub look_moved : (n : Need) (s t : State) (waiting left : Waiting) (answer : Look) → IsSound s → HasHistory s → MayLook s n → Looks n s t waiting left answer
+    → Moved s t
 look_moved n s t waiting left (look.Row row) sound history may looks = moved_is s t s (moved_same s sound history) looks.ends.same
 look_moved n s t waiting left (look.Grade grade) sound history may looks = moved_is s t s (moved_same s sound history) looks.ends.same
 look_moved n s t waiting left look.NotYet sound history may looks =

@@ -4,6 +4,7 @@ use Rattle.std.specs.List.{slice_set}
 use Rattle.std.proofs.lemmas.Bool.{cases_Bool}
 use Rattle.std.proofs.lemmas.Bool.Decides.{eqb_tells}
 use Rattle.std.proofs.lemmas.List.Elements.{Contains-append_left, Contains-append_right}
+use Rattle.std.proofs.lemmas.Option.{same_Some}
 use Rattle.ranked_list.specs.declared.row.Row.{Row}
 use Rattle.ranked_list.specs.declared.need.Need.{Need}
 use Rattle.ranked_list.specs.declared.need.Need.TheVariants as need
@@ -41,8 +42,11 @@ use Rattle.query_world.proofs.Causes.{told_failed}
 use Rattle.query_world.proofs.Serving.{state_set, state_other, source_there, open_parts, fault_ends, stays_state}
 use Rattle.query_world.proofs.Stepping.{stepped, turn_of, zip_member, open_query}
 
-some_same : {A : Type 0} {x y : A} → Some x ≡ Some y → x ≡ y
-some_same e = cc
+-- one more step of a run
+runs_push : (w v : WorldState) (first : WorldState) (steps : List Step) (step : Step) → Runs first steps w → MayStep w step → Steps step w v
+    → Runs first (steps ++ step ∷ []) v
+runs_push w v first [] step ran may does = (v, subst (λ u. MayStep u step) ran may, subst (λ u. Steps step u v) ran does, refl)
+runs_push w v first (one ∷ steps) step ran may does = (ran.0, ran.1, ran.2, runs_push w v ran.0 steps step ran.3 may does)
 
 -- a query that waits for a need began to, and the fails that came since are among the steps since
 record Waits (first : WorldState) (steps : List Step) (w : WorldState) (query : ℕ) (q : Inquiry) (n : Need) : Type 0 where
@@ -53,30 +57,36 @@ record Waits (first : WorldState) (steps : List Step) (w : WorldState) (query : 
   after : WorldState
   ran : Runs first earlier before
   begins : BeginsToWait query n before after
+  goes : Runs after later w
   since : (what : FailKind) → (HasFailed what q.waiting.noted (state_at w.states (source_needed q)).tally → ⊥) ⊎ Contains later (Fail (source_needed q) what)
 
 -- what is known of a query after some steps
 record Known (first : WorldState) (steps : List Step) (w : WorldState) (query : ℕ) (q : Inquiry) : Type 0 where
   waits : (n : Need) → q.waiting.need ≡ Some n → Waits first steps w query q n
-  refused : (list : ℕ) (what : FailKind) → q.refusal ≡ Some (refusal.Look list (refusal_of what)) → IsToldOfFail first steps query what
+  refused : (list : ℕ) (what : FailKind) → q.refusal ≡ Some (refusal.Look list (refusal_of what)) → IsToldOfFail first steps w query list what
 
 abbrev AllKnown : WorldState → List Step → WorldState → Type 0
 AllKnown first steps w = (query : ℕ) (q : Inquiry) → slice_get w.queries query ≡ Some q → Known first steps w query q
 
 -- one more step
-longer : (front : List Step) (mid : Step) (back : List Step) (step : Step) (steps : List Step) → steps ≡ front ++ mid ∷ back → steps ++ step ∷ [] ≡ front ++ mid ∷ (back ++ step ∷ [])
+longer : (front : List Step) (mid : Step) (back : List Step) (step : Step) (steps : List Step) → steps ≡ front ++ mid ∷ back
+    → steps ++ step ∷ [] ≡ front ++ mid ∷ (back ++ step ∷ [])
 longer front mid back step steps e = ap (λ xs. xs ++ step ∷ []) e ∙ append_assoc front (mid ∷ back) (step ∷ [])
 
-told_longer : (first : WorldState) (steps : List Step) (query : ℕ) (what : FailKind) (step : Step) → IsToldOfFail first steps query what → IsToldOfFail first (steps ++ step ∷ []) query what
-told_longer first steps query what step h = record {
+told_longer : (first : WorldState) (steps : List Step) (w v : WorldState) (query list : ℕ) (what : FailKind) (step : Step) → MayStep w step → Steps step w v
+    → IsToldOfFail first steps w query list what
+    → IsToldOfFail first (steps ++ step ∷ []) v query list what
+told_longer first steps w v query list what step may does h = record {
   front = h.front;
   rest = h.rest ++ step ∷ [];
   order = longer h.front (Turn query) h.rest step steps h.order;
   before = h.before;
+  after = h.after;
   ran = h.ran;
-  q = h.q;
-  is = h.is;
+  turn = h.turn;
+  goes = runs_push w v h.after h.rest step h.goes may does;
   unrefused = h.unrefused;
+  refused = h.refused;
   since = h.since;
 }
 
@@ -84,9 +94,10 @@ told_longer first steps query what step h = record {
 abbrev TellsNoMore : State → State → Step → ℕ → Type 0
 TellsNoMore s t step source = (what : FailKind) → ((noted : Tally) → HasFailed what noted t.tally → HasFailed what noted s.tally) ⊎ (step ≡ Fail source what)
 
-waits_longer : (first : WorldState) (steps : List Step) (w v : WorldState) (query : ℕ) (q : Inquiry) (n : Need) (step : Step) → TellsNoMore (state_at w.states (source_needed q)) (state_at v.states (source_needed q)) step (source_needed q)
+waits_longer : (first : WorldState) (steps : List Step) (w v : WorldState) (query : ℕ) (q : Inquiry) (n : Need) (step : Step) → MayStep w step → Steps step w v
+    → TellsNoMore (state_at w.states (source_needed q)) (state_at v.states (source_needed q)) step (source_needed q)
     → Waits first steps w query q n → Waits first (steps ++ step ∷ []) v query q n
-waits_longer first steps w v query q n step more h = record {
+waits_longer first steps w v query q n step may does more h = record {
   earlier = h.earlier;
   later = h.later ++ step ∷ [];
   order = longer h.earlier (Turn query) h.later step steps h.order;
@@ -94,6 +105,7 @@ waits_longer first steps w v query q n step more h = record {
   after = h.after;
   ran = h.ran;
   begins = h.begins;
+  goes = runs_push w v h.after h.later step h.goes may does;
   since = λ what. elim (h.since what) [
     | inr c ↦ inr (Contains-append_left h.later (step ∷ []) (Fail (source_needed q) what) c)
     | inl none ↦ elim (more what) [
@@ -103,15 +115,17 @@ waits_longer first steps w v query q n step more h = record {
   ];
 }
 
-known_longer : (first : WorldState) (steps : List Step) (w v : WorldState) (query : ℕ) (q : Inquiry) (step : Step) → TellsNoMore (state_at w.states (source_needed q)) (state_at v.states (source_needed q)) step (source_needed q)
+known_longer : (first : WorldState) (steps : List Step) (w v : WorldState) (query : ℕ) (q : Inquiry) (step : Step) → MayStep w step → Steps step w v
+    → TellsNoMore (state_at w.states (source_needed q)) (state_at v.states (source_needed q)) step (source_needed q)
     → Known first steps w query q → Known first (steps ++ step ∷ []) v query q
-known_longer first steps w v query q step more h = record {
-  waits = λ n e. waits_longer first steps w v query q n step more (h.waits n e);
-  refused = λ list what e. told_longer first steps query what step (h.refused list what e);
+known_longer first steps w v query q step may does more h = record {
+  waits = λ n e. waits_longer first steps w v query q n step may does more (h.waits n e);
+  refused = λ list what e. told_longer first steps w v query list what step may does (h.refused list what e);
 }
 
 -- the tally after an event
-tally_or : (o : Option SourceFault) (s : State) (row : Row) (next : State → State) → ((t : State) → (next t).tally ≡ t.tally) → (row_or o s row next).tally ≡ s.tally
+tally_or : (o : Option SourceFault) (s : State) (row : Row) (next : State → State) → ((t : State) → (next t).tally ≡ t.tally)
+    → (row_or o s row next).tally ≡ s.tally
 tally_or None s row next h = h (logged s (entry.Kept row))
 tally_or (Some fault) s row next h = refl
 
@@ -138,10 +152,12 @@ page_tally s [] = refl
 page_tally s (row ∷ rows) = tally_rows s (row ∷ rows)
 
 -- an event of one source
-event_known : (first : WorldState) (steps : List Step) (w : WorldState) (source : ℕ) (e : Event) (step : Step) → source < length w.states → TellsNoMore (state_at w.states source) (after (state_at w.states source) e) step source → AllKnown first steps w
+event_known : (first : WorldState) (steps : List Step) (w : WorldState) (source : ℕ) (e : Event) (step : Step) → source < length w.states → MayStep w step
+    → Steps step w (record w { states = with_event w.states source e })
+    → TellsNoMore (state_at w.states source) (after (state_at w.states source) e) step source → AllKnown first steps w
     → AllKnown first (steps ++ step ∷ []) (record w { states = with_event w.states source e })
-event_known first steps w source e step l tells h query q is =
-    known_longer first steps w (record w { states = with_event w.states source e }) query q step
+event_known first steps w source e step l may does tells h query q is =
+    known_longer first steps w (record w { states = with_event w.states source e }) query q step may does
     (elim (eqb_tells (source_needed q) source) [
       | inl t ↦ subst (λ n. TellsNoMore (state_at w.states n) (state_at (with_event w.states source e) n) step n) (sym t.1)
           (subst (λ u. TellsNoMore (state_at w.states source) u step source) (sym (state_set w.states source (after (state_at w.states source) e) l)) tells)
@@ -184,7 +200,8 @@ same_fault : (list other : ℕ) (fault one : LookFault) → Some (refusal.Look l
 same_fault list other fault one e = cc
 
 -- the refusal of a turn is that of its look
-refusal_is : (q r : Inquiry) (answer : Look) (list : ℕ) (what : FailKind) → Answers q r answer → r.refusal ≡ Some (refusal.Look list (refusal_of what)) → answer ≡ look.Fault (refusal_of what)
+refusal_is : (q r : Inquiry) (answer : Look) (list : ℕ) (what : FailKind) → Answers q r answer → r.refusal ≡ Some (refusal.Look list (refusal_of what))
+    → answer ≡ look.Fault (refusal_of what)
 refusal_is q r (look.Row row) list what answers e = absurd (subst (RowTaken row q r) e answers)
 refusal_is q r (look.Grade grade) list what answers e = absurd (none_not_some (sym answers.0 ∙ e))
 refusal_is q r look.NotYet list what answers e = absurd (none_not_some (sym answers.0 ∙ e))
@@ -194,6 +211,7 @@ refusal_is q r (look.Fault fault) list what answers e = ap look.Fault (same_faul
 record Turning (first : WorldState) (steps : List Step) (w v : WorldState) (query : ℕ) : Type 0 where
   ran : Runs first steps w
   world : IsWorld w
+  may : MayStep w (Turn query)
   turn : TakesTurn query w v
   going : Rattle.query_world.specs.Worlds.is_ended turn.q ≡ false
   served : IsServed w.states turn.q
@@ -204,7 +222,8 @@ over_none : (waiting left : Waiting) (n : Need) → left ≡ record waiting { ne
 over_none waiting left n over e = none_not_some (sym (ap (λ (w : Waiting). w.need) over) ∙ e)
 
 -- it waits for a need after the turn
-turn_waits : (first : WorldState) (steps : List Step) (w v : WorldState) (query : ℕ) (t : Turning first steps w v query) (n : Need) (answer : Look) → Looks (needed t.turn.q) (state_at w.states (source_needed t.turn.q)) t.turn.turns.state t.turn.q.waiting t.turn.r.waiting answer
+turn_waits : (first : WorldState) (steps : List Step) (w v : WorldState) (query : ℕ) (t : Turning first steps w v query) (n : Need) (answer : Look)
+    → Looks (needed t.turn.q) (state_at w.states (source_needed t.turn.q)) t.turn.turns.state t.turn.q.waiting t.turn.r.waiting answer
     → Answers t.turn.q t.turn.r answer → t.turn.r.waiting.need ≡ Some n → Waits first (steps ++ Turn query ∷ []) v query t.turn.r n
 turn_waits first steps w v query t n (look.Row row) looks answers e = absurd (over_none t.turn.q.waiting t.turn.r.waiting n looks.ends.over e)
 turn_waits first steps w v query t n (look.Grade grade) looks answers e = absurd (over_none t.turn.q.waiting t.turn.r.waiting n looks.ends.over e)
@@ -230,7 +249,7 @@ turn_waits first steps w v query t n look.NotYet looks answers e =
 
     goes_on : t.turn.r.waiting ≡ t.turn.q.waiting → Waits first (steps ++ Turn query ∷ []) v query t.turn.r n
     goes_on same =
-        let had = waits_longer first steps w v query q n (Turn query) (same_tally (state_at w.states (source_needed q)) (state_at v.states (source_needed q)) (Turn query) (source_needed q) tally)
+        let had = waits_longer first steps w v query q n (Turn query) t.may t.turn (same_tally (state_at w.states (source_needed q)) (state_at v.states (source_needed q)) (Turn query) (source_needed q) tally)
         (t.known.waits n (sym (ap (λ (x : Waiting). x.need) same) ∙ e)) in
         record {
           earlier = had.earlier;
@@ -240,6 +259,7 @@ turn_waits first steps w v query t n look.NotYet looks answers e =
           after = had.after;
           ran = had.ran;
           begins = had.begins;
+          goes = had.goes;
           since = λ what. subst (λ s. (HasFailed what r.waiting.noted (state_at v.states s).tally → ⊥) ⊎ Contains had.later (Fail s what)) (sym source)
               (subst (λ (x : Waiting). (HasFailed what x.noted (state_at v.states (source_needed q)).tally → ⊥) ⊎ Contains had.later (Fail (source_needed q) what)) (sym same) (had.since what));
         }
@@ -252,9 +272,11 @@ turn_waits first steps w v query t n look.NotYet looks answers e =
         self kind.Garbled now h = omega (arith, h)
         self kind.Memory now h = omega (arith, h)
 
-    begun : waits_for t.turn.q.waiting.need (needed t.turn.q) ≡ false → t.turn.r.waiting ≡ record { need = Some (needed t.turn.q); noted = t.turn.turns.state.tally } → Waits first (steps ++ Turn query ∷ []) v query t.turn.r n
+    begun : waits_for t.turn.q.waiting.need (needed t.turn.q) ≡ false
+        → t.turn.r.waiting ≡ record { need = Some (needed t.turn.q); noted = t.turn.turns.state.tally }
+        → Waits first (steps ++ Turn query ∷ []) v query t.turn.r n
     begun fresh notes =
-        let is : needed q ≡ n = some_same (sym (ap (λ (x : Waiting). x.need) notes) ∙ e) in
+        let is : needed q ≡ n = same_Some _ _ (sym (ap (λ (x : Waiting). x.need) notes) ∙ e) in
         let noted : r.waiting.noted ≡ (state_at v.states (source_needed r)).tally = ap (λ (x : Waiting). x.noted) notes ∙ ap (λ (s : State). s.tally) (sym t.later) ∙ ap (λ s. (state_at v.states s).tally) (sym source) in
         record {
           earlier = steps;
@@ -264,11 +286,13 @@ turn_waits first steps w v query t n look.NotYet looks answers e =
           after = v;
           ran = t.ran;
           begins = record { turn = t.turn; needs = is; fresh = subst (λ m. waits_for q.waiting.need m ≡ false) is fresh; waits = e };
+          goes = refl;
           since = λ what. inl (never what r.waiting.noted (state_at v.states (source_needed r)).tally noted);
         }
 
 -- it is refused by the turn for a fail
-turn_refused : (first : WorldState) (steps : List Step) (w v : WorldState) (query : ℕ) (t : Turning first steps w v query) (list : ℕ) (what : FailKind) → t.turn.r.refusal ≡ Some (refusal.Look list (refusal_of what)) → IsToldOfFail first (steps ++ Turn query ∷ []) query what
+turn_refused : (first : WorldState) (steps : List Step) (w v : WorldState) (query : ℕ) (t : Turning first steps w v query) (list : ℕ) (what : FailKind)
+    → t.turn.r.refusal ≡ Some (refusal.Look list (refusal_of what)) → IsToldOfFail first (steps ++ Turn query ∷ []) v query list what
 turn_refused first steps w v query t list what e =
     let q = t.turn.q in
     let s = state_at w.states (source_needed q) in
@@ -284,10 +308,12 @@ turn_refused first steps w v query t list what e =
       rest = [];
       order = refl;
       before = w;
+      after = v;
       ran = t.ran;
-      q = q;
-      is = t.turn.is;
+      turn = t.turn;
+      goes = refl;
       unrefused = (open_parts q t.going).0;
+      refused = e;
       since = record {
         earlier = h.earlier;
         later = h.later;
@@ -296,6 +322,7 @@ turn_refused first steps w v query t list what e =
         after = h.after;
         ran = h.ran;
         begins = h.begins;
+        goes = h.goes;
         fails = elim (h.since what) [ inl none ↦ absurd (none failed) | inr c ↦ c ];
       };
     }
@@ -314,16 +341,17 @@ get_set_other (x ∷ xs) (suc i) zero y apart = refl
 get_set_other (x ∷ xs) (suc i) (suc j) y apart = get_set_other xs i j y (λ e. apart (ap suc e))
 
 -- a turn
-turn_known : (first : WorldState) (steps : List Step) (w v : WorldState) (query : ℕ) → Runs first steps w → IsWorld w → MayStep w (Turn query) → TakesTurn query w v → AllKnown first steps w → AllKnown first (steps ++ Turn query ∷ []) v
+turn_known : (first : WorldState) (steps : List Step) (w v : WorldState) (query : ℕ) → Runs first steps w → IsWorld w → MayStep w (Turn query)
+    → TakesTurn query w v → AllKnown first steps w → AllKnown first (steps ++ Turn query ∷ []) v
 turn_known first steps w v query ran world may turn h other x is =
     elim (eqb_tells other query) [
       | inl t ↦
           let here : slice_get v.queries query ≡ Some turn.r = ap (λ qs. slice_get qs query) turn.others ∙ get_set_same w.queries query turn.r (slice_get_in_range w.queries query turn.q turn.is) in
-          let same : turn.r ≡ x = some_same (sym here ∙ ap (slice_get v.queries) (sym t.1) ∙ is) in
+          let same : turn.r ≡ x = same_Some _ _ (sym here ∙ ap (slice_get v.queries) (sym t.1) ∙ is) in
           subst (λ n. Known first (steps ++ Turn query ∷ []) v n x) (sym t.1) (subst (Known first (steps ++ Turn query ∷ []) v query) same own)
       | inr f ↦
           let before : slice_get w.queries other ≡ Some x = sym (get_set_other w.queries query other turn.r f.1) ∙ ap (λ qs. slice_get qs other) (sym turn.others) ∙ is in
-          known_longer first steps w v other x (Turn query) (same_tally (state_at w.states (source_needed x)) (state_at v.states (source_needed x)) (Turn query) (source_needed x) (tally_at (source_needed x))) (h other x before)
+          known_longer first steps w v other x (Turn query) may turn (same_tally (state_at w.states (source_needed x)) (state_at v.states (source_needed x)) (Turn query) (source_needed x) (tally_at (source_needed x))) (h other x before)
     ]
   where
     done : Rattle.query_world.proofs.Serving.Turned w.states v.states turn.q turn.r
@@ -346,6 +374,7 @@ turn_known first steps w v query ran world may turn h other x is =
     turning = record {
       ran = ran;
       world = world;
+      may = may;
       turn = turn;
       going = open_query (slice_get w.queries query) turn.q turn.is may;
       served = member_of_all (IsServed w.states) w.queries turn.q world.queries (slice_get_contains w.queries query turn.q turn.is);
@@ -363,22 +392,20 @@ known_is : (first : WorldState) (steps : List Step) (v u : WorldState) → v ≡
 known_is first steps v u e h = subst (AllKnown first steps) (sym e) h
 
 -- any step
-step_known : (first : WorldState) (steps : List Step) (w v : WorldState) (step : Step) → Runs first steps w → IsWorld w → MayStep w step → Steps step w v → AllKnown first steps w → AllKnown first (steps ++ step ∷ []) v
+step_known : (first : WorldState) (steps : List Step) (w v : WorldState) (step : Step) → Runs first steps w → IsWorld w → MayStep w step → Steps step w v
+    → AllKnown first steps w → AllKnown first (steps ++ step ∷ []) v
 step_known first steps w v (Page source rows) ran world may does h =
-    known_is first _ v _ does (event_known first steps w source (event.Page rows) (Page source rows) may.0 (same_tally (state_at w.states source) (after (state_at w.states source) (event.Page rows)) (Page source rows) source (page_tally (state_at w.states source) rows)) h)
+    known_is first _ v _ does (event_known first steps w source (event.Page rows) (Page source rows) may.0 may refl (same_tally (state_at w.states source) (after (state_at w.states source) (event.Page rows)) (Page source rows) source (page_tally (state_at w.states source) rows)) h)
 step_known first steps w v (Grade source object grade) ran world may does h =
-    known_is first _ v _ does (event_known first steps w source (event.Grade object grade) (Grade source object grade) may.0 (same_tally (state_at w.states source) (after (state_at w.states source) (event.Grade object grade)) (Grade source object grade) source refl) h)
+    known_is first _ v _ does (event_known first steps w source (event.Grade object grade) (Grade source object grade) may.0 may refl (same_tally (state_at w.states source) (after (state_at w.states source) (event.Grade object grade)) (Grade source object grade) source refl) h)
 step_known first steps w v (Miss source object) ran world may does h =
-    known_is first _ v _ does (event_known first steps w source (event.Miss object) (Miss source object) may.0 (same_tally (state_at w.states source) (after (state_at w.states source) (event.Miss object)) (Miss source object) source refl) h)
+    known_is first _ v _ does (event_known first steps w source (event.Miss object) (Miss source object) may.0 may refl (same_tally (state_at w.states source) (after (state_at w.states source) (event.Miss object)) (Miss source object) source refl) h)
 step_known first steps w v (Fail source what) ran world may does h =
-    known_is first _ v _ does (event_known first steps w source (event.Fail what) (Fail source what) may.0 (fail_tells (state_at w.states source) source what) h)
+    known_is first _ v _ does (event_known first steps w source (event.Fail what) (Fail source what) may.0 may refl (fail_tells (state_at w.states source) source what) h)
 step_known first steps w v (Turn query) ran world may does h = turn_known first steps w v query ran world may does h
 
-runs_push : (w v : WorldState) (first : WorldState) (steps : List Step) (step : Step) → Runs first steps w → MayStep w step → Steps step w v → Runs first (steps ++ step ∷ []) v
-runs_push w v first [] step ran may does = (v, subst (λ u. MayStep u step) ran may, subst (λ u. Steps step u v) ran does, refl)
-runs_push w v first (one ∷ steps) step ran may does = (ran.0, ran.1, ran.2, runs_push w v ran.0 steps step ran.3 may does)
-
-runs_known : (first : WorldState) (front steps : List Step) (w last : WorldState) → Runs first front w → IsWorld w → AllKnown first front w → Runs w steps last → AllKnown first (front ++ steps) last
+runs_known : (first : WorldState) (front steps : List Step) (w last : WorldState) → Runs first front w → IsWorld w → AllKnown first front w → Runs w steps last
+    → AllKnown first (front ++ steps) last
 runs_known first front [] w last ran world h runs = subst (λ xs. AllKnown first xs last) (sym (append-nil front)) (known_is first front last w runs h)
 runs_known first front (step ∷ steps) w last ran world h runs =
     subst (λ xs. AllKnown first xs last) (append_assoc front (step ∷ []) steps)
@@ -394,7 +421,8 @@ none_known counts readies w made query q is =
       refused = λ list what e. absurd (none_not_some (sym fresh.refusal ∙ e));
     }
 
-pub fails_told : (counts : List ℕ) (readies : List Ready) (first : WorldState) (steps : List Step) (last : WorldState) → IsWorld first → IsMade counts readies first → Runs first steps last
-    → (query : ℕ) (q : Inquiry) (list : ℕ) (what : FailKind) → slice_get last.queries query ≡ Some q → q.refusal ≡ Some (refusal.Look list (refusal_of what)) → IsToldOfFail first steps query what
+pub fails_told : (counts : List ℕ) (readies : List Ready) (first : WorldState) (steps : List Step) (last : WorldState) → IsWorld first
+    → IsMade counts readies first → Runs first steps last
+    → (query : ℕ) (q : Inquiry) (list : ℕ) (what : FailKind) → slice_get last.queries query ≡ Some q → q.refusal ≡ Some (refusal.Look list (refusal_of what)) → IsToldOfFail first steps last query list what
 fails_told counts readies first steps last world made runs query q list what is e =
     (runs_known first [] steps first last refl world (none_known counts readies first made) runs query q is).refused list what e

@@ -39,18 +39,19 @@ use Rattle.query_world.specs.declared.inquiry.Inquiry.{Inquiry}
 use Rattle.query_world.specs.declared.step.Step.{Step}
 use Rattle.query_world.specs.declared.step.Step.TheVariants.{Page, Grade, Miss, Fail, Turn}
 use Rattle.query_world.specs.Worlds.{WorldState, state_at, told_to, needed, list_needed, source_of, source_needed, is_done, is_ended}
-use Rattle.query_world.specs.Causes.{RowLacksRoom, IsAtFault, IsMissed, AreAsksFull, IsOfList, IsCause, CanNotBeHad}
+use Rattle.query_world.specs.Causes.{RowLacksRoom, IsAtFault, IsMissed, AreAsksFull, IsCause, CanNotBeHad}
 use Rattle.query_world.specs.Steps.{with_event, MayComeTo, IsOpen, MayStep, TakesTurn, Steps}
 use Rattle.query_world.specs.Kept.{IsSourceOf, IsServed, IsWorld}
 use Rattle.query_world.specs.Made.{opened_from, IsMade}
 use Rattle.query_world.specs.Honest.{IsHonest, lists_of, HasTable, IsGradeOf, IsTrueOf, IsTrueFor, IsTrueWorld, MayRefuse, IsOnItsRun}
 use Rattle.query_world.specs.Runs.{RunsHonestly}
-use Rattle.query_world.proofs.Serving.{sound_at, state_set, state_other, rows_told, known_told, source_at, listed, source_there, open_parts}
+use Rattle.query_world.proofs.Serving.{sound_at, state_set, state_other, rows_told, known_told, source_at, listed, source_there, open_parts, of_some_list}
 use Rattle.query_world.proofs.Stepping.{opened_member, stepped, turn_of}
 use Rattle.query_world.proofs.TrueLists.{IsHonestEvent, true_after, IsOfObject, true_looked}
 
 -- the list of a query, by the number of its source
-pub list_is : (lists : List (List Row)) (sources : List ℕ) (list : ℕ) → list < length sources → list_at (map (list_at lists) sources) list ≡ list_at lists (slice_index_or sources list 0)
+pub list_is : (lists : List (List Row)) (sources : List ℕ) (list : ℕ) → list < length sources
+    → list_at (map (list_at lists) sources) list ≡ list_at lists (slice_index_or sources list 0)
 list_is lists [] list l = absurd (omega (arith, l))
 list_is lists (source ∷ sources) zero l = refl
 list_is lists (source ∷ sources) (suc list) l = list_is lists sources list (omega (arith, l))
@@ -59,7 +60,8 @@ source_ranked : (lists : List (List Row)) (q : Inquiry) (source : ℕ) → HasTa
 source_ranked lists q source table c = member_of_all IsRanked (lists_of lists q) (list_at lists source) table.ranked (contains_map (list_at lists) q.sources.items source c)
 
 -- the state of one source changed
-true_set : (lists : List (List Row)) (states : List State) (q r : Inquiry) (source : ℕ) (u : State) → source < length states → r.sources.items ≡ q.sources.items → (state_of r.machine).log.count ≡ (state_of q.machine).log.count
+true_set : (lists : List (List Row)) (states : List State) (q r : Inquiry) (source : ℕ) (u : State) → source < length states
+    → r.sources.items ≡ q.sources.items → (state_of r.machine).log.count ≡ (state_of q.machine).log.count
     → (Contains q.sources.items source → IsTrueOf (list_at lists source) u) → IsTrueFor lists states q → IsTrueFor lists (slice_set states source u) r
 true_set lists states q r source u l same count changed h = record {
   table = subst (λ n. IsTable n (lists_of lists r)) (sym count) (subst (λ sources. IsTable (state_of q.machine).log.count (map (list_at lists) sources)) (sym same) h.table);
@@ -73,7 +75,8 @@ true_set lists states q r source u l same count changed h = record {
 }
 
 -- an honest event
-true_event : (lists : List (List Row)) (w : WorldState) (source : ℕ) (e : Event) → MayComeTo w.states source e → IsHonestEvent (list_at lists source) (state_at w.states source) e → IsTrueWorld lists w → All (IsTrueFor lists (with_event w.states source e)) w.queries
+true_event : (lists : List (List Row)) (w : WorldState) (source : ℕ) (e : Event) → MayComeTo w.states source e
+    → IsHonestEvent (list_at lists source) (state_at w.states source) e → IsTrueWorld lists w → All (IsTrueFor lists (with_event w.states source e)) w.queries
 true_event lists w source e may honest h =
     all_from_members (IsTrueFor lists (with_event w.states source e)) w.queries
     (λ q c.
@@ -84,7 +87,8 @@ true_event lists w source e may honest h =
     is)
 
 -- the lists of a query agree with its transcript
-pub true_agrees : (lists : List (List Row)) (states : List State) (q : Inquiry) → All IsSound states → IsServed states q → IsTrueFor lists states q → AgreesWith (lists_of lists q) (state_of q.machine).log
+pub true_agrees : (lists : List (List Row)) (states : List State) (q : Inquiry) → All IsSound states → IsServed states q → IsTrueFor lists states q
+    → AgreesWith (lists_of lists q) (state_of q.machine).log
 true_agrees lists states q sound h is = record {
   lists = length-map q.sources.items (list_at lists) ∙ h.sources.many;
   table = is.table;
@@ -128,7 +132,8 @@ true_agrees lists states q sound h is = record {
     grows = record { rows = front; known = known }
 
 -- the object of a needed grade stands in the list
-need_of_object : (lists : List (List Row)) (states : List State) (q : Inquiry) (n : Need) → All IsSound states → IsServed states q → IsTrueFor lists states q → needed q ≡ n → is_done n ≡ false → IsOfObject (list_at lists (source_of q (list_needed n))) n
+need_of_object : (lists : List (List Row)) (states : List State) (q : Inquiry) (n : Need) → All IsSound states → IsServed states q → IsTrueFor lists states q
+    → needed q ≡ n → is_done n ≡ false → IsOfObject (list_at lists (source_of q (list_needed n))) n
 need_of_object lists states q (need.Row list depth) sound h is e going = tt
 need_of_object lists states q (need.Grade list object) sound h is e going =
     let D = lists_of lists q in
@@ -140,7 +145,8 @@ need_of_object lists states q (need.Grade list object) sound h is e going =
 need_of_object lists states q need.Done sound h is e going = absurd (cc)
 
 -- an honest turn
-true_turn : (lists : List (List Row)) (query : ℕ) (w after : WorldState) → IsWorld w → IsOpen (slice_get w.queries query) → TakesTurn query w after → IsTrueWorld lists w → IsTrueWorld lists after
+true_turn : (lists : List (List Row)) (query : ℕ) (w after : WorldState) → IsWorld w → IsOpen (slice_get w.queries query) → TakesTurn query w after
+    → IsTrueWorld lists w → IsTrueWorld lists after
 true_turn lists query w after h going t is =
     let done = turn_of query w after h going t in
     let q = t.q in
@@ -167,7 +173,8 @@ true_turn lists query w after h going t is =
 true_is : (lists : List (List Row)) (after other : WorldState) → after ≡ other → IsTrueWorld lists other → IsTrueWorld lists after
 true_is lists after other e h = subst (IsTrueWorld lists) (sym e) h
 
-pub true_step : (lists : List (List Row)) (step : Step) (w after : WorldState) → IsWorld w → MayStep w step → Steps step w after → IsHonest lists w step → IsTrueWorld lists w → IsTrueWorld lists after
+pub true_step : (lists : List (List Row)) (step : Step) (w after : WorldState) → IsWorld w → MayStep w step → Steps step w after → IsHonest lists w step
+    → IsTrueWorld lists w → IsTrueWorld lists after
 true_step lists (Page source rows) w after h may steps honest is = true_is lists after _ steps (true_event lists w source (event.Page rows) may honest is)
 true_step lists (Grade source object grade) w after h may steps honest is = true_is lists after _ steps (true_event lists w source (event.Grade object grade) may honest is)
 true_step lists (Miss source object) w after h may steps honest is = absurd honest
@@ -175,7 +182,8 @@ true_step lists (Fail source what) w after h may steps honest is = true_is lists
 true_step lists (Turn query) w after h may steps honest is = true_turn lists query w after h may steps is
 
 -- a query over its own table
-row_lacks : (s : State) (t : MachineState) (n : Need) (object : ℕ) → RowLacksRoom s t n object → (list : ℕ) × (depth : ℕ) × (n ≡ need.Row list depth) × (row : Row) × (slice_get (rows_in s.log) (depth - 1) ≡ Some row) × (¬ HasRoomFor t row.object)
+row_lacks : (s : State) (t : MachineState) (n : Need) (object : ℕ) → RowLacksRoom s t n object
+    → (list : ℕ) × (depth : ℕ) × (n ≡ need.Row list depth) × (row : Row) × (slice_get (rows_in s.log) (depth - 1) ≡ Some row) × (¬ HasRoomFor t row.object)
 row_lacks s t (need.Row list depth) object h = (list, depth, refl, h.0, h.1, subst (λ o. ¬ HasRoomFor t o) (sym h.2) h.3)
 row_lacks s t (need.Grade list named) object h = absurd h
 row_lacks s t need.Done object h = absurd h
@@ -190,7 +198,8 @@ record LacksOn (D : List (List Row)) (q : Inquiry) : Type 0 where
   found : slice_get (list_at D list) (depth - 1) ≡ Some row
   full : ¬ HasRoomFor (state_of q.machine) row.object
 
-lacks_on : (lists : List (List Row)) (states : List State) (q : Inquiry) (object : ℕ) → All IsSound states → IsServed states q → IsTrueFor lists states q → RowLacksRoom (state_at states (source_needed q)) (state_of q.machine) (needed q) object → LacksOn (lists_of lists q) q
+lacks_on : (lists : List (List Row)) (states : List State) (q : Inquiry) (object : ℕ) → All IsSound states → IsServed states q → IsTrueFor lists states q
+    → RowLacksRoom (state_at states (source_needed q)) (state_of q.machine) (needed q) object → LacksOn (lists_of lists q) q
 lacks_on lists states q object sound h is lacks =
     let t = state_of q.machine in
     let D = lists_of lists q in
@@ -227,7 +236,8 @@ none_missed list s (need.Grade l named) object h at = no_miss list object (h.set
 none_missed list s need.Done object h at = at
 
 -- there is always room for the ask of an object of the list
-none_full : (list : List Row) (s : State) (n : Need) (kept : ℕ) → IsRanked list → length list ≡ s.count → IsSound s → IsTrueOf list s → IsOfObject list n → AreAsksFull s n kept → ⊥
+none_full : (list : List Row) (s : State) (n : Need) (kept : ℕ) → IsRanked list → length list ≡ s.count → IsSound s → IsTrueOf list s → IsOfObject list n
+    → AreAsksFull s n kept → ⊥
 none_full list s (need.Row l depth) kept ranked long sound h of full = full
 none_full list s (need.Grade l object) kept ranked long sound h of full =
     let more : AllPairs (λ (x : ℕ) (y : ℕ). x ≡ y → ⊥) (s.asks ++ object ∷ []) =
@@ -240,11 +250,6 @@ none_full list s (need.Grade l object) kept ranked long sound h of full =
     omega (arith, fits, length-append s.asks (object ∷ []), length-map list (λ (row : Row). row.object), long, all)
 none_full list s need.Done kept ranked long sound h of full = full
 
-of_list_open : (list : ℕ) (n : Need) → IsOfList list n → is_done n ≡ false
-of_list_open list (need.Row other depth) h = refl
-of_list_open list (need.Grade other object) h = refl
-of_list_open list need.Done h = absurd h
-
 -- what is known of the source of a need
 pub record NeedsTrue (lists : List (List Row)) (states : List State) (q : Inquiry) : Type 0 where
   pub is : IsTrueOf (list_at lists (source_needed q)) (state_at states (source_needed q))
@@ -253,7 +258,8 @@ pub record NeedsTrue (lists : List (List Row)) (states : List State) (q : Inquir
   pub long : length (list_at lists (source_needed q)) ≡ (state_at states (source_needed q)).count
   pub of : IsOfObject (list_at lists (source_needed q)) (needed q)
 
-needs_true : (lists : List (List Row)) (states : List State) (q : Inquiry) → All IsSound states → IsServed states q → IsTrueFor lists states q → is_done (needed q) ≡ false → NeedsTrue lists states q
+needs_true : (lists : List (List Row)) (states : List State) (q : Inquiry) → All IsSound states → IsServed states q → IsTrueFor lists states q
+    → is_done (needed q) ≡ false → NeedsTrue lists states q
 needs_true lists states q sound h is going =
     let list = list_needed (needed q) in
     let l : list < length q.sources.items = listed states q h.sources h.run going in
@@ -269,7 +275,8 @@ needs_true lists states q sound h is going =
       of = need_of_object lists states q (needed q) sound h is refl going;
     }
 
-may_refuse_look : (lists : List (List Row)) (states : List State) (q : Inquiry) (list : ℕ) (fault : LookFault) → NeedsTrue lists states q → CanNotBeHad (state_at states (source_needed q)) (needed q) q.waiting.noted fault → MayRefuse (lists_of lists q) q (Some (refusal.Look list fault))
+may_refuse_look : (lists : List (List Row)) (states : List State) (q : Inquiry) (list : ℕ) (fault : LookFault) → NeedsTrue lists states q
+    → CanNotBeHad (state_at states (source_needed q)) (needed q) q.waiting.noted fault → MayRefuse (lists_of lists q) q (Some (refusal.Look list fault))
 may_refuse_look lists states q list (why.Source fault) t had = no_fault (list_at lists (source_needed q)) (state_at states (source_needed q)) (needed q) fault t.is had
 may_refuse_look lists states q list (why.Missing object) t had = none_missed (list_at lists (source_needed q)) (state_at states (source_needed q)) (needed q) object t.is had
 may_refuse_look lists states q list (why.AsksFull kept) t had = none_full (list_at lists (source_needed q)) (state_at states (source_needed q)) (needed q) kept t.ranked t.long t.sound t.is t.of had
@@ -277,7 +284,8 @@ may_refuse_look lists states q list why.Failed t had = tt
 may_refuse_look lists states q list why.Garbled t had = tt
 may_refuse_look lists states q list why.Memory t had = tt
 
-may_refuse : (lists : List (List Row)) (states : List State) (q : Inquiry) (refused : Option Refusal) → All IsSound states → IsServed states q → IsTrueFor lists states q → IsCause (state_at states (source_needed q)) (state_of q.machine) q.waiting.noted refused
+may_refuse : (lists : List (List Row)) (states : List State) (q : Inquiry) (refused : Option Refusal) → All IsSound states → IsServed states q
+    → IsTrueFor lists states q → IsCause (state_at states (source_needed q)) (state_of q.machine) q.waiting.noted refused
     → MayRefuse (lists_of lists q) q refused
 may_refuse lists states q None sound h is cause = tt
 may_refuse lists states q (Some (refusal.Core (Strangers object count))) sound h is cause =
@@ -288,10 +296,12 @@ may_refuse lists states q (Some (refusal.Core (RoomFull room))) sound h is cause
     let stops = room_stops (algorithm_of q.machine) (lists_of lists q) (state_of q.machine) on.list on.depth on.row room on.can h.run on.needs on.found on.full cause.1 cause.2 in
     (stops.1, stops.2)
 may_refuse lists states q (Some (refusal.Look list fault)) sound h is cause =
-    may_refuse_look lists states q list fault (needs_true lists states q sound h is (of_list_open list (needed q) cause.0)) cause.1
+    may_refuse_look lists states q list fault (needs_true lists states q sound h is (of_some_list list (needed q) cause.0)) cause.1
 
-pub on_its_run : (lists : List (List Row)) (states : List State) (q : Inquiry) → All IsSound states → IsServed states q → IsTrueFor lists states q → IsOnItsRun lists q
+pub on_its_run : (lists : List (List Row)) (states : List State) (q : Inquiry) → All IsSound states → IsServed states q → IsTrueFor lists states q
+    → IsOnItsRun lists q
 on_its_run lists states q sound h is = record {
+  agrees = true_agrees lists states q sound h is;
   begins = (h.run.on_run (lists_of lists q) (true_agrees lists states q sound h is)).begins;
   refused = may_refuse lists states q q.refusal sound h is h.cause;
 }
@@ -310,7 +320,8 @@ opened_true list number count = record {
   asked = λ object c. absurd (contains_nil object c);
 }
 
-pub made_true : (lists : List (List Row)) (counts : List ℕ) (readies : List Ready) (w : WorldState) → IsWorld w → IsMade counts readies w → All (HasTable lists) w.queries → IsTrueWorld lists w
+pub made_true : (lists : List (List Row)) (counts : List ℕ) (readies : List Ready) (w : WorldState) → IsWorld w → IsMade counts readies w
+    → All (HasTable lists) w.queries → IsTrueWorld lists w
 made_true lists counts readies w h made tables =
     all_from_members (IsTrueFor lists w.states) w.queries
     (λ q c.
@@ -325,7 +336,8 @@ made_true lists counts readies w h made tables =
           subst (IsTrueOf (list_at lists source)) is.3 (opened_true (list_at lists source) is.0 is.1));
     })
 
-pub ran_honestly : (lists : List (List Row)) (steps : List Step) (w last : WorldState) → IsWorld w → IsTrueWorld lists w → RunsHonestly lists w steps last → All (IsOnItsRun lists) last.queries
+pub ran_honestly : (lists : List (List Row)) (steps : List Step) (w last : WorldState) → IsWorld w → IsTrueWorld lists w → RunsHonestly lists w steps last
+    → All (IsOnItsRun lists) last.queries
 ran_honestly lists [] w last h is runs = subst (λ (v : WorldState). All (IsOnItsRun lists) v.queries) (sym runs) (all_on_run lists w h is)
 ran_honestly lists (step ∷ steps) w last h is runs =
     ran_honestly lists steps runs.0 last (stepped step w runs.0 h runs.1 runs.3).world (true_step lists step w runs.0 h runs.1 runs.3 runs.2 is) runs.4

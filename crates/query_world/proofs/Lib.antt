@@ -1,12 +1,13 @@
 -- Lemmas on worlds.
-mod Asking
-mod Events
-mod Causes
-mod Serving
-mod Stepping
-mod TrueLists
-mod Honest
+pub mod Asking
+pub mod Events
+pub mod Causes
+pub mod Serving
+mod Reading
+pub mod Stepping
+pub mod TrueLists
+pub mod Honest
 mod Ending
-mod Making
+pub mod Making
 mod Turning
 mod Fails

@@ -42,11 +42,13 @@ opened_length first [] = refl
 opened_length first (count ∷ counts) = let rest = opened_length (first + 1) counts in omega (arith, rest)
 
 -- how many sources are opened so far
-pub opened_so_far : (states : List State) (counts : List ℕ) (place : ℕ) → place ≤ length counts → states ≡ opened_from 0 (take place counts) → length states ≡ place
+pub opened_so_far : (states : List State) (counts : List ℕ) (place : ℕ) → place ≤ length counts → states ≡ opened_from 0 (take place counts)
+    → length states ≡ place
 opened_so_far states counts place l e = ap (length {A = State}) e ∙ opened_length 0 (take place counts) ∙ take_long counts place l
 
 -- one more source
-pub opened_more : (states more : List State) (counts : List ℕ) (place count : ℕ) → place < length counts → count ≡ slice_index_or counts place 0 → states ≡ opened_from 0 (take place counts) → more ≡ states ++ opened (length states) count ∷ []
+pub opened_more : (states more : List State) (counts : List ℕ) (place count : ℕ) → place < length counts → count ≡ slice_index_or counts place 0
+    → states ≡ opened_from 0 (take place counts) → more ≡ states ++ opened (length states) count ∷ []
     → more ≡ opened_from 0 (take (place + 1) counts)
 opened_more states more counts place count l is e next =
     let long : length states ≡ place = opened_so_far states counts place (omega arith) e in
@@ -57,7 +59,8 @@ opened_more states more counts place count l is e next =
     ∙ ap (λ f. opened_from 0 (take place counts) ++ opened f (slice_index_or counts place 0) ∷ []) (sym at) ∙ sym from
 
 -- a pair of fronts with one more member each
-pub zipped_more : {A B : Type 0} (R : A → B → Type 0) (xs : List A) (ys : List B) (place : ℕ) (x : A) (y : B) → place < length xs → x ≡ slice_index_or xs place x → AllZip R (take place xs) ys → R x y → AllZip R (take (place + 1) xs) (ys ++ y ∷ [])
+pub zipped_more : {A B : Type 0} (R : A → B → Type 0) (xs : List A) (ys : List B) (place : ℕ) (x : A) (y : B) → place < length xs
+    → x ≡ slice_index_or xs place x → AllZip R (take place xs) ys → R x y → AllZip R (take (place + 1) xs) (ys ++ y ∷ [])
 zipped_more R xs ys place x y l is h one =
     subst (λ front. AllZip R front (ys ++ y ∷ [])) (sym (take_more xs place x l ∙ ap (λ z. take place xs ++ z ∷ []) (sym is))) (all_zipped_more R (take place xs) ys x y h one)
 
@@ -80,10 +83,12 @@ ends_begin queries left endings e none = record {
   ends = subst (AllZip EndsAs []) (sym none) tt;
 }
 
-next_splits : (queries front left rest : List Inquiry) (query : Inquiry) → queries ≡ front ++ reverse left → left ≡ rest ++ query ∷ [] → queries ≡ front ++ query ∷ reverse rest
+next_splits : (queries front left rest : List Inquiry) (query : Inquiry) → queries ≡ front ++ reverse left → left ≡ rest ++ query ∷ []
+    → queries ≡ front ++ query ∷ reverse rest
 next_splits queries front left rest query e popped = e ∙ ap (λ xs. front ++ reverse xs) popped ∙ ap (λ xs. front ++ xs) (reverse-append rest (query ∷ []))
 
-pub ends_more : (queries left rest : List Inquiry) (query : Inquiry) (endings more : List Ended) (ended : Ended) → EndsSoFar queries left endings → left ≡ rest ++ query ∷ [] → EndsAs query ended → more ≡ endings ++ ended ∷ [] → EndsSoFar queries rest more
+pub ends_more : (queries left rest : List Inquiry) (query : Inquiry) (endings more : List Ended) (ended : Ended) → EndsSoFar queries left endings
+    → left ≡ rest ++ query ∷ [] → EndsAs query ended → more ≡ endings ++ ended ∷ [] → EndsSoFar queries rest more
 ends_more queries left rest query endings more ended h popped ends next = record {
   front = h.front ++ query ∷ [];
   splits = next_splits queries h.front left rest query h.splits popped ∙ sym (append_assoc h.front (query ∷ []) (reverse rest));
@@ -93,6 +98,7 @@ ends_more queries left rest query endings more ended h popped ends next = record
 pub ends_whole : (queries left : List Inquiry) (endings : List Ended) → EndsSoFar queries left endings → left ≡ [] → AllZip EndsAs queries endings
 ends_whole queries left endings h none = subst (λ xs. AllZip EndsAs xs endings) (sym (h.splits ∙ ap (λ xs. h.front ++ reverse xs) none ∙ append-nil h.front)) h.ends
 
-pub next_ended : (queries left rest : List Inquiry) (query : Inquiry) (endings : List Ended) → All (λ (q : Inquiry). is_ended q ≡ true) queries → EndsSoFar queries left endings → left ≡ rest ++ query ∷ [] → is_ended query ≡ true
+pub next_ended : (queries left rest : List Inquiry) (query : Inquiry) (endings : List Ended) → All (λ (q : Inquiry). is_ended q ≡ true) queries
+    → EndsSoFar queries left endings → left ≡ rest ++ query ∷ [] → is_ended query ≡ true
 next_ended queries left rest query endings all h popped =
     member_of_all (λ (q : Inquiry). is_ended q ≡ true) queries query all (subst (λ xs. Contains xs query) (sym (next_splits queries h.front left rest query h.splits popped)) (contains_middle h.front query (reverse rest)))

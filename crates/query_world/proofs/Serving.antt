@@ -1,11 +1,13 @@
 -- What a turn and what an event keep of a query.
-use Rattle.std.proofs.Common.{◌≡◌, ◌≢◌, ◌<◌, ◌-◌, ◌||◌, ◌⊎◌, inl, inr, ℕ, zero, suc, Bool, true, false, Option, Some, None, List, [], ◌∷◌, ◌++◌, length, map, is_some, slice_get, slice_index_or, All, Contains, refl, sym, ap, subst, ◌∙◌, arith}
+use Rattle.std.proofs.Common.{◌≡◌, ◌≢◌, ◌<◌, ◌-◌, ◌⊎◌, inl, inr, ℕ, zero, suc, false, Option, Some, None, List, [], ◌∷◌, ◌++◌, length, map, is_some, slice_get, slice_index_or, All, Contains, refl, sym, ap, subst, ◌∙◌, arith}
 use Rattle.std.specs.List.{slice_set}
+use Rattle.std.proofs.lemmas.Bool.{or_parts}
 use Rattle.std.proofs.lemmas.Bool.Decides.{eqb_tells}
 use Rattle.std.proofs.lemmas.List.{get_or-set_same, get_or-set_other, length-set}
 use Rattle.ranked_list.specs.declared.row.Row.{Row}
 use Rattle.ranked_list.specs.declared.need.Need.{Need}
 use Rattle.ranked_list.specs.declared.need.Need.TheVariants as need
+use Rattle.ranked_list.proofs.OptionLaws.{none_unless_some}
 use Rattle.topk_theory.specs.declared.access.Access.TheVariants.{Sorted, Random}
 use Rattle.topk_theory.specs.Transcript.{Told, Grows, Gives, list_at, depth_of, named_objects, seen_objects}
 use Rattle.topk_theory.specs.Consistent.{IsOfKind, too_many_objects}
@@ -64,7 +66,8 @@ later_same s sound = record { goes = goes_same s; fits = sound.fits }
 pub later_moved : (s u : State) → Moved s u → IsLater s u
 later_moved s u moved = record { goes = moved.goes; fits = moved.sound.fits }
 
-pub later_set : (states : List State) (source : ℕ) (u : State) → All IsSound states → source < length states → IsLater (state_at states source) u → AreLater states (slice_set states source u)
+pub later_set : (states : List State) (source : ℕ) (u : State) → All IsSound states → source < length states → IsLater (state_at states source) u
+    → AreLater states (slice_set states source u)
 later_set states source u sound l later = record {
   long = length-set states source u;
   each = λ other m. elim (eqb_tells other source) [
@@ -74,17 +77,21 @@ later_set states source u sound l later = record {
 }
 
 -- what the logs of a query's sources tell of a list
-pub rows_told : (states : List State) (sources : List ℕ) (list : ℕ) → list < length sources → list_at (map rows_in (logs_of states sources)) list ≡ rows_in (state_at states (slice_index_or sources list 0)).log
+pub rows_told : (states : List State) (sources : List ℕ) (list : ℕ) → list < length sources
+    → list_at (map rows_in (logs_of states sources)) list ≡ rows_in (state_at states (slice_index_or sources list 0)).log
 rows_told states [] list l = absurd (omega arith)
 rows_told states (source ∷ sources) zero l = refl
 rows_told states (source ∷ sources) (suc list) l = rows_told states sources list (omega arith)
 
-pub known_told : (states : List State) (sources : List ℕ) (list : ℕ) → list < length sources → list_at (map (λ log. rows_in log ++ graded_in log) (logs_of states sources)) list ≡ rows_in (state_at states (slice_index_or sources list 0)).log ++ graded_in (state_at states (slice_index_or sources list 0)).log
+pub known_told : (states : List State) (sources : List ℕ) (list : ℕ) → list < length sources
+    → list_at (map (λ log. rows_in log ++ graded_in log) (logs_of states sources)) list ≡ rows_in (state_at states (slice_index_or sources list 0)).log ++ graded_in (state_at states (slice_index_or sources list 0)).log
 known_told states [] list l = absurd (omega arith)
 known_told states (source ∷ sources) zero l = refl
 known_told states (source ∷ sources) (suc list) l = known_told states sources list (omega arith)
 
-told_grows : (states laters : List State) (sources : List ℕ) → AreLater states laters → ((list : ℕ) → list < length sources → slice_index_or sources list 0 < length states) → Grows (length sources) (told_by (logs_of states sources)) (told_by (logs_of laters sources))
+told_grows : (states laters : List State) (sources : List ℕ) → AreLater states laters
+    → ((list : ℕ) → list < length sources → slice_index_or sources list 0 < length states)
+    → Grows (length sources) (told_by (logs_of states sources)) (told_by (logs_of laters sources))
 told_grows states laters sources later within = record {
   rows = λ list l.
       let b = (later.each (slice_index_or sources list 0) (within list l)).goes.grows.log in
@@ -99,7 +106,8 @@ told_grows states laters sources later within = record {
 }
 
 -- the source of a list is there, and so is that of a need
-pub source_at : (states : List State) (q : Inquiry) (list : ℕ) → HasSources states q → list < length q.sources.items → IsSourceOf states (state_of q.machine).log.count (source_of q list)
+pub source_at : (states : List State) (q : Inquiry) (list : ℕ) → HasSources states q → list < length q.sources.items
+    → IsSourceOf states (state_of q.machine).log.count (source_of q list)
 source_at states q list h l = h.each list 0 l
 
 list_in_range : (t : MachineState) (n : Need) → IsInRange t.log n → is_done n ≡ false → list_needed n < t.log.lists
@@ -107,12 +115,14 @@ list_in_range t (need.Row list depth) range going = range.listed
 list_in_range t (need.Grade list object) range going = range
 list_in_range t need.Done range going = absurd (cc)
 
-pub listed : (states : List State) (q : Inquiry) → HasSources states q → MakesItsRun q.machine → is_done (needed q) ≡ false → list_needed (needed q) < length q.sources.items
+pub listed : (states : List State) (q : Inquiry) → HasSources states q → MakesItsRun q.machine → is_done (needed q) ≡ false
+    → list_needed (needed q) < length q.sources.items
 listed states q sources run going =
     let range = list_in_range (state_of q.machine) (needed q) (in_range (run_by (algorithm_of q.machine)) (state_of q.machine) run) going in
     omega (arith, range, sources.many)
 
-pub source_there : (states : List State) (q : Inquiry) → HasSources states q → MakesItsRun q.machine → is_done (needed q) ≡ false → IsSourceOf states (state_of q.machine).log.count (source_needed q)
+pub source_there : (states : List State) (q : Inquiry) → HasSources states q → MakesItsRun q.machine → is_done (needed q) ≡ false
+    → IsSourceOf states (state_of q.machine).log.count (source_needed q)
 source_there states q sources run going = source_at states q (list_needed (needed q)) sources (listed states q sources run going)
 
 -- a cause is of a need
@@ -121,12 +131,13 @@ lacks_some s t (need.Row list depth) object h = refl
 lacks_some s t (need.Grade list named) object h = refl
 lacks_some s t need.Done object h = absurd h
 
-of_some_list : (list : ℕ) (n : Need) → IsOfList list n → is_done n ≡ false
+pub of_some_list : (list : ℕ) (n : Need) → IsOfList list n → is_done n ≡ false
 of_some_list list (need.Row other depth) h = refl
 of_some_list list (need.Grade other object) h = refl
 of_some_list list need.Done h = absurd h
 
-cause_on : (states laters : List State) (q : Inquiry) (refused : Option Refusal) → AreLater states laters → (is_done (needed q) ≡ false → source_needed q < length states)
+cause_on : (states laters : List State) (q : Inquiry) (refused : Option Refusal) → AreLater states laters
+    → (is_done (needed q) ≡ false → source_needed q < length states)
     → IsCause (state_at states (source_needed q)) (state_of q.machine) q.waiting.noted refused → IsCause (state_at laters (source_needed q)) (state_of q.machine) q.waiting.noted refused
 cause_on states laters q None later there h = tt
 cause_on states laters q (Some (refusal.Core (Strangers object count))) later there h =
@@ -140,7 +151,8 @@ cause_on states laters q (Some (refusal.Look list fault)) later there h =
     (later.each (source_needed q) (there (of_some_list list (needed q) h.0))) h
 
 -- the sources of a query, with a machine that goes on
-sources_on : (states laters : List State) (q r : Inquiry) → AreLater states laters → HasSources states q → r.sources.items ≡ q.sources.items → Continues (state_of q.machine) (state_of r.machine) → HasSources laters r
+sources_on : (states laters : List State) (q r : Inquiry) → AreLater states laters → HasSources states q → r.sources.items ≡ q.sources.items
+    → Continues (state_of q.machine) (state_of r.machine) → HasSources laters r
 sources_on states laters q r later h same goes = record {
   many = ap (length {A = ℕ}) same ∙ h.many ∙ sym goes.lists;
   each = subst (All (IsSourceOf laters (state_of r.machine).log.count)) (sym same)
@@ -149,7 +161,9 @@ sources_on states laters q r later h same goes = record {
 }
 
 -- what a query was fed from goes on
-fed_on : (states laters : List State) (q r : Inquiry) → AreLater states laters → HasSources states q → r.sources.items ≡ q.sources.items → Continues (state_of q.machine) (state_of r.machine) → IsFedFrom (told_to states q) (state_of r.machine) → IsFedFrom (told_to laters r) (state_of r.machine)
+fed_on : (states laters : List State) (q r : Inquiry) → AreLater states laters → HasSources states q → r.sources.items ≡ q.sources.items
+    → Continues (state_of q.machine) (state_of r.machine) → IsFedFrom (told_to states q) (state_of r.machine)
+    → IsFedFrom (told_to laters r) (state_of r.machine)
 fed_on states laters q r later h same goes fed =
     let grows = told_grows states laters q.sources.items later (λ list l. (source_at states q list h l).0) in
     let many : length q.sources.items ≡ (state_of r.machine).log.lists = h.many ∙ sym goes.lists in
@@ -170,16 +184,9 @@ served_stays states laters q later h = record {
 }
 
 -- a query that hasn't ended isn't refused and needs something
-neither : (a b : Bool) → (a || b) ≡ false → (a ≡ false) × (b ≡ false)
-neither true b e = absurd (cc)
-neither false b e = (refl, e)
-
-unrefused : (o : Option Refusal) → is_some o ≡ false → o ≡ None
-unrefused None e = refl
-unrefused (Some r) e = absurd (cc)
 
 pub open_parts : (q : Inquiry) → is_ended q ≡ false → (q.refusal ≡ None) × (is_done (needed q) ≡ false)
-open_parts q e = let parts = neither (is_some q.refusal) (is_done (needed q)) e in (unrefused q.refusal parts.0, parts.1)
+open_parts q e = let parts = or_parts (is_some q.refusal) (is_done (needed q)) e in (none_unless_some q.refusal parts.0, parts.1)
 
 -- its need may be looked for
 may_look_for : (t : MachineState) (n : Need) (s : State) → IsInRange t.log n → is_done n ≡ false → s.count ≡ t.log.count → MayLook s n
@@ -202,7 +209,8 @@ logs_sound states q sound h =
     subst IsSomeSound from.2 (record { count = s.count; asks = s.asks; sound = (sound_at states from.0 sound is.0).log }))
 
 -- the row and the grade that are told of a need
-row_there : (states : List State) (q : Inquiry) (row : Row) → HasSources states q → MakesItsRun q.machine → (is : IsRowOf (state_at states (source_needed q)) (needed q) row) → slice_get (list_at (told_to states q).rows is.list) (is.depth - 1) ≡ Some row
+row_there : (states : List State) (q : Inquiry) (row : Row) → HasSources states q → MakesItsRun q.machine
+    → (is : IsRowOf (state_at states (source_needed q)) (needed q) row) → slice_get (list_at (told_to states q).rows is.list) (is.depth - 1) ≡ Some row
 row_there states q row h run is =
     let list = is.list in
     let going : is_done (needed q) ≡ false = ap is_done is.is in
@@ -210,7 +218,9 @@ row_there states q row h run is =
     let source : source_needed q ≡ source_of q list = ap (λ n. source_of q (list_needed n)) is.is in
     ap (λ (rows : List Row). slice_get rows (is.depth - 1)) (rows_told states q.sources.items list within ∙ ap (λ s. rows_in (state_at states s).log) (sym source)) ∙ is.there
 
-grade_there : (states : List State) (q : Inquiry) (grade : ℕ) → HasSources states q → MakesItsRun q.machine → (is : IsGradeAt (state_at states (source_needed q)) (needed q) grade) → Contains (list_at (told_to states q).known is.list) (record { object = is.object; grade = grade })
+grade_there : (states : List State) (q : Inquiry) (grade : ℕ) → HasSources states q → MakesItsRun q.machine
+    → (is : IsGradeAt (state_at states (source_needed q)) (needed q) grade)
+    → Contains (list_at (told_to states q).known is.list) (record { object = is.object; grade = grade })
 grade_there states q grade h run is =
     let list = is.list in
     let going : is_done (needed q) ≡ false = ap is_done is.is in
@@ -220,7 +230,8 @@ grade_there states q grade h run is =
     subst (λ rows. Contains rows row) (sym (known_told states q.sources.items list within)) (subst (λ s. Contains (rows_in (state_at states s).log ++ graded_in (state_at states s).log) row) source is.known)
 
 -- what a look answers may be fed
-row_may : (states : List State) (q : Inquiry) (row : Row) → All IsSound states → IsServed states q → IsRowOf (state_at states (source_needed q)) (needed q) row → MayBeNextRow (state_of q.machine).log (needed q) row
+row_may : (states : List State) (q : Inquiry) (row : Row) → All IsSound states → IsServed states q → IsRowOf (state_at states (source_needed q)) (needed q) row
+    → MayBeNextRow (state_of q.machine).log (needed q) row
 row_may states q row sound h is =
     let t = state_of q.machine in
     let range : IsNextRow t.log is.list is.depth = subst (IsInRange t.log) is.is (in_range (run_by (algorithm_of q.machine)) t h.run) in
@@ -230,7 +241,8 @@ row_may states q row sound h is =
     subst (λ n. MayBeNextRow t.log n row) (sym is.is)
     (λ kind of. next_consistent t.log.lists t.log.count (logs_of states q.sources.items) t.log.accesses (Sorted is.list row.object row.grade) kind (logs_sound states q sound h.sources) h.drawn.drawn range.listed gives of)
 
-grade_may : (states : List State) (q : Inquiry) (grade : ℕ) → All IsSound states → IsServed states q → IsGradeAt (state_at states (source_needed q)) (needed q) grade → MayBeNextGrade (state_of q.machine).log (needed q) grade
+grade_may : (states : List State) (q : Inquiry) (grade : ℕ) → All IsSound states → IsServed states q
+    → IsGradeAt (state_at states (source_needed q)) (needed q) grade → MayBeNextGrade (state_of q.machine).log (needed q) grade
 grade_may states q grade sound h is =
     let t = state_of q.machine in
     let range : is.list < t.log.lists = subst (IsInRange t.log) is.is (in_range (run_by (algorithm_of q.machine)) t h.run) in
@@ -243,7 +255,8 @@ grade_may states q grade sound h is =
     let too_many : IsOfKind t.log.lists t.log.count t.log.accesses (Random is.list is.object grade) too_many_objects = subst (IsOfKind t.log.lists t.log.count t.log.accesses (Random is.list is.object grade)) many of in
     too_many.1 named)
 
-pub may_feed : (states : List State) (q : Inquiry) (u : State) (left : Waiting) (answer : Look) → All IsSound states → IsServed states q → Looks (needed q) (state_at states (source_needed q)) u q.waiting left answer → MayFeed (state_of q.machine) answer
+pub may_feed : (states : List State) (q : Inquiry) (u : State) (left : Waiting) (answer : Look) → All IsSound states → IsServed states q
+    → Looks (needed q) (state_at states (source_needed q)) u q.waiting left answer → MayFeed (state_of q.machine) answer
 may_feed states q u left (look.Row row) sound h looks = row_may states q row sound h (row_decided (state_at states (source_needed q)) (needed q) row looks.decides)
 may_feed states q u left (look.Grade grade) sound h looks = grade_may states q grade sound h (grade_decided (state_at states (source_needed q)) (needed q) grade looks.decides)
 may_feed states q u left look.NotYet sound h looks = tt
@@ -254,7 +267,8 @@ pub record Went (states : List State) (q r : Inquiry) : Type 0 where
   pub goes : Continues (state_of q.machine) (state_of r.machine)
   pub fed : IsFedFrom (told_to states q) (state_of r.machine)
   pub waits : (n : Need) → r.waiting.need ≡ Some n → n ≡ needed r
-  pub cause : (r.refusal ≡ None) ⊎ ((state_of r.machine ≡ state_of q.machine) × IsCause (state_at states (source_needed q)) (state_of r.machine) r.waiting.noted r.refusal)
+  pub cause : (r.refusal ≡ None) ⊎ ((state_of r.machine ≡ state_of q.machine)
+      × IsCause (state_at states (source_needed q)) (state_of r.machine) r.waiting.noted r.refusal)
 
 over_waits : (s u : State) (q r : Inquiry) (n : Need) → Ends s u q.waiting r.waiting → r.waiting.need ≡ Some n → n ≡ needed r
 over_waits s u q r n ends e = absurd (none_not_some (sym (ap (λ (w : Waiting). w.need) ends.over) ∙ e))
@@ -266,12 +280,14 @@ same_goes : (t u : MachineState) → u ≡ t → Continues t u
 same_goes t u e = subst (Continues t) (sym e) (continues_same t)
 
 -- a row, by what becomes of it
-lacks_room : (states : List State) (q : Inquiry) (row : Row) (object : ℕ) → IsRowOf (state_at states (source_needed q)) (needed q) row → row.object ≡ object → (¬ HasRoomFor (state_of q.machine) row.object) → RowLacksRoom (state_at states (source_needed q)) (state_of q.machine) (needed q) object
+lacks_room : (states : List State) (q : Inquiry) (row : Row) (object : ℕ) → IsRowOf (state_at states (source_needed q)) (needed q) row → row.object ≡ object
+    → (¬ HasRoomFor (state_of q.machine) row.object) → RowLacksRoom (state_at states (source_needed q)) (state_of q.machine) (needed q) object
 lacks_room states q row object is named full =
     subst (λ n. RowLacksRoom (state_at states (source_needed q)) (state_of q.machine) n object) (sym is.is)
     (row, is.there, named, subst (λ o. ¬ HasRoomFor (state_of q.machine) o) named full)
 
-refused_row : (states : List State) (q r : Inquiry) (u : State) (fault : CoreFault) → IsServed states q → Ends (state_at states (source_needed q)) u q.waiting r.waiting → r.refusal ≡ Some (refusal.Core fault) → state_of r.machine ≡ state_of q.machine
+refused_row : (states : List State) (q r : Inquiry) (u : State) (fault : CoreFault) → IsServed states q
+    → Ends (state_at states (source_needed q)) u q.waiting r.waiting → r.refusal ≡ Some (refusal.Core fault) → state_of r.machine ≡ state_of q.machine
     → LacksRoom (state_at states (source_needed q)) (state_of q.machine) fault → Went states q r
 refused_row states q r u fault h ends e same lacks = record {
   goes = same_goes (state_of q.machine) (state_of r.machine) same;
@@ -280,7 +296,9 @@ refused_row states q r u fault h ends e same lacks = record {
   cause = inr (same, subst (λ o. IsCause (state_at states (source_needed q)) (state_of r.machine) r.waiting.noted o) (sym e) (subst (λ t. LacksRoom (state_at states (source_needed q)) t fault) (sym same) lacks));
 }
 
-row_went : (states : List State) (q r : Inquiry) (u : State) (row : Row) (refused : Option Refusal) → IsServed states q → Ends (state_at states (source_needed q)) u q.waiting r.waiting → IsRowOf (state_at states (source_needed q)) (needed q) row → r.refusal ≡ refused → RowTaken row q r refused → Went states q r
+row_went : (states : List State) (q r : Inquiry) (u : State) (row : Row) (refused : Option Refusal) → IsServed states q
+    → Ends (state_at states (source_needed q)) u q.waiting r.waiting → IsRowOf (state_at states (source_needed q)) (needed q) row → r.refusal ≡ refused
+    → RowTaken row q r refused → Went states q r
 row_went states q r u row None h ends is e taken =
     let t = state_of q.machine in
     let took = row_took (algorithm_of q.machine) (told_to states q) t (state_of r.machine) is.list is.depth row h.drawn h.run is.is (row_there states q row h.sources h.run is) taken.0 taken.1 in
@@ -292,7 +310,8 @@ row_went states q r u row (Some (refusal.Core (RoomFull room))) h ends is e take
 row_went states q r u row (Some (refusal.Look list fault)) h ends is e taken = absurd taken
 
 -- a grade
-grade_went : (states : List State) (q r : Inquiry) (u : State) (grade : ℕ) → IsServed states q → Ends (state_at states (source_needed q)) u q.waiting r.waiting → IsGradeAt (state_at states (source_needed q)) (needed q) grade → r.refusal ≡ None
+grade_went : (states : List State) (q r : Inquiry) (u : State) (grade : ℕ) → IsServed states q → Ends (state_at states (source_needed q)) u q.waiting r.waiting
+    → IsGradeAt (state_at states (source_needed q)) (needed q) grade → r.refusal ≡ None
     → Takes (grade_access (needed q) grade) (state_of q.machine) (state_of r.machine) → Went states q r
 grade_went states q r u grade h ends is e takes =
     let t = state_of q.machine in
@@ -317,7 +336,8 @@ fault_ends n s u waiting left why.Garbled h = h.ends
 fault_ends n s u waiting left why.Memory h = h.ends
 
 -- any answer
-pub went : (states : List State) (q r : Inquiry) (u : State) (answer : Look) → IsServed states q → is_done (needed q) ≡ false → Looks (needed q) (state_at states (source_needed q)) u q.waiting r.waiting answer → Answers q r answer → Went states q r
+pub went : (states : List State) (q r : Inquiry) (u : State) (answer : Look) → IsServed states q → is_done (needed q) ≡ false
+    → Looks (needed q) (state_at states (source_needed q)) u q.waiting r.waiting answer → Answers q r answer → Went states q r
 went states q r u (look.Row row) h going looks answers =
     row_went states q r u row r.refusal h looks.ends (row_decided (state_at states (source_needed q)) (needed q) row looks.decides) refl answers
 went states q r u (look.Grade grade) h going looks answers =
@@ -356,7 +376,8 @@ pub record Turned (states laters : List State) (q r : Inquiry) : Type 0 where
   pub goes : Continues (state_of q.machine) (state_of r.machine)
   pub served : IsServed laters r
 
-pub turned : (states laters : List State) (q r : Inquiry) → All IsSound states → All HasHistory states → IsServed states q → is_ended q ≡ false → Turns states laters q r → Turned states laters q r
+pub turned : (states laters : List State) (q r : Inquiry) → All IsSound states → All HasHistory states → IsServed states q → is_ended q ≡ false
+    → Turns states laters q r → Turned states laters q r
 turned states laters q r sound histories h going turns =
     let parts = open_parts q going in
     let source = source_needed q in
@@ -383,7 +404,9 @@ turned states laters q r sound histories h going turns =
       };
     }
   where
-    cause_at : (states laters : List State) (q r : Inquiry) (u : State) → IsLater (state_at states (source_needed q)) u → laters ≡ slice_set states (source_needed q) u → source_needed q < length states → r.sources.items ≡ q.sources.items → state_of r.machine ≡ state_of q.machine
+    cause_at : (states laters : List State) (q r : Inquiry) (u : State) → IsLater (state_at states (source_needed q)) u
+        → laters ≡ slice_set states (source_needed q) u → source_needed q < length states → r.sources.items ≡ q.sources.items
+        → state_of r.machine ≡ state_of q.machine
         → IsCause (state_at states (source_needed q)) (state_of r.machine) r.waiting.noted r.refusal → HasCause laters r
     cause_at states laters q r u later others l sources same cause =
         let source : source_needed r ≡ source_needed q = ap (λ (xs : List ℕ). slice_index_or xs (list_needed (needed r)) 0) sources ∙ ap (λ (t : MachineState). source_of q (list_needed t.need)) same in

@@ -3,9 +3,9 @@ use Rattle.std.proofs.Common.{◌≡◌, ◌<◌, ◌≤◌, ◌+◌, inl, inr, 
 use Rattle.std.specs.List.{AllZip, slice_set}
 use Rattle.std.proofs.lemmas.List.{length-set}
 use Rattle.std.proofs.lemmas.List.Elements.{All-set}
+use Rattle.std.proofs.lemmas.Option.{same_Some}
 use Rattle.topk_theory.proofs.AgreementLists.{all_from_members, member_of_all, slice_get_contains, slice_get_in_range, contains_nil, contains_here, contains_there, contains_cases}
 use Rattle.topk_theory.proofs.Agreement.{drawn_none}
-use Rattle.topk_theory.proofs.ConsistentRows.{ranked_nil}
 use Rattle.source_state.specs.declared.event.Event.{Event}
 use Rattle.source_state.specs.declared.event.Event.TheVariants as event
 use Rattle.source_state.specs.State.{State, opened, IsSound}
@@ -16,6 +16,7 @@ use Rattle.query_core.specs.Driving.{Continues}
 use Rattle.query_core.specs.Machines.{algorithm_of, state_of}
 use Rattle.query_core.proofs.Feeding.{continues_same, continues_on}
 use Rattle.query_core.proofs.ListCount.{lists_counted}
+use Rattle.ranked_list.proofs.FrontLaws.{IsRanked-nil}
 use Rattle.query_world.specs.declared.inquiry.Inquiry.{Inquiry}
 use Rattle.query_world.specs.declared.step.Step.{Step}
 use Rattle.query_world.specs.declared.step.Step.TheVariants.{Page, Grade, Miss, Fail, Turn}
@@ -23,11 +24,13 @@ use Rattle.query_world.specs.Histories.{HasHistory}
 use Rattle.query_world.specs.Worlds.{WorldState, state_at, told_to, source_needed, is_ended}
 use Rattle.query_world.specs.Causes.{IsCause}
 use Rattle.query_world.specs.Steps.{with_event, MayComeTo, IsOpen, MayStep, TakesTurn, Steps}
-use Rattle.query_world.specs.Kept.{IsSourceOf, IsServed, IsWorld, IsAfter}
+use Rattle.query_world.specs.Kept.{IsSourceOf, IsServed, IsWorld, ReadsOn, IsAfter}
 use Rattle.query_world.specs.Made.{IsReadyFor, opened_from, IsOf, IsFresh, AreOf, IsMade}
 use Rattle.query_world.specs.Runs.{Runs}
 use Rattle.query_world.proofs.Events.{moved_after}
+use Rattle.query_world.proofs.Reading.{turn_reads, reads_on, all_read_same, after_same, after_on}
 use Rattle.query_world.proofs.Serving.{AreLater, sound_at, history_at, later_moved, later_set, served_stays, Turned, turned}
+use Rattle.query_world.proofs.Making.{opened_length}
 
 -- what every step makes of a world
 pub record Stepped (before after : WorldState) : Type 0 where
@@ -38,7 +41,8 @@ pub record Stepped (before after : WorldState) : Type 0 where
 pub all_served : (states laters : List State) (queries : List Inquiry) → AreLater states laters → All (IsServed states) queries → All (IsServed laters) queries
 all_served states laters queries later h = all_from_members (IsServed laters) queries (λ q c. served_stays states laters q later (member_of_all (IsServed states) queries q h c))
 
-event_steps : (w : WorldState) (source : ℕ) (e : Event) → IsWorld w → MayComeTo w.states source e → Stepped w (record w { states = with_event w.states source e })
+event_steps : (w : WorldState) (source : ℕ) (e : Event) → IsWorld w → MayComeTo w.states source e
+    → Stepped w (record w { states = with_event w.states source e })
 event_steps w source e h may =
     let s = state_at w.states source in
     let moved = moved_after s e (sound_at w.states source h.sound may.0) (history_at w.states source h.histories may.0) may.1 in
@@ -49,26 +53,25 @@ event_steps w source e h may =
         sound = All-set IsSound w.states source (after s e) moved.sound h.sound;
         queries = all_served w.states (with_event w.states source e) w.queries later h.queries;
       };
-      later = record { sources = later.long; queries = refl; goes = λ other l. (later.each other l).goes };
+      later = record { sources = later.long; queries = refl; goes = λ other l. (later.each other l).goes; reads = all_read_same w.queries };
       queries = λ readies are. are;
     }
 
-given : {A : Type 0} {a b : A} → Some a ≡ Some b → a ≡ b
-given e = cc
-
 -- a pair of lists with one member changed
-pub all_zip_set : {A B : Type 0} (R : A → B → Type 0) (xs : List A) (ys : List B) (i : ℕ) (y z : B) → AllZip R xs ys → slice_get ys i ≡ Some y → ((x : A) → R x y → R x z) → AllZip R xs (slice_set ys i z)
+pub all_zip_set : {A B : Type 0} (R : A → B → Type 0) (xs : List A) (ys : List B) (i : ℕ) (y z : B) → AllZip R xs ys → slice_get ys i ≡ Some y
+    → ((x : A) → R x y → R x z) → AllZip R xs (slice_set ys i z)
 all_zip_set R [] [] i y z h e f = absurd (let l = slice_get_in_range [] i y e in omega (arith, l))
 all_zip_set R [] (w ∷ ys) i y z h e f = absurd h
 all_zip_set R (x ∷ xs) [] i y z h e f = absurd h
-all_zip_set R (x ∷ xs) (w ∷ ys) zero y z h e f = let same : w ≡ y = given e in (f x (subst (R x) same h.0), h.1)
+all_zip_set R (x ∷ xs) (w ∷ ys) zero y z h e f = let same : w ≡ y = same_Some _ _ e in (f x (subst (R x) same h.0), h.1)
 all_zip_set R (x ∷ xs) (w ∷ ys) (suc i) y z h e f = (h.0, all_zip_set R xs ys i y z h.1 e f)
 
 -- the member of an option that is going
 pub open_query : (o : Option Inquiry) (q : Inquiry) → o ≡ Some q → IsOpen o → is_ended q ≡ false
 open_query o q e going = subst IsOpen e going
 
-pub turn_of : (query : ℕ) (w after : WorldState) → IsWorld w → IsOpen (slice_get w.queries query) → (t : TakesTurn query w after) → Turned w.states after.states t.q t.r
+pub turn_of : (query : ℕ) (w after : WorldState) → IsWorld w → IsOpen (slice_get w.queries query) → (t : TakesTurn query w after)
+    → Turned w.states after.states t.q t.r
 turn_of query w after h going t =
     turned w.states after.states t.q t.r h.sound h.histories (member_of_all (IsServed w.states) w.queries t.q h.queries (slice_get_contains w.queries query t.q t.is)) (open_query (slice_get w.queries query) t.q t.is going) t.turns
 
@@ -87,11 +90,15 @@ turn_steps query w after h going t =
         sources = done.later.long;
         queries = ap (length {A = Inquiry}) t.others ∙ length-set w.queries query t.r;
         goes = λ other l. (done.later.each other l).goes;
+        reads = subst (AllZip ReadsOn w.queries) (sym t.others)
+            (all_zip_set ReadsOn w.queries w.queries query t.q t.r (all_read_same w.queries) t.is
+            (λ x on. reads_on x t.q t.r on (turn_reads t.q t.r t.turns.answer (open_query (slice_get w.queries query) t.q t.is going) t.turns.sources t.turns.same done.goes t.turns.answers)));
       };
       queries = λ readies are. subst (AllZip IsOf readies) (sym t.others) (all_zip_set IsOf readies w.queries query t.q t.r are t.is (λ ready of. of_on ready t.q t.r of done.goes t.turns.sources t.turns.same));
     }
   where
-    of_on : (ready : Ready) (q r : Inquiry) → IsOf ready q → Continues (state_of q.machine) (state_of r.machine) → r.sources.items ≡ q.sources.items → algorithm_of r.machine ≡ algorithm_of q.machine → IsOf ready r
+    of_on : (ready : Ready) (q r : Inquiry) → IsOf ready q → Continues (state_of q.machine) (state_of r.machine) → r.sources.items ≡ q.sources.items
+        → algorithm_of r.machine ≡ algorithm_of q.machine → IsOf ready r
     of_on ready q r is goes sources same = record {
       is = is.is;
       first = is.first;
@@ -115,7 +122,7 @@ stepped (Turn query) w after h may steps = turn_steps query w after h may steps
 opened_sound : (list count : ℕ) → count ≤ 200000 → IsSound (opened list count)
 opened_sound list count small = record {
   log = record {
-    ranked = ranked_nil;
+    ranked = IsRanked-nil;
     fits = omega arith;
     good = λ k d l. absurd (omega (arith, l));
     once = λ i j d l m. absurd (omega (arith, m));
@@ -132,7 +139,8 @@ opened_sound list count small = record {
 opened_history : (list count : ℕ) → HasHistory (opened list count)
 opened_history list count = record { events = []; may = tt; told = refl }
 
-pub opened_member : (first : ℕ) (counts : List ℕ) (s : State) → Contains (opened_from first counts) s → (list : ℕ) × (count : ℕ) × Contains counts count × (opened list count ≡ s)
+pub opened_member : (first : ℕ) (counts : List ℕ) (s : State) → Contains (opened_from first counts) s
+    → (list : ℕ) × (count : ℕ) × Contains counts count × (opened list count ≡ s)
 opened_member first [] s c = absurd (contains_nil s c)
 opened_member first (count ∷ counts) s c =
     elim (contains_cases (opened first count) (opened_from (first + 1) counts) s c) [
@@ -140,11 +148,8 @@ opened_member first (count ∷ counts) s c =
       | inr there ↦ let rest = opened_member (first + 1) counts s there in (rest.0, rest.1, contains_there count counts rest.1 rest.2, rest.3)
     ]
 
-opened_long : (first : ℕ) (counts : List ℕ) → length (opened_from first counts) ≡ length counts
-opened_long first [] = refl
-opened_long first (count ∷ counts) = let rest = opened_long (first + 1) counts in omega (arith, rest)
-
-opened_at : (first : ℕ) (counts : List ℕ) (source : ℕ) → source < length counts → (state_at (opened_from first counts) source).count ≡ slice_index_or counts source 0
+opened_at : (first : ℕ) (counts : List ℕ) (source : ℕ) → source < length counts
+    → (state_at (opened_from first counts) source).count ≡ slice_index_or counts source 0
 opened_at first [] source l = absurd (omega (arith, l))
 opened_at first (count ∷ counts) zero l = refl
 opened_at first (count ∷ counts) (suc source) l = opened_at (first + 1) counts source (omega (arith, l))
@@ -159,7 +164,7 @@ fresh_served counts ready q for fresh =
         each = subst (All (IsSourceOf (opened_from 0 counts) t.log.count)) (sym fresh.sources)
             (λ k d l.
             let is = for.sources k d l in
-            let long = opened_long 0 counts in
+            let long = opened_length 0 counts in
             (omega (arith, is.0, long), opened_at 0 counts (slice_index_or ready.sources.items k d) is.0 ∙ is.1 ∙ sym begun.count));
       };
       run = fresh.run;
@@ -190,7 +195,8 @@ all_zip_on R S (x ∷ xs) (y ∷ ys) f h = (f x y h.0, all_zip_on R S xs ys f h.
 fresh_of : (ready : Ready) (q : Inquiry) → IsFresh ready q → IsOf ready q
 fresh_of ready q fresh = record { is = fresh.is; first = state_of q.machine; begun = fresh.machine.begun; goes = continues_same (state_of q.machine); algorithm = fresh.machine.algorithm; sources = fresh.sources }
 
-pub made_world : (counts : List ℕ) (readies : List Ready) (w : WorldState) → All (λ (count : ℕ). count ≤ 200000) counts → All (IsReadyFor counts) readies → IsMade counts readies w → IsWorld w
+pub made_world : (counts : List ℕ) (readies : List Ready) (w : WorldState) → All (λ (count : ℕ). count ≤ 200000) counts → All (IsReadyFor counts) readies
+    → IsMade counts readies w → IsWorld w
 made_world counts readies w small ready made = record {
   histories = subst (All HasHistory) (sym made.states) (all_from_members HasHistory (opened_from 0 counts) (λ s c. let m = opened_member 0 counts s c in subst HasHistory m.3 (opened_history m.0 m.1)));
   sound = subst (All IsSound) (sym made.states)
@@ -204,9 +210,16 @@ pub made_of : (counts : List ℕ) (readies : List Ready) (w : WorldState) → Is
 made_of counts readies w made = all_zip_on IsFresh IsOf readies w.queries fresh_of made.queries
 
 -- after every list of steps
-pub ran : (steps : List Step) (w last : WorldState) → IsWorld w → Runs w steps last → IsWorld last × ((readies : List Ready) → AreOf readies w → AreOf readies last)
+pub ran : (steps : List Step) (w last : WorldState) → IsWorld w → Runs w steps last
+    → IsWorld last × ((readies : List Ready) → AreOf readies w → AreOf readies last)
 ran [] w last h runs = (subst IsWorld (sym runs) h, λ readies are. subst (AreOf readies) (sym runs) are)
 ran (step ∷ steps) w last h runs =
     let one = stepped step w runs.0 h runs.1 runs.2 in
     let rest = ran steps runs.0 last one.world runs.3 in
     (rest.0, λ readies are. rest.1 readies (one.queries readies are))
+
+pub ran_after : (steps : List Step) (w last : WorldState) → IsWorld w → Runs w steps last → IsAfter w last
+ran_after [] w last h runs = subst (IsAfter w) (sym runs) (after_same w)
+ran_after (step ∷ steps) w last h runs =
+    let one = stepped step w runs.0 h runs.1 runs.2 in
+    after_on w runs.0 last one.later (ran_after steps runs.0 last one.world runs.3)

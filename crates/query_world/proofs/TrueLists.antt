@@ -4,14 +4,17 @@ use Rattle.std.specs.Option.{option_map}
 use Rattle.std.proofs.lemmas.Bool.{cases_Bool, ltb-true}
 use Rattle.std.proofs.lemmas.Bool.Decides.{eqb_tells}
 use Rattle.std.proofs.lemmas.List.Elements.{Contains-append_left, Contains-append_right, Contains-append_cases}
+use Rattle.std.proofs.lemmas.Option.{same_Some}
 use Rattle.ranked_list.specs.declared.row.Row.{Row}
 use Rattle.ranked_list.specs.Table.{IsRanked, objects, top_grade, grade_in}
 use Rattle.ranked_list.specs.declared.need.Need.{Need}
 use Rattle.ranked_list.specs.declared.need.Need.TheVariants as need
+use Rattle.ranked_list.proofs.OptionLaws.{none_unless_some, option_cases}
 use Rattle.topk_theory.specs.Transcript.{Begins, last_grade}
 use Rattle.topk_theory.specs.Bounds.{grade_among}
 use Rattle.topk_theory.proofs.AgreementLists.{begins_splits, begins_front, contains_nil, contains_here, contains_cases, contains_map_from}
 use Rattle.topk_theory.proofs.AgreementRows.{grade_among_row, grade_among_none, grade_among_absent, grade_in_row, object_of_row}
+use Rattle.topk_theory.proofs.ThresholdRun.{contains_from_filter_map}
 use Rattle.topk_theory.proofs.ConsistentRows.{ranked_capped, ranked_parts_below, ranked_parts_apart, behind_below_last}
 use Rattle.source_state.specs.declared.ask.Ask.{Ask as Asking}
 use Rattle.source_state.specs.declared.entry.LogEntry.TheVariants as entry
@@ -31,13 +34,11 @@ use Rattle.source_state.specs.Asks.{ask_in, ask_of, good_grade, open_row, open_r
 use Rattle.source_state.specs.State.{State, asks_of, asked_in, clash_or, above_fault, grade_asked, fault_by_grades, row_fault, settle_by, settle}
 use Rattle.source_state.specs.Events.{logged, one_asked, row_or, with_rows, after, MayCome}
 use Rattle.source_state.specs.Looking.{called, Looks}
-use Rattle.source_state.proofs.Lists.{option_cases, none_not_some, eqb_same, find_none, filter_map_from}
+use Rattle.source_state.proofs.Lists.{none_not_some, eqb_same, find_none}
 use Rattle.source_state.proofs.LogLaws.{kept_rows, kept_settling, kept_faults, settled_rows, settled_faults, settled_other, settled_same}
+use Rattle.source_state.proofs.AskLaws.{ask_found, pending_none}
 use Rattle.query_world.specs.Honest.{IsNextOf, IsTrueOf}
-use Rattle.query_world.proofs.Asking.{asked_settled, found_ask, as_pending}
-
-some_same : {A : Type 0} {x y : A} → Some x ≡ Some y → x ≡ y
-some_same e = cc
+use Rattle.query_world.proofs.Asking.{asked_settled}
 
 graded_same : {a b : ℕ} → Graded a ≡ Graded b → a ≡ b
 graded_same e = cc
@@ -70,7 +71,8 @@ next_new list front row ranked next =
     ranked_parts_apart front (row ∷ next.rest) from.0 row (subst IsRanked next.splits ranked) from.1 (contains_here row next.rest) from.2)
 
 -- nothing in the list that isn't in front has a greater grade than the next row
-none_above : (list front : List Row) (row other : Row) → IsRanked list → IsNextRow list front row → Contains list other → grade_among front other.object ≡ None → other.grade ≤ row.grade
+none_above : (list front : List Row) (row other : Row) → IsRanked list → IsNextRow list front row → Contains list other → grade_among front other.object ≡ None
+    → other.grade ≤ row.grade
 none_above list front row other ranked next c absent =
     elim (Contains-append_cases front (row ∷ next.rest) other (subst (λ l. Contains l other) next.splits c)) [
       | inl one ↦ absurd (grade_among_none front other.object absent (object_of_row front other one))
@@ -85,11 +87,12 @@ none_above list front row other ranked next c absent =
 -- what is settled of an object, where the state tells the truth
 good_settled : (o : Option Settling) (grade : ℕ) → good_grade o ≡ Some grade → o ≡ Some (Graded grade)
 good_settled None grade e = absurd (none_not_some e)
-good_settled (Some (Graded other)) grade e = let same : other ≡ grade = some_same e in ap (λ g. Some (Graded g)) same
+good_settled (Some (Graded other)) grade e = let same : other ≡ grade = same_Some _ _ e in ap (λ g. Some (Graded g)) same
 good_settled (Some (Bad fault)) grade e = absurd (none_not_some e)
 good_settled (Some Missed) grade e = absurd (none_not_some e)
 
-grade_listed : (list : List Row) (s : State) (object grade : ℕ) → IsTrueOf list s → good_grade (settling_in s.log object) ≡ Some grade → Contains list (record { object = object; grade = grade })
+grade_listed : (list : List Row) (s : State) (object grade : ℕ) → IsTrueOf list s → good_grade (settling_in s.log object) ≡ Some grade
+    → Contains list (record { object = object; grade = grade })
 grade_listed list s object grade h e =
     let settled : settling_in s.log object ≡ Some (Graded grade) = good_settled (settling_in s.log object) grade e in
     let is = h.settled object (Graded grade) settled in
@@ -97,54 +100,56 @@ grade_listed list s object grade h e =
     subst (λ g. Contains list (record { object = object; grade = g })) (sym same) is.2
 
 -- the open rows of the asks are rows of the list that aren't kept
-opened_row : (held : Bool) (settling : Option Settling) (object : ℕ) (row : Row) → (let ask : Asking = record { object = object; settling = settling; is_held = held } in open_row ask ≡ Some row) → (held ≡ false) × (good_grade settling ≡ Some row.grade) × (row.object ≡ object)
+opened_row : (held : Bool) (settling : Option Settling) (object : ℕ) (row : Row)
+    → (let ask : Asking = record { object = object; settling = settling; is_held = held } in open_row ask ≡ Some row)
+    → (held ≡ false) × (good_grade settling ≡ Some row.grade) × (row.object ≡ object)
 opened_row true settling object row e = absurd (none_not_some e)
 opened_row false settling object row e =
     elim (option_cases (good_grade settling)) [
       | inl none ↦ absurd (none_not_some (sym (ap (option_map (as_row object)) none) ∙ e))
       | inr some ↦
-          let is : as_row object some.0 ≡ row = some_same (sym (ap (option_map (as_row object)) some.1) ∙ e) in
+          let is : as_row object some.0 ≡ row = same_Some _ _ (sym (ap (option_map (as_row object)) some.1) ∙ e) in
           (refl, some.1 ∙ ap (λ (r : Row). Some r.grade) is, sym (ap (λ (r : Row). r.object) is))
     ]
   where
     as_row : ℕ → ℕ → Row
     as_row object grade = record { object = object; grade = grade }
 
-unheld : (o : Option ℕ) → is_some o ≡ false → o ≡ None
-unheld None e = refl
-unheld (Some g) e = absurd (cc)
-
-none_open_above : (list : List Row) (s : State) (row : Row) → IsRanked list → IsTrueOf list s → IsNextRow list (rows_in s.log) row → first_above row.grade (asks_of s) ≡ None
+none_open_above : (list : List Row) (s : State) (row : Row) → IsRanked list → IsTrueOf list s → IsNextRow list (rows_in s.log) row
+    → first_above row.grade (asks_of s) ≡ None
 none_open_above list s row ranked h next =
     find_none (λ (r : Row). nat_lt row.grade r.grade) (open_rows (asks_of s))
     (λ r c.
-    let from = filter_map_from open_row (asks_of s) r c in
+    let from = contains_from_filter_map open_row (asks_of s) r c in
     let ask = contains_map_from (ask_in s.log) s.asks from.0 from.1 in
     let object = ask.0 in
     let parts = opened_row (is_some (grade_among (rows_in s.log) object)) (settling_in s.log object) object r (ap open_row ask.2 ∙ from.2) in
     let there = grade_listed list s object r.grade h parts.1 in
     let row_there : Contains list r = subst (λ o. Contains list (record { object = o; grade = r.grade })) (sym parts.2) there in
-    let absent : grade_among (rows_in s.log) r.object ≡ None = ap (grade_among (rows_in s.log)) parts.2 ∙ unheld (grade_among (rows_in s.log) object) parts.0 in
+    let absent : grade_among (rows_in s.log) r.object ≡ None = ap (grade_among (rows_in s.log)) parts.2 ∙ none_unless_some (grade_among (rows_in s.log) object) parts.0 in
     not_less row.grade r.grade (none_above list (rows_in s.log) row r ranked next row_there absent))
 
 -- the grade that was asked of the next row's object is its own
-no_clash : (asked : Option ℕ) (row : Row) (rest : Option SourceFault) → ((grade : ℕ) → asked ≡ Some grade → grade ≡ row.grade) → rest ≡ None → clash_or asked row rest ≡ None
+no_clash : (asked : Option ℕ) (row : Row) (rest : Option SourceFault) → ((grade : ℕ) → asked ≡ Some grade → grade ≡ row.grade) → rest ≡ None
+    → clash_or asked row rest ≡ None
 no_clash None row rest h none = none
 no_clash (Some grade) row rest h none = subst (λ b. cond b rest (Some (Clash row.object row.grade grade)) ≡ None) (sym (subst (λ g. (grade == g) ≡ true) (h grade refl) (eqb_same grade))) none
 
-asked_grade : (list : List Row) (s : State) (row : Row) (grade : ℕ) → IsRanked list → IsTrueOf list s → Contains list row → grade_asked (ask_of (asks_of s) row.object) ≡ Some grade → grade ≡ row.grade
+asked_grade : (list : List Row) (s : State) (row : Row) (grade : ℕ) → IsRanked list → IsTrueOf list s → Contains list row
+    → grade_asked (ask_of (asks_of s) row.object) ≡ Some grade → grade ≡ row.grade
 asked_grade list s row grade ranked h c e =
     elim (option_cases (ask_of (asks_of s) row.object)) [
       | inl none ↦ absurd (none_not_some (sym (ap grade_asked none) ∙ e))
       | inr some ↦
-          let found = found_ask s.log s.asks row.object some.0 some.1 in
+          let found = ask_found s.log s.asks row.object some.0 some.1 in
           let good : good_grade (settling_in s.log row.object) ≡ Some grade = ap (λ (ask : Asking). good_grade ask.settling) (sym found.1) ∙ sym (ap grade_asked some.1) ∙ e in
           let there = grade_listed list s row.object grade h good in
           one_grade list (record { object = row.object; grade = grade }) row ranked there c refl
     ]
 
 -- nothing is at fault with the next row
-next_faultless : (list : List Row) (s : State) (row : Row) → IsRanked list → IsTrueOf list s → IsNextRow list (rows_in s.log) row → row_fault (rows_in s.log) (asks_of s) row ≡ None
+next_faultless : (list : List Row) (s : State) (row : Row) → IsRanked list → IsTrueOf list s → IsNextRow list (rows_in s.log) row
+    → row_fault (rows_in s.log) (asks_of s) row ≡ None
 next_faultless list s row ranked h next =
     let front = rows_in s.log in
     let there = next_in list front row next in
@@ -157,7 +162,8 @@ next_faultless list s row ranked h next =
     (ap (option_map (above_fault row.grade)) (none_open_above list s row ranked h next)) in
     tests (nat_lt top_grade row.grade) (nat_lt (last_grade top_grade front) row.grade) (is_some (grade_among front row.object)) _ _ _ (fault_by_grades (asks_of s) row) low falls new fits
   where
-    tests : (a b c : Bool) (x y z : SourceFault) (rest : Option SourceFault) → a ≡ false → b ≡ false → c ≡ false → rest ≡ None → cond a (Some x) (cond b (Some y) (cond c (Some z) rest)) ≡ None
+    tests : (a b c : Bool) (x y z : SourceFault) (rest : Option SourceFault) → a ≡ false → b ≡ false → c ≡ false → rest ≡ None
+        → cond a (Some x) (cond b (Some y) (cond c (Some z) rest)) ≡ None
     tests true b c x y z rest e f g h = absurd (cc)
     tests false true c x y z rest e f g h = absurd (cc)
     tests false false true x y z rest e f g h = absurd (cc)
@@ -173,7 +179,8 @@ true_row list s row h begins = record {
 }
 
 -- the rows of an honest page
-true_rows : (list : List Row) (s : State) (rows : List Row) → IsRanked list → IsTrueOf list s → Begins (rows_in s.log ++ rows) list → IsTrueOf list (with_rows s rows)
+true_rows : (list : List Row) (s : State) (rows : List Row) → IsRanked list → IsTrueOf list s → Begins (rows_in s.log ++ rows) list
+    → IsTrueOf list (with_rows s rows)
 true_rows list s [] ranked h begins = h
 true_rows list s (row ∷ rows) ranked h begins =
     let split : list ≡ (rows_in s.log ++ row ∷ rows) ++ drop (length (rows_in s.log ++ row ∷ rows)) list = begins_splits (rows_in s.log ++ row ∷ rows) list begins in
@@ -185,15 +192,18 @@ true_rows list s (row ∷ rows) ranked h begins =
     subst (λ o. IsTrueOf list (row_or o s row (λ t. with_rows t rows))) (sym sound)
     (true_rows list (logged s (entry.Kept row)) rows ranked one (subst (λ xs. Begins (xs ++ rows) list) (sym (kept_rows s.log row)) longer))
 
-true_page : (list : List Row) (s : State) (rows : List Row) → IsRanked list → IsTrueOf list s → IsNextOf list (rows_in s.log) rows → IsTrueOf list (after s (Page rows))
+true_page : (list : List Row) (s : State) (rows : List Row) → IsRanked list → IsTrueOf list s → IsNextOf list (rows_in s.log) rows
+    → IsTrueOf list (after s (Page rows))
 true_page list s [] ranked h next = absurd (let some = next.some in omega (arith, some))
 true_page list s (row ∷ rows) ranked h next = true_rows list s (row ∷ rows) ranked h next.next
 
 -- an honest grade is good
-settles_good : (list front : List Row) (object grade : ℕ) → IsRanked list → Begins front list → Contains list (record { object = object; grade = grade }) → settle front object grade ≡ Graded grade
+settles_good : (list front : List Row) (object grade : ℕ) → IsRanked list → Begins front list → Contains list (record { object = object; grade = grade })
+    → settle front object grade ≡ Graded grade
 settles_good list front object grade ranked begins there = by_held list front object grade ranked begins there (grade_among front object) refl
   where
-    by_held : (list front : List Row) (object grade : ℕ) → IsRanked list → Begins front list → Contains list (record { object = object; grade = grade }) → (held : Option ℕ) → grade_among front object ≡ held → settle_by held (last_grade top_grade front) object grade ≡ Graded grade
+    by_held : (list front : List Row) (object grade : ℕ) → IsRanked list → Begins front list → Contains list (record { object = object; grade = grade })
+        → (held : Option ℕ) → grade_among front object ≡ held → settle_by held (last_grade top_grade front) object grade ≡ Graded grade
     by_held list front object grade ranked begins there None e =
         let split : list ≡ front ++ drop (length front) list = begins_splits front list begins in
         let row : Row = record { object = object; grade = grade } in
@@ -209,23 +219,25 @@ settles_good list front object grade ranked begins there = by_held list front ob
         let same : sorted ≡ grade = one_grade list row (record { object = object; grade = grade }) ranked held there refl in
         ap (λ b. cond b (Graded grade) (Bad (Clash object sorted grade))) (subst (λ g. (sorted == g) ≡ true) same (eqb_same sorted))
 
-true_settled : (list : List Row) (s : State) (object grade : ℕ) → settling_in s.log object ≡ None → Contains list (record { object = object; grade = grade }) → IsTrueOf list s → IsTrueOf list (logged s (entry.Settled object (Graded grade)))
+true_settled : (list : List Row) (s : State) (object grade : ℕ) → settling_in s.log object ≡ None → Contains list (record { object = object; grade = grade })
+    → IsTrueOf list s → IsTrueOf list (logged s (entry.Settled object (Graded grade)))
 true_settled list s object grade pending there h = record {
   rows = subst (λ rows. Begins rows list) (sym (settled_rows s.log object (Graded grade))) h.rows;
   faultless = ap (first_of {X = SourceFault}) (settled_faults s.log object (Graded grade)) ∙ h.faultless;
   settled = λ other settling e. elim (eqb_tells object other) [
     | inl t ↦
         let is : Some (Graded grade) ≡ Some settling = sym (settled_same s.log object (Graded grade) pending) ∙ ap (settling_in (s.log ++ entry.Settled object (Graded grade) ∷ [])) t.1 ∙ e in
-        (grade, sym (some_same is), subst (λ o. Contains list (record { object = o; grade = grade })) t.1 there)
+        (grade, sym (same_Some _ _ is), subst (λ o. Contains list (record { object = o; grade = grade })) t.1 there)
     | inr f ↦ h.settled other settling (sym (settled_other s.log object (Graded grade) other f.1) ∙ e)
   ];
   asked = h.asked;
 }
 
-true_grade : (list : List Row) (s : State) (object grade : ℕ) → IsRanked list → IsTrueOf list s → asked_in s object ≡ Some became.Pending → Contains list (record { object = object; grade = grade }) → IsTrueOf list (after s (Grade object grade))
+true_grade : (list : List Row) (s : State) (object grade : ℕ) → IsRanked list → IsTrueOf list s → asked_in s object ≡ Some became.Pending
+    → Contains list (record { object = object; grade = grade }) → IsTrueOf list (after s (Grade object grade))
 true_grade list s object grade ranked h pending there =
     subst (λ settling. IsTrueOf list (logged s (entry.Settled object settling))) (sym (settles_good list (rows_in s.log) object grade ranked h.rows there))
-    (true_settled list s object grade (as_pending (settling_in s.log object) (asked_settled s object became.Pending pending).1) there h)
+    (true_settled list s object grade (pending_none (settling_in s.log object) (asked_settled s object became.Pending pending).1) there h)
 
 -- an event that keeps the log and the asks
 true_same : (list : List Row) (s t : State) → t.log ≡ s.log → t.asks ≡ s.asks → IsTrueOf list s → IsTrueOf list t
@@ -245,7 +257,8 @@ IsHonestEvent list s (Grade object grade) = Contains list (record { object = obj
 IsHonestEvent list s (Miss object) = ⊥
 IsHonestEvent list s (Fail what) = Unit {0}
 
-asked_members : (found : Option Asking) (object other : ℕ) (asks : List ℕ) → Contains (one_asked found object asks) other → (other ≡ object) ⊎ Contains asks other
+asked_members : (found : Option Asking) (object other : ℕ) (asks : List ℕ) → Contains (one_asked found object asks) other
+    → (other ≡ object) ⊎ Contains asks other
 asked_members (Some ask) object other asks c = inr c
 asked_members None object other asks c =
     elim (Contains-append_cases asks (object ∷ []) other c) [
@@ -285,7 +298,8 @@ true_called list s need.Done h of = h
 true_is : (list : List Row) (s t : State) → t ≡ s → IsTrueOf list s → IsTrueOf list t
 true_is list s t e h = subst (IsTrueOf list) (sym e) h
 
-pub true_looked : (list : List Row) (n : Need) (s t : State) (waiting left : Waiting) (answer : Look) → IsTrueOf list s → IsOfObject list n → Looks n s t waiting left answer → IsTrueOf list t
+pub true_looked : (list : List Row) (n : Need) (s t : State) (waiting left : Waiting) (answer : Look) → IsTrueOf list s → IsOfObject list n
+    → Looks n s t waiting left answer → IsTrueOf list t
 true_looked list n s t waiting left (look.Row row) h of looks = true_is list s t looks.ends.same h
 true_looked list n s t waiting left (look.Grade grade) h of looks = true_is list s t looks.ends.same h
 true_looked list n s t waiting left look.NotYet h of looks =

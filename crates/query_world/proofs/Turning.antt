@@ -30,7 +30,8 @@ pub record IsLooked (states : List State) (q : Inquiry) (u : State) (left : Wait
   pub source_is : source ≡ source_needed q
   pub looks : Looks (needed q) (state_at states (source_needed q)) u q.waiting left answer
 
-looked : (states : List State) (q : Inquiry) (u : State) (left : Waiting) (answer : Look) (n : Need) (place source : ℕ) (s : State) → IsServed states q → is_ended q ≡ false → n ≡ needed q → place ≡ list_needed n
+looked : (states : List State) (q : Inquiry) (u : State) (left : Waiting) (answer : Look) (n : Need) (place source : ℕ) (s : State) → IsServed states q
+    → is_ended q ≡ false → n ≡ needed q → place ≡ list_needed n
     → source ≡ slice_index_or q.sources.items place source → s ≡ slice_index_or states source s → Looks n s u q.waiting left answer → IsLooked states q u left answer source
 looked states q u left answer n place source s h going need list read at looks =
     let more = (open_parts q going).1 in
@@ -46,7 +47,8 @@ looked states q u left answer n place source s h going need list read at looks =
       looks = subst (λ t. Looks (needed q) t u q.waiting left answer) state_is (subst (λ m. Looks m s u q.waiting left answer) need looks);
     }
 
-pub turn_may : (states : List State) (q : Inquiry) (u : State) (left : Waiting) (answer : Look) (n : Need) (place source : ℕ) (s : State) → IsServed states q → is_ended q ≡ false → All IsSound states → n ≡ needed q → place ≡ list_needed n
+pub turn_may : (states : List State) (q : Inquiry) (u : State) (left : Waiting) (answer : Look) (n : Need) (place source : ℕ) (s : State) → IsServed states q
+    → is_ended q ≡ false → All IsSound states → n ≡ needed q → place ≡ list_needed n
     → source ≡ slice_index_or q.sources.items place source → s ≡ slice_index_or states source s → Looks n s u q.waiting left answer → MayFeed (state_of q.machine) answer
 turn_may states q u left answer n place source s h going sound need list read at looks =
     may_feed states q u left answer sound h (looked states q u left answer n place source s h going need list read at looks).looks
@@ -63,7 +65,8 @@ answers_same p q r (look.Grade grade) same h = (h.0, subst (λ m. Rattle.access_
 answers_same p q r look.NotYet same h = (h.0, h.1 ∙ same)
 answers_same p q r (look.Fault fault) same h = (h.0 ∙ ap (λ (m : Machine). Some (refusal.Look (list_needed (state_of m).need) fault)) same, h.1 ∙ same)
 
-pub turn_made : (states : List State) (q r : Inquiry) (u : State) (left : Waiting) (answer : Look) (n : Need) (place source : ℕ) (s : State) (p : Inquiry) → IsServed states q → is_ended q ≡ false → n ≡ needed q → place ≡ list_needed n
+pub turn_made : (states : List State) (q r : Inquiry) (u : State) (left : Waiting) (answer : Look) (n : Need) (place source : ℕ) (s : State) (p : Inquiry)
+    → IsServed states q → is_ended q ≡ false → n ≡ needed q → place ≡ list_needed n
     → source ≡ slice_index_or q.sources.items place source → s ≡ slice_index_or states source s → Looks n s u q.waiting left answer
     → p.machine ≡ q.machine → Answers p r answer → MakesItsRun r.machine → algorithm_of r.machine ≡ algorithm_of q.machine → r.sources.items ≡ q.sources.items → r.waiting ≡ left → Turns states (slice_set states source u) q r
 turn_made states q r u left answer n place source s p h going need list read at looks same answers run algorithm sources waiting =
@@ -80,10 +83,12 @@ turn_made states q r u left answer n place source s p h going need list read at 
     }
 
 -- the turn of the query of a number
-pub take_turn : (states laters : List State) (queries : List Inquiry) (query : ℕ) (q r : Inquiry) → IsOpen (slice_get queries query) → q ≡ slice_index_or queries query q → Turns states laters q r → TakesTurn query (world_of states queries) (world_of laters (slice_set queries query r))
+pub take_turn : (states laters : List State) (queries : List Inquiry) (query : ℕ) (q r : Inquiry) → IsOpen (slice_get queries query)
+    → q ≡ slice_index_or queries query q → Turns states laters q r → TakesTurn query (world_of states queries) (world_of laters (slice_set queries query r))
 take_turn states laters queries query q r going is turns = by_get (slice_get queries query) refl going
   where
-    by_get : (o : Option Inquiry) → slice_get queries query ≡ o → IsOpen o → TakesTurn query (world_of states queries) (world_of laters (slice_set queries query r))
+    by_get : (o : Option Inquiry) → slice_get queries query ≡ o → IsOpen o
+        → TakesTurn query (world_of states queries) (world_of laters (slice_set queries query r))
     by_get None e none = absurd none
     by_get (Some p) e more =
         let here : q ≡ p = is ∙ slice_get_reads queries query p q e in

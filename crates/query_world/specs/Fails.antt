@@ -1,9 +1,9 @@
 -- Whom a fail of a source refuses.
-use Rattle.std.specs.Prelude.{◌≡◌, ℕ, false, Some, None, List, ◌∷◌, ◌++◌, slice_get, Contains}
+use Rattle.std.specs.Prelude.{◌≡◌, ℕ, false, Some, None, List, ◌∷◌, ◌++◌, Contains}
 use Rattle.ranked_list.specs.declared.need.Need.{Need}
 use Rattle.source_state.specs.declared.entry.FailKind.{FailKind}
-use Rattle.source_state.specs.Looking.{waits_for}
-use Rattle.query_world.specs.declared.inquiry.Inquiry.{Inquiry}
+use Rattle.source_state.specs.Looking.{waits_for, refusal_of}
+use Rattle.query_world.specs.declared.ended.Refusal.TheVariants.{Look}
 use Rattle.query_world.specs.declared.step.Step.{Step}
 use Rattle.query_world.specs.declared.step.Step.TheVariants.{Fail, Turn}
 use Rattle.query_world.specs.Worlds.{WorldState, needed, source_needed}
@@ -17,8 +17,8 @@ pub record BeginsToWait (query : ℕ) (n : Need) (before after : WorldState) : T
   pub fresh : waits_for turn.q.waiting.need n ≡ false
   pub waits : turn.r.waiting.need ≡ Some n
 
--- among these steps a query begins to wait for a need, and later a call of the source fails so
-pub record FailsSince (first : WorldState) (steps : List Step) (query source : ℕ) (n : Need) (what : FailKind) : Type 0 where
+-- these steps make this last world, and among them a query begins to wait for a need, and later a call of the source fails so
+pub record FailsSince (first : WorldState) (steps : List Step) (last : WorldState) (query source : ℕ) (n : Need) (what : FailKind) : Type 0 where
   pub earlier : List Step
   pub later : List Step
   pub order : steps ≡ earlier ++ Turn query ∷ later
@@ -26,16 +26,20 @@ pub record FailsSince (first : WorldState) (steps : List Step) (query source : �
   pub after : WorldState
   pub ran : Runs first earlier before
   pub begins : BeginsToWait query n before after
+  pub goes : Runs after later last
   pub fails : Contains later (Fail source what)
 
--- a query is refused by a turn among these steps, and before that turn such a call of the source of its need failed, after its own want or ask
-pub record IsToldOfFail (first : WorldState) (steps : List Step) (query : ℕ) (what : FailKind) : Type 0 where
+-- these steps make this last world, and a turn among them refuses a query because a call for this list failed so: before that turn such
+-- a call of the source of its need failed, after its own want or ask
+pub record IsToldOfFail (first : WorldState) (steps : List Step) (last : WorldState) (query list : ℕ) (what : FailKind) : Type 0 where
   pub front : List Step
   pub rest : List Step
   pub order : steps ≡ front ++ Turn query ∷ rest
   pub before : WorldState
+  pub after : WorldState
   pub ran : Runs first front before
-  pub q : Inquiry
-  pub is : slice_get before.queries query ≡ Some q
-  pub unrefused : q.refusal ≡ None
-  pub since : FailsSince first front query (source_needed q) (needed q) what
+  pub turn : TakesTurn query before after
+  pub goes : Runs after rest last
+  pub unrefused : turn.q.refusal ≡ None
+  pub refused : turn.r.refusal ≡ Some (Look list (refusal_of what))
+  pub since : FailsSince first front before query (source_needed turn.q) (needed turn.q) what

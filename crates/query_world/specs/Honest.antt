@@ -3,6 +3,7 @@ use Rattle.std.specs.Prelude.{◌≡◌, ◌<◌, ◌≤◌, ◌++◌, ℕ, Opti
 use Rattle.ranked_list.specs.declared.row.Row.{Row}
 use Rattle.ranked_list.specs.Table.{IsTable, objects}
 use Rattle.topk_theory.specs.Transcript.{Begins, list_at}
+use Rattle.access_log.specs.Log.{AgreesWith}
 use Rattle.access_log.specs.Machine.{asked_of}
 use Rattle.access_log.specs.declared.core_fault.CoreFault.TheVariants.{Strangers, RoomFull}
 use Rattle.source_state.specs.declared.entry.Settling.{Settling}
@@ -73,7 +74,9 @@ MayRefuse D q (Some (Look list why.Failed)) = Unit {0}
 MayRefuse D q (Some (Look list why.Garbled)) = Unit {0}
 MayRefuse D q (Some (Look list why.Memory)) = Unit {0}
 
--- the transcript of a query is how its run on its own table begins, and it is refused for its room or for a fail alone
+-- the lists of a query agree with its transcript, which is how its run on its own table begins, and it is refused for its room or for a
+-- fail alone
 pub record IsOnItsRun (lists : List (List Row)) (q : Inquiry) : Type 0 where
+  pub agrees : AgreesWith (lists_of lists q) (state_of q.machine).log
   pub begins : Begins (state_of q.machine).log.accesses (run_by (algorithm_of q.machine) (asked_of (state_of q.machine)) (lists_of lists q))
   pub refused : MayRefuse (lists_of lists q) q q.refusal

@@ -1,11 +1,13 @@
 -- What every world keeps, whatever its steps were.
-use Rattle.std.specs.Prelude.{◌≡◌, ◌<◌, ℕ, Some, List, All, length}
+use Rattle.std.specs.Prelude.{◌≡◌, ◌<◌, ℕ, true, Some, List, All, length}
+use Rattle.std.specs.List.{AllZip}
 use Rattle.ranked_list.specs.declared.need.Need.{Need}
+use Rattle.topk_theory.specs.Transcript.{Begins}
 use Rattle.source_state.specs.State.{State, IsSound}
-use Rattle.query_core.specs.Driving.{IsFedFrom}
-use Rattle.query_core.specs.Machines.{state_of, MakesItsRun}
+use Rattle.query_core.specs.Driving.{Continues, IsFedFrom}
+use Rattle.query_core.specs.Machines.{algorithm_of, state_of, MakesItsRun}
 use Rattle.query_world.specs.declared.inquiry.Inquiry.{Inquiry}
-use Rattle.query_world.specs.Worlds.{WorldState, state_at, told_to, needed}
+use Rattle.query_world.specs.Worlds.{WorldState, state_at, told_to, needed, is_ended}
 use Rattle.query_world.specs.Causes.{HasCause}
 use Rattle.query_world.specs.Histories.{HasHistory, GoesOn}
 
@@ -32,8 +34,17 @@ pub record IsWorld (w : WorldState) : Type 0 where
   pub sound : All IsSound w.states
   pub queries : All (IsServed w.states) w.queries
 
--- a world later on: it has as many sources and queries, and what was read of a source never changes
+-- a query later on: it asks the same of the same sources by the same algorithm, its transcript goes on, and once it has ended it stays
+pub record ReadsOn (before after : Inquiry) : Type 0 where
+  pub sources : after.sources.items ≡ before.sources.items
+  pub algorithm : algorithm_of after.machine ≡ algorithm_of before.machine
+  pub goes : Continues (state_of before.machine) (state_of after.machine)
+  pub read : Begins (state_of before.machine).log.accesses (state_of after.machine).log.accesses
+  pub ended : is_ended before ≡ true → after ≡ before
+
+-- a world later on: it has as many sources and queries, and what was read of a source, and by a query, never changes
 pub record IsAfter (before after : WorldState) : Type 0 where
   pub sources : length after.states ≡ length before.states
   pub queries : length after.queries ≡ length before.queries
   pub goes : (source : ℕ) → source < length before.states → GoesOn (state_at before.states source) (state_at after.states source)
+  pub reads : AllZip ReadsOn before.queries after.queries

@@ -12,7 +12,9 @@ mod world;
 
 pub use ended::{Ended, Endings, Refusal};
 pub use inquiry::Inquiry;
-pub use laws::{a_failure_refuses_those_that_wait, each_order_gives_the_one_answer};
+pub use laws::{
+    a_failure_refuses_those_that_wait, each_order_gives_the_one_answer, what_was_read_stays,
+};
 pub use step::Step;
 pub use world::World;
 

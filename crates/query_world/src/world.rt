@@ -20,6 +20,7 @@ use super::ended::{Ended, Endings, Refusal};
 use super::inquiry::{Inquiry, turn};
 use super::lawful::{may_page, may_settle, may_turn};
 use super::step::Step;
+use limits::MAX_OBJECTS;
 use query_core::Ready;
 use source_state::{Event, SourceState};
 use std::alloc::Global;
@@ -53,7 +54,7 @@ impl Model for World {
 /// Opens one more source, with the number of those that there are.
 fn open_next(alloc: Global, states: &mut Vec<SourceState>, count: u32) -> Result<(), Memory>
     requires few { vec_len states.old < 2 ^ 32 }
-    requires count { count ≤ 200000 }
+    requires count { count ≤ MAX_OBJECTS }
     ensures { OnOk result (states.new.items ≡ states.old.items ++ opened (length states.old.items) count ∷ []) }
 {
     let source = states.len() as u32;
@@ -69,7 +70,7 @@ fn open_next(alloc: Global, states: &mut Vec<SourceState>, count: u32) -> Result
 /// The sources with these counts, before any event.
 fn open_all(alloc: Global, counts: &[u32]) -> Result<Vec<SourceState>, Memory>
     requires few { length counts.now < 2 ^ 32 }
-    requires counts { All (λ count. count ≤ 200000) counts.now }
+    requires counts { All (λ count. count ≤ MAX_OBJECTS) counts.now }
     ensures { IfOk result (λ states. states.items ≡ opened_from 0 counts.now) }
 {
     let mut states = Vec::new(alloc);
@@ -193,7 +194,7 @@ impl World {
     /// copied.
     pub fn make(alloc: Global, counts: &[u32], queries: &[Ready]) -> Result<World, Memory>
         requires sources { length counts.now < 2 ^ 32 }
-        requires counts { All (λ count. count ≤ 200000) counts.now }
+        requires counts { All (λ count. count ≤ MAX_OBJECTS) counts.now }
         requires queries { length queries.now < 2 ^ 32 }
         requires ready { All (IsReadyFor counts.now) queries.now }
         ensures made { IfOk result (IsMade counts.now queries.now) }

@@ -3,9 +3,11 @@ use Rattle.std.proofs.Common.{◌≡◌, ◌==◌, ◌⊎◌, inl, inr, ℕ, Boo
 use Rattle.std.specs.Option.{option_map}
 use Rattle.std.proofs.lemmas.Bool.{cases_Bool}
 use Rattle.ranked_list.specs.declared.row.Row.{Row}
+use Rattle.ranked_list.proofs.OptionLaws.{option_cases}
 use Rattle.topk_theory.specs.Bounds.{grade_among}
 use Rattle.topk_theory.proofs.AgreementRows.{grade_among_append_some, grade_among_append_none}
 use Rattle.topk_theory.proofs.AgreementLists.{contains_here, contains_there, contains_cases, contains_nil}
+use Rattle.topk_theory.proofs.ThresholdLists.{map_map, map_same}
 use Rattle.source_state.specs.declared.ask.Ask.{Ask}
 use Rattle.source_state.specs.declared.entry.LogEntry.{LogEntry}
 use Rattle.source_state.specs.declared.entry.LogEntry.TheVariants.{Kept, Settled, Fault}
@@ -16,11 +18,12 @@ use Rattle.source_state.specs.declared.entry.SourceFault.{SourceFault}
 use Rattle.source_state.specs.Log.{rows_in, settling_in}
 use Rattle.source_state.specs.Asks.{ask_in, ask_of, change, settled_asks, held_asks}
 use Rattle.source_state.specs.State.{State, asks_of, asked_in, asked_as}
-use Rattle.source_state.proofs.Lists.{option_cases, eqb_same, eqb_other, map_agree, map_twice, none_not_some}
+use Rattle.source_state.proofs.Lists.{eqb_same, eqb_other, none_not_some}
 use Rattle.source_state.proofs.LogLaws.{kept_rows, kept_settling, settled_rows, settled_other, settled_same, fault_rows, fault_settling}
 
 -- an ask by its parts
-ask_is : (object : ℕ) (one other : Option Settling) (held kept : Bool) → one ≡ other → held ≡ kept → (let a : Ask = record { object = object; settling = one; is_held = held } in let b : Ask = record { object = object; settling = other; is_held = kept } in a ≡ b)
+ask_is : (object : ℕ) (one other : Option Settling) (held kept : Bool) → one ≡ other → held ≡ kept
+    → (let a : Ask = record { object = object; settling = one; is_held = held } in let b : Ask = record { object = object; settling = other; is_held = kept } in a ≡ b)
 ask_is object one other held kept e f = cc
 
 -- one more row holds its object, and no other
@@ -51,7 +54,8 @@ equal_or_not m n = elim (cases_Bool (m == n)) [
   | inr f ↦ inr (λ e. let t : (m == n) ≡ true = subst (λ k. (m == k) ≡ true) e (eqb_same m) in let bad : true ≡ false = sym t ∙ f in absurd (cc))
 ]
 
-held_after : (log : List LogEntry) (row : Row) (object : ℕ) → change row.object (λ ask. record ask { is_held = true }) (ask_in log object) ≡ ask_in (log ++ Kept row ∷ []) object
+held_after : (log : List LogEntry) (row : Row) (object : ℕ)
+    → change row.object (λ ask. record ask { is_held = true }) (ask_in log object) ≡ ask_in (log ++ Kept row ∷ []) object
 held_after log row object =
     elim (equal_or_not row.object object) [
       | inl same ↦ changed row.object (λ ask. record ask { is_held = true }) (ask_in log object) same
@@ -62,10 +66,12 @@ held_after log row object =
           (sym (ap (λ rows. is_some (grade_among rows object)) (kept_rows log row) ∙ ap is_some (grade_other (rows_in log) row object apart)))
     ]
 
-pub asks_kept : (log : List LogEntry) (row : Row) (objects : List ℕ) → held_asks row.object (map (ask_in log) objects) ≡ map (ask_in (log ++ Kept row ∷ [])) objects
-asks_kept log row objects = map_twice (change row.object (λ ask. record ask { is_held = true })) (ask_in log) objects ∙ map_agree _ _ (held_after log row) objects
+pub asks_kept : (log : List LogEntry) (row : Row) (objects : List ℕ)
+    → held_asks row.object (map (ask_in log) objects) ≡ map (ask_in (log ++ Kept row ∷ [])) objects
+asks_kept log row objects = map_map (change row.object (λ ask. record ask { is_held = true })) (ask_in log) objects ∙ map_same _ _ objects (λ object c. held_after log row object)
 
-settled_after : (log : List LogEntry) (object : ℕ) (settling : Settling) → settling_in log object ≡ None → (other : ℕ) → change object (λ ask. record ask { settling = Some settling }) (ask_in log other) ≡ ask_in (log ++ Settled object settling ∷ []) other
+settled_after : (log : List LogEntry) (object : ℕ) (settling : Settling) → settling_in log object ≡ None → (other : ℕ)
+    → change object (λ ask. record ask { settling = Some settling }) (ask_in log other) ≡ ask_in (log ++ Settled object settling ∷ []) other
 settled_after log object settling none other =
     elim (equal_or_not object other) [
       | inl same ↦ changed object (λ ask. record ask { settling = Some settling }) (ask_in log other) same
@@ -76,12 +82,13 @@ settled_after log object settling none other =
           (sym (ap (λ rows. is_some (grade_among rows other)) (settled_rows log object settling)))
     ]
 
-pub asks_settled : (log : List LogEntry) (object : ℕ) (settling : Settling) (objects : List ℕ) → settling_in log object ≡ None → settled_asks object settling (map (ask_in log) objects) ≡ map (ask_in (log ++ Settled object settling ∷ [])) objects
-asks_settled log object settling objects none = map_twice (change object (λ ask. record ask { settling = Some settling })) (ask_in log) objects ∙ map_agree _ _ (settled_after log object settling none) objects
+pub asks_settled : (log : List LogEntry) (object : ℕ) (settling : Settling) (objects : List ℕ) → settling_in log object ≡ None
+    → settled_asks object settling (map (ask_in log) objects) ≡ map (ask_in (log ++ Settled object settling ∷ [])) objects
+asks_settled log object settling objects none = map_map (change object (λ ask. record ask { settling = Some settling })) (ask_in log) objects ∙ map_same _ _ objects (λ other c. settled_after log object settling none other)
 
 pub asks_fault : (log : List LogEntry) (fault : SourceFault) (objects : List ℕ) → map (ask_in log) objects ≡ map (ask_in (log ++ Fault fault ∷ [])) objects
 asks_fault log fault objects =
-    map_agree _ _ (λ object. ask_is object _ _ _ _ (sym (fault_settling log fault object)) (sym (ap (λ rows. is_some (grade_among rows object)) (fault_rows log fault)))) objects
+    map_same _ _ objects (λ object c. ask_is object _ _ _ _ (sym (fault_settling log fault object)) (sym (ap (λ rows. is_some (grade_among rows object)) (fault_rows log fault))))
 
 -- the objects of asks don't change
 pub objects_of_asks : (log : List LogEntry) (objects : List ℕ) → map (λ (ask : Ask). ask.object) (map (ask_in log) objects) ≡ objects
@@ -89,7 +96,8 @@ objects_of_asks log [] = refl
 objects_of_asks log (object ∷ objects) = ap (λ os. object ∷ os) (objects_of_asks log objects)
 
 -- an ask that is found is of an asked object, as it stands
-pub ask_found : (log : List LogEntry) (objects : List ℕ) (object : ℕ) (ask : Ask) → ask_of (map (ask_in log) objects) object ≡ Some ask → Contains objects object × (ask ≡ ask_in log object)
+pub ask_found : (log : List LogEntry) (objects : List ℕ) (object : ℕ) (ask : Ask) → ask_of (map (ask_in log) objects) object ≡ Some ask
+    → Contains objects object × (ask ≡ ask_in log object)
 ask_found log [] object ask e = absurd (none_not_some e)
 ask_found log (other ∷ objects) object ask e =
     elim (equal_or_not object other) [
@@ -103,7 +111,8 @@ ask_found log (other ∷ objects) object ask e =
           let r = ask_found log objects object ask rest in (contains_there other objects object r.0, r.1)
     ]
 
-pub ask_is_found : (log : List LogEntry) (objects : List ℕ) (object : ℕ) → Contains objects object → ask_of (map (ask_in log) objects) object ≡ Some (ask_in log object)
+pub ask_is_found : (log : List LogEntry) (objects : List ℕ) (object : ℕ) → Contains objects object
+    → ask_of (map (ask_in log) objects) object ≡ Some (ask_in log object)
 ask_is_found log [] object c = absurd (contains_nil object c)
 ask_is_found log (other ∷ objects) object c =
     elim (equal_or_not object other) [
@@ -119,7 +128,7 @@ pub ask_missing : (log : List LogEntry) (objects : List ℕ) (object : ℕ) → 
 ask_missing log objects object e c = none_not_some (sym e ∙ ask_is_found log objects object c)
 
 -- a pending ask is of an asked object that isn't settled
-pending_none : (settling : Option Settling) → asked_as settling ≡ became.Pending → settling ≡ None
+pub pending_none : (settling : Option Settling) → asked_as settling ≡ became.Pending → settling ≡ None
 pending_none None e = refl
 pending_none (Some (Graded grade)) e = absurd (cc)
 pending_none (Some (Bad fault)) e = absurd (cc)

@@ -13,12 +13,13 @@ use Rattle.room_map.specs.Keys.{Keys}
 use Rattle.grade_tree.specs.Grades.{grade_at, AreWithin, IsFirstAbove}
 use Rattle.topk_theory.specs.Transcript.{last_grade}
 use Rattle.topk_theory.specs.Bounds.{grade_among}
+use Rattle.topk_theory.proofs.ThresholdRun.{contains_from_filter_map}
 use Rattle.topk_theory.proofs.AgreementLists.{contains_at, contains_here, contains_there, contains_cases, contains_map, contains_nil, slice_get_contains, distinct_head, distinct_tail}
 use Rattle.source_state.specs.declared.ask.Ask.{Ask}
 use Rattle.source_state.specs.declared.entry.Settling.{Settling}
 use Rattle.source_state.specs.Asks.{ask_of, open_grade, open_row, open_rows, first_above, is_due, change, new_ask, stops}
 use Rattle.source_state.specs.Keeping.{AskList, KeepsAsks, ask_objects}
-use Rattle.source_state.proofs.Lists.{eqb_same, eqb_other, eqb_swap, position_map, find_at_position, find_no_position, find_none, filter_map_from, none_not_some, cond_none}
+use Rattle.source_state.proofs.Lists.{eqb_same, eqb_other, eqb_swap, position_map, find_at_position, find_no_position, find_none, none_not_some, cond_none}
 
 -- the grade of an object among rows, by its place among their objects
 grade_found : (rows : List Row) (object : ℕ) → grade_among rows object ≡ option_map (λ (row : Row). row.grade) (find (λ (row : Row). object == row.object) rows)
@@ -31,7 +32,8 @@ pub grade_no_place : (rows : List Row) (object : ℕ) → position (nat_eq objec
 grade_no_place rows object e =
     grade_found rows object ∙ ap (option_map (λ (row : Row). row.grade)) (find_no_position (λ (row : Row). object == row.object) rows (sym (position_map (nat_eq object) (λ (row : Row). row.object) rows) ∙ e))
 
-pub grade_at_place : (rows : List Row) (object place : ℕ) → position (nat_eq object) (objects rows) ≡ Some place → grade_among rows object ≡ option_map (λ (row : Row). row.grade) (slice_get rows place)
+pub grade_at_place : (rows : List Row) (object place : ℕ) → position (nat_eq object) (objects rows) ≡ Some place
+    → grade_among rows object ≡ option_map (λ (row : Row). row.grade) (slice_get rows place)
 grade_at_place rows object place e =
     grade_found rows object ∙ ap (option_map (λ (row : Row). row.grade)) (find_at_position (λ (row : Row). object == row.object) rows place (sym (position_map (nat_eq object) (λ (row : Row). row.object) rows) ∙ e))
 
@@ -65,7 +67,8 @@ ask_absent (ask ∷ asks) object e c =
     ]
 
 -- the first place that passes, as far as it is known
-pub place_more : {X : Type 0} (p : X → Bool) (xs : List X) (i : ℕ) (d : X) → i ≤ position_or_len p xs → i < length xs → p (get_or xs i d) ≡ false → i + 1 ≤ position_or_len p xs
+pub place_more : {X : Type 0} (p : X → Bool) (xs : List X) (i : ℕ) (d : X) → i ≤ position_or_len p xs → i < length xs → p (get_or xs i d) ≡ false
+    → i + 1 ≤ position_or_len p xs
 place_more p xs i d low within fails =
     elim (cases_Bool (nat_lt i (position_or_len p xs))) [
       | inl t ↦ let lt : i < position_or_len p xs = ltb-true i (position_or_len p xs) t in omega arith
@@ -116,14 +119,16 @@ set_same (y ∷ xs) (suc i) x e = ap (λ ys. y ∷ ys) (set_same xs i x e)
 cons_same : {a b : Ask} {xs ys : List Ask} → a ≡ b → xs ≡ ys → a ∷ xs ≡ b ∷ ys
 cons_same p q = cc
 
-unchanged_all : (object : ℕ) (turn : Ask → Ask) (asks : List Ask) → ((o : ℕ) → Contains (ask_objects asks) o → object ≡ o → ⊥) → map (change object turn) asks ≡ asks
+unchanged_all : (object : ℕ) (turn : Ask → Ask) (asks : List Ask) → ((o : ℕ) → Contains (ask_objects asks) o → object ≡ o → ⊥)
+    → map (change object turn) asks ≡ asks
 unchanged_all object turn [] h = refl
 unchanged_all object turn (ask ∷ asks) h =
     cons_same (ap (λ b. cond b (turn ask) ask) (eqb_other object ask.object (h ask.object (contains_here ask.object (ask_objects asks)))))
     (unchanged_all object turn asks (λ o c. h o (contains_there ask.object (ask_objects asks) o c)))
 
 -- a change of the ask of an object is a write at its place
-set_change : (object : ℕ) (turn : Ask → Ask) (asks : List Ask) (place : ℕ) (ask : Ask) → AllPairs (λ (one : ℕ) (other : ℕ). one ≢ other) (ask_objects asks) → slice_get asks place ≡ Some ask → object ≡ ask.object → set asks place (turn ask) ≡ map (change object turn) asks
+set_change : (object : ℕ) (turn : Ask → Ask) (asks : List Ask) (place : ℕ) (ask : Ask) → AllPairs (λ (one : ℕ) (other : ℕ). one ≢ other) (ask_objects asks)
+    → slice_get asks place ≡ Some ask → object ≡ ask.object → set asks place (turn ask) ≡ map (change object turn) asks
 set_change object turn [] place ask d e same = absurd (none_not_some e)
 set_change object turn (first ∷ asks) zero ask d e same =
     let is : first ≡ ask = cc in
@@ -151,7 +156,9 @@ ask_found_is object (first ∷ asks) ask e =
     ]
 
 -- what changes at the place where an object is found; nothing changes where it isn't
-pub change_at : (object : ℕ) (turn : Ask → Ask) (asks : List Ask) (place : ℕ) (ask : Ask) → AllPairs (λ (one : ℕ) (other : ℕ). one ≢ other) (ask_objects asks) → position (λ (one : Ask). object == one.object) asks ≡ Some place → slice_get asks place ≡ Some ask → set asks place (turn ask) ≡ map (change object turn) asks
+pub change_at : (object : ℕ) (turn : Ask → Ask) (asks : List Ask) (place : ℕ) (ask : Ask) → AllPairs (λ (one : ℕ) (other : ℕ). one ≢ other) (ask_objects asks)
+    → position (λ (one : Ask). object == one.object) asks ≡ Some place → slice_get asks place ≡ Some ask
+    → set asks place (turn ask) ≡ map (change object turn) asks
 change_at object turn asks place ask d found e =
     set_change object turn asks place ask d e (ask_found_is object asks ask (find_at_position (λ (one : Ask). object == one.object) asks place found ∙ e))
 
@@ -172,7 +179,8 @@ none_open : (object : ℕ) (held : Bool) → open_grade (new_ask object held) �
 none_open object true = refl
 none_open object false = refl
 
-grades_push : (room : ℕ) (asks : List Ask) (object : ℕ) (held : Bool) → length asks < room → map open_grade asks ++ replicate (room - length asks) None ≡ map open_grade (asks ++ new_ask object held ∷ []) ++ replicate (room - length (asks ++ new_ask object held ∷ [])) None
+grades_push : (room : ℕ) (asks : List Ask) (object : ℕ) (held : Bool) → length asks < room
+    → map open_grade asks ++ replicate (room - length asks) None ≡ map open_grade (asks ++ new_ask object held ∷ []) ++ replicate (room - length (asks ++ new_ask object held ∷ [])) None
 grades_push room asks object held few =
     let ask : Ask = new_ask object held in
     let rest : ℕ = room - length (asks ++ ask ∷ []) in
@@ -183,7 +191,11 @@ grades_push room asks object held few =
     ∙ ap (λ os. os ++ replicate rest None)
     (ap (λ o. map open_grade asks ++ o ∷ []) (sym (none_open object held)) ∙ sym (map-append open_grade asks (ask ∷ [])))
 
-keeps_pushed : (places : Keys) (asks : List Ask) (grades : List (Option ℕ)) (cursor next capacity reserved object : ℕ) (held : Bool) → KeepsAsks (record { room = places.room; asks = asks }) places grades cursor capacity → ask_of asks object ≡ None → length asks < places.room → next ≡ position_or_len is_due (asks ++ new_ask object held ∷ []) → capacity ≤ reserved → KeepsAsks (record { room = places.room; asks = asks ++ new_ask object held ∷ [] }) (record places { keys = places.keys ++ object ∷ [] }) grades next reserved
+keeps_pushed : (places : Keys) (asks : List Ask) (grades : List (Option ℕ)) (cursor next capacity reserved object : ℕ) (held : Bool)
+    → KeepsAsks (record { room = places.room; asks = asks }) places grades cursor capacity → ask_of asks object ≡ None → length asks < places.room
+    → next ≡ position_or_len is_due (asks ++ new_ask object held ∷ []) → capacity ≤ reserved
+    → KeepsAsks (record { room = places.room; asks = asks ++ new_ask object held ∷ [] })
+    (record places { keys = places.keys ++ object ∷ [] }) grades next reserved
 keeps_pushed places asks grades cursor next capacity reserved object held k absent few at large = record {
   keys = ap (λ os. os ++ object ∷ []) k.keys ∙ sym (map-append (λ (ask : Ask). ask.object) asks (new_ask object held ∷ []));
   stands = k.stands ∙ grades_push places.room asks object held few;
@@ -197,14 +209,20 @@ keeps_pushed places asks grades cursor next capacity reserved object held k abse
 }
 
 -- the asks after one more
-pub keeps_push : (places added : Keys) (asks more : List Ask) (grades : List (Option ℕ)) (cursor next capacity reserved object : ℕ) (held : Bool) → KeepsAsks (record { room = places.room; asks = asks }) places grades cursor capacity → ask_of asks object ≡ None → length asks < places.room → added ≡ record places { keys = places.keys ++ object ∷ [] } → more ≡ asks ++ new_ask object held ∷ [] → next ≡ position_or_len is_due more → capacity ≤ reserved → KeepsAsks (record { room = added.room; asks = more }) added grades next reserved
+pub keeps_push : (places added : Keys) (asks more : List Ask) (grades : List (Option ℕ)) (cursor next capacity reserved object : ℕ) (held : Bool)
+    → KeepsAsks (record { room = places.room; asks = asks }) places grades cursor capacity → ask_of asks object ≡ None → length asks < places.room
+    → added ≡ record places { keys = places.keys ++ object ∷ [] } → more ≡ asks ++ new_ask object held ∷ [] → next ≡ position_or_len is_due more
+    → capacity ≤ reserved → KeepsAsks (record { room = added.room; asks = more }) added grades next reserved
 keeps_push places added asks more grades cursor next capacity reserved object held k absent few with_key with_ask with_next large =
     subst (λ (keys : Keys). KeepsAsks (record { room = keys.room; asks = more }) keys grades next reserved) (sym with_key)
     (subst (λ (list : List Ask). KeepsAsks (record { room = places.room; asks = list }) (record places { keys = places.keys ++ object ∷ [] }) grades next reserved) (sym with_ask)
     (keeps_pushed places asks grades cursor next capacity reserved object held k absent few (with_next ∙ ap (position_or_len is_due) with_ask) large))
 
 -- the asks after a change of one
-pub keeps_put : (places : Keys) (asks : List Ask) (grades after : List (Option ℕ)) (cursor next capacity place : ℕ) (ask : Ask) → KeepsAsks (record { room = places.room; asks = asks }) places grades cursor capacity → option_map (λ (had : Ask). had.object) (slice_get asks place) ≡ Some ask.object → after ≡ set grades place (open_grade ask) → next ≡ position_or_len is_due (set asks place ask) → KeepsAsks (record { room = places.room; asks = set asks place ask }) places after next capacity
+pub keeps_put : (places : Keys) (asks : List Ask) (grades after : List (Option ℕ)) (cursor next capacity place : ℕ) (ask : Ask)
+    → KeepsAsks (record { room = places.room; asks = asks }) places grades cursor capacity
+    → option_map (λ (had : Ask). had.object) (slice_get asks place) ≡ Some ask.object → after ≡ set grades place (open_grade ask)
+    → next ≡ position_or_len is_due (set asks place ask) → KeepsAsks (record { room = places.room; asks = set asks place ask }) places after next capacity
 keeps_put places asks grades after cursor next capacity place ask k same written at = record {
   keys = k.keys ∙ sym objects_stay;
   stands = written ∙ ap (λ gs. set gs place (open_grade ask)) k.stands ∙ set-append_left (map open_grade asks) (replicate (places.room - length asks) None) place (open_grade ask) (subst (λ n. place < n) (sym (length-map asks open_grade)) within)
@@ -226,25 +244,29 @@ keeps_put places asks grades after cursor next capacity place ask k same written
     objects_stay : ask_objects (set asks place ask) ≡ ask_objects asks
     objects_stay = map-set (λ (had : Ask). had.object) asks place ask ∙ set_same (ask_objects asks) place ask.object there
 
-read_mapped : (f : Ask → Option ℕ) (asks : List Ask) (i : ℕ) (ask : Ask) → i < length asks → slice_index_or asks i ask ≡ ask → slice_index_or (map f asks) i None ≡ f ask
+read_mapped : (f : Ask → Option ℕ) (asks : List Ask) (i : ℕ) (ask : Ask) → i < length asks → slice_index_or asks i ask ≡ ask
+    → slice_index_or (map f asks) i None ≡ f ask
 read_mapped f [] i ask l e = absurd (omega arith)
 read_mapped f (first ∷ asks) zero ask l e = ap f e
 read_mapped f (first ∷ asks) (suc i) ask l e = read_mapped f asks i ask (omega arith) e
 
 -- the open grade of an ask stands in the tree
-grade_of : (list : AskList) (places : Keys) (grades : List (Option ℕ)) (cursor capacity : ℕ) (ask : Ask) → KeepsAsks list places grades cursor capacity → (c : Contains list.asks ask) → grade_at grades c.0 ≡ open_grade ask
+grade_of : (list : AskList) (places : Keys) (grades : List (Option ℕ)) (cursor capacity : ℕ) (ask : Ask) → KeepsAsks list places grades cursor capacity
+    → (c : Contains list.asks ask) → grade_at grades c.0 ≡ open_grade ask
 grade_of list places grades cursor capacity ask k c =
     ap (λ gs. slice_index_or gs c.0 None) k.stands
     ∙ get_or_append_left (map open_grade list.asks) (replicate (list.room - length list.asks) None) None c.0 (subst (λ n. c.0 < n) (sym (length-map list.asks open_grade)) c.1)
     ∙ read_mapped open_grade list.asks c.0 ask c.1 c.2
 
-none_above : (asks : List Ask) (bottom : ℕ) → ((ask : Ask) → Contains asks ask → (grade : ℕ) → open_grade ask ≡ Some grade → grade ≤ bottom) → first_above bottom asks ≡ None
+none_above : (asks : List Ask) (bottom : ℕ) → ((ask : Ask) → Contains asks ask → (grade : ℕ) → open_grade ask ≡ Some grade → grade ≤ bottom)
+    → first_above bottom asks ≡ None
 none_above asks bottom h =
     find_none (λ (row : Row). nat_lt bottom row.grade) (open_rows asks) (λ row c.
-    let from = filter_map_from open_row asks row c in
+    let from = contains_from_filter_map open_row asks row c in
     le-ltb bottom row.grade (h from.0 from.1 row.grade (open_from from.0 row from.2)))
   where
-    open_of : (o : Option ℕ) (object : ℕ) (row : Row) → option_map (λ (grade : ℕ). let one : Row = record { object = object; grade = grade } in one) o ≡ Some row → o ≡ Some row.grade
+    open_of : (o : Option ℕ) (object : ℕ) (row : Row)
+        → option_map (λ (grade : ℕ). let one : Row = record { object = object; grade = grade } in one) o ≡ Some row → o ≡ Some row.grade
     open_of None object row e = absurd (none_not_some e)
     open_of (Some grade) object row e =
         let one : Row = record { object = object; grade = grade } in
@@ -253,7 +275,8 @@ none_above asks bottom h =
     open_from : (ask : Ask) (row : Row) → open_row ask ≡ Some row → open_grade ask ≡ Some row.grade
     open_from ask row e = open_of (open_grade ask) ask.object row e
 
-pub bounded_none_above : (list : AskList) (places : Keys) (grades : List (Option ℕ)) (cursor capacity bottom : ℕ) → KeepsAsks list places grades cursor capacity → AreWithin grades bottom → first_above bottom list.asks ≡ None
+pub bounded_none_above : (list : AskList) (places : Keys) (grades : List (Option ℕ)) (cursor capacity bottom : ℕ)
+    → KeepsAsks list places grades cursor capacity → AreWithin grades bottom → first_above bottom list.asks ≡ None
 bounded_none_above list places grades cursor capacity bottom k within =
     none_above list.asks bottom (λ ask c grade e. within.each c.0 grade (grade_of list places grades cursor capacity ask k c ∙ e))
 
@@ -261,20 +284,25 @@ bounded_none_above list places grades cursor capacity bottom k within =
 abbrev row_of : ℕ → Option ℕ → Option Row
 row_of object grade = option_map (λ (g : ℕ). let one : Row = record { object = object; grade = g } in one) grade
 
-found_here : (bottom object : ℕ) (o : Option ℕ) (rest : List Row) (grade : ℕ) → o ≡ Some grade → bottom < grade → row_of object o ≡ find (λ (row : Row). nat_lt bottom row.grade) (cons_option (row_of object o) rest)
+found_here : (bottom object : ℕ) (o : Option ℕ) (rest : List Row) (grade : ℕ) → o ≡ Some grade → bottom < grade
+    → row_of object o ≡ find (λ (row : Row). nat_lt bottom row.grade) (cons_option (row_of object o) rest)
 found_here bottom object None rest grade e above = absurd (none_not_some e)
 found_here bottom object (Some other) rest grade e above =
     let is : other ≡ grade = cc in
     let one : Row = record { object = object; grade = other } in
     ap (λ b. cond b (Some one) (find (λ (row : Row). nat_lt bottom row.grade) rest)) (sym (lt-ltb bottom other (omega arith)))
 
-passed_by : (bottom object : ℕ) (o : Option ℕ) (rest : List Row) → ((other : ℕ) → o ≡ Some other → other ≤ bottom) → find (λ (row : Row). nat_lt bottom row.grade) (cons_option (row_of object o) rest) ≡ find (λ (row : Row). nat_lt bottom row.grade) rest
+passed_by : (bottom object : ℕ) (o : Option ℕ) (rest : List Row) → ((other : ℕ) → o ≡ Some other → other ≤ bottom)
+    → find (λ (row : Row). nat_lt bottom row.grade) (cons_option (row_of object o) rest) ≡ find (λ (row : Row). nat_lt bottom row.grade) rest
 passed_by bottom object None rest low = refl
 passed_by bottom object (Some other) rest low =
     let one : Row = record { object = object; grade = other } in
     ap (λ b. cond b (Some one) (find (λ (row : Row). nat_lt bottom row.grade) rest)) (le-ltb bottom other (low other refl))
 
-first_at : (bottom : ℕ) (asks : List Ask) (place grade : ℕ) → ((before other : ℕ) → before < place → slice_index_or (map open_grade asks) before None ≡ Some other → other ≤ bottom) → slice_index_or (map open_grade asks) place None ≡ Some grade → bottom < grade → (ask : Ask) × (slice_get asks place ≡ Some ask) × (open_row ask ≡ first_above bottom asks)
+first_at : (bottom : ℕ) (asks : List Ask) (place grade : ℕ)
+    → ((before other : ℕ) → before < place → slice_index_or (map open_grade asks) before None ≡ Some other → other ≤ bottom)
+    → slice_index_or (map open_grade asks) place None ≡ Some grade → bottom < grade
+    → (ask : Ask) × (slice_get asks place ≡ Some ask) × (open_row ask ≡ first_above bottom asks)
 first_at bottom [] place grade before e above = absurd (none_not_some e)
 first_at bottom (ask ∷ asks) zero grade before e above = (ask, refl, found_here bottom ask.object (open_grade ask) (open_rows asks) grade e above)
 first_at bottom (ask ∷ asks) (suc place) grade before e above =
@@ -282,7 +310,8 @@ first_at bottom (ask ∷ asks) (suc place) grade before e above =
     (rest.0, rest.1, rest.2 ∙ sym (passed_by bottom ask.object (open_grade ask) (open_rows asks) (λ other is. before 0 other (omega arith) is)))
 
 -- a grade that stands in a list stands in the longer one, and none stands in what only fills it up
-grade_kept : (grades more : List (Option ℕ)) (place grade : ℕ) → slice_index_or grades place None ≡ Some grade → slice_index_or (grades ++ more) place None ≡ Some grade
+grade_kept : (grades more : List (Option ℕ)) (place grade : ℕ) → slice_index_or grades place None ≡ Some grade
+    → slice_index_or (grades ++ more) place None ≡ Some grade
 grade_kept [] more place grade e = absurd (none_not_some e)
 grade_kept (first ∷ grades) more zero grade e = e
 grade_kept (first ∷ grades) more (suc place) grade e = grade_kept grades more place grade e
@@ -292,12 +321,14 @@ none_filled zero place grade e = none_not_some e
 none_filled (suc n) zero grade e = none_not_some e
 none_filled (suc n) (suc place) grade e = none_filled n place grade e
 
-grade_inside : (grades : List (Option ℕ)) (n place grade : ℕ) → slice_index_or (grades ++ replicate n None) place None ≡ Some grade → slice_index_or grades place None ≡ Some grade
+grade_inside : (grades : List (Option ℕ)) (n place grade : ℕ) → slice_index_or (grades ++ replicate n None) place None ≡ Some grade
+    → slice_index_or grades place None ≡ Some grade
 grade_inside [] n place grade e = absurd (none_filled n place grade e)
 grade_inside (first ∷ grades) n zero grade e = e
 grade_inside (first ∷ grades) n (suc place) grade e = grade_inside grades n place grade e
 
-pub first_found : (list : AskList) (places : Keys) (grades : List (Option ℕ)) (cursor capacity bottom place : ℕ) → KeepsAsks list places grades cursor capacity → IsFirstAbove grades bottom place → (ask : Ask) × (slice_get list.asks place ≡ Some ask) × (open_row ask ≡ first_above bottom list.asks)
+pub first_found : (list : AskList) (places : Keys) (grades : List (Option ℕ)) (cursor capacity bottom place : ℕ) → KeepsAsks list places grades cursor capacity
+    → IsFirstAbove grades bottom place → (ask : Ask) × (slice_get list.asks place ≡ Some ask) × (open_row ask ≡ first_above bottom list.asks)
 first_found list places grades cursor capacity bottom place k found =
     first_at bottom list.asks place found.grade
     (λ before other less e. found.none_before before other less (ap (λ gs. slice_index_or gs before None) k.stands ∙ grade_kept (map open_grade list.asks) (replicate (list.room - length list.asks) None) before other e))
@@ -305,13 +336,16 @@ first_found list places grades cursor capacity bottom place k found =
     found.above
 
 -- what is read at the place of the first grade above one
-pub read_above : (bottom place : ℕ) (list : AskList) (ask : Ask) → (found : Ask) × (slice_get list.asks place ≡ Some found) × (open_row found ≡ first_above bottom list.asks) → Some ask ≡ slice_get list.asks place → open_row ask ≡ first_above bottom list.asks
+pub read_above : (bottom place : ℕ) (list : AskList) (ask : Ask)
+    → (found : Ask) × (slice_get list.asks place ≡ Some found) × (open_row found ≡ first_above bottom list.asks) → Some ask ≡ slice_get list.asks place
+    → open_row ask ≡ first_above bottom list.asks
 read_above bottom place list ask first read =
     let same : Some ask ≡ Some first.0 = read ∙ first.1 in
     let is : ask ≡ first.0 = cc in
     ap open_row is ∙ first.2
 
-pub not_unread : (bottom place : ℕ) (list : AskList) → (found : Ask) × (slice_get list.asks place ≡ Some found) × (open_row found ≡ first_above bottom list.asks) → None ≡ slice_get list.asks place → ⊥
+pub not_unread : (bottom place : ℕ) (list : AskList)
+    → (found : Ask) × (slice_get list.asks place ≡ Some found) × (open_row found ≡ first_above bottom list.asks) → None ≡ slice_get list.asks place → ⊥
 not_unread bottom place list first read = none_not_some (read ∙ first.1)
 
 -- the steps of the cursor
@@ -323,18 +357,22 @@ stop_cases (ask ∷ asks) (suc i) d l = stop_cases asks i d (omega arith)
 no_ask : Ask
 no_ask = record { object = 0; settling = None; is_held = true }
 
-pub stop_more : (asks : List Ask) (i : ℕ) → i ≤ position_or_len is_due asks → i < length asks → false ≡ stops (slice_get asks i) → i + 1 ≤ position_or_len is_due asks
+pub stop_more : (asks : List Ask) (i : ℕ) → i ≤ position_or_len is_due asks → i < length asks → false ≡ stops (slice_get asks i)
+    → i + 1 ≤ position_or_len is_due asks
 stop_more asks i low within goes = place_more is_due asks i no_ask low within (sym (goes ∙ stop_cases asks i no_ask within))
 
-pub stop_here : (asks : List Ask) (i : ℕ) → i ≤ position_or_len is_due asks → i < length asks → true ≡ stops (slice_get asks i) → i ≡ position_or_len is_due asks
+pub stop_here : (asks : List Ask) (i : ℕ) → i ≤ position_or_len is_due asks → i < length asks → true ≡ stops (slice_get asks i)
+    → i ≡ position_or_len is_due asks
 stop_here asks i low within stop = place_here is_due asks i no_ask low (sym (stop ∙ stop_cases asks i no_ask within))
 
-pub after_push : (cursor : ℕ) (asks more now : List Ask) (ask : Ask) → cursor ≡ position_or_len is_due asks → more ≡ asks ++ ask ∷ [] → now ≡ more → cursor ≤ position_or_len is_due now
+pub after_push : (cursor : ℕ) (asks more now : List Ask) (ask : Ask) → cursor ≡ position_or_len is_due asks → more ≡ asks ++ ask ∷ [] → now ≡ more
+    → cursor ≤ position_or_len is_due now
 after_push cursor asks more now ask at push is =
     subst (λ (list : List Ask). cursor ≤ position_or_len is_due list) (sym (is ∙ push))
     (subst (λ n. n ≤ position_or_len is_due (asks ++ ask ∷ [])) (sym at) (place_push is_due asks ask))
 
-pub after_set : (cursor : ℕ) (asks now : List Ask) (place : ℕ) (ask : Ask) → cursor ≡ position_or_len is_due asks → is_due ask ≡ false → now ≡ set asks place ask → cursor ≤ position_or_len is_due now
+pub after_set : (cursor : ℕ) (asks now : List Ask) (place : ℕ) (ask : Ask) → cursor ≡ position_or_len is_due asks → is_due ask ≡ false
+    → now ≡ set asks place ask → cursor ≤ position_or_len is_due now
 after_set cursor asks now place ask at passed is =
     subst (λ (list : List Ask). cursor ≤ position_or_len is_due list) (sym is)
     (subst (λ n. n ≤ position_or_len is_due (set asks place ask)) (sym at) (place_set is_due asks place ask passed))

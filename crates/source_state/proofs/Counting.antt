@@ -1,6 +1,6 @@
 -- Numbers of a tally at their last value.
-use Rattle.std.proofs.Common.{◌≡◌, ◌≤◌, ℕ, Bool, true, false, cond, Option, Some, None, nat_lt, refl, sym, ap, ◌∙◌, arith}
-use Rattle.std.proofs.lemmas.Bool.{le-ltb}
+use Rattle.std.proofs.Common.{◌≡◌, ◌≤◌, ◌<◌, ℕ, Bool, true, false, cond, Option, Some, None, nat_lt, refl, sym, ap, ◌∙◌, arith}
+use Rattle.std.proofs.lemmas.Bool.{le-ltb, ltb-true}
 use Rattle.ranked_list.specs.declared.need.Need.{Need}
 use Rattle.turn_lock.specs.declared.facts.Tally.{Tally}
 use Rattle.source_state.specs.declared.entry.FailKind.{FailKind}
@@ -49,6 +49,23 @@ told_newer : (b : Bool) (kind : Option FailKind) (what : FailKind) → cond b ki
 told_newer true kind what e = e
 told_newer false kind what e = absurd (none_not_some e)
 
+waited : (b : Bool) (kind : Option FailKind) (what : FailKind) → cond b kind None ≡ Some what → b ≡ true
+waited true kind what e = refl
+waited false kind what e = absurd (none_not_some e)
+
+newer_more : (noted now : Tally) (what : FailKind) → newer noted now ≡ Some what → count_of what noted < count_of what now
+newer_more noted now Failed e = ltb-true noted.failed now.failed (first_failed (nat_lt noted.failed now.failed) (nat_lt noted.garbled now.garbled) (nat_lt noted.memory now.memory) e)
+newer_more noted now Garbled e = ltb-true noted.garbled now.garbled (first_garbled (nat_lt noted.failed now.failed) (nat_lt noted.garbled now.garbled) (nat_lt noted.memory now.memory) e)
+newer_more noted now Memory e = ltb-true noted.memory now.memory (first_memory (nat_lt noted.failed now.failed) (nat_lt noted.garbled now.garbled) (nat_lt noted.memory now.memory) e)
+
+-- a kind that is told was waited for, and more of it came than were noted
+pub told_more : (waiting : Waiting) (need : Need) (now : Tally) (what : FailKind) → told waiting need now ≡ Some what
+    → (waits_for waiting.need need ≡ true) × (count_of what waiting.noted < count_of what now)
+told_more waiting need now what e = (
+  waited (waits_for waiting.need need) (newer waiting.noted now) what e,
+  newer_more waiting.noted now what (told_newer (waits_for waiting.need need) (newer waiting.noted now) what e),
+)
+
 apart : {b : Bool} → b ≡ false → b ≡ true → ⊥
 apart f t = let bad : true ≡ false = sym t ∙ f in absurd (cc)
 
@@ -57,5 +74,6 @@ none_newer noted now Failed counted full e = apart (no_more noted.failed now.fai
 none_newer noted now Garbled counted full e = apart (no_more noted.garbled now.garbled counted.garbled full) (first_garbled (nat_lt noted.failed now.failed) (nat_lt noted.garbled now.garbled) (nat_lt noted.memory now.memory) e)
 none_newer noted now Memory counted full e = apart (no_more noted.memory now.memory counted.memory full) (first_memory (nat_lt noted.failed now.failed) (nat_lt noted.garbled now.garbled) (nat_lt noted.memory now.memory) e)
 
-pub untold_full : (waiting : Waiting) (need : Need) (now : Tally) (what : FailKind) → IsCounted now → count_of what waiting.noted ≡ last_count → told waiting need now ≡ Some what → ⊥
+pub untold_full : (waiting : Waiting) (need : Need) (now : Tally) (what : FailKind) → IsCounted now → count_of what waiting.noted ≡ last_count
+    → told waiting need now ≡ Some what → ⊥
 untold_full waiting need now what counted full e = none_newer waiting.noted now what counted full (told_newer (waits_for waiting.need need) (newer waiting.noted now) what e)

@@ -3,6 +3,8 @@ use Rattle.std.proofs.Common.{◌≡◌, ◌<◌, ◌≤◌, ◌⊎◌, inl, inr
 use Rattle.std.proofs.lemmas.List.Elements.{All-contains, All-head, All-tail, Contains-append_left, Contains-append_cases}
 use Rattle.ranked_list.specs.declared.row.Row.{Row}
 use Rattle.ranked_list.specs.Table.{IsRanked, objects, top_grade}
+use Rattle.ranked_list.proofs.OptionLaws.{option_cases}
+use Rattle.ranked_list.proofs.FrontLaws.{IsRanked-nil}
 use Rattle.topk_theory.specs.declared.access.Access.{Access}
 use Rattle.topk_theory.specs.declared.access.Access.TheVariants.{Sorted, Random}
 use Rattle.topk_theory.specs.Transcript.{Begins, IsDrawn, Gives, list_of, list_at, last_grade, sorted_rows, random_rows, named_objects}
@@ -12,7 +14,7 @@ use Rattle.topk_theory.specs.Consistent.{no_such_list, above_top, too_many_objec
 use Rattle.topk_theory.proofs.AgreementLists.{contains_nil, contains_here, contains_there, member_of_all, begins_splits}
 use Rattle.topk_theory.proofs.AgreementRows.{grade_among_row, grade_among_none, grade_in_row, object_of_row}
 use Rattle.topk_theory.proofs.Agreement.{drawn_push}
-use Rattle.topk_theory.proofs.ConsistentRows.{AreCoherent, ranked_nil, ranked_front, ranked_capped, behind_below_last}
+use Rattle.topk_theory.proofs.ConsistentRows.{AreCoherent, ranked_front, ranked_capped, behind_below_last}
 use Rattle.topk_theory.proofs.ConsistentTable.{IsCoherent}
 use Rattle.topk_theory.proofs.Consistent.{coherent_free, coherent_agrees}
 use Rattle.source_state.specs.declared.entry.LogEntry.{LogEntry}
@@ -20,7 +22,6 @@ use Rattle.source_state.specs.declared.entry.Settling.TheVariants.{Graded}
 use Rattle.source_state.specs.Log.{rows_in, settling_in, graded_in}
 use Rattle.source_state.specs.State.{GoesWith, IsSoundLog}
 use Rattle.source_state.specs.Drawing.{told_by, IsSomeSound}
-use Rattle.source_state.proofs.Lists.{option_cases}
 use Rattle.source_state.proofs.LogLaws.{graded_settling}
 
 -- a row of ranked rows has the grade that they give its object
@@ -40,7 +41,8 @@ low_last grade above [] low each = low
 low_last grade above (row ∷ rows) low each = low_last grade row.grade rows (each row (contains_here row rows)) (λ other c. each other (contains_there row rows other c))
 
 -- known rows of one object have one grade
-one_grade : (count : ℕ) (asks : List ℕ) (log : List LogEntry) (row other : Row) → IsSoundLog count asks log → Contains (rows_in log ++ graded_in log) row → Contains (rows_in log ++ graded_in log) other → row.object ≡ other.object → row.grade ≡ other.grade
+one_grade : (count : ℕ) (asks : List ℕ) (log : List LogEntry) (row other : Row) → IsSoundLog count asks log → Contains (rows_in log ++ graded_in log) row
+    → Contains (rows_in log ++ graded_in log) other → row.object ≡ other.object → row.grade ≡ other.grade
 one_grade count asks log row other h c d same =
     elim (Contains-append_cases (rows_in log) (graded_in log) row c) [
       | inl one ↦ elim (Contains-append_cases (rows_in log) (graded_in log) other d) [
@@ -63,7 +65,8 @@ one_grade count asks log row other h c d same =
     settled e = cc
 
 -- what was read and looked up of a sound log is coherent
-log_coherent : (count : ℕ) (asks : List ℕ) (log : List LogEntry) (read looked : List Row) → IsSoundLog count asks log → Begins read (rows_in log) → All (Contains (rows_in log ++ graded_in log)) looked → AreCoherent read looked
+log_coherent : (count : ℕ) (asks : List ℕ) (log : List LogEntry) (read looked : List Row) → IsSoundLog count asks log → Begins read (rows_in log)
+    → All (Contains (rows_in log ++ graded_in log)) looked → AreCoherent read looked
 log_coherent count asks log read looked h begins within = record {
   ranked = ranked_front read rest (subst IsRanked split h.ranked);
   capped = λ row c. elim (Contains-append_cases (rows_in log) (graded_in log) row (known row c)) [
@@ -119,7 +122,7 @@ none_sound = record {
   count = 0;
   asks = [];
   sound = record {
-    ranked = ranked_nil;
+    ranked = IsRanked-nil;
     fits = omega arith;
     good = λ k d l. absurd (omega arith);
     once = λ i j d l m. absurd (omega arith);
@@ -133,7 +136,8 @@ sound_at [] list h = none_sound
 sound_at (log ∷ logs) zero h = All-head IsSomeSound log logs h
 sound_at (log ∷ logs) (suc list) h = sound_at logs list (All-tail IsSomeSound log logs h)
 
-drawn_coherent : (m n : ℕ) (logs : List (List LogEntry)) (A : List Access) → All IsSomeSound logs → IsDrawn m (told_by logs) A → length (named_objects A) ≤ n → IsCoherent m n A
+drawn_coherent : (m n : ℕ) (logs : List (List LogEntry)) (A : List Access) → All IsSomeSound logs → IsDrawn m (told_by logs) A → length (named_objects A) ≤ n
+    → IsCoherent m n A
 drawn_coherent m n logs A sound drawn few = record {
   in_range = drawn.in_range;
   fits = few;
@@ -144,7 +148,8 @@ drawn_coherent m n logs A sound drawn few = record {
       (subst (λ rows. All (Contains rows) (random_rows list A)) (map_at (λ log. rows_in log ++ graded_in log) refl logs list) (drawn.random list l));
 }
 
-pub drawn_consistent : (m n : ℕ) (logs : List (List LogEntry)) (A : List Access) → All IsSomeSound logs → IsDrawn m (told_by logs) A → length (named_objects A) ≤ n → SomeAgrees m n A
+pub drawn_consistent : (m n : ℕ) (logs : List (List LogEntry)) (A : List Access) → All IsSomeSound logs → IsDrawn m (told_by logs) A
+    → length (named_objects A) ≤ n → SomeAgrees m n A
 drawn_consistent m n logs A sound drawn few = coherent_agrees m n A (drawn_coherent m n logs A sound drawn few)
 
 -- a kind but the one of too many objects doesn't speak of the number of objects
@@ -163,7 +168,8 @@ other_count m n other A (Random list object grade) falls_short h = inr h
 other_count m n other A (Sorted list object grade) above_bottom h = inr h
 other_count m n other A (Random list object grade) above_bottom h = inr h
 
-pub next_consistent : (m n : ℕ) (logs : List (List LogEntry)) (A : List Access) (a : Access) (kind : Kind) → All IsSomeSound logs → IsDrawn m (told_by logs) A → list_of a < m → Gives (told_by logs) A a → IsOfKind m n A a kind → kind ≡ too_many_objects
+pub next_consistent : (m n : ℕ) (logs : List (List LogEntry)) (A : List Access) (a : Access) (kind : Kind) → All IsSomeSound logs → IsDrawn m (told_by logs) A
+    → list_of a < m → Gives (told_by logs) A a → IsOfKind m n A a kind → kind ≡ too_many_objects
 next_consistent m n logs A a kind sound drawn l gives of =
     let longer : IsDrawn m (told_by logs) (A ++ a ∷ []) = drawn_push m (told_by logs) A a drawn l gives in
     let count : ℕ = length (named_objects (A ++ a ∷ [])) in

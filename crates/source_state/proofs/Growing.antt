@@ -24,7 +24,8 @@ asked_begins (Some ask) object asks = begins_same asks
 pub ask_grows : (s : State) (object : ℕ) → Grows (facts_of s) (facts_of (with_ask s object))
 ask_grows s object = record { name = refl; log = begins_same s.log; asks = asked_begins (ask_of (asks_of s) object) object s.asks; mark = le_refl _; tally = at_most_same s.tally }
 
-row_grows : (o : Option SourceFault) (s : State) (row : Row) (next : State → State) → ((t : State) → Grows (facts_of t) (facts_of (next t))) → Grows (facts_of s) (facts_of (row_or o s row next))
+row_grows : (o : Option SourceFault) (s : State) (row : Row) (next : State → State) → ((t : State) → Grows (facts_of t) (facts_of (next t)))
+    → Grows (facts_of s) (facts_of (row_or o s row next))
 row_grows None s row next h = grows_on (logged_grows s (Kept row)) (h (logged s (Kept row)))
 row_grows (Some fault) s row next h = logged_grows s (Fault fault)
 

@@ -1,13 +1,13 @@
 pub mod Lists
 pub mod LogLaws
-mod AskLaws
+pub mod AskLaws
 mod Caching
 pub mod Sound
 mod Stepping
 pub mod Drawing
-mod Told
-mod LookLaws
-mod Growing
+pub mod Told
+pub mod LookLaws
+pub mod Growing
 mod Paging
-mod Counting
+pub mod Counting
 mod LogTold

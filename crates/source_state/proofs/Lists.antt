@@ -1,6 +1,6 @@
 -- First members that pass, and lists by their members.
-use Rattle.std.proofs.Common.{◌≡◌, ◌≤◌, ◌==◌, ◌⊎◌, inl, inr, ℕ, Bool, true, false, cond, not, Option, Some, None, List, [], ◌∷◌, length, map, filter_map, slice_get, nat_lt, Contains, refl, sym, ap, subst, ◌∙◌, ◌+◌}
-use Rattle.std.specs.List.{find, position, position_or_len, cons_option}
+use Rattle.std.proofs.Common.{◌≡◌, ◌≤◌, ◌==◌, ◌⊎◌, inl, inr, ℕ, Bool, true, false, cond, not, Option, Some, None, List, [], ◌∷◌, length, map, slice_get, nat_lt, Contains, refl, sym, ap, subst, ◌∙◌, ◌+◌}
+use Rattle.std.specs.List.{find, position, position_or_len}
 use Rattle.std.proofs.lemmas.Bool.{ltb-false}
 use Rattle.std.proofs.lemmas.Bool.Decides.{eqb_tells}
 use Rattle.std.proofs.lemmas.List.{length-map}
@@ -11,11 +11,6 @@ use Rattle.source_state.specs.Log.{first_of}
 
 pub none_not_some : {A : Type 0} {x : A} → None ≡ Some x → ⊥
 none_not_some e = cc
-
--- an option is there or not
-pub option_cases : {A : Type 0} (o : Option A) → (o ≡ None) ⊎ ((x : A) × (o ≡ Some x))
-option_cases None = inl refl
-option_cases (Some x) = inr (x, refl)
 
 -- a choice whose first arm is there gives nothing: the test fails, and the second arm gives nothing
 pub cond_none : {A : Type 0} (b : Bool) (x : A) (rest : Option A) → cond b (Some x) rest ≡ None → (b ≡ false) × (rest ≡ None)
@@ -33,19 +28,6 @@ eqb_swap m n = elim (eqb_tells m n) [
   | inl t ↦ t.0 ∙ sym (subst (λ k. (n == k) ≡ true) (sym t.1) (eqb_same n))
   | inr f ↦ f.0 ∙ sym (eqb_other n m (λ e. f.1 (sym e)))
 ]
-
--- maps that agree, and a map of a map
-pub map_agree : {X Y : Type 0} (f g : X → Y) → ((x : X) → f x ≡ g x) → (xs : List X) → map f xs ≡ map g xs
-map_agree f g h [] = refl
-map_agree f g h (x ∷ xs) = let head = h x in let tail = map_agree f g h xs in cc
-
-pub map_twice : {X Y Z : Type 0} (f : Y → Z) (g : X → Y) (xs : List X) → map f (map g xs) ≡ map (λ x. f (g x)) xs
-map_twice f g [] = refl
-map_twice f g (x ∷ xs) = ap (λ ys. f (g x) ∷ ys) (map_twice f g xs)
-
-pub map_same : {X : Type 0} (f : X → X) → ((x : X) → f x ≡ x) → (xs : List X) → map f xs ≡ xs
-map_same f h [] = refl
-map_same f h (x ∷ xs) = let head = h x in let tail = map_same f h xs in cc
 
 -- the first place of a mapped list
 place_map : {X Y : Type 0} (p : Y → Bool) (f : X → Y) (xs : List X) → position_or_len p (map f xs) ≡ position_or_len (λ x. p (f x)) xs
@@ -83,31 +65,6 @@ none_found p (y ∷ xs) x e c =
     elim (contains_cases y xs x c) [
       | inl same ↦ subst (λ z. p z ≡ false) same parts.0
       | inr t ↦ none_found p xs x parts.1 t
-    ]
-
--- what a filter gives stands in what it gives of a member
-contains_past : {Y : Type 0} (o : Option Y) (ys : List Y) (y : Y) → Contains ys y → Contains (cons_option o ys) y
-contains_past None ys y k = k
-contains_past (Some w) ys y k = contains_there w ys y k
-
-pub filter_map_contains : {X Y : Type 0} (h : X → Option Y) (xs : List X) (x : X) (y : Y) → Contains xs x → h x ≡ Some y → Contains (filter_map h xs) y
-filter_map_contains h [] x y c e = absurd (contains_nil x c)
-filter_map_contains h (z ∷ xs) x y c e =
-    elim (contains_cases z xs x c) [
-      | inl same ↦ subst (λ o. Contains (cons_option o (filter_map h xs)) y) (sym (subst (λ w. h w ≡ Some y) (sym same) e)) (contains_here y (filter_map h xs))
-      | inr t ↦ contains_past (h z) (filter_map h xs) y (filter_map_contains h xs x y t e)
-    ]
-
-contains_or : {Y : Type 0} (o : Option Y) (ys : List Y) (y : Y) → Contains (cons_option o ys) y → (o ≡ Some y) ⊎ Contains ys y
-contains_or None ys y k = inr k
-contains_or (Some w) ys y k = elim (contains_cases w ys y k) [ inl same ↦ inl (ap (λ v. Some v) same) | inr t ↦ inr t ]
-
-pub filter_map_from : {X Y : Type 0} (h : X → Option Y) (xs : List X) (y : Y) → Contains (filter_map h xs) y → (x : X) × Contains xs x × (h x ≡ Some y)
-filter_map_from h [] y c = absurd (contains_nil y c)
-filter_map_from h (x ∷ xs) y c =
-    elim (contains_or (h x) (filter_map h xs) y c) [
-      | inl e ↦ (x, contains_here x xs, e)
-      | inr t ↦ let r = filter_map_from h xs y t in (r.0, contains_there x xs r.0 r.1, r.2)
     ]
 
 -- a list without a first member is empty

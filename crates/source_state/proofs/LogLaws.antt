@@ -33,20 +33,24 @@ kept_faults log row = filter_map_push_none fault_set log (Kept row) refl
 pub settled_rows : (log : List LogEntry) (object : ℕ) (settling : Settling) → rows_in (log ++ Settled object settling ∷ []) ≡ rows_in log
 settled_rows log object settling = filter_map_push_none kept_row log (Settled object settling) refl
 
-pub settled_settled : (log : List LogEntry) (object : ℕ) (settling : Settling) → settled_in (log ++ Settled object settling ∷ []) ≡ settled_in log ++ object ∷ []
+pub settled_settled : (log : List LogEntry) (object : ℕ) (settling : Settling)
+    → settled_in (log ++ Settled object settling ∷ []) ≡ settled_in log ++ object ∷ []
 settled_settled log object settling = filter_map_push_some settled_object log (Settled object settling) object refl
 
-pub settled_graded : (log : List LogEntry) (object : ℕ) (settling : Settling) → graded_in (log ++ Settled object settling ∷ []) ≡ graded_in log ++ cons_option (graded_as object settling) []
+pub settled_graded : (log : List LogEntry) (object : ℕ) (settling : Settling)
+    → graded_in (log ++ Settled object settling ∷ []) ≡ graded_in log ++ cons_option (graded_as object settling) []
 settled_graded log object settling = filter_map-append graded_row log (Settled object settling ∷ [])
 
 pub settled_faults : (log : List LogEntry) (object : ℕ) (settling : Settling) → faults_in (log ++ Settled object settling ∷ []) ≡ faults_in log
 settled_faults log object settling = filter_map_push_none fault_set log (Settled object settling) refl
 
-pub settled_other : (log : List LogEntry) (object : ℕ) (settling : Settling) (other : ℕ) → (object ≡ other → ⊥) → settling_in (log ++ Settled object settling ∷ []) other ≡ settling_in log other
+pub settled_other : (log : List LogEntry) (object : ℕ) (settling : Settling) (other : ℕ) → (object ≡ other → ⊥)
+    → settling_in (log ++ Settled object settling ∷ []) other ≡ settling_in log other
 settled_other log object settling other apart =
     ap first_of (filter_map_push_none (settled_as other) log (Settled object settling) (ap (λ b. cond b (Some settling) None) (eqb_other object other apart)))
 
-pub settled_same : (log : List LogEntry) (object : ℕ) (settling : Settling) → settling_in log object ≡ None → settling_in (log ++ Settled object settling ∷ []) object ≡ Some settling
+pub settled_same : (log : List LogEntry) (object : ℕ) (settling : Settling) → settling_in log object ≡ None
+    → settling_in (log ++ Settled object settling ∷ []) object ≡ Some settling
 settled_same log object settling e =
     let push : filter_map (settled_as object) (log ++ Settled object settling ∷ []) ≡ filter_map (settled_as object) log ++ settling ∷ [] =
     filter_map_push_some (settled_as object) log (Settled object settling) settling (ap (λ b. cond b (Some settling) None) (eqb_same object)) in
@@ -80,7 +84,8 @@ log_length (Settled object settling ∷ log) = let ih = log_length log in omega 
 log_length (Fault fault ∷ log) = let ih = log_length log in omega arith
 
 -- what isn't settled isn't among the settled
-settled_head : (object other : ℕ) (settling : Settling) (log : List LogEntry) → settling_in (Settled other settling ∷ log) object ≡ None → (object ≡ other → ⊥) × (settling_in log object ≡ None)
+settled_head : (object other : ℕ) (settling : Settling) (log : List LogEntry) → settling_in (Settled other settling ∷ log) object ≡ None
+    → (object ≡ other → ⊥) × (settling_in log object ≡ None)
 settled_head object other settling log e =
     elim (cases_Bool (other == object)) [
       | inl t ↦ let some : Some settling ≡ None = sym (ap (λ b. first_of (cons_option (cond b (Some settling) None) (filter_map (settled_as object) log))) t) ∙ e in absurd (cc)
@@ -116,7 +121,8 @@ graded_settled (Settled object (Bad fault) ∷ log) row c = contains_there objec
 graded_settled (Settled object Missed ∷ log) row c = contains_there object (settled_in log) row.object (graded_settled log row c)
 
 -- where no object is settled twice, a good grade is what its object settled as
-settling_past : (object other : ℕ) (settling : Settling) (log : List LogEntry) → (other ≡ object → ⊥) → settling_in (Settled other settling ∷ log) object ≡ settling_in log object
+settling_past : (object other : ℕ) (settling : Settling) (log : List LogEntry) → (other ≡ object → ⊥)
+    → settling_in (Settled other settling ∷ log) object ≡ settling_in log object
 settling_past object other settling log apart =
     ap (λ b. first_of (cons_option (cond b (Some settling) None) (filter_map (settled_as object) log))) (eqb_other other object apart)
 
@@ -124,7 +130,8 @@ settling_here : (object : ℕ) (settling : Settling) (log : List LogEntry) → s
 settling_here object settling log =
     ap (λ b. first_of (cons_option (cond b (Some settling) None) (filter_map (settled_as object) log))) (eqb_same object)
 
-pub graded_settling : (log : List LogEntry) (row : Row) → AllPairs (λ (one : ℕ) (other : ℕ). one ≢ other) (settled_in log) → Contains (graded_in log) row → settling_in log row.object ≡ Some (Graded row.grade)
+pub graded_settling : (log : List LogEntry) (row : Row) → AllPairs (λ (one : ℕ) (other : ℕ). one ≢ other) (settled_in log) → Contains (graded_in log) row
+    → settling_in log row.object ≡ Some (Graded row.grade)
 graded_settling [] row d c = absurd (contains_nil row c)
 graded_settling (Kept kept ∷ log) row d c = graded_settling log row d c
 graded_settling (Fault fault ∷ log) row d c = graded_settling log row d c
@@ -140,7 +147,8 @@ graded_settling (Settled object Missed ∷ log) row d c =
     settling_past row.object object Missed log (distinct_head object (settled_in log) row.object d (graded_settled log row c)) ∙ graded_settling log row (distinct_tail object (settled_in log) d) c
 
 -- what an object settled as, where it is a good grade, stands among the good grades
-pub settling_graded : (log : List LogEntry) (object grade : ℕ) → settling_in log object ≡ Some (Graded grade) → Contains (graded_in log) (record { object = object; grade = grade })
+pub settling_graded : (log : List LogEntry) (object grade : ℕ) → settling_in log object ≡ Some (Graded grade)
+    → Contains (graded_in log) (record { object = object; grade = grade })
 settling_graded [] object grade e = absurd (none_not_some e)
 settling_graded (Kept kept ∷ log) object grade e = settling_graded log object grade e
 settling_graded (Fault fault ∷ log) object grade e = settling_graded log object grade e
@@ -152,12 +160,14 @@ settling_graded (Settled other settling ∷ log) object grade e =
       | inr f ↦ past settling (settling_graded log object grade (sym (ap (λ b. first_of (cons_option (cond b (Some settling) None) (filter_map (settled_as object) log))) f) ∙ e))
     ]
   where
-    here : (other object : ℕ) (settling : Settling) (grade : ℕ) (log : List LogEntry) → other ≡ object → settling ≡ Graded grade → Contains (graded_in (Settled other settling ∷ log)) (record { object = object; grade = grade })
+    here : (other object : ℕ) (settling : Settling) (grade : ℕ) (log : List LogEntry) → other ≡ object → settling ≡ Graded grade
+        → Contains (graded_in (Settled other settling ∷ log)) (record { object = object; grade = grade })
     here other object settling grade log same is =
         subst (λ s. Contains (graded_in (Settled other s ∷ log)) (record { object = object; grade = grade })) (sym is)
         (subst (λ o. Contains (graded_in (Settled other (Graded grade) ∷ log)) (record { object = o; grade = grade })) same (contains_here _ (graded_in log)))
 
-    past : (s : Settling) → Contains (graded_in log) (record { object = object; grade = grade }) → Contains (graded_in (Settled other s ∷ log)) (record { object = object; grade = grade })
+    past : (s : Settling) → Contains (graded_in log) (record { object = object; grade = grade })
+        → Contains (graded_in (Settled other s ∷ log)) (record { object = object; grade = grade })
     past (Graded g) k = contains_there _ (graded_in log) _ k
     past (Bad fault) k = k
     past Missed k = k

@@ -40,7 +40,8 @@ pub record RowsLogged (s t : State) : Type 0 where
   pub rows : rows_in t.log ≡ rows_in s.log ++ more
   pub log : t.log ≡ s.log ++ (map (λ (row : Row). entry.Kept row) more ++ fault_added None (fault_in t.log))
 
-row_logged : (o : Option SourceFault) (s : State) (row : Row) (next : State → State) → fault_in s.log ≡ None → ((t : State) → fault_in t.log ≡ None → RowsLogged t (next t)) → RowsLogged s (row_or o s row next)
+row_logged : (o : Option SourceFault) (s : State) (row : Row) (next : State → State) → fault_in s.log ≡ None
+    → ((t : State) → fault_in t.log ≡ None → RowsLogged t (next t)) → RowsLogged s (row_or o s row next)
 row_logged None s row next none rest =
     let t : State = logged s (entry.Kept row) in
     let clean : fault_in t.log ≡ None = ap first_of (kept_faults s.log row) ∙ none in
@@ -63,7 +64,8 @@ page_logged s [] none = record {
 }
 page_logged s (row ∷ rows) none = row_logged (row_fault (rows_in s.log) (asks_of s) row) s row (λ t. with_rows t rows) none (λ t clean. page_logged t rows clean)
 
-rows_more : (s t : State) → fault_in s.log ≡ None → RowsLogged s t → t.log ≡ s.log ++ entries_by (rows_in s.log) (rows_in t.log) None (fault_in s.log) (fault_in t.log)
+rows_more : (s t : State) → fault_in s.log ≡ None → RowsLogged s t
+    → t.log ≡ s.log ++ entries_by (rows_in s.log) (rows_in t.log) None (fault_in s.log) (fault_in t.log)
 rows_more s t none l =
     l.log
     ∙ ap (λ more. s.log ++ (map (λ (row : Row). entry.Kept row) more ++ fault_added None (fault_in t.log))) (sym (ap (drop (length (rows_in s.log))) l.rows ∙ drop-append_seam (rows_in s.log) l.more))
@@ -73,7 +75,8 @@ rows_more s t none l =
 settles : State → Event → Option LogEntry
 settles s event = settling_by (λ E. rows_in s.log) (record { before = []; event = event }) event
 
-event_logged : (s : State) (event : Event) → MayCome s event → (after s event).log ≡ s.log ++ entries_by (rows_in s.log) (rows_in (after s event).log) (settles s event) (fault_in s.log) (fault_in (after s event).log)
+event_logged : (s : State) (event : Event) → MayCome s event
+    → (after s event).log ≡ s.log ++ entries_by (rows_in s.log) (rows_in (after s event).log) (settles s event) (fault_in s.log) (fault_in (after s event).log)
 unfolding settles
 event_logged s (Want depth) may = sym (append-nil s.log) ∙ ap (λ es. s.log ++ es) (sym (nothing_more (rows_in s.log) (fault_in s.log)))
 event_logged s (Ask object) may = sym (append-nil s.log) ∙ ap (λ es. s.log ++ es) (sym (nothing_more (rows_in s.log) (fault_in s.log)))
@@ -99,7 +102,8 @@ event_logged s (Page []) may =
 event_logged s (Page (row ∷ rows)) may = rows_more s (with_rows s (row ∷ rows)) may.no_fault (page_logged s (row ∷ rows) may.no_fault)
 
 -- what it settles by the history
-settles_told : (kept : List Event → List Row) (E : List Event) (s : State) (event : Event) → rows_in s.log ≡ kept E → settles s event ≡ settling_by kept (record { before = E; event = event }) event
+settles_told : (kept : List Event → List Row) (E : List Event) (s : State) (event : Event) → rows_in s.log ≡ kept E
+    → settles s event ≡ settling_by kept (record { before = E; event = event }) event
 unfolding settles
 settles_told kept E s (Want depth) all = refl
 settles_told kept E s (Ask object) all = refl
@@ -108,7 +112,9 @@ settles_told kept E s (Grade object grade) all = ap (λ rows. Some (entry.Settle
 settles_told kept E s (Miss object) all = refl
 settles_told kept E s (Fail what) all = refl
 
-log_next : (kept : List Event → List Row) (count : ℕ) (E : List Event) (s : State) (event : Event) → IsTold kept count E s → IsTold kept count (E ++ event ∷ []) (after s event) → rows_in s.log ≡ kept E → MayCome s event → s.log ≡ log_told kept count E → (after s event).log ≡ log_told kept count (E ++ event ∷ [])
+log_next : (kept : List Event → List Row) (count : ℕ) (E : List Event) (s : State) (event : Event) → IsTold kept count E s
+    → IsTold kept count (E ++ event ∷ []) (after s event) → rows_in s.log ≡ kept E → MayCome s event → s.log ≡ log_told kept count E
+    → (after s event).log ≡ log_told kept count (E ++ event ∷ [])
 log_next kept count E s event h next all may is =
     let m : Moment = record { before = E; event = event } in
     event_logged s event may
@@ -122,7 +128,9 @@ log_next kept count E s event h next all may is =
     ∙ sym (ap (flat_map (entries_told kept count)) (moments_push [] E event) ∙ flat_map-append (entries_told kept count) (moments E) (m ∷ []))
 
 -- a whole history
-log_along : (start : State) (count : ℕ) (E more : List Event) → IsTold (kept_by start) count E (replayed start E) → (replayed start E).count ≡ count → (replayed start E).log ≡ log_told (kept_by start) count E → AllMayCome (replayed start E) more → (replayed (replayed start E) more).log ≡ log_told (kept_by start) count (E ++ more)
+log_along : (start : State) (count : ℕ) (E more : List Event) → IsTold (kept_by start) count E (replayed start E) → (replayed start E).count ≡ count
+    → (replayed start E).log ≡ log_told (kept_by start) count E → AllMayCome (replayed start E) more
+    → (replayed (replayed start E) more).log ≡ log_told (kept_by start) count (E ++ more)
 log_along start count E [] h is log may = log ∙ ap (log_told (kept_by start) count) (sym (append-nil E))
 log_along start count E (event ∷ more) h is log may =
     let next : IsTold (kept_by start) count (E ++ event ∷ []) (after (replayed start E) event) = told_next (kept_by start) count E (replayed start E) event h is refl may.0 in
@@ -136,5 +144,6 @@ log_along start count E (event ∷ more) h is log may =
     (subst (λ t. AllMayCome t more) step may.1)
     ∙ ap (log_told (kept_by start) count) (append_assoc E (event ∷ []) more)
 
-pub log_is_told : (list count : ℕ) (E : List Event) → AllMayCome (opened list count) E → (replayed (opened list count) E).log ≡ log_told (kept_by (opened list count)) count E
+pub log_is_told : (list count : ℕ) (E : List Event) → AllMayCome (opened list count) E
+    → (replayed (opened list count) E).log ≡ log_told (kept_by (opened list count)) count E
 log_is_told list count E may = log_along (opened list count) count [] E (none_told list count) refl refl may

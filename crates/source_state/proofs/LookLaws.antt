@@ -6,6 +6,7 @@ use Rattle.std.proofs.lemmas.Bool.{cases_Bool, eqb-false}
 use Rattle.ranked_list.specs.declared.row.Row.{Row}
 use Rattle.ranked_list.specs.declared.need.Need.{Need}
 use Rattle.ranked_list.specs.declared.need.Need.TheVariants as need
+use Rattle.ranked_list.proofs.OptionLaws.{option_cases}
 use Rattle.topk_theory.specs.Bounds.{grade_among}
 use Rattle.topk_theory.proofs.AgreementLists.{contains_here, contains_there, contains_map_from}
 use Rattle.source_state.specs.declared.ask.Ask.{Ask}
@@ -23,7 +24,7 @@ use Rattle.source_state.specs.Log.{rows_in, fault_in}
 use Rattle.source_state.specs.Asks.{ask_in, first_due, is_due}
 use Rattle.source_state.specs.State.{State, asks_of, asked_in, asked_as, first_pending}
 use Rattle.source_state.specs.Looking.{row_or_fault, grade_or, decided, told, refusal_of, Ends, Looks}
-use Rattle.source_state.proofs.Lists.{option_cases, none_not_some}
+use Rattle.source_state.proofs.Lists.{none_not_some}
 use Rattle.source_state.proofs.AskLaws.{ask_is_found}
 
 -- what a log may say of a need
@@ -63,7 +64,8 @@ said s (need.Grade list object) answer e = said_grade object (asked_in s object)
 said s need.Done answer e = absurd (none_not_some e)
 
 -- the answers that the log decides, and those that a fail tells
-decided_by : (s t : State) (waiting left : Waiting) (need : Need) (answer : Look) → IsSaid answer → decided s need ≡ Some answer → Ends s t waiting left → Looks need s t waiting left answer
+decided_by : (s t : State) (waiting left : Waiting) (need : Need) (answer : Look) → IsSaid answer → decided s need ≡ Some answer → Ends s t waiting left
+    → Looks need s t waiting left answer
 decided_by s t waiting left need (look.Row row) h e ends = record { decides = e; ends = ends }
 decided_by s t waiting left need (look.Grade grade) h e ends = record { decides = e; ends = ends }
 decided_by s t waiting left need look.NotYet h e ends = absurd h
@@ -74,16 +76,19 @@ decided_by s t waiting left need (look.Fault why.Failed) h e ends = absurd h
 decided_by s t waiting left need (look.Fault why.Garbled) h e ends = absurd h
 decided_by s t waiting left need (look.Fault why.Memory) h e ends = absurd h
 
-pub decided_looks : (s t : State) (waiting left : Waiting) (need : Need) (answer : Look) → decided s need ≡ Some answer → Ends s t waiting left → Looks need s t waiting left answer
+pub decided_looks : (s t : State) (waiting left : Waiting) (need : Need) (answer : Look) → decided s need ≡ Some answer → Ends s t waiting left
+    → Looks need s t waiting left answer
 decided_looks s t waiting left need answer e ends = decided_by s t waiting left need answer (said s need answer e) e ends
 
-pub told_looks : (s t : State) (waiting left : Waiting) (need : Need) (what : FailKind) → decided s need ≡ None → told waiting need s.tally ≡ Some what → Ends s t waiting left → Looks need s t waiting left (look.Fault (refusal_of what))
+pub told_looks : (s t : State) (waiting left : Waiting) (need : Need) (what : FailKind) → decided s need ≡ None → told waiting need s.tally ≡ Some what
+    → Ends s t waiting left → Looks need s t waiting left (look.Fault (refusal_of what))
 told_looks s t waiting left need kind.Failed none e ends = record { undecided = none; tells = e; ends = ends }
 told_looks s t waiting left need kind.Garbled none e ends = record { undecided = none; tells = e; ends = ends }
 told_looks s t waiting left need kind.Memory none e ends = record { undecided = none; tells = e; ends = ends }
 
 -- where no room is lacking an ask may come
-pub ask_may : (s : State) (object : ℕ) → length s.asks ≤ s.count → (is_none (asked_in s object) && (length s.asks == s.count)) ≡ false → asked_in s object ≡ None → length s.asks < s.count
+pub ask_may : (s : State) (object : ℕ) → length s.asks ≤ s.count → (is_none (asked_in s object) && (length s.asks == s.count)) ≡ false
+    → asked_in s object ≡ None → length s.asks < s.count
 ask_may s object few room none =
     let apart : (length s.asks == s.count) ≡ false = sym (ap (λ (o : Option Asked). is_none o && (length s.asks == s.count)) none) ∙ room in
     less (length s.asks) s.count few apart
@@ -126,3 +131,8 @@ pending_is s object e =
           let settling : (ask_in s.log object).settling ≡ None = subst (λ o. (ask_in s.log o).settling ≡ None) same (ap (λ (one : Ask). one.settling) from.2 ∙ none) in
           ap (option_map (λ (one : Ask). asked_as one.settling)) (ask_is_found s.log s.asks object there) ∙ ap (λ o. Some (asked_as o)) settling
     ]
+
+-- a grade that is answered of what is held is held
+pub held_there : (held : Option ℕ) (grade : ℕ) → option_map look.Grade held ≡ Some (look.Grade grade) → held ≡ Some grade
+held_there None grade e = absurd (none_not_some e)
+held_there (Some one) grade e = let same : one ≡ grade = cc in ap (λ (g : ℕ). Some g) same

@@ -17,11 +17,13 @@ next_row : (rows : List Row) (place : ℕ) (row : Row) → slice_get rows place 
 next_row rows place row e =
     drop_more rows place row (slice_get_within rows place row e) ∙ ap (λ (one : Row). one ∷ drop (place + 1) rows) (get_or_from_slice_get rows place row row e)
 
-rows_from : (rows : List Row) (place : ℕ) (row : Row) (now : State) (o : Option SourceFault) → slice_get rows place ≡ Some row → row_fault (rows_in now.log) (asks_of now) row ≡ o → with_rows now (drop place rows) ≡ row_or o now row (λ t. with_rows t (drop (place + 1) rows))
+rows_from : (rows : List Row) (place : ℕ) (row : Row) (now : State) (o : Option SourceFault) → slice_get rows place ≡ Some row
+    → row_fault (rows_in now.log) (asks_of now) row ≡ o → with_rows now (drop place rows) ≡ row_or o now row (λ t. with_rows t (drop (place + 1) rows))
 rows_from rows place row now o e f =
     ap (with_rows now) (next_row rows place row e) ∙ ap (λ fault. row_or fault now row (λ t. with_rows t (drop (place + 1) rows))) f
 
-pub rows_more : (rows : List Row) (place : ℕ) (row : Row) (begun now next : State) → RowsLeft rows place begun now → slice_get rows place ≡ Some row → row_fault (rows_in now.log) (asks_of now) row ≡ None → next ≡ logged now (Kept row) → IsSound next → RowsLeft rows (place + 1) begun next
+pub rows_more : (rows : List Row) (place : ℕ) (row : Row) (begun now next : State) → RowsLeft rows place begun now → slice_get rows place ≡ Some row
+    → row_fault (rows_in now.log) (asks_of now) row ≡ None → next ≡ logged now (Kept row) → IsSound next → RowsLeft rows (place + 1) begun next
 rows_more rows place row begun now next h e f is sound = record {
   left = ap (λ (t : State). with_rows t (drop (place + 1) rows)) is ∙ sym (rows_from rows place row now None e f) ∙ h.left;
   no_fault = ap (λ (t : State). fault_in t.log) is ∙ ap first_of (kept_faults now.log row) ∙ h.no_fault;
@@ -33,10 +35,13 @@ rows_more rows place row begun now next h e f is sound = record {
   sound = sound;
 }
 
-pub rows_broken : (rows : List Row) (place : ℕ) (row : Row) (fault : SourceFault) (begun now next : State) → RowsLeft rows place begun now → slice_get rows place ≡ Some row → row_fault (rows_in now.log) (asks_of now) row ≡ Some fault → next ≡ logged now (Fault fault) → next ≡ with_rows begun rows
+pub rows_broken : (rows : List Row) (place : ℕ) (row : Row) (fault : SourceFault) (begun now next : State) → RowsLeft rows place begun now
+    → slice_get rows place ≡ Some row → row_fault (rows_in now.log) (asks_of now) row ≡ Some fault → next ≡ logged now (Fault fault)
+    → next ≡ with_rows begun rows
 rows_broken rows place row fault begun now next h e f is = is ∙ sym (rows_from rows place row now (Some fault) e f) ∙ h.left
 
-pub page_broken : (rows : List Row) (place : ℕ) (fault : SourceFault) (begun now next : State) → RowsLeft rows place begun now → fault_in begun.log ≡ None → next ≡ logged now (Fault fault) → IsApplied begun next Broken
+pub page_broken : (rows : List Row) (place : ℕ) (fault : SourceFault) (begun now next : State) → RowsLeft rows place begun now → fault_in begun.log ≡ None
+    → next ≡ logged now (Fault fault) → IsApplied begun next Broken
 page_broken rows place fault begun now next h none is = (none, fault, ap (λ (t : State). fault_in t.log) is ∙ fault_first now.log fault h.no_fault)
 
 pub rows_end : (rows : List Row) (begun now : State) → RowsLeft rows (length rows) begun now → now ≡ with_rows begun rows
@@ -45,7 +50,8 @@ rows_end rows begun now h = sym (ap (with_rows now) (drop_all (length rows) rows
 pub rows_begin : (rows : List Row) (begun : State) → fault_in begun.log ≡ None → IsSound begun → RowsLeft rows 0 begun begun
 rows_begin rows begun none sound = record { left = refl; no_fault = none; count = refl; came = omega arith; sound = sound }
 
-pub row_room : (rows : List Row) (place : ℕ) (row : Row) (begun now : State) → RowsLeft rows place begun now → MayPage begun rows → slice_get rows place ≡ Some row → length (rows_in now.log) < now.count
+pub row_room : (rows : List Row) (place : ℕ) (row : Row) (begun now : State) → RowsLeft rows place begun now → MayPage begun rows
+    → slice_get rows place ≡ Some row → length (rows_in now.log) < now.count
 row_room rows place row begun now h may e =
     let within : place < length rows = slice_get_within rows place row e in
     let came = h.came in

@@ -8,10 +8,12 @@ use Rattle.std.proofs.lemmas.List.Elements.{All-push, All-append, All-nil, All-c
 use Rattle.std.proofs.lemmas.List.Quantifiers.{all_pairs_push}
 use Rattle.ranked_list.specs.declared.row.Row.{Row}
 use Rattle.ranked_list.specs.Table.{IsRanked, objects, top_grade}
+use Rattle.ranked_list.proofs.OptionLaws.{none_unless_some, option_cases}
 use Rattle.topk_theory.specs.Transcript.{last_grade}
 use Rattle.topk_theory.specs.Bounds.{grade_among}
 use Rattle.topk_theory.proofs.AgreementLists.{contains_at, contains_cases, contains_nil, contains_map, all_from_members, distinct_fits}
 use Rattle.topk_theory.proofs.AgreementRows.{grade_among_row, grade_among_none, grade_among_append_some, grade_among_append_none, object_of_row}
+use Rattle.topk_theory.proofs.ThresholdRun.{contains_filter_map}
 use Rattle.topk_theory.proofs.ConsistentRows.{last_is_least, last_below_top}
 use Rattle.source_state.specs.declared.ask.Ask.{Ask}
 use Rattle.source_state.specs.declared.entry.LogEntry.{LogEntry}
@@ -25,7 +27,7 @@ use Rattle.source_state.specs.Log.{rows_in, settling_in, settled_in, graded_in, 
 use Rattle.source_state.specs.Asks.{ask_in, ask_of, good_grade, open_row, open_rows, first_above}
 use Rattle.source_state.specs.State.{State, asks_of, asked_in, clash_or, above_fault, grade_asked, row_fault, settle, settle_by, GoesWith, SettlesWell, IsSoundLog, IsSound}
 use Rattle.source_state.specs.Events.{logged, one_asked, with_ask}
-use Rattle.source_state.proofs.Lists.{option_cases, cond_none, none_not_some, none_found, filter_map_contains, no_first}
+use Rattle.source_state.proofs.Lists.{cond_none, none_not_some, none_found, no_first}
 use Rattle.source_state.proofs.LogLaws.{kept_rows, kept_settled, kept_graded, kept_faults, settled_rows, settled_settled, settled_graded, settled_faults, fault_rows, fault_settled, fault_graded, fault_faults, log_length, not_settled, graded_settled, graded_settling}
 use Rattle.source_state.proofs.AskLaws.{pending_parts, ask_missing, ask_is_found}
 
@@ -50,15 +52,12 @@ pub record Follows (rows : List Row) (asks : List Ask) (row : Row) : Type 0 wher
   pub same : (grade : ℕ) → grade_asked (ask_of asks row.object) ≡ Some grade → grade ≡ row.grade
   pub above : first_above row.grade asks ≡ None
 
-no_some : {X : Type 0} (o : Option X) → is_some o ≡ false → o ≡ None
-no_some None e = refl
-no_some (Some x) e = absurd (cc)
-
 map_none : {X Y : Type 0} (f : X → Y) (o : Option X) → option_map f o ≡ None → o ≡ None
 map_none f None e = refl
 map_none f (Some x) e = absurd (cc)
 
-no_clash : (o : Option ℕ) (row : Row) (rest : Option SourceFault) → clash_or o row rest ≡ None → ((grade : ℕ) → o ≡ Some grade → grade ≡ row.grade) × (rest ≡ None)
+no_clash : (o : Option ℕ) (row : Row) (rest : Option SourceFault) → clash_or o row rest ≡ None
+    → ((grade : ℕ) → o ≡ Some grade → grade ≡ row.grade) × (rest ≡ None)
 no_clash None row rest e = ((λ grade some. absurd (none_not_some some)), e)
 no_clash (Some random) row rest e =
     elim (cases_Bool (random == row.grade)) [
@@ -75,7 +74,7 @@ follows rows asks row e =
     record {
       capped = ltb-false top_grade row.grade first.0;
       falls = ltb-false (last_grade top_grade rows) row.grade second.0;
-      absent = no_some (grade_among rows row.object) third.0;
+      absent = none_unless_some (grade_among rows row.object) third.0;
       same = fourth.0;
       above = map_none (above_fault row.grade) (first_above row.grade asks) fourth.1;
     }
@@ -91,13 +90,15 @@ ranked_more rows asks row r f = record {
 }
 
 -- a good grade that the rows don't hold is an open one
-open_is : (log : List LogEntry) (graded : Row) → settling_in log graded.object ≡ Some (Graded graded.grade) → grade_among (rows_in log) graded.object ≡ None → open_row (ask_in log graded.object) ≡ Some graded
+open_is : (log : List LogEntry) (graded : Row) → settling_in log graded.object ≡ Some (Graded graded.grade) → grade_among (rows_in log) graded.object ≡ None
+    → open_row (ask_in log graded.object) ≡ Some graded
 open_is log graded settled absent =
     ap (option_map (λ (grade : ℕ). let row : Row = record { object = graded.object; grade = grade } in row))
     (ap (λ o. cond (is_some o) None (good_grade (settling_in log graded.object))) absent ∙ ap good_grade settled)
 
 -- a good grade goes with one more row that follows
-goes_on : (s : State) (row graded : Row) → IsSound s → Follows (rows_in s.log) (asks_of s) row → Contains (graded_in s.log) graded → GoesWith (rows_in s.log) graded → GoesWith (rows_in s.log ++ row ∷ []) graded
+goes_on : (s : State) (row graded : Row) → IsSound s → Follows (rows_in s.log) (asks_of s) row → Contains (graded_in s.log) graded
+    → GoesWith (rows_in s.log) graded → GoesWith (rows_in s.log ++ row ∷ []) graded
 goes_on s row graded sound f c goes =
     let rows = rows_in s.log in
     let settled : settling_in s.log graded.object ≡ Some (Graded graded.grade) = graded_settling s.log graded sound.log.once c in
@@ -110,13 +111,14 @@ goes_on s row graded sound f c goes =
       below = λ e. elim (option_cases (grade_among rows graded.object)) [
         | inl none ↦ All-push (λ (one : Row). graded.grade ≤ one.grade) rows row (goes.below none)
             (ltb-false row.grade graded.grade (none_found (λ (one : Row). nat_lt row.grade one.grade) (open_rows (asks_of s)) graded f.above
-            (filter_map_contains open_row (asks_of s) (ask_in s.log graded.object) graded (contains_map (ask_in s.log) s.asks graded.object asked) (open_is s.log graded settled none))))
+            (contains_filter_map open_row (asks_of s) (ask_in s.log graded.object) graded (contains_map (ask_in s.log) s.asks graded.object asked) (open_is s.log graded settled none))))
         | inr some ↦ absurd (none_not_some (sym e ∙ grade_among_append_some rows (row ∷ []) graded.object some.0 some.1))
       ];
       capped = goes.capped;
     }
   where
-    last_one : (s : State) (row graded : Row) (grade : ℕ) → IsSound s → Follows (rows_in s.log) (asks_of s) row → Contains s.asks graded.object → settling_in s.log graded.object ≡ Some (Graded graded.grade) → grade_among (row ∷ []) graded.object ≡ Some grade → grade ≡ graded.grade
+    last_one : (s : State) (row graded : Row) (grade : ℕ) → IsSound s → Follows (rows_in s.log) (asks_of s) row → Contains s.asks graded.object
+        → settling_in s.log graded.object ≡ Some (Graded graded.grade) → grade_among (row ∷ []) graded.object ≡ Some grade → grade ≡ graded.grade
     last_one s row graded grade sound f asked settled e =
         elim (cases_Bool (row.object == graded.object)) [
           | inl t ↦
@@ -130,7 +132,8 @@ goes_on s row graded sound f c goes =
         ]
 
 -- one more row
-pub sound_row : (s : State) (row : Row) → IsSound s → length (rows_in s.log) < s.count → row_fault (rows_in s.log) (asks_of s) row ≡ None → IsSound (logged s (Kept row))
+pub sound_row : (s : State) (row : Row) → IsSound s → length (rows_in s.log) < s.count → row_fault (rows_in s.log) (asks_of s) row ≡ None
+    → IsSound (logged s (Kept row))
 sound_row s row sound room none = record {
   log = record {
     ranked = subst IsRanked (sym (kept_rows s.log row)) (ranked_more (rows_in s.log) (asks_of s) row sound.log.ranked f);
@@ -176,12 +179,14 @@ sound_fault s fault sound none = record {
 }
 
 -- one more settling of a pending ask
-goes_alone : (rows : List Row) (object : ℕ) (settling : Settling) → SettlesWell rows object settling → All (GoesWith rows) (cons_option (graded_as object settling) [])
+goes_alone : (rows : List Row) (object : ℕ) (settling : Settling) → SettlesWell rows object settling
+    → All (GoesWith rows) (cons_option (graded_as object settling) [])
 goes_alone rows object (Graded grade) h = All-push (GoesWith rows) [] (record { object = object; grade = grade }) (All-nil (GoesWith rows)) h
 goes_alone rows object (Bad fault) h = All-nil (GoesWith rows)
 goes_alone rows object Missed h = All-nil (GoesWith rows)
 
-pub sound_settling : (s : State) (object : ℕ) (settling : Settling) → IsSound s → asked_in s object ≡ Some became.Pending → SettlesWell (rows_in s.log) object settling → IsSound (logged s (Settled object settling))
+pub sound_settling : (s : State) (object : ℕ) (settling : Settling) → IsSound s → asked_in s object ≡ Some became.Pending
+    → SettlesWell (rows_in s.log) object settling → IsSound (logged s (Settled object settling))
 sound_settling s object settling sound pending well = record {
   log = record {
     ranked = subst IsRanked (sym (settled_rows s.log object settling)) sound.log.ranked;
@@ -209,7 +214,8 @@ sound_settling s object settling sound pending well = record {
     parts = pending_parts s object pending
 
 -- one more ask
-sound_asked : (s : State) (object : ℕ) (found : Option Ask) → IsSound s → ask_of (asks_of s) object ≡ found → (found ≡ None → length s.asks < s.count) → IsSound (record s { asks = one_asked found object s.asks; paused = false })
+sound_asked : (s : State) (object : ℕ) (found : Option Ask) → IsSound s → ask_of (asks_of s) object ≡ found → (found ≡ None → length s.asks < s.count)
+    → IsSound (record s { asks = one_asked found object s.asks; paused = false })
 sound_asked s object (Some ask) sound e room = record { log = sound.log; distinct = sound.distinct; fits = sound.fits; small = sound.small; want = sound.want; tally = sound.tally }
 sound_asked s object None sound e room = record {
   log = record {
@@ -235,7 +241,8 @@ sound_ask s object sound room = sound_asked s object (ask_of (asks_of s) object)
 pub settles_well : (rows : List Row) (object grade : ℕ) → IsRanked rows → SettlesWell rows object (settle rows object grade)
 settles_well rows object grade r = by_held rows object grade r (grade_among rows object) refl
   where
-    good : (rows : List Row) (object grade : ℕ) → IsRanked rows → grade_among rows object ≡ None → grade ≤ last_grade top_grade rows → GoesWith rows (record { object = object; grade = grade })
+    good : (rows : List Row) (object grade : ℕ) → IsRanked rows → grade_among rows object ≡ None → grade ≤ last_grade top_grade rows
+        → GoesWith rows (record { object = object; grade = grade })
     good rows object grade r none low = record {
       same = λ other e. absurd (none_not_some (sym none ∙ e));
       below = λ e. all_from_members (λ (row : Row). grade ≤ row.grade) rows
@@ -243,14 +250,16 @@ settles_well rows object grade r = by_held rows object grade r (grade_among rows
       capped = let top : last_grade top_grade rows ≤ top_grade = last_below_top rows r in omega arith;
     }
 
-    held : (rows : List Row) (object grade sorted : ℕ) → IsRanked rows → grade_among rows object ≡ Some sorted → sorted ≡ grade → GoesWith rows (record { object = object; grade = grade })
+    held : (rows : List Row) (object grade sorted : ℕ) → IsRanked rows → grade_among rows object ≡ Some sorted → sorted ≡ grade
+        → GoesWith rows (record { object = object; grade = grade })
     held rows object grade sorted r some is = record {
       same = λ other e. let same : Some sorted ≡ Some other = sym some ∙ e in let one : sorted ≡ other = cc in sym one ∙ is;
       below = λ e. absurd (none_not_some (sym e ∙ some));
       capped = subst (λ g. g ≤ top_grade) is (grade_bounds rows object sorted r some);
     }
 
-    by_held : (rows : List Row) (object grade : ℕ) → IsRanked rows → (o : Option ℕ) → grade_among rows object ≡ o → SettlesWell rows object (settle_by o (last_grade top_grade rows) object grade)
+    by_held : (rows : List Row) (object grade : ℕ) → IsRanked rows → (o : Option ℕ) → grade_among rows object ≡ o
+        → SettlesWell rows object (settle_by o (last_grade top_grade rows) object grade)
     by_held rows object grade r None e =
         elim (cases_Bool (nat_lt (last_grade top_grade rows) grade)) [
           | inl t ↦ subst (λ b. SettlesWell rows object (cond b (Bad (Above object grade (last_grade top_grade rows))) (Graded grade))) (sym t) tt

@@ -6,6 +6,7 @@ use Rattle.std.proofs.lemmas.List.{length-append, map-append}
 use Rattle.std.proofs.lemmas.List.Elements.{filter_map-append, filter-append}
 use Rattle.std.proofs.lemmas.List.Sums.{fold-append}
 use Rattle.ranked_list.specs.declared.row.Row.{Row}
+use Rattle.ranked_list.proofs.OptionLaws.{option_cases}
 use Rattle.turn_lock.specs.declared.facts.Tally.{Tally}
 use Rattle.topk_theory.specs.Transcript.{each_once}
 use Rattle.topk_theory.specs.Bounds.{grade_among}
@@ -27,7 +28,7 @@ use Rattle.source_state.specs.Asks.{ask_in, ask_of}
 use Rattle.source_state.specs.State.{State, opened, asks_of, row_fault, settle, last_count}
 use Rattle.source_state.specs.Events.{logged, wanted, one_asked, with_ask, row_or, with_rows, paged, one_more, counted, failed, after, MayCome}
 use Rattle.source_state.specs.History.{last_of, depth_wanted, object_asked, kind_failed, rows_brought, greatest_want, objects_asked, fails_told, is_failed, is_garbled, is_memory, tally_told, pauses, is_paused, replayed, AllMayCome, Moment, moments_after, moments, settling_by, settlings, Came, page_came, came_after, came, asks_told, fault_came, before_first, rows_told, short_by, fault_told, kept_by, IsTold}
-use Rattle.source_state.proofs.Lists.{option_cases, no_first}
+use Rattle.source_state.proofs.Lists.{no_first}
 use Rattle.source_state.proofs.LogLaws.{kept_rows, kept_settling, kept_faults, settled_rows, settled_faults, fault_rows, fault_settling, fault_first}
 use Rattle.source_state.proofs.AskLaws.{ask_found, ask_missing}
 
@@ -41,7 +42,8 @@ pub replayed_push : (s : State) (E : List Event) (event : Event) → replayed s 
 replayed_push s [] event = refl
 replayed_push s (first ∷ E) event = replayed_push (after s first) E event
 
-pub moments_push : (before E : List Event) (event : Event) → moments_after before (E ++ event ∷ []) ≡ moments_after before E ++ record { before = before ++ E; event = event } ∷ []
+pub moments_push : (before E : List Event) (event : Event)
+    → moments_after before (E ++ event ∷ []) ≡ moments_after before E ++ record { before = before ++ E; event = event } ∷ []
 moments_push before [] event = ap (λ b. let m : Moment = record { before = b; event = event } in m ∷ []) (sym (append-nil before))
 moments_push before (first ∷ E) event =
     ap (λ ms. let m : Moment = record { before = before; event = first } in m ∷ ms)
@@ -52,7 +54,8 @@ brought : List Event → List Row
 brought [] = []
 brought (event ∷ E) = rows_brought event ++ brought E
 
-came_push : (above : List Row) (before E : List Event) (event : Event) → came_after above before (E ++ event ∷ []) ≡ came_after above before E ++ page_came (above ++ brought E) (before ++ E) (rows_brought event)
+came_push : (above : List Row) (before E : List Event) (event : Event)
+    → came_after above before (E ++ event ∷ []) ≡ came_after above before E ++ page_came (above ++ brought E) (before ++ E) (rows_brought event)
 unfolding brought
 came_push above before [] event =
     append-nil (page_came above before (rows_brought event))
@@ -78,7 +81,8 @@ came_rows above before (event ∷ E) =
     ∙ ap (λ rs. rows_brought event ++ rs) (came_rows (above ++ rows_brought event) (before ++ event ∷ []) E)
 
 -- the members before the first that passes, where none passes in the front
-before_all : {X : Type 0} (test : X → Bool) (h : X → Option SourceFault) (xs ys : List X) → ((x : X) → test x ≡ is_some (h x)) → filter_map h xs ≡ [] → before_first test (xs ++ ys) ≡ xs ++ before_first test ys
+before_all : {X : Type 0} (test : X → Bool) (h : X → Option SourceFault) (xs ys : List X) → ((x : X) → test x ≡ is_some (h x)) → filter_map h xs ≡ []
+    → before_first test (xs ++ ys) ≡ xs ++ before_first test ys
 before_all test h [] ys is none = refl
 before_all test h (x ∷ xs) ys is none =
     elim (option_cases (h x)) [
@@ -97,7 +101,8 @@ none_parts None b e = (refl, e)
 none_parts (Some x) b e = absurd (cc)
 
 -- what a settling that comes last settles
-settling_push : (log : List LogEntry) (one : LogEntry) (object : ℕ) → settling_in (log ++ one ∷ []) object ≡ option_or (settling_in log object) (settled_as object one)
+settling_push : (log : List LogEntry) (one : LogEntry) (object : ℕ)
+    → settling_in (log ++ one ∷ []) object ≡ option_or (settling_in log object) (settled_as object one)
 settling_push log one object =
     ap first_of (filter_map-append (settled_as object) log (one ∷ [])) ∙ first_or (filter_map (settled_as object) log) (settled_as object one)
   where
@@ -137,17 +142,21 @@ came_stays : (E : List Event) (event : Event) → rows_brought event ≡ [] → 
 came_stays E event none =
     sym (came_push [] [] E event ∙ ap (λ rows. came E ++ page_came ([] ++ brought E) ([] ++ E) rows) none ∙ append-nil (came E))
 
-settled_stay : (kept : List Event → List Row) (E : List Event) (event : Event) → ((m : Moment) → settling_by kept m event ≡ None) → settlings kept E ≡ settlings kept (E ++ event ∷ [])
+settled_stay : (kept : List Event → List Row) (E : List Event) (event : Event) → ((m : Moment) → settling_by kept m event ≡ None)
+    → settlings kept E ≡ settlings kept (E ++ event ∷ [])
 settled_stay kept E event none =
     sym (ap (filter_map (λ (m : Moment). settling_by kept m m.event)) (moments_push [] E event)
     ∙ filter_map_push_none (λ (m : Moment). settling_by kept m m.event) (moments E) (record { before = [] ++ E; event = event }) (none (record { before = [] ++ E; event = event })))
 
-settled_more : (kept : List Event → List Row) (E : List Event) (event : Event) (one : LogEntry) → settling_by kept (record { before = E; event = event }) event ≡ Some one → settlings kept (E ++ event ∷ []) ≡ settlings kept E ++ one ∷ []
+settled_more : (kept : List Event → List Row) (E : List Event) (event : Event) (one : LogEntry)
+    → settling_by kept (record { before = E; event = event }) event ≡ Some one → settlings kept (E ++ event ∷ []) ≡ settlings kept E ++ one ∷ []
 settled_more kept E event one some =
     ap (filter_map (λ (m : Moment). settling_by kept m m.event)) (moments_push [] E event)
     ∙ filter_map_push_some (λ (m : Moment). settling_by kept m m.event) (moments E) (record { before = [] ++ E; event = event }) one some
 
-short_stays : (count : ℕ) (kept : List Event → List Row) (E : List Event) (event : Event) → ((m : Moment) → short_by count kept m event ≡ None) → filter_map (λ (m : Moment). short_by count kept m m.event) (moments E) ≡ filter_map (λ (m : Moment). short_by count kept m m.event) (moments (E ++ event ∷ []))
+short_stays : (count : ℕ) (kept : List Event → List Row) (E : List Event) (event : Event) → ((m : Moment) → short_by count kept m event ≡ None)
+    → filter_map (λ (m : Moment). short_by count kept m m.event) (moments E) ≡ filter_map (λ (m : Moment). short_by count kept m m.event)
+    (moments (E ++ event ∷ []))
 short_stays count kept E event none =
     sym (ap (filter_map (λ (m : Moment). short_by count kept m m.event)) (moments_push [] E event)
     ∙ filter_map_push_none (λ (m : Moment). short_by count kept m m.event) (moments E) (record { before = [] ++ E; event = event }) (none (record { before = [] ++ E; event = event })))
@@ -155,24 +164,29 @@ short_stays count kept E event none =
 rows_stay : (kept : List Event → List Row) (E : List Event) (event : Event) → rows_brought event ≡ [] → rows_told kept E ≡ rows_told kept (E ++ event ∷ [])
 rows_stay kept E event none = ap (λ cs. map (λ (one : Came). one.row) (before_first (λ (one : Came). is_some (fault_came kept one)) cs)) (came_stays E event none)
 
-fault_stays : (count : ℕ) (kept : List Event → List Row) (E : List Event) (event : Event) → rows_brought event ≡ [] → ((m : Moment) → short_by count kept m event ≡ None) → fault_told count kept E ≡ fault_told count kept (E ++ event ∷ [])
+fault_stays : (count : ℕ) (kept : List Event → List Row) (E : List Event) (event : Event) → rows_brought event ≡ []
+    → ((m : Moment) → short_by count kept m event ≡ None) → fault_told count kept E ≡ fault_told count kept (E ++ event ∷ [])
 fault_stays count kept E event none short =
     ap (λ cs. option_or (first_of (filter_map (fault_came kept) cs)) (first_of (filter_map (λ (m : Moment). short_by count kept m m.event) (moments E)))) (came_stays E event none)
     ∙ ap (λ fs. option_or (first_of (filter_map (fault_came kept) (came (E ++ event ∷ [])))) (first_of fs)) (short_stays count kept E event short)
 
 -- the asks as the state has them are those of the history
-same_ask : (object : ℕ) (one other : Option Settling) (a b : Bool) → one ≡ other → a ≡ b → (let p : Asking = record { object = object; settling = one; is_held = a } in let q : Asking = record { object = object; settling = other; is_held = b } in p ≡ q)
+same_ask : (object : ℕ) (one other : Option Settling) (a b : Bool) → one ≡ other → a ≡ b
+    → (let p : Asking = record { object = object; settling = one; is_held = a } in let q : Asking = record { object = object; settling = other; is_held = b } in p ≡ q)
 same_ask object one other a b e f = cc
 
 cons_same : {x y : Asking} {xs ys : List Asking} → x ≡ y → xs ≡ ys → x ∷ xs ≡ y ∷ ys
 cons_same e f = cc
 
-asks_along : (log others : List LogEntry) (rows : List Row) (objects : List ℕ) → rows_in log ≡ rows → ((object : ℕ) → settling_in log object ≡ settling_in others object) → map (ask_in log) objects ≡ map (λ (object : ℕ). let ask : Asking = record { object = object; settling = settling_in others object; is_held = is_some (grade_among rows object) } in ask) objects
+asks_along : (log others : List LogEntry) (rows : List Row) (objects : List ℕ) → rows_in log ≡ rows
+    → ((object : ℕ) → settling_in log object ≡ settling_in others object)
+    → map (ask_in log) objects ≡ map (λ (object : ℕ). let ask : Asking = record { object = object; settling = settling_in others object; is_held = is_some (grade_among rows object) } in ask) objects
 asks_along log others rows [] is settled = refl
 asks_along log others rows (object ∷ objects) is settled =
     cons_same (same_ask object _ _ _ _ (settled object) (ap (λ rs. is_some (grade_among rs object)) is)) (asks_along log others rows objects is settled)
 
-same_asks : (kept : List Event → List Row) (E : List Event) (s : State) (rows : List Row) → s.asks ≡ objects_asked E → rows_in s.log ≡ rows → ((object : ℕ) → settling_in s.log object ≡ settling_in (settlings kept E) object) → asks_of s ≡ asks_told kept rows E
+same_asks : (kept : List Event → List Row) (E : List Event) (s : State) (rows : List Row) → s.asks ≡ objects_asked E → rows_in s.log ≡ rows
+    → ((object : ℕ) → settling_in s.log object ≡ settling_in (settlings kept E) object) → asks_of s ≡ asks_told kept rows E
 same_asks kept E s rows asks is settled =
     asks_along s.log (settlings kept E) rows s.asks is settled
     ∙ ap (map (λ (object : ℕ). let ask : Asking = record { object = object; settling = settling_in (settlings kept E) object; is_held = is_some (grade_among rows object) } in ask)) asks
@@ -188,7 +202,9 @@ pub record PageTold (kept : List Event → List Row) (E : List Event) (above row
   pub fault : fault_in t.log ≡ first_of (filter_map (fault_came kept) (page_came above E rows))
   pub settled : (object : ℕ) → settling_in t.log object ≡ settling_in s.log object
 
-fault_step : (kept : List Event → List Row) (E : List Event) (above : List Row) (row : Row) (rows : List Row) (s : State) (fault : SourceFault) → rows_in s.log ≡ above → fault_in s.log ≡ None → row_fault above (asks_told kept above E) row ≡ Some fault → PageTold kept E above (row ∷ rows) s (logged s (entry.Fault fault))
+fault_step : (kept : List Event → List Row) (E : List Event) (above : List Row) (row : Row) (rows : List Row) (s : State) (fault : SourceFault)
+    → rows_in s.log ≡ above → fault_in s.log ≡ None → row_fault above (asks_told kept above E) row ≡ Some fault
+    → PageTold kept E above (row ∷ rows) s (logged s (entry.Fault fault))
 fault_step kept E above row rows s fault is none at =
     let first : Came = record { row = row; above = above; before = E } in
     record {
@@ -203,7 +219,9 @@ fault_step kept E above row rows s fault is none at =
       settled = λ object. fault_settling s.log fault object;
     }
 
-row_step : (kept : List Event → List Row) (E : List Event) (above : List Row) (row : Row) (rows : List Row) (s t : State) → row_fault above (asks_told kept above E) row ≡ None → PageTold kept E (above ++ row ∷ []) rows (logged s (entry.Kept row)) t → PageTold kept E above (row ∷ rows) s t
+row_step : (kept : List Event → List Row) (E : List Event) (above : List Row) (row : Row) (rows : List Row) (s t : State)
+    → row_fault above (asks_told kept above E) row ≡ None → PageTold kept E (above ++ row ∷ []) rows (logged s (entry.Kept row)) t
+    → PageTold kept E above (row ∷ rows) s t
 row_step kept E above row rows s t at more =
     let first : Came = record { row = row; above = above; before = E } in
     record {
@@ -218,11 +236,16 @@ row_step kept E above row rows s t at more =
       settled = λ object. more.settled object ∙ kept_settling s.log row object;
     }
 
-step_by : (kept : List Event → List Row) (E : List Event) (above : List Row) (row : Row) (rows : List Row) (s : State) (o : Option SourceFault) → rows_in s.log ≡ above → fault_in s.log ≡ None → row_fault above (asks_told kept above E) row ≡ o → PageTold kept E (above ++ row ∷ []) rows (logged s (entry.Kept row)) (with_rows (logged s (entry.Kept row)) rows) → PageTold kept E above (row ∷ rows) s (row_or o s row (λ t. with_rows t rows))
+step_by : (kept : List Event → List Row) (E : List Event) (above : List Row) (row : Row) (rows : List Row) (s : State) (o : Option SourceFault)
+    → rows_in s.log ≡ above → fault_in s.log ≡ None → row_fault above (asks_told kept above E) row ≡ o
+    → PageTold kept E (above ++ row ∷ []) rows (logged s (entry.Kept row)) (with_rows (logged s (entry.Kept row)) rows)
+    → PageTold kept E above (row ∷ rows) s (row_or o s row (λ t. with_rows t rows))
 step_by kept E above row rows s None is none at more = row_step kept E above row rows s (with_rows (logged s (entry.Kept row)) rows) at more
 step_by kept E above row rows s (Some fault) is none at more = fault_step kept E above row rows s fault is none at
 
-page_told : (kept : List Event → List Row) (E : List Event) (above rows : List Row) (s : State) → s.asks ≡ objects_asked E → rows_in s.log ≡ above → fault_in s.log ≡ None → ((object : ℕ) → settling_in s.log object ≡ settling_in (settlings kept E) object) → PageTold kept E above rows s (with_rows s rows)
+page_told : (kept : List Event → List Row) (E : List Event) (above rows : List Row) (s : State) → s.asks ≡ objects_asked E → rows_in s.log ≡ above
+    → fault_in s.log ≡ None → ((object : ℕ) → settling_in s.log object ≡ settling_in (settlings kept E) object)
+    → PageTold kept E above rows s (with_rows s rows)
 page_told kept E above [] s asks is none settled = record {
   want = refl;
   asks = refl;
@@ -247,10 +270,12 @@ pub record Stays (kept : List Event → List Row) (count : ℕ) (E : List Event)
   pub rows : rows_told kept E ≡ rows_told kept (E ++ event ∷ [])
   pub fault : fault_told count kept E ≡ fault_told count kept (E ++ event ∷ [])
 
-stays : (kept : List Event → List Row) (count : ℕ) (E : List Event) (event : Event) → rows_brought event ≡ [] → ((m : Moment) → short_by count kept m event ≡ None) → Stays kept count E event
+stays : (kept : List Event → List Row) (count : ℕ) (E : List Event) (event : Event) → rows_brought event ≡ []
+    → ((m : Moment) → short_by count kept m event ≡ None) → Stays kept count E event
 stays kept count E event none short = record { rows = rows_stay kept E event none; fault = fault_stays count kept E event none short }
 
-told_want : (kept : List Event → List Row) (count : ℕ) (E : List Event) (s : State) (depth : ℕ) → IsTold kept count E s → IsTold kept count (E ++ Want depth ∷ []) (wanted s depth)
+told_want : (kept : List Event → List Row) (count : ℕ) (E : List Event) (s : State) (depth : ℕ) → IsTold kept count E s
+    → IsTold kept count (E ++ Want depth ∷ []) (wanted s depth)
 told_want kept count E s depth h =
     let st = stays kept count E (Want depth) refl (λ m. refl) in
     record {
@@ -264,7 +289,8 @@ told_want kept count E s depth h =
       settled = λ object. h.settled object ∙ ap (λ log. settling_in log object) (settled_stay kept E (Want depth) (λ m. refl));
     }
 
-asked_once : (E : List Event) (s : State) (object : ℕ) (found : Option Asking) → ask_of (asks_of s) object ≡ found → s.asks ≡ objects_asked E → one_asked found object s.asks ≡ objects_asked (E ++ Ask object ∷ [])
+asked_once : (E : List Event) (s : State) (object : ℕ) (found : Option Asking) → ask_of (asks_of s) object ≡ found → s.asks ≡ objects_asked E
+    → one_asked found object s.asks ≡ objects_asked (E ++ Ask object ∷ [])
 asked_once E s object None e is =
     ap (λ os. os ++ object ∷ []) is
     ∙ sym (ap each_once (filter_map_push_some object_asked E (Ask object) object refl)
@@ -274,7 +300,8 @@ asked_once E s object (Some ask) e is =
     ∙ sym (ap each_once (filter_map_push_some object_asked E (Ask object) object refl)
     ∙ each_once_push_old (filter_map object_asked E) object (subst (λ os. Contains os object) is (ask_found s.log s.asks object ask e).0))
 
-told_ask : (kept : List Event → List Row) (count : ℕ) (E : List Event) (s : State) (object : ℕ) → IsTold kept count E s → IsTold kept count (E ++ Ask object ∷ []) (with_ask s object)
+told_ask : (kept : List Event → List Row) (count : ℕ) (E : List Event) (s : State) (object : ℕ) → IsTold kept count E s
+    → IsTold kept count (E ++ Ask object ∷ []) (with_ask s object)
 told_ask kept count E s object h =
     let st = stays kept count E (Ask object) refl (λ m. refl) in
     record {
@@ -288,7 +315,10 @@ told_ask kept count E s object h =
       settled = λ other. h.settled other ∙ ap (λ log. settling_in log other) (settled_stay kept E (Ask object) (λ m. refl));
     }
 
-told_settling : (kept : List Event → List Row) (count : ℕ) (E : List Event) (s : State) (event : Event) (object : ℕ) (settling : Settling) → IsTold kept count E s → depth_wanted event ≡ None → object_asked event ≡ None → kind_failed event ≡ None → pauses event ≡ None → Stays kept count E event → settling_by kept (record { before = E; event = event }) event ≡ Some (entry.Settled object settling) → IsTold kept count (E ++ event ∷ []) (logged s (entry.Settled object settling))
+told_settling : (kept : List Event → List Row) (count : ℕ) (E : List Event) (s : State) (event : Event) (object : ℕ) (settling : Settling)
+    → IsTold kept count E s → depth_wanted event ≡ None → object_asked event ≡ None → kind_failed event ≡ None → pauses event ≡ None → Stays kept count E event
+    → settling_by kept (record { before = E; event = event }) event ≡ Some (entry.Settled object settling)
+    → IsTold kept count (E ++ event ∷ []) (logged s (entry.Settled object settling))
 told_settling kept count E s event object settling h no_want no_ask no_fail no_pause st some = record {
   want = h.want ∙ want_stays E event no_want;
   asks = h.asks ∙ asks_stay E event no_ask;
@@ -304,7 +334,8 @@ told_settling kept count E s event object settling h no_want no_ask no_fail no_p
       ∙ sym (ap (λ log. settling_in log other) (settled_more kept E event (entry.Settled object settling) some));
 }
 
-tally_same : {a b c d e f : ℕ} → a ≡ b → c ≡ d → e ≡ f → (let t : Tally = record { failed = a; garbled = c; memory = e } in let u : Tally = record { failed = b; garbled = d; memory = f } in t ≡ u)
+tally_same : {a b c d e f : ℕ} → a ≡ b → c ≡ d → e ≡ f
+    → (let t : Tally = record { failed = a; garbled = c; memory = e } in let u : Tally = record { failed = b; garbled = d; memory = f } in t ≡ u)
 tally_same p q r = cc
 
 or_none : {X : Type 0} (o : Option X) → o ≡ option_or o None
@@ -338,7 +369,8 @@ counted_told fails kind.Memory =
     one_more_counted (length (filter is_memory fails)) ∙ ap (λ n. min n last_count) (sym (ap (length {A = FailKind}) (filter-append is_memory fails (kind.Memory ∷ [])) ∙ length_push (filter is_memory fails) kind.Memory)) in
     tally_same f g m
 
-told_fail : (kept : List Event → List Row) (count : ℕ) (E : List Event) (s : State) (what : FailKind) → IsTold kept count E s → IsTold kept count (E ++ Fail what ∷ []) (failed s what)
+told_fail : (kept : List Event → List Row) (count : ℕ) (E : List Event) (s : State) (what : FailKind) → IsTold kept count E s
+    → IsTold kept count (E ++ Fail what ∷ []) (failed s what)
 unfolding tally_of
 told_fail kept count E s what h =
     let st = stays kept count E (Fail what) refl (λ m. refl) in
@@ -355,7 +387,8 @@ told_fail kept count E s what h =
     }
 
 -- a page
-told_page : (kept : List Event → List Row) (count : ℕ) (E : List Event) (s : State) (rows : List Row) → IsTold kept count E s → s.count ≡ count → rows_in s.log ≡ kept E → fault_in s.log ≡ None → IsTold kept count (E ++ Page rows ∷ []) (paged s rows)
+told_page : (kept : List Event → List Row) (count : ℕ) (E : List Event) (s : State) (rows : List Row) → IsTold kept count E s → s.count ≡ count
+    → rows_in s.log ≡ kept E → fault_in s.log ≡ None → IsTold kept count (E ++ Page rows ∷ []) (paged s rows)
 told_page kept count E s [] h is all none =
     let parts = none_parts _ _ (sym h.fault ∙ none) in
     let short : filter_map (λ (m : Moment). short_by count kept m m.event) (moments (E ++ Page [] ∷ [])) ≡ filter_map (λ (m : Moment). short_by count kept m m.event) (moments E) ++ ShortList count (length (kept E)) ∷ [] =
@@ -406,7 +439,8 @@ told_page kept count E s (row ∷ rows) h is all none =
     }
 
 -- each event, and a whole history
-count_or : (o : Option SourceFault) (s : State) (row : Row) (next : State → State) → ((t : State) → (next t).count ≡ t.count) → (row_or o s row next).count ≡ s.count
+count_or : (o : Option SourceFault) (s : State) (row : Row) (next : State → State) → ((t : State) → (next t).count ≡ t.count)
+    → (row_or o s row next).count ≡ s.count
 count_or None s row next h = h (logged s (entry.Kept row))
 count_or (Some fault) s row next h = refl
 
@@ -423,7 +457,8 @@ count_stays s (Grade object grade) = refl
 count_stays s (Miss object) = refl
 count_stays s (Fail what) = refl
 
-pub told_next : (kept : List Event → List Row) (count : ℕ) (E : List Event) (s : State) (event : Event) → IsTold kept count E s → s.count ≡ count → rows_in s.log ≡ kept E → MayCome s event → IsTold kept count (E ++ event ∷ []) (after s event)
+pub told_next : (kept : List Event → List Row) (count : ℕ) (E : List Event) (s : State) (event : Event) → IsTold kept count E s → s.count ≡ count
+    → rows_in s.log ≡ kept E → MayCome s event → IsTold kept count (E ++ event ∷ []) (after s event)
 told_next kept count E s (Want depth) h is all may = told_want kept count E s depth h
 told_next kept count E s (Ask object) h is all may = told_ask kept count E s object h
 told_next kept count E s (Page rows) h is all may = told_page kept count E s rows h is all may.no_fault
@@ -434,7 +469,8 @@ told_next kept count E s (Miss object) h is all may =
     told_settling kept count E s (Miss object) object settling.Missed h refl refl refl refl (stays kept count E (Miss object) refl (λ m. refl)) refl
 told_next kept count E s (Fail what) h is all may = told_fail kept count E s what h
 
-told_along : (start : State) (count : ℕ) (E more : List Event) → IsTold (kept_by start) count E (replayed start E) → (replayed start E).count ≡ count → AllMayCome (replayed start E) more → IsTold (kept_by start) count (E ++ more) (replayed (replayed start E) more)
+told_along : (start : State) (count : ℕ) (E more : List Event) → IsTold (kept_by start) count E (replayed start E) → (replayed start E).count ≡ count
+    → AllMayCome (replayed start E) more → IsTold (kept_by start) count (E ++ more) (replayed (replayed start E) more)
 told_along start count E [] h is may = subst (λ F. IsTold (kept_by start) count F (replayed start E)) (sym (append-nil E)) h
 told_along start count E (event ∷ more) h is may =
     let next : IsTold (kept_by start) count (E ++ event ∷ []) (after (replayed start E) event) = told_next (kept_by start) count E (replayed start E) event h is refl may.0 in
@@ -458,5 +494,6 @@ none_told list count = record {
   settled = λ object. refl;
 }
 
-pub history_told : (list count : ℕ) (E : List Event) → AllMayCome (opened list count) E → IsTold (kept_by (opened list count)) count E (replayed (opened list count) E)
+pub history_told : (list count : ℕ) (E : List Event) → AllMayCome (opened list count) E
+    → IsTold (kept_by (opened list count)) count E (replayed (opened list count) E)
 history_told list count E may = told_along (opened list count) count [] E (none_told list count) refl may

@@ -10,6 +10,7 @@ use Rattle.source_state.specs.Log.{rows_in, fault_in}
 use Rattle.source_state.specs.Asks.{ask_in, open_grade, is_due}
 use Rattle.source_state.specs.State.{State, IsSound}
 use Rattle.source_state.specs.Events.{with_rows}
+use Rattle.limits.specs.declared.TheConstants.{MAX_OBJECTS}
 
 -- rows with room for so many
 pub record RowList : Type 0 where
@@ -25,7 +26,7 @@ pub record AskList : Type 0 where
 pub record KeepsRows (list : RowList) (places : Keys) (capacity : ℕ) : Type 0 where
   pub keys : places.keys ≡ objects list.rows
   pub within : length list.rows ≤ list.room
-  pub small : list.room ≤ 200000
+  pub small : list.room ≤ MAX_OBJECTS
   pub reserved : list.room ≤ capacity
 
 -- the objects of asks
@@ -40,7 +41,7 @@ pub record KeepsAsks (list : AskList) (places : Keys) (grades : List (Option ℕ
   pub cursor : place ≡ position_or_len is_due list.asks
   pub distinct : AllPairs (λ (one : ℕ) (other : ℕ). one ≢ other) (ask_objects list.asks)
   pub within : length list.asks ≤ list.room
-  pub small : list.room ≤ 200000
+  pub small : list.room ≤ MAX_OBJECTS
   pub reserved : list.room ≤ capacity
 
 -- the rows, the asks as they stand and the row fault are those of the log, and the state is sound

@@ -18,6 +18,7 @@ use Rattle.source_state.specs.declared.entry.SourceFault.{SourceFault}
 use Rattle.source_state.specs.declared.entry.SourceFault.TheVariants.{OutOfOrder, TooHigh, Repeated, Clash, Above}
 use Rattle.source_state.specs.Log.{rows_in, settled_in, graded_in, faults_in}
 use Rattle.source_state.specs.Asks.{ask_in, ask_of, good_grade, first_above, first_due}
+use Rattle.limits.specs.declared.TheConstants.{MAX_OBJECTS}
 
 -- the number of the list and how many objects it has, the greatest depth that was wanted, the log, the objects that were asked in
 -- their order, how many fails of each kind came, the kind of the last one, and whether the state waits after it
@@ -140,7 +141,7 @@ pub record IsSound (s : State) : Type 0 where
   pub log : IsSoundLog s.count s.asks s.log
   pub distinct : AllPairs (λ (one : ℕ) (other : ℕ). one ≢ other) s.asks
   pub fits : length s.asks ≤ s.count
-  pub small : s.count ≤ 200000
+  pub small : s.count ≤ MAX_OBJECTS
   pub want : s.want ≤ s.count
   pub tally : IsCounted s.tally
 

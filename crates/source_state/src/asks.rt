@@ -10,6 +10,7 @@ use super::Memory;
 use super::ask::Ask;
 use super::entry::Settling;
 use grade_tree::GradeTree;
+use limits::MAX_OBJECTS;
 use ranked_list::Row;
 use room_map::RoomMap;
 use std::alloc::Global;
@@ -47,7 +48,7 @@ fn stops_at(asks: &[Ask], place: u32) -> bool
 
 /// The first place from one on at which an ask is due, or the number of asks. No ask before it is due.
 fn next_due(asks: &[Ask], from: u32) -> u32
-    requires few { length asks.now ≤ 200000 }
+    requires few { length asks.now ≤ MAX_OBJECTS }
     requires passed { from ≤ position_or_len is_due asks.now }
     ensures { result ≡ position_or_len is_due asks.now }
 {
@@ -70,7 +71,7 @@ fn add_last(asks: &mut Vec<Ask>, ask: Ask)
 impl Asks {
     /// No asks, with room for so many.
     pub fn make(alloc: Global, room: u32) -> Result<Asks, Memory>
-        requires { room ≤ 200000 }
+        requires { room ≤ MAX_OBJECTS }
         ensures { IfOk result (λ list. list ≡ record { room = room; asks = [] }) }
     {
         let Ok(asks) = Vec::with_capacity(alloc, room as usize) else {
@@ -169,7 +170,7 @@ impl Asks {
     pub fn len(&self) -> u32
         ensures len { result ≡ length self.now.asks }
         ensures few { result ≤ self.now.room }
-        ensures small { self.now.room ≤ 200000 }
+        ensures small { self.now.room ≤ MAX_OBJECTS }
     {
         self.asks.len() as u32
     }

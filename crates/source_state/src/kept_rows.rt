@@ -8,7 +8,8 @@ ghost use Rattle.topk_theory.specs.Bounds.{grade_among};
 ghost use Rattle.source_state.specs.Keeping.{RowList};
 
 use super::Memory;
-use ranked_list::{Row, TOP_GRADE};
+use limits::{MAX_OBJECTS, TOP_GRADE};
+use ranked_list::Row;
 use room_map::RoomMap;
 use std::alloc::Global;
 use std::marker::Model;
@@ -44,7 +45,7 @@ fn grade_at(rows: &[Row], place: u32) -> Option<u32>
 impl KeptRows {
     /// No rows, with room for so many.
     pub fn make(alloc: Global, room: u32) -> Result<KeptRows, Memory>
-        requires { room ≤ 200000 }
+        requires { room ≤ MAX_OBJECTS }
         ensures { IfOk result (λ kept. kept ≡ record { room = room; rows = [] }) }
     {
         let Ok(rows) = Vec::with_capacity(alloc, room as usize) else {
@@ -70,7 +71,7 @@ impl KeptRows {
     pub fn len(&self) -> u32
         ensures len { result ≡ length self.now.rows }
         ensures few { result ≤ self.now.room }
-        ensures small { self.now.room ≤ 200000 }
+        ensures small { self.now.room ≤ MAX_OBJECTS }
     {
         self.rows.len() as u32
     }

@@ -20,7 +20,7 @@ pub use laws::{
 };
 pub use look::{Look, LookFault, Waiting, look_at};
 pub use plan::{Plan, reach};
-pub use state::{MAX_COUNT, SourceState};
+pub use state::SourceState;
 pub use turn_lock::Tally;
 
 /// No memory was left.

@@ -5,6 +5,7 @@ ghost use Rattle.source_state.specs.State.{IsSound};
 ghost use Rattle.source_state.specs.Looking.{reach_of};
 
 use super::state::SourceState;
+use limits::MAX_OBJECTS;
 
 /// What is to be fetched next.
 #[derive(Clone, Copy, Debug, PartialEq, Eq)]
@@ -22,7 +23,7 @@ pub enum Plan {
 pub fn reach(want: u32, page: u32, ahead: u32, count: u32) -> u32
     requires page { (1 ≤ page) × (page ≤ 10000) }
     requires ahead { ahead ≤ 100 }
-    requires want { (want ≤ count) × (count ≤ 200000) }
+    requires want { (want ≤ count) × (count ≤ MAX_OBJECTS) }
     ensures reach { result ≡ reach_of want page ahead count }
     ensures within { result ≤ count }
 {

@@ -12,13 +12,11 @@ use super::asks::Asks;
 use super::entry::{Asked, FailKind, LogEntry, Settling, SourceFault};
 use super::event::{Applied, Event};
 use super::kept_rows::KeptRows;
-use ranked_list::{PageRows, Row, TOP_GRADE};
+use limits::{MAX_OBJECTS, TOP_GRADE};
+use ranked_list::{PageRows, Row};
 use std::alloc::Global;
 use std::marker::Model;
 use turn_lock::{Logged, Tally};
-
-/// How many objects a list may have.
-pub const MAX_COUNT: u32 = 200_000;
 
 /// The state of one source. Only `open` takes memory. Contracts see it as `State`.
 #[derive(Drop)]
@@ -132,7 +130,7 @@ impl SourceState {
 
     /// The state of the list of this number, which has `count` objects, before any event.
     pub fn open(alloc: Global, list: u32, count: u32) -> Result<SourceState, Memory>
-        requires { count ≤ MAX_COUNT }
+        requires { count ≤ MAX_OBJECTS }
         ensures { IfOk result (λ state. state ≡ opened list count) }
     {
         let Ok(log) = Vec::with_capacity(alloc, 2 * count as usize + 1) else {

@@ -25,8 +25,8 @@ pub enum Act {
     Turn(u32),
     /// The next rows of a source, so many.
     Page(u32, u32),
-    /// The grade that is due first.
-    Grade(u32),
+    /// What random access of a source brings of an object.
+    Grade(u32, u32),
     Fail(u32),
 }
 
@@ -96,17 +96,6 @@ fn take_page(
     Ok(take(world, Step::Page { source, rows }))
 }
 
-/// Takes the grade of a source that is due first.
-fn take_grade(world: &mut World, sources: &Sources, source: u32) -> bool {
-    if source >= world.sources() {
-        return false;
-    }
-    match world.state(source).first_pending() {
-        Some(object) => take(world, graded(sources, source, object)),
-        None => false,
-    }
-}
-
 /// Takes a step, if it is lawful.
 pub fn take_act(
     alloc: Global,
@@ -117,7 +106,7 @@ pub fn take_act(
     match step {
         Act::Turn(query) => Ok(take(world, Step::Turn { query })),
         Act::Page(source, count) => take_page(alloc, world, sources, source, count),
-        Act::Grade(source) => Ok(take_grade(world, sources, source)),
+        Act::Grade(source, object) => Ok(take(world, graded(sources, source, object))),
         Act::Fail(source) => Ok(take(
             world,
             Step::Fail {
@@ -142,8 +131,8 @@ fn serve(alloc: Global, world: &mut World, sources: &mut Sources, source: u32) -
         Plan::Page { count, .. } => {
             take_act(alloc, world, sources, Act::Page(source, count))?;
         }
-        Plan::Grade { .. } => {
-            take_act(alloc, world, sources, Act::Grade(source))?;
+        Plan::Grade { object } => {
+            take_act(alloc, world, sources, Act::Grade(source, object))?;
         }
     }
     Ok(())

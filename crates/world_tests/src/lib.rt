@@ -4,10 +4,22 @@
 #[cfg(test)]
 mod acts;
 #[cfg(test)]
+mod cases;
+#[cfg(test)]
+mod fails;
+#[cfg(test)]
+mod faults;
+#[cfg(test)]
+mod grades;
+#[cfg(test)]
 mod orders;
 #[cfg(test)]
 mod outcomes;
 #[cfg(test)]
 mod readies;
 #[cfg(test)]
-mod rows;
+mod tables;
+#[cfg(test)]
+mod three;
+#[cfg(test)]
+mod trials;

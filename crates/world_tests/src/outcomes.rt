@@ -3,31 +3,68 @@
 ghost use Rattle.std.specs.Prelude.{◌≡◌, ◌<◌, ◌≤◌, ◌^◌, All, length};
 ghost use Rattle.query_world.specs.Made.{IsReadyFor};
 
-use super::acts::{Act, Sources, end_by_rounds, take_act};
-use access_log::{Answer, CoreFault};
+use super::acts::{Sources, end_by_rounds};
+use access_log::{Answer, CoreFault, Transcript};
+use limits::MAX_OBJECTS;
 use query_core::Ready;
+use query_text::Costs;
 use query_world::{Ended, Endings, World};
 use source_state::LookFault;
 use std::alloc::Global;
 use std::test::Fail;
 
+/// What the accesses of an answer come to, where each costs 1.
+#[derive(Clone, Copy, PartialEq, Eq)]
+pub struct Figures {
+    pub depth: u32,
+    pub sorted: u64,
+    pub random: u64,
+    pub cost: u64,
+}
+
 /// How a query is to end.
 #[derive(Clone, Copy)]
 pub enum Expected {
-    /// Items with their bounds; the sorted and the random accesses.
-    Answered(&'static [(u32, u64, u64)], u64, u64),
+    /// Items with their bounds, and the figures of the accesses.
+    Answered(&'static [(u32, u64, u64)], Figures),
     Core(CoreFault),
-    /// At the first list of the query.
-    Look(LookFault),
+    /// At this list of the query.
+    Look(u8, LookFault),
 }
 
 /// A query: its text, and the sources of its lists.
 pub type Asked = (&'static str, &'static [u32]);
 
+/// The greatest depth of the lists.
+fn depth_of(transcript: &Transcript) -> u32 {
+    let mut depth = 0;
+    for list in 0..transcript.lists() {
+        depth = depth.max(transcript.depth(list));
+    }
+    depth
+}
+
+/// The figures of some accesses, which are few.
+fn figures_of(transcript: &Transcript) -> Option<Figures> {
+    if transcript.len() > 1000 {
+        return None;
+    }
+    Some(Figures {
+        depth: depth_of(transcript),
+        sorted: transcript.sorted(),
+        random: transcript.random(),
+        cost: transcript.cost(&Costs {
+            sorted: 1,
+            random: 1,
+        }),
+    })
+}
+
 /// Whether an answer has these items and figures.
-fn is_answer(answer: &Answer, items: &[(u32, u64, u64)], sorted: u64, random: u64) -> bool {
-    let figures = answer.transcript.sorted() == sorted && answer.transcript.random() == random;
-    figures && answer.items.len() as usize == items.len() && has_items(answer, items)
+fn is_answer(answer: &Answer, items: &[(u32, u64, u64)], expected: Figures) -> bool {
+    figures_of(&answer.transcript) == Some(expected)
+        && answer.items.len() as usize == items.len()
+        && has_items(answer, items)
 }
 
 /// Whether the items begin with these.
@@ -48,11 +85,13 @@ fn has_items(answer: &Answer, items: &[(u32, u64, u64)]) -> bool {
 /// Whether a query ended so.
 fn is_ended_so(ended: &Ended, expected: &Expected) -> bool {
     match (ended, expected) {
-        (Ended::Answered(answer), Expected::Answered(items, sorted, random)) => {
-            is_answer(answer, items, *sorted, *random)
+        (Ended::Answered(answer), Expected::Answered(items, figures)) => {
+            is_answer(answer, items, *figures)
         }
         (Ended::Core { fault }, Expected::Core(refusal)) => fault == refusal,
-        (Ended::Look { list: 0, fault }, Expected::Look(refusal)) => fault == refusal,
+        (Ended::Look { list, fault }, Expected::Look(at, refusal)) => {
+            list == at && fault == refusal
+        }
         _ => false,
     }
 }
@@ -72,38 +111,28 @@ pub fn are_ended_so(endings: &Endings, expected: &[Expected]) -> bool {
     true
 }
 
-/// Steps and then rounds to the end.
-fn run(
-    alloc: Global,
-    world: &mut World,
-    sources: &Sources,
-    acts: &[Act],
-    workers: u32,
-) -> Result<(), Fail> {
-    for step in acts {
-        take_act(alloc, world, sources, *step)?;
-    }
-    end_by_rounds(alloc, world, sources, workers)
-}
-
-/// The endings of queries after steps, and then rounds.
-pub fn endings_of(
-    alloc: Global,
-    counts: &[u32],
-    readies: &[Ready],
-    sources: &Sources,
-    acts: &[Act],
-    workers: u32,
-) -> Result<Endings, Fail>
+/// A world of queries that are ready.
+pub fn world_of(alloc: Global, counts: &[u32], readies: &[Ready]) -> Result<World, Fail>
     requires sources { length counts.now < 2 ^ 32 }
-    requires counts { All (λ count. count ≤ 200000) counts.now }
+    requires counts { All (λ count. count ≤ MAX_OBJECTS) counts.now }
     requires queries { length readies.now < 2 ^ 32 }
     requires ready { All (IsReadyFor counts.now) readies.now }
 {
-    let Ok(mut world) = World::make(alloc, counts, readies) else {
-        return Err("memory".into());
-    };
-    let ran = run(alloc, &mut world, sources, acts, workers);
+    match World::make(alloc, counts, readies) {
+        Ok(world) => Ok(world),
+        Err(_) => Err("memory".into()),
+    }
+}
+
+/// How the queries of a world end, after rounds of so many turns.
+pub fn ends_of(
+    alloc: Global,
+    world: World,
+    sources: &Sources,
+    workers: u32,
+) -> Result<Endings, Fail> {
+    let mut world = world;
+    let ran = end_by_rounds(alloc, &mut world, sources, workers);
     if !world.all_ended() {
         drop(world);
         ran?;

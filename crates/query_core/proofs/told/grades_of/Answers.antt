@@ -9,4 +9,4 @@ loop-place-preserved-in-Continue-1 c = λ object.
     ∙ sym (grades_more c.args.rows.now c.loop-place.place c.in-Some.row object (omega arith) c.in-Some.ensures)
 
 pub loop-place-preserved : goal.loop-place-preserved
-loop-place-preserved c = absurd (omega (arith, row_there c.args.rows.now (c.loop-place.place - 1) c.in_default.ensures, c.loop-place.auto.place, c.len-place.ensures))
+loop-place-preserved c = absurd (omega (arith, row_there c.args.rows.now (c.loop-place.place - 1) c.in_default-get.ensures, c.loop-place.auto.place, c.len-place.ensures))

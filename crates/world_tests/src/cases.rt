@@ -1,0 +1,91 @@
+//! Worlds that are worked out by hand.
+
+ghost use Rattle.std.specs.Prelude.{◌≡◌, ◌<◌, ◌≤◌, ◌^◌, true, All, length, IfOk};
+ghost use Rattle.query_world.specs.Made.{IsReadyFor};
+
+use super::acts::{Act, Sources, take_act};
+use super::outcomes::{Asked, Expected, are_ended_so, ends_of, world_of};
+use super::readies::add_ready;
+use limits::MAX_OBJECTS;
+use query_core::Ready;
+use query_world::{Endings, World};
+use std::alloc::Global;
+use std::test::Fail;
+
+/// Sources with how many objects they state, queries, steps that are taken first where they are lawful, how many turns a round
+/// has then, and how the queries end.
+#[derive(Clone, Copy)]
+pub struct Case {
+    pub sources: Sources,
+    pub counts: &'static [u32],
+    pub asked: &'static [Asked],
+    pub acts: &'static [Act],
+    pub workers: u32,
+    pub ends: &'static [Expected],
+}
+
+/// The queries of a world, all ready.
+pub fn readies_of(alloc: Global, counts: &[u32], asked: &[Asked]) -> Result<Vec<Ready>, Fail>
+    ensures { IfOk result (λ readies. All (IsReadyFor counts.now) readies.items) }
+{
+    let mut readies = Vec::new(alloc);
+    for one in asked {
+        add_ready(alloc, &mut readies, counts, one.0, one.1)?;
+    }
+    Ok(readies)
+}
+
+/// Whether the counts are within the limits.
+pub fn are_small(counts: &[u32]) -> bool
+    ensures { result ≡ true → All (λ count. count ≤ MAX_OBJECTS) counts.now }
+{
+    counts.iter().all(|count| *count <= 200_000)
+}
+
+/// Steps that are taken where they are lawful.
+fn take_all(alloc: Global, world: &mut World, case: &Case) -> Result<(), Fail> {
+    for step in case.acts {
+        take_act(alloc, world, &case.sources, *step)?;
+    }
+    Ok(())
+}
+
+/// How the queries of a case end.
+fn endings_of(alloc: Global, case: &Case, readies: &[Ready]) -> Result<Endings, Fail>
+    requires sources { length case.now.counts.now < 2 ^ 32 }
+    requires counts { All (λ count. count ≤ MAX_OBJECTS) case.now.counts.now }
+    requires queries { length readies.now < 2 ^ 32 }
+    requires ready { All (IsReadyFor case.now.counts.now) readies.now }
+{
+    let mut world = world_of(alloc, case.counts, readies)?;
+    match take_all(alloc, &mut world, case) {
+        Ok(()) => ends_of(alloc, world, &case.sources, case.workers),
+        Err(fault) => {
+            drop(world);
+            Err(fault)
+        }
+    }
+}
+
+/// Whether the queries of a case end as they are to.
+fn ends_so(alloc: Global, case: &Case) -> Result<bool, Fail> {
+    let readies = readies_of(alloc, case.counts, case.asked)?;
+    if !are_small(case.counts) || case.counts.len() > 100 || readies.len() > 100 {
+        drop(readies);
+        return Err("a few small sources".into());
+    }
+    let endings = endings_of(alloc, case, &readies)?;
+    let so = are_ended_so(&endings, case.ends);
+    drop(endings);
+    Ok(so)
+}
+
+/// The number of the first case whose queries end otherwise.
+pub fn first_wrong(alloc: Global, cases: &[Case]) -> Result<Option<usize>, Fail> {
+    for (number, case) in cases.iter().enumerate() {
+        if !ends_so(alloc, case)? {
+            return Ok(Some(number));
+        }
+    }
+    Ok(None)
+}

@@ -1,0 +1,71 @@
+//! Calls that fail.
+
+use super::acts::{Act, Sources};
+use super::cases::{Case, first_wrong};
+use super::outcomes::Expected;
+use super::three::{FIRST, FIRST_ENDS, THREE};
+use source_state::LookFault;
+use std::test::Fail;
+
+const CASES: [Case; 5] = [
+    // the second page fails: one query waited for it, the other looks later
+    Case {
+        sources: Sources {
+            fails: Some((0, 1)),
+            ..THREE
+        },
+        counts: &[3, 3],
+        asked: &[FIRST, FIRST],
+        acts: &[],
+        workers: 1,
+        ends: &[Expected::Look(0, LookFault::Failed), FIRST_ENDS],
+    },
+    // a fail between a want and its page
+    Case {
+        sources: THREE,
+        counts: &[3, 3],
+        asked: &[FIRST, FIRST],
+        acts: &[Act::Turn(0), Act::Fail(0), Act::Turn(1), Act::Page(0, 1)],
+        workers: 2,
+        ends: &[FIRST_ENDS, FIRST_ENDS],
+    },
+    // the same, where the query looks before the page
+    Case {
+        sources: THREE,
+        counts: &[3, 3],
+        asked: &[FIRST, FIRST],
+        acts: &[
+            Act::Turn(0),
+            Act::Fail(0),
+            Act::Turn(1),
+            Act::Turn(0),
+            Act::Page(0, 1),
+        ],
+        workers: 2,
+        ends: &[Expected::Look(0, LookFault::Failed), FIRST_ENDS],
+    },
+    // a fail before the want
+    Case {
+        sources: THREE,
+        counts: &[3, 3],
+        asked: &[FIRST],
+        acts: &[Act::Fail(0), Act::Turn(0), Act::Turn(0)],
+        workers: 1,
+        ends: &[FIRST_ENDS],
+    },
+    // a fail of the other source
+    Case {
+        sources: THREE,
+        counts: &[3, 3],
+        asked: &[FIRST],
+        acts: &[Act::Turn(0), Act::Fail(1), Act::Turn(0)],
+        workers: 1,
+        ends: &[FIRST_ENDS],
+    },
+];
+
+#[test]
+fn ends_after_fails(rt: HostRuntime) -> Result<(), Fail> {
+    assert_eq!(rt; first_wrong(rt.alloc(), &CASES)?, None);
+    Ok(())
+}

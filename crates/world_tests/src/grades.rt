@@ -1,0 +1,115 @@
+//! Grades that do not go with the rows.
+
+use super::acts::{Act, Sources};
+use super::cases::{Case, first_wrong};
+use super::outcomes::Expected;
+use super::three::{FIRST, FIRST_ENDS, THREE};
+use source_state::{LookFault, SourceFault};
+use std::test::Fail;
+
+/// The first row of either source, and the grade of object 1; the query asks for that of object 2, whose row comes before it.
+const GRADE_AFTER: &[Act] = &[
+    Act::Page(0, 1),
+    Act::Page(1, 1),
+    Act::Turn(0),
+    Act::Turn(0),
+    Act::Turn(0),
+    Act::Grade(1, 1),
+    Act::Turn(0),
+    Act::Turn(0),
+    Act::Page(0, 1),
+    Act::Grade(0, 2),
+];
+
+/// The same, with a turn between the row and the grade.
+const GRADE_TOO_LATE: &[Act] = &[
+    Act::Page(0, 1),
+    Act::Page(1, 1),
+    Act::Turn(0),
+    Act::Turn(0),
+    Act::Turn(0),
+    Act::Grade(1, 1),
+    Act::Turn(0),
+    Act::Turn(0),
+    Act::Page(0, 1),
+    Act::Turn(0),
+    Act::Grade(0, 2),
+];
+
+const CASES: [Case; 4] = [
+    // a grade that clashes with the row that comes later
+    Case {
+        sources: Sources {
+            grades: &[(0, 2, 850)],
+            ..THREE
+        },
+        counts: &[3, 3],
+        asked: &[FIRST],
+        acts: &[],
+        workers: 1,
+        ends: &[Expected::Look(
+            0,
+            LookFault::Source(SourceFault::Clash {
+                object: 2,
+                sorted: 800,
+                random: 850,
+            }),
+        )],
+    },
+    // a grade that clashes with the row that came before it
+    Case {
+        sources: Sources {
+            grades: &[(0, 2, 850)],
+            ..THREE
+        },
+        counts: &[3, 3],
+        asked: &[FIRST],
+        acts: GRADE_AFTER,
+        workers: 1,
+        ends: &[Expected::Look(
+            0,
+            LookFault::Source(SourceFault::Clash {
+                object: 2,
+                sorted: 800,
+                random: 850,
+            }),
+        )],
+    },
+    // the same, where the query took the row's grade before
+    Case {
+        sources: Sources {
+            grades: &[(0, 2, 850)],
+            ..THREE
+        },
+        counts: &[3, 3],
+        asked: &[FIRST],
+        acts: GRADE_TOO_LATE,
+        workers: 1,
+        ends: &[FIRST_ENDS],
+    },
+    // a grade above the last row's
+    Case {
+        sources: Sources {
+            grades: &[(0, 2, 950)],
+            ..THREE
+        },
+        counts: &[3, 3],
+        asked: &[FIRST],
+        acts: &[],
+        workers: 1,
+        ends: &[Expected::Look(
+            0,
+            LookFault::Source(SourceFault::Above {
+                object: 2,
+                grade: 950,
+                bottom: 900,
+            }),
+        )],
+    },
+];
+
+#[test]
+fn ends_by_other_grades(rt: HostRuntime) -> Result<(), Fail> {
+    assert_eq!(rt; first_wrong(rt.alloc(), &CASES)?, None);
+    Ok(())
+}
