@@ -4,25 +4,10 @@ ghost use Rattle.std.specs.Prelude.{◌<◌};
 
 use std::alloc::Global;
 use std::test::Fail;
+use test_support::{Numbers, shuffled};
 
 /// The names of the lists.
 pub const NAMES: [&str; 8] = ["A", "B", "C", "D", "E", "F", "G", "H"];
-
-/// Numbers that look random: those of the generator of Lehmer with Park and Miller's factor.
-#[derive(Drop)]
-pub struct Numbers {
-    pub state: u64,
-}
-
-impl Numbers {
-    pub fn below(&mut self, bound: u32) -> u32
-        requires { 0 < bound }
-        ensures { result < bound }
-    {
-        self.state = self.state % 2_147_483_647 * 48_271 % 2_147_483_647;
-        (self.state % u64::from(bound)) as u32
-    }
-}
 
 /// A table: the grades of each object, those of an object side by side in the order of the lists, and
 /// the sections of its lists. The objects are 0, 1, 2 and so on.
@@ -40,20 +25,6 @@ impl Table {
         let end = start.saturating_add(self.lists);
         Ok(self.grades.get(start..end).ok_or("an object")?)
     }
-}
-
-/// The objects in a random order.
-fn shuffled(alloc: Global, numbers: &mut Numbers, count: u32) -> Result<Vec<u32>, Fail> {
-    let mut objects = Vec::new(alloc);
-    for object in 0..count {
-        let place = numbers.below(object + 1) as usize;
-        objects.push(object)?;
-        let last = objects.len() - 1;
-        if place < last {
-            objects.swap(place, last);
-        }
-    }
-    Ok(objects)
 }
 
 /// One list more: its grades fall from the greatest on by steps that are below `step`.

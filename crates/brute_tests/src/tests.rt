@@ -4,12 +4,13 @@ ghost use Rattle.std.specs.Prelude.{◌<◌};
 
 use super::aggregates::Aggregate;
 use super::answers::{answers_of, check_accesses, check_answers};
-use super::tables::{NAMES, Numbers, Table, table_of};
+use super::tables::{NAMES, Table, table_of};
 use std::alloc::Global;
 use std::process::Abort;
 use std::test::Fail;
-use tk_io::{MemIntake, MemSink};
-use topk_top::{Status, Words, top};
+use test_support::Numbers;
+use top_support::end_of;
+use topk_top::Status;
 
 /// The query of the first k by an aggregate over the lists of a table.
 fn query_of(
@@ -44,13 +45,9 @@ fn certificate_of(
     query: &str,
 ) -> Result<String, Fail> {
     let input = format!(in alloc; "{}query {query}\n", table.sections)?;
-    let mut words = Words::make(alloc);
-    words.push("one")?;
-    let mut intake = MemIntake::make(alloc, input.as_bytes(), 65_536, &[])?;
-    let mut sink = MemSink::make(alloc, 4_000_000, &[])?;
-    let status = top(alloc, &words, &mut intake, &mut sink);
+    let (status, out) = end_of(alloc, &["one"], input.as_bytes(), 4_000_000)?;
     assert_eq!(rt; status, Status::Done, "{query}");
-    Ok(String::from_utf8(sink.taken().to_vec(alloc)?)?)
+    Ok(String::from_utf8(out.taken().to_vec(alloc)?)?)
 }
 
 /// The aggregate of each object.
@@ -111,7 +108,7 @@ fn compare_each(
 
 /// Tables of so many objects in one, four and eight lists, the first two with ties everywhere.
 fn compare_tables(rt: &impl Abort, alloc: Global, count: u32, algorithm: &str) -> Result<(), Fail> {
-    let mut numbers = Numbers { state: 1 };
+    let mut numbers = Numbers::from_start(1);
     for (lists, step) in [(1, 3), (4, 2), (8, 500)] {
         let table = table_of(alloc, &mut numbers, lists, count, step)?;
         compare_each(rt, alloc, &table, count, algorithm)?;
@@ -129,7 +126,11 @@ fn without_random_access(rt: HostRuntime) -> Result<(), Fail> {
     compare_tables(&rt, rt.alloc(), 2_000, "nra")
 }
 
+/// A random phase at each third depth, at each, and at each fortieth.
 #[test]
 fn combined_algorithm(rt: HostRuntime) -> Result<(), Fail> {
-    compare_tables(&rt, rt.alloc(), 500, "ca cost 2 7")
+    for algorithm in ["ca cost 2 7", "ca cost 10 3", "ca cost 1 40"] {
+        compare_tables(&rt, rt.alloc(), 500, algorithm)?;
+    }
+    Ok(())
 }

@@ -72,7 +72,9 @@ kept_start e k phase room m n held = record {
   };
 }
 
-pub stands_start : (e : Tree) (k n room phase : ℕ) (costs : Costs) (base : Base) (late : LateSeen) (first : List Item) (capacity : ℕ) → IsBegun e k n room costs (shown base needs.Done) → Holds base → IsReserved base → first ≡ [] → min room n ≤ capacity → phase ≡ phase_length costs.sorted costs.random
+pub stands_start : (e : Tree) (k n room phase : ℕ) (costs : Costs) (base : Base) (late : LateSeen) (first : List Item) (capacity : ℕ)
+    → IsBegun e k n room costs (shown base needs.Done) → Holds base → IsReserved base → first ≡ [] → min room n ≤ capacity
+    → phase ≡ phase_length costs.sorted costs.random
     → ((e : Tree) (m : ℕ) → AreRenewed e k (min room n) m [] late) → Stands base phase late first capacity (stages.Row 0 1)
 stands_start e k n room phase costs base late first capacity begun held reserved none roomy paid seen =
     let m : ℕ = base.transcript.lists in
@@ -89,7 +91,9 @@ stands_start e k n room phase costs base late first capacity begun held reserved
     }
 
 -- ---- which access may be told
-pub can_row : (base : Base) (phase : ℕ) (first : List Item) (stage : Stage) (row : Row) (list depth : ℕ) → Keeps base phase first stage → MayBeNextRow base.transcript (need_at stage) row → need_at stage ≡ needs.Row list depth → HasRoomFor (shown base needs.Done) row.object → CanTake base (Sorted list row.object row.grade)
+pub can_row : (base : Base) (phase : ℕ) (first : List Item) (stage : Stage) (row : Row) (list depth : ℕ) → Keeps base phase first stage
+    → MayBeNextRow base.transcript (need_at stage) row → need_at stage ≡ needs.Row list depth → HasRoomFor (shown base needs.Done) row.object
+    → CanTake base (Sorted list row.object row.grade)
 can_row base phase first stage row list depth kept may is fits = row_can base list row.object row.grade kept.base (subst (λ need. MayBeNextRow base.transcript need row) is may) fits
 
 -- a grade that no access gave wasn't asked for
@@ -102,7 +106,8 @@ unasked m n A object list some none c =
     not_both : (g : ℕ) → None ≡ Some g → ⊥
     not_both g e = cc
 
-asked_of : (m : ℕ) (A : List Access) (objects : List ℕ) (stage : Stage) (list object : ℕ) → IsSound m A objects stage → need_at stage ≡ needs.Grade list object → IsAsked m A object list
+asked_of : (m : ℕ) (A : List Access) (objects : List ℕ) (stage : Stage) (list object : ℕ) → IsSound m A objects stage → need_at stage ≡ needs.Grade list object
+    → IsAsked m A object list
 asked_of m A objects (stages.Row l d) list object sound is = absurd (row_not_grade l d list object is)
 asked_of m A objects (stages.Choice l o d) list object sound is =
     let list_is = grade_list l o list object is in
@@ -114,7 +119,8 @@ asked_of m A objects (stages.Finish l o p) list object sound is =
     subst (λ x. IsAsked m A x list) object_is (subst (λ x. IsAsked m A o x) list_is sound.asked)
 asked_of m A objects stages.Done list object sound is = absurd (done_not_grade list object is)
 
-pub can_grade : (base : Base) (phase : ℕ) (first : List Item) (stage : Stage) (grade list object : ℕ) → Keeps base phase first stage → MayBeNextGrade base.transcript (need_at stage) grade → need_at stage ≡ needs.Grade list object → CanTake base (Random list object grade)
+pub can_grade : (base : Base) (phase : ℕ) (first : List Item) (stage : Stage) (grade list object : ℕ) → Keeps base phase first stage
+    → MayBeNextGrade base.transcript (need_at stage) grade → need_at stage ≡ needs.Grade list object → CanTake base (Random list object grade)
 can_grade base phase first stage grade list object kept may is =
     let asked = asked_of base.transcript.lists base.transcript.accesses (item_objects first) stage list object kept.sound is in
     let r = some_unknown base.transcript.lists base.transcript.accesses object list asked.next in
@@ -124,7 +130,8 @@ can_grade base phase first stage grade list object kept may is =
     }
 
 -- ---- what was told is noted
-pub was_renewed : (before after : Base) (a : Access) (object : ℕ) (late : LateSeen) → IsTold a before after → object_of a ≡ object → Contains (seen_objects after.transcript.accesses) object → KeepsSeen before late → WasRenewed after object late
+pub was_renewed : (before after : Base) (a : Access) (object : ℕ) (late : LateSeen) → IsTold a before after → object_of a ≡ object
+    → Contains (seen_objects after.transcript.accesses) object → KeepsSeen before late → WasRenewed after object late
 was_renewed before after a object late told named seen kept = record {
   before = before.transcript.accesses;
   access = a;
@@ -137,12 +144,14 @@ was_renewed before after a object late told named seen kept = record {
       (subst (λ m. AreRenewed before.expr before.k before.room m before.transcript.accesses late) (sym told.log.lists) kept)));
 }
 
-pub seen_row : (before after : Base) (list object grade : ℕ) → IsTold (Sorted list object grade) before after → Contains (seen_objects after.transcript.accesses) object
+pub seen_row : (before after : Base) (list object grade : ℕ) → IsTold (Sorted list object grade) before after
+    → Contains (seen_objects after.transcript.accesses) object
 seen_row before after list object grade told =
     subst (λ B. Contains (seen_objects B) object) (sym told.log.accesses)
     (seen_from_access (before.transcript.accesses ++ Sorted list object grade ∷ []) list object grade (Contains-append_right before.transcript.accesses (Sorted list object grade ∷ []) (Sorted list object grade) (contains_here (Sorted list object grade) [])))
 
-pub seen_grade : (before after : Base) (phase : ℕ) (first : List Item) (stage : Stage) (list object grade : ℕ) → Keeps before phase first stage → need_at stage ≡ needs.Grade list object → IsTold (Random list object grade) before after → Contains (seen_objects after.transcript.accesses) object
+pub seen_grade : (before after : Base) (phase : ℕ) (first : List Item) (stage : Stage) (list object grade : ℕ) → Keeps before phase first stage
+    → need_at stage ≡ needs.Grade list object → IsTold (Random list object grade) before after → Contains (seen_objects after.transcript.accesses) object
 seen_grade before after phase first stage list object grade kept is told =
     subst (λ B. Contains (seen_objects B) object) (sym told.log.accesses)
     (seen_more before.transcript.accesses (Random list object grade ∷ []) object (asked_of before.transcript.lists before.transcript.accesses (item_objects first) stage list object kept.sound is).seen)
@@ -151,14 +160,16 @@ seen_grade before after phase first stage list object grade kept is told =
 pub phase_positive : (phase : ℕ) (costs : Costs) → phase ≡ phase_length costs.sorted costs.random → 1 ≤ phase
 phase_positive phase costs is = let up : 1 ≤ max 1 (costs.random / costs.sorted) = omega arith in omega (arith, is)
 
-depth_small : (base : Base) (phase : ℕ) (first : List Item) (stage : Stage) → Keeps base phase first stage → (depth : ℕ) → ((D : List (List Row)) → Agrees base.transcript.lists base.transcript.count D base.transcript.accesses → depth ≤ base.transcript.count) → depth ≤ 200000
+depth_small : (base : Base) (phase : ℕ) (first : List Item) (stage : Stage) → Keeps base phase first stage → (depth : ℕ)
+    → ((D : List (List Row)) → Agrees base.transcript.lists base.transcript.count D base.transcript.accesses → depth ≤ base.transcript.count) → depth ≤ 200000
 depth_small base phase first stage kept depth within =
     let some = kept.base.agreeing in
     let few = within some.0 some.1 in
     let counted = kept.base.counted in
     omega arith
 
-pub may_move : (before after : Base) (a : Access) (phase : ℕ) (late : LateSeen) (first : List Item) (capacity : ℕ) (stage : Stage) → Stands before phase late first capacity stage → IsTold a before after → MayMoveAt after stage first capacity
+pub may_move : (before after : Base) (a : Access) (phase : ℕ) (late : LateSeen) (first : List Item) (capacity : ℕ) (stage : Stage)
+    → Stands before phase late first capacity stage → IsTold a before after → MayMoveAt after stage first capacity
 may_move before after a phase late first capacity (stages.Row list depth) stands told = (
   omega (arith, stands.kept.sound.0, told.log.lists),
   record {
@@ -176,7 +187,9 @@ may_move before after a phase late first capacity (stages.Finish list object pla
 may_move before after a phase late first capacity stages.Done stands told = tt
 
 -- ---- what is kept then
-row_moved : (e : Tree) (k phase room m n : ℕ) (A : List Access) (first : List Item) (stage : Stage) (list depth object grade : ℕ) → need_at stage ≡ needs.Row list depth → IsKept e k phase room m n A first stage → SomeAgrees m n (A ++ Sorted list object grade ∷ []) → MayFollow room A (Sorted list object grade)
+row_moved : (e : Tree) (k phase room m n : ℕ) (A : List Access) (first : List Item) (stage : Stage) (list depth object grade : ℕ)
+    → need_at stage ≡ needs.Row list depth → IsKept e k phase room m n A first stage → SomeAgrees m n (A ++ Sorted list object grade ∷ [])
+    → MayFollow room A (Sorted list object grade)
     → IsKept e k phase room m n (A ++ Sorted list object grade ∷ []) (moved (value e) k phase m n (A ++ Sorted list object grade ∷ []) stage first).first (moved (value e) k phase m n (A ++ Sorted list object grade ∷ []) stage first).stage
 row_moved e k phase room m n A first (stages.Row l d) list depth object grade is kept some follows =
     let list_is = row_list l d list depth is in
@@ -186,7 +199,9 @@ row_moved e k phase room m n A first (stages.Choice l o d) list depth object gra
 row_moved e k phase room m n A first (stages.Finish l o p) list depth object grade is kept some follows = absurd (grade_not_row l o list depth is)
 row_moved e k phase room m n A first stages.Done list depth object grade is kept some follows = absurd (done_not_row list depth is)
 
-grade_moved : (e : Tree) (k phase room m n : ℕ) (A : List Access) (first : List Item) (stage : Stage) (list object grade : ℕ) → need_at stage ≡ needs.Grade list object → IsKept e k phase room m n A first stage → SomeAgrees m n (A ++ Random list object grade ∷ []) → MayFollow room A (Random list object grade)
+grade_moved : (e : Tree) (k phase room m n : ℕ) (A : List Access) (first : List Item) (stage : Stage) (list object grade : ℕ)
+    → need_at stage ≡ needs.Grade list object → IsKept e k phase room m n A first stage → SomeAgrees m n (A ++ Random list object grade ∷ [])
+    → MayFollow room A (Random list object grade)
     → IsKept e k phase room m n (A ++ Random list object grade ∷ []) (moved (value e) k phase m n (A ++ Random list object grade ∷ []) stage first).first (moved (value e) k phase m n (A ++ Random list object grade ∷ []) stage first).stage
 grade_moved e k phase room m n A first (stages.Row l d) list object grade is kept some follows = absurd (row_not_grade l d list object is)
 grade_moved e k phase room m n A first (stages.Choice l o d) list object grade is kept some follows =
@@ -204,10 +219,13 @@ grade_moved e k phase room m n A first (stages.Finish l o p) list object grade i
 grade_moved e k phase room m n A first stages.Done list object grade is kept some follows = absurd (done_not_grade list object is)
 
 -- the same of a base that was told
-kept_course : (after : Base) (phase : ℕ) (stage stage' : Stage) (first first' : List Item) (course : Course) → record { stage = stage'; first = first' } ≡ course → Keeps after phase course.first course.stage → Keeps after phase first' stage'
+kept_course : (after : Base) (phase : ℕ) (stage stage' : Stage) (first first' : List Item) (course : Course)
+    → record { stage = stage'; first = first' } ≡ course → Keeps after phase course.first course.stage → Keeps after phase first' stage'
 kept_course after phase stage stage' first first' course is kept = subst (λ (c : Course). Keeps after phase c.first c.stage) (sym is) kept
 
-pub row_stands : (before after : Base) (phase : ℕ) (late late' : LateSeen) (first first' : List Item) (capacity capacity' : ℕ) (stage stage' : Stage) (list depth object grade : ℕ) → Stands before phase late first capacity stage → need_at stage ≡ needs.Row list depth → CanTake before (Sorted list object grade)
+pub row_stands : (before after : Base) (phase : ℕ) (late late' : LateSeen) (first first' : List Item) (capacity capacity' : ℕ) (stage stage' : Stage)
+    (list depth object grade : ℕ) → Stands before phase late first capacity stage → need_at stage ≡ needs.Row list depth
+    → CanTake before (Sorted list object grade)
     → IsTold (Sorted list object grade) before after → Holds after → IsReserved after → KeepsSeen after late' → capacity' ≡ capacity
     → record { stage = stage'; first = first' } ≡ moved (value after.expr) after.k phase after.transcript.lists after.transcript.count after.transcript.accesses stage first → Stands after phase late' first' capacity' stage'
 row_stands before after phase late late' first first' capacity capacity' stage stage' list depth object grade stands is can told held reserved seen same course = record {
@@ -220,7 +238,9 @@ row_stands before after phase late late' first first' capacity capacity' stage s
   roomy = omega (arith, stands.roomy, told.room, same);
 }
 
-pub grade_stands : (before after : Base) (phase : ℕ) (late late' : LateSeen) (first first' : List Item) (capacity capacity' : ℕ) (stage stage' : Stage) (list object grade : ℕ) → Stands before phase late first capacity stage → need_at stage ≡ needs.Grade list object → CanTake before (Random list object grade)
+pub grade_stands : (before after : Base) (phase : ℕ) (late late' : LateSeen) (first first' : List Item) (capacity capacity' : ℕ) (stage stage' : Stage)
+    (list object grade : ℕ) → Stands before phase late first capacity stage → need_at stage ≡ needs.Grade list object
+    → CanTake before (Random list object grade)
     → IsTold (Random list object grade) before after → Holds after → IsReserved after → KeepsSeen after late' → capacity' ≡ capacity
     → record { stage = stage'; first = first' } ≡ moved (value after.expr) after.k phase after.transcript.lists after.transcript.count after.transcript.accesses stage first → Stands after phase late' first' capacity' stage'
 grade_stands before after phase late late' first first' capacity capacity' stage stage' list object grade stands is can told held reserved seen same course = record {
@@ -234,12 +254,6 @@ grade_stands before after phase late late' first first' capacity capacity' stage
 }
 
 -- ---- what is told of a row and of a grade
-pub may_row : (base : Base) (stage : Stage) (t : MachineState) (row : Row) → shown base (need_at stage) ≡ t → MayBeNextRow t.log t.need row → MayBeNextRow base.transcript (need_at stage) row
-may_row base stage t row is may = subst (λ (s : MachineState). MayBeNextRow s.log s.need row) (sym is) may
-
-pub may_grade : (base : Base) (stage : Stage) (t : MachineState) (grade : ℕ) → shown base (need_at stage) ≡ t → MayBeNextGrade t.log t.need grade → MayBeNextGrade base.transcript (need_at stage) grade
-may_grade base stage t grade is may = subst (λ (s : MachineState). MayBeNextGrade s.log s.need grade) (sym is) may
-
 pub not_row : (log : Log) (need : Need) (row : Row) → MayBeNextRow log need row → ((list depth : ℕ) → need ≡ needs.Row list depth → ⊥) → ⊥
 not_row log (needs.Row list depth) row may none = none list depth refl
 not_row log (needs.Grade list object) row may none = may
@@ -250,7 +264,9 @@ not_grade log (needs.Row list depth) grade may none = may
 not_grade log (needs.Grade list object) grade may none = none list object refl
 not_grade log needs.Done grade may none = may
 
-pub row_taken : (before after : Base) (stage stage' : Stage) (row : Row) (list depth : ℕ) (t : MachineState) → shown before (need_at stage) ≡ t → need_at stage ≡ needs.Row list depth → HasRoomFor (shown before needs.Done) row.object → IsTold (Sorted list row.object row.grade) before after → HasRoomFor t row.object × Takes (row_access t.need row) t (shown after (need_at stage'))
+pub row_taken : (before after : Base) (stage stage' : Stage) (row : Row) (list depth : ℕ) (t : MachineState) → shown before (need_at stage) ≡ t
+    → need_at stage ≡ needs.Row list depth → HasRoomFor (shown before needs.Done) row.object → IsTold (Sorted list row.object row.grade) before after
+    → HasRoomFor t row.object × Takes (row_access t.need row) t (shown after (need_at stage'))
 row_taken before after stage stage' row list depth t is need room_for told =
     let access : row_access (need_at stage) row ≡ Sorted list row.object row.grade = ap (λ need. row_access need row) need in
     subst (λ (s : MachineState). HasRoomFor s row.object × Takes (row_access s.need row) s (shown after (need_at stage'))) is (
@@ -258,7 +274,9 @@ row_taken before after stage stage' row list depth t is need room_for told =
       takes (row_access (need_at stage) row) before after (need_at stage) (need_at stage') (subst (λ a. IsTold a before after) (sym access) told),
     )
 
-pub grade_told : (before after : Base) (stage stage' : Stage) (grade list object : ℕ) (t : MachineState) → shown before (need_at stage) ≡ t → need_at stage ≡ needs.Grade list object → IsTold (Random list object grade) before after → Takes (grade_access t.need grade) t (shown after (need_at stage'))
+pub grade_told : (before after : Base) (stage stage' : Stage) (grade list object : ℕ) (t : MachineState) → shown before (need_at stage) ≡ t
+    → need_at stage ≡ needs.Grade list object → IsTold (Random list object grade) before after
+    → Takes (grade_access t.need grade) t (shown after (need_at stage'))
 grade_told before after stage stage' grade list object t is need told =
     let access : grade_access (need_at stage) grade ≡ Random list object grade = ap (λ need. grade_access need grade) need in
     subst (λ (s : MachineState). Takes (grade_access s.need grade) s (shown after (need_at stage'))) is

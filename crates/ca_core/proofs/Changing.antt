@@ -7,12 +7,14 @@ next_unchanged f [] i d l = absurd (omega arith)
 next_unchanged f (x ∷ old) zero d l = refl
 next_unchanged f (x ∷ old) (suc i) d l = next_unchanged f old i d (omega arith)
 
-set_next : {X : Type 0} (f : X → X) (old : List X) (i : ℕ) (d : X) → i < length old → set (map f (take i old) ++ drop i old) i (f (get_or old i d)) ≡ map f (take (suc i) old) ++ drop (suc i) old
+set_next : {X : Type 0} (f : X → X) (old : List X) (i : ℕ) (d : X) → i < length old
+    → set (map f (take i old) ++ drop i old) i (f (get_or old i d)) ≡ map f (take (suc i) old) ++ drop (suc i) old
 set_next f [] i d l = absurd (omega arith)
 set_next f (x ∷ old) zero d l = refl
 set_next f (x ∷ old) (suc i) d l = ap (λ xs. f x ∷ xs) (set_next f old i d (omega arith))
 
-pub changed_more : {X : Type 0} (f : X → X) (old now : List X) (i : ℕ) (d y : X) → i < length old → now ≡ map f (take i old) ++ drop i old → y ≡ f (get_or now i d) → set now i y ≡ map f (take (i + 1) old) ++ drop (i + 1) old
+pub changed_more : {X : Type 0} (f : X → X) (old now : List X) (i : ℕ) (d y : X) → i < length old → now ≡ map f (take i old) ++ drop i old
+    → y ≡ f (get_or now i d) → set now i y ≡ map f (take (i + 1) old) ++ drop (i + 1) old
 changed_more f old now i d y l same is =
     let next : suc i ≡ i + 1 = omega arith in
     let unchanged : get_or now i d ≡ get_or old i d = ap (λ xs. get_or xs i d) same ∙ next_unchanged f old i d l in

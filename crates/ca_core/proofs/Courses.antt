@@ -14,17 +14,21 @@ use Rattle.ca_core.specs.declared.stage.Stage.TheVariants as stages
 use Rattle.ca_core.specs.Course.{Course, finish_at, finish_from, block_ended, grade_taken, phase_begun, row_ended, moved}
 
 -- ---- the finish from a place on
-at_object : (items : List Item) (at : ℕ) (d : Item) → at < length items → drop at (item_objects items) ≡ (get_or items at d).object ∷ drop (suc at) (item_objects items)
+at_object : (items : List Item) (at : ℕ) (d : Item) → at < length items
+    → drop at (item_objects items) ≡ (get_or items at d).object ∷ drop (suc at) (item_objects items)
 at_object [] at d l = absurd (omega arith)
 at_object (item ∷ items) zero d l = refl
 at_object (item ∷ items) (suc at) d l = at_object items at d (omega arith)
 
-pub finish_found : (m : ℕ) (A : List Access) (items : List Item) (at list : ℕ) (d : Item) → at < length items → next_unknown m A (get_or items at d).object ≡ Some list → finish_from m A (drop at (item_objects items)) at ≡ stages.Finish list (get_or items at d).object at
+pub finish_found : (m : ℕ) (A : List Access) (items : List Item) (at list : ℕ) (d : Item) → at < length items
+    → next_unknown m A (get_or items at d).object ≡ Some list
+    → finish_from m A (drop at (item_objects items)) at ≡ stages.Finish list (get_or items at d).object at
 finish_found m A items at list d l e =
     ap (λ os. finish_from m A os at) (at_object items at d l)
     ∙ ap (λ found. finish_at found (get_or items at d).object at (finish_from m A (drop (suc at) (item_objects items)) (at + 1))) e
 
-pub finish_skips : (m : ℕ) (A : List Access) (items : List Item) (at : ℕ) (d : Item) → at < length items → next_unknown m A (get_or items at d).object ≡ None → finish_from m A (drop at (item_objects items)) at ≡ finish_from m A (drop (at + 1) (item_objects items)) (at + 1)
+pub finish_skips : (m : ℕ) (A : List Access) (items : List Item) (at : ℕ) (d : Item) → at < length items → next_unknown m A (get_or items at d).object ≡ None
+    → finish_from m A (drop at (item_objects items)) at ≡ finish_from m A (drop (at + 1) (item_objects items)) (at + 1)
 finish_skips m A items at d l e =
     let one : suc at ≡ at + 1 = omega arith in
     ap (λ os. finish_from m A os at) (at_object items at d l)
@@ -44,11 +48,13 @@ finish_over m A items at l = ap (λ os. finish_from m A os at) (past_end items a
 pub enough_seen : (V : List ℕ → ℕ) (k m n : ℕ) (A : List Access) (b : Bool) → b ≡ is_quiet_seen V k m n A → b ≡ true → k ≤ length (seen_objects A)
 enough_seen V k m n A b is t = leb-true k (length (seen_objects A)) (and_parts (nat_le k (length (seen_objects A))) _ (sym is ∙ t)).0
 
-pub block_goes : (V : List ℕ → ℕ) (k m n : ℕ) (A : List Access) (depth : ℕ) (first : List Item) (b : Bool) → b ≡ is_quiet_seen V k m n A → b ≡ false → record { stage = stages.Row 0 (depth + 1); first = first } ≡ block_ended V k m n A depth first
+pub block_goes : (V : List ℕ → ℕ) (k m n : ℕ) (A : List Access) (depth : ℕ) (first : List Item) (b : Bool) → b ≡ is_quiet_seen V k m n A → b ≡ false
+    → record { stage = stages.Row 0 (depth + 1); first = first } ≡ block_ended V k m n A depth first
 block_goes V k m n A depth first b is f =
     sym (ap (λ t. cond {A = Course} t (record { stage = finish_from m A (item_objects (first_seen V k m A)) 0; first = first_seen V k m A }) (record { stage = stages.Row 0 (depth + 1); first = first })) (sym is ∙ f))
 
-pub block_ends : (V : List ℕ → ℕ) (k m n : ℕ) (A : List Access) (depth : ℕ) (first first' : List Item) (stage : Stage) (b : Bool) → b ≡ is_quiet_seen V k m n A → b ≡ true → first' ≡ first_seen V k m A → stage ≡ finish_from m A (drop 0 (item_objects first')) 0
+pub block_ends : (V : List ℕ → ℕ) (k m n : ℕ) (A : List Access) (depth : ℕ) (first first' : List Item) (stage : Stage) (b : Bool) → b ≡ is_quiet_seen V k m n A
+    → b ≡ true → first' ≡ first_seen V k m A → stage ≡ finish_from m A (drop 0 (item_objects first')) 0
     → record { stage = stage; first = first' } ≡ block_ended V k m n A depth first
 block_ends V k m n A depth first first' stage b is t same course =
     ap (λ s. record { stage = s; first = first' }) course
@@ -56,41 +62,58 @@ block_ends V k m n A depth first first' stage b is t same course =
     ∙ sym (ap (λ t. cond {A = Course} t (record { stage = finish_from m A (item_objects (first_seen V k m A)) 0; first = first_seen V k m A }) (record { stage = stages.Row 0 (depth + 1); first = first })) (sym is ∙ t))
 
 -- ---- a grade of the choice
-pub grade_goes : (V : List ℕ → ℕ) (k m n : ℕ) (A : List Access) (depth : ℕ) (first : List Item) (object list : ℕ) (next : Option ℕ) → next ≡ next_unknown m A object → next ≡ Some list → record { stage = stages.Choice list object depth; first = first } ≡ grade_taken V k m n A depth first object (next_unknown m A object)
+pub grade_goes : (V : List ℕ → ℕ) (k m n : ℕ) (A : List Access) (depth : ℕ) (first : List Item) (object list : ℕ) (next : Option ℕ)
+    → next ≡ next_unknown m A object → next ≡ Some list
+    → record { stage = stages.Choice list object depth; first = first } ≡ grade_taken V k m n A depth first object (next_unknown m A object)
 grade_goes V k m n A depth first object list next is some = sym (ap (grade_taken V k m n A depth first object) (sym is ∙ some))
 
-pub grade_ends : (V : List ℕ → ℕ) (k m n : ℕ) (A : List Access) (depth : ℕ) (first : List Item) (object : ℕ) (next : Option ℕ) (course : Course) → next ≡ next_unknown m A object → next ≡ None → course ≡ block_ended V k m n A depth first → course ≡ grade_taken V k m n A depth first object (next_unknown m A object)
+pub grade_ends : (V : List ℕ → ℕ) (k m n : ℕ) (A : List Access) (depth : ℕ) (first : List Item) (object : ℕ) (next : Option ℕ) (course : Course)
+    → next ≡ next_unknown m A object → next ≡ None → course ≡ block_ended V k m n A depth first
+    → course ≡ grade_taken V k m n A depth first object (next_unknown m A object)
 grade_ends V k m n A depth first object next course is none ended = ended ∙ sym (ap (grade_taken V k m n A depth first object) (sym is ∙ none))
 
 -- ---- the end of a row
-pub row_between : (V : List ℕ → ℕ) (k phase m n : ℕ) (A : List Access) (depth : ℕ) (first : List Item) (course : Course) → ((depth % phase) == 0) ≡ false → course ≡ block_ended V k m n A depth first → course ≡ row_ended V k phase m n A depth first
+pub row_between : (V : List ℕ → ℕ) (k phase m n : ℕ) (A : List Access) (depth : ℕ) (first : List Item) (course : Course) → ((depth % phase) == 0) ≡ false
+    → course ≡ block_ended V k m n A depth first → course ≡ row_ended V k phase m n A depth first
 row_between V k phase m n A depth first course f ended =
     ended ∙ sym (ap (λ b. cond {A = Course} b (phase_begun V k m n A depth first (choice V k m A)) (block_ended V k m n A depth first)) f)
 
-phase_here : (V : List ℕ → ℕ) (k phase m n : ℕ) (A : List Access) (depth : ℕ) (first : List Item) (chosen : Option ℕ) → ((depth % phase) == 0) ≡ true → chosen ≡ choice V k m A → row_ended V k phase m n A depth first ≡ phase_begun V k m n A depth first chosen
+phase_here : (V : List ℕ → ℕ) (k phase m n : ℕ) (A : List Access) (depth : ℕ) (first : List Item) (chosen : Option ℕ) → ((depth % phase) == 0) ≡ true
+    → chosen ≡ choice V k m A → row_ended V k phase m n A depth first ≡ phase_begun V k m n A depth first chosen
 phase_here V k phase m n A depth first chosen t is =
     ap (λ b. cond {A = Course} b (phase_begun V k m n A depth first (choice V k m A)) (block_ended V k m n A depth first)) t ∙ ap (phase_begun V k m n A depth first) (sym is)
 
-pub row_nobody : (V : List ℕ → ℕ) (k phase m n : ℕ) (A : List Access) (depth : ℕ) (first : List Item) (chosen : Option ℕ) (course : Course) → ((depth % phase) == 0) ≡ true → chosen ≡ choice V k m A → chosen ≡ None → course ≡ block_ended V k m n A depth first → course ≡ row_ended V k phase m n A depth first
+pub row_nobody : (V : List ℕ → ℕ) (k phase m n : ℕ) (A : List Access) (depth : ℕ) (first : List Item) (chosen : Option ℕ) (course : Course)
+    → ((depth % phase) == 0) ≡ true → chosen ≡ choice V k m A → chosen ≡ None → course ≡ block_ended V k m n A depth first
+    → course ≡ row_ended V k phase m n A depth first
 row_nobody V k phase m n A depth first chosen course t is none ended = ended ∙ sym (phase_here V k phase m n A depth first chosen t is ∙ ap (phase_begun V k m n A depth first) none)
 
-pub row_choice : (V : List ℕ → ℕ) (k phase m n : ℕ) (A : List Access) (depth : ℕ) (first : List Item) (object : ℕ) (chosen : Option ℕ) (course : Course) → ((depth % phase) == 0) ≡ true → chosen ≡ choice V k m A → chosen ≡ Some object → course ≡ grade_taken V k m n A depth first object (next_unknown m A object) → course ≡ row_ended V k phase m n A depth first
+pub row_choice : (V : List ℕ → ℕ) (k phase m n : ℕ) (A : List Access) (depth : ℕ) (first : List Item) (object : ℕ) (chosen : Option ℕ) (course : Course)
+    → ((depth % phase) == 0) ≡ true → chosen ≡ choice V k m A → chosen ≡ Some object
+    → course ≡ grade_taken V k m n A depth first object (next_unknown m A object) → course ≡ row_ended V k phase m n A depth first
 row_choice V k phase m n A depth first object chosen course t is some taken = taken ∙ sym (phase_here V k phase m n A depth first chosen t is ∙ ap (phase_begun V k m n A depth first) some)
 
 -- ---- after an access
-pub moved_list : (V : List ℕ → ℕ) (k phase m n : ℕ) (A : List Access) (list depth : ℕ) (first : List Item) (stage : Stage) → stage ≡ stages.Row list depth → list + 1 < m → record { stage = stages.Row (list + 1) depth; first = first } ≡ moved V k phase m n A stage first
+pub moved_list : (V : List ℕ → ℕ) (k phase m n : ℕ) (A : List Access) (list depth : ℕ) (first : List Item) (stage : Stage) → stage ≡ stages.Row list depth
+    → list + 1 < m → record { stage = stages.Row (list + 1) depth; first = first } ≡ moved V k phase m n A stage first
 moved_list V k phase m n A list depth first stage is short =
     sym (ap (λ s. moved V k phase m n A s first) is ∙ ap (λ b. cond {A = Course} b (record { stage = stages.Row (list + 1) depth; first = first }) (row_ended V k phase m n A depth first)) (lt-ltb (list + 1) m short))
 
-pub moved_row : (V : List ℕ → ℕ) (k phase m n : ℕ) (A : List Access) (list depth : ℕ) (first : List Item) (stage : Stage) (course : Course) → stage ≡ stages.Row list depth → m ≤ list + 1 → course ≡ row_ended V k phase m n A depth first → course ≡ moved V k phase m n A stage first
+pub moved_row : (V : List ℕ → ℕ) (k phase m n : ℕ) (A : List Access) (list depth : ℕ) (first : List Item) (stage : Stage) (course : Course)
+    → stage ≡ stages.Row list depth → m ≤ list + 1 → course ≡ row_ended V k phase m n A depth first → course ≡ moved V k phase m n A stage first
 moved_row V k phase m n A list depth first stage course is whole ended =
     ended ∙ sym (ap (λ s. moved V k phase m n A s first) is ∙ ap (λ b. cond {A = Course} b (record { stage = stages.Row (list + 1) depth; first = first }) (row_ended V k phase m n A depth first)) (le-ltb (list + 1) m whole))
 
-pub moved_grade : (V : List ℕ → ℕ) (k phase m n : ℕ) (A : List Access) (list object depth : ℕ) (first : List Item) (stage : Stage) (course : Course) → stage ≡ stages.Choice list object depth → course ≡ grade_taken V k m n A depth first object (next_unknown m A object) → course ≡ moved V k phase m n A stage first
+pub moved_grade : (V : List ℕ → ℕ) (k phase m n : ℕ) (A : List Access) (list object depth : ℕ) (first : List Item) (stage : Stage) (course : Course)
+    → stage ≡ stages.Choice list object depth → course ≡ grade_taken V k m n A depth first object (next_unknown m A object)
+    → course ≡ moved V k phase m n A stage first
 moved_grade V k phase m n A list object depth first stage course is taken = taken ∙ sym (ap (λ s. moved V k phase m n A s first) is)
 
-pub moved_finish : (V : List ℕ → ℕ) (k phase m n : ℕ) (A : List Access) (list object place : ℕ) (first : List Item) (stage next : Stage) → stage ≡ stages.Finish list object place → next ≡ finish_from m A (drop place (item_objects first)) place → record { stage = next; first = first } ≡ moved V k phase m n A stage first
+pub moved_finish : (V : List ℕ → ℕ) (k phase m n : ℕ) (A : List Access) (list object place : ℕ) (first : List Item) (stage next : Stage)
+    → stage ≡ stages.Finish list object place → next ≡ finish_from m A (drop place (item_objects first)) place
+    → record { stage = next; first = first } ≡ moved V k phase m n A stage first
 moved_finish V k phase m n A list object place first stage next is finish = ap (λ s. record { stage = s; first = first }) finish ∙ sym (ap (λ s. moved V k phase m n A s first) is)
 
-pub moved_done : (V : List ℕ → ℕ) (k phase m n : ℕ) (A : List Access) (first : List Item) (stage : Stage) → stage ≡ stages.Done → record { stage = stages.Done; first = first } ≡ moved V k phase m n A stage first
+pub moved_done : (V : List ℕ → ℕ) (k phase m n : ℕ) (A : List Access) (first : List Item) (stage : Stage) → stage ≡ stages.Done
+    → record { stage = stages.Done; first = first } ≡ moved V k phase m n A stage first
 moved_done V k phase m n A first stage is = sym (ap (λ s. moved V k phase m n A s first) is)

@@ -4,7 +4,7 @@ use Rattle.std.specs.List.{slice_get, flat_map}
 use Rattle.std.proofs.lemmas.Option.{none-some, same_Some}
 use Rattle.ranked_list.specs.declared.item.Item.{Item}
 use Rattle.topk_theory.specs.Threshold.{item_objects}
-use Rattle.topk_theory.proofs.AgreementLists.{contains_nil, contains_cases, slice_get_contains}
+use Rattle.topk_theory.proofs.AgreementLists.{contains_nil, contains_cases, slice_get_contains, distinct_tail}
 
 -- what stands at a place, where the end of a list from there on is known
 pub get_of_drop : {X : Type 0} (xs : List X) (p : ℕ) (y : X) (ys : List X) → y ∷ ys ≡ drop p xs → slice_get xs p ≡ Some y
@@ -49,16 +49,13 @@ drop_here (y ∷ xs) zero x e = ap (λ z. z ∷ xs) (same_Some y x e)
 drop_here (y ∷ xs) (suc p) x e = drop_here xs p x e
 
 -- in a list without repeats a member stands neither before its place nor behind it
-later_apart : (x : ℕ) (xs : List ℕ) → AllPairs (λ (one : ℕ) (other : ℕ). one ≢ other) (x ∷ xs) → AllPairs (λ (one : ℕ) (other : ℕ). one ≢ other) xs
-later_apart x xs apart = λ i j d lt within. apart (suc i) (suc j) d (omega arith) (omega arith)
-
 head_apart : (x y : ℕ) (xs : List ℕ) → AllPairs (λ (one : ℕ) (other : ℕ). one ≢ other) (x ∷ xs) → Contains xs y → x ≢ y
 head_apart x y xs apart c = λ e. apart 0 (suc c.0) y (omega arith) (let w = c.1 in omega arith) (e ∙ sym c.2)
 
 pub none_behind : (xs : List ℕ) (p x : ℕ) → AllPairs (λ (one : ℕ) (other : ℕ). one ≢ other) xs → slice_get xs p ≡ Some x → ¬ Contains (drop (suc p) xs) x
 none_behind [] p x apart e = λ c. absurd (none-some x e)
 none_behind (y ∷ xs) zero x apart e = λ c. head_apart y x xs apart c (same_Some y x e)
-none_behind (y ∷ xs) (suc p) x apart e = none_behind xs p x (later_apart y xs apart) e
+none_behind (y ∷ xs) (suc p) x apart e = none_behind xs p x (distinct_tail y xs apart) e
 
 pub none_before : (xs : List ℕ) (p x : ℕ) → AllPairs (λ (one : ℕ) (other : ℕ). one ≢ other) xs → slice_get xs p ≡ Some x → ¬ Contains (take p xs) x
 none_before [] p x apart e = λ c. absurd (none-some x e)
@@ -66,7 +63,7 @@ none_before (y ∷ xs) zero x apart e = λ c. contains_nil x c
 none_before (y ∷ xs) (suc p) x apart e = λ c.
     elim (contains_cases y (take p xs) x c) [
       | inl same ↦ head_apart y x xs apart (slice_get_contains xs p x e) same
-      | inr there ↦ none_before xs p x (later_apart y xs apart) e there
+      | inr there ↦ none_before xs p x (distinct_tail y xs apart) e there
     ]
 
 -- items and their objects

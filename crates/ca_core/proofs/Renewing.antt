@@ -34,7 +34,8 @@ was_open base object late held was = record {
   kept = was.kept.highs;
 }
 
-pub seen_noted : (base : Base) (object : ℕ) (late : LateSeen) (bounds : LateBounds) (highs : OpenHighs) → WasRenewed base object late → bounds.k ≡ late.bounds.k → bounds.first.room ≡ late.bounds.first.room → KeepsLate base.expr base.transcript bounds
+pub seen_noted : (base : Base) (object : ℕ) (late : LateSeen) (bounds : LateBounds) (highs : OpenHighs) → WasRenewed base object late
+    → bounds.k ≡ late.bounds.k → bounds.first.room ≡ late.bounds.first.room → KeepsLate base.expr base.transcript bounds
     → length highs.highs ≡ length late.highs.highs → KeepsOpen base.expr base.transcript highs → KeepsSeen base (record { bounds = bounds; highs = highs })
 seen_noted base object late bounds highs was k room kept space opens = record {
   same_k = k ∙ was.kept.same_k;
@@ -44,8 +45,10 @@ seen_noted base object late bounds highs was k room kept space opens = record {
   highs = opens;
 }
 
-pub seen_tested : (base : Base) (late : LateSeen) (bounds : LateBounds) → KeepsSeen base late → bounds.k ≡ late.bounds.k → bounds.first.room ≡ late.bounds.first.room → KeepsLate base.expr base.transcript bounds → KeepsSeen base (record { bounds = bounds; highs = late.highs })
+pub seen_tested : (base : Base) (late : LateSeen) (bounds : LateBounds) → KeepsSeen base late → bounds.k ≡ late.bounds.k
+    → bounds.first.room ≡ late.bounds.first.room → KeepsLate base.expr base.transcript bounds → KeepsSeen base (record { bounds = bounds; highs = late.highs })
 seen_tested base late bounds seen k room kept = record { same_k = k ∙ seen.same_k; same_room = room ∙ seen.same_room; space = seen.space; bounds = kept; highs = seen.highs }
 
-pub seen_chosen : (base : Base) (late : LateSeen) (highs : OpenHighs) → KeepsSeen base late → length highs.highs ≡ length late.highs.highs → KeepsOpen base.expr base.transcript highs → KeepsSeen base (record { bounds = late.bounds; highs = highs })
+pub seen_chosen : (base : Base) (late : LateSeen) (highs : OpenHighs) → KeepsSeen base late → length highs.highs ≡ length late.highs.highs
+    → KeepsOpen base.expr base.transcript highs → KeepsSeen base (record { bounds = late.bounds; highs = highs })
 seen_chosen base late highs seen space opens = record { same_k = seen.same_k; same_room = seen.same_room; space = space ∙ seen.space; bounds = seen.bounds; highs = opens }

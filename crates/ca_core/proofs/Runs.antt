@@ -1,7 +1,8 @@
 -- A machine that keeps what it keeps makes its run.
-use Rattle.std.proofs.Common.{◌≡◌, ◌≢◌, ℕ, zero, suc, ◌+◌, ◌-◌, ◌<◌, ◌≤◌, List, [], ◌∷◌, ◌++◌, length, map, take, drop, Contains, Option, Some, None, refl, sym, ap, subst, ◌∙◌, arith, append_assoc}
+use Rattle.std.proofs.Common.{◌≡◌, ◌≢◌, ℕ, zero, suc, ◌+◌, ◌-◌, ◌<◌, ◌≤◌, List, [], ◌∷◌, ◌++◌, length, map, drop, Contains, Option, Some, None, refl, sym, ap, subst, ◌∙◌, arith, append_assoc}
 use Rattle.std.specs.List.{slice_get}
 use Rattle.std.proofs.lemmas.Option.{none-some, slice_get_within}
+use Rattle.std.proofs.lemmas.List.{take-append-le}
 use Rattle.ranked_list.specs.declared.row.Row.{Row}
 use Rattle.ranked_list.specs.declared.item.Item.{Item}
 use Rattle.ranked_list.specs.declared.need.Need.{Need}
@@ -18,6 +19,7 @@ use Rattle.topk_theory.specs.Threshold.{IsAsked as IsAskedOf, sorted_block, item
 use Rattle.topk_theory.specs.Combined.{phase_length, missing_grades, phase_after, finish, ca_run_to, ca_depth, ca_blocks, ca_run}
 use Rattle.topk_theory.specs.Machine.{need_of, IsAt, CanServe}
 use Rattle.topk_theory.proofs.Agreement.{seen_in_table}
+use Rattle.topk_theory.proofs.AgreementLists.{get_front}
 use Rattle.access_log.specs.Log.{Log, AgreesWith}
 use Rattle.access_log.specs.Machine.{IsOfSeen}
 use Rattle.late_choice.specs.Open.{next_unknown}
@@ -39,16 +41,6 @@ use Rattle.ca_core.proofs.Asks.{next_below}
 use Rattle.ca_core.proofs.Path.{reads_rows, block_of, grows, own, row_end}
 
 -- ---- a run that goes on
-take_front : {X : Type 0} (xs ys : List X) (n : ℕ) → n ≤ length xs → take n (xs ++ ys) ≡ take n xs
-take_front xs ys zero l = refl
-take_front [] ys (suc n) l = absurd (omega arith)
-take_front (x ∷ xs) ys (suc n) l = ap (λ zs. x ∷ zs) (take_front xs ys n (omega arith))
-
-get_front : {X : Type 0} (xs ys : List X) (n : ℕ) → n < length xs → slice_get (xs ++ ys) n ≡ slice_get xs n
-get_front [] ys n l = absurd (omega arith)
-get_front (x ∷ xs) ys zero l = refl
-get_front (x ∷ xs) ys (suc n) l = get_front xs ys n (omega arith)
-
 at_longer : (run rest A : List Access) (need : Need) → need ≢ needs.Done → IsAt run A need → IsAt (run ++ rest) A need
 at_longer run rest A need open' at = by_next (slice_get run (length A)) refl
   where
@@ -57,7 +49,7 @@ at_longer run rest A need open' at = by_next (slice_get run (length A)) refl
     by_next (Some next) e =
         let lt : length A < length run = slice_get_within run (length A) next e in
         record {
-          begins = take_front run rest (length A) (omega arith) ∙ at.begins;
+          begins = take-append-le (length A) run rest (omega arith) ∙ at.begins;
           next = at.next ∙ ap (need_of A) (sym (get_front run rest (length A) lt));
         }
 
@@ -68,32 +60,38 @@ row_is_open list depth e = cc
 grade_is_open : (list object : ℕ) → needs.Grade list object ≢ needs.Done
 grade_is_open list object e = cc
 
-row_next : (V : List ℕ → ℕ) (k phase n : ℕ) (D : List (List Row)) (A : List Access) (list depth : ℕ) → IsMonotone V → IsAskedOf k n D → list < length D → OnRow V k phase n D A list depth → IsAt (ca_run V k phase D) A (needs.Row list depth) × CanServe D (needs.Row list depth)
+row_next : (V : List ℕ → ℕ) (k phase n : ℕ) (D : List (List Row)) (A : List Access) (list depth : ℕ) → IsMonotone V → IsAskedOf k n D → list < length D
+    → OnRow V k phase n D A list depth → IsAt (ca_run V k phase D) A (needs.Row list depth) × CanServe D (needs.Row list depth)
 row_next V k phase n D A list depth monotone asked l on =
     let row : List Access = ca_run_to V k phase D (depth - 1) ++ sorted_block 0 depth D in
     let r = row_needed (ca_run_to V k phase D) (block_of V k phase D) (quiet_at V k phase D) n (ca_depth V k phase D) D depth list A (phase_after V k phase depth D row) (grows V k phase D) (reads_rows V k phase n D asked.table) asked.table
     (own V k phase n D monotone asked) on.at l on.made (row_end V k phase depth D row on.at.positive refl) in
     (at_longer (ca_blocks V k phase D) (finish V k D (ca_blocks V k phase D)) A (needs.Row list depth) (row_is_open list depth) r.0, r.1)
 
-missing_begins : (D : List (List Row)) (A : List Access) (list object : ℕ) → next_unknown (length D) A object ≡ Some list → (later : List Access) × (missing_grades D A object ≡ Random list object (grade_in (list_at D list) object) ∷ later)
+missing_begins : (D : List (List Row)) (A : List Access) (list object : ℕ) → next_unknown (length D) A object ≡ Some list
+    → (later : List Access) × (missing_grades D A object ≡ Random list object (grade_in (list_at D list) object) ∷ later)
 missing_begins D A list object next =
     let r = some_unknown (length D) A object list next in
     (map (λ l. Random l object (grade_in (list_at D l) object)) r.0, ap (map (λ l. Random l object (grade_in (list_at D l) object))) r.1)
 
-choice_next : (V : List ℕ → ℕ) (k phase n : ℕ) (D : List (List Row)) (A : List Access) (list object depth : ℕ) → IsMonotone V → IsAskedOf k n D → next_unknown (length D) A object ≡ Some list → OnChoice V k phase n D A object depth → IsAt (ca_run V k phase D) A (needs.Grade list object)
+choice_next : (V : List ℕ → ℕ) (k phase n : ℕ) (D : List (List Row)) (A : List Access) (list object depth : ℕ) → IsMonotone V → IsAskedOf k n D
+    → next_unknown (length D) A object ≡ Some list → OnChoice V k phase n D A object depth → IsAt (ca_run V k phase D) A (needs.Grade list object)
 choice_next V k phase n D A list object depth monotone asked next on =
     let r = missing_begins D A list object next in
     at_longer (ca_blocks V k phase D) (finish V k D (ca_blocks V k phase D)) A (needs.Grade list object) (grade_is_open list object)
     (at_on_path (ca_run_to V k phase D) (block_of V k phase D) (quiet_at V k phase D) n (ca_depth V k phase D) depth A (Random list object (grade_in (list_at D list) object)) r.0 (grows V k phase D) (own V k phase n D monotone asked) on.at (ap (λ xs. A ++ xs) (sym r.1) ∙ on.made))
 
-finish_next : (V : List ℕ → ℕ) (k phase : ℕ) (D : List (List Row)) (A : List Access) (objects : List ℕ) (list object place : ℕ) → next_unknown (length D) A object ≡ Some list → slice_get objects place ≡ Some object → OnFinish V k phase D A objects place → IsAt (ca_run V k phase D) A (needs.Grade list object)
+finish_next : (V : List ℕ → ℕ) (k phase : ℕ) (D : List (List Row)) (A : List Access) (objects : List ℕ) (list object place : ℕ)
+    → next_unknown (length D) A object ≡ Some list → slice_get objects place ≡ Some object → OnFinish V k phase D A objects place
+    → IsAt (ca_run V k phase D) A (needs.Grade list object)
 finish_next V k phase D A objects list object place next here on =
     let r = missing_begins D A list object next in
     let rest : List Access = all_missing D A (drop (suc place) objects) in
     at_access (ca_run V k phase D) A (Random list object (grade_in (list_at D list) object)) (r.0 ++ rest)
     (sym on.made ∙ ap (λ os. A ++ all_missing D A os) (drop_here objects place object here) ∙ ap (λ xs. A ++ (xs ++ rest)) r.1)
 
-needed : (base : Base) (phase : ℕ) (first : List Item) (stage : Stage) (D : List (List Row)) → Keeps base phase first stage → AgreesWith D base.transcript → IsAt (ca_run (value base.expr) base.k phase D) base.transcript.accesses (need_at stage) × CanServe D (need_at stage)
+needed : (base : Base) (phase : ℕ) (first : List Item) (stage : Stage) (D : List (List Row)) → Keeps base phase first stage → AgreesWith D base.transcript
+    → IsAt (ca_run (value base.expr) base.k phase D) base.transcript.accesses (need_at stage) × CanServe D (need_at stage)
 needed base phase first (stages.Row list depth) D kept agrees =
     row_next (value base.expr) base.k phase base.transcript.count D base.transcript.accesses list depth (value-monotone base.expr) (held_asked base.expr base.k base.room base.transcript.lists base.transcript.count base.transcript.accesses D kept.base agrees)
     (let below = kept.sound.0 in let same = agrees.lists in omega arith) (kept.on_table D agrees)
@@ -117,7 +115,8 @@ tame_need m log objects (stages.Choice list object depth) sound = sound.0.seen
 tame_need m log objects (stages.Finish list object place) sound = sound.asked.seen
 tame_need m log objects stages.Done sound = tt
 
-pub kept_makes : (base : Base) (phase : ℕ) (first : List Item) (stage : Stage) → Keeps base phase first stage → phase ≡ phase_length base.costs.sorted base.costs.random → MakesItsRun (shown base (need_at stage))
+pub kept_makes : (base : Base) (phase : ℕ) (first : List Item) (stage : Stage) → Keeps base phase first stage
+    → phase ≡ phase_length base.costs.sorted base.costs.random → MakesItsRun (shown base (need_at stage))
 kept_makes base phase first stage kept paid =
     makes_run combined_run base (need_at stage) kept.base
     (λ D agrees. subst (λ p. IsAt (ca_run (value base.expr) base.k p D) base.transcript.accesses (need_at stage) × CanServe D (need_at stage)) paid (needed base phase first stage D kept agrees))

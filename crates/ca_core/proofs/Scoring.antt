@@ -1,11 +1,11 @@
 -- What a machine that is done answers.
 use Rattle.std.proofs.Common.{◌≡◌, ◌≢◌, ℕ, zero, suc, ◌+◌, ◌<◌, ◌≤◌, inl, inr, true, List, [], ◌∷◌, ◌++◌, length, map, take, drop, min, AllPairs, Contains, Option, Some, None, is_none, unwrap_or, get_or, set, refl, sym, ap, ap₂, subst, ◌∙◌, arith}
 use Rattle.std.proofs.lemmas.List.{length-map, get_or-map, take_all}
-use Rattle.std.proofs.lemmas.List.FromFn.{length-range_with_len, get_or-range_with_len}
 use Rattle.ranked_list.specs.declared.row.Row.{Row}
 use Rattle.ranked_list.specs.declared.item.Item.{Item}
 use Rattle.ranked_list.specs.declared.need.Need.TheVariants as needs
 use Rattle.ranked_list.specs.Table.{grade_in}
+use Rattle.ranked_list.proofs.OptionLaws.{option_cases}
 use Rattle.monotone_fn.specs.Value.{value}
 use Rattle.monotone_fn.proofs.Laws.{value-monotone}
 use Rattle.topk_theory.specs.declared.access.Access.{Access}
@@ -17,10 +17,11 @@ use Rattle.topk_theory.specs.Bounds.{known_grade, low}
 use Rattle.topk_theory.specs.Threshold.{scored, item_objects}
 use Rattle.topk_theory.specs.NoRandom.{seen_items, first_seen}
 use Rattle.topk_theory.specs.Combined.{phase_length, unknown_lists, ca_blocks, ca_answer}
-use Rattle.topk_theory.proofs.AgreementLists.{contains_nil, contains_here, contains_there, contains_map, contains_map_from, member_of_all}
-use Rattle.topk_theory.proofs.Agreement.{known_grade_is, known_cases, seen_is_named}
+use Rattle.topk_theory.proofs.AgreementLists.{contains_nil, contains_map, contains_map_from, member_of_all}
+use Rattle.topk_theory.proofs.Agreement.{known_grade_is, seen_is_named}
 use Rattle.topk_theory.proofs.BoundsLaws.{grades_by_number}
-use Rattle.topk_theory.proofs.ThresholdLists.{contains_filter, map_map}
+use Rattle.topk_theory.proofs.ListNumbers.{number_in, number_below}
+use Rattle.topk_theory.proofs.ThresholdLists.{contains_filter, map_map, map_same}
 use Rattle.topk_theory.proofs.InOrder.{length-in_order}
 use Rattle.nra_theory.proofs.Stop.{in_order_from}
 use Rattle.topk_theory.proofs.FirstK.{first_k-is}
@@ -40,29 +41,16 @@ use Rattle.ca_core.specs.Machine.{IsAnswer}
 -- ---- an object whose grades are all known has its aggregate as its low
 known_there : (m : ℕ) (A : List Access) (object list : ℕ) → unknown_lists m A object ≡ [] → list < m → (grade : ℕ) × (known_grade A object list ≡ Some grade)
 known_there m A object list none lt =
-    elim (known_cases (known_grade A object list)) [
+    elim (option_cases (known_grade A object list)) [
       | inl unknown ↦ absurd (
-          let size = length-range_with_len 0 m in
-          let zero_plus : 0 + list ≡ list = omega arith in
-          let number : Contains (list_numbers m) list = (list, omega (arith, size, lt), get_or-range_with_len 0 m list list lt ∙ zero_plus) in
+          let number : Contains (list_numbers m) list = number_in m list lt in
           let left : Contains (unknown_lists m A object) list = contains_filter (λ other. is_none (known_grade A object other)) (list_numbers m) list number (ap (λ (o : Option ℕ). is_none o) unknown) in
           contains_nil list (subst (λ xs. Contains xs list) none left))
       | inr some ↦ some
     ]
 
-map_same : (f g : ℕ → ℕ) (xs : List ℕ) → ((x : ℕ) → Contains xs x → f x ≡ g x) → map f xs ≡ map g xs
-map_same f g [] same = refl
-map_same f g (x ∷ xs) same = ap₂ (λ y ys. y ∷ ys) (same x (contains_here x xs)) (map_same f g xs (λ y c. same y (contains_there x xs y c)))
-
-number_below : (m list : ℕ) → Contains (list_numbers m) list → list < m
-number_below m list c =
-    let size : length (list_numbers m) ≡ m = length-range_with_len 0 m in
-    let within = c.1 in
-    let there : get_or (list_numbers m) c.0 list ≡ 0 + c.0 = get_or-range_with_len 0 m c.0 list (omega (arith, size, within)) in
-    let same : list ≡ 0 + c.0 = sym c.2 ∙ there in
-    omega (arith, size, within, same)
-
-low_exact : (V : List ℕ → ℕ) (m n : ℕ) (D : List (List Row)) (A : List Access) (object : ℕ) → Agrees m n D A → unknown_lists m A object ≡ [] → low V m A object ≡ aggregate V D object
+low_exact : (V : List ℕ → ℕ) (m n : ℕ) (D : List (List Row)) (A : List Access) (object : ℕ) → Agrees m n D A → unknown_lists m A object ≡ []
+    → low V m A object ≡ aggregate V D object
 low_exact V m n D A object agrees none =
     ap V (map_same (λ list. unwrap_or (known_grade A object list) 0) (λ list. grade_in (list_at D list) object) (list_numbers m) (λ list c.
     let lt = number_below m list c in
@@ -71,7 +59,8 @@ low_exact V m n D A object agrees none =
     ∙ sym (grades_by_number m D object agrees.lists))
 
 -- ---- the items are scored
-pub valued_distinct : (V : List ℕ → ℕ) (m : ℕ) (A : List Access) (first items : List Item) → AllPairs (λ (one : ℕ) (other : ℕ). one ≢ other) (item_objects first) → items ≡ map (λ (item : Item). valued V m A item.object) first → AreDistinct items
+pub valued_distinct : (V : List ℕ → ℕ) (m : ℕ) (A : List Access) (first items : List Item)
+    → AllPairs (λ (one : ℕ) (other : ℕ). one ≢ other) (item_objects first) → items ≡ map (λ (item : Item). valued V m A item.object) first → AreDistinct items
 valued_distinct V m A first items apart is = subst AreDistinct (sym is) (λ i j d lt within same.
     let none : Item = record { object = 0; low = 0; high = 0 } in
     let size : length (map (λ (item : Item). valued V m A item.object) first) ≡ length first = length-map first (λ (item : Item). valued V m A item.object) in
@@ -85,7 +74,8 @@ valued_distinct V m A first items apart is = subst AreDistinct (sym is) (λ i j 
 abbrev with_value : ℕ → ℕ → Item
 with_value object v = record { object = object; low = v; high = v }
 
-valued_scored : (V : List ℕ → ℕ) (m n : ℕ) (D : List (List Row)) (A : List Access) (first : List Item) → Agrees m n D A → AreKnown m A (item_objects first) → map (λ (item : Item). valued V m A item.object) first ≡ map (scored V D) (item_objects first)
+valued_scored : (V : List ℕ → ℕ) (m n : ℕ) (D : List (List Row)) (A : List Access) (first : List Item) → Agrees m n D A → AreKnown m A (item_objects first)
+    → map (λ (item : Item). valued V m A item.object) first ≡ map (scored V D) (item_objects first)
 valued_scored V m n D A [] agrees known = refl
 valued_scored V m n D A (item ∷ first) agrees known =
     let exact : low V m A item.object ≡ aggregate V D item.object = low_exact V m n D A item.object agrees (known 0 0 (omega arith)) in
@@ -110,11 +100,13 @@ done_of (stages.Choice list object depth) e = absurd (grade_not_done list object
 done_of (stages.Finish list object place) e = absurd (grade_not_done list object e)
 done_of stages.Done e = refl
 
-pub finished : (base : Base) (phase : ℕ) (first : List Item) (stage : Stage) → Keeps base phase first stage → need_at stage ≡ needs.Done → AreFinished base.transcript.lists base.transcript.accesses (item_objects first)
+pub finished : (base : Base) (phase : ℕ) (first : List Item) (stage : Stage) → Keeps base phase first stage → need_at stage ≡ needs.Done
+    → AreFinished base.transcript.lists base.transcript.accesses (item_objects first)
 finished base phase first stage kept done = (subst (Keeps base phase first) (done_of stage done) kept).sound
 
 -- and they are few
-pub few_first : (base : Base) (phase : ℕ) (first : List Item) (stage : Stage) → Keeps base phase first stage → need_at stage ≡ needs.Done → length first ≤ 200000
+pub few_first : (base : Base) (phase : ℕ) (first : List Item) (stage : Stage) → Keeps base phase first stage → need_at stage ≡ needs.Done
+    → length first ≤ 200000
 few_first base phase first stage kept' done =
     let kept : Keeps base phase first stages.Done = subst (Keeps base phase first) (done_of stage done) kept' in
     let D = kept.base.agreeing.0 in
@@ -128,7 +120,8 @@ few_first base phase first stage kept' done =
     let few = kept.base.counted in
     omega arith
 
-pub answers : (base : Base) (phase : ℕ) (first : List Item) (stage : Stage) (items : List Item) → Keeps base phase first stage → phase ≡ phase_length base.costs.sorted base.costs.random → need_at stage ≡ needs.Done
+pub answers : (base : Base) (phase : ℕ) (first : List Item) (stage : Stage) (items : List Item) → Keeps base phase first stage
+    → phase ≡ phase_length base.costs.sorted base.costs.random → need_at stage ≡ needs.Done
     → items ≡ in_order (map (λ (item : Item). valued (value base.expr) base.transcript.lists base.transcript.accesses item.object) first) → IsAnswer (shown base (need_at stage)) items
 answers base phase first stage items kept' paid done is =
     let V = value base.expr in
@@ -156,7 +149,8 @@ answers base phase first stage items kept' paid done is =
     (λ D agrees. subst (λ p. items ≡ ca_answer V k p D) paid (exact D agrees)) top named
 
 -- the answer has as many items
-pub few_scored : (V : List ℕ → ℕ) (m : ℕ) (A : List Access) (first items : List Item) → length first ≤ 200000 → items ≡ in_order (map (λ (item : Item). valued V m A item.object) first) → length items ≤ 200000
+pub few_scored : (V : List ℕ → ℕ) (m : ℕ) (A : List Access) (first items : List Item) → length first ≤ 200000
+    → items ≡ in_order (map (λ (item : Item). valued V m A item.object) first) → length items ≤ 200000
 few_scored V m A first items few is =
     let size : length items ≡ length (in_order (map (λ (item : Item). valued V m A item.object) first)) = ap length is in
     let same = length-in_order (map (λ (item : Item). valued V m A item.object) first) in

@@ -60,12 +60,14 @@ first_listed V k m A =
       apart = objects_from_distinct (first_seen V k m A) (first_distinct V k m A);
     }
 
-quiet_on : (e : Tree) (k room m n : ℕ) (A : List Access) (D : List (List Row)) (b : Bool) → IsHeld e k room m n A → Agrees m n D A → is_quiet_seen (value e) k m n A ≡ b → is_quiet (value e) k (length D) D A ≡ b
+quiet_on : (e : Tree) (k room m n : ℕ) (A : List Access) (D : List (List Row)) (b : Bool) → IsHeld e k room m n A → Agrees m n D A
+    → is_quiet_seen (value e) k m n A ≡ b → is_quiet (value e) k (length D) D A ≡ b
 quiet_on e k room m n A D b held agrees q =
     quiet_same (value e) k n D A (omega (arith, held.some_list, agrees.lists)) held.named_seen (subst (λ c. Agrees c n D A) (sym agrees.lists) agrees)
     ∙ subst (λ c. is_quiet_seen (value e) k c n A ≡ b) (sym agrees.lists) q
 
-finish_on : (e : Tree) (k phase room m n : ℕ) (A : List Access) (D : List (List Row)) (depth : ℕ) → IsHeld e k room m n A → Agrees m n D A → OnDepth (value e) k phase n D A depth → is_quiet_seen (value e) k m n A ≡ true
+finish_on : (e : Tree) (k phase room m n : ℕ) (A : List Access) (D : List (List Row)) (depth : ℕ) → IsHeld e k room m n A → Agrees m n D A
+    → OnDepth (value e) k phase n D A depth → is_quiet_seen (value e) k m n A ≡ true
     → OnTable (value e) k phase n D A (item_objects (first_seen (value e) k m A)) (finish_from m A (item_objects (first_seen (value e) k m A)) 0)
 finish_on e k phase room m n A D depth held agrees on q =
     let V = value e in
@@ -74,7 +76,8 @@ finish_on e k phase room m n A D depth held agrees on q =
     (on_finish V k phase n D A (item_objects (first_seen V k (length D) A)) (item_objects (first_seen V k (length D) A)) 0 (ap (λ B. item_objects (first_seen V k (length D) B)) blocks) refl (run_left V k phase D A blocks))
 
 -- after all of a depth
-ended : (e : Tree) (k phase room m n : ℕ) (A : List Access) (depth : ℕ) (first : List Item) → IsHeld e k room m n A → item_objects first ≡ [] → ((D : List (List Row)) → Agrees m n D A → OnDepth (value e) k phase n D A depth)
+ended : (e : Tree) (k phase room m n : ℕ) (A : List Access) (depth : ℕ) (first : List Item) → IsHeld e k room m n A → item_objects first ≡ []
+    → ((D : List (List Row)) → Agrees m n D A → OnDepth (value e) k phase n D A depth)
     → IsKept e k phase room m n A (block_ended (value e) k m n A depth first).first (block_ended (value e) k m n A depth first).stage
 ended e k phase room m n A depth first held none on = by_quiet (is_quiet_seen (value e) k m n A) refl
   where
@@ -84,7 +87,8 @@ ended e k phase room m n A depth first held none on = by_quiet (is_quiet_seen (v
     next : Course
     next = record { stage = stages.Row 0 (depth + 1); first = first }
 
-    by_quiet : (b : Bool) → is_quiet_seen (value e) k m n A ≡ b → IsKept e k phase room m n A (cond {A = Course} (is_quiet_seen (value e) k m n A) finish next).first (cond {A = Course} (is_quiet_seen (value e) k m n A) finish next).stage
+    by_quiet : (b : Bool) → is_quiet_seen (value e) k m n A ≡ b
+        → IsKept e k phase room m n A (cond {A = Course} (is_quiet_seen (value e) k m n A) finish next).first (cond {A = Course} (is_quiet_seen (value e) k m n A) finish next).stage
     by_quiet true q =
         subst (λ b. IsKept e k phase room m n A (cond {A = Course} b finish next).first (cond {A = Course} b finish next).stage) (sym q) (record {
           base = held;
@@ -101,11 +105,13 @@ ended e k phase room m n A depth first held none on = by_quiet (is_quiet_seen (v
         })
 
 -- with the next unknown grade of the choice, if it has one
-taken : (e : Tree) (k phase room m n : ℕ) (A : List Access) (depth : ℕ) (first : List Item) (object : ℕ) → IsHeld e k room m n A → item_objects first ≡ [] → Contains (seen_objects A) object → ((D : List (List Row)) → Agrees m n D A → OnChoice (value e) k phase n D A object depth)
+taken : (e : Tree) (k phase room m n : ℕ) (A : List Access) (depth : ℕ) (first : List Item) (object : ℕ) → IsHeld e k room m n A → item_objects first ≡ []
+    → Contains (seen_objects A) object → ((D : List (List Row)) → Agrees m n D A → OnChoice (value e) k phase n D A object depth)
     → IsKept e k phase room m n A (grade_taken (value e) k m n A depth first object (next_unknown m A object)).first (grade_taken (value e) k m n A depth first object (next_unknown m A object)).stage
 taken e k phase room m n A depth first object held none seen on = by_next (next_unknown m A object) refl
   where
-    by_next : (next : Option ℕ) → next_unknown m A object ≡ next → IsKept e k phase room m n A (grade_taken (value e) k m n A depth first object (next_unknown m A object)).first (grade_taken (value e) k m n A depth first object (next_unknown m A object)).stage
+    by_next : (next : Option ℕ) → next_unknown m A object ≡ next
+        → IsKept e k phase room m n A (grade_taken (value e) k m n A depth first object (next_unknown m A object)).first (grade_taken (value e) k m n A depth first object (next_unknown m A object)).stage
     by_next None is =
         subst (λ found. IsKept e k phase room m n A (grade_taken (value e) k m n A depth first object found).first (grade_taken (value e) k m n A depth first object found).stage) (sym is)
         (ended e k phase room m n A depth first held none (λ D agrees.
@@ -125,7 +131,8 @@ not_both : (x : ℕ) → Some x ≡ None → ⊥
 not_both x e = cc
 
 -- after a whole row
-row_over : (e : Tree) (k phase room m n : ℕ) (A : List Access) (depth : ℕ) (first : List Item) → IsHeld e k room m n A → item_objects first ≡ [] → ((D : List (List Row)) → Agrees m n D A → OnRowEnd (value e) k phase n D A depth)
+row_over : (e : Tree) (k phase room m n : ℕ) (A : List Access) (depth : ℕ) (first : List Item) → IsHeld e k room m n A → item_objects first ≡ []
+    → ((D : List (List Row)) → Agrees m n D A → OnRowEnd (value e) k phase n D A depth)
     → IsKept e k phase room m n A (row_ended (value e) k phase m n A depth first).first (row_ended (value e) k phase m n A depth first).stage
 row_over e k phase room m n A depth first held none on = by_phase ((depth % phase) == 0) refl
   where
@@ -141,7 +148,8 @@ row_over e k phase room m n A depth first held none on = by_phase ((depth % phas
     here : (D : List (List Row)) (chosen : Option ℕ) → Agrees m n D A → choice V k m A ≡ chosen → choice V k (length D) A ≡ chosen
     here D chosen agrees is = subst (λ c. choice V k c A ≡ chosen) (sym agrees.lists) is
 
-    by_choice : (chosen : Option ℕ) → choice V k m A ≡ chosen → ((depth % phase) == 0) ≡ true → IsKept e k phase room m n A (phase_begun V k m n A depth first (choice V k m A)).first (phase_begun V k m n A depth first (choice V k m A)).stage
+    by_choice : (chosen : Option ℕ) → choice V k m A ≡ chosen → ((depth % phase) == 0) ≡ true
+        → IsKept e k phase room m n A (phase_begun V k m n A depth first (choice V k m A)).first (phase_begun V k m n A depth first (choice V k m A)).stage
     by_choice None is t =
         subst (λ found. IsKept e k phase room m n A (phase_begun V k m n A depth first found).first (phase_begun V k m n A depth first found).stage) (sym is)
         (ended e k phase room m n A depth first held none (λ D agrees.
@@ -158,7 +166,8 @@ row_over e k phase room m n A depth first held none on = by_phase ((depth % phas
         let o = on D agrees in
         record { at = o.at; made = one_asked V k phase depth object D A (ca_run_to V k phase D depth) t (here D (Some object) agrees is) o.made }))
 
-    by_phase : (b : Bool) → ((depth % phase) == 0) ≡ b → IsKept e k phase room m n A (cond {A = Course} ((depth % phase) == 0) begun over).first (cond {A = Course} ((depth % phase) == 0) begun over).stage
+    by_phase : (b : Bool) → ((depth % phase) == 0) ≡ b
+        → IsKept e k phase room m n A (cond {A = Course} ((depth % phase) == 0) begun over).first (cond {A = Course} ((depth % phase) == 0) begun over).stage
     by_phase true t =
         subst (λ b. IsKept e k phase room m n A (cond {A = Course} b begun over).first (cond {A = Course} b begun over).stage) (sym t) (by_choice (choice V k m A) refl t)
     by_phase false f =
@@ -171,7 +180,9 @@ row_over e k phase room m n A depth first held none on = by_phase ((depth % phas
 at_length : (m n : ℕ) (D : List (List Row)) (A : List Access) → Agrees m n D A → Agrees (length D) n D A
 at_length m n D A agrees = subst (λ c. Agrees c n D A) (sym agrees.lists) agrees
 
-pub row_kept : (e : Tree) (k phase room m n : ℕ) (A : List Access) (first : List Item) (list depth object grade : ℕ) → IsKept e k phase room m n A first (stages.Row list depth) → SomeAgrees m n (A ++ Sorted list object grade ∷ []) → MayFollow room A (Sorted list object grade)
+pub row_kept : (e : Tree) (k phase room m n : ℕ) (A : List Access) (first : List Item) (list depth object grade : ℕ)
+    → IsKept e k phase room m n A first (stages.Row list depth) → SomeAgrees m n (A ++ Sorted list object grade ∷ [])
+    → MayFollow room A (Sorted list object grade)
     → IsKept e k phase room m n (A ++ Sorted list object grade ∷ []) (moved (value e) k phase m n (A ++ Sorted list object grade ∷ []) (stages.Row list depth) first).first (moved (value e) k phase m n (A ++ Sorted list object grade ∷ []) (stages.Row list depth) first).stage
 row_kept e k phase room m n A first list depth object grade kept some follows =
     elim (cases_lt (list + 1) m) [
@@ -206,7 +217,9 @@ row_kept e k phase room m n A first list depth object grade kept some follows =
     within : (D : List (List Row)) → Agrees m n D A' → list < length D
     within D agrees = omega (arith, kept.sound.0, agrees.lists)
 
-pub choice_kept : (e : Tree) (k phase room m n : ℕ) (A : List Access) (first : List Item) (list object depth grade : ℕ) → IsKept e k phase room m n A first (stages.Choice list object depth) → SomeAgrees m n (A ++ Random list object grade ∷ []) → MayFollow room A (Random list object grade)
+pub choice_kept : (e : Tree) (k phase room m n : ℕ) (A : List Access) (first : List Item) (list object depth grade : ℕ)
+    → IsKept e k phase room m n A first (stages.Choice list object depth) → SomeAgrees m n (A ++ Random list object grade ∷ [])
+    → MayFollow room A (Random list object grade)
     → IsKept e k phase room m n (A ++ Random list object grade ∷ []) (moved (value e) k phase m n (A ++ Random list object grade ∷ []) (stages.Choice list object depth) first).first (moved (value e) k phase m n (A ++ Random list object grade ∷ []) (stages.Choice list object depth) first).stage
 choice_kept e k phase room m n A first list object depth grade kept some follows =
     let a : Access = Random list object grade in
@@ -219,7 +232,9 @@ choice_kept e k phase room m n A first list object depth grade kept some follows
           (grade_given m n D A list object grade agrees (next_below m A object list asked.next)) on.made;
     })
 
-pub finish_kept : (e : Tree) (k phase room m n : ℕ) (A : List Access) (first : List Item) (list object place grade : ℕ) → IsKept e k phase room m n A first (stages.Finish list object place) → SomeAgrees m n (A ++ Random list object grade ∷ []) → MayFollow room A (Random list object grade)
+pub finish_kept : (e : Tree) (k phase room m n : ℕ) (A : List Access) (first : List Item) (list object place grade : ℕ)
+    → IsKept e k phase room m n A first (stages.Finish list object place) → SomeAgrees m n (A ++ Random list object grade ∷ [])
+    → MayFollow room A (Random list object grade)
     → IsKept e k phase room m n (A ++ Random list object grade ∷ []) (moved (value e) k phase m n (A ++ Random list object grade ∷ []) (stages.Finish list object place) first).first (moved (value e) k phase m n (A ++ Random list object grade ∷ []) (stages.Finish list object place) first).stage
 finish_kept e k phase room m n A first list object place grade kept some follows =
     let a : Access = Random list object grade in

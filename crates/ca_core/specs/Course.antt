@@ -13,6 +13,7 @@ use Rattle.late_choice.specs.Open.{next_unknown}
 use Rattle.machine_base.specs.declared.base.Base.{Base}
 use Rattle.ca_core.specs.declared.stage.Stage.{Stage}
 use Rattle.ca_core.specs.declared.stage.Stage.TheVariants as stages
+use Rattle.limits.specs.declared.TheConstants.{MAX_OBJECTS}
 
 -- what is next
 abbrev pub need_at : Stage → Need
@@ -58,14 +59,15 @@ row_ended V k phase m n A depth first = if (depth % phase) == 0 then phase_begun
 
 -- after the access that was next
 abbrev pub moved : (List ℕ → ℕ) → ℕ → ℕ → ℕ → ℕ → List Access → Stage → List Item → Course
-moved V k phase m n A (stages.Row list depth) first = if nat_lt (list + 1) m then record { stage = stages.Row (list + 1) depth; first = first } else row_ended V k phase m n A depth first
+moved V k phase m n A (stages.Row list depth) first =
+    if nat_lt (list + 1) m then record { stage = stages.Row (list + 1) depth; first = first } else row_ended V k phase m n A depth first
 moved V k phase m n A (stages.Choice list object depth) first = grade_taken V k m n A depth first object (next_unknown m A object)
 moved V k phase m n A (stages.Finish list object place) first = record { stage = finish_from m A (drop place (item_objects first)) place; first = first }
 moved V k phase m n A stages.Done first = record { stage = stages.Done; first = first }
 
 -- a depth may end: it is a table's, and the first k aren't read yet, but have room
 pub record MayMove (base : Base) (depth : ℕ) (first : List Item) (capacity : ℕ) : Type 0 where
-  pub deep : depth ≤ 200000
+  pub deep : depth ≤ MAX_OBJECTS
   pub none : first ≡ []
   pub roomy : base.room ≤ capacity
 

@@ -8,6 +8,7 @@ use super::following::follow;
 use super::late_seen::LateSeen;
 use super::stage::Stage;
 use access_log::{Access, Answer, CoreFault, Item, Items, Transcript};
+use limits::MAX_OBJECTS;
 use machine_base::{Base, Memory, Need};
 use monotone_fn::{Costs, Expr};
 use ranked_list::Row;
@@ -72,7 +73,7 @@ impl Ca {
     ) -> Result<Ca, Memory>
         requires asked { 1 ≤ k }
         requires fits { k ≤ count }
-        requires counted { count ≤ 200000 }
+        requires counted { count ≤ MAX_OBJECTS }
         requires roomy { 1 ≤ room }
         requires paid { 1 ≤ costs.sorted }
         ensures begun { IfOk result (IsBegun expr k count room costs) }

@@ -41,7 +41,7 @@ fn end_block(base: &Base, late: &mut LateSeen, first: &mut Vec<Item>, depth: u32
     ensures seen { KeepsSeen base.now late.new }
     ensures capacity { vec_capacity first.new ≡ vec_capacity first.old }
 {
-    if !late.bounds.is_quiet(&base.expr, &base.transcript) {
+    if !late.is_quiet(base) {
         return Stage::Row {
             list: 0,
             depth: depth + 1,

@@ -2,11 +2,14 @@
 
 ghost use Rattle.std.specs.Prelude.{◌≡◌, ◌≤◌, ℕ, [], IfOk};
 ghost use Rattle.monotone_fn.specs.Tree.{Tree};
+ghost use Rattle.monotone_fn.specs.Value.{value};
+ghost use Rattle.nra_theory.specs.Quiet.{is_quiet_seen};
 ghost use Rattle.machine_base.specs.Base.{Holds};
 ghost use Rattle.ca_core.specs.Seen.{AreRenewed, KeepsSeen, WasRenewed};
 
 use late_bounds::LateBounds;
 use late_choice::OpenHighs;
+use limits::MAX_OBJECTS;
 use machine_base::{Base, Memory};
 use std::alloc::Global;
 
@@ -21,8 +24,8 @@ impl LateSeen {
     /// Before any access, with room for so many seen objects.
     pub(crate) fn make(alloc: Global, k: u32, room: u32) -> Result<LateSeen, Memory>
         requires asked { 1 ≤ k }
-        requires few { k ≤ 200000 }
-        requires room { room ≤ 200000 }
+        requires few { k ≤ MAX_OBJECTS }
+        requires room { room ≤ MAX_OBJECTS }
         ensures { IfOk result (λ late. (e : Tree) (m : ℕ) → AreRenewed e k room m [] late) }
     {
         let Ok(bounds) = LateBounds::make(alloc, k, room) else {
@@ -42,5 +45,16 @@ impl LateSeen {
     {
         self.bounds.note(&base.expr, &base.transcript, object);
         self.highs.note(&base.expr, &base.transcript, object);
+    }
+
+    /// Whether all is quiet: enough objects are seen, and none outside the first k is viable.
+    pub(crate) fn is_quiet(&mut self, base: &Base) -> bool
+        requires held { Holds base.now }
+        requires before { KeepsSeen base.now self.old }
+        ensures quiet { result ≡ is_quiet_seen (value base.now.expr) base.now.k base.now.transcript.lists
+            base.now.transcript.count base.now.transcript.accesses }
+        ensures kept { KeepsSeen base.now self.new }
+    {
+        self.bounds.is_quiet(&base.expr, &base.transcript)
     }
 }

@@ -1,41 +1,27 @@
 -- The table against an object, row by row.
 use Rattle.std.proofs.Common.{◌≡◌, ◌≢◌, ℕ, zero, suc, ◌+◌, ◌-◌, ◌<◌, ◌≤◌, ◌^◌, inl, inr, Bool, true, false, cond, ◌==◌, ◌&&◌, ◌||◌, not, nat_lt, List, [], ◌∷◌, ◌++◌, length, map, take, drop, filter, get_or, AllPairs, Contains, Option, Some, None, unwrap_or, slice_get, slice_index_or, min, refl, sym, ap, ap₂, subst, ◌∙◌, arith, append_assoc, append-nil, length-append, length-take, take-append-drop, eqb-true}
 use Rattle.std.specs.List.{range_with_len}
-use Rattle.std.specs.List.Sorted.{IsPermutation, IsSortedBy}
-use Rattle.std.specs.declared.cmp.Ordering.{Ordering}
-use Rattle.std.specs.declared.cmp.Reverse.{Reverse}
-use Rattle.std.specs.declared.cmp.Ordering.TheVariants.{Less, Equal, Greater}
-use Rattle.std.specs.Ordering.{nat_cmp, is_lt, ordering_then}
-use Rattle.std.proofs.lemmas.Bool.{cases_Bool, cases_lt, cases_order, cond-true, cond-false, lt-ltb, le-ltb, or_right, ne_eqb, eq-eqb}
-use Rattle.std.proofs.lemmas.List.{take_more, take_all, take-append-le, map-append, get_or-map, length-map}
+use Rattle.std.proofs.lemmas.Bool.{cases_Bool, cases_lt, cond-true, cond-false, lt-ltb, le-ltb, or_right}
+use Rattle.std.proofs.lemmas.List.{take_more, take_all, take-append-le, map-append, length-map}
 use Rattle.std.proofs.lemmas.List.FromFn.{map-range_with_len_more, get_or-map-range_with_len}
 use Rattle.std.proofs.lemmas.List.Elements.{filter-append}
 use Rattle.std.proofs.lemmas.List.Kept.{AllPairs-filter}
 use Rattle.std.proofs.lemmas.Bool.{and_from}
-use Rattle.std.proofs.lemmas.List.Sorted.{IsPermutation-map}
+use Rattle.std.proofs.Math.Bool.{or-false}
 use Rattle.ranked_list.specs.declared.row.Row.{Row}
-use Rattle.ranked_list.specs.declared.item.Item.{Item}
 use Rattle.ranked_list.specs.Table.{objects}
 use Rattle.topk_theory.specs.declared.access.Access.{Access}
 use Rattle.topk_theory.specs.Transcript.{sorted_rows, list_numbers}
 use Rattle.topk_theory.specs.Bounds.{known_grade}
-use Rattle.topk_theory.specs.Order.{item_cmp, is_before, AreDistinct, in_order, with_placed}
 use Rattle.topk_theory.specs.Consistent.{SomeAgrees}
 use Rattle.topk_theory.specs.Fixes.{IsObjectSet}
-use Rattle.topk_theory.specs.Adversary.{is_above, put_row, by_grade, graded, unread, filled, chosen, against, unnamed}
-use Rattle.topk_theory.proofs.AgreementLists.{slice_get_in_range, slice_get_reads}
-use Rattle.topk_theory.proofs.AgreementNames.{has, not_has}
+use Rattle.topk_theory.specs.Adversary.{by_grade, graded, unread, filled, chosen, against, unnamed}
+use Rattle.topk_theory.proofs.AgreementLists.{front_next}
+use Rattle.topk_theory.proofs.AgreementNames.{has, not_has, has_push}
 use Rattle.topk_theory.proofs.Agreement.{sorted_rows_append, depth_fits}
-use Rattle.topk_theory.proofs.ConsistentRows.{put_here, put_later, graded_distinct}
+use Rattle.topk_theory.proofs.ConsistentRows.{graded_distinct}
 use Rattle.topk_theory.proofs.AdversaryOrder.{by_grade_is}
-use Rattle.topk_theory.proofs.SortedItems.{sorted_in_order}
-
--- a row as an item whose bounds are both its grade, and back
-abbrev pub item_of : Row → Item
-item_of row = record { object = row.object; low = row.grade; high = row.grade }
-
-abbrev pub row_of_item : Item → Row
-row_of_item item = record { object = item.object; grade = item.low }
+use Rattle.topk_theory.proofs.ThresholdLists.{filter_fits}
 
 -- the smallest unseen ids, one after another
 range_more : (i : ℕ) → range_with_len 0 (i + 1) ≡ range_with_len 0 i ++ i ∷ []
@@ -126,96 +112,25 @@ unread_more G objects read i rows after l e a =
     ∙ sym (ap (λ xs. graded G (filter p xs)) (take_more objects i 0 l) ∙ ap (graded G) (filter-append p (take i objects) (o ∷ []))
     ∙ map-append (λ z. record { object = z; grade = G z }) (filter p (take i objects)) (cond (not (has o read)) (o ∷ []) []))
   where
-    one : (b : Bool) (G : ℕ → ℕ) (o : ℕ) (rows : List Row) → cond b rows (rows ++ record { object = o; grade = G o } ∷ []) ≡ rows ++ graded G (cond (not b) (o ∷ []) [])
+    one : (b : Bool) (G : ℕ → ℕ) (o : ℕ) (rows : List Row)
+        → cond b rows (rows ++ record { object = o; grade = G o } ∷ []) ≡ rows ++ graded G (cond (not b) (o ∷ []) [])
     one true G o rows = sym (append-nil rows)
     one false G o rows = refl
 
 -- the objects that weren't read, by what is known to be read
-pub same_unread : (read : List ℕ) (rows : List Row) (O : List ℕ) → ((o : ℕ) → has o read ≡ has o (objects rows)) → filter (λ o. not (has o read)) O ≡ unread rows O
+pub same_unread : (read : List ℕ) (rows : List Row) (O : List ℕ) → ((o : ℕ) → has o read ≡ has o (objects rows))
+    → filter (λ o. not (has o read)) O ≡ unread rows O
 same_unread read rows [] same = refl
 same_unread read rows (x ∷ O) same =
     ap (λ b. cond (not b) (x ∷ filter (λ o. not (has o read)) O) (filter (λ o. not (has o read)) O)) (same x)
     ∙ ap (λ s. cond (not (has x (objects rows))) (x ∷ s) s) (same_unread read rows O same)
-
--- a sort of rows
-item_before : (a b : Row) → is_before (item_of a) (item_of b) ≡ is_above a b
-item_before a b =
-    elim (cases_order a.grade b.grade) [
-      | inl same ↦
-          let level : nat_lt b.grade a.grade ≡ false = le-ltb b.grade a.grade (omega arith) in
-          let tie : (b.grade == a.grade) ≡ true = eq-eqb b.grade a.grade (sym same) in
-          let tied : (a.grade == b.grade) ≡ true = eq-eqb a.grade b.grade same in
-          simp (level, tie, tied) (lesser_object a.object b.object)
-      | inr r ↦ elim r [
-        | inl l ↦
-            let below : nat_lt b.grade a.grade ≡ false = le-ltb b.grade a.grade (omega arith) in
-            let other : (b.grade == a.grade) ≡ false = ne_eqb b.grade a.grade (omega arith) in
-            let others : (a.grade == b.grade) ≡ false = ne_eqb a.grade b.grade (omega arith) in
-            simp (below, other, others)
-        | inr g ↦ let above : nat_lt b.grade a.grade ≡ true = lt-ltb b.grade a.grade g in simp above
-      ]
-    ]
-  where
-    lesser_object : (x y : ℕ) → is_lt (nat_cmp x y) ≡ nat_lt x y
-    lesser_object x y =
-        elim (nat_lt x y) as (λ b. is_lt (cond b Less (cond (x == y) Equal Greater)) ≡ b) [
-          | true ↦ refl
-          | false ↦ elim (x == y) as (λ b. is_lt (cond b Equal Greater) ≡ false) [ true ↦ refl | false ↦ refl ]
-        ]
-
-placed_row : (row : Row) (rows : List Row) → with_placed (item_of row) (map item_of rows) ≡ map item_of (put_row row rows)
-placed_row row [] = refl
-placed_row row (other ∷ rows) =
-    elim (cases_Bool (is_above row other)) [
-      | inl t ↦
-          cond-true (is_before (item_of row) (item_of other)) (item_of row ∷ item_of other ∷ map item_of rows) (item_of other ∷ with_placed (item_of row) (map item_of rows)) (item_before row other ∙ t)
-          ∙ sym (ap (map item_of) (put_here row other rows t))
-      | inr f ↦
-          cond-false (is_before (item_of row) (item_of other)) (item_of row ∷ item_of other ∷ map item_of rows) (item_of other ∷ with_placed (item_of row) (map item_of rows)) (item_before row other ∙ f)
-          ∙ ap (λ s. item_of other ∷ s) (placed_row row rows) ∙ sym (ap (map item_of) (put_later row other rows f))
-    ]
-
-rows_in_order : (rows : List Row) → in_order (map item_of rows) ≡ map item_of (by_grade rows)
-rows_in_order [] = refl
-rows_in_order (row ∷ rows) = ap (with_placed (item_of row)) (rows_in_order rows) ∙ placed_row row (by_grade rows)
-
-back : (rows : List Row) → map row_of_item (map item_of rows) ≡ rows
-back [] = refl
-back (row ∷ rows) = ap (λ s. row ∷ s) (back rows)
-
--- how a sort compares rows: by grade falling, then by id rising
-abbrev pub row_cmp : Row → Row → Ordering
-row_cmp a b = ordering_then (nat_cmp b.grade a.grade) (nat_cmp a.object b.object)
-
-doubled : (first second : Ordering) → is_lt (ordering_then (ordering_then first first) second) ≡ is_lt (ordering_then first second)
-doubled Less second = refl
-doubled Equal second = refl
-doubled Greater second = refl
-
-pub sorted_rows_are : (rows sorted : List Row) → AllPairs (λ (one : Row) (other : Row). one.object ≢ other.object) rows → IsPermutation rows sorted
-    → IsSortedBy (λ a b. is_lt (row_cmp a b)) sorted → sorted ≡ by_grade rows
-sorted_rows_are rows sorted apart moved up =
-    let none : Row = record { object = 0; grade = 0 } in
-    let items_apart : AreDistinct (map item_of rows) = λ i j d l m.
-    let size : length (map item_of rows) ≡ length rows = length-map rows item_of in
-    let here : get_or (map item_of rows) i d ≡ item_of (get_or rows i none) = get_or-map item_of rows i none d (omega arith) in
-    let there : get_or (map item_of rows) j d ≡ item_of (get_or rows j none) = get_or-map item_of rows j none d (omega arith) in
-    λ same. apart i j none l (omega arith) (sym (ap (λ (z : Item). z.object) here) ∙ same ∙ ap (λ (z : Item). z.object) there) in
-    let items_up : IsSortedBy (λ a b. is_lt (item_cmp a b)) (map item_of sorted) = λ k d low within.
-    let size : length (map item_of sorted) ≡ length sorted = length-map sorted item_of in
-    let here : get_or (map item_of sorted) (k + 1) d ≡ item_of (get_or sorted (k + 1) none) = get_or-map item_of sorted (k + 1) none d (omega arith) in
-    let there : get_or (map item_of sorted) k d ≡ item_of (get_or sorted k none) = get_or-map item_of sorted k none d (omega arith) in
-    ap₂ (λ a b. is_lt (item_cmp a b)) here there
-    ∙ doubled (nat_cmp (get_or sorted k none).grade (get_or sorted (k + 1) none).grade) (nat_cmp (get_or sorted (k + 1) none).object (get_or sorted k none).object)
-    ∙ up k none low (omega arith) in
-    sym (back sorted) ∙ ap (map row_of_item) (sorted_in_order (map item_of rows) (map item_of sorted) items_apart (IsPermutation-map item_of rows sorted moved) items_up ∙ rows_in_order rows) ∙ back (by_grade rows)
 
 -- the rows that were read, one access after another
 pub read_more : (A : List Access) (place list : ℕ) (a : Access) (rows after : List Row) → slice_get A place ≡ Some a → rows ≡ sorted_rows list (take place A)
     → after ≡ rows ++ sorted_rows list (a ∷ []) → after ≡ sorted_rows list (take (place + 1) A)
 read_more A place list a rows after at e more =
     more ∙ ap (λ s. s ++ sorted_rows list (a ∷ [])) e ∙ sym (sorted_rows_append list (take place A) (a ∷ []))
-    ∙ ap (sorted_rows list) (sym (take_more A place a (slice_get_in_range A place a at) ∙ ap (λ z. take place A ++ z ∷ []) (slice_get_reads A place a a at)))
+    ∙ ap (sorted_rows list) (front_next A place a at)
 
 pub few_read : (A : List Access) (m n place list : ℕ) → SomeAgrees m n A → list < m → n ≤ 200000 → length (sorted_rows list (take place A)) + 1 < 2 ^ 32
 few_read A m n place list some l few =
@@ -225,26 +140,10 @@ few_read A m n place list some l few =
     let fits : length (sorted_rows list A) ≤ n = depth_fits m n some.0 A list some.1 l in
     omega arith
 
-or_none : (b : Bool) → (b || false) ≡ (false || b)
-or_none true = refl
-or_none false = refl
-
-or_assoc : (a b c : Bool) → (a || (b || c)) ≡ ((a || b) || c)
-or_assoc true b c = refl
-or_assoc false b c = refl
-
-or_left_none : (b : Bool) → b ≡ (b || false)
-or_left_none true = refl
-or_left_none false = refl
-
-has_push : (o : ℕ) (xs : List ℕ) (x : ℕ) → has o (xs ++ x ∷ []) ≡ (has o xs || (x == o))
-has_push o [] x = or_none (x == o)
-has_push o (y ∷ xs) x = ap (λ b. (y == o) || b) (has_push o xs x) ∙ or_assoc (y == o) (has o xs) (x == o)
-
 absorbs : (o x : ℕ) (xs : List ℕ) → has x xs ≡ true → has o xs ≡ (has o xs || (x == o))
 absorbs o x xs t = elim (x == o) as (λ b. (x == o) ≡ b → has o xs ≡ (has o xs || b)) [
   | true ↦ λ e. let here : has o xs ≡ true = subst (λ z. has z xs ≡ true) (eqb-true x o e) t in here ∙ sym (or_right (has o xs) true refl)
-  | false ↦ λ e. or_left_none (has o xs)
+  | false ↦ λ e. sym (or-false (has o xs))
 ] refl
 
 -- the objects of rows, one row after another
@@ -252,7 +151,7 @@ pub objects_more : (rows : List Row) (place : ℕ) (row : Row) (read after : Lis
     → ((o : ℕ) → has o read ≡ has o (objects (take place rows))) → after ≡ cond (has row.object read) read (read ++ row.object ∷ [])
     → (o : ℕ) → has o after ≡ has o (objects (take (place + 1) rows))
 objects_more rows place row read after at same e o =
-    let next : take (place + 1) rows ≡ take place rows ++ row ∷ [] = take_more rows place row (slice_get_in_range rows place row at) ∙ ap (λ z. take place rows ++ z ∷ []) (slice_get_reads rows place row row at) in
+    let next : take (place + 1) rows ≡ take place rows ++ row ∷ [] = sym (front_next rows place row at) in
     let listed : objects (take (place + 1) rows) ≡ objects (take place rows) ++ row.object ∷ [] = ap objects next ∙ map-append (λ (z : Row). z.object) (take place rows) (row ∷ []) in
     let whole : has o (objects (take (place + 1) rows)) ≡ has o (objects (take place rows)) || (row.object == o) = ap (has o) listed ∙ has_push o (objects (take place rows)) row.object in
     elim (cases_Bool (has row.object read)) [
@@ -281,10 +180,6 @@ pub chosen_by : (A : List Access) (m list inside object result unknown : ℕ) (k
 chosen_by A m list inside object result unknown known l k u r =
     r ∙ ap₂ unwrap_or (ap (λ ks. slice_index_or ks list None) k ∙ get_or-map-range_with_len (λ l. known_grade A object l) 0 m list list None l (omega arith)) u
 
--- the key by which rows are sorted
-abbrev pub key_of : Row → Reverse ℕ × ℕ
-key_of row = (record { 0 = row.grade }, row.object)
-
 -- the rows of objects that weren't read are of different objects
 pub rest_apart : (G : ℕ → ℕ) (read O : List ℕ) (rows : List Row) → AllPairs (λ (x : ℕ) (y : ℕ). x ≢ y) O → rows ≡ graded G (filter (λ o. not (has o read)) O)
     → AllPairs (λ (one : Row) (other : Row). one.object ≢ other.object) rows
@@ -296,18 +191,13 @@ rest_apart G read O rows apart e =
 lent_whole : (n : ℕ) (new old : List Row) → n ≡ length new → take n (new ++ drop (length new) old) ≡ new
 lent_whole n new old e = take-append-le n new (drop (length new) old) (omega arith) ∙ take_all n new (omega arith)
 
-pub sorted_rest : (G : ℕ → ℕ) (read O : List ℕ) (rows lent sorted rest : List Row) (n : ℕ) → AllPairs (λ (x : ℕ) (y : ℕ). x ≢ y) O → ((o : ℕ) → has o read ≡ has o (objects rows))
+pub sorted_rest : (G : ℕ → ℕ) (read O : List ℕ) (rows lent sorted rest : List Row) (n : ℕ) → AllPairs (λ (x : ℕ) (y : ℕ). x ≢ y) O
+    → ((o : ℕ) → has o read ≡ has o (objects rows))
     → lent ≡ graded G (filter (λ o. not (has o read)) O) → sorted ≡ by_grade lent → n ≡ length lent → rest ≡ take n (sorted ++ drop (length sorted) lent)
     → rest ≡ by_grade (graded G (unread rows O))
 sorted_rest G read O rows lent sorted rest n apart same e s long r =
     let size : length (by_grade lent) ≡ length lent = (by_grade_is lent (rest_apart G read O lent apart e)).size in
     r ∙ lent_whole n sorted lent (long ∙ sym size ∙ ap length (sym s)) ∙ s ∙ ap by_grade (e ∙ ap (graded G) (same_unread read rows O same))
-
-filter_fits : (p : ℕ → Bool) (xs : List ℕ) → length (filter p xs) ≤ length xs
-filter_fits p [] = omega arith
-filter_fits p (x ∷ xs) =
-    let rest : length (filter p xs) ≤ length xs = filter_fits p xs in
-    elim (p x) as (λ b. length (cond b (x ∷ filter p xs) (filter p xs)) ≤ suc (length xs)) [ true ↦ omega arith | false ↦ omega arith ]
 
 -- there is room for the rest
 pub few_rest : (m n list : ℕ) (A : List Access) (G : ℕ → ℕ) (O : List ℕ) (rows rest : List Row) → SomeAgrees m n A → list < m → n ≤ 200000 → IsObjectSet n O
@@ -321,6 +211,7 @@ few_rest m n list A G O rows rest some l few set r e =
     omega (arith, ap length r, ap length e, set.sized)
 
 -- the rows that were read and the rest are the filled list
-pub filled_from : (list : ℕ) (A : List Access) (G : ℕ → ℕ) (O : List ℕ) (rows rest whole : List Row) → rows ≡ sorted_rows list A → rest ≡ by_grade (graded G (unread rows O))
+pub filled_from : (list : ℕ) (A : List Access) (G : ℕ → ℕ) (O : List ℕ) (rows rest whole : List Row) → rows ≡ sorted_rows list A
+    → rest ≡ by_grade (graded G (unread rows O))
     → whole ≡ rows ++ rest → whole ≡ filled G O (sorted_rows list A)
 filled_from list A G O rows rest whole r e w = w ∙ ap (λ s. rows ++ s) e ∙ ap (filled G O) r

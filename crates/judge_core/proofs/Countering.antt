@@ -15,10 +15,12 @@ use Rattle.judge_core.proofs.Telling.{judged_may_be}
 same_set : (log : Log) (objects : List ℕ) → IsTame log.accesses → objects ≡ object_set log.count (seen_objects log.accesses) → objects ≡ judged_objects log
 same_set log objects tame e = e ∙ ap (object_set log.count) (sym (named_is_seen log.accesses tame))
 
-pub set_is : (log : Log) (objects : List ℕ) → IsTame log.accesses → 0 < log.lists → IsConsistent log → objects ≡ object_set log.count (seen_objects log.accesses) → IsObjectSet log.count objects
+pub set_is : (log : Log) (objects : List ℕ) → IsTame log.accesses → 0 < log.lists → IsConsistent log
+    → objects ≡ object_set log.count (seen_objects log.accesses) → IsObjectSet log.count objects
 set_is log objects tame lists some e = subst (IsObjectSet log.count) (sym (same_set log objects tame e)) (judged_may_be log lists some).is_set
 
-pub counter_is : (log : Log) (inside : ℕ) (objects : List ℕ) (D : List (List Row)) → IsTame log.accesses → Contains (seen_objects log.accesses) inside → 0 < log.lists → IsConsistent log
+pub counter_is : (log : Log) (inside : ℕ) (objects : List ℕ) (D : List (List Row)) → IsTame log.accesses → Contains (seen_objects log.accesses) inside
+    → 0 < log.lists → IsConsistent log
     → objects ≡ object_set log.count (seen_objects log.accesses)
     → D ≡ map (λ list. filled (chosen (against inside log.accesses) log.accesses list) objects (sorted_rows list log.accesses)) (list_numbers log.lists) → IsCounterTable log inside D
 counter_is log inside objects D tame seen lists some e d =

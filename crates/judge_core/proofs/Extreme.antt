@@ -1,9 +1,8 @@
 -- The least and the greatest of objects, one object after another.
-use Rattle.std.proofs.Common.{◌≡◌, ◌<◌, ◌≤◌, ◌⊎◌, inl, inr, ℕ, ◌+◌, take, slice_get, ◌==◌, ◌&&◌, ◌||◌, Bool, true, false, cond, nat_lt, List, ◌∷◌, ◌++◌, [], Contains, Option, Some, None, refl, sym, ap, subst, ◌∙◌, arith, ltb-true, ltb-false, eqb-true, eq-eqb}
+use Rattle.std.proofs.Common.{◌≡◌, ◌<◌, ◌≤◌, ◌⊎◌, inl, inr, ℕ, ◌+◌, ◌==◌, ◌&&◌, ◌||◌, Bool, true, false, cond, nat_lt, List, ◌∷◌, ◌++◌, [], Contains, Option, Some, None, refl, sym, ap, subst, ◌∙◌, arith, ltb-true, ltb-false, eqb-true, eq-eqb}
 use Rattle.std.proofs.lemmas.Bool.{cases_Bool, cond-true, cond-false, or_cases, or_parts, and_parts, and_from, true≢false}
-use Rattle.std.proofs.lemmas.List.{take_more}
 use Rattle.std.proofs.lemmas.List.Elements.{Contains-append_left, Contains-push, Contains-push_cases}
-use Rattle.topk_theory.proofs.AgreementLists.{contains_nil, slice_get_in_range, slice_get_reads}
+use Rattle.topk_theory.proofs.AgreementLists.{contains_nil}
 use Rattle.topk_theory.proofs.AgreementNames.{has_contains, has_not}
 use Rattle.judge_core.specs.Objects.{has}
 use Rattle.judge_core.specs.Extremes.{IsLeast, IsGreatest, FindsLeast, FindsGreatest, lesser, greater}
@@ -158,7 +157,8 @@ greatest_step f P Q (Some best) next h here split kept is_one =
     ]
 
 -- of the same objects
-pub greatest_over : (f : ℕ → ℕ) (P Q : ℕ → Type 0) (best : Option Bound) → FindsGreatest f P best → ((o : ℕ) → P o → Q o) → ((o : ℕ) → Q o → P o) → FindsGreatest f Q best
+pub greatest_over : (f : ℕ → ℕ) (P Q : ℕ → Type 0) (best : Option Bound) → FindsGreatest f P best → ((o : ℕ) → P o → Q o) → ((o : ℕ) → Q o → P o)
+    → FindsGreatest f Q best
 greatest_over f P Q None none to from = λ o q. none o (from o q)
 greatest_over f P Q (Some best) h to from =
     (record { is_one = to best.object h.0.is_one; greatest = λ o q. h.0.greatest o (from o q); first = λ o q same. h.0.first o (from o q) same }, h.1)
@@ -194,6 +194,3 @@ greatest_listed f xs Y best result object h e =
           (λ o q. elim (Contains-push_cases xs object o q.among) [ inl c ↦ inl (record { among = c; outside = q.outside }) | inr same ↦ inr same ])
           kept (record { among = Contains-push xs object; outside = has_not object Y u }))
     ]
-
-pub taken_next : (xs : List ℕ) (place x : ℕ) → slice_get xs place ≡ Some x → take (place + 1) xs ≡ take place xs ++ x ∷ []
-taken_next xs place x e = take_more xs place x (slice_get_in_range xs place x e) ∙ ap (λ z. take place xs ++ z ∷ []) (slice_get_reads xs place x x e)

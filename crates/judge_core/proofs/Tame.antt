@@ -10,7 +10,7 @@ use Rattle.std.proofs.lemmas.Iterator.Adapters.{position_from-zero}
 use Rattle.topk_theory.specs.declared.access.Access.{Access}
 use Rattle.topk_theory.specs.declared.access.Access.TheVariants.{Sorted, Random}
 use Rattle.topk_theory.specs.Transcript.{IsTame, object_of, is_sorted, named_objects, seen_objects}
-use Rattle.topk_theory.proofs.AgreementLists.{contains_nil, contains_here, contains_there, contains_cases, all_from_members, distinct_head, distinct_tail, slice_get_in_range, slice_get_reads}
+use Rattle.topk_theory.proofs.AgreementLists.{contains_nil, contains_here, contains_there, contains_cases, all_from_members, distinct_head, distinct_tail, front_next, slice_get_in_range, slice_get_reads}
 use Rattle.topk_theory.proofs.AgreementNames.{has, has_contains, has_not}
 use Rattle.topk_theory.proofs.Agreement.{contains_middle, named_objects_old, named_objects_new, seen_objects_old, seen_objects_new, seen_objects_random}
 use Rattle.topk_theory.proofs.ThresholdRun.{tame_append}
@@ -37,7 +37,8 @@ seen_begins A (a ∷ B) =
         ]
 
 -- the place of an object of the front is in the front, and that of another isn't
-place_front : (o start : ℕ) (front rest : List ℕ) → Contains front o → (q : ℕ) × (position_from (nat_eq o) start (front ++ rest) ≡ Some q) × (q < start + length front)
+place_front : (o start : ℕ) (front rest : List ℕ) → Contains front o
+    → (q : ℕ) × (position_from (nat_eq o) start (front ++ rest) ≡ Some q) × (q < start + length front)
 place_front o start [] rest c = absurd (contains_nil o c)
 place_front o start (x ∷ front) rest c =
     elim (cases_Bool (nat_eq o x)) [
@@ -68,25 +69,24 @@ place_behind o start q (x ∷ front) rest n e =
           (sym (cond-false (nat_eq o x) (Some start) (position_from (nat_eq o) (start + 1) (front ++ rest)) f) ∙ e) in omega arith
     ]
 
-place_is : (o : ℕ) (xs : List ℕ) → position (nat_eq o) xs ≡ position_from (nat_eq o) 0 xs
-place_is o xs = position_from-zero (nat_eq o) xs
-
 -- what the count of seen objects becomes
-after_known : (o : ℕ) (front rest : List ℕ) (sorted : Bool) → Contains front o → seen_after (position (nat_eq o) (front ++ rest)) (length front) sorted ≡ Some (length front)
+after_known : (o : ℕ) (front rest : List ℕ) (sorted : Bool) → Contains front o
+    → seen_after (position (nat_eq o) (front ++ rest)) (length front) sorted ≡ Some (length front)
 after_known o front rest sorted c =
     let r = place_front o 0 front rest c in
     let low : r.0 < length front = omega (arith, r.2) in
-    ap (λ p. seen_after p (length front) sorted) (place_is o (front ++ rest) ∙ r.1)
+    ap (λ p. seen_after p (length front) sorted) (position_from-zero (nat_eq o) (front ++ rest) ∙ r.1)
     ∙ cond-true (nat_lt r.0 (length front)) (Some (length front)) (cond sorted (Some (length front + 1)) None) (lt-ltb r.0 (length front) low)
 
 after_behind : (o : ℕ) (front rest : List ℕ) (sorted : Bool) (q : ℕ) → (¬ Contains front o) → position_from (nat_eq o) 0 (front ++ rest) ≡ Some q
     → seen_after (position (nat_eq o) (front ++ rest)) (length front) sorted ≡ cond sorted (Some (length front + 1)) None
 after_behind o front rest sorted q n e =
     let high : length front ≤ q = omega (arith, place_behind o 0 q front rest n e) in
-    ap (λ p. seen_after p (length front) sorted) (place_is o (front ++ rest) ∙ e)
+    ap (λ p. seen_after p (length front) sorted) (position_from-zero (nat_eq o) (front ++ rest) ∙ e)
     ∙ cond-false (nat_lt q (length front)) (Some (length front)) (cond sorted (Some (length front + 1)) None) (le-ltb q (length front) high)
 
-after_new : (o : ℕ) (front rest : List ℕ) → (¬ Contains front o) → seen_after (position (nat_eq o) (front ++ o ∷ rest)) (length front) true ≡ Some (length front + 1)
+after_new : (o : ℕ) (front rest : List ℕ) → (¬ Contains front o)
+    → seen_after (position (nat_eq o) (front ++ o ∷ rest)) (length front) true ≡ Some (length front + 1)
 after_new o front rest n =
     let e : (front ++ o ∷ []) ++ rest ≡ front ++ o ∷ rest = append_assoc front (o ∷ []) rest in
     let r = place_front o 0 (front ++ o ∷ []) rest (Contains-push front o) in
@@ -95,7 +95,7 @@ after_new o front rest n =
 after_wild : (o : ℕ) (front rest : List ℕ) → (¬ Contains front o) → seen_after (position (nat_eq o) (front ++ rest)) (length front) false ≡ None
 after_wild o front rest n =
     elim (position_from (nat_eq o) 0 (front ++ rest)) as (λ p. position_from (nat_eq o) 0 (front ++ rest) ≡ p → seen_after (position (nat_eq o) (front ++ rest)) (length front) false ≡ None) [
-      | None ↦ λ e. ap (λ p. seen_after p (length front) false) (place_is o (front ++ rest) ∙ e)
+      | None ↦ λ e. ap (λ p. seen_after p (length front) false) (position_from-zero (nat_eq o) (front ++ rest) ∙ e)
       | Some q ↦ λ e. after_behind o front rest false q n e
     ] refl
 
@@ -110,7 +110,8 @@ some_is o n s e f = let g : Some n ≡ Some s = sym e ∙ f in cc
 not_none : {X : Type 0} → (o : Option ℕ) (n : ℕ) → o ≡ Some n → o ≡ None → X
 not_none o n e f = let g : Some n ≡ None = sym e ∙ f in absurd (cc)
 
-goes : (A : List Access) (a : Access) (after : Option ℕ) → after ≡ Some (length (seen_objects (A ++ a ∷ []))) → length (seen_objects (A ++ a ∷ [])) ≤ length (seen_objects A) + 1
+goes : (A : List Access) (a : Access) (after : Option ℕ) → after ≡ Some (length (seen_objects (A ++ a ∷ [])))
+    → length (seen_objects (A ++ a ∷ [])) ≤ length (seen_objects A) + 1
     → IsTame (A ++ a ∷ []) → Follows A a after
 goes A a after e few tame = record {
   goes_on = λ s f. let same : length (seen_objects (A ++ a ∷ [])) ≡ s = some_is after (length (seen_objects (A ++ a ∷ []))) s e f in
@@ -167,10 +168,6 @@ parted A place a e =
     sym (take-append-drop (place + 1) A) ∙ ap (λ s. s ++ drop (place + 1) A) (take_more A place a l ∙ ap (λ z. take place A ++ z ∷ []) read)
     ∙ append_assoc (take place A) (a ∷ []) (drop (place + 1) A)
 
-front_with : (A : List Access) (place : ℕ) (a : Access) → slice_get A place ≡ Some a → take place A ++ a ∷ [] ≡ take (place + 1) A
-front_with A place a e =
-    sym (take_more A place a (slice_get_in_range A place a e) ∙ ap (λ z. take place A ++ z ∷ []) (slice_get_reads A place a a e))
-
 -- a step of the walk
 pub steps : (A : List Access) (place seen : ℕ) (a : Access) (sight : Option ℕ) (sorted : Bool) (after : Option ℕ) → IsTame (take place A)
     → seen ≡ length (seen_objects (take place A)) → slice_get A place ≡ Some a → sight ≡ position (nat_eq (object_of a)) (seen_objects A) → sorted ≡ is_sorted a
@@ -186,9 +183,10 @@ pub walks_on : (A : List Access) (place s : ℕ) (a : Access) (after : Option �
     → (s ≡ length (seen_objects (take (place + 1) A))) × (s ≤ length (seen_objects (take place A)) + 1) × IsTame (take (place + 1) A)
 walks_on A place s a after at h e =
     let r = h.goes_on s e in
-    (r.0 ∙ ap (λ B. length (seen_objects B)) (front_with A place a at), r.1, subst IsTame (front_with A place a at) r.2)
+    (r.0 ∙ ap (λ B. length (seen_objects B)) (front_next A place a at), r.1, subst IsTame (front_next A place a at) r.2)
 
-pub wild_here : (A : List Access) (place : ℕ) (a : Access) (after : Option ℕ) → slice_get A place ≡ Some a → IsTame (take place A) → Follows (take place A) a after → after ≡ None
+pub wild_here : (A : List Access) (place : ℕ) (a : Access) (after : Option ℕ) → slice_get A place ≡ Some a → IsTame (take place A)
+    → Follows (take place A) a after → after ≡ None
     → IsFirstWildGuess A (place + 1)
 wild_here A place a after at tame h e =
     let back : place + 1 - 1 ≡ place = omega arith in
@@ -289,18 +287,13 @@ keeps_new Y i is_new kept after l e d test new added =
     )
 
 -- the first unseen object
-pub unseen_at : (A : List Access) (Y : List ℕ) (i : ℕ) → i < length Y → All (Contains (seen_objects A)) (take i Y) → (¬ Contains (seen_objects A) (get_or Y i 0))
+pub unseen_at : (A : List Access) (Y : List ℕ) (i : ℕ) → i < length Y → All (Contains (seen_objects A)) (take i Y)
+    → (¬ Contains (seen_objects A) (get_or Y i 0))
     → IsFirstUnseen A Y (get_or Y i 0)
 unseen_at A Y i l before n = (take i Y, drop (i + 1) Y, split_at Y i l, before, n)
 
 pub seen_more_of : (S Y : List ℕ) (i : ℕ) → i < length Y → All (Contains S) (take i Y) → Contains S (get_or Y i 0) → All (Contains S) (take (i + 1) Y)
 seen_more_of S Y i l before c = subst (All (Contains S)) (sym (take_more Y i 0 l)) (All-push (Contains S) (take i Y) (get_or Y i 0) before c)
-
--- past the end there is none
-pub past_get : (A : List Access) (place : ℕ) → slice_get A place ≡ None → length A ≤ place
-past_get [] place e = omega arith
-past_get (a ∷ A) zero e = absurd (cc)
-past_get (a ∷ A) (suc place) e = let rest : length A ≤ place = past_get A place e in omega arith
 
 -- what a test tells
 pub told : (b : Bool) (P : Type 0) → IsTrue b ↔ P → b ≡ true → P

@@ -137,7 +137,8 @@ tells V k log Y (Some inside) (Some outside) posed least greatest =
     ]
 
 -- the fault of an answer's size, of a tame transcript
-pub size_fault : (V : List ℕ → ℕ) (k : ℕ) (log : Log) (Y : List ℕ) (fault : JudgeFault) → IsTame log.accesses → HasSize k Y (Err fault) → Judges V k log Y (Err fault)
+pub size_fault : (V : List ℕ → ℕ) (k : ℕ) (log : Log) (Y : List ℕ) (fault : JudgeFault) → IsTame log.accesses → HasSize k Y (Err fault)
+    → Judges V k log Y (Err fault)
 size_fault V k log Y (WildGuess at) tame h = absurd h
 size_fault V k log Y (WrongSize given asked) tame h = (tame, h.0, h.1, h.2)
 size_fault V k log Y (UnseenAnswer object) tame h = absurd h

@@ -1,24 +1,19 @@
 -- The objects that a tame transcript hasn't seen: of them it knows nothing, so their high is the same.
-use Rattle.std.proofs.Common.{◌≡◌, ◌≢◌, ℕ, zero, suc, ◌+◌, ◌-◌, ◌<◌, ◌≤◌, ◌⊎◌, inl, inr, Bool, true, false, not, List, [], ◌∷◌, ◌++◌, length, take, drop, filter, All, AllPairs, Contains, Option, Some, None, unwrap_or, refl, sym, ap, subst, ◌∙◌, arith, length-append, take-append-drop}
+use Rattle.std.proofs.Common.{◌≡◌, ◌≢◌, ℕ, zero, suc, ◌+◌, ◌-◌, ◌<◌, ◌≤◌, ◌⊎◌, inl, inr, Bool, true, false, not, List, [], ◌∷◌, ◌++◌, length, take, filter, All, AllPairs, Contains, Option, Some, None, refl, sym, ap, subst, ◌∙◌, arith, length-append}
 use Rattle.std.specs.List.{range_with_len}
 use Rattle.std.proofs.lemmas.Bool.{cases_lt, cond-true, cond-false, not-true}
-use Rattle.std.proofs.lemmas.List.FromFn.{length-range_with_len, get_or-range_with_len}
 use Rattle.std.proofs.lemmas.List.Elements.{Contains-append_left, Contains-append_right, Contains-append_cases}
 use Rattle.std.proofs.lemmas.List.Kept.{AllPairs-cons}
-use Rattle.ranked_list.specs.declared.row.Row.{Row}
 use Rattle.topk_theory.specs.declared.access.Access.{Access}
-use Rattle.topk_theory.specs.declared.access.Access.TheVariants.{Sorted, Random}
-use Rattle.topk_theory.specs.Transcript.{IsTame, seen_objects, given_rows, bottom_of}
-use Rattle.topk_theory.specs.Bounds.{known_grade, high, threshold}
+use Rattle.topk_theory.specs.Transcript.{IsTame, seen_objects}
+use Rattle.topk_theory.specs.Bounds.{high}
 use Rattle.topk_theory.specs.Adversary.{unnamed, object_set}
-use Rattle.topk_theory.proofs.AgreementLists.{contains_nil, contains_here, contains_cases, all_from_members, distinct_fits}
+use Rattle.topk_theory.proofs.AgreementLists.{contains_nil, contains_here, contains_cases, all_from_members, distinct_fits, take_within}
 use Rattle.topk_theory.proofs.AgreementNames.{has, contains_has, has_not, not_has}
-use Rattle.topk_theory.proofs.AgreementRows.{grade_among_row}
-use Rattle.topk_theory.proofs.Agreement.{row_of, known_cases, given_from, contains_middle}
-use Rattle.topk_theory.proofs.Adversary.{same_places}
 use Rattle.topk_theory.proofs.Consistent.{object_set_is}
 use Rattle.topk_theory.proofs.ConsistentRows.{filter_from}
-use Rattle.topk_theory.proofs.ThresholdRun.{seen_from_access, seen_more}
+use Rattle.topk_theory.proofs.ListNumbers.{number_below}
+use Rattle.topk_theory.proofs.Unseen.{unseen_high}
 use Rattle.access_log.specs.Log.{Log}
 use Rattle.judge_core.specs.declared.bound.Bound.{Bound}
 use Rattle.judge_core.specs.Extremes.{FindsGreatest, greater}
@@ -27,48 +22,18 @@ use Rattle.judge_core.specs.Judging.{IsOutside}
 use Rattle.judge_core.proofs.Extreme.{greatest_step, greatest_over}
 use Rattle.judge_core.proofs.Tame.{named_is_seen}
 
-seen_here : (A : List Access) (object : ℕ) (before : List Access) (a : Access) (after : List Access) → IsTame A
-    → A ≡ before ++ a ∷ after → (row_of a).object ≡ object → Contains (seen_objects A) object
-seen_here A object before (Sorted l o g) after tame e same = subst (λ p. Contains (seen_objects A) p) same (seen_from_access A l o g (subst (λ B. Contains B (Sorted l o g)) (sym e) (contains_middle before (Sorted l o g) after)))
-seen_here A object before (Random l o g) after tame e same = subst (λ p. Contains (seen_objects A) p) same (subst (λ B. Contains (seen_objects B) o) (sym e) (seen_more before (Random l o g ∷ after) o (tame before after l o g e)))
-
-unknown_here : (A : List Access) (object list : ℕ) → IsTame A → (¬ Contains (seen_objects A) object) → known_grade A object list ≡ None
-unknown_here A object list tame unseen =
-    elim (known_cases (known_grade A object list)) [
-      | inl none ↦ none
-      | inr some ↦ absurd (
-          let from = given_from list A (record { object = object; grade = some.0 }) (grade_among_row (given_rows list A) object some.0 some.1) in
-          unseen (seen_here A object from.0 from.1 from.2 tame from.3 (ap (λ (z : Row). z.object) from.5)))
-    ]
-
-pub unseen_high : (V : List ℕ → ℕ) (m : ℕ) (A : List Access) (object : ℕ) → IsTame A → (¬ Contains (seen_objects A) object)
-    → high V m A object ≡ threshold V m A
-unseen_high V m A object tame unseen =
-    ap V (same_places (λ list. unwrap_or (known_grade A object list) (bottom_of list A)) (λ list. bottom_of list A) m 0 m (omega arith)
-    (λ list l. ap (λ o. unwrap_or o (bottom_of list A)) (unknown_here A object list tame unseen)))
-
 pub same_high : (V : List ℕ → ℕ) (m : ℕ) (A : List Access) (one other : ℕ) → IsTame A → (¬ Contains (seen_objects A) one) → (¬ Contains (seen_objects A) other)
     → high V m A one ≡ high V m A other
 same_high V m A one other tame unseen hidden = unseen_high V m A one tame unseen ∙ sym (unseen_high V m A other tame hidden)
 
 -- the smallest ids that aren't among the names
-take_within : (k : ℕ) (xs : List ℕ) (x : ℕ) → Contains (take k xs) x → Contains xs x
-take_within k xs x c = subst (λ z. Contains z x) (take-append-drop k xs) (Contains-append_left (take k xs) (drop k xs) x c)
-
-range_below : (n x : ℕ) → Contains (range_with_len 0 n) x → x < n
-range_below n x c =
-    let size : length (range_with_len 0 n) ≡ n = length-range_with_len 0 n in
-    let at : c.0 < length (range_with_len 0 n) = c.1 in
-    let e : x ≡ 0 + c.0 = sym c.2 ∙ get_or-range_with_len 0 n c.0 x (omega arith) in
-    omega arith
-
 pub set_cases : (n : ℕ) (names : List ℕ) (o : ℕ) → Contains (object_set n names) o → Contains names o ⊎ ((o < n) × (¬ Contains names o) × (length names < n))
 set_cases n names o c =
     elim (Contains-append_cases names (take (n - length names) (unnamed n names)) o c) [
       | inl t ↦ inl t
       | inr t ↦
           let from = filter_from (λ z. not (has z names)) (range_with_len 0 n) o (take_within (n - length names) (unnamed n names) o t) in
-          inr (range_below n o from.0, has_not o names (not-true (has o names) from.1), room n names o t)
+          inr (number_below n o from.0, has_not o names (not-true (has o names) from.1), room n names o t)
     ]
   where
     room : (n : ℕ) (names : List ℕ) (o : ℕ) → Contains (take (n - length names) (unnamed n names)) o → length names < n
@@ -96,7 +61,8 @@ first_kept p start (suc count) u low high keeps skips =
     ]
 
 -- the smallest of them is there, if there is place
-pub least_in_set : (n : ℕ) (names : List ℕ) (u : ℕ) → length names < n → u < n → (¬ Contains names u) → ((k : ℕ) → k < u → Contains names k) → Contains (object_set n names) u
+pub least_in_set : (n : ℕ) (names : List ℕ) (u : ℕ) → length names < n → u < n → (¬ Contains names u) → ((k : ℕ) → k < u → Contains names k)
+    → Contains (object_set n names) u
 least_in_set n names u l below new others =
     let p : ℕ → Bool = λ z. not (has z names) in
     let r = first_kept p 0 n u (omega arith) (omega arith) (ap not (not_has u names new)) (λ k a b. ap not (contains_has k names (others k b))) in
@@ -175,7 +141,8 @@ with_least_unseen f log Y best u tame seen least same h =
     member S Y u all c = subst (Contains S) c.2 (all c.0 u c.1)
 
 -- a set of n objects that has the seen ones and one more leaves place for an unseen one among the smallest ids
-pub unseen_there : (n : ℕ) (S O : List ℕ) (o : ℕ) → AllPairs (λ (x : ℕ) (y : ℕ). x ≢ y) S → length O ≡ n → ((x : ℕ) → Contains S x → Contains O x) → Contains O o → (¬ Contains S o)
+pub unseen_there : (n : ℕ) (S O : List ℕ) (o : ℕ) → AllPairs (λ (x : ℕ) (y : ℕ). x ≢ y) S → length O ≡ n → ((x : ℕ) → Contains S x → Contains O x)
+    → Contains O o → (¬ Contains S o)
     → (u : ℕ) × Contains (object_set n S) u × (¬ Contains S u)
 unseen_there n S O o distinct size within there new =
     let fits : length (o ∷ S) ≤ length O = distinct_fits (o ∷ S) O (cons_distinct o S distinct new)

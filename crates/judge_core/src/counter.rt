@@ -15,7 +15,7 @@ use super::objects::Objects;
 use access_log::{Access, Transcript};
 use ranked_list::{MemList, Row};
 use std::alloc::Global;
-use std::cmp::Reverse;
+use topk_theory::sort_by_grade;
 
 /// Adds an id that wasn't seen, while there are fewer objects than the count.
 fn add_unseen(transcript: &Transcript, found: &mut Vec<u32>, object: u32) -> Result<(), Memory>
@@ -169,14 +169,6 @@ fn unread_rows(
     Ok(rows)
 }
 
-/// Puts rows of different objects in order: by grade falling, then by id rising. Takes no memory.
-fn sort_rows(rows: &mut [Row])
-    requires { AllPairs (λ (one : Row) (other : Row). one.object ≢ other.object) rows.old }
-    ensures { rows.new ≡ by_grade rows.old }
-{
-    rows.sort_unstable_by_key(|row| (Reverse(row.grade), row.object));
-}
-
 /// Adds rows at the end.
 fn add_rows(rows: &mut MemList, more: &[Row]) -> Result<(), Memory>
     requires { length rows.old + length more.now < 2 ^ 32 }
@@ -204,7 +196,7 @@ fn rest_rows(
 {
     let read = objects_read(alloc, rows)?;
     let mut rest = unread_rows(alloc, transcript, list, inside, objects, &read)?;
-    sort_rows(&mut rest);
+    sort_by_grade(&mut rest);
     Ok(rest)
 }
 

@@ -64,8 +64,9 @@ fn judge_seen(
 /// seen ones, none outside the answer has a greater aggregate than one inside. The expression has the
 /// transcript's number of lists. Refused are, in this order, a transcript with a random access of an object
 /// that no earlier sorted access gave (`WildGuess`), an answer that isn't `k` distinct objects (`WrongSize`),
-/// and one with an object that no sorted access gave (`UnseenAnswer`). The time is linear in the accesses,
-/// the lists and the nodes of the expression.
+/// and one with an object that no sorted access gave (`UnseenAnswer`). It takes a look-up by hash for each access and
+/// each object of the answer, and at most two bounds of the expression for each seen object, each linear in the lists
+/// and the nodes of the expression.
 pub fn judge(
     alloc: Global,
     transcript: &Transcript,

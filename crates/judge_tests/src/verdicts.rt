@@ -1,27 +1,13 @@
 //! Verdicts worked out by hand.
 
 use access_log::{Access, Transcript};
-use judge_core::{JudgeFault, Verdict, judge};
+use judge_core::{JudgeFault, Verdict, counter_table, judge};
 use query_text::read;
+use ranked_list::{MemList, is_table};
 use std::alloc::Global;
 use std::process::Abort;
 use std::test::Fail;
-
-const fn sorted(list: u8, object: u32, grade: u32) -> Access {
-    Access::Sorted {
-        list,
-        object,
-        grade,
-    }
-}
-
-const fn random(list: u8, object: u32, grade: u32) -> Access {
-    Access::Random {
-        list,
-        object,
-        grade,
-    }
-}
+use test_support::{random, sorted};
 
 /// The expression of a query over so many lists of so many objects, and a transcript.
 #[derive(Clone, Copy)]
@@ -58,6 +44,70 @@ fn told(
     assert_eq!(rt; query.expr.lists(), log.lists());
     assert!(rt; answer.len() < 10);
     Ok(judge(alloc, &log, &query.expr, k, answer))
+}
+
+/// The table against the object inside, where an answer is beaten.
+fn countered(
+    rt: &impl Abort,
+    alloc: Global,
+    question: &Question<'_>,
+    k: u32,
+    answer: &[u32],
+) -> Result<Vec<MemList>, Fail> {
+    let query = read(alloc, question.query)?;
+    let log = transcript(rt, alloc, question)?;
+    assert_eq!(rt; query.expr.lists(), log.lists());
+    assert!(rt; answer.len() < 10);
+    match judge(alloc, &log, &query.expr, k, answer) {
+        Ok(Verdict::Beaten { inside, .. }) => {
+            assert!(rt; log.is_seen(inside));
+            Ok(counter_table(alloc, &log, inside)?)
+        }
+        _ => Err(Fail::new("a beaten answer")),
+    }
+}
+
+/// The sum of an object's grades.
+fn sum_of(lists: &[MemList], object: u32) -> u64 {
+    let mut sum: u64 = 0;
+    for list in lists {
+        for place in 0..list.len() {
+            let row = list.get(place);
+            let grade = row.filter(|row| row.object == object).map(|row| row.grade);
+            sum = sum.saturating_add(u64::from(grade.unwrap_or(0)));
+        }
+    }
+    sum
+}
+
+/// What beats an answer is a table. The object inside has its low there, and each other object its high.
+#[test]
+fn counters_an_answer(rt: HostRuntime) -> Result<(), Fail> {
+    let accesses = [
+        sorted(0, 1, 900),
+        sorted(1, 2, 700),
+        random(1, 1, 500),
+        random(0, 2, 800),
+    ];
+    let cases: [(u32, &[Access], &[(u32, u64)]); 2] = [
+        (3, &accesses, &[(2, 1500), (0, 1600), (1, 1400)]),
+        (2, &accesses[..2], &[(2, 700), (1, 1600)]),
+    ];
+    for (count, accesses, sums) in cases {
+        let question = Question {
+            query: b"top 1 by sum(A,B) using ta",
+            lists: 2,
+            count,
+            accesses,
+        };
+        let lists = countered(&rt, rt.alloc(), &question, 1, &[2])?;
+        assert!(rt; is_table(rt.alloc(), &lists)?);
+        let are_right = sums
+            .iter()
+            .all(|(object, sum)| sum_of(&lists, *object) == *sum);
+        assert!(rt; are_right, "{count}");
+    }
+    Ok(())
 }
 
 /// A whole run of the threshold algorithm, and the same without its last accesses.

@@ -2,40 +2,22 @@
 use Rattle.std.proofs.Common.{◌≡◌, ◌≢◌, ℕ, zero, suc, ◌+◌, ◌-◌, ◌<◌, inl, inr, Bool, true, false, cond, List, [], ◌∷◌, ◌++◌, length, map, filter, AllPairs, Contains, Option, Some, None, is_none, is_some, refl, sym, ap, subst, ◌∙◌, arith, get_or}
 use Rattle.std.specs.List.{slice_get, range_with_len}
 use Rattle.std.proofs.lemmas.Bool.{cases_Bool, cases_eq, cond-true, cond-false, true≢false, false≢true}
-use Rattle.std.proofs.lemmas.List.Elements.{filter-append}
-use Rattle.std.proofs.lemmas.List.FromFn.{length-range_with_len, get_or-range_with_len, get_or-map-range_with_len, length-map-range_with_len}
+use Rattle.std.proofs.lemmas.List.FromFn.{get_or-map-range_with_len, length-map-range_with_len}
+use Rattle.ranked_list.proofs.OptionLaws.{none_if_is_none}
 use Rattle.topk_theory.specs.declared.access.Access.{Access}
 use Rattle.topk_theory.specs.Transcript.{list_of, object_of, grade_of, list_numbers}
 use Rattle.topk_theory.specs.Bounds.{known_grade}
 use Rattle.topk_theory.specs.Combined.{unknown_lists}
 use Rattle.topk_theory.proofs.AgreementLists.{contains_here, contains_there}
 use Rattle.topk_theory.proofs.Agreement.{known_grade_same, known_grade_other_object, known_grade_other_list}
+use Rattle.topk_theory.proofs.Consistent.{range_distinct}
 use Rattle.topk_theory.proofs.ThresholdLists.{contains_from_filter}
+use Rattle.topk_theory.proofs.UnknownLists.{unknown_split}
 use Rattle.late_choice.specs.Open.{next_unknown}
 
 -- ---- the first list with an unknown grade
-numbers_split : (n a k : ℕ) → range_with_len a (n + k) ≡ range_with_len a n ++ range_with_len (a + n) k
-numbers_split zero a k =
-    let none : 0 + k ≡ k = omega arith in
-    let here : a ≡ a + 0 = omega arith in
-    ap (range_with_len a) none ∙ ap (λ b. range_with_len b k) here
-numbers_split (suc n) a k =
-    let one : suc n + k ≡ suc (n + k) = omega arith in
-    let next : (a + 1) + n ≡ a + suc n = omega arith in
-    ap (range_with_len a) one ∙ ap (λ xs. a ∷ xs) (numbers_split n (a + 1) k ∙ ap (λ b. range_with_len (a + 1) n ++ range_with_len b k) next)
-
-unknown_split : (n k : ℕ) (A : List Access) (object : ℕ) → unknown_lists (n + k) A object ≡ unknown_lists n A object ++ filter (λ list. is_none (known_grade A object list)) (range_with_len n k)
-unknown_split n k A object =
-    let here : 0 + n ≡ n = omega arith in
-    ap (filter (λ list. is_none (known_grade A object list))) (numbers_split n 0 k ∙ ap (λ b. range_with_len 0 n ++ range_with_len b k) here)
-    ∙ filter-append (λ list. is_none (known_grade A object list)) (range_with_len 0 n) (range_with_len n k)
-
--- up to a list all grades are known
-pub known_more : (n : ℕ) (A : List Access) (object : ℕ) → is_none (known_grade A object n) ≡ false → unknown_lists n A object ≡ [] → unknown_lists (n + 1) A object ≡ []
-known_more n A object known none =
-    unknown_split n 1 A object ∙ ap (λ xs. xs ++ cond {A = List ℕ} (is_none (known_grade A object n)) (n ∷ []) []) none ∙ cond-false (is_none (known_grade A object n)) (n ∷ []) [] known
-
-pub unknown_found : (m list : ℕ) (A : List Access) (object : ℕ) → list < m → unknown_lists list A object ≡ [] → is_none (known_grade A object list) ≡ true → next_unknown m A object ≡ Some list
+pub unknown_found : (m list : ℕ) (A : List Access) (object : ℕ) → list < m → unknown_lists list A object ≡ [] → is_none (known_grade A object list) ≡ true
+    → next_unknown m A object ≡ Some list
 unknown_found m list A object l none unknown =
     let more : m ≡ list + suc (m - (list + 1)) = omega arith in
     let rest : List ℕ = filter (λ other. is_none (known_grade A object other)) (range_with_len (list + 1) (m - (list + 1))) in
@@ -48,7 +30,8 @@ pub none_found : (m : ℕ) (A : List Access) (object : ℕ) → unknown_lists m 
 none_found m A object none = ap (λ (xs : List ℕ). slice_get xs 0) none
 
 -- a known grade xs it is kept
-pub known_at : (m list : ℕ) (A : List Access) (object : ℕ) (known : List (Option ℕ)) (d : Option ℕ) → list < m → known ≡ map (λ l. known_grade A object l) (list_numbers m) → get_or known list d ≡ known_grade A object list
+pub known_at : (m list : ℕ) (A : List Access) (object : ℕ) (known : List (Option ℕ)) (d : Option ℕ) → list < m
+    → known ≡ map (λ l. known_grade A object l) (list_numbers m) → get_or known list d ≡ known_grade A object list
 known_at m list A object known d l e =
     let none : 0 + list ≡ list = omega arith in
     ap (λ xs. get_or xs list d) e ∙ get_or-map-range_with_len (λ l. known_grade A object l) 0 m list list d l none
@@ -61,11 +44,13 @@ pub known_of : (kept known : Option ℕ) → kept ≡ known → is_some kept ≡
 known_of None known e t = absurd (false≢true t)
 known_of (Some x) known e t = ap (λ (o : Option ℕ). is_none o) (sym e)
 
-pub known_length : (m : ℕ) (A : List Access) (object : ℕ) (known : List (Option ℕ)) → known ≡ map (λ l. known_grade A object l) (list_numbers m) → length known ≡ m
+pub known_length : (m : ℕ) (A : List Access) (object : ℕ) (known : List (Option ℕ)) → known ≡ map (λ l. known_grade A object l) (list_numbers m)
+    → length known ≡ m
 known_length m A object known e = ap length e ∙ length-map-range_with_len (λ l. known_grade A object l) 0 m
 
 -- ---- none and some
-pub some_unknown : (m : ℕ) (A : List Access) (object list : ℕ) → next_unknown m A object ≡ Some list → (rest : List ℕ) × (unknown_lists m A object ≡ list ∷ rest)
+pub some_unknown : (m : ℕ) (A : List Access) (object list : ℕ) → next_unknown m A object ≡ Some list
+    → (rest : List ℕ) × (unknown_lists m A object ≡ list ∷ rest)
 some_unknown m A object list e = first_of (unknown_lists m A object) e
   where
     first_of : (xs : List ℕ) → slice_get xs 0 ≡ Some list → (rest : List ℕ) × (xs ≡ list ∷ rest)
@@ -95,7 +80,8 @@ unknown_other m A a object apart =
     (λ list c. ap (λ (o : Option ℕ). is_none o) (known_grade_other_object A a object list apart))
 
 -- what is kept but for the first
-filter_rest : (p q : ℕ → Bool) (xs : List ℕ) (first : ℕ) (rest : List ℕ) → AllPairs (λ (a : ℕ) (b : ℕ). a ≢ b) xs → ((x : ℕ) → first ≢ x → q x ≡ p x) → q first ≡ false → filter p xs ≡ first ∷ rest → filter q xs ≡ rest
+filter_rest : (p q : ℕ → Bool) (xs : List ℕ) (first : ℕ) (rest : List ℕ) → AllPairs (λ (a : ℕ) (b : ℕ). a ≢ b) xs → ((x : ℕ) → first ≢ x → q x ≡ p x)
+    → q first ≡ false → filter p xs ≡ first ∷ rest → filter q xs ≡ rest
 filter_rest p q [] first rest apart same off e = absurd (cc)
 filter_rest p q (x ∷ xs) first rest apart same off e =
     let later : AllPairs (λ (a : ℕ) (b : ℕ). a ≢ b) xs = λ i j d lt within. apart (suc i) (suc j) d (omega arith) (omega arith) in
@@ -120,28 +106,17 @@ filter_rest p q (x ∷ xs) first rest apart same off e =
     tails : (a b : ℕ) (xs ys : List ℕ) → a ∷ xs ≡ b ∷ ys → xs ≡ ys
     tails a b xs ys e = cc
 
-numbers_apart : (m : ℕ) → AllPairs (λ (a : ℕ) (b : ℕ). a ≢ b) (list_numbers m)
-numbers_apart m = λ i j d lt within same.
-    let size : length (list_numbers m) ≡ m = length-range_with_len 0 m in
-    let at_i : get_or (list_numbers m) i d ≡ 0 + i = get_or-range_with_len 0 m i d (omega arith) in
-    let at_j : get_or (list_numbers m) j d ≡ 0 + j = get_or-range_with_len 0 m j d (omega arith) in
-    let equal : 0 + i ≡ 0 + j = sym at_i ∙ same ∙ at_j in
-    omega arith
-
-is_none_of : (o : Option ℕ) → is_none o ≡ true → o ≡ None
-is_none_of None t = refl
-is_none_of (Some x) t = absurd (false≢true t)
-
 -- the grade that comes first is unknown
 pub first_is_unknown : (m : ℕ) (A : List Access) (object list : ℕ) (rest : List ℕ) → unknown_lists m A object ≡ list ∷ rest → known_grade A object list ≡ None
 first_is_unknown m A object list rest e =
     let kept = contains_from_filter (λ other. is_none (known_grade A object other)) (list_numbers m) list (subst (λ xs. Contains xs list) (sym e) (contains_here list rest)) in
-    is_none_of (known_grade A object list) kept.1
+    none_if_is_none (known_grade A object list) kept.1
 
 -- and once it is asked those behind it are left
-pub unknown_asked : (m : ℕ) (A : List Access) (a : Access) (rest : List ℕ) → unknown_lists m A (object_of a) ≡ list_of a ∷ rest → unknown_lists m (A ++ a ∷ []) (object_of a) ≡ rest
+pub unknown_asked : (m : ℕ) (A : List Access) (a : Access) (rest : List ℕ) → unknown_lists m A (object_of a) ≡ list_of a ∷ rest
+    → unknown_lists m (A ++ a ∷ []) (object_of a) ≡ rest
 unknown_asked m A a rest e =
     let none : known_grade A (object_of a) (list_of a) ≡ None = first_is_unknown m A (object_of a) (list_of a) rest e in
-    filter_rest (λ list. is_none (known_grade A (object_of a) list)) (λ list. is_none (known_grade (A ++ a ∷ []) (object_of a) list)) (list_numbers m) (list_of a) rest (numbers_apart m)
+    filter_rest (λ list. is_none (known_grade A (object_of a) list)) (λ list. is_none (known_grade (A ++ a ∷ []) (object_of a) list)) (list_numbers m) (list_of a) rest (range_distinct m)
     (λ list apart. ap (λ (o : Option ℕ). is_none o) (known_grade_other_list A a (object_of a) list apart))
     (ap (λ (o : Option ℕ). is_none o) (known_grade_same A a none)) e

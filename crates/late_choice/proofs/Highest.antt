@@ -16,10 +16,10 @@ use Rattle.topk_theory.specs.Bounds.{high}
 use Rattle.topk_theory.specs.NoRandom.{seen_items, exceeds, is_viable}
 use Rattle.topk_theory.specs.Combined.{unknown_lists, MayBeAsked, IsChoice, choice}
 use Rattle.topk_theory.proofs.AgreementLists.{slice_get_contains}
-use Rattle.topk_theory.proofs.Agreement.{known_cases}
 use Rattle.topk_theory.proofs.CombinedChoice.{choice_law, one_choice}
 use Rattle.access_log.proofs.RecordKept.{placed, not_placed}
 use Rattle.indexed_heap.specs.Ranks.{rank_at, IsGreatest}
+use Rattle.ranked_list.proofs.OptionLaws.{option_cases}
 use Rattle.late_choice.specs.declared.kept_high.KeptHigh.{KeptHigh}
 use Rattle.late_choice.specs.Open.{IsOpen, AreOpen}
 
@@ -30,9 +30,6 @@ kept_cmp a b = ordering_then (nat_cmp a.high b.high) (nat_cmp b.object a.object)
 cmp_greater : (x y : ℕ) → y < x → nat_cmp x y ≡ Greater
 cmp_greater x y lt = sym (nat_cmp_is x y Greater lt)
 
-cmp_equal : (x y : ℕ) → x ≡ y → nat_cmp x y ≡ Equal
-cmp_equal x y e = sym (nat_cmp_is x y Equal e)
-
 not_after : (a b : KeptHigh) → kept_cmp a b ≢ Greater → (a.high < b.high) ⊎ ((a.high ≡ b.high) × (b.object ≤ a.object))
 not_after a b not =
     elim (cases_lt a.high b.high) [
@@ -42,7 +39,7 @@ not_after a b not =
         | inr le ↦
             let same : a.high ≡ b.high = omega arith in
             elim (cases_lt a.object b.object) [
-              | inl less ↦ absurd (not (ap (λ o. ordering_then o (nat_cmp b.object a.object)) (cmp_equal a.high b.high same) ∙ cmp_greater b.object a.object less))
+              | inl less ↦ absurd (not (ap (λ o. ordering_then o (nat_cmp b.object a.object)) (sym (nat_cmp_is a.high b.high Equal same)) ∙ cmp_greater b.object a.object less))
               | inr up ↦ inr (same, up)
             ]
       ]
@@ -52,7 +49,7 @@ not_after a b not =
 kept_of : (V : List ℕ → ℕ) (k m : ℕ) (A : List Access) (highs : List (Option KeptHigh)) (object : ℕ) → AreOpen V m A highs → MayBeAsked V k m A object
     → (place : ℕ) × (kept : KeptHigh) × (rank_at highs place ≡ Some kept) × (kept.object ≡ object) × (high V m A object ≤ kept.high)
 kept_of V k m A highs object open' may =
-    elim (known_cases (position (nat_eq object) (seen_objects A))) [
+    elim (option_cases (position (nat_eq object) (seen_objects A))) [
       | inl none ↦ absurd (not_placed object (seen_objects A) none may.seen)
       | inr some ↦ (
           let at : slice_get (seen_objects A) some.0 ≡ Some object = placed object some.0 (seen_objects A) some.1 in
@@ -68,7 +65,8 @@ exceeds_up None x y le t = refl
 exceeds_up (Some b) x y le t = let lt = ltb-true b x t in lt-ltb b y (omega arith)
 
 -- the choice is the object of the highest kept high, where that is its present one
-pub chosen_highest : (V : List ℕ → ℕ) (k m : ℕ) (A : List Access) (highs : List (Option KeptHigh)) (key : ℕ) (kept : KeptHigh) (bound : Option ℕ) → AreOpen V m A highs → IsGreatest kept_cmp highs key kept
+pub chosen_highest : (V : List ℕ → ℕ) (k m : ℕ) (A : List Access) (highs : List (Option KeptHigh)) (key : ℕ) (kept : KeptHigh) (bound : Option ℕ)
+    → AreOpen V m A highs → IsGreatest kept_cmp highs key kept
     → bound ≡ kth_low k (seen_items V m A) → exceeds bound kept.high ≡ true → high V m A kept.object ≡ kept.high → Some kept.object ≡ choice V k m A
 chosen_highest V k m A highs key kept bound open' greatest is above present =
     let held = open'.held key kept greatest.there in
@@ -95,7 +93,8 @@ chosen_highest V k m A highs key kept bound open' greatest is above present =
     ]
 
 -- nobody is chosen where no kept high is above the bound
-pub chosen_none : (V : List ℕ → ℕ) (k m : ℕ) (A : List Access) (highs : List (Option KeptHigh)) (bound : Option ℕ) → AreOpen V m A highs → bound ≡ kth_low k (seen_items V m A)
+pub chosen_none : (V : List ℕ → ℕ) (k m : ℕ) (A : List Access) (highs : List (Option KeptHigh)) (bound : Option ℕ) → AreOpen V m A highs
+    → bound ≡ kth_low k (seen_items V m A)
     → ((place : ℕ) (kept : KeptHigh) → rank_at highs place ≡ Some kept → exceeds bound kept.high ≡ false) → None ≡ choice V k m A
 chosen_none V k m A highs bound open' is within =
     elim (choice_law V k m A) [
@@ -106,10 +105,12 @@ chosen_none V k m A highs bound open' is within =
       | inr none ↦ sym none.0
     ]
 
-pub none_kept : (highs : List (Option KeptHigh)) (bound : Option ℕ) → ((place : ℕ) → rank_at highs place ≡ None) → (place : ℕ) (kept : KeptHigh) → rank_at highs place ≡ Some kept → exceeds bound kept.high ≡ false
+pub none_kept : (highs : List (Option KeptHigh)) (bound : Option ℕ) → ((place : ℕ) → rank_at highs place ≡ None) → (place : ℕ) (kept : KeptHigh)
+    → rank_at highs place ≡ Some kept → exceeds bound kept.high ≡ false
 none_kept highs bound none place kept at = absurd (none-some kept (sym (none place) ∙ at))
 
-pub none_above : (highs : List (Option KeptHigh)) (key : ℕ) (top : KeptHigh) (bound : Option ℕ) → IsGreatest kept_cmp highs key top → exceeds bound top.high ≢ true → (place : ℕ) (kept : KeptHigh) → rank_at highs place ≡ Some kept → exceeds bound kept.high ≡ false
+pub none_above : (highs : List (Option KeptHigh)) (key : ℕ) (top : KeptHigh) (bound : Option ℕ) → IsGreatest kept_cmp highs key top
+    → exceeds bound top.high ≢ true → (place : ℕ) (kept : KeptHigh) → rank_at highs place ≡ Some kept → exceeds bound kept.high ≡ false
 none_above highs key top bound greatest not place kept at =
     elim (cases_Bool (exceeds bound kept.high)) [
       | inl t ↦ absurd (not (exceeds_up bound kept.high top.high (elim (not_after kept top (greatest.none_above place kept at)) [ inl lt ↦ omega arith | inr tie ↦ (let e = tie.0 in omega arith) ]) t))
@@ -117,13 +118,15 @@ none_above highs key top bound greatest not place kept at =
     ]
 
 -- ---- a kept high is renewed
-pub key_fits : (V : List ℕ → ℕ) (m : ℕ) (A : List Access) (highs : List (Option KeptHigh)) (key : ℕ) (kept : KeptHigh) → AreOpen V m A highs → rank_at highs key ≡ Some kept → key < length highs
+pub key_fits : (V : List ℕ → ℕ) (m : ℕ) (A : List Access) (highs : List (Option KeptHigh)) (key : ℕ) (kept : KeptHigh) → AreOpen V m A highs
+    → rank_at highs key ≡ Some kept → key < length highs
 key_fits V m A highs key kept open' at =
     let fits = open'.fits in
     let within = slice_get_within (seen_objects A) key kept.object (open'.held key kept at).there in
     omega arith
 
-pub renewed : (V : List ℕ → ℕ) (m : ℕ) (A : List Access) (highs after : List (Option KeptHigh)) (key present : ℕ) (kept : KeptHigh) → AreOpen V m A highs → rank_at highs key ≡ Some kept → present ≡ high V m A kept.object
+pub renewed : (V : List ℕ → ℕ) (m : ℕ) (A : List Access) (highs after : List (Option KeptHigh)) (key present : ℕ) (kept : KeptHigh) → AreOpen V m A highs
+    → rank_at highs key ≡ Some kept → present ≡ high V m A kept.object
     → after ≡ set highs key (Some (record { high = present; object = kept.object })) → AreOpen V m A after
 renewed V m A highs after key present kept open' at is put =
     let lt = key_fits V m A highs key kept open' at in
@@ -155,7 +158,8 @@ height (Some kept) = kept.high
 abbrev pub heights : List (Option KeptHigh) → ℕ
 heights highs = sum_by height highs
 
-pub heights_fall : (V : List ℕ → ℕ) (m : ℕ) (A : List Access) (highs after : List (Option KeptHigh)) (key present : ℕ) (kept : KeptHigh) → AreOpen V m A highs → rank_at highs key ≡ Some kept → present ≡ high V m A kept.object → present ≢ kept.high
+pub heights_fall : (V : List ℕ → ℕ) (m : ℕ) (A : List Access) (highs after : List (Option KeptHigh)) (key present : ℕ) (kept : KeptHigh) → AreOpen V m A highs
+    → rank_at highs key ≡ Some kept → present ≡ high V m A kept.object → present ≢ kept.high
     → after ≡ set highs key (Some (record { high = present; object = kept.object })) → heights after < heights highs
 heights_fall V m A highs after key present kept open' at is other put =
     let new : KeptHigh = record { high = present; object = kept.object } in

@@ -1,9 +1,9 @@
 -- What is kept of the opens objects is kept after one more access.
-use Rattle.std.proofs.Common.{◌≡◌, ◌≢◌, ◌⊎◌, inl, inr, ℕ, zero, suc, ◌<◌, ◌≤◌, true, false, List, [], ◌∷◌, ◌++◌, length, get_or, set, AllPairs, Option, Some, None, is_some, nat_eq, position, Contains, replicate, refl, sym, ap, subst, ◌∙◌, arith}
+use Rattle.std.proofs.Common.{◌≡◌, ◌≢◌, ◌⊎◌, inl, inr, ℕ, zero, suc, ◌<◌, ◌≤◌, true, false, List, [], ◌∷◌, ◌++◌, length, set, Option, Some, None, is_some, nat_eq, position, Contains, replicate, refl, sym, ap, subst, ◌∙◌, arith}
 use Rattle.std.specs.List.{slice_get}
-use Rattle.std.proofs.lemmas.Bool.{cases_Bool, cases_eq, cases_order, false≢true, true≢false}
+use Rattle.std.proofs.lemmas.Bool.{cases_Bool, cases_eq, false≢true, true≢false}
 use Rattle.std.proofs.lemmas.List.{length-set, get_or-set_same, get_or-set_other}
-use Rattle.std.proofs.lemmas.Option.{none-some, same_Some, slice_get_within, get_or_from_slice_get}
+use Rattle.std.proofs.lemmas.Option.{none-some, same_Some, slice_get_within}
 use Rattle.ranked_list.specs.declared.row.Row.{Row}
 use Rattle.topk_theory.specs.declared.access.Access.{Access}
 use Rattle.topk_theory.specs.declared.access.Access.TheVariants.{Sorted, Random}
@@ -12,6 +12,7 @@ use Rattle.topk_theory.specs.Bounds.{high}
 use Rattle.topk_theory.specs.Combined.{unknown_lists}
 use Rattle.topk_theory.proofs.AgreementNames.{has, has_contains, has_not}
 use Rattle.topk_theory.proofs.Agreement.{seen_distinct, seen_objects_old, seen_objects_new, seen_objects_random}
+use Rattle.topk_theory.proofs.AgreementLists.{one_place, slice_get_front}
 use Rattle.monotone_fn.specs.Tree.{Tree}
 use Rattle.monotone_fn.specs.Value.{value, IsMonotone}
 use Rattle.monotone_fn.proofs.Laws.{value-monotone}
@@ -33,11 +34,6 @@ seen_cases A (Sorted list object grade) =
     ]
 seen_cases A (Random list object grade) = inl (seen_objects_random A list object grade)
 
-get_behind : (xs ys : List ℕ) (p x : ℕ) → slice_get xs p ≡ Some x → slice_get (xs ++ ys) p ≡ Some x
-get_behind [] ys p x e = absurd (none-some x e)
-get_behind (y ∷ xs) ys zero x e = e
-get_behind (y ∷ xs) ys (suc p) x e = get_behind xs ys p x e
-
 get_front : (xs : List ℕ) (y p x : ℕ) → y ≢ x → slice_get (xs ++ y ∷ []) p ≡ Some x → slice_get xs p ≡ Some x
 get_front [] y zero x apart e = absurd (apart (same_Some y x e))
 get_front [] y (suc p) x apart e = absurd (none-some x e)
@@ -48,28 +44,20 @@ seen_after : (A : List Access) (a : Access) (p x : ℕ) → slice_get (seen_obje
 seen_after A a p x e =
     elim (seen_cases A a) [
       | inl same ↦ ap (λ xs. slice_get xs p) same ∙ e
-      | inr more ↦ ap (λ xs. slice_get xs p) more ∙ get_behind (seen_objects A) (object_of a ∷ []) p x e
+      | inr more ↦ ap (λ xs. slice_get xs p) more ∙ slice_get_front (seen_objects A) (object_of a ∷ []) p x e
     ]
 
-seen_before : (A : List Access) (a : Access) (p x : ℕ) → object_of a ≢ x → slice_get (seen_objects (A ++ a ∷ [])) p ≡ Some x → slice_get (seen_objects A) p ≡ Some x
+seen_before : (A : List Access) (a : Access) (p x : ℕ) → object_of a ≢ x → slice_get (seen_objects (A ++ a ∷ [])) p ≡ Some x
+    → slice_get (seen_objects A) p ≡ Some x
 seen_before A a p x apart e =
     elim (seen_cases A a) [
       | inl same ↦ sym (ap (λ xs. slice_get xs p) same) ∙ e
       | inr more ↦ get_front (seen_objects A) (object_of a) p x apart (sym (ap (λ xs. slice_get xs p) more) ∙ e)
     ]
 
-one_place : (xs : List ℕ) (p q x : ℕ) → AllPairs (λ (a : ℕ) (b : ℕ). a ≢ b) xs → slice_get xs p ≡ Some x → slice_get xs q ≡ Some x → p ≡ q
-one_place xs p q x apart at_p at_q =
-    let in_p = slice_get_within xs p x at_p in
-    let in_q = slice_get_within xs q x at_q in
-    let same : get_or xs p x ≡ get_or xs q x = get_or_from_slice_get xs p x x at_p ∙ sym (get_or_from_slice_get xs q x x at_q) in
-    elim (cases_order p q) [
-      | inl e ↦ e
-      | inr other ↦ elim other [ inl lt ↦ absurd (apart p q x lt in_q same) | inr gt ↦ absurd (apart q p x gt in_p (sym same)) ]
-    ]
-
 -- ---- an object that the access doesn't name stays opens
-still_open : (V : List ℕ → ℕ) (m n : ℕ) (D : List (List Row)) (A : List Access) (a : Access) (place : ℕ) (kept : KeptHigh) → IsMonotone V → Agrees m n D (A ++ a ∷ []) → object_of a ≢ kept.object → IsOpen V m A place kept → IsOpen V m (A ++ a ∷ []) place kept
+still_open : (V : List ℕ → ℕ) (m n : ℕ) (D : List (List Row)) (A : List Access) (a : Access) (place : ℕ) (kept : KeptHigh) → IsMonotone V
+    → Agrees m n D (A ++ a ∷ []) → object_of a ≢ kept.object → IsOpen V m A place kept → IsOpen V m (A ++ a ∷ []) place kept
 still_open V m n D A a place kept monotone agrees apart opens' =
     let falls : high V m (A ++ a ∷ []) kept.object ≤ high V m A kept.object = high_falls V m n D A (a ∷ []) kept.object monotone agrees in
     let above : high V m A kept.object ≤ kept.high = opens'.above in
@@ -80,7 +68,8 @@ still_open V m n D A a place kept monotone agrees apart opens' =
     }
 
 -- nothing else is changed than at the object's place, and there it is as it is to be
-noted : (V : List ℕ → ℕ) (m n : ℕ) (D : List (List Row)) (A : List Access) (a : Access) (highs after : List (Option KeptHigh)) (place : ℕ) → IsMonotone V → Agrees m n D (A ++ a ∷ []) → AreOpen V m A highs
+noted : (V : List ℕ → ℕ) (m n : ℕ) (D : List (List Row)) (A : List Access) (a : Access) (highs after : List (Option KeptHigh)) (place : ℕ) → IsMonotone V
+    → Agrees m n D (A ++ a ∷ []) → AreOpen V m A highs
     → slice_get (seen_objects (A ++ a ∷ [])) place ≡ Some (object_of a) → length (seen_objects (A ++ a ∷ [])) ≤ length after
     → ((other : ℕ) → other ≢ place → rank_at after other ≡ rank_at highs other)
     → ((kept : KeptHigh) → rank_at after place ≡ Some kept → IsOpen V m (A ++ a ∷ []) place kept)
@@ -110,7 +99,8 @@ noted V m n D A a highs after place monotone agrees opens' at fits others here t
 }
 
 -- the same of a log
-noted_log : (e : Tree) (log : Log) (object place : ℕ) (opens : OpenHighs) (after : List (Option KeptHigh)) → IsConsistent log → WasOpen e log object opens → slice_get (seen_objects log.accesses) place ≡ Some object → length after ≡ length opens.highs
+noted_log : (e : Tree) (log : Log) (object place : ℕ) (opens : OpenHighs) (after : List (Option KeptHigh)) → IsConsistent log → WasOpen e log object opens
+    → slice_get (seen_objects log.accesses) place ≡ Some object → length after ≡ length opens.highs
     → ((other : ℕ) → other ≢ place → rank_at after other ≡ rank_at opens.highs other)
     → ((kept : KeptHigh) → rank_at after place ≡ Some kept → IsOpen (value e) log.lists log.accesses place kept)
     → (0 < length (unknown_lists log.lists log.accesses object) → (kept : KeptHigh) × (rank_at after place ≡ Some kept))
@@ -129,7 +119,8 @@ noted_log e log object place opens after consistent was at size others here ther
     (λ kept is. subst (λ B. IsOpen (value e) log.lists B place kept) was.told (here kept is))
     (λ unknown. there (subst (λ B. 0 < length (unknown_lists log.lists B object)) (sym was.told) (subst (λ o. 0 < length (unknown_lists log.lists (A ++ a ∷ []) o)) was.named unknown))))
 
-pub place_fits : (e : Tree) (log : Log) (object place : ℕ) (opens : OpenHighs) → WasOpen e log object opens → Some place ≡ position (nat_eq object) (seen_objects log.accesses) → place < length opens.highs
+pub place_fits : (e : Tree) (log : Log) (object place : ℕ) (opens : OpenHighs) → WasOpen e log object opens
+    → Some place ≡ position (nat_eq object) (seen_objects log.accesses) → place < length opens.highs
 place_fits e log object place opens was found =
     let fits = was.room in
     let within = slice_get_within (seen_objects log.accesses) place object (placed object place (seen_objects log.accesses) (sym found)) in
@@ -139,7 +130,8 @@ none_left : (m : ℕ) (A : List Access) (object : ℕ) (next : Option ℕ) → n
 none_left m A object None e t = no_unknown m A object (sym e)
 none_left m A object (Some x) e t = absurd (true≢false t)
 
-some_left : (m : ℕ) (A : List Access) (object : ℕ) (next : Option ℕ) → next ≡ next_unknown m A object → is_some next ≡ true → 0 < length (unknown_lists m A object)
+some_left : (m : ℕ) (A : List Access) (object : ℕ) (next : Option ℕ) → next ≡ next_unknown m A object → is_some next ≡ true
+    → 0 < length (unknown_lists m A object)
 some_left m A object None e f = absurd (false≢true f)
 some_left m A object (Some list) e f =
     let r = some_unknown m A object list (sym e) in
@@ -147,7 +139,8 @@ some_left m A object (Some list) e f =
     omega arith
 
 -- an object whose grades are all known is taken out
-pub note_known : (e : Tree) (log : Log) (object place : ℕ) (opens : OpenHighs) (next : Option ℕ) (after : List (Option KeptHigh)) → IsConsistent log → WasOpen e log object opens → Some place ≡ position (nat_eq object) (seen_objects log.accesses)
+pub note_known : (e : Tree) (log : Log) (object place : ℕ) (opens : OpenHighs) (next : Option ℕ) (after : List (Option KeptHigh)) → IsConsistent log
+    → WasOpen e log object opens → Some place ≡ position (nat_eq object) (seen_objects log.accesses)
     → next ≡ next_unknown log.lists log.accesses object → is_some next ≡ false → after ≡ set opens.highs place None → AreOpen (value e) log.lists log.accesses after
 note_known e log object place opens next after consistent was found is none taken =
     let within = place_fits e log object place opens was found in
@@ -159,7 +152,8 @@ note_known e log object place opens next after consistent was found is none take
     (λ unknown. absurd (let size : length (unknown_lists log.lists log.accesses object) ≡ 0 = ap length gone in omega arith)))
 
 -- a new one is put in
-pub note_new : (e : Tree) (log : Log) (object place present : ℕ) (opens : OpenHighs) (next : Option ℕ) (after : List (Option KeptHigh)) → IsConsistent log → WasOpen e log object opens → Some place ≡ position (nat_eq object) (seen_objects log.accesses)
+pub note_new : (e : Tree) (log : Log) (object place present : ℕ) (opens : OpenHighs) (next : Option ℕ) (after : List (Option KeptHigh)) → IsConsistent log
+    → WasOpen e log object opens → Some place ≡ position (nat_eq object) (seen_objects log.accesses)
     → next ≡ next_unknown log.lists log.accesses object → is_some next ≡ true → present ≡ high (value e) log.lists log.accesses object → after ≡ set opens.highs place (Some (record { high = present; object = object })) → AreOpen (value e) log.lists log.accesses after
 note_new e log object place present opens next after consistent was found is some same put =
     let within = place_fits e log object place opens was found in
@@ -173,7 +167,8 @@ note_new e log object place present opens next after consistent was found is som
     (λ unknown. (new, get_or-set_same opens.highs place (Some new) None within)))
 
 -- another stays
-pub note_same : (e : Tree) (log : Log) (object place : ℕ) (opens : OpenHighs) (next : Option ℕ) → IsConsistent log → WasOpen e log object opens → Some place ≡ position (nat_eq object) (seen_objects log.accesses)
+pub note_same : (e : Tree) (log : Log) (object place : ℕ) (opens : OpenHighs) (next : Option ℕ) → IsConsistent log → WasOpen e log object opens
+    → Some place ≡ position (nat_eq object) (seen_objects log.accesses)
     → next ≡ next_unknown log.lists log.accesses object → is_some next ≡ true → is_some (rank_at opens.highs place) ≡ true → AreOpen (value e) log.lists log.accesses opens.highs
 note_same e log object place opens next consistent was found is some there =
     let at : slice_get (seen_objects log.accesses) place ≡ Some object = placed object place (seen_objects log.accesses) (sym found) in

@@ -25,7 +25,8 @@ pub record IsOpen (V : List ℕ → ℕ) (m : ℕ) (A : List Access) (place : �
 pub record AreOpen (V : List ℕ → ℕ) (m : ℕ) (A : List Access) (highs : List (Option KeptHigh)) : Type 0 where
   pub fits : length (seen_objects A) ≤ length highs
   pub held : (place : ℕ) (kept : KeptHigh) → rank_at highs place ≡ Some kept → IsOpen V m A place kept
-  pub all : (place object : ℕ) → slice_get (seen_objects A) place ≡ Some object → 0 < length (unknown_lists m A object) → (kept : KeptHigh) × (rank_at highs place ≡ Some kept)
+  pub all : (place object : ℕ) → slice_get (seen_objects A) place ≡ Some object → 0 < length (unknown_lists m A object)
+      → (kept : KeptHigh) × (rank_at highs place ≡ Some kept)
 
 -- what is kept is up to the transcript
 abbrev pub KeepsOpen : Tree → Log → OpenHighs → Type 0

@@ -12,6 +12,7 @@ use super::kept_high::KeptHigh;
 use super::unknown::next_unknown;
 use access_log::Transcript;
 use indexed_heap::IndexedHeap;
+use limits::MAX_OBJECTS;
 use monotone_fn::Expr;
 use std::alloc::Global;
 
@@ -25,7 +26,7 @@ pub struct OpenHighs {
 impl OpenHighs {
     /// Before any access, with room for so many seen objects. No other call takes memory.
     pub fn make(alloc: Global, room: u32) -> Result<OpenHighs, Memory>
-        requires { room ≤ 200000 }
+        requires { room ≤ MAX_OBJECTS }
         ensures room { IfOk result (λ kept. length kept.highs ≡ room) }
         ensures kept { IfOk result (λ kept. (e : Tree) (m : ℕ) → AreOpen (value e) m [] kept.highs) }
     {

@@ -2,6 +2,4 @@
 #![tactic(auto)]
 
 #[cfg(test)]
-mod judging;
-#[cfg(test)]
 mod tests;

@@ -5,8 +5,10 @@ use std::env::{Env, FillError};
 use std::io;
 use std::rt::Files;
 use std::test::Fail;
+use test_support::words_of;
 use tk_io::{Failed, MemIntake, MemSink, Sink, StdIntake, StdSink, read_text};
-use topk_top::{Status, Words, run_process, top};
+use top_support::end_of;
+use topk_top::{Status, run_process, top};
 
 const LISTS: &str = "list A\n1,900\n2,800\n3,100\nlist B\n2,700\n3,600\n1,500\n";
 
@@ -17,24 +19,9 @@ const FOUR: &str = "list A\n5,10\nlist B\n5,40\nlist C\n5,20\nlist D\n5,30\n";
 const CERTIFICATE: &str =
     "certificate 1\nquery top 1 by sum(A,B) using ta\ncount 3\nanswer 2 1500 1500\nstop depth 2 sorted 4 random 3 cost 7\ns A 1 900\ns B 2 700\nr B 1 500\nr A 2 800\ns A 2 800\ns B 3 600\nr A 3 100\nend\n";
 
-/// The words of a command line.
-fn words_of(alloc: Global, texts: &[&str]) -> Result<Words, Fail> {
-    let mut words = Words::make(alloc);
-    for text in texts {
-        if words.len() < 9 {
-            words.push(text)?;
-        }
-    }
-    Ok(words)
-}
-
 /// How `one` ends on an input, and what it writes. Its options end by `--`, and it has none.
 fn outcome_of(alloc: Global, input: &str) -> Result<(Status, MemSink), Fail> {
-    let words = words_of(alloc, &["one", "--"])?;
-    let mut input = MemIntake::make(alloc, input.as_bytes(), 50, &[])?;
-    let mut out = MemSink::make(alloc, 1000, &[])?;
-    let status = top(alloc, &words, &mut input, &mut out);
-    Ok((status, out))
+    Ok(end_of(alloc, &["one", "--"], input.as_bytes(), 1000)?)
 }
 
 #[test]
@@ -131,32 +118,6 @@ fn answers_without_random_access(rt: HostRuntime) -> Result<(), Fail> {
 }
 
 #[test]
-fn answers_by_both_kinds_of_access(rt: HostRuntime) -> Result<(), Fail> {
-    let rows = [
-        (
-            "top 1 by sum(A,B) using ca cost 1 2",
-            "answer 2 1500 1500\nstop depth 2 sorted 4 random 0 cost 4\ns A 1 900\ns B 2 700\ns A 2 800\ns B 3 600\nend\n",
-        ),
-        (
-            "top 1 by sum(A,B) using ca",
-            "answer 2 1500 1500\nstop depth 2 sorted 4 random 1 cost 5\ns A 1 900\ns B 2 700\nr B 1 500\ns A 2 800\ns B 3 600\nend\n",
-        ),
-        (
-            "top 3 by sum(A,B) using ca cost 1 9",
-            "answer 2 1500 1500\nanswer 1 1400 1400\nanswer 3 700 700\nstop depth 2 sorted 4 random 2 cost 22\ns A 1 900\ns B 2 700\ns A 2 800\ns B 3 600\nr B 1 500\nr A 3 100\nend\n",
-        ),
-    ];
-    for (query, rest) in rows {
-        let input = format!(in rt.alloc(); "{LISTS}query {query}\n")?;
-        let text = format!(in rt.alloc(); "certificate 1\nquery {query}\ncount 3\n{rest}")?;
-        let (status, out) = outcome_of(rt.alloc(), &input)?;
-        assert_eq!(rt; status, Status::Done, "{query}");
-        assert_eq!(rt; out.taken(), text.as_bytes(), "{query}");
-    }
-    Ok(())
-}
-
-#[test]
 fn refuses_inputs(rt: HostRuntime) -> Result<(), Fail> {
     let rows = [
         ("query top 4 by sum(A,B) using ta", "1 KAboveCount 4 3"),
@@ -229,13 +190,8 @@ fn refuses_words(rt: HostRuntime) -> Result<(), Fail> {
         &["judge", "x"],
     ];
     for command in commands {
-        let words = words_of(rt.alloc(), command)?;
-        let mut input = MemIntake::make(rt.alloc(), b"x", 1, &[])?;
-        let mut out = MemSink::make(rt.alloc(), 200, &[])?;
-        assert_eq!(rt;
-            top(rt.alloc(), &words, &mut input, &mut out),
-            Status::BadWords
-        );
+        let (status, out) = end_of(rt.alloc(), command, b"x", 200)?;
+        assert_eq!(rt; status, Status::BadWords);
         assert_eq!(rt; out.taken(), b"refused words\n".as_slice());
     }
     Ok(())
@@ -269,7 +225,7 @@ impl Env for Given {
 }
 
 /// The exit status of a process without input, and what it writes.
-fn end_of<R: Files + AllocGlobal>(rt: &R, given: &Given) -> Result<(u8, Vec<u8>), Fail> {
+fn process_end<R: Files + AllocGlobal>(rt: &R, given: &Given) -> Result<(u8, Vec<u8>), Fail> {
     let (reader, writer) = io::pipe(rt)?;
     let mut input = StdIntake::make(io::empty());
     let mut out = StdSink::make(writer);
@@ -285,13 +241,13 @@ fn reads_the_words_of_a_process(rt: HostRuntime) -> Result<(), Fail> {
     let given = Given {
         words: [b"\xFF", b"one"],
     };
-    let (code, text) = end_of(&rt, &given)?;
+    let (code, text) = process_end(&rt, &given)?;
     assert_eq!(rt; code, 10);
     assert_eq!(rt; text.as_slice(), b"refused bundle 1\n".as_slice());
     let given = Given {
         words: [b"topk", b"one\xFF"],
     };
-    let (code, text) = end_of(&rt, &given)?;
+    let (code, text) = process_end(&rt, &given)?;
     assert_eq!(rt; code, 2);
     assert_eq!(rt; text.as_slice(), b"refused words\n".as_slice());
     Ok(())

@@ -1,5 +1,5 @@
 -- What is written of an answer is fixed.
-use Rattle.std.proofs.Common.{◌≡◌, ℕ, List, Option, Some, None, codes, inl, inr, refl, ap, ◌∙◌}
+use Rattle.std.proofs.Common.{◌≡◌, ℕ, List, Option, Some, None, Ok, codes, inl, inr, refl, sym, ap, ◌∙◌}
 use Rattle.line_text.specs.Lines.{lines}
 use Rattle.cert_text.specs.declared.outcome.Outcome.{Outcome}
 use Rattle.cert_text.specs.declared.outcome.Outcome.TheVariants.{Answered, Refused}
@@ -14,12 +14,14 @@ use Rattle.cert_judge.specs.declared.told.Told.{Told}
 use Rattle.cert_judge.specs.declared.told.Told.TheVariants.{BadLine, Inconsistent, WildGuess, WrongSize, UnseenAnswer, Figure, Fixes, Beaten}
 use Rattle.cert_judge.specs.Judging.{Tells}
 use Rattle.cert_judge.specs.Text.{told_text}
+use Rattle.cert_judge.proofs.Telling.{told_result}
 use Rattle.topk_top.specs.Bundled.{bundle_line}
 use Rattle.topk_top.specs.Judge.{told_status}
-use Rattle.topk_top.specs.Laws.{AnswersAreFixed}
+use Rattle.topk_top.specs.Laws.{IsFixedText, AnswersAreFixed}
 use Rattle.topk_top.specs.Reply.{outcome_status}
 use Rattle.topk_top.specs.declared.status.Status.TheVariants.{Done}
 use Rattle.topk_top.proofs.Certifying.{certified}
+use Rattle.topk_top.proofs.OneCertificate.{spells_one}
 use Rattle.topk_top.proofs.Fixing.{IsFixedBy, only_fixed, fixed_by, fixed_of}
 
 -- the lines spell a certificate that is fixed: nothing else is told
@@ -37,18 +39,30 @@ fixes_text : told_text Fixes ≡ codes "fixes\n"
 unfolding told_text
 fixes_text = refl
 
--- of the text of an answer nothing else is told
-of_answer : (content : Content) (query : Option Query) (count : ℕ) (outcome : Outcome) (text : List ℕ) (told : Told) → IsBundle content → Becomes (bundle_line content) query count outcome
-    → Done ≡ outcome_status outcome → text ≡ outcome_text 1 query count outcome → Tells (lines text) told → told ≡ Fixes
-of_answer content query count (Refused refusal) text told bundle becomes status same tells = absurd (cc)
-of_answer content None count (Answered answer) text told bundle becomes status same tells = absurd becomes
-of_answer content (Some q) count (Answered answer) text told bundle becomes status same tells =
+-- the text of a fixed certificate
+fixed_text : (text : List ℕ) (c : Certificate) → Spells (lines text) c → IsFixedBy c → IsFixedText text
+fixed_text text c spells is =
+    let tells : Tells (lines text) Fixes = told_result (lines text) c (Ok Fixes) spells (λ d again. spells_one (lines text) c d spells again)
+    (record { consistent = is.consistent; judged = (is.fair, is.fixed) }, is.figures) in
+    record {
+      spelled = (c, spells, is.figures);
+      fixed = tells;
+      replied = record { told = Fixes; tells = tells; status_is = refl; text_is = sym fixes_text };
+      alone = λ status said h.
+          let told = told_fixed (lines text) c h.told spells is h.tells in
+          (h.status_is ∙ ap told_status told, h.text_is ∙ ap told_text told ∙ fixes_text);
+    }
+
+of_answer : (content : Content) (query : Option Query) (count : ℕ) (outcome : Outcome) (text : List ℕ) → IsBundle content
+    → Becomes (bundle_line content) query count outcome
+    → Done ≡ outcome_status outcome → text ≡ outcome_text 1 query count outcome → IsFixedText text
+of_answer content query count (Refused refusal) text bundle becomes status same = absurd (cc)
+of_answer content None count (Answered answer) text bundle becomes status same = absurd becomes
+of_answer content (Some q) count (Answered answer) text bundle becomes status same =
     let is = certified content q count answer bundle becomes in
-    told_fixed (lines text) (certificate_of 1 q count answer) told (certified_spelled 1 q count answer text is.certified same)
-    (fixed_by 1 q count answer (fixed_of q count answer is.certified.lawful is.certified.expr is.fits becomes.right) becomes.right) tells
+    fixed_text text (certificate_of 1 q count answer) (certified_spelled 1 q count answer text is.certified same)
+    (fixed_by 1 q count answer (fixed_of q count answer is.certified.lawful is.certified.expr is.fits becomes.right) becomes.right)
 
 pub answers_fixed : AnswersAreFixed
-answers_fixed bytes text (inl bundle) status said h = absurd (let e = bundle.status_is in cc)
-answers_fixed bytes text (inr line) status said h =
-    let told = of_answer line.content line.query line.count line.outcome text h.told line.spelled.bundle line.becomes line.status_is line.text_is h.tells in
-    (h.status_is ∙ ap told_status told, h.text_is ∙ ap told_text told ∙ fixes_text)
+answers_fixed bytes text (inl bundle) = absurd (let e = bundle.status_is in cc)
+answers_fixed bytes text (inr line) = of_answer line.content line.query line.count line.outcome text line.spelled.bundle line.becomes line.status_is line.text_is

@@ -32,11 +32,13 @@ use Rattle.topk_top.specs.Outcomes.{BecomesOf, IsLineOf}
 use Rattle.topk_top.specs.Bundled.{place_of, listed_at, bundle_view, bundle_line, lists_at}
 
 -- a name is looked up alike among the bytes of names
-looked_up_from : (names : List (Vec ℕ)) (name : List ℕ) → position_or_len (λ other. bytes_eq other name) (map (λ n. n.items) names) ≡ position_or_len (λ other. bytes_eq other.items name) names
+looked_up_from : (names : List (Vec ℕ)) (name : List ℕ)
+    → position_or_len (λ other. bytes_eq other name) (map (λ n. n.items) names) ≡ position_or_len (λ other. bytes_eq other.items name) names
 looked_up_from [] name = refl
 looked_up_from (first ∷ names) name = ap (λ n. cond (not (bytes_eq first.items name)) (1 + n) 0) (looked_up_from names name)
 
-pub looked_up : (names : List (Vec ℕ)) (name : List ℕ) → position (λ other. bytes_eq other name) (map (λ n. n.items) names) ≡ position (λ other. bytes_eq other.items name) names
+pub looked_up : (names : List (Vec ℕ)) (name : List ℕ)
+    → position (λ other. bytes_eq other name) (map (λ n. n.items) names) ≡ position (λ other. bytes_eq other.items name) names
 looked_up names name =
     ap (λ n. cond (nat_lt n (length (map (λ (v : Vec ℕ). v.items) names))) (Some n) None) (looked_up_from names name)
     ∙ ap (λ m. cond (nat_lt (position_or_len (λ other. bytes_eq other.items name) names) m) (Some (position_or_len (λ other. bytes_eq other.items name) names)) None) (length-map names (λ (v : Vec ℕ). v.items))
@@ -70,7 +72,8 @@ placed c n name list bundle table e = at_place (place_of c name) refl e
         let long : length (list_at c.lists place) ≡ n = list_at_length n c.lists place table within in
         subst (IsPlaced c n) same (record { within = within; size = ap Some long })
 
-all_placed : (c : Content) (n : ℕ) (names : List (List ℕ)) (lists : List Listed) → IsBundle c → IsTable n c.lists → map (bundle_view c).listed names ≡ map Some lists → AllByRecursion (IsPlaced c n) lists
+all_placed : (c : Content) (n : ℕ) (names : List (List ℕ)) (lists : List Listed) → IsBundle c → IsTable n c.lists
+    → map (bundle_view c).listed names ≡ map Some lists → AllByRecursion (IsPlaced c n) lists
 all_placed c n [] [] bundle table e = tt
 all_placed c n [] (list ∷ lists) bundle table e = absurd cc
 all_placed c n (name ∷ names) [] bundle table e = tt
@@ -80,11 +83,13 @@ all_placed c n (name ∷ names) (list ∷ lists) bundle table e =
     (placed c n name list bundle table here, all_placed c n names lists bundle table rest)
 
 -- the lists that are told are those at the places of what was found
-told_there : (c : Content) (p : Option ℕ) (list : Listed) → option_map (listed_at c) p ≡ Some list → option_map (list_at c.lists) p ≡ Some (list_at c.lists list.source)
+told_there : (c : Content) (p : Option ℕ) (list : Listed) → option_map (listed_at c) p ≡ Some list
+    → option_map (list_at c.lists) p ≡ Some (list_at c.lists list.source)
 told_there c None list e = absurd cc
 told_there c (Some place) list e = let same : listed_at c place ≡ list = cc in ap (λ (l : Listed). Some (list_at c.lists l.source)) same
 
-all_told : (c : Content) (names : List (List ℕ)) (lists : List Listed) → map (bundle_view c).listed names ≡ map Some lists → map (bundle_view c).told names ≡ map Some (lists_at c (map (λ list. list.source) lists))
+all_told : (c : Content) (names : List (List ℕ)) (lists : List Listed) → map (bundle_view c).listed names ≡ map Some lists
+    → map (bundle_view c).told names ≡ map Some (lists_at c (map (λ list. list.source) lists))
 all_told c [] [] e = refl
 all_told c [] (list ∷ lists) e = absurd cc
 all_told c (name ∷ names) [] e = absurd cc
@@ -102,7 +107,8 @@ sizes : (c : Content) (n : ℕ) (lists : List Listed) → AllByRecursion (IsPlac
 sizes c n [] each = tt
 sizes c n (list ∷ lists) each = (each.0.size, sizes c n lists each.1)
 
-sources_within : (c : Content) (n : ℕ) (lists : List Listed) → AllByRecursion (IsPlaced c n) lists → AllByRecursion (λ place. place < length c.lists) (map (λ list. list.source) lists)
+sources_within : (c : Content) (n : ℕ) (lists : List Listed) → AllByRecursion (IsPlaced c n) lists
+    → AllByRecursion (λ place. place < length c.lists) (map (λ list. list.source) lists)
 sources_within c n [] each = tt
 sources_within c n (list ∷ lists) each = (each.0.within, sources_within c n lists each.1)
 
@@ -134,10 +140,13 @@ pub lists_many : (c : Content) (ready : Ready) → IsAdmitted (bundle_line c) re
 lists_many c ready admitted = length-map ready.sources.items (list_at c.lists) ∙ (admitted.sound.sources ∙ sym (lists_counted ready.query admitted.sound.lawful))
 
 -- a name is found where it stands in the bundle's content
-pub found_at : (bundle : Bundle) (name : List ℕ) (names : List (Vec ℕ)) (p : Option ℕ) → names ≡ bundle.names.items → p ≡ position (λ other. bytes_eq other.items name) names → place_of (content bundle) name ≡ p
+pub found_at : (bundle : Bundle) (name : List ℕ) (names : List (Vec ℕ)) (p : Option ℕ) → names ≡ bundle.names.items
+    → p ≡ position (λ other. bytes_eq other.items name) names → place_of (content bundle) name ≡ p
 found_at bundle name names p same e = looked_up bundle.names.items name ∙ (ap (position (λ other. bytes_eq other.items name)) (sym same) ∙ sym e)
 
-pub listed_here : (c : Content) (name : List ℕ) (place size : ℕ) (rows : List Row) → IsBundle c → place_of c name ≡ Some place → rows ≡ slice_index_or c.lists place rows → size ≡ length rows → Some (record { size = Some size; random = true; source = place }) ≡ (bundle_view c).listed name
+pub listed_here : (c : Content) (name : List ℕ) (place size : ℕ) (rows : List Row) → IsBundle c → place_of c name ≡ Some place
+    → rows ≡ slice_index_or c.lists place rows → size ≡ length rows
+    → Some (record { size = Some size; random = true; source = place }) ≡ (bundle_view c).listed name
 listed_here c name place size rows bundle found read long =
     let named : place < length c.names = (position-Some (λ other. bytes_eq other name) c.names place [] found).0 in
     let within : place < length c.lists = omega (arith, named, bundle.each_named) in
@@ -146,20 +155,23 @@ listed_here c name place size rows bundle found read long =
     ap (λ n. Some (record { size = Some n; random = true; source = place })) stated ∙ ap (option_map (listed_at c)) (sym found)
 
 -- what becomes of a query that is ready, over the lists at its places
-pub becomes_answered : (c : Content) (ready : Ready) (D : List (List Row)) (answer : Answer) → IsAdmitted (bundle_line c) ready → D ≡ lists_at c ready.sources.items → AnswersOver ready D answer → BecomesOf c ready (Answered answer)
+pub becomes_answered : (c : Content) (ready : Ready) (D : List (List Row)) (answer : Answer) → IsAdmitted (bundle_line c) ready
+    → D ≡ lists_at c ready.sources.items → AnswersOver ready D answer → BecomesOf c ready (Answered answer)
 becomes_answered c ready D answer admitted same over = record {
   becomes = answered_line (bundle_line c) ready D answer admitted (subst (AreTold (bundle_view c) ready.query) (sym same) (lists_told c ready admitted)) over;
   writable = answered_writable ready answer admitted.sound over.answered;
 }
 
-pub becomes_full : (c : Content) (ready : Ready) (D : List (List Row)) (room : ℕ) → IsAdmitted (bundle_line c) ready → D ≡ lists_at c ready.sources.items → IsOverRoom ready.query ready.count D room → BecomesOf c ready (Refused (RoomFull room))
+pub becomes_full : (c : Content) (ready : Ready) (D : List (List Row)) (room : ℕ) → IsAdmitted (bundle_line c) ready → D ≡ lists_at c ready.sources.items
+    → IsOverRoom ready.query ready.count D room → BecomesOf c ready (Refused (RoomFull room))
 becomes_full c ready D room admitted same over = record {
   becomes = full_line (bundle_line c) ready D room ready.count admitted (subst (AreTold (bundle_view c) ready.query) (sym same) (lists_told c ready admitted)) over;
   writable = All-from_recursion (λ list. list < length ready.query.names) [] tt;
 }
 
 -- what becomes of a line that admission refuses
-pub line_refused : (c : Content) (refusal : Refusal) (query : Option Query) → IsRefused admission_causes (bundle_line c) refusal query → IsLineOf c (record { query = query; count = 0; outcome = Refused refusal })
+pub line_refused : (c : Content) (refusal : Refusal) (query : Option Query) → IsRefused admission_causes (bundle_line c) refusal query
+    → IsLineOf c (record { query = query; count = 0; outcome = Refused refusal })
 line_refused c refusal query refused = record {
   becomes = refused_line (bundle_line c) refusal query 0 refused;
   writable = refused_writable query (bundle_line c) admission_causes refusal refused;
@@ -173,7 +185,8 @@ pub record ToldTable (c : Content) (q : Query) (count : ℕ) : Type 0 where
   pub few : count ≤ 200000
   pub small : All (λ rows. All (λ row. row.object < 2 ^ 32) rows) lists
 
-pub told_table : (c : Content) (q : Query) (count : ℕ) (lists : List Listed) → IsBundle c → AreListed (bundle_view c) q lists → count_of lists ≡ Some count → ToldTable c q count
+pub told_table : (c : Content) (q : Query) (count : ℕ) (lists : List Listed) → IsBundle c → AreListed (bundle_view c) q lists → count_of lists ≡ Some count
+    → ToldTable c q count
 told_table c q count lists bundle listed counted =
     let n = bundle.table.0 in
     let each = all_placed c n q.names lists bundle bundle.table.3 listed in

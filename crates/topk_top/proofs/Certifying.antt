@@ -1,12 +1,11 @@
 -- What a bundle is answered with is certified: its numbers are within the ranges of a certificate.
-use Rattle.std.proofs.Common.{◌≡◌, ℕ, ◌<◌, ◌≤◌, ◌^◌, List, [], length, All, Contains, Option, Some, None, IfSome, unwrap_or, refl, sym, ap, subst, ◌∙◌, arith}
+use Rattle.std.proofs.Common.{◌≡◌, ℕ, ◌<◌, ◌≤◌, ◌^◌, List, [], length, All, Contains, Option, Some, None, refl, sym, ap, subst, ◌∙◌, arith}
 use Rattle.std.proofs.lemmas.List.{length-map}
 use Rattle.ranked_list.specs.declared.row.Row.{Row}
 use Rattle.ranked_list.specs.declared.item.Item.{Item}
 use Rattle.ranked_list.specs.Table.{IsTable, IsRanked, grade_in, top_grade}
 use Rattle.ranked_list.specs.Bundle.{Content, IsBundle}
 use Rattle.monotone_fn.specs.Tree.{Tree}
-use Rattle.monotone_fn.specs.declared.costs.Costs.{Costs}
 use Rattle.monotone_fn.specs.Shape.{list_count}
 use Rattle.monotone_fn.specs.Value.{value}
 use Rattle.monotone_fn.specs.Limits.{IsExpr, AreGrades}
@@ -25,7 +24,6 @@ use Rattle.topk_theory.proofs.ConsistentRows.{ranked_capped}
 use Rattle.topk_theory.proofs.BoundsLaws.{grade_in_le, Falls-from_ranked}
 use Rattle.access_log.specs.declared.answer.Answer.{Answer}
 use Rattle.query_text.specs.declared.query.Query.{Query}
-use Rattle.query_text.specs.Query.{IsCount}
 use Rattle.cert_text.specs.Certificate.{IsItem, IsAccess}
 use Rattle.cert_text.specs.Outcome.{IsCertified}
 use Rattle.query_core.proofs.Answering.{answered_short}
@@ -34,9 +32,11 @@ use Rattle.topk_top.specs.Bundled.{bundle_line}
 use Rattle.topk_top.proofs.Bundling.{told_table}
 use Rattle.topk_top.proofs.Honest.{AreReached, bounds_reached}
 use Rattle.topk_top.proofs.Fixing.{fixed_of}
+use Rattle.query_admission.proofs.Becoming.{cost_small}
 
 -- the aggregate of an object is small
-aggregate_small : (e : Tree) (n : ℕ) (D : List (List Row)) (object : ℕ) → IsExpr e → IsTable n D → length D ≡ list_count e → aggregate (value e) D object < 2 ^ 64
+aggregate_small : (e : Tree) (n : ℕ) (D : List (List Row)) (object : ℕ) → IsExpr e → IsTable n D → length D ≡ list_count e
+    → aggregate (value e) D object < 2 ^ 64
 aggregate_small e n D object is table many =
     let grades : AreGrades (grades_of D object) = all_from_members (λ g. g ≤ top_grade) (grades_of D object) (λ g c.
     let from = contains_map_from (λ rows. grade_in rows object) D g c in
@@ -45,25 +45,24 @@ aggregate_small e n D object is table many =
     omega (arith, below, top_value-IsExpr e is)
 
 -- the bounds of an object are small
-bounds_small : (e : Tree) (m n : ℕ) (A : List Access) (object : ℕ) → IsExpr e → m ≡ list_count e → AreReached (value e) m n A object → (low (value e) m A object < 2 ^ 64) × (high (value e) m A object < 2 ^ 64)
+bounds_small : (e : Tree) (m n : ℕ) (A : List Access) (object : ℕ) → IsExpr e → m ≡ list_count e → AreReached (value e) m n A object
+    → (low (value e) m A object < 2 ^ 64) × (high (value e) m A object < 2 ^ 64)
 bounds_small e m n A object is many reached = (
   subst (λ z. z < 2 ^ 64) reached.lowest.2 (aggregate_small e n reached.lowest.0 object is reached.lowest.1.table (reached.lowest.1.lists ∙ many)),
   subst (λ z. z < 2 ^ 64) reached.highest.2 (aggregate_small e n reached.highest.0 object is reached.highest.1.table (reached.highest.1.lists ∙ many)),
 )
 
 -- an access of a table that agrees has a row of it
-access_row : (m n : ℕ) (D : List (List Row)) (A : List Access) (a : Access) → Agrees m n D A → Contains A a → (list_of a < length D) × Contains (list_at D (list_of a)) (row_of a)
+access_row : (m n : ℕ) (D : List (List Row)) (A : List Access) (a : Access) → Agrees m n D A → Contains A a
+    → (list_of a < length D) × Contains (list_at D (list_of a)) (row_of a)
 access_row m n D A a agrees c =
     let p = contains_access A a c in
     let gives = agrees_gives m n D p.0 a p.1 (subst (λ B. Agrees m n D B) p.2 agrees) in
     (gives_in_range D p.0 a gives, gives_row D p.0 a gives)
 
-costs_small : (cost : Option Costs) → IfSome cost (λ c. IsCount c.sorted × IsCount c.random) → ((unwrap_or cost (record { sorted = 1; random = 1 })).sorted ≤ 1000000) × ((unwrap_or cost (record { sorted = 1; random = 1 })).random ≤ 1000000)
-costs_small None h = (omega arith, omega arith)
-costs_small (Some cost) h = (h.0.1, h.1.1)
-
 -- the accesses of an answer are those of a certificate
-accesses_certified : (m n : ℕ) (D : List (List Row)) (A : List Access) → Agrees m n D A → All (λ rows. All (λ row. row.object < 2 ^ 32) rows) D → All (IsAccess m) A
+accesses_certified : (m n : ℕ) (D : List (List Row)) (A : List Access) → Agrees m n D A → All (λ rows. All (λ row. row.object < 2 ^ 32) rows) D
+    → All (IsAccess m) A
 accesses_certified m n D A agrees small = all_from_members (IsAccess m) A (λ a c.
     let at = access_row m n D A a agrees c in
     let rows = list_at D (list_of a) in
@@ -84,7 +83,8 @@ accesses_certified m n D A agrees small = all_from_members (IsAccess m) A (λ a 
     named_grade (Random l o g) h = omega arith
 
 -- an object of a table of small objects is small
-object_small : (n : ℕ) (D : List (List Row)) (object : ℕ) → IsTable n D → 0 < length D → All (λ rows. All (λ row. row.object < 2 ^ 32) rows) D → Contains (objects_of D) object → object < 2 ^ 32
+object_small : (n : ℕ) (D : List (List Row)) (object : ℕ) → IsTable n D → 0 < length D → All (λ rows. All (λ row. row.object < 2 ^ 32) rows) D
+    → Contains (objects_of D) object → object < 2 ^ 32
 object_small n D object table some small c =
     let rows = list_at D 0 in
     let listed : Contains D rows = contains_at D 0 [] some in
@@ -96,7 +96,8 @@ pub record IsCertifiedAnswer (q : Query) (count : ℕ) (answer : Answer) : Type 
   pub certified : IsCertified 1 q count answer
   pub fits : q.k ≤ count
 
-pub certified : (c : Content) (q : Query) (count : ℕ) (answer : Answer) → IsBundle c → AnswersLine (bundle_line c) q count answer → IsCertifiedAnswer q count answer
+pub certified : (c : Content) (q : Query) (count : ℕ) (answer : Answer) → IsBundle c → AnswersLine (bundle_line c) q count answer
+    → IsCertifiedAnswer q count answer
 certified c q count answer bundle h =
     let right = h.right in
     let lawful = h.reads.0.lawful in
@@ -115,7 +116,7 @@ certified c q count answer bundle h =
     let sized : length (objects_of D) ≡ n = objects_of_count n D agrees.table positive in
     let fits : q.k ≤ count = omega (arith, top.sized, sized, right.count, distinct_fits (item_objects answer.items) (objects_of D) top.distinct (λ o d. member_of_all (Contains (objects_of D)) (item_objects answer.items) o top.members d)) in
     let honest = fixed_of q count answer lawful expr fits right in
-    let costs = costs_small q.cost lawful.cost in
+    let costs = cost_small q.cost lawful.cost in
     record {
       certified = record {
         line_from = omega arith;

@@ -29,7 +29,8 @@ named_small m A object all c =
     subst (λ z. z < 2 ^ 32) from.2 (member_of_all (IsAccess m) A from.0 all from.1).object
 
 -- a table over the named objects and the smallest others has small objects
-rows_small : (m n : ℕ) (A : List Access) (D : List (List Row)) → All (IsAccess m) A → n ≤ 200000 → IsTable n D → IsOver (object_set n (named_objects A)) D → All (λ rows. All (λ row. row.object < 2 ^ 32) rows) D
+rows_small : (m n : ℕ) (A : List Access) (D : List (List Row)) → All (IsAccess m) A → n ≤ 200000 → IsTable n D → IsOver (object_set n (named_objects A)) D
+    → All (λ rows. All (λ row. row.object < 2 ^ 32) rows) D
 rows_small m n A D all few table over = all_from_members (λ rows. All (λ row. row.object < 2 ^ 32) rows) D (λ rows h.
     all_from_members (λ row. row.object < 2 ^ 32) rows (λ row c.
     let there = (over row.object).0 (table_holds n D rows row.object table h (contains_map (λ (r : Row). r.object) rows row c)) in
@@ -43,7 +44,8 @@ one_line bytes c spells = all_from_members (λ byte. byte ≢ 10) (printed c.que
     let plain = member_of_all (All (λ byte. byte ≢ 10)) (lines bytes) (query_line c.query) (lines_have_no_end bytes) (subst (λ ls. Contains ls (query_line c.query)) (sym spells.spelled) line) in
     member_of_all (λ byte. byte ≢ 10) (query_line c.query) byte plain (Contains-append_right (codes "query ") (printed c.query) byte h))
 
-content_is : (counter : Content) (names : List (List ℕ)) (lists : List (List Row)) (query : List ℕ) → counter.names ≡ names → counter.lists ≡ lists → counter.query ≡ query
+content_is : (counter : Content) (names : List (List ℕ)) (lists : List (List Row)) (query : List ℕ) → counter.names ≡ names → counter.lists ≡ lists
+    → counter.query ≡ query
     → counter ≡ record { names = names; lists = lists; query = query }
 content_is counter names lists query n l q =
     ap (λ (z : List (List ℕ)). record { names = z; lists = counter.lists; query = counter.query }) n

@@ -33,14 +33,16 @@ abbrev pub streams_at : Option (List ℕ) → ℕ → Option (List ℕ) → ℕ 
 streams_at left reads held writes = record { input = record { left = left; faults = reads }; output = record { held = held; faults = writes } }
 
 -- what is said where words are refused ends so
-pub ends_refused : (c : Call) (result : Status) → LeftAlone c → Says c.before.output.held c.after.output.held c.before.output.faults c.after.output.faults words_refused_text BadWords result → EndsRefused c result
+pub ends_refused : (c : Call) (result : Status) → LeftAlone c
+    → Says c.before.output.held c.after.output.held c.before.output.faults c.after.output.faults words_refused_text BadWords result → EndsRefused c result
 ends_refused c result alone said = elim said [
   | inl whole ↦ subst (λ s. EndsRefused c s) (sym whole.0) (alone, record { held = whole.1; faults = whole.2 })
   | inr front ↦ subst (λ s. EndsRefused c s) (sym front.0) (alone, record { held = front.1; faults = front.2 })
 ]
 
 -- a reply that was written whole ends with its status
-ends_whole : (c : Call) (bytes : List ℕ) (status : Status) (text : List ℕ) → ReadWhole c bytes → Replies bytes status text → WroteWhole c text → EndsReading Replies c status
+ends_whole : (c : Call) (bytes : List ℕ) (status : Status) (text : List ℕ) → ReadWhole c bytes → Replies bytes status text → WroteWhole c text
+    → EndsReading Replies c status
 ends_whole c bytes status text read replied wrote = elim replied [
   | inl bundle ↦ subst (λ s. EndsReading Replies c s) (sym bundle.status_is) (bytes, text, read, subst (λ s. Replies bytes s text) bundle.status_is (inl bundle), wrote)
   | inr line ↦ is_outcome_status line.outcome status line.status_is
@@ -68,7 +70,8 @@ is_told_status Fixes status e done partial = done e
 is_told_status (Beaten inside outside low high counter) status e done partial = partial e
 
 -- what was told and written whole ends with its status
-ends_told : (c : Call) (bytes : List ℕ) (status : Status) (text : List ℕ) → ReadWhole c bytes → JudgeReplies bytes status text → WroteWhole c text → EndsReading JudgeReplies c status
+ends_told : (c : Call) (bytes : List ℕ) (status : Status) (text : List ℕ) → ReadWhole c bytes → JudgeReplies bytes status text → WroteWhole c text
+    → EndsReading JudgeReplies c status
 ends_told c bytes status text read replied wrote = is_told_status replied.told status replied.status_is
     (λ is. subst (λ s. EndsReading JudgeReplies c s) (sym is) (bytes, text, read, subst (λ s. JudgeReplies bytes s text) is replied, wrote))
     (λ is. subst (λ s. EndsReading JudgeReplies c s) (sym is) (bytes, text, read, subst (λ s. JudgeReplies bytes s text) is replied, wrote))
@@ -95,11 +98,13 @@ pub ends_as : (command : Option Command) (c : Call) (status : Status) → comman
 ends_as command c status is ends = subst (λ o. EndsAs o c status) (sym is) ends
 
 -- a text that was written, or wasn't, is said
-pub said : {T : Type 0} → (before now : Option (List ℕ)) (faults_before faults_now : ℕ) (text : List ℕ) (status result : Status) (written : Result T Failed) → OnOk written (Appends before now text) → OnErr written (TookFront before now text) → HasCause faults_before faults_now written
+pub said : {T : Type 0} → (before now : Option (List ℕ)) (faults_before faults_now : ℕ) (text : List ℕ) (status result : Status) (written : Result T Failed)
+    → OnOk written (Appends before now text) → OnErr written (TookFront before now text) → HasCause faults_before faults_now written
     → MatchResult written (λ _. result ≡ status) (λ _. result ≡ WriteFault) → Says before now faults_before faults_now text status result
 said before now faults_before faults_now text status result (Ok done) whole front cause ended = inl (ended, whole, cause.stays)
 said before now faults_before faults_now text status result (Err failed) whole front cause ended = inr (ended, front, cause.failed)
 
-pub said_as : (before now : Option (List ℕ)) (faults_before faults_now : ℕ) (text other : List ℕ) (status another result : Status) → text ≡ other → status ≡ another → Says before now faults_before faults_now text status result → Says before now faults_before faults_now other another result
+pub said_as : (before now : Option (List ℕ)) (faults_before faults_now : ℕ) (text other : List ℕ) (status another result : Status) → text ≡ other
+    → status ≡ another → Says before now faults_before faults_now text status result → Says before now faults_before faults_now other another result
 said_as before now faults_before faults_now text other status another result same_text same_status h =
     subst (λ t. Says before now faults_before faults_now t another result) same_text (subst (λ s. Says before now faults_before faults_now text s result) same_status h)

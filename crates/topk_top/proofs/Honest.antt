@@ -45,7 +45,8 @@ pub record AreReached (V : List ℕ → ℕ) (m n : ℕ) (A : List Access) (obje
   pub lowest : (D : List (List Row)) × Agrees m n D A × (aggregate V D object ≡ low V m A object)
   pub highest : (D : List (List Row)) × Agrees m n D A × (aggregate V D object ≡ high V m A object)
 
-pub bounds_reached : (V : List ℕ → ℕ) (m n : ℕ) (A : List Access) (object : ℕ) → 0 < m → SomeAgrees m n A → Contains (named_objects A) object → AreReached V m n A object
+pub bounds_reached : (V : List ℕ → ℕ) (m n : ℕ) (A : List Access) (object : ℕ) → 0 < m → SomeAgrees m n A → Contains (named_objects A) object
+    → AreReached V m n A object
 bounds_reached V m n A object lists some named =
     let O = object_set n (named_objects A) in
     let there : Contains O object = Contains-append_left (named_objects A) _ object named in
@@ -81,7 +82,8 @@ tame_by Nra asked n D monotone is = nra_tame (nra_depth asked.value asked.k D) D
 tame_by Ca asked n D monotone is = run_tame asked.value asked.k (phase_length asked.costs.sorted asked.costs.random) D
 
 -- an item of the first k seen ones
-of_seen : (V : List ℕ → ℕ) (k m : ℕ) (A : List Access) (item : Item) → Contains (first_seen V k m A) item → Contains (seen_objects A) item.object × (item ≡ bounded V m A item.object)
+of_seen : (V : List ℕ → ℕ) (k m : ℕ) (A : List Access) (item : Item) → Contains (first_seen V k m A) item
+    → Contains (seen_objects A) item.object × (item ≡ bounded V m A item.object)
 of_seen V k m A item c = object_of_seen V m A item (member_of_all (Contains (seen_items V m A)) (first_seen V k m A) item (first_k-is k (seen_items V m A) (items_distinct V m A)).held c)
 
 -- an item of the combined algorithm's answer is scored, and its object is seen
@@ -97,7 +99,8 @@ combined_item V k phase D item c =
 pub combined_scored : (V : List ℕ → ℕ) (k phase : ℕ) (D : List (List Row)) (item : Item) → Contains (ca_answer V k phase D) item → scored V D item.object ≡ item
 combined_scored V k phase D item c = (combined_item V k phase D item c).1
 
-pub combined_seen : (V : List ℕ → ℕ) (k phase : ℕ) (D : List (List Row)) → All (Contains (seen_objects (ca_run V k phase D))) (item_objects (ca_answer V k phase D))
+pub combined_seen : (V : List ℕ → ℕ) (k phase : ℕ) (D : List (List Row))
+    → All (Contains (seen_objects (ca_run V k phase D))) (item_objects (ca_answer V k phase D))
 combined_seen V k phase D =
     let A = ca_blocks V k phase D in
     all_from_members (Contains (seen_objects (ca_run V k phase D))) (item_objects (ca_answer V k phase D)) (λ o c.
@@ -106,7 +109,8 @@ combined_seen V k phase D =
     let seen : Contains (seen_objects A) o = subst (Contains (seen_objects A)) (named.2 ∙ from.2) (of_seen V k (length D) A named.0 named.1).0 in
     seen_more A (finish V k D A) o seen)
 
-pub seen_by : (a : Algorithm) (asked : Asked) (n : ℕ) (D : List (List Row)) → IsMonotone asked.value → IsAsked asked.k n D → All (Contains (seen_objects (run_by a asked D))) (item_objects (items_by a asked D))
+pub seen_by : (a : Algorithm) (asked : Asked) (n : ℕ) (D : List (List Row)) → IsMonotone asked.value → IsAsked asked.k n D
+    → All (Contains (seen_objects (run_by a asked D))) (item_objects (items_by a asked D))
 seen_by Ta asked n D monotone is = seen_answer asked.value asked.k n D monotone is
 seen_by Nra asked n D monotone is =
     all_from_members (Contains (seen_objects (nra_run asked.value asked.k D))) (item_objects (nra_answer asked.value asked.k D)) (λ o c.
@@ -120,12 +124,14 @@ pub record IsRunOn (a : Algorithm) (asked : Asked) (n : ℕ) (A : List Access) (
   pub run : A ≡ run_by a asked D
   pub exact : items ≡ items_by a asked D
 
-ta_scored : (asked : Asked) (n : ℕ) (D : List (List Row)) (item : Item) → IsAsked asked.k n D → Contains (ta_answer asked.value asked.k D) item → scored asked.value D item.object ≡ item
+ta_scored : (asked : Asked) (n : ℕ) (D : List (List Row)) (item : Item) → IsAsked asked.k n D → Contains (ta_answer asked.value asked.k D) item
+    → scored asked.value D item.object ≡ item
 ta_scored asked n D item is c =
     let os = objects_to D (ta_depth asked.value asked.k D) in
     (scored_member asked.value D os item (member_of_all (Contains (map (scored asked.value D) os)) (ta_answer asked.value asked.k D) item (answer_is_first asked.value asked.k n D is.table).held c)).1
 
-pub bounded_by : (a : Algorithm) (asked : Asked) (m n : ℕ) (A : List Access) (items : List Item) (item : Item) → 0 < m → SomeAgrees m n A → Contains (named_objects A) item.object
+pub bounded_by : (a : Algorithm) (asked : Asked) (m n : ℕ) (A : List Access) (items : List Item) (item : Item) → 0 < m → SomeAgrees m n A
+    → Contains (named_objects A) item.object
     → ((D : List (List Row)) → Agrees m n D A → IsRunOn a asked n A items D) → Contains items item → item ≡ bounded asked.value m A item.object
 bounded_by Ta asked m n A items item lists some named every c =
     always_bounded asked.value m n A item lists some named (λ D agrees.

@@ -8,3 +8,4 @@ mod Fixing
 mod Certifying
 mod AnswersFixed
 mod Counters
+mod OneCertificate

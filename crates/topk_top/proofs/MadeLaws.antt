@@ -12,13 +12,15 @@ use Rattle.topk_top.specs.Made.{made_text}
 use Rattle.topk_top.specs.declared.status.Status.{Status}
 use Rattle.topk_top.specs.declared.status.Status.TheVariants.{Done}
 
-pub text_is : (options : MakeOptions) (table : List (List Row)) → table ≡ made_table options.start options.count options.lists → unlines (sections (list_names (length table)) table) ≡ made_text options
+pub text_is : (options : MakeOptions) (table : List (List Row)) → table ≡ made_table options.start options.count options.lists
+    → unlines (sections (list_names (length table)) table) ≡ made_text options
 text_is options table is =
     let as_many : length table ≡ options.lists = ap length is ∙ length-map-range_with_len (made_list options.start options.count) 0 options.lists in
     ap (λ n. unlines (sections (list_names n) table)) as_many ∙ ap (λ D. unlines (sections (list_names options.lists) D)) is
 
 -- what is said without reading the input ends so
-pub ends_written : (text : List ℕ) (c : Call) (result : Status) → LeftAlone c → Says c.before.output.held c.after.output.held c.before.output.faults c.after.output.faults text Done result → EndsWriting text c result
+pub ends_written : (text : List ℕ) (c : Call) (result : Status) → LeftAlone c
+    → Says c.before.output.held c.after.output.held c.before.output.faults c.after.output.faults text Done result → EndsWriting text c result
 ends_written text c result alone said = elim said [
   | inl whole ↦ subst (λ s. EndsWriting text c s) (sym whole.0) (alone, record { held = whole.1; faults = whole.2 })
   | inr front ↦ subst (λ s. EndsWriting text c s) (sym front.0) (alone, record { held = front.1; faults = front.2 })

@@ -12,6 +12,7 @@ use Rattle.topk_top.specs.Reply.{Replies, words_refused_text}
 use Rattle.topk_top.specs.Judge.{JudgeReplies}
 use Rattle.topk_top.specs.declared.status.Status.{Status}
 use Rattle.topk_top.specs.declared.status.Status.TheVariants.{Done, Partial, BadWords, BadCatalog, ReadFault, WriteFault, OpenFault, PortFault, Memory, LongInput, BadInput}
+use Rattle.limits.specs.declared.TheConstants.{MAX_INPUT}
 
 -- an input: what it has left, where it tells it, and its count of faults
 pub record Input : Type 0 where
@@ -36,7 +37,7 @@ pub record Call : Type 0 where
 
 -- the most bytes of an input
 abbrev pub input_limit : ℕ
-input_limit = 134217728
+input_limit = MAX_INPUT
 
 -- the input was left as it was
 pub record LeftAlone (c : Call) : Type 0 where

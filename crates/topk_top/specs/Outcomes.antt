@@ -26,7 +26,8 @@ pub record BecomesOf (c : Content) (ready : Ready) (outcome : Outcome) : Type 0 
 
 -- the reply to an input of these bytes
 abbrev pub IsReply : List ℕ → Reply → Type 0
-IsReply bytes (NoBundle text) = ((c : Content) → ¬ Spells (lines bytes) c) × ((line : ℕ) × IsFirstFault (lines bytes) line × (text.items ≡ bundle_refused_text line))
+IsReply bytes (NoBundle text) =
+    ((c : Content) → ¬ Spells (lines bytes) c) × ((line : ℕ) × IsFirstFault (lines bytes) line × (text.items ≡ bundle_refused_text line))
 IsReply bytes (LineReply line) = (c : Content) × Spells (lines bytes) c × IsLineOf c line
 
 -- the text of a reply, and its status

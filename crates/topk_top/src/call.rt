@@ -12,11 +12,9 @@ use super::one::{Line, Reply, reply_to};
 use super::status::Status;
 use cert_text::{Outcome, write_outcome};
 use command_words::{Command, Words, WordsFault, read_command};
+use limits::MAX_INPUT;
 use std::alloc::Global;
 use tk_io::{Failed, Intake, ReadError, Sink, read_text, write_text};
-
-/// The most bytes of an input.
-pub const INPUT_LIMIT: u64 = 134_217_728;
 
 /// What is written where the words are no command.
 const WORDS_REFUSED: &[u8] = b"refused words\n";
@@ -69,7 +67,7 @@ fn one<R: Intake, K: Sink>(alloc: Global, input: &mut R, out: &mut K) -> Status
       };
     }) result }
 {
-    match read_text(alloc, input, INPUT_LIMIT) {
+    match read_text(alloc, input, MAX_INPUT) {
         Ok(text) => match reply_to(alloc, &text) {
             Ok(reply) => write_reply(out, &reply),
             Err(_) => Status::Memory,

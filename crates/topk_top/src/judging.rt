@@ -5,9 +5,10 @@ ghost use Rattle.cert_judge.specs.Text.{told_text};
 ghost use Rattle.topk_top.specs.Ends.{Call, EndsReading, Says};
 ghost use Rattle.topk_top.specs.Judge.{JudgeReplies, told_status};
 
-use super::call::{INPUT_LIMIT, ended};
+use super::call::ended;
 use super::status::Status;
 use cert_judge::{Told, judge_text, write_told};
+use limits::MAX_INPUT;
 use std::alloc::Global;
 use tk_io::{Intake, ReadError, Sink, read_text};
 
@@ -27,7 +28,7 @@ pub(crate) fn judge<R: Intake, K: Sink>(alloc: Global, input: &mut R, out: &mut 
       };
     }) result }
 {
-    match read_text(alloc, input, INPUT_LIMIT) {
+    match read_text(alloc, input, MAX_INPUT) {
         Ok(text) => match judge_text(alloc, &text) {
             Ok(told) => write_judged(out, &told),
             Err(_) => Status::Memory,

@@ -2,7 +2,8 @@
 
 ghost use Rattle.topk_top.specs.Laws.{AnswersAreFixed, CountersAreBundles};
 
-/// Each certificate that `one` writes is fixed, whatever else is read of it: `judge` tells nothing else of it.
+/// Each text that `one` writes of an answered query spells a certificate whose figures are right, and is fixed: `judge`
+/// replies `fixes` to it, and nothing else.
 pub fn answers_are_fixed()
     ensures { AnswersAreFixed }
 {}

@@ -10,7 +10,7 @@ mod one;
 mod real;
 mod status;
 
-pub use call::{INPUT_LIMIT, top};
+pub use call::top;
 pub use command_words::{Words, WordsFault, read_words};
 pub use laws::{answers_are_fixed, counters_are_bundles};
 pub use real::{run, run_process};

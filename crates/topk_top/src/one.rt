@@ -43,7 +43,9 @@ pub(crate) fn reply_to(alloc: Global, bytes: &[u8]) -> Result<Reply, Memory>
     match read_bundle(alloc, bytes) {
         Ok(bundle) => Ok(Reply::Line(line_of(alloc, &bundle)?)),
         Err(BundleFault::BadBundle { line }) => {
-            let text = format!(in alloc; "refused bundle {line}\n").map_err(|_| Memory)?;
+            let Ok(text) = format!(in alloc; "refused bundle {line}\n") else {
+                return Err(Memory);
+            };
             Ok(Reply::NoBundle(text.into_bytes()))
         }
         Err(BundleFault::Memory) => Err(Memory),

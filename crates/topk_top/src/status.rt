@@ -6,7 +6,7 @@ ghost use Rattle.topk_top.specs.Codes.{exit_code};
 /// How a call ended, which is the program's exit status.
 #[derive(Clone, Copy, Debug, PartialEq, Eq)]
 pub enum Status {
-    /// The work was done: the query was answered, or the answer is fixed.
+    /// The work was done: the query was answered, the answer is fixed, or the table was made.
     Done = 0,
     /// All was written, and the query was refused, or the certificate was, or the answer is beaten.
     Partial = 1,

@@ -3,27 +3,21 @@ use Rattle.monotone_fn.specs.Value.{value}
 use Rattle.topk_theory.specs.Threshold.{item_objects}
 use Rattle.topk_theory.specs.Order.{first_k}
 use Rattle.topk_theory.specs.NoRandom.{seen_items}
-use Rattle.nra_theory.specs.Quiet.{is_quiet_seen}
 use Rattle.ca_core.specs.Course.{finish_from}
 use Rattle.ca_core.proofs.Courses.{enough_seen, block_goes, block_ends}
-use Rattle.ca_core.proofs.Renewing.{seen_tested}
 use Rattle.ca_core.proofs.following.end_block.Goals as goal
 
 pub returns-then-not-is_quiet-clause-moved : goal.returns-then-not-is_quiet-clause-moved
 returns-then-not-is_quiet-clause-moved c =
     let b = c.args.base.now in
-    block_goes (value b.expr) b.k b.transcript.lists b.transcript.count b.transcript.accesses c.args.depth c.args.first.now.items c.is_quiet.result
-    (c.is_quiet.ensures.quiet ∙ ap (λ k. is_quiet_seen (value b.expr) k b.transcript.lists b.transcript.count b.transcript.accesses) c.requires.seen.same_k) c.if-not-is_quiet.true
-
-pub returns-then-not-is_quiet-clause-seen : goal.returns-then-not-is_quiet-clause-seen
-returns-then-not-is_quiet-clause-seen c = seen_tested c.args.base.now c.args.late.now c.is_quiet.new.self c.requires.seen c.is_quiet.ensures.k c.is_quiet.ensures.room c.is_quiet.ensures.kept
+    block_goes (value b.expr) b.k b.transcript.lists b.transcript.count b.transcript.accesses c.args.depth c.args.first.now.items c.is_quiet.result c.is_quiet.ensures.quiet c.if-not-is_quiet.true
 
 pub first_items-requires-clause-enough : goal.first_items-requires-clause-enough
 first_items-requires-clause-enough c =
     let b = c.args.base.now in
-    let many = enough_seen (value b.expr) b.k b.transcript.lists b.transcript.count b.transcript.accesses c.is_quiet.result
-    (c.is_quiet.ensures.quiet ∙ ap (λ k. is_quiet_seen (value b.expr) k b.transcript.lists b.transcript.count b.transcript.accesses) c.requires.seen.same_k) c.if-not-is_quiet.false in
-    omega (arith, many, c.is_quiet.ensures.k, c.requires.seen.same_k)
+    let many = enough_seen (value b.expr) b.k b.transcript.lists b.transcript.count b.transcript.accesses c.is_quiet.result c.is_quiet.ensures.quiet c.if-not-is_quiet.false in
+    let kept = c.is_quiet.ensures.kept in
+    omega (arith, many, kept.same_k)
 
 pub first_items-requires-clause-room : goal.first_items-requires-clause-room
 first_items-requires-clause-room c = omega (arith, c.requires.held.roomy, c.requires.may.roomy)
@@ -31,10 +25,8 @@ first_items-requires-clause-room c = omega (arith, c.requires.held.roomy, c.requ
 pub returns-clause-moved : goal.returns-clause-moved
 returns-clause-moved c =
     let b = c.args.base.now in
+    let kept = c.is_quiet.ensures.kept in
     block_ends (value b.expr) b.k b.transcript.lists b.transcript.count b.transcript.accesses c.args.depth c.args.first.now.items c.first_items.new.items.items c.finish_from.result c.is_quiet.result
-    (c.is_quiet.ensures.quiet ∙ ap (λ k. is_quiet_seen (value b.expr) k b.transcript.lists b.transcript.count b.transcript.accesses) c.requires.seen.same_k) c.if-not-is_quiet.false
-    (c.first_items.ensures.items ∙ ap (λ k. first_k k (seen_items (value b.expr) b.transcript.lists b.transcript.accesses)) (c.is_quiet.ensures.k ∙ c.requires.seen.same_k))
+    c.is_quiet.ensures.quiet c.if-not-is_quiet.false
+    (c.first_items.ensures.items ∙ ap (λ k. first_k k (seen_items (value b.expr) b.transcript.lists b.transcript.accesses)) kept.same_k)
     (c.finish_from.ensures ∙ ap (λ xs. finish_from b.transcript.lists b.transcript.accesses (drop 0 (item_objects xs)) 0) c.deref.ensures.value)
-
-pub returns-clause-seen : goal.returns-clause-seen
-returns-clause-seen c = seen_tested c.args.base.now c.args.late.now c.is_quiet.new.self c.requires.seen c.is_quiet.ensures.k c.is_quiet.ensures.room c.is_quiet.ensures.kept

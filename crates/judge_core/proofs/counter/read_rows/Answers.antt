@@ -1,12 +1,12 @@
 use Rattle.std.proofs.Common.{◌∙◌, ap, sym, length, arith}
 use Rattle.std.proofs.lemmas.List.{take_all}
+use Rattle.ranked_list.proofs.Members.{past_end}
 use Rattle.topk_theory.specs.Transcript.{sorted_rows}
-use Rattle.judge_core.proofs.Tame.{past_get}
 use Rattle.judge_core.proofs.Completing.{read_more, few_read}
 use Rattle.judge_core.proofs.counter.read_rows.Goals as goal
 
 pub unreachable-requires : goal.unreachable-requires
-unreachable-requires c = let past = past_get c.args.transcript.now.accesses c.loop-place.place (sym c.in_default.ensures) in omega (arith, c.requires.made)
+unreachable-requires c = let past = past_end c.args.transcript.now.accesses c.loop-place.place (sym c.in_default.ensures) in omega (arith, c.requires.made)
 
 pub add_read-requires : goal.add_read-requires
 add_read-requires c =

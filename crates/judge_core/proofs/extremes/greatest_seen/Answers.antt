@@ -1,11 +1,12 @@
-use Rattle.std.proofs.Common.{ℕ, take, subst, sym, arith}
+use Rattle.std.proofs.Common.{ℕ, take, subst, arith}
 use Rattle.std.proofs.lemmas.List.{take_all}
 use Rattle.monotone_fn.specs.Value.{value}
 use Rattle.topk_theory.specs.Transcript.{seen_objects}
 use Rattle.topk_theory.specs.Bounds.{high}
+use Rattle.topk_theory.proofs.AgreementLists.{front_next}
 use Rattle.judge_core.specs.Extremes.{FindsGreatest}
 use Rattle.judge_core.specs.Outside.{IsOneOutside}
-use Rattle.judge_core.proofs.Extreme.{greatest_of_none, greatest_listed, taken_next}
+use Rattle.judge_core.proofs.Extreme.{greatest_of_none, greatest_listed}
 use Rattle.judge_core.proofs.extremes.greatest_seen.Goals as goal
 
 pub loop-place-init : goal.loop-place-init
@@ -17,7 +18,7 @@ loop-place-preserved c =
     let S = seen_objects c.args.transcript.now.accesses in
     let Y = c.args.answer.now in
     let object = c.object_at-object.result in
-    subst (λ xs. FindsGreatest f (IsOneOutside xs Y) c.greater_outside-best.result) (sym (taken_next S c.loop-place.place object c.object_at-object.ensures))
+    subst (λ xs. FindsGreatest f (IsOneOutside xs Y) c.greater_outside-best.result) (front_next S c.loop-place.place object c.object_at-object.ensures)
     (greatest_listed f (take c.loop-place.place S) Y c.loop-place.best c.greater_outside-best.result object c.loop-place.invariant c.greater_outside-best.ensures)
 
 pub returns : goal.returns

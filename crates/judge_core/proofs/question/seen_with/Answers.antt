@@ -1,10 +1,11 @@
 use Rattle.std.proofs.Common.{◌∙◌, nat_eq, position, sym, ap, arith}
+use Rattle.ranked_list.proofs.Members.{past_end}
 use Rattle.topk_theory.specs.Transcript.{seen_objects}
-use Rattle.judge_core.proofs.Tame.{walked, past_get}
+use Rattle.judge_core.proofs.Tame.{walked}
 use Rattle.judge_core.proofs.question.seen_with.Goals as goal
 
 pub unreachable-requires : goal.unreachable-requires
-unreachable-requires c = let past = past_get c.args.transcript.now.accesses c.args.place (sym c.in_default.ensures) in omega arith
+unreachable-requires c = let past = past_end c.args.transcript.now.accesses c.args.place (sym c.in_default.ensures) in omega arith
 
 pub returns : goal.returns
 returns c =

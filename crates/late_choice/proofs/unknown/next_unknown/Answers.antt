@@ -1,5 +1,6 @@
 use Rattle.std.proofs.Common.{◌≡◌, not, sym, ap, ◌∙◌, arith}
-use Rattle.late_choice.proofs.Grades.{unknown_found, known_more, known_at, known_length, known_of, unknown_of}
+use Rattle.topk_theory.proofs.UnknownLists.{none_unknown_more}
+use Rattle.late_choice.proofs.Grades.{unknown_found, known_at, known_length, known_of, unknown_of}
 use Rattle.late_choice.proofs.unknown.next_unknown.Goals as goal
 
 pub bounds-known-list : goal.bounds-known-list
@@ -14,6 +15,6 @@ returns-then-is_none c =
 
 pub loop-list-preserved : goal.loop-list-preserved
 loop-list-preserved c =
-    known_more c.loop-list.list c.args.transcript.now.accesses c.args.object
+    none_unknown_more c.loop-list.list c.args.transcript.now.accesses c.args.object
     (known_of _ _ (known_at c.args.transcript.now.lists c.loop-list.list c.args.transcript.now.accesses c.args.object c.known-known.result.now _ (omega (arith, c.loop-list-test.true, c.lists-list-end.ensures.lists)) c.known-known.ensures.known) (c.is_none.ensures ∙ ap not c.if-is_none.false))
     c.loop-list.invariant

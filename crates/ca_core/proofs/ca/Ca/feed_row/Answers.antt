@@ -1,10 +1,12 @@
 use Rattle.std.proofs.Common.{refl, subst, sym, ◌∙◌}
 use Rattle.std.specs.Vec.{vec_capacity}
 use Rattle.topk_theory.specs.declared.access.Access.TheVariants.{Sorted}
+use Rattle.machine_base.proofs.Held.{may_row}
 use Rattle.ca_core.specs.Machine.{MakesItsRun}
 use Rattle.ca_core.proofs.Runs.{kept_makes}
-use Rattle.ca_core.proofs.Calls.{may_row, can_row, was_renewed, seen_row, may_move, row_stands, row_taken}
+use Rattle.ca_core.proofs.Calls.{can_row, was_renewed, seen_row, may_move, row_stands, row_taken}
 use Rattle.ca_core.proofs.ca.Ca.feed_row.Goals as goal
+use Rattle.ca_core.specs.Course.{need_at}
 
 pub returns-in_err-test_room-clause-run : goal.returns-in_err-test_room-clause-run
 returns-in_err-test_room-clause-run c =
@@ -14,7 +16,7 @@ returns-in_err-test_room-clause-run c =
 pub tell-requires-clause-can : goal.tell-requires-clause-can
 tell-requires-clause-can c =
     let a = c.self.inside in
-    can_row a.base a.phase a.first.items a.stage c.args.row c.in-Row.list c.in-Row.depth c.self.invariant.kept (may_row a.base a.stage c.args.self.now c.args.row c.self.view_is c.requires) (sym c.need.ensures ∙ c.in-Row.is) c.in_ok-test_room.ensures.fits
+    can_row a.base a.phase a.first.items a.stage c.args.row c.in-Row.list c.in-Row.depth c.self.invariant.kept (may_row a.base (need_at a.stage) c.args.self.now c.args.row c.self.view_is c.requires) (sym c.need.ensures ∙ c.in-Row.is) c.in_ok-test_room.ensures.fits
 
 pub note-requires-clause-before : goal.note-requires-clause-before
 note-requires-clause-before c =
@@ -32,7 +34,7 @@ invariant_of-self c =
     let a = c.self.inside in
     row_stands a.base c.tell.new.self a.phase a.late c.follow-self-inside.new.late a.first.items c.follow-self-inside.new.first.items (vec_capacity a.first) (vec_capacity c.follow-self-inside.new.first) a.stage c.follow-self-inside.result
     c.in-Row.list c.in-Row.depth c.args.row.object c.args.row.grade c.self.invariant (sym c.need.ensures ∙ c.in-Row.is)
-    (can_row a.base a.phase a.first.items a.stage c.args.row c.in-Row.list c.in-Row.depth c.self.invariant.kept (may_row a.base a.stage c.args.self.now c.args.row c.self.view_is c.requires) (sym c.need.ensures ∙ c.in-Row.is) c.in_ok-test_room.ensures.fits)
+    (can_row a.base a.phase a.first.items a.stage c.args.row c.in-Row.list c.in-Row.depth c.self.invariant.kept (may_row a.base (need_at a.stage) c.args.self.now c.args.row c.self.view_is c.requires) (sym c.need.ensures ∙ c.in-Row.is) c.in_ok-test_room.ensures.fits)
     c.tell.ensures.told c.tell.ensures.held c.tell.ensures.reserved c.follow-self-inside.ensures.seen c.follow-self-inside.ensures.capacity c.follow-self-inside.ensures.moved
 
 pub returns-clause-fed : goal.returns-clause-fed
