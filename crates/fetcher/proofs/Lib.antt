@@ -1,0 +1,7 @@
+pub mod ReachLaws
+pub mod EventLaws
+mod FeedLaws
+pub mod BringLaws
+mod MeterLaws
+mod ChainLaws
+pub mod ToldLaws

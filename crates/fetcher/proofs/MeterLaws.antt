@@ -1,0 +1,262 @@
+-- What the turns of a fetcher bring together, turn by turn.
+use Rattle.std.proofs.Common.{◌≡◌, ◌≢◌, ◌≤◌, ◌<◌, ◌+◌, ◌-◌, ◌^◌, ℕ, min, max, None, List, length, refl, sym, ap, subst, ◌∙◌, arith, le_trans, le_refl, Option}
+use Rattle.ranked_list.specs.declared.row.Row.{Row}
+use Rattle.tk_io.specs.Faults.{Rose}
+use Rattle.tk_io.specs.Faults as faults
+use Rattle.turn_lock.specs.declared.facts.Tally.{Tally}
+use Rattle.turn_lock.specs.declared.known.Known.{Known}
+use Rattle.turn_lock.proofs.Growth.{begins_same, begins_on, at_most_same, at_most_on}
+use Rattle.topk_theory.proofs.AgreementLists.{distinct_fits}
+use Rattle.source_state.specs.declared.entry.LogEntry.{LogEntry}
+use Rattle.source_state.specs.declared.entry.LogEntry.TheVariants.{Settled}
+use Rattle.source_state.specs.declared.entry.Settling.{Settling}
+use Rattle.source_state.specs.declared.entry.Settling.TheVariants.{Missed}
+use Rattle.source_state.specs.declared.event.Event.{Event}
+use Rattle.source_state.specs.declared.event.Event.TheVariants as event
+use Rattle.source_state.specs.Log.{rows_in, settled_in, fault_in}
+use Rattle.source_state.specs.State.{State, settle, last_count, IsSound}
+use Rattle.source_state.specs.Events as events
+use Rattle.source_state.specs.Events.{logged, one_more}
+use Rattle.source_state.specs.Looking.{reach_of}
+use Rattle.source_api.specs.declared.counts.Counts.{Counts}
+use Rattle.source_api.specs.Counting.{raised, NoneFell}
+use Rattle.fetcher.specs.declared.turned.Fetched.{Fetched}
+use Rattle.fetcher.specs.declared.turned.Turned.{Turned}
+use Rattle.fetcher.specs.declared.turned.Turned.TheVariants as turned
+use Rattle.fetcher.specs.Turning.{IsFound, HasSeen, Feeds, IsFed, Brings}
+use Rattle.fetcher.specs.Metering.{WentUp, RoseBy, IsMetered, nothing, counted_by, HasCountOf}
+use Rattle.fetcher.proofs.ReachLaws.{reach_more, reach_within}
+use Rattle.fetcher.proofs.EventLaws.{page_stays, page_all, settling_more, settling_rows, settling_fault}
+
+-- all rows that were given are kept, while no row fault stands
+pub record KeepsAll (fetched : Fetched) (before now : Known LogEntry) : Type 0 where
+  pub rows : fault_in now.seen ≡ None → length (rows_in now.seen) ≡ length (rows_in before.seen) + fetched.rows
+
+went_more : (n a b now next : ℕ) → WentUp a n now → next ≡ raised now b → WentUp (a + b) n next
+went_more n a b now next went is = omega arith
+
+went_same : (n a now next : ℕ) → WentUp a n now → next ≡ now → WentUp a n next
+went_same n a now next went same = ap (λ m. raised m 0) same ∙ went
+
+rose_more : (n x before now : ℕ) → raised n x ≤ before → Rose before now → raised n (x + 1) ≤ now
+rose_more n x before now a b = omega arith
+
+rose_least : (n x y now : ℕ) → x ≤ y → raised n y ≤ now → raised n x ≤ now
+rose_least n x y now a b = omega arith
+
+one_less : (n first : ℕ) → one_more n - first ≤ n - first + 1
+one_less n first = omega arith
+
+reach_on : (page ahead : ℕ) (k1 k2 : Known LogEntry) → 1 ≤ page → Feeds k1 k2
+    → reach_of k1.sight.mark page ahead k1.name.1 ≤ reach_of k2.sight.mark page ahead k2.name.1
+reach_on page ahead k1 k2 some feeds =
+    subst (λ n. reach_of k1.sight.mark page ahead k1.name.1 ≤ reach_of k2.sight.mark page ahead n) (ap (λ (p : ℕ × ℕ). p.1) (sym feeds.name))
+    (reach_more page ahead k1.name.1 k1.sight.mark k2.sight.mark some feeds.sight)
+
+max_on : (start rows near far : ℕ) → start + rows ≤ max start near → near ≤ far → start + rows ≤ max start far
+max_on start rows near far a b = omega arith
+
+max_page : (start kept rows more far : ℕ) → kept ≡ start + rows → kept + more ≤ far → start + (rows + more) ≤ max start far
+max_page start kept rows more far a b = omega arith
+
+-- a turn that leaves the log
+pub record SameLog (k1 k2 : Known LogEntry) : Type 0 where
+  pub seen : k2.seen ≡ k1.seen
+
+kept_on : (fetched : Fetched) (k0 k1 k2 : Known LogEntry) → KeepsAll fetched k0 k1 → k2.seen ≡ k1.seen → KeepsAll fetched k0 k2
+kept_on fetched k0 k1 k2 h same = record { rows = λ none. ap (λ log. length (rows_in log)) same ∙ h.rows (ap fault_in (sym same) ∙ none) }
+
+-- a turn that settles an object
+pub record Settles (k1 k2 : Known LogEntry) : Type 0 where
+  pub settled : length (settled_in k2.seen) ≡ length (settled_in k1.seen) + 1
+  pub rows : length (rows_in k2.seen) ≡ length (rows_in k1.seen)
+  pub fault : fault_in k2.seen ≡ fault_in k1.seen
+  pub few : length (settled_in k2.seen) ≤ 200000
+
+settled_few : (s : State) → IsSound s → length (settled_in s.log) ≤ 200000
+settled_few s sound =
+    let asks : length (settled_in s.log) ≤ length s.asks = distinct_fits (settled_in s.log) s.asks sound.log.once sound.log.asked in
+    le_trans asks (le_trans sound.fits sound.small)
+
+settles_by : (e : Event) (object : ℕ) (settling : State → Settling) (k1 k2 : Known LogEntry)
+    → ((s : State) → events.after s e ≡ logged s (Settled object (settling s))) → IsFed e k1 k2 → Settles k1 k2
+settles_by e object settling k1 k2 is fed =
+    let after : k2.seen ≡ (logged fed.found (Settled object (settling fed.found))).log = fed.sees.log ∙ ap (λ (s : State). s.log) (is fed.found) in
+    record {
+      settled = ap (λ log. length (settled_in log)) after ∙ (settling_more fed.found object (settling fed.found) ∙ ap (λ log. length (settled_in log) + 1) fed.is.log);
+      rows = ap (λ log. length (rows_in log)) after ∙ (ap (length {A = Row}) (settling_rows fed.found object (settling fed.found)) ∙ ap (λ log. length (rows_in log)) fed.is.log);
+      fault = ap fault_in after ∙ (settling_fault fed.found object (settling fed.found) ∙ ap fault_in fed.is.log);
+      few = subst (λ log. length (settled_in log) ≤ 200000) (sym fed.sees.log) (settled_few (events.after fed.found e) fed.sound);
+    }
+
+kept_settled : (fetched : Fetched) (k0 k1 k2 : Known LogEntry) → KeepsAll fetched k0 k1 → Settles k1 k2
+    → KeepsAll (record fetched { grades = fetched.grades + 1 }) k0 k2
+kept_settled fetched k0 k1 k2 h s = record { rows = λ none. s.rows ∙ h.rows (sym s.fault ∙ none) }
+
+-- what was metered, before a turn
+pub record Meters (page ahead : ℕ) (fetched : Fetched) (counts now : Counts) (before after : Known LogEntry) : Type 0 where
+  pub metered : IsMetered page ahead fetched counts now before after
+  pub kept : KeepsAll fetched before after
+
+-- a turn that gives nothing, with what its tally and faults do
+still : (page ahead : ℕ) (fetched : Fetched) (c0 c1 c2 : Counts) (k0 k1 k2 : Known LogEntry) → 1 ≤ page → Meters page ahead fetched c0 c1 k0 k1 → Feeds k1 k2
+    → k2.seen ≡ k1.seen
+    → c2.rows_given ≡ c1.rows_given → c2.grades_given ≡ c1.grades_given
+    → RoseBy (k2.tally.failed - k0.tally.failed) c0.faults c2.faults → RoseBy (k2.tally.garbled - k0.tally.garbled) c0.garbles c2.garbles
+    → Meters page ahead fetched c0 c2 k0 k2
+still page ahead fetched c0 c1 c2 k0 k1 k2 some m feeds seen rows grades failed garbled = record {
+  metered = record {
+    rows = went_same c0.rows_given fetched.rows c1.rows_given c2.rows_given m.metered.rows rows;
+    grades = went_same c0.grades_given fetched.grades c1.grades_given c2.grades_given m.metered.grades grades;
+    reach = max_on (length (rows_in k0.seen)) fetched.rows _ _ m.metered.reach (reach_on page ahead k1 k2 some feeds);
+    settled = m.metered.settled ∙ ap (λ log. length (settled_in log)) (sym seen);
+    failed = failed;
+    garbled = garbled;
+  };
+  kept = kept_on fetched k0 k1 k2 m.kept seen;
+}
+
+-- the fails of a kind that didn't come
+same_failed : (k0 k1 k2 : Known LogEntry) (before now then_ : ℕ) → k2.tally.failed ≡ k1.tally.failed → RoseBy (k1.tally.failed - k0.tally.failed) before now
+    → now ≤ then_ → RoseBy (k2.tally.failed - k0.tally.failed) before then_
+same_failed k0 k1 k2 before now then_ same rose later = subst (λ n. raised before (n - k0.tally.failed) ≤ then_) (sym same) (le_trans rose later)
+
+same_garbled : (k0 k1 k2 : Known LogEntry) (before now then_ : ℕ) → k2.tally.garbled ≡ k1.tally.garbled
+    → RoseBy (k1.tally.garbled - k0.tally.garbled) before now → now ≤ then_ → RoseBy (k2.tally.garbled - k0.tally.garbled) before then_
+same_garbled k0 k1 k2 before now then_ same rose later = subst (λ n. raised before (n - k0.tally.garbled) ≤ then_) (sym same) (le_trans rose later)
+
+one_failed : (before now then_ first last : ℕ) → RoseBy (last - first) before now → Rose now then_ → RoseBy (one_more last - first) before then_
+one_failed before now then_ first last rose more = rose_least before (one_more last - first) (last - first + 1) then_ (one_less last first) (rose_more before (last - first) now then_ rose more)
+
+-- a turn that settles an object
+settled_turn : (page ahead : ℕ) (fetched : Fetched) (c0 c1 c2 : Counts) (k0 k1 k2 : Known LogEntry) → 1 ≤ page → Meters page ahead fetched c0 c1 k0 k1
+    → Feeds k1 k2 → NoneFell c1 c2 → Settles k1 k2
+    → k2.tally ≡ k1.tally → c2.rows_given ≡ c1.rows_given → c2.grades_given ≡ faults.counted c1.grades_given → Meters page ahead (record fetched { grades = fetched.grades + 1 }) c0 c2 k0 k2
+settled_turn page ahead fetched c0 c1 c2 k0 k1 k2 some m feeds later s tally rows grades = record {
+  metered = record {
+    rows = went_same c0.rows_given fetched.rows c1.rows_given c2.rows_given m.metered.rows rows;
+    grades = went_more c0.grades_given fetched.grades 1 c1.grades_given c2.grades_given m.metered.grades grades;
+    reach = max_on (length (rows_in k0.seen)) fetched.rows _ _ m.metered.reach (reach_on page ahead k1 k2 some feeds);
+    settled = let a = m.metered.settled in let b = s.settled in omega (arith, a, b);
+    failed = same_failed k0 k1 k2 c0.faults c1.faults c2.faults (ap (λ (t : Tally). t.failed) tally) m.metered.failed later.faults;
+    garbled = same_garbled k0 k1 k2 c0.garbles c1.garbles c2.garbles (ap (λ (t : Tally). t.garbled) tally) m.metered.garbled later.garbles;
+  };
+  kept = kept_settled fetched k0 k1 k2 m.kept s;
+}
+
+-- one more turn
+pub meter_more : (page ahead : ℕ) (fetched : Fetched) (answer : Turned) (list : Option (List Row)) (c0 c1 c2 : Counts) (k0 k1 k2 : Known LogEntry) → 1 ≤ page
+    → Meters page ahead fetched c0 c1 k0 k1 → Feeds k1 k2 → NoneFell c1 c2
+    → Brings page ahead list c1 c2 k1 k2 answer → Meters page ahead (counted_by fetched answer) c0 c2 k0 k2
+meter_more page ahead fetched (turned.Paged rows) list c0 c1 c2 k0 k1 k2 some m feeds later b =
+    let fed = b.fed in
+    let all : length (rows_in k1.seen) ≡ length (rows_in k0.seen) + fetched.rows = m.kept.rows b.no_fault in
+    let size = b.size in
+    record {
+      metered = record {
+        rows = went_more c0.rows_given fetched.rows rows c1.rows_given c2.rows_given m.metered.rows b.gave.rows;
+        grades = went_same c0.grades_given fetched.grades c1.grades_given c2.grades_given m.metered.grades b.gave.grades;
+        reach = max_page (length (rows_in k0.seen)) (length (rows_in k1.seen)) fetched.rows rows _ all b.reach;
+        settled = m.metered.settled ∙ sym (ap (λ log. length (settled_in log)) fed.sees.log ∙ (ap (length {A = ℕ}) (page_stays fed.found b.given).settled ∙ ap (λ log. length (settled_in log)) fed.is.log));
+        failed = same_failed k0 k1 k2 c0.faults c1.faults c2.faults (ap (λ (t : Tally). t.failed) b.tally) m.metered.failed later.faults;
+        garbled = same_garbled k0 k1 k2 c0.garbles c1.garbles c2.garbles (ap (λ (t : Tally). t.garbled) b.tally) m.metered.garbled later.garbles;
+      };
+      kept = record {
+        rows = λ none.
+            let now = page_all fed.found b.given (ap fault_in (sym fed.sees.log) ∙ none) (ap fault_in fed.is.log ∙ b.no_fault) in
+            let there : length (rows_in fed.found.log) ≡ length (rows_in k1.seen) = ap (λ log. length (rows_in log)) fed.is.log in
+            ap (λ log. length (rows_in log)) fed.sees.log ∙ (now ∙ sum_of (length (rows_in fed.found.log)) (length b.given) (length (rows_in k1.seen)) rows (length (rows_in k0.seen)) fetched.rows there size all);
+      };
+    }
+  where
+    sum_of : (a b c d e f : ℕ) → a ≡ c → b ≡ d → c ≡ e + f → a + b ≡ e + (f + d)
+    sum_of a b c d e f p q r = omega arith
+meter_more page ahead fetched (turned.Graded object) list c0 c1 c2 k0 k1 k2 some m feeds later b =
+    settled_turn page ahead fetched c0 c1 c2 k0 k1 k2 some m feeds later
+    (settles_by (event.Grade object b.grade) object (λ s. settle (rows_in s.log) object b.grade) k1 k2 (λ s. refl) b.fed) b.tally b.gave.rows b.gave.grades
+meter_more page ahead fetched (turned.Missed object) list c0 c1 c2 k0 k1 k2 some m feeds later b =
+    settled_turn page ahead fetched c0 c1 c2 k0 k1 k2 some m feeds later (settles_by (event.Miss object) object (λ s. Missed) k1 k2 (λ s. refl) b.fed) b.tally b.gave.rows b.gave.grades
+meter_more page ahead fetched turned.Failed list c0 c1 c2 k0 k1 k2 some m feeds later b =
+    still page ahead fetched c0 c1 c2 k0 k1 k2 some m feeds b.seen b.gave.rows b.gave.grades
+    (subst (λ (t : Tally). RoseBy (t.failed - k0.tally.failed) c0.faults c2.faults) (sym b.tally) (one_failed c0.faults c1.faults c2.faults k0.tally.failed k1.tally.failed m.metered.failed b.cause))
+    (same_garbled k0 k1 k2 c0.garbles c1.garbles c2.garbles (ap (λ (t : Tally). t.garbled) b.tally) m.metered.garbled later.garbles)
+meter_more page ahead fetched turned.Garbled list c0 c1 c2 k0 k1 k2 some m feeds later b =
+    still page ahead fetched c0 c1 c2 k0 k1 k2 some m feeds b.seen b.gave.rows b.gave.grades
+    (same_failed k0 k1 k2 c0.faults c1.faults c2.faults (ap (λ (t : Tally). t.failed) b.tally) m.metered.failed later.faults)
+    (subst (λ (t : Tally). RoseBy (t.garbled - k0.tally.garbled) c0.garbles c2.garbles) (sym b.tally) (one_failed c0.garbles c1.garbles c2.garbles k0.tally.garbled k1.tally.garbled m.metered.garbled b.cause))
+meter_more page ahead fetched turned.Memory list c0 c1 c2 k0 k1 k2 some m feeds later b =
+    still page ahead fetched c0 c1 c2 k0 k1 k2 some m feeds b.seen b.gave.rows b.gave.grades
+    (same_failed k0 k1 k2 c0.faults c1.faults c2.faults (ap (λ (t : Tally). t.failed) b.tally) m.metered.failed later.faults)
+    (same_garbled k0 k1 k2 c0.garbles c1.garbles c2.garbles (ap (λ (t : Tally). t.garbled) b.tally) m.metered.garbled later.garbles)
+meter_more page ahead fetched turned.Idle list c0 c1 c2 k0 k1 k2 some m feeds later b =
+    still page ahead fetched c0 c1 c2 k0 k1 k2 some m feeds b.seen (ap (λ (c : Counts). c.rows_given) b.gave) (ap (λ (c : Counts). c.grades_given) b.gave)
+    (same_failed k0 k1 k2 c0.faults c1.faults c2.faults (ap (λ (t : Tally). t.failed) b.tally) m.metered.failed later.faults)
+    (same_garbled k0 k1 k2 c0.garbles c1.garbles c2.garbles (ap (λ (t : Tally). t.garbled) b.tally) m.metered.garbled later.garbles)
+
+-- the counts stay small
+grade_fits : (page ahead : ℕ) (fetched : Fetched) (c0 c1 : Counts) (k0 k1 k2 : Known LogEntry) → Meters page ahead fetched c0 c1 k0 k1 → Settles k1 k2
+    → fetched.grades + 1 < 2 ^ 32
+grade_fits page ahead fetched c0 c1 k0 k1 k2 m s = let a = m.metered.settled in let b = s.settled in let d = s.few in omega (arith, a, b, d)
+
+pub counts_fit : (page ahead : ℕ) (fetched : Fetched) (answer : Turned) (list : Option (List Row)) (c0 c1 c2 : Counts) (k0 k1 k2 : Known LogEntry)
+    → Meters page ahead fetched c0 c1 k0 k1 → Feeds k1 k2
+    → Brings page ahead list c1 c2 k1 k2 answer → HasCountOf fetched answer
+counts_fit page ahead fetched (turned.Paged rows) list c0 c1 c2 k0 k1 k2 m feeds b =
+    let all : length (rows_in k1.seen) ≡ length (rows_in k0.seen) + fetched.rows = m.kept.rows b.no_fault in
+    let reach = b.reach in
+    let within = reach_within page ahead k2.name.1 k2.sight.mark in
+    let name : k2.name.1 ≡ b.fed.found.count = ap (λ (p : ℕ × ℕ). p.1) (feeds.name ∙ sym b.fed.is.name) in
+    let small = b.fed.is.sound.small in
+    fits (length (rows_in k1.seen)) (length (rows_in k0.seen)) fetched.rows rows _ _ _ all reach within name small
+  where
+    fits : (kept start rows more far count n : ℕ) → kept ≡ start + rows → kept + more ≤ far → far ≤ count → count ≡ n → n ≤ 200000 → rows + more < 2 ^ 32
+    fits kept start rows more far count n a b c d e = omega arith
+counts_fit page ahead fetched (turned.Graded object) list c0 c1 c2 k0 k1 k2 m feeds b =
+    grade_fits page ahead fetched c0 c1 k0 k1 k2 m (settles_by (event.Grade object b.grade) object (λ s. settle (rows_in s.log) object b.grade) k1 k2 (λ s. refl) b.fed)
+counts_fit page ahead fetched (turned.Missed object) list c0 c1 c2 k0 k1 k2 m feeds b =
+    grade_fits page ahead fetched c0 c1 k0 k1 k2 m (settles_by (event.Miss object) object (λ s. Missed) k1 k2 (λ s. refl) b.fed)
+counts_fit page ahead fetched turned.Failed list c0 c1 c2 k0 k1 k2 m feeds b = tt
+counts_fit page ahead fetched turned.Garbled list c0 c1 c2 k0 k1 k2 m feeds b = tt
+counts_fit page ahead fetched turned.Memory list c0 c1 c2 k0 k1 k2 m feeds b = tt
+counts_fit page ahead fetched turned.Idle list c0 c1 c2 k0 k1 k2 m feeds b = tt
+
+-- before any turn
+pub meter_none : (page ahead : ℕ) (counts : Counts) (known : Known LogEntry) → Meters page ahead nothing counts counts known known
+meter_none page ahead counts known = record {
+  metered = record {
+    rows = refl;
+    grades = refl;
+    reach = least (length (rows_in known.seen)) (reach_of known.sight.mark page ahead known.name.1);
+    settled = omega arith;
+    failed = none_rose counts.faults known.tally.failed;
+    garbled = none_rose counts.garbles known.tally.garbled;
+  };
+  kept = record { rows = λ none. omega arith };
+}
+  where
+    least : (start far : ℕ) → start + 0 ≤ max start far
+    least start far = omega arith
+
+    none_rose : (n first : ℕ) → raised n (first - first) ≤ n
+    none_rose n first = omega arith
+
+pub feeds_same : (known : Known LogEntry) → Feeds known known
+feeds_same known = record { follows = record { seen = begins_same known.seen; met = begins_same known.met; tally = at_most_same known.tally }; name = refl; parts = refl; high = refl; asked = refl; sight = le_refl known.sight.mark }
+
+pub feeds_on : (k0 k1 k2 : Known LogEntry) → Feeds k0 k1 → Feeds k1 k2 → Feeds k0 k2
+feeds_on k0 k1 k2 a b = record {
+  follows = record { seen = begins_on a.follows.seen b.follows.seen; met = begins_on a.follows.met b.follows.met; tally = at_most_on a.follows.tally b.follows.tally };
+  name = b.name ∙ a.name;
+  parts = b.parts ∙ a.parts;
+  high = b.high ∙ a.high;
+  asked = b.asked ∙ a.asked;
+  sight = le_trans a.sight b.sight;
+}
+
+pub none_fell_on : (c0 c1 c2 : Counts) → NoneFell c0 c1 → NoneFell c1 c2 → NoneFell c0 c2
+none_fell_on c0 c1 c2 a b = record {
+  faults = le_trans a.faults b.faults;
+  garbles = le_trans a.garbles b.garbles;
+  rows_given = le_trans a.rows_given b.rows_given;
+  grades_given = le_trans a.grades_given b.grades_given;
+}

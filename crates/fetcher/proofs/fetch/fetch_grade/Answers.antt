@@ -1,0 +1,20 @@
+use Rattle.std.proofs.Common.{sym, subst}
+use Rattle.fetcher.specs.Turning.{Brings}
+use Rattle.fetcher.proofs.BringLaws.{grade_brings, fail_brings, answer_busy, failed_busy}
+use Rattle.fetcher.proofs.fetch.fetch_grade.Goals as goal
+
+pub returns-in-Ok-clause-brings : goal.returns-in-Ok-clause-brings
+returns-in-Ok-clause-brings g c = λ page ahead.
+    subst (Brings page ahead (g.S.Source.list c.args.source.now) (g.S.Source.counts c.args.source.now) (g.S.Source.counts c.grade.new.self) c.args.feeder.now.pass.1 c.tell_grade.new.feeder.pass.1) (sym c.tell_grade.ensures.answer)
+    (grade_brings page ahead c.args.object c.in-Ok.grade _ _ _ _ _ c.tell_grade.ensures.fed c.in-Ok.ensures.given c.in-Ok.ensures.grade)
+
+pub returns-in-Ok-clause-busy : goal.returns-in-Ok-clause-busy
+returns-in-Ok-clause-busy g c = answer_busy c.args.object c.in-Ok.grade c.tell_grade.result c.tell_grade.ensures.answer
+
+pub returns-in-Err-clause-brings : goal.returns-in-Err-clause-brings
+returns-in-Err-clause-brings g c = λ page ahead.
+    subst (Brings page ahead (g.S.Source.list c.args.source.now) (g.S.Source.counts c.args.source.now) (g.S.Source.counts c.grade.new.self) c.args.feeder.now.pass.1 c.tell_fail.new.feeder.pass.1) (sym c.tell_fail.ensures.answer)
+    (fail_brings page ahead c.in-Err.trouble _ _ _ _ _ c.tell_fail.ensures.fed c.in-Err.ensures.gave_nothing c.in-Err.ensures.cause)
+
+pub returns-in-Err-clause-busy : goal.returns-in-Err-clause-busy
+returns-in-Err-clause-busy g c = failed_busy c.in-Err.trouble c.tell_fail.result c.tell_fail.ensures.answer

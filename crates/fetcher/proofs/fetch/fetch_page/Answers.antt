@@ -1,0 +1,33 @@
+use Rattle.std.proofs.Common.{◌≡◌, ◌≤◌, length, sym, ap, subst, arith}
+use Rattle.std.specs.Option.{IfSome}
+use Rattle.source_api.specs.Counting.{GaveRows}
+use Rattle.source_api.specs.Told.{IsPage}
+use Rattle.fetcher.specs.Turning.{Brings}
+use Rattle.fetcher.proofs.BringLaws.{next_may, page_brings, fail_brings, paged_busy, failed_busy}
+use Rattle.fetcher.proofs.fetch.fetch_page.Goals as goal
+
+pub tell_page-requires-clause-may : goal.tell_page-requires-clause-may
+tell_page-requires-clause-may g c =
+    let same : length c.from_vec.result ≡ length c.in-Ok.rows.items = ap length c.from_vec.ensures in
+    next_may c.args.from c.args.count c.from_vec.result c.args.feeder.now.pass.1 c.requires.next (omega (arith, same, c.in-Ok.ensures.bound, c.in-Ok.rows.ok.0))
+
+pub returns-in-Ok-clause-brings : goal.returns-in-Ok-clause-brings
+returns-in-Ok-clause-brings g c = λ page ahead some reach.
+    let same : length c.from_vec.result ≡ length c.in-Ok.rows.items = ap length c.from_vec.ensures in
+    let few : length c.from_vec.result ≤ c.args.count = omega (arith, same, c.in-Ok.ensures.bound, c.in-Ok.rows.ok.0) in
+    let size : c.in-Ok.rows.len ≡ length c.from_vec.result = omega (arith, same, c.in-Ok.rows.ok.0) in
+    let gave = subst (λ n. GaveRows n (g.S.Source.counts c.args.source.now) (g.S.Source.counts c.page.new.self)) size c.in-Ok.ensures.given in
+    let told = subst (λ given. IfSome (g.S.Source.list c.args.source.now) (λ all. IsPage all c.args.from given)) (sym c.from_vec.ensures) c.in-Ok.ensures.page in
+    subst (Brings page ahead (g.S.Source.list c.args.source.now) (g.S.Source.counts c.args.source.now) (g.S.Source.counts c.page.new.self) c.args.feeder.now.pass.1 c.tell_page.new.feeder.pass.1) (sym c.tell_page.ensures.answer)
+    (page_brings page ahead c.args.from c.args.count c.from_vec.result _ _ _ _ _ c.requires.next c.tell_page.ensures.fed c.tell_page.ensures.feeds few gave told some reach)
+
+pub returns-in-Ok-clause-busy : goal.returns-in-Ok-clause-busy
+returns-in-Ok-clause-busy g c = paged_busy _ c.tell_page.result c.tell_page.ensures.answer
+
+pub returns-in-Err-clause-brings : goal.returns-in-Err-clause-brings
+returns-in-Err-clause-brings g c = λ page ahead some reach.
+    subst (Brings page ahead (g.S.Source.list c.args.source.now) (g.S.Source.counts c.args.source.now) (g.S.Source.counts c.page.new.self) c.args.feeder.now.pass.1 c.tell_fail.new.feeder.pass.1) (sym c.tell_fail.ensures.answer)
+    (fail_brings page ahead c.in-Err.trouble _ _ _ _ _ c.tell_fail.ensures.fed c.in-Err.ensures.gave_nothing c.in-Err.ensures.cause)
+
+pub returns-in-Err-clause-busy : goal.returns-in-Err-clause-busy
+returns-in-Err-clause-busy g c = failed_busy c.in-Err.trouble c.tell_fail.result c.tell_fail.ensures.answer

@@ -1,0 +1,15 @@
+use Rattle.std.proofs.Common.{sym, subst}
+use Rattle.source_state.specs.Events.{MayCome}
+use Rattle.fetcher.specs.Turning.{IsOfSource, IsFed}
+use Rattle.fetcher.proofs.BringLaws.{settled_may, settled_source}
+use Rattle.fetcher.proofs.fetch.tell_grade.Goals as goal
+
+pub tell-requires-clause-source : goal.tell-requires-clause-source
+tell-requires-clause-source g c = subst IsOfSource (sym c.event_of-event.ensures) (settled_source c.args.object c.args.grade)
+
+pub tell-requires-clause-may : goal.tell-requires-clause-may
+tell-requires-clause-may g c =
+    λ state is. subst (MayCome state) (sym c.event_of-event.ensures) (settled_may c.args.object c.args.grade c.args.feeder.now.pass.1 c.requires.may state is)
+
+pub returns-clause-fed : goal.returns-clause-fed
+returns-clause-fed g c = subst (λ event. IsFed event c.args.feeder.now.pass.1 c.tell.new.feeder.pass.1) c.event_of-event.ensures c.tell.ensures.fed

@@ -1,0 +1,38 @@
+-- The turns of a fetcher one after another.
+use Rattle.std.specs.Prelude.{◌≡◌, ℕ, Option, List, [], ◌∷◌}
+use Rattle.ranked_list.specs.declared.row.Row.{Row}
+use Rattle.turn_lock.specs.declared.known.Known.{Known}
+use Rattle.source_state.specs.declared.entry.LogEntry.{LogEntry}
+use Rattle.source_api.specs.declared.counts.Counts.{Counts}
+use Rattle.source_api.specs.Counting.{NoneFell}
+use Rattle.fetcher.specs.declared.turned.Turned.{Turned}
+use Rattle.fetcher.specs.Turning.{Feeds, Brings}
+
+-- what a source has counted, and what its feeder knows
+pub record Moment : Type 0 where
+  pub counts : Counts
+  pub known : Known LogEntry
+
+abbrev pub moment : Counts → Known LogEntry → Moment
+moment counts known = record { counts = counts; known = known }
+
+-- a turn: what it answered, and the moment after it
+pub record OneTurn : Type 0 where
+  pub answer : Turned
+  pub next : Moment
+
+-- a turn brought what it answered, between two moments
+pub record IsTurnOf (page ahead : ℕ) (list : Option (List Row)) (before after : Moment) (answer : Turned) : Type 0 where
+  pub brings : Brings page ahead list before.counts after.counts before.known after.known answer
+  pub feeds : Feeds before.known after.known
+  pub later : NoneFell before.counts after.counts
+
+-- turns one after another, from one moment to another
+abbrev pub AreTurns : ℕ → ℕ → Option (List Row) → Moment → List OneTurn → Moment → Type 0
+AreTurns page ahead list before [] after = after ≡ before
+AreTurns page ahead list before (turn ∷ turns) after = IsTurnOf page ahead list before turn.next turn.answer × AreTurns page ahead list turn.next turns after
+
+-- some turns in their order lead from one moment to another
+pub record IsFetched (page ahead : ℕ) (list : Option (List Row)) (before after : Moment) : Type 0 where
+  pub turns : List OneTurn
+  pub each : AreTurns page ahead list before turns after

@@ -1,0 +1,4 @@
+pub mod Turning
+pub mod Metering
+pub mod Chaining
+pub mod Telling

@@ -1,0 +1,289 @@
+//! The turns of a fetcher.
+
+ghost use Rattle.std.specs.Prelude.{◌≡◌, ◌≢◌, ◌≤◌, ◌+◌, ◌<◌, ◌^◌, ℕ, Some, None, length, OnErr};
+ghost use Rattle.source_state.specs.Log.{rows_in, fault_in};
+ghost use Rattle.source_state.specs.State.{State as StateOf, asked_in};
+ghost use Rattle.source_state.specs.Events.{MayCome};
+ghost use Rattle.source_state.specs.Looking.{reach_of};
+ghost use Rattle.source_pool.specs.Passes.{IsIdleOf};
+ghost use Rattle.source_api.specs.Counting.{NoneFell, GaveNothing};
+ghost use Rattle.fetcher.specs.Turning.{IsFound, Feeds, IsPlanned, IsFed, Brings, MayTellPage, MayTellGrade, MayFetch, IsNext};
+ghost use Rattle.fetcher.specs.Turning.{settled_by, answer_by, kind_of, failed_by, IsOfSource};
+ghost use Rattle.fetcher.specs.Chaining.{moment, IsFetched};
+ghost use Rattle.fetcher.specs.Metering.{IsMetered, HasCountOf, counted_by};
+
+use super::stop::Stop;
+use super::turned::{Fetched, Turned};
+use ranked_list::PageRows;
+use source_api::{Source, Trouble};
+use source_pool::{Feeder, Pool};
+use source_state::{Event, FailKind, Plan};
+use std::alloc::Global;
+use std::sync::Wait;
+use std::thread;
+
+/// What is to be fetched next, read in one turn.
+fn read_plan(rt: &impl Wait, pool: &Pool, feeder: &mut Feeder, page: u32, ahead: u32) -> Plan
+    requires own { IsIdleOf pool.now feeder.old }
+    requires page { (1 ≤ page) × (page ≤ 10000) }
+    requires ahead { ahead ≤ 100 }
+    ensures own { IsIdleOf pool.now feeder.new }
+    ensures source { feeder.new.source ≡ feeder.old.source }
+    ensures feeds { Feeds feeder.old.pass.1 feeder.new.pass.1 }
+    ensures turns { feeder.new.pass.1.turns ≡ feeder.old.pass.1.turns + 1 }
+    ensures plan { IsPlanned page ahead feeder.old.pass.1 feeder.new.pass.1 result }
+    ensures next { MayFetch page ahead feeder.new.pass.1 result }
+{
+    let state = pool.take(rt, feeder);
+    let next = state.plan(page, ahead);
+    pool.give(feeder, state);
+    next
+}
+
+/// Applies an event in one turn.
+fn tell(rt: &impl Wait, pool: &Pool, feeder: &mut Feeder, event: Event)
+    requires own { IsIdleOf pool.now feeder.old }
+    requires source { IsOfSource event }
+    requires may { (state : StateOf) → IsFound state feeder.old.pass.1 → MayCome state event }
+    ensures own { IsIdleOf pool.now feeder.new }
+    ensures source { feeder.new.source ≡ feeder.old.source }
+    ensures feeds { Feeds feeder.old.pass.1 feeder.new.pass.1 }
+    ensures fed { IsFed event feeder.old.pass.1 feeder.new.pass.1 }
+{
+    let mut state = pool.take(rt, feeder);
+    let _ = state.count();
+    state.apply(event);
+    pool.give(feeder, state);
+}
+
+/// Applies the rows of a page.
+fn tell_page(rt: &impl Wait, pool: &Pool, feeder: &mut Feeder, rows: PageRows) -> Turned
+    requires own { IsIdleOf pool.now feeder.old }
+    requires may { MayTellPage rows feeder.old.pass.1 }
+    ensures own { IsIdleOf pool.now feeder.new }
+    ensures source { feeder.new.source ≡ feeder.old.source }
+    ensures feeds { Feeds feeder.old.pass.1 feeder.new.pass.1 }
+    ensures fed { IsFed (Event.Page rows) feeder.old.pass.1 feeder.new.pass.1 }
+    ensures answer { result ≡ Turned.Paged (length rows) }
+{
+    let given = rows.len();
+    tell(rt, pool, feeder, Event::Page { rows });
+    Turned::Paged { rows: given }
+}
+
+/// The event that an answered call for a grade makes.
+fn event_of(object: u32, grade: Option<u32>) -> Event
+    ensures { result ≡ settled_by object grade }
+{
+    match grade {
+        Some(grade) => Event::Grade { object, grade },
+        None => Event::Miss { object },
+    }
+}
+
+/// What an answered call for a grade makes of the turn.
+fn answer_of(object: u32, grade: Option<u32>) -> Turned
+    ensures { result ≡ answer_by object grade }
+{
+    match grade {
+        Some(_) => Turned::Graded { object },
+        None => Turned::Missed { object },
+    }
+}
+
+/// Applies the grade of an object, or that the source hasn't it.
+fn tell_grade(
+    rt: &impl Wait,
+    pool: &Pool,
+    feeder: &mut Feeder,
+    object: u32,
+    grade: Option<u32>,
+) -> Turned
+    requires own { IsIdleOf pool.now feeder.old }
+    requires may { MayTellGrade object feeder.old.pass.1 }
+    ensures own { IsIdleOf pool.now feeder.new }
+    ensures source { feeder.new.source ≡ feeder.old.source }
+    ensures feeds { Feeds feeder.old.pass.1 feeder.new.pass.1 }
+    ensures fed { IsFed (settled_by object grade) feeder.old.pass.1 feeder.new.pass.1 }
+    ensures answer { result ≡ answer_by object grade }
+{
+    let event = event_of(object, grade);
+    tell(rt, pool, feeder, event);
+    answer_of(object, grade)
+}
+
+/// The kind of fail that a call ended with.
+fn kind_of(trouble: Trouble) -> FailKind
+    ensures { result ≡ kind_of trouble }
+{
+    match trouble {
+        Trouble::Failed => FailKind::Failed,
+        Trouble::Garbled => FailKind::Garbled,
+        Trouble::Memory => FailKind::Memory,
+    }
+}
+
+/// What a call that ended so makes of the turn.
+fn failed_by(trouble: Trouble) -> Turned
+    ensures { result ≡ failed_by trouble }
+{
+    match trouble {
+        Trouble::Failed => Turned::Failed,
+        Trouble::Garbled => Turned::Garbled,
+        Trouble::Memory => Turned::Memory,
+    }
+}
+
+/// Applies that a call of the source failed.
+fn tell_fail(rt: &impl Wait, pool: &Pool, feeder: &mut Feeder, trouble: Trouble) -> Turned
+    requires own { IsIdleOf pool.now feeder.old }
+    ensures own { IsIdleOf pool.now feeder.new }
+    ensures source { feeder.new.source ≡ feeder.old.source }
+    ensures feeds { Feeds feeder.old.pass.1 feeder.new.pass.1 }
+    ensures fed { IsFed (Event.Fail (kind_of trouble)) feeder.old.pass.1 feeder.new.pass.1 }
+    ensures answer { result ≡ failed_by trouble }
+{
+    let what = kind_of(trouble);
+    tell(rt, pool, feeder, Event::Fail { what });
+    failed_by(trouble)
+}
+
+/// Calls the source for a page, outside any turn, and applies what it answers.
+fn fetch_page<S: Source>(
+    rt: &impl Wait,
+    alloc: Global,
+    pool: &Pool,
+    feeder: &mut Feeder,
+    source: &mut S,
+    from: u32,
+    count: u32,
+) -> Turned
+    requires own { IsIdleOf pool.now feeder.old }
+    requires next { IsNext from count feeder.old.pass.1 }
+    ensures own { IsIdleOf pool.now feeder.new }
+    ensures source { feeder.new.source ≡ feeder.old.source }
+    ensures feeds { Feeds feeder.old.pass.1 feeder.new.pass.1 }
+    ensures list { S.list source.new ≡ S.list source.old }
+    ensures later { NoneFell (S.counts source.old) (S.counts source.new) }
+    ensures brings { (page ahead : ℕ) → 1 ≤ page → from + count ≤ reach_of feeder.old.pass.1.sight.mark page ahead feeder.old.pass.1.name.1
+        → Brings page ahead (S.list source.old) (S.counts source.old) (S.counts source.new) feeder.old.pass.1 feeder.new.pass.1 result }
+    ensures busy { result ≢ Turned.Idle }
+{
+    match source.page(alloc, from, count) {
+        Ok(rows) => tell_page(rt, pool, feeder, PageRows::from_vec(rows)),
+        Err(trouble) => tell_fail(rt, pool, feeder, trouble),
+    }
+}
+
+/// Calls the source for the grade of an object, outside any turn, and applies what it answers.
+fn fetch_grade<S: Source>(
+    rt: &impl Wait,
+    alloc: Global,
+    pool: &Pool,
+    feeder: &mut Feeder,
+    source: &mut S,
+    object: u32,
+) -> Turned
+    requires own { IsIdleOf pool.now feeder.old }
+    requires may { MayTellGrade object feeder.old.pass.1 }
+    ensures own { IsIdleOf pool.now feeder.new }
+    ensures source { feeder.new.source ≡ feeder.old.source }
+    ensures feeds { Feeds feeder.old.pass.1 feeder.new.pass.1 }
+    ensures list { S.list source.new ≡ S.list source.old }
+    ensures later { NoneFell (S.counts source.old) (S.counts source.new) }
+    ensures brings { (page ahead : ℕ)
+        → Brings page ahead (S.list source.old) (S.counts source.old) (S.counts source.new) feeder.old.pass.1 feeder.new.pass.1 result }
+    ensures busy { result ≢ Turned.Idle }
+{
+    match source.grade(alloc, object) {
+        Ok(grade) => tell_grade(rt, pool, feeder, object, grade),
+        Err(trouble) => tell_fail(rt, pool, feeder, trouble),
+    }
+}
+
+/// A turn of a fetcher: what is to be fetched next is read in a turn of the state, and then the source is called once, outside the
+/// turn, and what it answers is applied in one further turn. Where nothing is to be fetched the source isn't called.
+pub fn fetch_turn<S: Source>(
+    rt: &impl Wait,
+    alloc: Global,
+    pool: &Pool,
+    feeder: &mut Feeder,
+    source: &mut S,
+    page: u32,
+    ahead: u32,
+) -> Turned
+    requires own { IsIdleOf pool.now feeder.old }
+    requires page { (1 ≤ page) × (page ≤ 10000) }
+    requires ahead { ahead ≤ 100 }
+    ensures own { IsIdleOf pool.now feeder.new }
+    ensures source { feeder.new.source ≡ feeder.old.source }
+    ensures feeds { Feeds feeder.old.pass.1 feeder.new.pass.1 }
+    ensures list { S.list source.new ≡ S.list source.old }
+    ensures later { NoneFell (S.counts source.old) (S.counts source.new) }
+    ensures brings { Brings page ahead (S.list source.old) (S.counts source.old) (S.counts source.new) feeder.old.pass.1 feeder.new.pass.1 result }
+{
+    match read_plan(rt, pool, feeder, page, ahead) {
+        Plan::Idle => Turned::Idle,
+        Plan::Page { from, count } => fetch_page(rt, alloc, pool, feeder, source, from, count),
+        Plan::Grade { object } => fetch_grade(rt, alloc, pool, feeder, source, object),
+    }
+}
+
+/// What was fetched, with what one more turn brought.
+fn counted(fetched: Fetched, turned: Turned) -> Fetched
+    requires { HasCountOf fetched turned }
+    ensures { result ≡ counted_by fetched turned }
+{
+    match turned {
+        Turned::Paged { rows } => Fetched {
+            rows: fetched.rows + rows,
+            ..fetched
+        },
+        Turned::Graded { .. } | Turned::Missed { .. } => Fetched {
+            grades: fetched.grades + 1,
+            ..fetched
+        },
+        Turned::Failed | Turned::Garbled | Turned::Memory | Turned::Idle => fetched,
+    }
+}
+
+/// Gives the processor up where nothing was to be fetched.
+fn give_way(turned: Turned) {
+    if turned == Turned::Idle {
+        thread::yield_now();
+    }
+}
+
+/// Takes turns until `stop` is set, and tells how much the source gave.
+pub fn fetch_loop<S: Source>(
+    rt: &impl Wait,
+    alloc: Global,
+    pool: &Pool,
+    feeder: &mut Feeder,
+    source: &mut S,
+    page: u32,
+    ahead: u32,
+    stop: &Stop,
+) -> Fetched
+    requires own { IsIdleOf pool.now feeder.old }
+    requires page { (1 ≤ page) × (page ≤ 10000) }
+    requires ahead { ahead ≤ 100 }
+    ensures own { IsIdleOf pool.now feeder.new }
+    ensures source { feeder.new.source ≡ feeder.old.source }
+    ensures feeds { Feeds feeder.old.pass.1 feeder.new.pass.1 }
+    ensures list { S.list source.new ≡ S.list source.old }
+    ensures later { NoneFell (S.counts source.old) (S.counts source.new) }
+    ensures turns { IsFetched page ahead (S.list source.old) (moment (S.counts source.old) feeder.old.pass.1) (moment (S.counts source.new) feeder.new.pass.1) }
+    ensures metered { IsMetered page ahead result (S.counts source.old) (S.counts source.new) feeder.old.pass.1 feeder.new.pass.1 }
+{
+    let mut fetched = Fetched { rows: 0, grades: 0 };
+    for _ in rt.forever() {
+        if stop.is_set() {
+            return fetched;
+        }
+        let turned = fetch_turn(rt, alloc, pool, feeder, source, page, ahead);
+        fetched = counted(fetched, turned);
+        give_way(turned);
+    }
+    unreachable!()
+}

@@ -1,0 +1,16 @@
+//! Fetching from a source what queries want of it: rows no further than is wanted and stated to be read ahead, and the grades that
+//! were asked for. The source is called outside the turns of its lock.
+#![tactic(auto)]
+
+mod fetch;
+mod laws;
+mod slot;
+mod stop;
+mod turned;
+
+pub use fetch::{fetch_loop, fetch_turn};
+pub use laws::turns_tell_the_list;
+pub use slot::Slot;
+pub use source_state::reach;
+pub use stop::Stop;
+pub use turned::{Fetched, Turned};

@@ -1,0 +1,37 @@
+//! A source with its feeder.
+
+ghost use Rattle.std.specs.Prelude.{◌≡◌, None};
+
+use super::turned::Fetched;
+use source_api::Source;
+use source_pool::Feeder;
+
+/// A source, its feeder while a run goes on, and what was fetched of it.
+#[derive(Drop)]
+pub struct Slot<S: Source> {
+    pub source: S,
+    pub feeder: Option<Feeder>,
+    pub fetched: Fetched,
+}
+
+impl<S: Source> Slot<S> {
+    /// A source without a feeder, of which nothing was fetched.
+    pub fn make(source: S) -> Slot<S>
+        ensures { result ≡ record { source = source; feeder = None; fetched = record { rows = 0; grades = 0 } } }
+    {
+        Slot {
+            source,
+            feeder: None,
+            fetched: Fetched { rows: 0, grades: 0 },
+        }
+    }
+
+    /// The source. The slot has no feeder.
+    pub fn into_source(self) -> S
+        requires { self.feeder ≡ None }
+        ensures { result ≡ self.source }
+    {
+        let Slot { source, .. } = self;
+        source
+    }
+}

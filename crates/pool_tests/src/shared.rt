@@ -1,0 +1,103 @@
+//! Two passes of one pool, and how far is read.
+
+ghost use Rattle.std.specs.Prelude.{◌≤◌};
+
+use super::desk::{Desk, Step, first_wrong, make_source};
+use fetcher::Turned;
+use ranked_list::{Need, Row};
+use source_state::{Look, LookFault};
+use std::alloc::Global;
+use std::sync::Wait;
+use std::test::Fail;
+
+const TEN: [(u32, u32); 10] = [
+    (1, 90),
+    (2, 80),
+    (3, 70),
+    (4, 60),
+    (5, 50),
+    (6, 40),
+    (7, 30),
+    (8, 20),
+    (9, 10),
+    (10, 0),
+];
+
+const ROW_1: Need = Need::Row { list: 0, depth: 1 };
+
+const ROW_5: Need = Need::Row { list: 0, depth: 5 };
+
+const GRADE_7: Need = Need::Grade { list: 0, object: 7 };
+
+const FIRST: Look = Look::Row(Row {
+    object: 1,
+    grade: 90,
+});
+
+/// Pages of two rows with one page ahead: idle at the reach, and again after the next want. A grade comes before a page.
+const AHEAD: [Step; 9] = [
+    Step::Turn(Turned::Idle),
+    Step::Look(ROW_1, Look::NotYet),
+    Step::Turn(Turned::Paged { rows: 2 }),
+    Step::Turn(Turned::Paged { rows: 2 }),
+    Step::Turn(Turned::Idle),
+    Step::Look(ROW_5, Look::NotYet),
+    Step::Other(GRADE_7, Look::NotYet),
+    Step::Turn(Turned::Graded { object: 7 }),
+    Step::Turn(Turned::Paged { rows: 2 }),
+];
+
+/// Both passes waited when a page failed, and each is told once; what one wants the other finds there.
+const SHARED: [Step; 9] = [
+    Step::Look(ROW_1, Look::NotYet),
+    Step::Other(ROW_1, Look::NotYet),
+    Step::Turn(Turned::Failed),
+    Step::Look(ROW_1, Look::Fault(LookFault::Failed)),
+    Step::Look(ROW_1, Look::NotYet),
+    Step::Other(ROW_1, Look::Fault(LookFault::Failed)),
+    Step::Turn(Turned::Paged { rows: 1 }),
+    Step::Other(ROW_1, FIRST),
+    Step::Look(ROW_1, FIRST),
+];
+
+/// The first step that answers otherwise over ten rows, of which the page call `fails` fails, or 100, and then the want, the
+/// number of asks and the number of rows at the close.
+fn over_ten(
+    rt: &impl Wait,
+    alloc: Global,
+    fails: Option<u64>,
+    page: u32,
+    ahead: u32,
+    steps: &[Step],
+    to_other: bool,
+) -> Option<(usize, u32, u32, u32)>
+    requires page { (1 ≤ page) × (page ≤ 10000) }
+    requires ahead { ahead ≤ 100 }
+{
+    let mut source = make_source(alloc, &TEN)?;
+    if let Some(call) = fails {
+        if source.fail_pages.push(call).is_err() {
+            return None;
+        }
+    }
+    let mut desk = Desk::open(alloc, source, 10, page, ahead)?;
+    let wrong = first_wrong(rt, alloc, &mut desk, steps).unwrap_or(100);
+    let state = desk.close(alloc, to_other)?;
+    let figures = (wrong, state.want(), state.asks(), state.rows());
+    drop(state);
+    Some(figures)
+}
+
+#[test]
+fn reads_no_further_than_the_reach(rt: HostRuntime) -> Result<(), Fail> {
+    let figures = over_ten(&rt, rt.alloc(), None, 2, 1, &AHEAD, false);
+    assert_eq!(rt; figures, Some((100, 5, 1, 6)));
+    Ok(())
+}
+
+#[test]
+fn reads_one_page_for_both(rt: HostRuntime) -> Result<(), Fail> {
+    let figures = over_ten(&rt, rt.alloc(), Some(1), 1, 0, &SHARED, true);
+    assert_eq!(rt; figures, Some((100, 1, 0, 1)));
+    Ok(())
+}

@@ -1,0 +1,24 @@
+-- What a pass of a pool holds after a change of what it holds of one source.
+use Rattle.std.proofs.Common.{◌≡◌, ◌≢◌, ◌<◌, inl, inr, ℕ, List, length, set, refl, sym, ap, subst, ◌∙◌, arith, length-set}
+use Rattle.std.proofs.lemmas.List.{get_or-set_same, get_or-set_other}
+use Rattle.std.proofs.lemmas.Bool.Decides.{eqb_tells}
+use Rattle.atomic_table.specs.Seated.{TableId}
+use Rattle.source_pool.specs.declared.hold.Hold.{Hold}
+use Rattle.source_pool.specs.Passes.{no_hold, lock_at, hold_at, IsFree, IsPassOf, OthersStay}
+
+pub read_set : (holds : List Hold) (source : ℕ) (hold : Hold) → source < length holds → hold_at (set holds source hold) source ≡ hold
+read_set holds source hold within = get_or-set_same holds source hold no_hold within
+
+pub others_set : (holds : List Hold) (source : ℕ) (hold : Hold) → OthersStay source holds (set holds source hold)
+others_set holds source hold = record { stay = λ other apart. get_or-set_other holds source other hold no_hold apart }
+
+pub pass_set : (pool : List TableId) (holds : List Hold) (source : ℕ) (hold : Hold) → IsPassOf pool holds → source < length pool
+    → IsFree (lock_at pool source) hold.pass → IsPassOf pool (set holds source hold)
+pass_set pool holds source hold h within free = record {
+  size = length-set holds source hold ∙ h.size;
+  each = λ other lt. elim (eqb_tells other source) [
+    | inl same ↦ subst (λ s. IsFree (lock_at pool s) (hold_at (set holds source hold) s).pass) (sym same.1)
+        (subst (λ (one : Hold). IsFree (lock_at pool source) one.pass) (sym (read_set holds source hold (subst (λ n. source < n) (sym h.size) within))) free)
+    | inr apart ↦ subst (λ (one : Hold). IsFree (lock_at pool other) one.pass) (sym (get_or-set_other holds source other hold no_hold apart.1)) (h.each other lt)
+  ];
+}

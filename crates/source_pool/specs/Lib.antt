@@ -1,0 +1,5 @@
+pub mod Passes
+pub mod Looks
+pub mod Sharing
+pub mod Closed
+pub mod Rooms

@@ -1,0 +1,115 @@
+//! Opening a pool.
+
+ghost use Rattle.std.specs.Prelude.{◌≡◌, ◌≤◌, ◌<◌, ◌^◌, ◌∷◌, [], ◌++◌, ℕ, List, length, take, All, IfOk, OnOk, vec_len};
+ghost use Rattle.turn_lock.specs.Known.{all_parts, without, split_off};
+ghost use Rattle.source_pool.specs.Passes.{IsFree, IsPassOf, hold_at, lock_at};
+ghost use Rattle.source_pool.specs.Sharing.{first_known, first_hold, first_feed, IsOpened};
+ghost use Rattle.source_pool.specs.Rooms.{HasRoom, HasPlace, IsEmpty};
+
+use super::feeder::Feeder;
+use super::hold::{Hold, NO_FAILS, NO_WAITING};
+use limits::MAX_OBJECTS;
+use source_state::{Memory, SourceState};
+use std::alloc::Global;
+use turn_lock::{Pass, TurnLock};
+
+/// The parts of a lock that go to the first pass of a pool: all but the feeder's one.
+const PASS_PARTS: u64 = 4_294_967_295;
+
+/// The sources of a pool that is being opened.
+#[derive(Drop)]
+pub struct Opened {
+    pub locks: Vec<TurnLock<SourceState>>,
+    pub holds: Vec<Hold>,
+    pub feeders: Vec<Feeder>,
+}
+
+impl Opened {
+    /// No sources, with room for so many.
+    fn make(alloc: Global, room: usize) -> Result<Opened, Memory>
+        ensures empty { IfOk result IsEmpty }
+        ensures room { IfOk result (HasRoom room) }
+    {
+        let Ok(locks) = Vec::with_capacity(alloc, room) else {
+            return Err(Memory);
+        };
+        let Ok(holds) = Vec::with_capacity(alloc, room) else {
+            return Err(Memory);
+        };
+        let Ok(feeders) = Vec::with_capacity(alloc, room) else {
+            return Err(Memory);
+        };
+        Ok(Opened {
+            locks,
+            holds,
+            feeders,
+        })
+    }
+}
+
+/// The lock round the state of a source that had no event, with the writer's pass.
+fn open_lock(
+    alloc: Global,
+    source: u32,
+    count: u32,
+) -> Result<(TurnLock<SourceState>, Pass<SourceState>), Memory>
+    requires { count ≤ MAX_OBJECTS }
+    ensures { IfOk result (λ r. r.1 ≡ (r.0, first_known source count)) }
+{
+    let state = SourceState::open(alloc, source, count)?;
+    match TurnLock::open(alloc, state) {
+        Ok(opened) => Ok(opened),
+        Err(_) => Err(Memory),
+    }
+}
+
+/// Adds one more source, for which there is room.
+fn add(opened: &mut Opened, lock: TurnLock<SourceState>, mut writer: Pass<SourceState>, count: u32)
+    requires few { vec_len opened.old.locks < 2 ^ 32 }
+    requires room { HasPlace opened.old }
+    requires pass { writer ≡ (lock, first_known (length opened.old.locks.items) count) }
+    ensures added { (counts : List ℕ) → IsOpened counts opened.old.locks.items opened.old.holds.items opened.old.feeders.items
+        → IsOpened (counts ++ count ∷ []) opened.new.locks.items opened.new.holds.items opened.new.feeders.items }
+    ensures room { (room : ℕ) → HasRoom room opened.old → HasRoom room opened.new }
+{
+    let source = opened.locks.len() as u32;
+    let pass = lock.split(&mut writer, PASS_PARTS);
+    opened.holds.push_reserved(Hold {
+        pass,
+        waiting: NO_WAITING,
+        shown: NO_FAILS,
+    });
+    opened.feeders.push_reserved(Feeder {
+        source,
+        pass: writer,
+    });
+    opened.locks.push_reserved(lock);
+}
+
+/// Opens one more source, for which there is room.
+fn open_next(alloc: Global, opened: &mut Opened, count: u32) -> Result<(), Memory>
+    requires few { vec_len opened.old.locks < 2 ^ 32 }
+    requires count { count ≤ MAX_OBJECTS }
+    requires room { HasPlace opened.old }
+    ensures added { OnOk result ((counts : List ℕ) → IsOpened counts opened.old.locks.items opened.old.holds.items opened.old.feeders.items
+        → IsOpened (counts ++ count ∷ []) opened.new.locks.items opened.new.holds.items opened.new.feeders.items) }
+    ensures room { OnOk result ((room : ℕ) → HasRoom room opened.old → HasRoom room opened.new) }
+{
+    let source = opened.locks.len() as u32;
+    let (lock, writer) = open_lock(alloc, source, count)?;
+    add(opened, lock, writer, count);
+    Ok(())
+}
+
+/// The locks of sources with these counts, the first pass of their pool and its feeders.
+pub fn open_all(alloc: Global, counts: &[u32]) -> Result<Opened, Memory>
+    requires few { length counts.now < 2 ^ 32 }
+    requires counts { All (λ count. count ≤ MAX_OBJECTS) counts.now }
+    ensures { IfOk result (λ o. IsOpened counts.now o.locks.items o.holds.items o.feeders.items) }
+{
+    let mut opened = Opened::make(alloc, counts.len())?;
+    for place in 0..counts.len() {
+        open_next(alloc, &mut opened, counts[place])?;
+    }
+    Ok(opened)
+}

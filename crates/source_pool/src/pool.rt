@@ -1,0 +1,152 @@
+//! Pools.
+
+ghost use Rattle.std.specs.Prelude.{◌≡◌, ◌≤◌, ◌<◌, ◌^◌, length, All, IfOk, OnOk, OnErr, IfSome, IsSomeAnd, None};
+ghost use Rattle.turn_lock.specs.Facts.{Grows};
+ghost use Rattle.turn_lock.specs.Known.{Agrees, HasAll};
+ghost use Rattle.source_state.specs.State.{facts_of};
+ghost use Rattle.source_pool.specs.Passes.{hold_at, IsPassOf, OthersStay, IsFeederOf, IsIdleOf, AreFeedersOf, in_turn, turned};
+ghost use Rattle.source_pool.specs.Looks.{MayLookFor, Answers, Waits, shown_by, TookTurn, IsTurn, IsWithin};
+ghost use Rattle.source_pool.specs.Sharing.{IsOpened, MaySplit, IsSplit, IsJoined};
+ghost use Rattle.source_pool.specs.Closed.{HaveAll, AreClosed};
+
+use super::closing::close_all;
+use super::feeder::{Feeder, Feeders};
+use super::hold::PoolPass;
+use super::look::look_once;
+use super::opening::open_all;
+use super::sharing::{join_all, split_all};
+use super::states::States;
+use limits::MAX_OBJECTS;
+use ranked_list::Need;
+use source_state::{Look, Memory, SourceState};
+use std::alloc::Global;
+use std::marker::Model;
+use std::sync::Wait;
+use turn_lock::TurnLock;
+
+/// The sources that queries share, each behind a lock of its own. To a contract it is the list of the locks.
+#[derive(Drop)]
+pub struct Pool {
+    locks: Vec<TurnLock<SourceState>>,
+    /// Room for the states when the pool is closed.
+    room: Vec<SourceState>,
+}
+
+impl Model for Pool {
+    ghost use Rattle.std.specs.Prelude.{◌≡◌, ◌≤◌, ◌<◌, ◌^◌, [], List, vec_len, vec_capacity};
+    ghost use Rattle.atomic_table.specs.Seated.{TableId};
+
+    ghost Value = { List TableId };
+
+    ghost view = { λ a. a.locks.items };
+
+    ghost invariant = { λ a. (vec_len a.locks < 2 ^ 32) × (a.room.items ≡ []) × (vec_len a.locks ≤ vec_capacity a.room) };
+}
+
+impl Pool {
+    /// A pool of sources with these counts of objects, with a pass and a feeder for each source. A feeder has one part of its source's
+    /// lock, and the pass all others.
+    pub fn open(alloc: Global, counts: &[u32]) -> Result<(Pool, PoolPass, Feeders), Memory>
+        requires few { length counts.now < 2 ^ 32 }
+        requires counts { All (λ count. count ≤ MAX_OBJECTS) counts.now }
+        ensures { IfOk result (λ r. IsOpened counts.now r.0 r.1 r.2) }
+    {
+        let Ok(room) = Vec::with_capacity(alloc, counts.len()) else {
+            return Err(Memory);
+        };
+        let opened = open_all(alloc, counts)?;
+        let pool = Pool {
+            locks: opened.locks,
+            room,
+        };
+        let pass = PoolPass {
+            holds: opened.holds,
+        };
+        let feeders = Feeders {
+            feeders: opened.feeders,
+        };
+        Ok((pool, pass, feeders))
+    }
+
+    /// Looks for what a query needs of a source, by its number, in one turn of the source's lock, for which it may wait. The row at a
+    /// depth or the grade of an object is there, or it can't be had and the fault says why, or the pass waits for it.
+    pub fn look(&self, rt: &impl Wait, pass: &mut PoolPass, source: u32, need: Need) -> Look
+        requires own { IsPassOf self.now pass.old }
+        requires source { source < length self.now }
+        requires need { MayLookFor (hold_at pass.old source).pass.1 need }
+        ensures own { IsPassOf self.now pass.new }
+        ensures others { OthersStay source pass.old pass.new }
+        ensures turn { IsTurn need (hold_at pass.old source) (hold_at pass.new source) result }
+        ensures answer { Answers need (hold_at pass.old source) (hold_at pass.new source) result }
+        ensures waits { Waits need (hold_at pass.old source) (hold_at pass.new source) result }
+        ensures shown { (hold_at pass.new source).shown ≡ shown_by result (hold_at pass.old source).shown }
+        ensures took { TookTurn (hold_at pass.old source).pass.1 (hold_at pass.new source).pass.1 }
+        ensures within { IsWithin (hold_at pass.old source) → IsWithin (hold_at pass.new source) }
+    {
+        let lock = &self.locks[source as usize];
+        look_once(rt, lock, &mut pass.holds[source as usize], need)
+    }
+
+    /// Splits a pass off, which gets one part of each source. It knows as much, did nothing yet, and waits for nothing.
+    pub fn split(&self, alloc: Global, pass: &mut PoolPass) -> Result<PoolPass, Memory>
+        requires own { IsPassOf self.now pass.old }
+        requires parts { MaySplit self.now pass.old }
+        ensures kept { IsPassOf self.now pass.new }
+        ensures given { IfOk result (IsPassOf self.now) }
+        ensures ok { IfOk result (IsSplit self.now pass.old pass.new) }
+        ensures err { OnErr result (pass.new ≡ pass.old) }
+    {
+        let Ok(mut holds) = Vec::with_capacity(alloc, self.locks.len()) else {
+            return Err(Memory);
+        };
+        split_all(&self.locks, &mut pass.holds, &mut holds);
+        Ok(PoolPass { holds })
+    }
+
+    /// Makes one pass of two. Of each source it has the parts of both, knows what either does, was shown what both were, and waits for
+    /// nothing.
+    pub fn join(&self, pass: &mut PoolPass, other: PoolPass)
+        requires own { IsPassOf self.now pass.old }
+        requires other { IsPassOf self.now other }
+        ensures own { IsPassOf self.now pass.new }
+        ensures joined { IsJoined self.now pass.old other pass.new }
+    {
+        let PoolPass { mut holds } = other;
+        join_all(&self.locks, &mut pass.holds, &mut holds);
+    }
+
+    /// Waits for the feeder's turn, and takes the state of its source. Its log and its tally are those that the feeder knows.
+    pub fn take(&self, rt: &impl Wait, feeder: &mut Feeder) -> SourceState
+        requires own { IsIdleOf self.now feeder.old }
+        ensures feeder { feeder.new ≡ in_turn (facts_of result) feeder.old }
+        ensures state { Agrees (facts_of result) feeder.old.pass.1 }
+        ensures all { HasAll (facts_of result) feeder.old.pass.1 }
+    {
+        let lock = &self.locks[feeder.source as usize];
+        lock.take(rt, &mut feeder.pass)
+    }
+
+    /// Gives a state in place of the one that was taken, and ends the feeder's turn. The log, the asks, the want and the tally go on from
+    /// those that were taken.
+    pub fn give(&self, feeder: &mut Feeder, state: SourceState)
+        requires own { IsFeederOf self.now feeder.old }
+        requires turn { IsSomeAnd feeder.old.pass.1.held (λ f. Grows f (facts_of state)) }
+        ensures { IfSome feeder.old.pass.1.held (λ f. feeder.new ≡ turned f (facts_of state) feeder.old) }
+    {
+        let lock = &self.locks[feeder.source as usize];
+        lock.give(&mut feeder.pass, state);
+    }
+
+    /// Takes the pool down, by a pass and the feeders that have all parts between them, and gives the closing states out, in the order of
+    /// the sources. It takes no memory.
+    pub fn close(self, pass: PoolPass, feeders: Feeders) -> States
+        requires own { IsPassOf self pass }
+        requires feeders { AreFeedersOf self feeders }
+        requires whole { HaveAll self pass feeders }
+        ensures { AreClosed self pass feeders result }
+    {
+        let Pool { locks, room } = self;
+        let PoolPass { holds } = pass;
+        States::from_vec(close_all(locks, holds, feeders.into_vec(), room))
+    }
+}
