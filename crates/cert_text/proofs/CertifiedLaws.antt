@@ -41,7 +41,8 @@ cost_few s r a b n s_few r_few few a_low b_low =
     let r_low : r ≤ 2 ^ 40 = omega arith in
     omega (arith, mul-le-mul s_low a_low, mul-le-mul r_low b_low)
 
-certified : (line : ℕ) (query : Query) (count : ℕ) (answer : Answer) → IsCertified line query count answer → IsCertificate (certificate_of line query count answer)
+certified : (line : ℕ) (query : Query) (count : ℕ) (answer : Answer) → IsCertified line query count answer
+    → IsCertificate (certificate_of line query count answer)
 certified line query count answer is =
     let A = answer.transcript.accesses in
     let few : length A < 2 ^ 40 = is.cost.accesses in

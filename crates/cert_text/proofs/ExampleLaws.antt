@@ -10,13 +10,13 @@ use Rattle.query_text.specs.Query.{printed, IsLawful}
 use Rattle.query_text.specs.Reading.{Reads}
 use Rattle.query_text.specs.declared.query.Query.{Query}
 use Rattle.query_text.specs.declared.algorithm.Algorithm.TheVariants.{Ta}
-use Rattle.monotone_fn.specs.declared.limits.TheConstants.{MAX_VALUE}
 use Rattle.cert_text.specs.Certificate.{number_line, query_line, count_line, stop_line}
 use Rattle.cert_text.specs.Judging.{Leads, SpellsQueried}
 use Rattle.cert_text.specs.Reading.{Spells}
 use Rattle.cert_text.proofs.LineLaws.{number_in-line}
 use Rattle.query_text.proofs.LengthLaws.{length-printed}
 use Rattle.cert_text.proofs.SpellLaws.{nothing, whole, counted_spelled, steps_number}
+use Rattle.limits.specs.declared.TheConstants.{MAX_VALUE}
 
 -- the best object of one list
 abbrev example : Query

@@ -45,7 +45,8 @@ fault_under S S' line f ls before steps fault = record {
       fault.ends (omega arith) (leads.0, (back.0, back.1));
 }
 
-pub judges_under : {X Y : Type 0} (S : List (List ℕ) → X → Type 0) (S' : List (List ℕ) → Y → Type 0) (line : List ℕ) (f : X → Y) (ls : List (List ℕ)) (r : Result X ℕ)
+pub judges_under : {X Y : Type 0} (S : List (List ℕ) → X → Type 0) (S' : List (List ℕ) → Y → Type 0) (line : List ℕ) (f : X
+    → Y) (ls : List (List ℕ)) (r : Result X ℕ)
     → Steps S S' line f → Judges S ls r → Judges S' (line ∷ ls) (carried f 1 r)
 judges_under S S' line f ls (Ok x) steps judged = (
   steps.adds ls x judged.0,
@@ -78,8 +79,10 @@ carries_more S S' S'' line ls now all f g h k is steps same carries (Err before)
     (carries (Err (1 + before)) (subst (λ n. Judges S' n (Err (1 + before))) (sym is) (judges_under S S' line f ls (Err before) steps judged)))
 
 -- a fault that was found is one of all lines
-pub finds_fault : {X Y U V : Type 0} (S : List (List ℕ) → X → Type 0) (S' : List (List ℕ) → Y → Type 0) (ls all : List (List ℕ)) (f : X → Y) (k first number : ℕ)
-    (view : U → X) (view' : V → Y) (e : CertFault) → Carries S ls f k S' all → number ≡ first + k → Finds S view number ls (Err e) → Finds S' view' first all (Err e)
+pub finds_fault : {X Y U V : Type 0} (S : List (List ℕ) → X → Type 0) (S' : List (List ℕ) → Y → Type 0) (ls all : List (List ℕ)) (f : X
+    → Y) (k first number : ℕ)
+    (view : U → X) (view' : V
+    → Y) (e : CertFault) → Carries S ls f k S' all → number ≡ first + k → Finds S view number ls (Err e) → Finds S' view' first all (Err e)
 finds_fault S S' ls all f k first number view view' (BadLine line) carries is found = (
   k + found.0,
   omega (arith, found.1),
@@ -93,7 +96,8 @@ pub finds_here : {X Y : Type 0} (S : List (List ℕ) → X → Type 0) (S' : Lis
 finds_here S S' ls all f k first number carries is judged = (k + 0, omega arith, carries (Err 0) judged)
 
 -- a fault at the first line
-pub finds_first : {X : Type 0} (S : List (List ℕ) → X → Type 0) (ls : List (List ℕ)) (first : ℕ) → Judges S ls (Err 0) → (before : ℕ) × (first ≡ first + before) × Judges S ls (Err before)
+pub finds_first : {X : Type 0} (S : List (List ℕ) → X → Type 0) (ls : List (List ℕ)) (first : ℕ) → Judges S ls (Err 0)
+    → (before : ℕ) × (first ≡ first + before) × Judges S ls (Err before)
 finds_first S ls first judged = (0, omega arith, judged)
 
 -- a line that begins no spelled lines, and no line where one is wanted

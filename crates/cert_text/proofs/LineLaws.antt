@@ -220,7 +220,8 @@ row_in-some names text row h =
       grade = omega (arith, second.1);
     }
 
-pub access_in-line : (names : List (List ℕ)) (access : Access) → AreNames names → IsAccess (length names) access → access_in names (access_line names access) ≡ Some access
+pub access_in-line : (names : List (List ℕ)) (access : Access) → AreNames names → IsAccess (length names) access
+    → access_in names (access_line names access) ≡ Some access
 unfolding access_in
 access_in-line names (Sorted list object grade) are is =
     rw (row_in-text names list object grade are is.list is.object is.grade) refl

@@ -99,7 +99,8 @@ list_named_at names i name within before here =
     rw (e, lt-ltb i (length names) within) refl
 
 -- no list has the name
-pub list_named_none : (names : List (List ℕ)) (name : List ℕ) → ((k : ℕ) → k < length names → bytes_eq (name_of names k) name ≡ false) → list_named names name ≡ None
+pub list_named_none : (names : List (List ℕ)) (name : List ℕ) → ((k : ℕ) → k < length names → bytes_eq (name_of names k) name ≡ false)
+    → list_named names name ≡ None
 list_named_none names name none =
     let e = position_or_len_is (λ other. bytes_eq other name) names (length names) [] (omega arith) none (λ h. absurd (omega arith)) in
     rw (e, le-ltb (length names) (length names) (omega arith)) refl

@@ -24,7 +24,8 @@ read_same text query other back reads same =
     (back other spells.lawful reads.1 same)
 
 -- what is read is what the line spells, and nothing else is
-pub query_found : (line text : List ℕ) (query : Query) → rest_after (codes "query ") line ≡ Some text → Reads text (Ok query) → IsReadBack text (Ok query) → FindsQuery line (Some query)
+pub query_found : (line text : List ℕ) (query : Query) → rest_after (codes "query ") line ≡ Some text → Reads text (Ok query) → IsReadBack text (Ok query)
+    → FindsQuery line (Some query)
 query_found line text query cut reads back =
     let same : printed query ≡ text = (let spells = reads.0 in spells.text) in (
       rest_after-some (codes "query ") line text cut ∙ ap (λ t. codes "query " ++ t) (sym same),
@@ -33,7 +34,8 @@ query_found line text query cut reads back =
     )
 
 -- a line whose text is refused is the line of no query
-pub query_refused : (line text : List ℕ) (fault : QueryFault) → rest_after (codes "query ") line ≡ Some text → fault ≢ Memory → IsReadBack text (Err fault) → FindsQuery line None
+pub query_refused : (line text : List ℕ) (fault : QueryFault) → rest_after (codes "query ") line ≡ Some text → fault ≢ Memory → IsReadBack text (Err fault)
+    → FindsQuery line None
 query_refused line text fault cut refused back = λ other is reads.
     let spells = reads.0 in
     ⊎_elim (λ e. absurd cc) (λ e. refused cc)

@@ -196,7 +196,8 @@ found_here names line no_item no_figures rest x spelled = found_here_by names li
 
 -- the number of objects of each list
 
-pub steps_count : (names : List (List ℕ)) (line : List ℕ) (n : ℕ) → count_in line ≡ Some n → Steps (SpellsFound names) (SpellsCounted names) line (λ found. (n, found))
+pub steps_count : (names : List (List ℕ)) (line : List ℕ) (n : ℕ) → count_in line ≡ Some n
+    → Steps (SpellsFound names) (SpellsCounted names) line (λ found. (n, found))
 steps_count names line n read = record {
   adds = λ ls x spelled.
       let says = count_in-some line n read in
@@ -217,7 +218,8 @@ counted_some names = (count_line 1 ∷ stop_line 0 0 0 0 ∷ codes "end" ∷ [],
 pub counted_end : (names : List (List ℕ)) (x : ℕ × Found) → SpellsCounted names [] x → ⊥
 counted_end names x spelled = let e = spelled.first in cc
 
-pub counted_here : (names : List (List ℕ)) (line : List ℕ) → count_in line ≡ None → (rest : List (List ℕ)) (x : ℕ × Found) → SpellsCounted names (line ∷ rest) x → ⊥
+pub counted_here : (names : List (List ℕ)) (line : List ℕ) → count_in line ≡ None → (rest : List (List ℕ)) (x : ℕ × Found)
+    → SpellsCounted names (line ∷ rest) x → ⊥
 counted_here names line none rest x spelled =
     let is : line ≡ count_line x.0 = same_line _ _ _ _ spelled.first in
     let read : count_in (count_line x.0) ≡ Some x.0 = count_in-line x.0 spelled.low spelled.high in
@@ -226,7 +228,8 @@ counted_here names line none rest x spelled =
 
 -- the query
 
-pub steps_query : (line : List ℕ) (query : Query) → FindsQuery line (Some query) → Steps (SpellsCounted query.names) SpellsQueried line (λ counted. (query, counted.0, counted.1))
+pub steps_query : (line : List ℕ) (query : Query) → FindsQuery line (Some query)
+    → Steps (SpellsCounted query.names) SpellsQueried line (λ counted. (query, counted.0, counted.1))
 steps_query line query found = record {
   adds = λ ls x spelled. record { rest = ls; first = ap (λ t. t ∷ ls) found.0; query = found.1; counted = spelled };
   drops = λ ls y spelled.
@@ -329,7 +332,8 @@ spells_here line none rest c spelled =
 -- what is left of the lines, while they are read
 
 -- no access was read yet
-pub accesses_none : (names : List (List ℕ)) (ls : List (List ℕ)) (front : List Access) → front ≡ [] → Carries (SpellsAccesses names) ls (λ more. front ++ more) 0 (SpellsAccesses names) ls
+pub accesses_none : (names : List (List ℕ)) (ls : List (List ℕ)) (front : List Access) → front ≡ []
+    → Carries (SpellsAccesses names) ls (λ more. front ++ more) 0 (SpellsAccesses names) ls
 accesses_none names ls front empty =
     subst (λ (start : List Access). Carries (SpellsAccesses names) ls (λ more. start ++ more) 0 (SpellsAccesses names) ls) (sym empty) (carries_none (SpellsAccesses names) ls)
 
@@ -350,7 +354,8 @@ accesses_ended names line ls now all front k are last is carries =
     (is ∙ ap (λ t. t ∷ ls) last) (steps_end names front are) (λ _. sym (append-nil front)) carries
 
 -- no object was read yet
-pub found_none : (names : List (List ℕ)) (ls : List (List ℕ)) (front : List Item) → front ≡ [] → Carries (SpellsFound names) ls (λ f. record f { items = front ++ f.items }) 0 (SpellsFound names) ls
+pub found_none : (names : List (List ℕ)) (ls : List (List ℕ)) (front : List Item) → front ≡ []
+    → Carries (SpellsFound names) ls (λ f. record f { items = front ++ f.items }) 0 (SpellsFound names) ls
 found_none names ls front empty =
     subst (λ (start : List Item). Carries (SpellsFound names) ls (λ f. record f { items = start ++ f.items }) 0 (SpellsFound names) ls) (sym empty) (carries_none (SpellsFound names) ls)
 

@@ -101,7 +101,8 @@ argument_clean (Arguments.argument_then weight first rest) clean = clean
 closed_clean : (args : Arguments) → AreClean (further_pieces args) → AreClean (argument_pieces args ++ Piece.fixed (codes ")") ∷ [])
 closed_clean args clean = pieces-append (argument_pieces args) (Piece.fixed (codes ")") ∷ []) (argument_clean args clean) refl
 
-further_clean : (weight : Option (List ℕ)) (first : Written) (rest : Arguments) → AreClean (weight_pieces weight) → AreClean (expr_pieces first) → AreClean (further_pieces rest)
+further_clean : (weight : Option (List ℕ)) (first : Written) (rest : Arguments) → AreClean (weight_pieces weight) → AreClean (expr_pieces first)
+    → AreClean (further_pieces rest)
     → AreClean (weight_pieces weight ++ (expr_pieces first ++ further_pieces rest))
 further_clean weight first rest w f r = pieces-append (weight_pieces weight) (expr_pieces first ++ further_pieces rest) w (pieces-append (expr_pieces first) (further_pieces rest) f r)
 

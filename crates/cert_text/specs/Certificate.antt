@@ -10,6 +10,7 @@ use Rattle.query_text.specs.declared.query.Query.{Query}
 use Rattle.query_text.specs.Query.{name_of, printed}
 use Rattle.query_text.specs.Reading.{Reads}
 use Rattle.cert_text.specs.declared.certificate.Certificate.{Certificate}
+use Rattle.limits.specs.declared.TheConstants.{MAX_OBJECTS}
 
 -- a line of words, with one space between two
 abbrev pub spaced : List (List ℕ) → List ℕ
@@ -46,7 +47,8 @@ access_lines names accesses = map (access_line names) accesses ++ codes "end" �
 -- the lines of a certificate
 abbrev pub certificate_lines : Certificate → List (List ℕ)
 certificate_lines c =
-    number_line c.line ∷ query_line c.query ∷ count_line c.count ∷ (map answer_line c.items ++ stop_line c.depth c.sorted c.random c.cost ∷ access_lines c.query.names c.accesses)
+    number_line c.line ∷ query_line c.query ∷ count_line c.count
+    ∷ (map answer_line c.items ++ stop_line c.depth c.sorted c.random c.cost ∷ access_lines c.query.names c.accesses)
 
 -- an object has 32 bits and its bounds have 64
 pub record IsItem (item : Item) : Type 0 where
@@ -66,7 +68,7 @@ pub record IsCertificate (c : Certificate) : Type 0 where
   pub line_to : c.line < 2 ^ 63
   pub query : Reads (printed c.query) (Ok c.query)
   pub count_from : 1 ≤ c.count
-  pub count_to : c.count ≤ 200000
+  pub count_to : c.count ≤ MAX_OBJECTS
   pub items : All IsItem c.items
   pub depth : c.depth < 2 ^ 64
   pub sorted : c.sorted < 2 ^ 64

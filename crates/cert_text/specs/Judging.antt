@@ -9,13 +9,13 @@ use Rattle.topk_theory.specs.declared.access.Access.{Access}
 use Rattle.query_text.specs.declared.query.Query.{Query}
 use Rattle.query_text.specs.Query.{printed}
 use Rattle.query_text.specs.Reading.{Reads}
-use Rattle.query_text.specs.declared.limits.TheConstants.{MAX_LISTS}
 use Rattle.line_text.specs.Names.{IsName}
 use Rattle.cert_text.specs.declared.fault.CertFault.{CertFault}
 use Rattle.cert_text.specs.declared.fault.CertFault.TheVariants.{BadLine, Memory}
 use Rattle.cert_text.specs.declared.parts.Figures.{Figures}
 use Rattle.cert_text.specs.declared.reader.Results.{Results}
 use Rattle.cert_text.specs.Certificate.{query_line, count_line, answer_line, stop_line, access_lines, IsItem, IsAccess}
+use Rattle.limits.specs.declared.TheConstants.{MAX_LISTS, MAX_OBJECTS}
 
 -- some value is spelled by the lines
 abbrev pub Spelled : {X : Type 0} → (List (List ℕ) → X → Type 0) → List (List ℕ) → Type 0
@@ -85,7 +85,7 @@ pub record SpellsCounted (names : List (List ℕ)) (ls : List (List ℕ)) (count
   pub rest : List (List ℕ)
   pub first : ls ≡ count_line counted.0 ∷ rest
   pub low : 1 ≤ counted.0
-  pub high : counted.0 ≤ 200000
+  pub high : counted.0 ≤ MAX_OBJECTS
   pub found : SpellsFound names rest counted.1
 
 -- the lines spell this answer under its query
@@ -97,5 +97,7 @@ pub record SpellsQueried (ls : List (List ℕ)) (queried : Query × ℕ × Found
 
 -- a line is the line of this query alone, or of none
 abbrev pub FindsQuery : List ℕ → Option Query → Type 0
-FindsQuery line (Some query) = (line ≡ query_line query) × Reads (printed query) (Ok query) × ((other : Query) → line ≡ query_line other → Reads (printed other) (Ok other) → other ≡ query)
+FindsQuery line (Some query) =
+    (line ≡ query_line query) × Reads (printed query) (Ok query)
+    × ((other : Query) → line ≡ query_line other → Reads (printed other) (Ok other) → other ≡ query)
 FindsQuery line None = (other : Query) → line ≡ query_line other → Reads (printed other) (Ok other) → ⊥

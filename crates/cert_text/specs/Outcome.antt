@@ -16,6 +16,7 @@ use Rattle.cert_text.specs.declared.outcome.Outcome.TheVariants.{Answered, Refus
 use Rattle.cert_text.specs.declared.refusal.Refusal.{Refusal}
 use Rattle.cert_text.specs.Refusal.{refusal_row, field_word, refused_lists}
 use Rattle.cert_text.specs.Certificate.{spaced, stop_line, certificate_lines, IsItem, IsAccess}
+use Rattle.limits.specs.declared.TheConstants.{MAX_NUMBER}
 
 -- the names of a query's lists, none where there is no query
 abbrev pub names_of : Option Query → List (List ℕ)
@@ -38,7 +39,8 @@ certificate_of line query count answer = record {
 -- the line of the figures of a query's accesses
 abbrev pub figures_line : Query → Log → List ℕ
 figures_line query log =
-    stop_line (depth log.lists log.accesses) (sorted_count log.accesses) (random_count log.accesses) (cost (costs_in_force query).sorted (costs_in_force query).random log.accesses)
+    stop_line (depth log.lists log.accesses) (sorted_count log.accesses) (random_count log.accesses)
+    (cost (costs_in_force query).sorted (costs_in_force query).random log.accesses)
 
 -- the line of a refused query line by its number, the name of the refusal and the words of its fields
 unfoldable pub refused_words : ℕ → List ℕ → List (List ℕ) → List ℕ
@@ -60,8 +62,8 @@ outcome_text line query count outcome = unlines (outcome_lines line query count 
 
 -- the cost of the accesses is one that 64 bits hold
 pub record HasCost (query : Query) (log : Log) : Type 0 where
-  pub sorted : (costs_in_force query).sorted ≤ 1000000
-  pub random : (costs_in_force query).random ≤ 1000000
+  pub sorted : (costs_in_force query).sorted ≤ MAX_NUMBER
+  pub random : (costs_in_force query).random ≤ MAX_NUMBER
   pub accesses : length log.accesses < 2 ^ 40
 
 -- an answer comes with its query, and the lists that a refusal names are lists of its query

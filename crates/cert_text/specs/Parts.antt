@@ -7,6 +7,7 @@ use Rattle.ranked_list.specs.declared.item.Item.{Item}
 use Rattle.topk_theory.specs.declared.access.Access.{Access}
 use Rattle.topk_theory.specs.declared.access.Access.TheVariants.{Sorted, Random}
 use Rattle.cert_text.specs.declared.parts.Figures.{Figures}
+use Rattle.limits.specs.declared.TheConstants.{MAX_OBJECTS}
 
 infixl 10 ◌>>=◌
 abbrev pub ◌>>=◌ : {A B : Type 0} → Option A → (A → Option B) → Option B
@@ -41,7 +42,7 @@ number_in line = do
 unfoldable pub count_in : List ℕ → Option ℕ
 count_in line = do
   text ← rest_after (codes "count ") line
-  number_within 1 200000 text
+  number_within 1 MAX_OBJECTS text
 
 unfoldable pub item_in : List ℕ → Option Item
 item_in line = do

@@ -5,6 +5,7 @@ use Rattle.std.specs.Fmt.{decimal}
 use Rattle.query_text.specs.Query.{name_of}
 use Rattle.cert_text.specs.declared.refusal.Refusal.{Refusal}
 use Rattle.cert_text.specs.declared.refusal.Refusal.TheVariants.{ManyQueries, LongLine, Syntax, Number, TooManyLists, TooManyNodes, TooDeep, TooBig, UnknownList, NotOpened, TooLarge, CountsDiffer, KAboveCount, NoRandom, Strangers, RoomFull}
+use Rattle.cert_text.specs.declared.refusal.Refusal.TheVariants.{OutOfOrder, TooHigh, Repeated, Clash, Above, Missing, ShortList, AsksFull, Failed, Garbled}
 
 -- a field of a refusal: a number, or a list by its number in the query
 pub data Field : Type 0 where
@@ -29,6 +30,16 @@ refusal_row (KAboveCount k n) = (codes "KAboveCount", Field.number k ∷ Field.n
 refusal_row (NoRandom l) = (codes "NoRandom", Field.list l ∷ [])
 refusal_row (Strangers object count) = (codes "Strangers", Field.number object ∷ Field.number count ∷ [])
 refusal_row (RoomFull room) = (codes "RoomFull", Field.number room ∷ [])
+refusal_row (OutOfOrder l place before after) = (codes "OutOfOrder", Field.list l ∷ Field.number place ∷ Field.number before ∷ Field.number after ∷ [])
+refusal_row (TooHigh l place grade) = (codes "TooHigh", Field.list l ∷ Field.number place ∷ Field.number grade ∷ [])
+refusal_row (Repeated l object place) = (codes "Repeated", Field.list l ∷ Field.number object ∷ Field.number place ∷ [])
+refusal_row (Clash l object sorted random) = (codes "Clash", Field.list l ∷ Field.number object ∷ Field.number sorted ∷ Field.number random ∷ [])
+refusal_row (Above l object grade bottom) = (codes "Above", Field.list l ∷ Field.number object ∷ Field.number grade ∷ Field.number bottom ∷ [])
+refusal_row (Missing l object) = (codes "Missing", Field.list l ∷ Field.number object ∷ [])
+refusal_row (ShortList l stated got) = (codes "ShortList", Field.list l ∷ Field.number stated ∷ Field.number got ∷ [])
+refusal_row (AsksFull l kept) = (codes "AsksFull", Field.list l ∷ Field.number kept ∷ [])
+refusal_row (Failed l) = (codes "Failed", Field.list l ∷ [])
+refusal_row (Garbled l) = (codes "Garbled", Field.list l ∷ [])
 
 -- the word of a field: a number in decimal, a list by its name
 abbrev pub field_word : List (List ℕ) → Field → List ℕ

@@ -27,5 +27,6 @@ mod writing;
 pub use accesses::Accesses;
 pub use certificate::{Certificate, read_certificate};
 pub use fault::CertFault;
-pub use outcome::{Outcome, write_outcome};
+pub use outcome::{Outcome, put_outcome, write_outcome};
 pub use refusal::Refusal;
+pub use writing::depth_of;

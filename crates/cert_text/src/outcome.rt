@@ -23,8 +23,12 @@ pub enum Outcome {
     Refused(Refusal),
 }
 
-/// Puts the text of an outcome behind the bytes that wait.
-fn put_outcome<K: Sink>(
+/// Puts the text of the outcome of the query line with this number, over lists of `count` objects,
+/// behind the bytes that wait, so that the outcomes of several lines go out in whole pieces. Takes no
+/// memory.
+///
+/// What an outcome comes with is said at `write_outcome`.
+pub fn put_outcome<K: Sink>(
     out: &mut K,
     pieces: &mut Pieces,
     line: u64,

@@ -4,10 +4,11 @@ ghost use Rattle.std.specs.Prelude.{◌≡◌, ◌≤◌, ◌<◌, length, IfSom
 ghost use Rattle.std.specs.Option.{option_map};
 ghost use Rattle.std.specs.Str.{bytes_eq};
 ghost use Rattle.query_text.specs.Query.{name_of};
-ghost use Rattle.query_text.specs.declared.limits.TheConstants.{MAX_LISTS};
+ghost use Rattle.limits.specs.declared.TheConstants.{MAX_LISTS};
 ghost use Rattle.cert_text.specs.Parts.{number_within, number_before, number_in, count_in, item_in, figures_in, list_named, row_in, access_in};
 
 use access_log::{Access, Item};
+use limits::MAX_OBJECTS;
 use line_text::{cut_at, number_up_to, rest_after};
 use query_text::Names;
 
@@ -57,7 +58,7 @@ pub(crate) fn number_of(line: &[u8]) -> Option<u64>
 pub(crate) fn count_of(line: &[u8]) -> Option<u32>
     ensures { result ≡ count_in line.now }
 {
-    let count = number_within(rest_after(b"count ", line)?, 1, 200_000)?;
+    let count = number_within(rest_after(b"count ", line)?, 1, u64::from(MAX_OBJECTS))?;
     Some(count as u32)
 }
 

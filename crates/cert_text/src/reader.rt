@@ -60,7 +60,9 @@ fn read_accesses(
         let Some(access) = access_of(names, line) else {
             return Err(CertFault::BadLine { line: number });
         };
-        accesses.push(access).map_err(|_| CertFault::Memory)?;
+        let Ok(()) = accesses.push(access) else {
+            return Err(CertFault::Memory);
+        };
         number += 1;
         rest = more;
     }
@@ -88,7 +90,9 @@ fn read_found(alloc: Global, names: &Names, first: u64, text: &[u8]) -> Result<R
                 accesses,
             });
         };
-        items.push(item).map_err(|_| CertFault::Memory)?;
+        let Ok(()) = items.push(item) else {
+            return Err(CertFault::Memory);
+        };
         number += 1;
         rest = more;
     }

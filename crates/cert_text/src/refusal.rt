@@ -9,7 +9,7 @@ ghost use Rattle.cert_text.specs.Outcome.{names_of, refused_line};
 ghost use Rattle.cert_text.specs.Refusal.{field_word, refusal_row};
 ghost use Rattle.cert_text.specs.Writing.{further, word_text};
 
-use super::words::{Word, end_line, put_words};
+use super::words::{Word, end_line, put_further, put_words};
 use super::writing::name_of;
 use query_text::Query;
 use tk_io::{Pieces, Sink};
@@ -18,38 +18,136 @@ use tk_io::{Pieces, Sink};
 #[derive(Clone, Copy, Debug, PartialEq, Eq)]
 pub enum Refusal {
     /// The input has more query lines than `limit`, and this is one past them.
-    ManyQueries { limit: u32 },
+    ManyQueries {
+        limit: u32,
+    },
     /// The line has more bytes than `limit`.
-    LongLine { limit: u32 },
+    LongLine {
+        limit: u32,
+    },
     /// The line isn't of the shape of query text. Its first `at` bytes are the longest front of it
     /// that begins some text of the shape.
-    Syntax { at: u32 },
+    Syntax {
+        at: u32,
+    },
     /// The number whose first byte is at this place of the line, from 0, is out of its range.
-    Number { at: u32 },
+    Number {
+        at: u32,
+    },
     /// One list too many is named at this place of the line, from 0.
-    TooManyLists { at: u32 },
+    TooManyLists {
+        at: u32,
+    },
     /// The expression has this many nodes, which are too many.
-    TooManyNodes { nodes: u64 },
+    TooManyNodes {
+        nodes: u64,
+    },
     /// The expression nests this deep, which is too deep.
-    TooDeep { depth: u64 },
+    TooDeep {
+        depth: u64,
+    },
     /// The value of this node, counted from 1, may be too big.
-    TooBig { node: u32 },
+    TooBig {
+        node: u32,
+    },
     /// There is no list of this name. `list` is the list's number in the query.
-    UnknownList { list: u8 },
+    UnknownList {
+        list: u8,
+    },
     /// This list, by its number in the query, couldn't be opened.
-    NotOpened { list: u8 },
+    NotOpened {
+        list: u8,
+    },
     /// This list, by its number in the query, states `count` objects, which are too many.
-    TooLarge { list: u8, count: u64 },
+    TooLarge {
+        list: u8,
+        count: u64,
+    },
     /// The lists differ in their counts: `list` states `n` objects and `other` states `m`.
-    CountsDiffer { list: u8, n: u32, other: u8, m: u32 },
+    CountsDiffer {
+        list: u8,
+        n: u32,
+        other: u8,
+        m: u32,
+    },
     /// More objects are asked for than the lists have: `k` of `n`.
-    KAboveCount { k: u32, n: u32 },
+    KAboveCount {
+        k: u32,
+        n: u32,
+    },
     /// The algorithm makes random accesses, and this list, by its number in the query, offers none.
-    NoRandom { list: u8 },
+    NoRandom {
+        list: u8,
+    },
     /// This object is one more than the `count` objects that the lists have.
-    Strangers { object: u32, count: u32 },
+    Strangers {
+        object: u32,
+        count: u32,
+    },
     /// The answer needs more objects at once than the query has room for.
-    RoomFull { room: u32 },
+    RoomFull {
+        room: u32,
+    },
+    /// The grade `after` of the row at `place` of this list, from 1, is above `before`, the grade of
+    /// the row over it.
+    OutOfOrder {
+        list: u8,
+        place: u32,
+        before: u32,
+        after: u32,
+    },
+    /// The grade of the row at `place` of this list, from 1, is above 1,000,000.
+    TooHigh {
+        list: u8,
+        place: u32,
+        grade: u32,
+    },
+    /// The row at `place` of this list, from 1, has the object of a row above it.
+    Repeated {
+        list: u8,
+        object: u32,
+        place: u32,
+    },
+    /// The source of this list gave both grades of the object, one by sorted and one by random access.
+    Clash {
+        list: u8,
+        object: u32,
+        sorted: u32,
+        random: u32,
+    },
+    /// Random access gave `grade` for an object that the rows of this list don't hold, and a row, or
+    /// the last one, has the lesser grade `bottom`.
+    Above {
+        list: u8,
+        object: u32,
+        grade: u32,
+        bottom: u32,
+    },
+    /// The source of this list hasn't the object, whose grade is needed.
+    Missing {
+        list: u8,
+        object: u32,
+    },
+    /// The source of this list states `stated` objects, and no row came after the first `got` ones.
+    ShortList {
+        list: u8,
+        stated: u32,
+        got: u32,
+    },
+    /// The source of this list was asked for the grades of `kept` objects, as many as it states, and
+    /// the object whose grade is needed isn't one of them.
+    AsksFull {
+        list: u8,
+        kept: u32,
+    },
+    /// A call of this list's source failed while the query waited for it.
+    Failed {
+        list: u8,
+    },
+    /// A call of this list's source was answered by garbled data while the query waited for it.
+    Garbled {
+        list: u8,
+    },
 }
 
 /// The name of a list of a query by its number.
@@ -90,7 +188,43 @@ fn refusal_name(refusal: Refusal) -> &'static [u8]
         Refusal::NoRandom { .. } => b"NoRandom",
         Refusal::Strangers { .. } => b"Strangers",
         Refusal::RoomFull { .. } => b"RoomFull",
+        Refusal::OutOfOrder { .. } => b"OutOfOrder",
+        Refusal::TooHigh { .. } => b"TooHigh",
+        Refusal::Repeated { .. } => b"Repeated",
+        Refusal::Clash { .. } => b"Clash",
+        Refusal::Above { .. } => b"Above",
+        Refusal::Missing { .. } => b"Missing",
+        Refusal::ShortList { .. } => b"ShortList",
+        Refusal::AsksFull { .. } => b"AsksFull",
+        Refusal::Failed { .. } => b"Failed",
+        Refusal::Garbled { .. } => b"Garbled",
     }
+}
+
+/// Puts a space and a number for each number behind the bytes that wait.
+fn put_numbers<K: Sink>(out: &mut K, pieces: &mut Pieces, numbers: &[u32])
+    ensures { Puts (K.held out.old) (K.held out.new) (K.faults out.old) (K.faults out.new) pieces.old pieces.new (further (map decimal numbers.now)) }
+{
+    for field in numbers {
+        put_further(out, pieces, number(*field));
+    }
+}
+
+/// Puts the name of a list and numbers, each after a space, and the end of the line behind the bytes
+/// that wait.
+fn end_listed<K: Sink>(
+    out: &mut K,
+    pieces: &mut Pieces,
+    query: Option<&Query>,
+    list: u8,
+    numbers: &[u32],
+)
+    ensures { Puts (K.held out.old) (K.held out.new) (K.faults out.old) (K.faults out.new) pieces.old pieces.new
+        (further (name_of (names_of (option_copied query.entry)) list ∷ map decimal numbers.now) ++ 10 ∷ []) }
+{
+    put_further(out, pieces, listed(query, list));
+    put_numbers(out, pieces, numbers);
+    pieces.put(out, b"\n");
 }
 
 /// Puts the fields of a refusal, each after a space, and the end of the line behind the bytes that wait.
@@ -134,6 +268,39 @@ fn put_fields<K: Sink>(out: &mut K, pieces: &mut Pieces, query: Option<&Query>, 
             &[number(object), number(count)],
         ),
         Refusal::RoomFull { room } => end_line(out, pieces, &[number(room)]),
+        Refusal::OutOfOrder {
+            list,
+            place,
+            before,
+            after,
+        } => end_listed(out, pieces, query, list, &[place, before, after]),
+        Refusal::TooHigh { list, place, grade } => {
+            end_listed(out, pieces, query, list, &[place, grade])
+        }
+        Refusal::Repeated {
+            list,
+            object,
+            place,
+        } => end_listed(out, pieces, query, list, &[object, place]),
+        Refusal::Clash {
+            list,
+            object,
+            sorted,
+            random,
+        } => end_listed(out, pieces, query, list, &[object, sorted, random]),
+        Refusal::Above {
+            list,
+            object,
+            grade,
+            bottom,
+        } => end_listed(out, pieces, query, list, &[object, grade, bottom]),
+        Refusal::Missing { list, object } => end_listed(out, pieces, query, list, &[object]),
+        Refusal::ShortList { list, stated, got } => {
+            end_listed(out, pieces, query, list, &[stated, got])
+        }
+        Refusal::AsksFull { list, kept } => end_listed(out, pieces, query, list, &[kept]),
+        Refusal::Failed { list } => end_listed(out, pieces, query, list, &[]),
+        Refusal::Garbled { list } => end_listed(out, pieces, query, list, &[]),
     }
 }
 

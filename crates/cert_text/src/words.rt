@@ -27,7 +27,7 @@ fn put_word<K: Sink>(out: &mut K, pieces: &mut Pieces, word: Word)
 }
 
 /// Puts a space and a word behind the bytes that wait.
-fn put_further<K: Sink>(out: &mut K, pieces: &mut Pieces, word: Word)
+pub(crate) fn put_further<K: Sink>(out: &mut K, pieces: &mut Pieces, word: Word)
     ensures { Puts (K.held out.old) (K.held out.new) (K.faults out.old) (K.faults out.new) pieces.old pieces.new (32 ∷ word_text word.entry) }
 {
     pieces.put(out, b" ");

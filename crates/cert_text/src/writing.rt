@@ -21,8 +21,8 @@ pub(crate) fn name_of(names: &Names, list: u8) -> &[u8]
     names.get(u32::from(list)).unwrap_or(b"")
 }
 
-/// The greatest depth of a list.
-fn depth_of(transcript: &Transcript) -> u64
+/// The greatest depth to which a transcript reads a list.
+pub fn depth_of(transcript: &Transcript) -> u64
     ensures { result ≡ depth transcript.now.lists transcript.now.accesses }
 {
     let mut depth: u32 = 0;

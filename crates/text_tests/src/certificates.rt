@@ -12,6 +12,7 @@ use query_text::{Query, print, read};
 use std::alloc::Global;
 use std::process::Abort;
 use std::test::Fail;
+use test_support::{random, sorted};
 use tk_io::{MemSink, Sink};
 
 /// The certificate of the first example, an answer to the sum of two lists of three objects.
@@ -27,22 +28,6 @@ const ITEM: Item = Item {
     low: 1500,
     high: 1500,
 };
-
-const fn sorted(list: u8, object: u32, grade: u32) -> Access {
-    Access::Sorted {
-        list,
-        object,
-        grade,
-    }
-}
-
-const fn random(list: u8, object: u32, grade: u32) -> Access {
-    Access::Random {
-        list,
-        object,
-        grade,
-    }
-}
 
 /// Its accesses.
 const fn accesses() -> [Access; 7] {
@@ -173,13 +158,23 @@ fn is_of_query(query: &Query, refusal: Refusal) -> bool
     ensures { IsTrue result → IsOutcome (Some query.now) (Refused refusal) }
 {
     match refusal {
-        Refusal::UnknownList { list } => u32::from(list) < query.names.len(),
-        Refusal::NotOpened { list } => u32::from(list) < query.names.len(),
-        Refusal::TooLarge { list, .. } => u32::from(list) < query.names.len(),
         Refusal::CountsDiffer { list, other, .. } => {
             u32::from(list) < query.names.len() && u32::from(other) < query.names.len()
         }
-        Refusal::NoRandom { list } => u32::from(list) < query.names.len(),
+        Refusal::UnknownList { list }
+        | Refusal::NotOpened { list }
+        | Refusal::TooLarge { list, .. }
+        | Refusal::NoRandom { list }
+        | Refusal::OutOfOrder { list, .. }
+        | Refusal::TooHigh { list, .. }
+        | Refusal::Repeated { list, .. }
+        | Refusal::Clash { list, .. }
+        | Refusal::Above { list, .. }
+        | Refusal::Missing { list, .. }
+        | Refusal::ShortList { list, .. }
+        | Refusal::AsksFull { list, .. }
+        | Refusal::Failed { list }
+        | Refusal::Garbled { list } => u32::from(list) < query.names.len(),
         _ => true,
     }
 }
@@ -251,6 +246,77 @@ fn writes_each_refusal(rt: HostRuntime) -> Result<(), Fail> {
             "refused 9 Strangers 7 3\n",
         ),
         (Refusal::RoomFull { room: 2 }, "refused 9 RoomFull 2\n"),
+    ];
+    for (refusal, line) in rows {
+        is_line(&rt, rt.alloc(), refusal, line)?;
+    }
+    Ok(())
+}
+
+#[test]
+fn writes_each_refusal_of_a_source(rt: HostRuntime) -> Result<(), Fail> {
+    let rows = [
+        (
+            Refusal::OutOfOrder {
+                list: 0,
+                place: 2,
+                before: 500,
+                after: 600,
+            },
+            "refused 9 OutOfOrder A 2 500 600\n",
+        ),
+        (
+            Refusal::TooHigh {
+                list: 1,
+                place: 1,
+                grade: 1_000_001,
+            },
+            "refused 9 TooHigh B 1 1000001\n",
+        ),
+        (
+            Refusal::Repeated {
+                list: 0,
+                object: 7,
+                place: 3,
+            },
+            "refused 9 Repeated A 7 3\n",
+        ),
+        (
+            Refusal::Clash {
+                list: 0,
+                object: 2,
+                sorted: 800,
+                random: 850,
+            },
+            "refused 9 Clash A 2 800 850\n",
+        ),
+        (
+            Refusal::Above {
+                list: 0,
+                object: 2,
+                grade: 950,
+                bottom: 900,
+            },
+            "refused 9 Above A 2 950 900\n",
+        ),
+        (
+            Refusal::Missing { list: 0, object: 3 },
+            "refused 9 Missing A 3\n",
+        ),
+        (
+            Refusal::ShortList {
+                list: 0,
+                stated: 5,
+                got: 3,
+            },
+            "refused 9 ShortList A 5 3\n",
+        ),
+        (
+            Refusal::AsksFull { list: 1, kept: 2 },
+            "refused 9 AsksFull B 2\n",
+        ),
+        (Refusal::Failed { list: 0 }, "refused 9 Failed A\n"),
+        (Refusal::Garbled { list: 1 }, "refused 9 Garbled B\n"),
     ];
     for (refusal, line) in rows {
         is_line(&rt, rt.alloc(), refusal, line)?;

@@ -4,15 +4,11 @@ use command_words::{Command, Words, WordsFault, read_command, read_words};
 use std::alloc::Global;
 use std::env::{Env, FillError};
 use std::test::Fail;
+use test_support::words_of;
 
 /// What words are read as.
 fn command_of(alloc: Global, texts: &[&str]) -> Result<Result<Command, WordsFault>, Fail> {
-    let mut words = Words::make(alloc);
-    for text in texts {
-        if words.len() < 9 {
-            words.push(text)?;
-        }
-    }
+    let words = words_of(alloc, texts)?;
     Ok(read_command(alloc, &words))
 }
 

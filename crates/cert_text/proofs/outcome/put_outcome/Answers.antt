@@ -1,6 +1,6 @@
 use Rattle.std.proofs.Common.{append-nil}
 use Rattle.cert_text.specs.Outcome.{outcome_text}
-use Rattle.cert_text.proofs.WritingLaws.{puts_as}
+use Rattle.tk_io.proofs.Putting.{puts_as}
 use Rattle.cert_text.proofs.outcome.put_outcome.Goals as goal
 
 pub returns-in-Some : goal.returns-in-Some

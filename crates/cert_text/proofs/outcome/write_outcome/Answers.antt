@@ -1,6 +1,4 @@
-use Rattle.std.specs.Option.{option_copied}
 use Rattle.tk_io.proofs.Putting.{puts_written}
-use Rattle.cert_text.specs.Outcome.{outcome_text}
 use Rattle.cert_text.proofs.outcome.write_outcome.Goals as goal
 
 pub returns-clause-whole : goal.returns-clause-whole

@@ -3,7 +3,8 @@ use Rattle.line_text.specs.Lines.{unlines}
 use Rattle.tk_io.proofs.Putting.{puts_then}
 use Rattle.cert_text.specs.Certificate.{number_line, query_line, count_line, answer_line, access_lines}
 use Rattle.cert_text.specs.Outcome.{figures_line}
-use Rattle.cert_text.proofs.WritingLaws.{puts_as, unlines-parts}
+use Rattle.cert_text.proofs.WritingLaws.{unlines-parts}
+use Rattle.tk_io.proofs.Putting.{puts_as}
 use Rattle.cert_text.proofs.writing.put_certificate.Goals as goal
 
 pub returns : goal.returns

@@ -1,8 +1,8 @@
-use Rattle.std.proofs.Common.{[], ◌∷◌, ◌++◌, append-nil, subst, sym}
+use Rattle.std.proofs.Common.{[], ◌∷◌, ◌++◌, append-nil}
 use Rattle.line_text.specs.Lines.{unlines}
 use Rattle.tk_io.proofs.Putting.{puts_then}
 use Rattle.cert_text.specs.Certificate.{number_line, query_line, count_line}
-use Rattle.cert_text.proofs.WritingLaws.{puts_as}
+use Rattle.tk_io.proofs.Putting.{puts_as}
 use Rattle.cert_text.proofs.writing.put_head.Goals as goal
 
 pub returns : goal.returns

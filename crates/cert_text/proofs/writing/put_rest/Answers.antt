@@ -3,7 +3,8 @@ use Rattle.line_text.specs.Lines.{unlines}
 use Rattle.tk_io.proofs.Putting.{puts_then}
 use Rattle.cert_text.specs.Certificate.{access_line, access_lines}
 use Rattle.cert_text.specs.Outcome.{figures_line}
-use Rattle.cert_text.proofs.WritingLaws.{puts_as, unlines-append}
+use Rattle.line_text.proofs.LineLaws.{unlines-append}
+use Rattle.tk_io.proofs.Putting.{puts_as}
 use Rattle.cert_text.proofs.writing.put_rest.Goals as goal
 
 pub returns : goal.returns

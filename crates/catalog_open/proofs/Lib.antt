@@ -1,0 +1,6 @@
+-- Lemmas on opening the sources of a catalog.
+pub mod Moving
+pub mod Opens
+pub mod Marking
+pub mod Admits
+pub mod Back

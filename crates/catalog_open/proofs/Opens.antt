@@ -1,0 +1,253 @@
+-- What became of the sources of the first entries of a catalog, with one more.
+use Rattle.std.proofs.Common.{◌≡◌, ◌⊎◌, ◌≢◌, ℕ, suc, ◌+◌, ◌<◌, ◌≤◌, Bool, true, false, cond, nat_le, List, [], ◌∷◌, ◌++◌, All, length, length-append, get_or, slice_index_or, inl, inr, slice_get, MatchOption, Option, None, Some, Result, Ok, Err, OnOk, OnErr, refl, sym, ap, ◌∙◌, subst, arith}
+use Rattle.std.proofs.lemmas.List.{get_or_append_left, get_or_past, get_or_push}
+use Rattle.std.proofs.lemmas.Bool.{cases_lt, leb-true}
+use Rattle.std.proofs.lemmas.List.Elements.{All-push, All-from_recursion, All-weaker}
+use Rattle.std.proofs.lemmas.Option.{get_or_from_slice_get, same_Some}
+use Rattle.ranked_list.specs.declared.row.Row.{Row}
+use Rattle.source_api.specs.declared.ledger.PlaceCounts.{PlaceCounts}
+use Rattle.source_api.specs.Places.{SameElsewhere}
+use Rattle.catalog_text.specs.Catalog.{Listed as Entry}
+use Rattle.catalog_open.specs.declared.opened.Opening.{Opening}
+use Rattle.catalog_open.specs.declared.opened.Opening.TheVariants.{Closed, Open}
+use Rattle.catalog_open.specs.Views.{no_entry, entry_at, opening_at, told_of}
+use Rattle.catalog_open.specs.Openings.{Counted, Used, Moves, MovesAt, KeepsOthers, TroubleAt, Sources, run_count, IsToldAs, IsSource, IsOpening, IsNumbered, AreOpened, IsKnownAt}
+use Rattle.catalog_open.proofs.Moving.{at_place, moves_none, moves_then, moves_here, moves_at, trouble_on, trouble_from, keeps_then, keeps_here}
+use Rattle.limits.specs.declared.TheConstants.{MAX_OBJECTS}
+
+-- nothing is open yet
+pub opened_none : (lists : List ℕ → Option (List Row)) (catalog : List Entry) (Wanted : ℕ → Type 0) (before : Counted)
+    → AreOpened lists catalog Wanted before before [] (record { told = []; places = []; counts = [] })
+opened_none lists catalog Wanted before = record {
+  each = λ place h. absurd (omega arith);
+  numbered = λ source h. absurd (omega arith);
+  many_told = refl;
+  many_counts = refl;
+  small = All-from_recursion (λ count. count ≤ MAX_OBJECTS) [] tt;
+  used = [];
+  moves = moves_none before;
+  others = λ place apart. refl;
+}
+
+opening_on : (lists : List ℕ → Option (List Row)) (catalog : List Entry) (s : Sources) (Wanted : ℕ
+    → Type 0) (before mid now : Counted) (place : ℕ) (o : Opening)
+    → MovesAt (mid (entry_at catalog place).place) (now (entry_at catalog place).place) → IsOpening lists catalog s Wanted before mid place o → IsOpening lists catalog s Wanted before now place o
+opening_on lists catalog s Wanted before mid now place Closed moves is = λ wanted. trouble_on (before (entry_at catalog place).place) (mid (entry_at catalog place).place) (now (entry_at catalog place).place) (is wanted) moves
+opening_on lists catalog s Wanted before mid now place (Open size source) moves is = is
+
+-- the shelf went on
+pub opened_moved : (lists : List ℕ → Option (List Row)) (catalog : List Entry) (Wanted : ℕ
+    → Type 0) (before mid now : Counted) (openings : List Opening) (s : Sources) (u : List Used)
+    → AreOpened lists catalog Wanted before mid openings s → Moves u mid now → KeepsOthers catalog Wanted mid now → AreOpened lists catalog Wanted before now openings s
+opened_moved lists catalog Wanted before mid now openings s u are moves others = record {
+  each = λ place within. opening_on lists catalog s Wanted before mid now place (opening_at openings place) (moves_at u mid now (entry_at catalog place).place moves) (are.each place within);
+  numbered = are.numbered;
+  many_told = are.many_told;
+  many_counts = are.many_counts;
+  small = are.small;
+  used = are.used ++ u;
+  moves = moves_then are.used u before mid now are.moves moves;
+  others = keeps_then catalog Wanted before mid now are.others others;
+}
+
+-- a source that has a number stands among the openings
+pub numbered_within : (catalog : List Entry) (openings : List Opening) (place source : ℕ) → IsNumbered catalog openings place source → place < length openings
+numbered_within catalog openings place source is = elim (cases_lt place (length openings)) [
+  | inl within ↦ within
+  | inr past ↦ let closed : opening_at openings place ≡ Closed = get_or_past openings place Closed past in absurd (open_closed is.size source (sym is.open_as ∙ closed))
+]
+  where
+    open_closed : (size source : ℕ) → Open size source ≡ Closed → ⊥
+    open_closed size source e = cc
+
+numbered_on : (catalog : List Entry) (openings : List Opening) (o : Opening) (place source : ℕ) → IsNumbered catalog openings place source
+    → IsNumbered catalog (openings ++ o ∷ []) place source
+numbered_on catalog openings o place source is = record {
+  within = is.within;
+  size = is.size;
+  open_as = get_or_append_left openings (o ∷ []) Closed place (numbered_within catalog openings place source is) ∙ is.open_as;
+}
+
+last_or : (place n : ℕ) → place < n + 1 → (place < n) ⊎ (place ≡ n)
+last_or place n h = elim (cases_lt place n) [ inl less ↦ inl less | inr more ↦ inr (omega (arith, more)) ]
+
+-- the next source isn't open
+pub opened_closed : (lists : List ℕ → Option (List Row)) (catalog : List Entry) (Wanted : ℕ
+    → Type 0) (before now : Counted) (openings : List Opening) (s : Sources) (next : ℕ)
+    → AreOpened lists catalog Wanted before now openings s → length openings ≡ next → (Wanted next → TroubleAt (before (entry_at catalog next).place) (now (entry_at catalog next).place))
+    → AreOpened lists catalog Wanted before now (openings ++ Closed ∷ []) s
+opened_closed lists catalog Wanted before now openings s next are long trouble = record {
+  each = λ place within.
+      let inside : place < length openings + 1 = omega (arith, within, length-append openings (Closed ∷ [])) in
+      elim (last_or place (length openings) inside) [
+        | inl old ↦ subst (IsOpening lists catalog s Wanted before now place) (sym (get_or_append_left openings (Closed ∷ []) Closed place old)) (are.each place old)
+        | inr new ↦
+            let here : opening_at (openings ++ Closed ∷ []) place ≡ Closed = get_or_push openings Closed Closed place (sym new) in
+            let same : next ≡ place = sym long ∙ sym new in
+            subst (IsOpening lists catalog s Wanted before now place) (sym here) (subst (λ p. Wanted p → TroubleAt (before (entry_at catalog p).place) (now (entry_at catalog p).place)) same trouble)
+      ];
+  numbered = λ source within. numbered_on catalog openings Closed (slice_index_or s.places source 0) source (are.numbered source within);
+  many_told = are.many_told;
+  many_counts = are.many_counts;
+  small = are.small;
+  used = are.used;
+  moves = are.moves;
+  others = are.others;
+}
+
+-- the sources with one more
+abbrev pub more_sources : Sources → Option (List Row) → ℕ → ℕ → Sources
+more_sources s told place count = record { told = s.told ++ told ∷ []; places = s.places ++ place ∷ []; counts = s.counts ++ count ∷ [] }
+
+source_on : (lists : List ℕ → Option (List Row)) (catalog : List Entry) (s : Sources) (told : Option (List Row)) (next count place size source : ℕ)
+    → length s.told ≡ length s.places → length s.counts ≡ length s.places
+    → IsSource lists catalog s place size source → IsSource lists catalog (more_sources s told next count) place size source
+source_on lists catalog s told next count place size source many_told many_counts is = record {
+  within = omega (arith, is.within, length-append s.places (next ∷ []));
+  stands = get_or_append_left s.places (next ∷ []) 0 source is.within ∙ is.stands;
+  counted = get_or_append_left s.counts (count ∷ []) 0 source (omega (arith, is.within, many_counts)) ∙ is.counted;
+  told = subst (λ t. IsToldAs (told_of lists catalog place) t size) (sym (get_or_append_left s.told (told ∷ []) None source (omega (arith, is.within, many_told)))) is.told;
+}
+
+still_opening : (lists : List ℕ → Option (List Row)) (catalog : List Entry) (s : Sources) (told : Option (List Row)) (next count : ℕ) (Wanted : ℕ
+    → Type 0) (before now : Counted) (place : ℕ) (o : Opening)
+    → length s.told ≡ length s.places → length s.counts ≡ length s.places
+    → IsOpening lists catalog s Wanted before now place o → IsOpening lists catalog (more_sources s told next count) Wanted before now place o
+still_opening lists catalog s told next count Wanted before now place Closed many_told many_counts is = is
+still_opening lists catalog s told next count Wanted before now place (Open size source) many_told many_counts is = (is.0, source_on lists catalog s told next count place size source many_told many_counts is.1)
+
+run_count_small : (size : ℕ) → run_count size ≤ MAX_OBJECTS
+run_count_small size = small (nat_le size MAX_OBJECTS) (leb-true size MAX_OBJECTS)
+  where
+    small : (b : Bool) → (b ≡ true → size ≤ MAX_OBJECTS) → cond b size 0 ≤ MAX_OBJECTS
+    small true is = is refl
+    small false is = omega arith
+
+-- the next source is open
+pub opened_open : (lists : List ℕ → Option (List Row)) (catalog : List Entry) (Wanted : ℕ
+    → Type 0) (before now : Counted) (openings : List Opening) (s : Sources) (next size : ℕ) (told : Option (List Row))
+    → AreOpened lists catalog Wanted before now openings s → length openings ≡ next → next < length catalog → Wanted next → IsToldAs (told_of lists catalog next) told size
+    → AreOpened lists catalog Wanted before now (openings ++ Open size (length s.places) ∷ []) (more_sources s told next (run_count size))
+opened_open lists catalog Wanted before now openings s next size told are long inside wanted is_told =
+    let o = Open size (length s.places) in
+    record {
+      each = λ place within.
+          let within_more : place < length openings + 1 = omega (arith, within, length-append openings (o ∷ [])) in
+          elim (last_or place (length openings) within_more) [
+            | inl old ↦ subst (IsOpening lists catalog (more_sources s told next (run_count size)) Wanted before now place) (sym (get_or_append_left openings (o ∷ []) Closed place old))
+                (still_opening lists catalog s told next (run_count size) Wanted before now place (opening_at openings place) are.many_told are.many_counts (are.each place old))
+            | inr new ↦
+                let here : opening_at (openings ++ o ∷ []) place ≡ o = get_or_push openings o Closed place (sym new) in
+                let same : next ≡ place = sym long ∙ sym new in
+                subst (IsOpening lists catalog (more_sources s told next (run_count size)) Wanted before now place) (sym here) (
+                  subst Wanted same wanted,
+                  record {
+                    within = omega (arith, length-append s.places (next ∷ []));
+                    stands = get_or_push s.places next 0 (length s.places) refl ∙ same;
+                    counted = get_or_push s.counts (run_count size) 0 (length s.places) are.many_counts;
+                    told = subst (λ p. IsToldAs (told_of lists catalog p) (slice_index_or (s.told ++ told ∷ []) (length s.places) None) size) same
+                        (subst (λ t. IsToldAs (told_of lists catalog next) t size) (sym (get_or_push s.told told None (length s.places) are.many_told)) is_told);
+                  },
+                )
+          ];
+      numbered = λ source within.
+          let within_more : source < length s.places + 1 = omega (arith, within, length-append s.places (next ∷ [])) in
+          elim (last_or source (length s.places) within_more) [
+            | inl old ↦ subst (λ p. IsNumbered catalog (openings ++ o ∷ []) p source) (sym (get_or_append_left s.places (next ∷ []) 0 source old))
+                (numbered_on catalog openings o (slice_index_or s.places source 0) source (are.numbered source old))
+            | inr new ↦ subst (λ p. IsNumbered catalog (openings ++ o ∷ []) p source) (sym (get_or_push s.places next 0 source (sym new))) (record {
+              within = inside;
+              size = size;
+              open_as = get_or_push openings o Closed next long ∙ ap (Open size) (sym new);
+            })
+          ];
+      many_told = omega (arith, length-append s.told (told ∷ []), length-append s.places (next ∷ []), are.many_told);
+      many_counts = omega (arith, length-append s.counts (run_count size ∷ []), length-append s.places (next ∷ []), are.many_counts);
+      small = All-push (λ count. count ≤ MAX_OBJECTS) s.counts (run_count size) are.small (run_count_small size);
+      used = are.used;
+      moves = are.moves;
+      others = are.others;
+    }
+
+-- the entry at a place
+pub entry_place : (catalog : List Entry) (place : ℕ) (one : Entry) (text : List ℕ) → Some one ≡ slice_get catalog place → text ≡ one.place
+    → (entry_at catalog place).place ≡ text
+entry_place catalog place one text found is = ap (λ (e : Entry). e.place) (get_or_from_slice_get catalog place one no_entry (sym found)) ∙ sym is
+
+-- an option that is known
+pub match_none : {X : Type 0} (o : Option X) (P : Type 0) (Q : X → Type 0) → MatchOption o P Q → o ≡ None → P
+match_none None P Q h e = h
+match_none (Some x) P Q h e = absurd cc
+
+pub match_some : {X : Type 0} (o : Option X) (P : Type 0) (Q : X → Type 0) (x : X) → MatchOption o P Q → o ≡ Some x → Q x
+match_some None P Q x h e = absurd cc
+match_some (Some y) P Q x h e = subst Q (same_Some y x e) h
+
+abbrev sources_of : List (Option (List Row)) → List ℕ → List ℕ → Sources
+sources_of told places counts = record { told = told; places = places; counts = counts }
+
+-- the same in other words
+pub opened_as : (lists : List ℕ → Option (List Row)) (catalog : List Entry) (Wanted : ℕ
+    → Type 0) (before now : Counted) (os os_now : List Opening) (told told_now : List (Option (List Row))) (places places_now counts counts_now : List ℕ)
+    → os_now ≡ os → told_now ≡ told → places_now ≡ places → counts_now ≡ counts → AreOpened lists catalog Wanted before now os (sources_of told places counts) → AreOpened lists catalog Wanted before now os_now (sources_of told_now places_now counts_now)
+opened_as lists catalog Wanted before now os os_now told told_now places places_now counts counts_now o t p c are =
+    subst (λ x. AreOpened lists catalog Wanted before now x (sources_of told_now places_now counts_now)) (sym o)
+    (subst (λ x. AreOpened lists catalog Wanted before now os (sources_of x places_now counts_now)) (sym t)
+    (subst (λ x. AreOpened lists catalog Wanted before now os (sources_of told x counts_now)) (sym p)
+    (subst (λ x. AreOpened lists catalog Wanted before now os (sources_of told places x)) (sym c) are)))
+
+-- a source was tried to be opened
+pub opened_tried : (lists : List ℕ → Option (List Row)) (catalog : List Entry) (Wanted : ℕ
+    → Type 0) (before mid now : Counted) (place : ℕ) (text : List ℕ) (os : List Opening) (s : Sources)
+    → Wanted place → (entry_at catalog place).place ≡ text → SameElsewhere text mid now → MovesAt (mid text) (now text) → AreOpened lists catalog Wanted before mid os s → AreOpened lists catalog Wanted before now os s
+opened_tried lists catalog Wanted before mid now place text os s wanted at elsewhere moves are =
+    opened_moved lists catalog Wanted before mid now os s (at_place text moves.counts) are (moves_here text mid now elsewhere moves) (keeps_here catalog Wanted place text mid now wanted at elsewhere)
+
+-- it isn't open
+pub opened_not : (lists : List ℕ → Option (List Row)) (catalog : List Entry) (Wanted : ℕ
+    → Type 0) (before mid now : Counted) (place : ℕ) (text : List ℕ) (os os_now : List Opening) (s : Sources)
+    → Wanted place → length os ≡ place → (entry_at catalog place).place ≡ text → SameElsewhere text mid now → MovesAt (mid text) (now text) → TroubleAt (mid text) (now text) → os_now ≡ os ++ Closed ∷ []
+    → AreOpened lists catalog Wanted before mid os s → AreOpened lists catalog Wanted before now os_now s
+opened_not lists catalog Wanted before mid now place text os os_now s wanted long at elsewhere moves trouble put are =
+    let tried = opened_tried lists catalog Wanted before mid now place text os s wanted at elsewhere moves are in
+    let earlier : MovesAt (before text) (mid text) = moves_at are.used before mid text are.moves in
+    let whole : TroubleAt (before text) (now text) = trouble_from (before text) (mid text) (now text) earlier trouble in
+    subst (λ x. AreOpened lists catalog Wanted before now x s) (sym put)
+    (opened_closed lists catalog Wanted before now os s place tried long (λ w. subst (λ t. TroubleAt (before t) (now t)) (sym at) whole))
+
+-- it is open
+pub opened_some : (lists : List ℕ → Option (List Row)) (catalog : List Entry) (Wanted : ℕ
+    → Type 0) (before mid now : Counted) (place size number : ℕ) (text : List ℕ) (os os_now : List Opening)
+    (told told_now : List (Option (List Row))) (one : Option (List Row)) (places places_now counts counts_now : List ℕ)
+    → Wanted place → place < length catalog → length os ≡ place → number ≡ length places → (entry_at catalog place).place ≡ text → SameElsewhere text mid now → MovesAt (mid text) (now text) → IsToldAs (lists text) one size
+    → os_now ≡ os ++ Open size number ∷ [] → told_now ≡ told ++ one ∷ [] → places_now ≡ places ++ place ∷ [] → counts_now ≡ counts ++ run_count size ∷ []
+    → AreOpened lists catalog Wanted before mid os (sources_of told places counts) → AreOpened lists catalog Wanted before now os_now (sources_of told_now places_now counts_now)
+opened_some lists catalog Wanted before mid now place size number text os os_now told told_now one places places_now counts counts_now wanted inside long many at elsewhere moves is_told o t p c are =
+    let tried = opened_tried lists catalog Wanted before mid now place text os (sources_of told places counts) wanted at elsewhere moves are in
+    let told_here : IsToldAs (told_of lists catalog place) one size = subst (λ x. IsToldAs (lists x) one size) (sym at) is_told in
+    let now_open = opened_open lists catalog Wanted before now os (sources_of told places counts) place size one tried long inside wanted told_here in
+    opened_as lists catalog Wanted before now (os ++ Open size (length places) ∷ []) os_now (told ++ one ∷ []) told_now (places ++ place ∷ []) places_now (counts ++ run_count size ∷ []) counts_now
+    (o ∙ ap (λ n. os ++ Open size n ∷ []) many) t p c now_open
+
+-- sources count at their places
+pub known_on : (catalog : List Entry) (before now : List ℕ → Bool) (places : List ℕ) → ((other : List ℕ) → before other ≡ true → now other ≡ true)
+    → All (IsKnownAt catalog before) places → All (IsKnownAt catalog now) places
+known_on catalog before now places on all = All-weaker (IsKnownAt catalog before) (IsKnownAt catalog now) (λ place is. record { within = is.within; known = on (entry_at catalog place).place is.known }) places all
+
+pub known_more : (catalog : List Entry) (before now : List ℕ → Bool) (places same more : List ℕ) (place : ℕ) (text : List ℕ)
+    → ((other : List ℕ) → before other ≡ true → now other ≡ true) → place < length catalog → (entry_at catalog place).place ≡ text
+    → now text ≡ true → same ≡ places → more ≡ same ++ place ∷ [] → All (IsKnownAt catalog before) places → All (IsKnownAt catalog now) more
+known_more catalog before now places same more place text on inside at known is put all =
+    subst (All (IsKnownAt catalog now)) (sym (put ∙ ap (λ ps. ps ++ place ∷ []) is))
+    (All-push (IsKnownAt catalog now) places place (known_on catalog before now places on all) (record { within = inside; known = subst (λ t. now t ≡ true) (sym at) known }))
+
+-- a source that isn't wanted is passed, unless memory was refused
+pub opened_passed : {A E : Type 0} (r : Result A E) (lists : List ℕ → Option (List Row)) (catalog : List Entry) (Wanted : ℕ
+    → Type 0) (before now : Counted) (place : ℕ) (os os_now : List Opening) (told : List (Option (List Row))) (places places_now counts counts_now : List ℕ)
+    → OnOk r (os_now ≡ os ++ Closed ∷ []) → OnErr r (os_now ≡ os) → places_now ≡ places → counts_now ≡ counts → length os ≡ place → (Wanted place → ⊥)
+    → AreOpened lists catalog Wanted before now os (sources_of told places counts) → AreOpened lists catalog Wanted before now os_now (sources_of told places_now counts_now)
+opened_passed (Ok x) lists catalog Wanted before now place os os_now told places places_now counts counts_now ok err p c long un are =
+    opened_as lists catalog Wanted before now (os ++ Closed ∷ []) os_now told told places places_now counts counts_now ok refl p c
+    (opened_closed lists catalog Wanted before now os (sources_of told places counts) place are long (λ wanted. absurd (un wanted)))
+opened_passed (Err e) lists catalog Wanted before now place os os_now told places places_now counts counts_now ok err p c long un are =
+    opened_as lists catalog Wanted before now os os_now told told places places_now counts counts_now err refl p c are

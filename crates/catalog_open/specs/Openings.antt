@@ -1,0 +1,114 @@
+-- What opening sources and putting them back do to a shelf.
+use Rattle.std.specs.Prelude.{◌≡◌, ◌≢◌, ◌⊎◌, ◌≤◌, ◌<◌, ℕ, Bool, true, List, [], ◌∷◌, All, Option, None, Some, IfSome, length, nat_le, if◌then◌else◌, slice_index_or}
+use Rattle.std.specs.Str.{bytes_eq}
+use Rattle.tk_io.specs.Faults.{Rose}
+use Rattle.ranked_list.specs.declared.row.Row.{Row}
+use Rattle.source_api.specs.declared.counts.Counts.{Counts}
+use Rattle.source_api.specs.declared.ledger.PlaceCounts.{PlaceCounts}
+use Rattle.source_api.specs.Counting.{added}
+use Rattle.catalog_text.specs.Catalog.{Listed as Entry}
+use Rattle.catalog_open.specs.declared.opened.Opening.{Opening}
+use Rattle.catalog_open.specs.declared.opened.Opening.TheVariants.{Closed, Open}
+use Rattle.catalog_open.specs.Views.{entry_at, opening_at, told_of}
+use Rattle.limits.specs.declared.TheConstants.{MAX_OBJECTS}
+
+-- what a shelf has counted, by place
+abbrev pub Counted : Type 0
+Counted = List ℕ → PlaceCounts
+
+-- a source that was put back: at which place, and what it had counted
+pub record Used : Type 0 where
+  pub place : List ℕ
+  pub counts : Counts
+
+-- what those had counted that were put back at a place
+abbrev pub used_at : List ℕ → List Used → List Counts
+used_at place [] = []
+used_at place (one ∷ used) = if bytes_eq one.place place then one.counts ∷ used_at place used else used_at place used
+
+-- counts with these added
+abbrev pub added_all : Counts → List Counts → Counts
+added_all counts [] = counts
+added_all counts (more ∷ others) = added_all (added counts more) others
+
+-- between two moments these sources were put back on a shelf, and calls that take a source failed; no text was asked for that failed
+pub record Moves (used : List Used) (before now : Counted) : Type 0 where
+  pub texts : (place : List ℕ) → (now place).text_faults ≡ (before place).text_faults
+  pub takes : (place : List ℕ) → (before place).take_faults ≤ (now place).take_faults
+  pub sources : (place : List ℕ) → (now place).sources ≡ added_all (before place).sources (used_at place used)
+
+-- at a place sources were put back, and nothing else was counted
+pub record AddsSources (before now : PlaceCounts) : Type 0 where
+  pub counts : List Counts
+  pub here : now ≡ record before { sources = added_all before.sources counts }
+
+-- at a place sources were put back, and calls that take one failed
+pub record MovesAt (before now : PlaceCounts) : Type 0 where
+  pub texts : now.text_faults ≡ before.text_faults
+  pub takes : before.take_faults ≤ now.take_faults
+  pub counts : List Counts
+  pub sources : now.sources ≡ added_all before.sources counts
+
+-- between two moments nothing was counted but at the places of these entries of the catalog
+abbrev pub KeepsOthers : List Entry → (ℕ → Type 0) → Counted → Counted → Type 0
+KeepsOthers catalog These before now = (place : List ℕ) → ((entry : ℕ) → These entry → (entry_at catalog entry).place ≢ place) → now place ≡ before place
+
+-- at a place a call that takes a source failed, or one of a source failed or was answered by garbled data: that count rose, or stands at its last value
+abbrev pub TroubleAt : PlaceCounts → PlaceCounts → Type 0
+TroubleAt before now =
+    Rose before.take_faults now.take_faults ⊎ (Rose before.sources.faults now.sources.faults ⊎ Rose before.sources.garbles now.sources.garbles)
+
+-- the open sources, by their numbers: the lists that they tell, where they stand in the catalog, and how many objects they have
+pub record Sources : Type 0 where
+  pub told : List (Option (List Row))
+  pub places : List ℕ
+  pub counts : List ℕ
+
+-- how many objects a source has in a run: as many as it states, or none where it states more than a list may have
+abbrev pub run_count : ℕ → ℕ
+run_count size = if nat_le size MAX_OBJECTS then size else 0
+
+-- a source that tells the list of a place tells this list, and states its length
+abbrev pub IsToldAs : Option (List Row) → Option (List Row) → ℕ → Type 0
+IsToldAs list told size = IfSome list (λ rows. (told ≡ Some rows) × (size ≡ length rows))
+
+-- the source at a place of the catalog is the one of this number, and states so many objects
+pub record IsSource (lists : List ℕ → Option (List Row)) (catalog : List Entry) (s : Sources) (place size source : ℕ) : Type 0 where
+  pub within : source < length s.places
+  pub stands : slice_index_or s.places source 0 ≡ place
+  pub counted : slice_index_or s.counts source 0 ≡ run_count size
+  pub told : IsToldAs (told_of lists catalog place) (slice_index_or s.told source None) size
+
+-- what became of the source at a place: it is wanted and open, or it isn't open, and had trouble where it is wanted
+abbrev pub IsOpening : (lists : List ℕ → Option (List Row)) (catalog : List Entry) (s : Sources) (Wanted : ℕ → Type 0) (before now : Counted) (place : ℕ)
+    → Opening → Type 0
+IsOpening lists catalog s Wanted before now place Closed = Wanted place → TroubleAt (before (entry_at catalog place).place) (now (entry_at catalog place).place)
+IsOpening lists catalog s Wanted before now place (Open size source) = Wanted place × IsSource lists catalog s place size source
+
+-- a source that has a number is open under this number
+pub record IsNumbered (catalog : List Entry) (openings : List Opening) (place source : ℕ) : Type 0 where
+  pub within : place < length catalog
+  pub size : ℕ
+  pub open_as : opening_at openings place ≡ Open size source
+
+-- the sources of the first entries of a catalog were opened, those that are wanted: what became of each, and what the shelf has counted
+pub record AreOpened (lists : List ℕ → Option (List Row)) (catalog : List Entry) (Wanted : ℕ → Type 0) (before now : Counted) (openings : List Opening) (s : Sources) : Type 0 where
+  pub each : (place : ℕ) → place < length openings → IsOpening lists catalog s Wanted before now place (opening_at openings place)
+  pub numbered : (source : ℕ) → source < length s.places → IsNumbered catalog openings (slice_index_or s.places source 0) source
+  pub many_told : length s.told ≡ length s.places
+  pub many_counts : length s.counts ≡ length s.places
+  pub small : All (λ count. count ≤ MAX_OBJECTS) s.counts
+  pub used : List Used
+  pub moves : Moves used before now
+  pub others : KeepsOthers catalog Wanted before now
+
+-- sources that were put back at the places of their entries, by what they had counted
+abbrev pub put_back : List Entry → List ℕ → List Counts → List Used
+put_back catalog [] counts = []
+put_back catalog (place ∷ places) [] = []
+put_back catalog (place ∷ places) (one ∷ counts) = record { place = (entry_at catalog place).place; counts = one } ∷ put_back catalog places counts
+
+-- these entries are of the catalog, and sources that are put back at their places count there
+pub record IsKnownAt (catalog : List Entry) (knows : List ℕ → Bool) (place : ℕ) : Type 0 where
+  pub within : place < length catalog
+  pub known : knows (entry_at catalog place).place ≡ true

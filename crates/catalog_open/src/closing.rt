@@ -1,0 +1,30 @@
+//! Putting the sources back.
+
+ghost use Rattle.std.specs.Prelude.{◌≡◌, All, Contains, length, map, reverse};
+ghost use Rattle.source_api.specs.Places.{SameAtEach};
+ghost use Rattle.catalog_open.specs.Openings.{IsKnownAt, KeepsOthers, Moves, put_back};
+
+use catalog_text::Catalog;
+use source_api::Shelf;
+
+/// Puts the sources back that were taken of the places of these entries of the catalog, the last first. Takes no memory.
+pub fn put_back_all<H: Shelf>(
+    shelf: &mut H,
+    catalog: &Catalog,
+    places: &[u32],
+    mut sources: Vec<H::Item>,
+)
+    requires many { length sources.items ≡ length places.now }
+    requires known { All (IsKnownAt catalog.now (H.knows shelf.old)) places.now }
+    ensures texts { SameAtEach (H.texts shelf.old) (H.texts shelf.new) }
+    ensures lists { SameAtEach (H.lists shelf.old) (H.lists shelf.new) }
+    ensures others { KeepsOthers catalog.now (Contains places.now) (H.at shelf.old) (H.at shelf.new) }
+    ensures moves { Moves (reverse (put_back catalog.now places.now (map H.Item.counts sources.items))) (H.at shelf.old) (H.at shelf.new) }
+{
+    while let Some(source) = sources.pop() {
+        let Some(entry) = catalog.get(places[sources.len()]) else {
+            unreachable!();
+        };
+        shelf.put_back(entry.place.as_str(), source);
+    }
+}

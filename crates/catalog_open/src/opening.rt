@@ -1,0 +1,250 @@
+//! Opening the sources that are wanted.
+
+ghost use Rattle.std.specs.Prelude.{◌≡◌, ◌≤◌, ◌<◌, ◌+◌, ◌^◌, ◌++◌, ◌∷◌, [], true, ℕ, List, Option, Bool, All, IfOk, IfSome, OnOk, OnErr, MatchOption, length, map, vec_len, vec_capacity};
+ghost use Rattle.ranked_list.specs.declared.row.Row.{Row};
+ghost use Rattle.source_api.specs.Counting.{no_counts};
+ghost use Rattle.source_api.specs.Places.{SameAtEach, SameElsewhere};
+ghost use Rattle.catalog_open.specs.Wanted.{is_marked, IsMarked};
+ghost use Rattle.catalog_open.specs.Openings.{Counted, AddsSources, AreOpened, IsKnownAt, IsToldAs, MovesAt, TroubleAt, run_count};
+ghost use Rattle.catalog_open.specs.declared.opened.Opening.TheVariants as Opening;
+
+use super::Memory;
+use super::opened::{Opened, Opening};
+use catalog_text::Catalog;
+use limits::MAX_OBJECTS;
+use source_api::{Shelf, Source, Trouble};
+use std::alloc::Global;
+
+/// How many objects a source of this size has in a run.
+fn run_count(size: u64) -> u32
+    ensures count { result ≡ run_count size }
+    ensures small { result ≤ MAX_OBJECTS }
+{
+    if size <= u64::from(MAX_OBJECTS) {
+        size as u32
+    } else {
+        0
+    }
+}
+
+/// A source that was opened, and how many objects it states.
+#[derive(Drop)]
+struct OpenSource<S: Drop> {
+    source: S,
+    size: u64,
+}
+
+/// Asks a source that was taken of a place for its size. None is a source that failed at this or answered by garbled data: it was
+/// put back, and so it is where memory is refused.
+fn ask_size<H: Shelf>(
+    alloc: Global,
+    shelf: &mut H,
+    place: &str,
+    mut source: H::Item,
+) -> Result<Option<OpenSource<H::Item>>, Memory>
+    requires fresh { H.Item.counts source ≡ no_counts }
+    requires knows { H.knows shelf.old place.now ≡ true }
+    ensures texts { SameAtEach (H.texts shelf.old) (H.texts shelf.new) }
+    ensures lists { SameAtEach (H.lists shelf.old) (H.lists shelf.new) }
+    ensures known { (other : List ℕ) → H.knows shelf.old other ≡ true → H.knows shelf.new other ≡ true }
+    ensures elsewhere { SameElsewhere place.now (H.at shelf.old) (H.at shelf.new) }
+    ensures used { AddsSources (H.at shelf.old place.now) (H.at shelf.new place.now) }
+    ensures opens { IfOk result (λ found. MatchOption found
+        (TroubleAt (H.at shelf.old place.now) (H.at shelf.new place.now))
+        (λ taken. (H.Item.list taken.source ≡ H.Item.list source) × IfSome (H.Item.list source) (λ rows. taken.size ≡ length rows))) }
+{
+    match source.size(alloc) {
+        Ok(size) => Ok(Some(OpenSource { source, size })),
+        Err(trouble) => {
+            shelf.put_back(place, source);
+            match trouble {
+                Trouble::Failed => Ok(None),
+                Trouble::Garbled => Ok(None),
+                Trouble::Memory => Err(Memory),
+            }
+        }
+    }
+}
+
+/// Takes the source of a place and asks for its size. None is a source that couldn't be taken, or that failed at this or answered by
+/// garbled data.
+fn open_source<H: Shelf>(
+    alloc: Global,
+    shelf: &mut H,
+    place: &str,
+) -> Result<Option<OpenSource<H::Item>>, Memory>
+    ensures texts { SameAtEach (H.texts shelf.old) (H.texts shelf.new) }
+    ensures lists { SameAtEach (H.lists shelf.old) (H.lists shelf.new) }
+    ensures known { (other : List ℕ) → H.knows shelf.old other ≡ true → H.knows shelf.new other ≡ true }
+    ensures elsewhere { SameElsewhere place.now (H.at shelf.old) (H.at shelf.new) }
+    ensures moves { MovesAt (H.at shelf.old place.now) (H.at shelf.new place.now) }
+    ensures opens { IfOk result (λ found. MatchOption found
+        (TroubleAt (H.at shelf.old place.now) (H.at shelf.new place.now))
+        (λ taken. (H.knows shelf.new place.now ≡ true) × IsToldAs (H.lists shelf.old place.now) (H.Item.list taken.source) taken.size)) }
+{
+    match shelf.take(alloc, place) {
+        Ok(source) => ask_size(alloc, shelf, place, source),
+        Err(Trouble::Failed | Trouble::Garbled) => Ok(None),
+        Err(Trouble::Memory) => Err(Memory),
+    }
+}
+
+/// Makes room for one more source.
+fn make_room<S: Drop>(opened: &mut Opened, sources: &mut Vec<S>) -> Result<(), Memory>
+    ensures openings { opened.new.openings.items ≡ opened.old.openings.items }
+    ensures places { opened.new.places.items ≡ opened.old.places.items }
+    ensures counts { opened.new.counts.items ≡ opened.old.counts.items }
+    ensures sources { sources.new.items ≡ sources.old.items }
+    ensures openings_room { OnOk result (vec_len opened.new.openings < vec_capacity opened.new.openings) }
+    ensures places_room { OnOk result (vec_len opened.new.places < vec_capacity opened.new.places) }
+    ensures counts_room { OnOk result (vec_len opened.new.counts < vec_capacity opened.new.counts) }
+    ensures sources_room { OnOk result (vec_len sources.new < vec_capacity sources.new) }
+{
+    let Ok(()) = opened.openings.reserve(1) else {
+        return Err(Memory);
+    };
+    let Ok(()) = opened.places.reserve(1) else {
+        return Err(Memory);
+    };
+    let Ok(()) = opened.counts.reserve(1) else {
+        return Err(Memory);
+    };
+    match sources.reserve(1) {
+        Ok(()) => Ok(()),
+        Err(_) => Err(Memory),
+    }
+}
+
+/// Puts the open source of the next place of the catalog behind the others.
+fn put_open<S: Drop>(opened: &mut Opened, sources: &mut Vec<S>, place: u32, taken: OpenSource<S>)
+    requires few { length sources.old.items < 2 ^ 32 }
+    requires openings_room { vec_len opened.old.openings < vec_capacity opened.old.openings }
+    requires places_room { vec_len opened.old.places < vec_capacity opened.old.places }
+    requires counts_room { vec_len opened.old.counts < vec_capacity opened.old.counts }
+    requires sources_room { vec_len sources.old < vec_capacity sources.old }
+    ensures openings { opened.new.openings.items ≡ opened.old.openings.items ++ Opening.Open taken.size (length sources.old.items) ∷ [] }
+    ensures places { opened.new.places.items ≡ opened.old.places.items ++ place ∷ [] }
+    ensures counts { opened.new.counts.items ≡ opened.old.counts.items ++ run_count taken.size ∷ [] }
+    ensures sources { sources.new.items ≡ sources.old.items ++ taken.source ∷ [] }
+{
+    opened.openings.push_reserved(Opening::Open {
+        size: taken.size,
+        source: sources.len() as u32,
+    });
+    opened.places.push_reserved(place);
+    opened.counts.push_reserved(run_count(taken.size));
+    sources.push_reserved(taken.source);
+}
+
+/// Opens the source of the next entry of the catalog, which is wanted.
+fn open_next<H: Shelf>(
+    alloc: Global,
+    shelf: &mut H,
+    catalog: &Catalog,
+    place: u32,
+    opened: &mut Opened,
+    sources: &mut Vec<H::Item>,
+) -> Result<(), Memory>
+    requires place { place < length catalog.now }
+    requires next { length opened.old.openings.items ≡ place }
+    requires many { length sources.old.items ≡ length opened.old.places.items }
+    requires few { length sources.old.items ≤ place }
+    ensures texts { SameAtEach (H.texts shelf.old) (H.texts shelf.new) }
+    ensures lists { SameAtEach (H.lists shelf.old) (H.lists shelf.new) }
+    ensures next { OnOk result (length opened.new.openings.items ≡ place + 1) }
+    ensures many { length sources.new.items ≡ length opened.new.places.items }
+    ensures few { length sources.new.items ≤ place + 1 }
+    ensures known { All (IsKnownAt catalog.now (H.knows shelf.old)) opened.old.places.items → All (IsKnownAt catalog.now (H.knows shelf.new)) opened.new.places.items }
+    ensures opened { (lists : List ℕ → Option (List Row)) (marks : List Bool) (before : Counted) → SameAtEach lists (H.lists shelf.old)
+        → is_marked marks place ≡ true
+        → AreOpened lists catalog.now (IsMarked marks) before (H.at shelf.old) opened.old.openings.items (record { told = map H.Item.list sources.old.items; places = opened.old.places.items; counts = opened.old.counts.items })
+        → AreOpened lists catalog.now (IsMarked marks) before (H.at shelf.new) opened.new.openings.items (record { told = map H.Item.list sources.new.items; places = opened.new.places.items; counts = opened.new.counts.items }) }
+{
+    let Some(entry) = catalog.get(place) else {
+        unreachable!();
+    };
+    let Ok(()) = make_room(opened, sources) else {
+        return Err(Memory);
+    };
+    let Ok(found) = open_source(alloc, shelf, entry.place.as_str()) else {
+        return Err(Memory);
+    };
+    match found {
+        Some(taken) => put_open(opened, sources, place, taken),
+        None => opened.openings.push_reserved(Opening::Closed),
+    }
+    Ok(())
+}
+
+/// Puts a source that isn't wanted behind the others.
+fn pass_next(opened: &mut Opened) -> Result<(), Memory>
+    ensures openings { OnOk result (opened.new.openings.items ≡ opened.old.openings.items ++ Opening.Closed ∷ []) }
+    ensures none { OnErr result (opened.new.openings.items ≡ opened.old.openings.items) }
+    ensures places { opened.new.places.items ≡ opened.old.places.items }
+    ensures counts { opened.new.counts.items ≡ opened.old.counts.items }
+{
+    match opened.openings.push(Opening::Closed) {
+        Ok(()) => Ok(()),
+        Err(_) => Err(Memory),
+    }
+}
+
+/// Opens the source of the next entry of the catalog where it is wanted.
+fn visit_next<H: Shelf>(
+    alloc: Global,
+    shelf: &mut H,
+    catalog: &Catalog,
+    place: u32,
+    wanted: bool,
+    opened: &mut Opened,
+    sources: &mut Vec<H::Item>,
+) -> Result<(), Memory>
+    requires place { place < length catalog.now }
+    requires next { length opened.old.openings.items ≡ place }
+    requires many { length sources.old.items ≡ length opened.old.places.items }
+    requires few { length sources.old.items ≤ place }
+    ensures texts { SameAtEach (H.texts shelf.old) (H.texts shelf.new) }
+    ensures lists { SameAtEach (H.lists shelf.old) (H.lists shelf.new) }
+    ensures next { OnOk result (length opened.new.openings.items ≡ place + 1) }
+    ensures many { length sources.new.items ≡ length opened.new.places.items }
+    ensures few { length sources.new.items ≤ place + 1 }
+    ensures known { All (IsKnownAt catalog.now (H.knows shelf.old)) opened.old.places.items → All (IsKnownAt catalog.now (H.knows shelf.new)) opened.new.places.items }
+    ensures opened { (lists : List ℕ → Option (List Row)) (marks : List Bool) (before : Counted) → SameAtEach lists (H.lists shelf.old)
+        → is_marked marks place ≡ wanted
+        → AreOpened lists catalog.now (IsMarked marks) before (H.at shelf.old) opened.old.openings.items (record { told = map H.Item.list sources.old.items; places = opened.old.places.items; counts = opened.old.counts.items })
+        → AreOpened lists catalog.now (IsMarked marks) before (H.at shelf.new) opened.new.openings.items (record { told = map H.Item.list sources.new.items; places = opened.new.places.items; counts = opened.new.counts.items }) }
+{
+    if wanted {
+        return open_next(alloc, shelf, catalog, place, opened, sources);
+    }
+    pass_next(opened)
+}
+
+/// Opens the sources of a catalog that are marked, in its order: each is taken of the shelf and asked for its size. What became of
+/// them is put into `opened`, and the open sources into `sources`, both empty before. Where memory is refused, those that are open
+/// by then stand there, to be put back.
+pub fn open_wanted<H: Shelf>(
+    alloc: Global,
+    shelf: &mut H,
+    catalog: &Catalog,
+    marks: &[bool],
+    opened: &mut Opened,
+    sources: &mut Vec<H::Item>,
+) -> Result<(), Memory>
+    requires marks { length marks.now ≡ length catalog.now }
+    requires openings { opened.old.openings.items ≡ [] }
+    requires places { opened.old.places.items ≡ [] }
+    requires counts { opened.old.counts.items ≡ [] }
+    requires sources { sources.old.items ≡ [] }
+    ensures texts { SameAtEach (H.texts shelf.old) (H.texts shelf.new) }
+    ensures lists { SameAtEach (H.lists shelf.old) (H.lists shelf.new) }
+    ensures all { OnOk result (length opened.new.openings.items ≡ length catalog.now) }
+    ensures known { All (IsKnownAt catalog.now (H.knows shelf.new)) opened.new.places.items }
+    ensures opened { AreOpened (H.lists shelf.old) catalog.now (IsMarked marks.now) (H.at shelf.old) (H.at shelf.new) opened.new.openings.items (record { told = map H.Item.list sources.new.items; places = opened.new.places.items; counts = opened.new.counts.items }) }
+{
+    for place in 0..catalog.len() {
+        let wanted = marks[place as usize];
+        visit_next(alloc, shelf, catalog, place, wanted, opened, sources)?;
+    }
+    Ok(())
+}
