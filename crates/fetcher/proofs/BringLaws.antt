@@ -1,5 +1,5 @@
 -- What a call of the source brings, and what a turn does that begins with its plan.
-use Rattle.std.proofs.Common.{◌≡◌, ◌≢◌, ◌≤◌, ◌<◌, ◌+◌, ◌⊎◌, ◌||◌, ◌&&◌, inl, inr, ℕ, Bool, true, false, Option, Some, None, List, [], ◌∷◌, ◌++◌, length, is_some, is_none, nat_le, IsSome, Contains, refl, sym, ap, subst, ◌∙◌, arith, le_trans}
+use Rattle.std.proofs.Common.{◌≡◌, ◌≢◌, ◌≤◌, ◌+◌, ◌⊎◌, ◌||◌, ◌&&◌, inl, inr, ℕ, Bool, true, false, Option, Some, None, List, length, is_some, is_none, nat_le, IsSome, Contains, refl, sym, ap, subst, ◌∙◌, arith, le_trans}
 use Rattle.std.specs.Option.{IfSome, option_map}
 use Rattle.std.proofs.lemmas.Bool.{leb-true}
 use Rattle.std.proofs.lemmas.List.Elements.{Contains-append_left}
@@ -10,17 +10,15 @@ use Rattle.turn_lock.proofs.Growth.{begins_on}
 use Rattle.source_state.specs.declared.ask.Ask.{Ask}
 use Rattle.source_state.specs.declared.entry.LogEntry.{LogEntry}
 use Rattle.source_state.specs.declared.entry.FailKind.{FailKind}
-use Rattle.source_state.specs.declared.entry.Asked.TheVariants as became
 use Rattle.source_state.specs.declared.event.Event.{Event}
 use Rattle.source_state.specs.declared.event.Event.TheVariants as event
 use Rattle.source_state.specs.declared.plan.Plan.{Plan}
 use Rattle.source_state.specs.declared.plan.Plan.TheVariants as plan
 use Rattle.source_state.specs.Log.{rows_in, fault_in, settling_in}
-use Rattle.source_state.specs.State.{State, asks_of, asked_in, asked_as, first_pending, due_by, facts_of}
+use Rattle.source_state.specs.State.{State, asked_as, first_pending, due_by}
 use Rattle.source_state.specs.Events as events
 use Rattle.source_state.specs.Events.{MayCome, counted}
-use Rattle.source_state.specs.Looking.{reach_of, state_reach, is_idle, Serves}
-use Rattle.source_state.proofs.Lists.{none_not_some}
+use Rattle.source_state.specs.Looking.{reach_of, state_reach}
 use Rattle.source_state.proofs.AskLaws.{ask_is_found, pending_parts}
 use Rattle.source_api.specs.declared.counts.Counts.{Counts}
 use Rattle.source_api.specs.declared.source.Trouble.{Trouble}
@@ -29,7 +27,7 @@ use Rattle.source_api.specs.Counting.{HasCause, GaveNothing, GaveRows, GaveGrade
 use Rattle.source_api.specs.Told.{IsPage, IsGrade}
 use Rattle.fetcher.specs.declared.turned.Turned.{Turned}
 use Rattle.fetcher.specs.declared.turned.Turned.TheVariants as turned
-use Rattle.fetcher.specs.Turning.{IsFound, HasSeen, Feeds, IsPlanned, IsFed, BroughtPage, BroughtGrade, BroughtMiss, BroughtFail, NothingDue, SawIdle, BroughtNothing, Brings, MayTellPage, IsNext, MayTellGrade, MayFetch, settled_by, answer_by, kind_of, failed_by, IsOfSource}
+use Rattle.fetcher.specs.Turning.{IsFound, Feeds, IsPlanned, IsFed, BroughtFail, Brings, MayTellPage, IsNext, MayTellGrade, MayFetch, settled_by, answer_by, kind_of, failed_by, IsOfSource}
 use Rattle.fetcher.proofs.ReachLaws.{reach_more}
 use Rattle.fetcher.proofs.EventLaws.{page_stays}
 

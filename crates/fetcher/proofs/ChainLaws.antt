@@ -1,5 +1,5 @@
 -- One more turn at the end of others.
-use Rattle.std.proofs.Common.{◌≡◌, ℕ, Option, List, [], ◌∷◌, ◌++◌, refl, subst}
+use Rattle.std.proofs.Common.{ℕ, Option, List, [], ◌∷◌, ◌++◌, refl, subst}
 use Rattle.ranked_list.specs.declared.row.Row.{Row}
 use Rattle.fetcher.specs.Chaining.{Moment, OneTurn, IsTurnOf, AreTurns, IsFetched}
 

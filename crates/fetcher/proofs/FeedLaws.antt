@@ -1,5 +1,5 @@
 -- What a turn of a feeder leaves of it, by what the calls in the turn ensure.
-use Rattle.std.proofs.Common.{◌≡◌, ◌≤◌, ◌+◌, ℕ, true, None, Some, List, refl, sym, ap, subst, ◌∙◌, le_trans}
+use Rattle.std.proofs.Common.{◌≡◌, ◌+◌, ℕ, List, refl, sym, ap, subst, ◌∙◌, le_trans}
 use Rattle.std.specs.Option.{IfSome, IsSomeAnd}
 use Rattle.atomic_table.specs.Seated.{TableId}
 use Rattle.turn_lock.specs.declared.facts.Facts.{Facts}

@@ -4,4 +4,5 @@ mod FeedLaws
 pub mod BringLaws
 mod MeterLaws
 mod ChainLaws
+pub mod ClosedLaws
 pub mod ToldLaws

@@ -1,10 +1,12 @@
 -- What the turns of a fetcher bring together, turn by turn.
-use Rattle.std.proofs.Common.{◌≡◌, ◌≢◌, ◌≤◌, ◌<◌, ◌+◌, ◌-◌, ◌^◌, ℕ, min, max, None, List, length, refl, sym, ap, subst, ◌∙◌, arith, le_trans, le_refl, Option}
+use Rattle.std.proofs.Common.{◌≡◌, ◌≤◌, ◌<◌, ◌+◌, ◌-◌, ◌^◌, ℕ, max, None, List, ◌++◌, length, refl, sym, ap, subst, ◌∙◌, arith, le_trans, le_refl, Option}
+use Rattle.std.proofs.lemmas.List.{length-append}
 use Rattle.ranked_list.specs.declared.row.Row.{Row}
 use Rattle.tk_io.specs.Faults.{Rose}
 use Rattle.tk_io.specs.Faults as faults
 use Rattle.turn_lock.specs.declared.facts.Tally.{Tally}
 use Rattle.turn_lock.specs.declared.known.Known.{Known}
+use Rattle.turn_lock.specs.Facts.{Begins}
 use Rattle.turn_lock.proofs.Growth.{begins_same, begins_on, at_most_same, at_most_on}
 use Rattle.topk_theory.proofs.AgreementLists.{distinct_fits}
 use Rattle.source_state.specs.declared.entry.LogEntry.{LogEntry}
@@ -14,7 +16,7 @@ use Rattle.source_state.specs.declared.entry.Settling.TheVariants.{Missed}
 use Rattle.source_state.specs.declared.event.Event.{Event}
 use Rattle.source_state.specs.declared.event.Event.TheVariants as event
 use Rattle.source_state.specs.Log.{rows_in, settled_in, fault_in}
-use Rattle.source_state.specs.State.{State, settle, last_count, IsSound}
+use Rattle.source_state.specs.State.{State, settle, IsSound}
 use Rattle.source_state.specs.Events as events
 use Rattle.source_state.specs.Events.{logged, one_more}
 use Rattle.source_state.specs.Looking.{reach_of}
@@ -23,7 +25,7 @@ use Rattle.source_api.specs.Counting.{raised, NoneFell}
 use Rattle.fetcher.specs.declared.turned.Fetched.{Fetched}
 use Rattle.fetcher.specs.declared.turned.Turned.{Turned}
 use Rattle.fetcher.specs.declared.turned.Turned.TheVariants as turned
-use Rattle.fetcher.specs.Turning.{IsFound, HasSeen, Feeds, IsFed, Brings}
+use Rattle.fetcher.specs.Turning.{Feeds, IsFed, Brings}
 use Rattle.fetcher.specs.Metering.{WentUp, RoseBy, IsMetered, nothing, counted_by, HasCountOf}
 use Rattle.fetcher.proofs.ReachLaws.{reach_more, reach_within}
 use Rattle.fetcher.proofs.EventLaws.{page_stays, page_all, settling_more, settling_rows, settling_fault}
@@ -53,7 +55,7 @@ reach_on page ahead k1 k2 some feeds =
     subst (λ n. reach_of k1.sight.mark page ahead k1.name.1 ≤ reach_of k2.sight.mark page ahead n) (ap (λ (p : ℕ × ℕ). p.1) (sym feeds.name))
     (reach_more page ahead k1.name.1 k1.sight.mark k2.sight.mark some feeds.sight)
 
-max_on : (start rows near far : ℕ) → start + rows ≤ max start near → near ≤ far → start + rows ≤ max start far
+pub max_on : (start rows near far : ℕ) → start + rows ≤ max start near → near ≤ far → start + rows ≤ max start far
 max_on start rows near far a b = omega arith
 
 max_page : (start kept rows more far : ℕ) → kept ≡ start + rows → kept + more ≤ far → start + (rows + more) ≤ max start far
@@ -72,11 +74,13 @@ pub record Settles (k1 k2 : Known LogEntry) : Type 0 where
   pub rows : length (rows_in k2.seen) ≡ length (rows_in k1.seen)
   pub fault : fault_in k2.seen ≡ fault_in k1.seen
   pub few : length (settled_in k2.seen) ≤ 200000
+  pub asks : length (settled_in k2.seen) ≤ length k2.met
+
+settled_asks : (s : State) → IsSound s → length (settled_in s.log) ≤ length s.asks
+settled_asks s sound = distinct_fits (settled_in s.log) s.asks sound.log.once sound.log.asked
 
 settled_few : (s : State) → IsSound s → length (settled_in s.log) ≤ 200000
-settled_few s sound =
-    let asks : length (settled_in s.log) ≤ length s.asks = distinct_fits (settled_in s.log) s.asks sound.log.once sound.log.asked in
-    le_trans asks (le_trans sound.fits sound.small)
+settled_few s sound = le_trans (settled_asks s sound) (le_trans sound.fits sound.small)
 
 settles_by : (e : Event) (object : ℕ) (settling : State → Settling) (k1 k2 : Known LogEntry)
     → ((s : State) → events.after s e ≡ logged s (Settled object (settling s))) → IsFed e k1 k2 → Settles k1 k2
@@ -87,11 +91,19 @@ settles_by e object settling k1 k2 is fed =
       rows = ap (λ log. length (rows_in log)) after ∙ (ap (length {A = Row}) (settling_rows fed.found object (settling fed.found)) ∙ ap (λ log. length (rows_in log)) fed.is.log);
       fault = ap fault_in after ∙ (settling_fault fed.found object (settling fed.found) ∙ ap fault_in fed.is.log);
       few = subst (λ log. length (settled_in log) ≤ 200000) (sym fed.sees.log) (settled_few (events.after fed.found e) fed.sound);
+      asks = subst (λ (log : List LogEntry). length (settled_in log) ≤ length k2.met) (sym fed.sees.log)
+          (subst (λ (asks : List ℕ). length (settled_in (events.after fed.found e).log) ≤ length asks) (sym fed.sees.asks) (settled_asks (events.after fed.found e) fed.sound));
     }
 
 kept_settled : (fetched : Fetched) (k0 k1 k2 : Known LogEntry) → KeepsAll fetched k0 k1 → Settles k1 k2
     → KeepsAll (record fetched { grades = fetched.grades + 1 }) k0 k2
 kept_settled fetched k0 k1 k2 h s = record { rows = λ none. s.rows ∙ h.rows (sym s.fault ∙ none) }
+
+-- the grades are no more than the asks, however many asks come
+pub asked_on : (grades : ℕ) (asks more : List ℕ) → grades ≤ length asks → Begins asks more → grades ≤ length more
+asked_on grades asks more h b =
+    let e : length more ≡ length (asks ++ b.rest) = ap (length {A = ℕ}) b.goes_on in
+    omega (arith, h, e, length-append asks b.rest)
 
 -- what was metered, before a turn
 pub record Meters (page ahead : ℕ) (fetched : Fetched) (counts now : Counts) (before after : Known LogEntry) : Type 0 where
@@ -110,6 +122,7 @@ still page ahead fetched c0 c1 c2 k0 k1 k2 some m feeds seen rows grades failed 
     grades = went_same c0.grades_given fetched.grades c1.grades_given c2.grades_given m.metered.grades grades;
     reach = max_on (length (rows_in k0.seen)) fetched.rows _ _ m.metered.reach (reach_on page ahead k1 k2 some feeds);
     settled = m.metered.settled ∙ ap (λ log. length (settled_in log)) (sym seen);
+    asked = asked_on fetched.grades k1.met k2.met m.metered.asked feeds.follows.met;
     failed = failed;
     garbled = garbled;
   };
@@ -138,6 +151,7 @@ settled_turn page ahead fetched c0 c1 c2 k0 k1 k2 some m feeds later s tally row
     grades = went_more c0.grades_given fetched.grades 1 c1.grades_given c2.grades_given m.metered.grades grades;
     reach = max_on (length (rows_in k0.seen)) fetched.rows _ _ m.metered.reach (reach_on page ahead k1 k2 some feeds);
     settled = let a = m.metered.settled in let b = s.settled in omega (arith, a, b);
+    asked = let a = m.metered.settled in let b = s.settled in let d = s.asks in omega (arith, a, b, d);
     failed = same_failed k0 k1 k2 c0.faults c1.faults c2.faults (ap (λ (t : Tally). t.failed) tally) m.metered.failed later.faults;
     garbled = same_garbled k0 k1 k2 c0.garbles c1.garbles c2.garbles (ap (λ (t : Tally). t.garbled) tally) m.metered.garbled later.garbles;
   };
@@ -158,6 +172,7 @@ meter_more page ahead fetched (turned.Paged rows) list c0 c1 c2 k0 k1 k2 some m 
         grades = went_same c0.grades_given fetched.grades c1.grades_given c2.grades_given m.metered.grades b.gave.grades;
         reach = max_page (length (rows_in k0.seen)) (length (rows_in k1.seen)) fetched.rows rows _ all b.reach;
         settled = m.metered.settled ∙ sym (ap (λ log. length (settled_in log)) fed.sees.log ∙ (ap (length {A = ℕ}) (page_stays fed.found b.given).settled ∙ ap (λ log. length (settled_in log)) fed.is.log));
+        asked = asked_on fetched.grades k1.met k2.met m.metered.asked feeds.follows.met;
         failed = same_failed k0 k1 k2 c0.faults c1.faults c2.faults (ap (λ (t : Tally). t.failed) b.tally) m.metered.failed later.faults;
         garbled = same_garbled k0 k1 k2 c0.garbles c1.garbles c2.garbles (ap (λ (t : Tally). t.garbled) b.tally) m.metered.garbled later.garbles;
       };
@@ -228,6 +243,7 @@ meter_none page ahead counts known = record {
     grades = refl;
     reach = least (length (rows_in known.seen)) (reach_of known.sight.mark page ahead known.name.1);
     settled = omega arith;
+    asked = omega arith;
     failed = none_rose counts.faults known.tally.failed;
     garbled = none_rose counts.garbles known.tally.garbled;
   };
@@ -251,12 +267,4 @@ feeds_on k0 k1 k2 a b = record {
   high = b.high ∙ a.high;
   asked = b.asked ∙ a.asked;
   sight = le_trans a.sight b.sight;
-}
-
-pub none_fell_on : (c0 c1 c2 : Counts) → NoneFell c0 c1 → NoneFell c1 c2 → NoneFell c0 c2
-none_fell_on c0 c1 c2 a b = record {
-  faults = le_trans a.faults b.faults;
-  garbles = le_trans a.garbles b.garbles;
-  rows_given = le_trans a.rows_given b.rows_given;
-  grades_given = le_trans a.grades_given b.grades_given;
 }

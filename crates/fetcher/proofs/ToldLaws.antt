@@ -1,15 +1,15 @@
 -- The turns of a fetcher of a source that tells its list.
-use Rattle.std.proofs.Common.{◌≡◌, ◌≢◌, ◌==◌, inl, inr, ℕ, Bool, true, false, cond, Option, Some, None, List, [], ◌∷◌, ◌++◌, length, take, drop, nat_lt, Contains, refl, sym, ap, subst, ◌∙◌, append_assoc}
+use Rattle.std.proofs.Common.{◌≡◌, ◌==◌, inl, inr, ℕ, true, false, cond, Option, Some, None, List, [], ◌∷◌, ◌++◌, length, take, drop, nat_lt, Contains, refl, sym, ap, subst, ◌∙◌, append_assoc}
 use Rattle.std.proofs.lemmas.Bool.Decides.{eqb_tells}
 use Rattle.std.proofs.lemmas.List.{take-append-drop}
 use Rattle.ranked_list.specs.declared.row.Row.{Row}
-use Rattle.ranked_list.specs.Table.{objects, top_grade}
+use Rattle.ranked_list.specs.Table.{top_grade}
 use Rattle.topk_theory.specs.Transcript.{Begins, last_grade}
 use Rattle.topk_theory.specs.Bounds.{grade_among}
 use Rattle.topk_theory.proofs.AgreementLists.{begins_with, begins_splits, begins_trans}
 use Rattle.turn_lock.specs.declared.known.Known.{Known}
 use Rattle.source_state.specs.declared.entry.LogEntry.{LogEntry}
-use Rattle.source_state.specs.declared.entry.LogEntry.TheVariants.{Kept, Settled, Fault}
+use Rattle.source_state.specs.declared.entry.LogEntry.TheVariants.{Kept, Settled}
 use Rattle.source_state.specs.declared.entry.Settling.{Settling}
 use Rattle.source_state.specs.declared.entry.Settling.TheVariants.{Graded, Bad, Missed}
 use Rattle.source_state.specs.declared.entry.SourceFault.{SourceFault}
@@ -18,7 +18,6 @@ use Rattle.source_state.specs.declared.event.Event.{Event}
 use Rattle.source_state.specs.declared.event.Event.TheVariants as event
 use Rattle.source_state.specs.Log.{rows_in, settling_in}
 use Rattle.source_state.specs.State.{State, asks_of, row_fault, settle_by, settle}
-use Rattle.source_state.specs.Events as events
 use Rattle.source_state.specs.Events.{logged, row_or, with_rows, paged}
 use Rattle.source_state.proofs.AskLaws.{pending_parts}
 use Rattle.source_state.proofs.LogLaws.{kept_rows, kept_settling, settled_rows, settled_other, settled_same, fault_rows, fault_settling}
@@ -27,7 +26,7 @@ use Rattle.source_api.specs.Told.{IsPage}
 use Rattle.fetcher.specs.declared.turned.Turned.{Turned}
 use Rattle.fetcher.specs.declared.turned.Turned.TheVariants as turned
 use Rattle.fetcher.specs.Turning.{IsFed, Brings}
-use Rattle.fetcher.specs.Chaining.{Moment, OneTurn, IsTurnOf, AreTurns, IsFetched}
+use Rattle.fetcher.specs.Chaining.{Moment, OneTurn, AreTurns, IsFetched}
 use Rattle.fetcher.specs.Telling.{IsTrueSettling, TellsOf}
 
 some_same : {A : Type 0} {x y : A} → Some x ≡ Some y → x ≡ y

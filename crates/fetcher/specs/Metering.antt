@@ -1,9 +1,10 @@
 -- What the turns of a fetcher bring together.
-use Rattle.std.specs.Prelude.{◌≡◌, ◌≤◌, ◌<◌, ◌+◌, ◌-◌, ◌^◌, ℕ, min, max, None, List, length}
+use Rattle.std.specs.Prelude.{◌≡◌, ◌≤◌, ◌<◌, ◌+◌, ◌-◌, ◌^◌, ℕ, max, length}
 use Rattle.turn_lock.specs.declared.known.Known.{Known}
 use Rattle.source_state.specs.declared.entry.LogEntry.{LogEntry}
-use Rattle.source_state.specs.Log.{rows_in, settled_in, fault_in}
-use Rattle.source_state.specs.Looking.{reach_of}
+use Rattle.source_state.specs.Log.{rows_in, settled_in}
+use Rattle.source_state.specs.State.{State}
+use Rattle.source_state.specs.Looking.{reach_of, state_reach}
 use Rattle.source_api.specs.declared.counts.Counts.{Counts}
 use Rattle.source_api.specs.Counting.{raised}
 use Rattle.fetcher.specs.declared.turned.Fetched.{Fetched}
@@ -19,15 +20,22 @@ abbrev pub RoseBy : ℕ → ℕ → ℕ → Type 0
 RoseBy number before now = raised before number ≤ now
 
 -- what was fetched of a source: its counts rose by the rows and grades that were given; the rows kept before and those given are
--- together within the reach of the want that was seen, if any were given; each grade that was given settled an object that was asked; and
--- the fails that were counted are no more than the calls that failed
+-- together within the reach of the want that was seen, if any were given; each grade that was given settled an object that was asked, and
+-- they are no more than the asks that were seen; and the fails that were counted are no more than the calls that failed
 pub record IsMetered (page ahead : ℕ) (fetched : Fetched) (counts now : Counts) (before after : Known LogEntry) : Type 0 where
   pub rows : WentUp fetched.rows counts.rows_given now.rows_given
   pub grades : WentUp fetched.grades counts.grades_given now.grades_given
   pub reach : length (rows_in before.seen) + fetched.rows ≤ max (length (rows_in before.seen)) (reach_of after.sight.mark page ahead after.name.1)
   pub settled : length (settled_in before.seen) + fetched.grades ≡ length (settled_in after.seen)
+  pub asked : fetched.grades ≤ length after.met
   pub failed : RoseBy (after.tally.failed - before.tally.failed) counts.faults now.faults
   pub garbled : RoseBy (after.tally.garbled - before.tally.garbled) counts.garbles now.garbles
+
+-- what was fetched is called for: the rows kept before and those given are together within the reach of the greatest depth that was
+-- wanted, if any were given, and the grades that were given are no more than the objects that were asked
+pub record IsCalledFor (page ahead : ℕ) (fetched : Fetched) (before : Known LogEntry) (state : State) : Type 0 where
+  pub rows : length (rows_in before.seen) + fetched.rows ≤ max (length (rows_in before.seen)) (state_reach state page ahead)
+  pub grades : fetched.grades ≤ length state.asks
 
 -- nothing fetched yet
 abbrev pub nothing : Fetched

@@ -1,8 +1,6 @@
 -- What a turn of a fetcher brings, and what it leaves of the feeder.
 use Rattle.std.specs.Prelude.{◌≡◌, ◌≤◌, ◌<◌, ◌+◌, ◌⊎◌, ℕ, Option, None, Some, List, length, IfSome, IsSome}
 use Rattle.ranked_list.specs.declared.row.Row.{Row}
-use Rattle.turn_lock.specs.declared.facts.Tally.{Tally}
-use Rattle.turn_lock.specs.declared.facts.Facts.{Facts}
 use Rattle.turn_lock.specs.declared.known.Known.{Known}
 use Rattle.turn_lock.specs.Facts.{Begins}
 use Rattle.turn_lock.specs.Known.{Follows}

@@ -1,8 +1,15 @@
-//! What the turns of a fetcher mean: a law on those of a source that tells its list.
+//! What the turns of a fetcher mean: a law on those of a source that tells its list, and one on how much is fetched until the pool closes.
 
-ghost use Rattle.std.specs.Prelude.{ℕ, Some, List};
+ghost use Rattle.std.specs.Prelude.{◌≤◌, ℕ, Some, List};
 ghost use Rattle.ranked_list.specs.declared.row.Row.{Row};
+ghost use Rattle.turn_lock.specs.declared.known.Known.{Known};
+ghost use Rattle.source_state.specs.declared.entry.LogEntry.{LogEntry};
+ghost use Rattle.source_state.specs.State.{State};
+ghost use Rattle.source_api.specs.declared.counts.Counts.{Counts};
+ghost use Rattle.source_pool.specs.Closed.{IsClosed};
+ghost use Rattle.fetcher.specs.declared.turned.Fetched.{Fetched};
 ghost use Rattle.fetcher.specs.Chaining.{Moment, IsFetched};
+ghost use Rattle.fetcher.specs.Metering.{IsMetered, IsCalledFor};
 ghost use Rattle.fetcher.specs.Telling.{TellsOf};
 
 /// However many turns a fetcher takes of a source that tells its list, the log tells of that list alone: its rows are how the list
@@ -10,4 +17,11 @@ ghost use Rattle.fetcher.specs.Telling.{TellsOf};
 pub fn turns_tell_the_list()
     ensures { (page ahead : ℕ) (list : List Row) (before after : Moment) → IsFetched page ahead (Some list) before after
         → TellsOf list before.known.seen → TellsOf list after.known.seen }
+{}
+
+/// What a fetcher fetched until its pool closed was called for: its rows are within the reach of the greatest depth that any query wanted,
+/// and the grades are no more than the objects that the queries asked for.
+pub fn what_is_fetched_is_called_for()
+    ensures { (page ahead : ℕ) (fetched : Fetched) (counts now : Counts) (before after pass : Known LogEntry) (state : State) → 1 ≤ page
+        → IsMetered page ahead fetched counts now before after → IsClosed after pass state → IsCalledFor page ahead fetched before state }
 {}

@@ -1,4 +1,4 @@
 -- Made queries are lawful.
 mod Growing
-mod Trees
+pub mod Trees
 mod Lawful

@@ -34,7 +34,7 @@ use Rattle.source_state.specs.State.{State, asked_in, asked_as}
 use Rattle.source_state.specs.Looking.{row_or_fault, grade_or, decided, waits_for, newer, told, is_full, Refuses}
 use Rattle.source_state.proofs.Lists.{none_not_some}
 use Rattle.source_state.proofs.LogLaws.{settling_graded}
-use Rattle.source_state.proofs.LookLaws.{held_there}
+use Rattle.source_state.proofs.LookLaws.{held_there, row_there}
 use Rattle.query_world.specs.declared.ended.Refusal.{Refusal}
 use Rattle.query_world.specs.declared.ended.Refusal.TheVariants.{Core, Look as LookedFor}
 use Rattle.query_world.specs.Histories.{GoesOn}
@@ -144,11 +144,6 @@ cause_stays s u t noted (Some (Core (RoomFull room))) later h = ((h.0.0, lacks_m
 cause_stays s u t noted (Some (LookedFor list fault)) later h = (h.0, had_stays s u t.need noted fault later h.1)
 
 -- what a log decides of a need
-of_row : (found : Option Row) (fault : Option SourceFault) (row : Row) → row_or_fault found fault ≡ Some (look.Row row) → found ≡ Some row
-of_row (Some other) fault row e = let same : other ≡ row = cc in ap (λ r. Some r) same
-of_row None None row e = absurd (none_not_some e)
-of_row None (Some fault) row e = absurd (cc)
-
 of_held_row : (held : Option ℕ) (row : Row) → option_map look.Grade held ≡ Some (look.Row row) → ⊥
 of_held_row None row e = none_not_some e
 of_held_row (Some grade) row e = cc
@@ -168,7 +163,7 @@ pub record IsRowOf (s : State) (n : Need) (row : Row) : Type 0 where
   pub there : slice_get (rows_in s.log) (depth - 1) ≡ Some row
 
 pub row_decided : (s : State) (n : Need) (row : Row) → decided s n ≡ Some (look.Row row) → IsRowOf s n row
-row_decided s (need.Row l d) row e = record { list = l; depth = d; is = refl; there = of_row (slice_get (rows_in s.log) (d - 1)) (fault_in s.log) row e }
+row_decided s (need.Row l d) row e = record { list = l; depth = d; is = refl; there = row_there (slice_get (rows_in s.log) (d - 1)) (fault_in s.log) row e }
 row_decided s (need.Grade l object) row e = absurd (of_grade_row object (asked_in s object) (grade_among (rows_in s.log) object) row e)
 row_decided s need.Done row e = absurd (none_not_some e)
 

@@ -23,7 +23,8 @@ answered states ready q answer h is ends =
     end_answered (algorithm_of q.machine) ready.query ready.count _ (told_to states q) is.first answer is.algorithm is.is.expr.lists.some is.begun
     (record { last = state_of q.machine; goes = is.goes; fed = h.drawn; run = h.run; done = ends.done; items = ends.items; log = ends.log })
 
-right : (states : List State) (ready : Ready) (q : Inquiry) (e : Ended) → IsServed states q → IsOf ready q → EndsAs q e → IsRight ready e
+-- what a query ends with is right
+pub right : (states : List State) (ready : Ready) (q : Inquiry) (e : Ended) → IsServed states q → IsOf ready q → EndsAs q e → IsRight ready e
 right states ready q (ended.Answered answer) h is ends = answered states ready q answer h is ends
 right states ready q (ended.Core fault) h is ends = tt
 right states ready q (ended.Look list fault) h is ends = tt

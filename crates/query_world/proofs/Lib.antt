@@ -7,7 +7,7 @@ mod Reading
 pub mod Stepping
 pub mod TrueLists
 pub mod Honest
-mod Ending
+pub mod Ending
 pub mod Making
 mod Turning
 mod Fails

@@ -118,8 +118,8 @@ stepped (Miss source object) w after h may steps = stepped_is w after _ (event_s
 stepped (Fail source what) w after h may steps = stepped_is w after _ (event_steps w source (event.Fail what) h may) steps
 stepped (Turn query) w after h may steps = turn_steps query w after h may steps
 
--- a world that is made
-opened_sound : (list count : ℕ) → count ≤ 200000 → IsSound (opened list count)
+-- a state before any event is sound
+pub opened_sound : (list count : ℕ) → count ≤ 200000 → IsSound (opened list count)
 opened_sound list count small = record {
   log = record {
     ranked = IsRanked-nil;
@@ -136,6 +136,7 @@ opened_sound list count small = record {
   tally = record { failed = omega arith; garbled = omega arith; memory = omega arith };
 }
 
+-- a world that is made
 opened_history : (list count : ℕ) → HasHistory (opened list count)
 opened_history list count = record { events = []; may = tt; told = refl }
 

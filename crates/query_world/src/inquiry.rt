@@ -1,6 +1,6 @@
 //! A query of a world, and its turns.
 
-ghost use Rattle.std.specs.Prelude.{◌≡◌, false, None, All, IfOk};
+ghost use Rattle.std.specs.Prelude.{◌≡◌, true, false, None, All, IfOk};
 ghost use Rattle.source_state.specs.State.{IsSound};
 ghost use Rattle.query_core.specs.Machines.{algorithm_of, state_of, MakesItsRun};
 ghost use Rattle.query_core.specs.Ready.{IsReady};
@@ -8,9 +8,10 @@ ghost use Rattle.query_world.specs.Worlds.{needed, list_needed, is_done, is_ende
 ghost use Rattle.query_world.specs.Steps.{MayFeed, Answers, Turns};
 ghost use Rattle.query_world.specs.Kept.{IsServed};
 ghost use Rattle.query_world.specs.Made.{IsFresh};
+ghost use Rattle.query_world.specs.Endings.{IsRefused, EndsAs};
 
 use super::Memory;
-use super::ended::Refusal;
+use super::ended::{Ended, Refusal};
 use query_core::{Machine, Ready};
 use ranked_list::Need;
 use source_state::{Look, SourceState, Tally, Waiting, look_at};
@@ -27,7 +28,7 @@ pub struct Inquiry {
 }
 
 /// The list of a need, 0 where there is none.
-fn list_needed(need: Need) -> u8
+pub fn list_needed(need: Need) -> u8
     ensures { result ≡ list_needed need }
 {
     match need {
@@ -60,6 +61,16 @@ fn no_waiting() -> Waiting
     }
 }
 
+/// The ending of a query that is refused.
+fn refused(refusal: Refusal) -> Ended
+    ensures { IsRefused refusal result }
+{
+    match refusal {
+        Refusal::Core { fault } => Ended::Core { fault },
+        Refusal::Look { list, fault } => Ended::Look { list, fault },
+    }
+}
+
 /// One turn of a query that hasn't ended: a look at the source of what it needs, and what it makes of the answer.
 pub(crate) fn turn(states: &mut Vec<SourceState>, query: &mut Inquiry)
     requires served { IsServed states.old.items query.old }
@@ -75,8 +86,8 @@ pub(crate) fn turn(states: &mut Vec<SourceState>, query: &mut Inquiry)
 }
 
 impl Inquiry {
-    /// A query that is ready, before any access.
-    pub(crate) fn make(alloc: Global, ready: &Ready) -> Result<Inquiry, Memory>
+    /// A query that is ready, before any access. Its expression and the numbers of its sources are copied.
+    pub fn make(alloc: Global, ready: &Ready) -> Result<Inquiry, Memory>
         requires { IsReady ready.now }
         ensures { IfOk result (IsFresh ready.now) }
     {
@@ -95,14 +106,14 @@ impl Inquiry {
     }
 
     /// Whether it is refused or needs nothing more.
-    pub(crate) fn is_ended(&self) -> bool
+    pub fn is_ended(&self) -> bool
         ensures { result ≡ is_ended self.now }
     {
         self.refusal.is_some() || is_done(self.machine.need())
     }
 
-    /// What it makes of the answer of a look for what it needs of a list.
-    fn answer(&mut self, list: u8, look: Look)
+    /// What it makes of the answer of a look for what it needs of a list. Takes no memory.
+    pub fn answer(&mut self, list: u8, look: Look)
         requires may { MayFeed (state_of self.old.machine) look }
         requires list { list ≡ list_needed (needed self.old) }
         requires going { self.old.refusal ≡ None }
@@ -122,6 +133,30 @@ impl Inquiry {
             Look::Grade(grade) => self.machine.feed_grade(grade),
             Look::NotYet => {}
             Look::Fault(fault) => self.refusal = Some(Refusal::Look { list, fault }),
+        }
+    }
+
+    /// How it ends, once it is refused or needs nothing more.
+    pub fn end(self) -> Result<Ended, Memory>
+        requires { is_ended self ≡ true }
+        ensures { IfOk result (EndsAs self) }
+    {
+        let Inquiry {
+            sources,
+            machine,
+            refusal,
+            ..
+        } = self;
+        drop(sources);
+        match refusal {
+            None => match machine.answer() {
+                Ok(answer) => Ok(Ended::Answered(answer)),
+                Err(_) => Err(Memory),
+            },
+            Some(refusal) => {
+                drop(machine);
+                Ok(refused(refusal))
+            }
         }
     }
 }

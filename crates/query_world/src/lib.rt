@@ -11,7 +11,7 @@ mod step;
 mod world;
 
 pub use ended::{Ended, Endings, Refusal};
-pub use inquiry::Inquiry;
+pub use inquiry::{Inquiry, list_needed};
 pub use laws::{
     a_failure_refuses_those_that_wait, each_order_gives_the_one_answer, what_was_read_stays,
 };

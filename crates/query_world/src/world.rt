@@ -13,10 +13,10 @@ ghost use Rattle.query_world.specs.Steps.{IsTestOf, MayStep, MayComeTo, Steps, w
 ghost use Rattle.query_world.specs.Kept.{IsWorld, IsAfter};
 ghost use Rattle.query_world.specs.Made.{IsReadyFor, IsFresh, IsMade, AreOf, opened_from};
 ghost use Rattle.query_world.specs.Honest.{IsHonest, IsTrueWorld, IsOnItsRun};
-ghost use Rattle.query_world.specs.Endings.{IsRefused, EndsAs, IsRight};
+ghost use Rattle.query_world.specs.Endings.{EndsAs, IsRight};
 
 use super::Memory;
-use super::ended::{Ended, Endings, Refusal};
+use super::ended::{Ended, Endings};
 use super::inquiry::{Inquiry, turn};
 use super::lawful::{may_page, may_settle, may_turn};
 use super::step::Step;
@@ -113,40 +113,6 @@ fn come(states: &mut Vec<SourceState>, source: u32, event: Event)
     states[source as usize].apply(event);
 }
 
-/// The ending of a query that is refused.
-fn refused(refusal: Refusal) -> Ended
-    ensures { IsRefused refusal result }
-{
-    match refusal {
-        Refusal::Core { fault } => Ended::Core { fault },
-        Refusal::Look { list, fault } => Ended::Look { list, fault },
-    }
-}
-
-/// How a query ends.
-fn end(query: Inquiry) -> Result<Ended, Memory>
-    requires { is_ended query ≡ true }
-    ensures { IfOk result (EndsAs query) }
-{
-    let Inquiry {
-        sources,
-        machine,
-        refusal,
-        ..
-    } = query;
-    drop(sources);
-    match refusal {
-        None => match machine.answer() {
-            Ok(answer) => Ok(Ended::Answered(answer)),
-            Err(_) => Err(Memory),
-        },
-        Some(refusal) => {
-            drop(machine);
-            Ok(refused(refusal))
-        }
-    }
-}
-
 /// Takes a step.
 fn take(states: &mut Vec<SourceState>, queries: &mut Vec<Inquiry>, step: Step)
     requires world { IsWorld (world_of states.old.items queries.old.items) }
@@ -181,7 +147,7 @@ fn end_all(queries: &mut Vec<Inquiry>, endings: &mut Vec<Ended>) -> Result<(), M
 {
     queries.reverse();
     while let Some(query) = queries.pop() {
-        let ended = end(query)?;
+        let ended = query.end()?;
         let Ok(()) = endings.push(ended) else {
             return Err(Memory);
         };

@@ -1,5 +1,5 @@
 -- The closing states, from the last source to the first.
-use Rattle.std.proofs.Common.{◌≡◌, ◌≢◌, ◌<◌, ◌≤◌, ◌+◌, ◌-◌, ◌||◌, inl, inr, ℕ, Bool, true, List, [], ◌∷◌, ◌++◌, length, get_or, take, reverse, refl, sym, ap, subst, ◌∙◌, arith, le_refl}
+use Rattle.std.proofs.Common.{◌≡◌, ◌<◌, ◌≤◌, ◌+◌, ◌-◌, ◌||◌, inl, inr, ℕ, Bool, true, List, [], ◌∷◌, ◌++◌, length, take, reverse, refl, sym, ap, subst, ◌∙◌, arith, le_refl}
 use Rattle.std.proofs.lemmas.List.{length_push, length-reverse, get_or-reverse, take_all}
 use Rattle.std.proofs.lemmas.Bool.Decides.{eqb_tells}
 use Rattle.atomic_table.specs.Seated.{TableId}
@@ -11,7 +11,7 @@ use Rattle.source_state.specs.State.{State, opened, facts_of, IsSound}
 use Rattle.source_pool.specs.declared.hold.Hold.{Hold}
 use Rattle.source_pool.specs.Passes.{Feed, no_lock, no_hold, no_feed, lock_at, hold_at, feed_at, IsFree, IsPassOf, AreFeedersOf}
 use Rattle.source_pool.specs.Closed.{state_at, HaveAll, IsClosed, AreClosed, AreClosedBack}
-use Rattle.source_pool.proofs.Fronts.{last_or_before, read_before, read_last, front_before, front_last, front_within, fronts_size}
+use Rattle.source_pool.proofs.Fronts.{read_before, read_last, front_before, front_last, front_within, fronts_size}
 
 -- the writer's own stays
 writers_own : {X : Type 0} (a b : Bool) (x y z : X) → a ≡ true → writers a b x y z ≡ x

@@ -1,10 +1,10 @@
 -- A pool with one more source.
-use Rattle.std.proofs.Common.{◌≡◌, ◌<◌, ◌+◌, inl, inr, ℕ, List, [], ◌∷◌, ◌++◌, length, get_or, refl, sym, ap, subst, ◌∙◌, arith}
+use Rattle.std.proofs.Common.{◌≡◌, ◌<◌, ◌+◌, inl, inr, ℕ, List, [], ◌∷◌, ◌++◌, length, refl, sym, ap, subst, ◌∙◌, arith}
 use Rattle.std.proofs.lemmas.List.{length_push}
 use Rattle.std.specs.Prelude.{slice_index}
 use Rattle.atomic_table.specs.Seated.{TableId}
 use Rattle.source_pool.specs.declared.hold.Hold.{Hold}
-use Rattle.source_pool.specs.Passes.{Feed, no_lock, no_hold, no_feed, lock_at, hold_at, feed_at, IsFree, IsPassOf, AreFeedersOf}
+use Rattle.source_pool.specs.Passes.{Feed, no_lock, no_hold, no_feed, lock_at, hold_at, feed_at, IsFree}
 use Rattle.source_pool.specs.Sharing.{first_hold, first_feed, IsOpened}
 use Rattle.source_pool.proofs.Fronts.{last_or_before, read_before, read_last}
 

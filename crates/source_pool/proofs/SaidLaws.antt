@@ -1,7 +1,7 @@
 -- What the log of a sound state says is what the state decides; the room for one more ask.
-use Rattle.std.proofs.Common.{◌≡◌, ◌≢◌, ◌==◌, ◌&&◌, ◌⊎◌, inl, inr, ℕ, Bool, true, false, Option, Some, None, List, [], ◌∷◌, ◌++◌, length, is_none, Contains, refl, sym, ap, subst, ◌∙◌, arith, eqb-true}
+use Rattle.std.proofs.Common.{◌≡◌, ◌==◌, ◌&&◌, inl, inr, ℕ, true, false, Option, Some, None, [], ◌∷◌, length, is_none, Contains, refl, sym, ap, subst, ◌∙◌, eqb-true}
 use Rattle.std.specs.Option.{option_map}
-use Rattle.std.proofs.lemmas.Bool.{cases_Bool, and_parts}
+use Rattle.std.proofs.lemmas.Bool.{and_parts}
 use Rattle.std.proofs.lemmas.List.Elements.{Contains-append_right}
 use Rattle.ranked_list.specs.declared.need.Need.{Need}
 use Rattle.ranked_list.specs.declared.need.Need.TheVariants as need
@@ -10,9 +10,8 @@ use Rattle.topk_theory.specs.Bounds.{grade_among}
 use Rattle.topk_theory.proofs.AgreementLists.{contains_here}
 use Rattle.source_state.specs.declared.ask.Ask.{Ask}
 use Rattle.source_state.specs.declared.entry.Asked.{Asked}
-use Rattle.source_state.specs.declared.entry.LogEntry.{LogEntry}
 use Rattle.source_state.specs.Log.{rows_in, settling_in}
-use Rattle.source_state.specs.Asks.{ask_in, ask_of}
+use Rattle.source_state.specs.Asks.{ask_of}
 use Rattle.source_state.specs.State.{State, asks_of, asked_in, asked_as, IsSound}
 use Rattle.source_state.specs.Events.{one_asked}
 use Rattle.source_state.specs.Looking.{grade_or, decided, is_full}

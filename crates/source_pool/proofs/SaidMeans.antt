@@ -1,6 +1,5 @@
 -- What the answers that a log gives mean of its rows and settlings.
-use Rattle.std.proofs.Common.{◌≡◌, ◌-◌, ℕ, Option, Some, None, List, ◌++◌, slice_get, Contains, refl, sym, ap, subst, ◌∙◌}
-use Rattle.std.specs.Option.{option_map}
+use Rattle.std.proofs.Common.{◌≡◌, ◌-◌, ℕ, Option, Some, None, List, ◌++◌, slice_get, Contains, refl, ap, ◌∙◌}
 use Rattle.std.proofs.lemmas.List.Elements.{Contains-append_left, Contains-append_right}
 use Rattle.ranked_list.specs.declared.row.Row.{Row}
 use Rattle.ranked_list.specs.declared.need.Need.TheVariants as need
@@ -9,20 +8,13 @@ use Rattle.topk_theory.proofs.AgreementRows.{grade_among_row}
 use Rattle.source_state.specs.declared.entry.LogEntry.{LogEntry}
 use Rattle.source_state.specs.declared.entry.Settling.{Settling}
 use Rattle.source_state.specs.declared.entry.Settling.TheVariants.{Graded, Bad, Missed}
-use Rattle.source_state.specs.declared.entry.SourceFault.{SourceFault}
 use Rattle.source_state.specs.declared.look.Look.TheVariants as look
 use Rattle.source_state.specs.Log.{rows_in, graded_in, fault_in, settling_in}
 use Rattle.source_state.specs.State.{asked_as}
-use Rattle.source_state.specs.Looking.{row_or_fault, grade_or}
-use Rattle.source_state.proofs.Lists.{none_not_some}
+use Rattle.source_state.specs.Looking.{grade_or}
 use Rattle.source_state.proofs.LogLaws.{settling_graded}
-use Rattle.source_state.proofs.LookLaws.{held_there}
+use Rattle.source_state.proofs.LookLaws.{held_there, row_there, no_row, no_grade}
 use Rattle.source_pool.specs.Looks.{said_in}
-
-row_there : (o : Option Row) (fault : Option SourceFault) (row : Row) → row_or_fault o fault ≡ Some (look.Row row) → o ≡ Some row
-row_there (Some one) fault row e = let same : one ≡ row = cc in ap (λ (r : Row). Some r) same
-row_there None None row e = absurd (none_not_some e)
-row_there None (Some fault) row e = absurd (cc)
 
 pub said_row : (log : List LogEntry) (list depth : ℕ) (row : Row) → said_in log (need.Row list depth) ≡ Some (look.Row row)
     → slice_get (rows_in log) (depth - 1) ≡ Some row
@@ -42,24 +34,9 @@ said_known log list object grade e = by_settling (settling_in log object) refl e
     by_settling (Some (Bad fault)) is e = absurd (cc)
     by_settling (Some Missed) is e = absurd (cc)
 
-no_row : (o : Option Row) (fault : Option SourceFault) → row_or_fault o fault ≡ None → (o ≡ None) × (fault ≡ None)
-no_row (Some row) fault e = absurd (cc)
-no_row None None e = (refl, refl)
-no_row None (Some fault) e = absurd (cc)
-
 pub unsaid_row : (log : List LogEntry) (list depth : ℕ) → said_in log (need.Row list depth) ≡ None
     → (slice_get (rows_in log) (depth - 1) ≡ None) × (fault_in log ≡ None)
 unsaid_row log list depth e = no_row (slice_get (rows_in log) (depth - 1)) (fault_in log) e
-
-no_held : (held : Option ℕ) → option_map look.Grade held ≡ None → held ≡ None
-no_held None e = refl
-no_held (Some one) e = absurd (cc)
-
-no_grade : (object : ℕ) (o : Option Settling) (held : Option ℕ) → grade_or object (Some (asked_as o)) held ≡ None → (o ≡ None) × (held ≡ None)
-no_grade object None held e = (refl, no_held held e)
-no_grade object (Some (Graded one)) held e = absurd (cc)
-no_grade object (Some (Bad fault)) held e = absurd (cc)
-no_grade object (Some Missed) held e = absurd (cc)
 
 pub unsaid_grade : (log : List LogEntry) (list object : ℕ) → said_in log (need.Grade list object) ≡ None
     → (settling_in log object ≡ None) × (grade_among (rows_in log) object ≡ None)

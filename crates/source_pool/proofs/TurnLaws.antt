@@ -1,5 +1,5 @@
 -- What a turn of a look makes of the pass.
-use Rattle.std.proofs.Common.{◌≡◌, ◌≢◌, ◌≤◌, ◌<◌, ◌+◌, ◌-◌, ◌⊎◌, inl, inr, ℕ, Bool, true, false, cond, max, min, Option, Some, None, List, [], ◌∷◌, ◌++◌, length, nat_lt, Contains, refl, sym, ap, subst, ◌∙◌, arith, le_refl, le_trans}
+use Rattle.std.proofs.Common.{◌≡◌, ◌≢◌, ◌≤◌, ◌<◌, ◌+◌, ◌⊎◌, inl, inr, ℕ, true, false, cond, max, Option, Some, None, List, length, nat_lt, Contains, refl, sym, ap, subst, ◌∙◌, arith, le_refl, le_trans}
 use Rattle.std.proofs.lemmas.Bool.{cases_Bool, le-ltb, ltb-true}
 use Rattle.std.proofs.lemmas.List.{length_push}
 use Rattle.std.specs.Option.{IfSome}
@@ -10,7 +10,7 @@ use Rattle.turn_lock.specs.declared.facts.Tally.{Tally}
 use Rattle.turn_lock.specs.declared.facts.Facts.{Facts}
 use Rattle.turn_lock.specs.declared.known.Known.{Known}
 use Rattle.turn_lock.specs.Facts.{AtMost, Grows, IsKept}
-use Rattle.turn_lock.specs.Known.{Agrees, Follows, raised, holding, after_turn}
+use Rattle.turn_lock.specs.Known.{Agrees, raised, holding, after_turn}
 use Rattle.turn_lock.proofs.Growth.{begins_on, at_most_on}
 use Rattle.source_state.specs.declared.ask.Ask.{Ask}
 use Rattle.source_state.specs.declared.entry.LogEntry.{LogEntry}
@@ -19,17 +19,16 @@ use Rattle.source_state.specs.declared.entry.FailKind.TheVariants as kind
 use Rattle.source_state.specs.declared.look.Waiting.{Waiting}
 use Rattle.source_state.specs.declared.look.Look.{Look}
 use Rattle.source_state.specs.declared.look.Look.TheVariants as look
-use Rattle.source_state.specs.declared.look.LookFault.{LookFault}
 use Rattle.source_state.specs.declared.look.LookFault.TheVariants as why
 use Rattle.source_state.specs.Asks.{ask_of}
-use Rattle.source_state.specs.State.{State, asks_of, first_pending, due_by, last_count, facts_of, IsSound}
+use Rattle.source_state.specs.State.{State, asks_of, first_pending, due_by, facts_of, IsSound}
 use Rattle.source_state.specs.Events.{one_asked, one_more, counted, count_of}
 use Rattle.source_state.specs.Looking.{is_same, waits_for, told, decided, is_full, called, Looks, MayLook}
 use Rattle.source_state.specs.Looking as looking
 use Rattle.source_state.proofs.Lists.{eqb_same, none_not_some}
 use Rattle.source_state.proofs.Counting.{told_more}
 use Rattle.source_pool.specs.declared.hold.Hold.{Hold}
-use Rattle.source_pool.specs.Looks.{said_in, MayLookFor, IsLeftOut, HasNoRoom, told_of, Answers, KeepsMarks, HasCalled, GoesOn, BeginsToWait, Ends, Waits, shown_by, TookTurn, IsTurn, IsWithin}
+use Rattle.source_pool.specs.Looks.{said_in, MayLookFor, HasNoRoom, told_of, Answers, KeepsMarks, HasCalled, GoesOn, BeginsToWait, Ends, Waits, shown_by, TookTurn, IsTurn, IsWithin}
 use Rattle.source_pool.specs.Passes.{SourcePass}
 use Rattle.source_pool.proofs.SaidLaws.{said_is, full_parts, full_from, asked_member}
 
@@ -287,14 +286,14 @@ given_is table known taken given mid after e h = subst (Given table given after)
 
 -- a turn of a look, by what the calls in it ensure
 pub turned_by : (n : Need) (before : Hold) (table : TableId) (found left : State) (mid after : SourcePass) (waiting : Waiting) (shown : Tally) (answer : Look)
-    → MayLookFor before.pass.1 n → Agrees (facts_of found) before.pass.1 → IsSound found → Looks n found left before.waiting waiting answer
+    → MayLookFor before.pass.1 n → Agrees (facts_of found) before.pass.1 → IsSound found → IsSound left → Looks n found left before.waiting waiting answer
     → Grows (facts_of found) (facts_of left) → IsKept (facts_of found) (facts_of left) → ◌≡◌ {A = SourcePass} mid (table, holding (facts_of found) before.pass.1)
     → IfSome mid.1.held (λ f. ◌≡◌ {A = SourcePass} after (table, after_turn f (facts_of left) mid.1)) → shown ≡ shown_by answer before.shown
     → Turned n before (record { pass = after; waiting = waiting; shown = shown }) answer
-turned_by n before table found left mid after waiting shown answer may agrees sound looks grows keeps took gave same =
+turned_by n before table found left mid after waiting shown answer may agrees sound sound_left looks grows keeps took gave same =
     let is = given_is table before.pass.1 (facts_of found) (facts_of left) mid after took gave in
     record {
-      turn = record { found = found; left = left; agrees = agrees; looks = looks; gave = ap (λ (p : SourcePass). p.1) is };
+      turn = record { found = found; left = left; agrees = agrees; looks = looks; gave = ap (λ (p : SourcePass). p.1) is; sound = sound_left };
       may = may;
       found = sound;
       grows = grows;

@@ -10,13 +10,12 @@ use Rattle.turn_lock.specs.Known.{Agrees, Follows, after_turn}
 use Rattle.source_state.specs.declared.entry.LogEntry.{LogEntry}
 use Rattle.source_state.specs.declared.entry.FailKind.{FailKind}
 use Rattle.source_state.specs.declared.entry.FailKind.TheVariants as kind
-use Rattle.source_state.specs.declared.look.Waiting.{Waiting}
 use Rattle.source_state.specs.declared.look.Look.{Look}
 use Rattle.source_state.specs.declared.look.Look.TheVariants as look
 use Rattle.source_state.specs.declared.look.LookFault.{LookFault}
 use Rattle.source_state.specs.declared.look.LookFault.TheVariants as why
 use Rattle.source_state.specs.Log.{rows_in, fault_in, settling_in}
-use Rattle.source_state.specs.State.{State, asked_as, facts_of}
+use Rattle.source_state.specs.State.{State, asked_as, facts_of, IsSound}
 use Rattle.source_state.specs.Events.{counted}
 use Rattle.source_state.specs.Looking.{waits_for, row_or_fault, grade_or, told, Looks}
 use Rattle.source_pool.specs.declared.hold.Hold.{Hold}
@@ -155,13 +154,14 @@ pub record TookTurn (before after : Known LogEntry) : Type 0 where
   pub writer : after.writer ≡ before.writer
   pub turns : after.turns ≡ before.turns + 1
 
--- a look at the state that its turn found, which left this state
+-- a look at the state that its turn found, which left this sound state
 pub record IsTurn (need : Need) (before after : Hold) (answer : Look) : Type 0 where
   pub found : State
   pub left : State
   pub agrees : Agrees (facts_of found) before.pass.1
   pub looks : Looks need found left before.waiting after.waiting answer
   pub gave : after.pass.1 ≡ after_turn (facts_of found) (facts_of left) before.pass.1
+  pub sound : IsSound left
 
 -- no more fails were shown than the pass knows of, nor than it noted while it waits
 pub record IsWithin (hold : Hold) : Type 0 where

@@ -8,7 +8,7 @@ use Rattle.turn_lock.specs.Known as lock
 use Rattle.source_state.specs.declared.entry.LogEntry.{LogEntry}
 use Rattle.source_state.specs.State.{opened, facts_of, last_count}
 use Rattle.source_pool.specs.declared.hold.Hold.{Hold}
-use Rattle.source_pool.specs.Passes.{SourcePass, no_fails, no_waiting, lock_at, hold_at, feed_at, Feed, IsPassOf, AreFeedersOf}
+use Rattle.source_pool.specs.Passes.{no_fails, no_waiting, lock_at, hold_at, feed_at, Feed, IsPassOf, AreFeedersOf}
 
 -- the writer's pass of the lock round the state of a source with so many objects, before any part is split off
 abbrev pub first_known : ℕ → ℕ → Known LogEntry

@@ -11,6 +11,7 @@ use Rattle.topk_theory.specs.Bounds.{grade_among}
 use Rattle.topk_theory.proofs.AgreementLists.{contains_here, contains_there, contains_map_from}
 use Rattle.source_state.specs.declared.ask.Ask.{Ask}
 use Rattle.source_state.specs.declared.entry.Settling.{Settling}
+use Rattle.source_state.specs.declared.entry.Settling.TheVariants.{Graded, Bad, Missed}
 use Rattle.source_state.specs.declared.entry.Asked.{Asked}
 use Rattle.source_state.specs.declared.entry.Asked.TheVariants as became
 use Rattle.source_state.specs.declared.entry.FailKind.{FailKind}
@@ -136,3 +137,26 @@ pending_is s object e =
 pub held_there : (held : Option ℕ) (grade : ℕ) → option_map look.Grade held ≡ Some (look.Grade grade) → held ≡ Some grade
 held_there None grade e = absurd (none_not_some e)
 held_there (Some one) grade e = let same : one ≡ grade = cc in ap (λ (g : ℕ). Some g) same
+
+-- a row that is answered is there
+pub row_there : (o : Option Row) (fault : Option SourceFault) (row : Row) → row_or_fault o fault ≡ Some (look.Row row) → o ≡ Some row
+row_there (Some one) fault row e = let same : one ≡ row = cc in ap (λ (r : Row). Some r) same
+row_there None None row e = absurd (none_not_some e)
+row_there None (Some fault) row e = absurd (cc)
+
+-- where no row is answered none is there, and no fault stands
+pub no_row : (o : Option Row) (fault : Option SourceFault) → row_or_fault o fault ≡ None → (o ≡ None) × (fault ≡ None)
+no_row (Some row) fault e = absurd (cc)
+no_row None None e = (refl, refl)
+no_row None (Some fault) e = absurd (cc)
+
+no_held : (held : Option ℕ) → option_map look.Grade held ≡ None → held ≡ None
+no_held None e = refl
+no_held (Some one) e = absurd (cc)
+
+-- where no grade is answered of an object that was asked, it isn't settled, and no row has it
+pub no_grade : (object : ℕ) (o : Option Settling) (held : Option ℕ) → grade_or object (Some (asked_as o)) held ≡ None → (o ≡ None) × (held ≡ None)
+no_grade object None held e = (refl, no_held held e)
+no_grade object (Some (Graded one)) held e = absurd (cc)
+no_grade object (Some (Bad fault)) held e = absurd (cc)
+no_grade object (Some Missed) held e = absurd (cc)

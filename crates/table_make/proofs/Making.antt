@@ -117,7 +117,7 @@ list_length start count list =
     (by_grade_is (graded (made_grade start count list) (range_with_len 1 count)) (rows_apart (made_grade start count list) count)).size
     ∙ length-map-range_with_len (λ object. record { object = object; grade = made_grade start count list object }) 1 count
 
-list_objects : (start count list object : ℕ) → Contains (objects (made_list start count list)) object → Contains (range_with_len 1 count) object
+pub list_objects : (start count list object : ℕ) → Contains (objects (made_list start count list)) object → Contains (range_with_len 1 count) object
 list_objects start count list object c =
     let rows : List Row = graded (made_grade start count list) (range_with_len 1 count) in
     let from = contains_map_from (λ (row : Row). row.object) (by_grade rows) object c in

@@ -9,6 +9,7 @@ use Rattle.topk_theory.proofs.ThresholdLists.{contains_filter}
 use Rattle.topk_theory.proofs.ThresholdRun.{contains_filter_map}
 use Rattle.source_api.specs.declared.counts.Counts.{Counts}
 use Rattle.source_api.specs.Counting.{raised, NoneFell}
+use Rattle.source_api.proofs.CountLaws.{none_fell_on}
 use Rattle.source_state.specs.declared.entry.FailKind.{FailKind}
 use Rattle.source_state.specs.declared.entry.FailKind.TheVariants.{Failed, Garbled}
 use Rattle.source_state.specs.History.{is_failed, is_garbled}
@@ -16,9 +17,6 @@ use Rattle.source_state.proofs.Lists.{eqb_same, eqb_other}
 use Rattle.query_world.specs.declared.step.Step.{Step}
 use Rattle.query_world.specs.declared.step.Step.TheVariants.{Fail}
 use Rattle.world_run.specs.Runs.{fail_of, fails_of, CountsFails}
-
-none_fell_on : (before middle now : Counts) → NoneFell before middle → NoneFell middle now → NoneFell before now
-none_fell_on before middle now h k = record { faults = omega arith; garbles = omega arith; rows_given = omega arith; grades_given = omega arith }
 
 raised_by : (before middle now m n : ℕ) → raised before m ≤ middle → raised middle n ≤ now → raised before (m + n) ≤ now
 raised_by before middle now m n h k = omega arith

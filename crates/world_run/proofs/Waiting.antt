@@ -13,11 +13,11 @@ use Rattle.topk_theory.specs.Bounds.{grade_among}
 use Rattle.topk_theory.proofs.AgreementLists.{all_from_members, member_of_all, contains_map}
 use Rattle.turn_lock.specs.declared.facts.Tally.{Tally}
 use Rattle.turn_lock.specs.Facts.{AtMost}
+use Rattle.turn_lock.proofs.Growth.{at_most_same, at_most_on}
 use Rattle.source_state.specs.declared.ask.Ask.{Ask}
 use Rattle.source_state.specs.declared.entry.FailKind.{FailKind}
 use Rattle.source_state.specs.declared.entry.FailKind.TheVariants as kind
 use Rattle.source_state.specs.declared.entry.Settling.{Settling}
-use Rattle.source_state.specs.declared.entry.Settling.TheVariants.{Graded, Bad, Missed}
 use Rattle.source_state.specs.declared.entry.SourceFault.{SourceFault}
 use Rattle.source_state.specs.declared.plan.Plan.{Plan}
 use Rattle.source_state.specs.declared.plan.Plan.TheVariants as plan
@@ -25,9 +25,10 @@ use Rattle.source_state.specs.Log.{rows_in, settling_in, fault_in}
 use Rattle.source_state.specs.Asks.{ask_in, ask_of, is_due, first_due}
 use Rattle.source_state.specs.State.{State, IsSound, asks_of, asked_as, asked_in, first_pending}
 use Rattle.source_state.specs.Events.{failed, wanted, with_ask, one_asked, counted}
-use Rattle.source_state.specs.Looking.{newer, decided, row_or_fault, grade_or, called, plan_of, is_idle, fetched, reach_of, state_reach, MayLook}
+use Rattle.source_state.specs.Looking.{newer, decided, grade_or, called, plan_of, is_idle, fetched, reach_of, state_reach, MayLook}
 use Rattle.source_state.proofs.Lists.{none_not_some, cond_none, none_found}
 use Rattle.source_state.proofs.AskLaws.{ask_found, ask_is_found}
+use Rattle.source_state.proofs.LookLaws.{no_row, no_grade}
 use Rattle.query_world.specs.declared.inquiry.Inquiry.{Inquiry}
 use Rattle.query_world.specs.Worlds.{state_at, needed, source_needed}
 use Rattle.query_world.proofs.Serving.{state_set, state_other}
@@ -43,12 +44,6 @@ pub record Heeds (s u : State) : Type 0 where
   pub tally : AtMost s.tally u.tally
   pub told : u.paused ≡ true → (noted : Tally) → AtMost noted s.tally → (s.paused ≡ true → newer noted s.tally ≢ None) → newer noted u.tally ≢ None
 
-at_most_same : (tally : Tally) → AtMost tally tally
-at_most_same tally = record { failed = omega arith; garbled = omega arith; memory = omega arith }
-
-at_most_on : (one other last : Tally) → AtMost one other → AtMost other last → AtMost one last
-at_most_on one other last h k = record { failed = omega arith; garbled = omega arith; memory = omega arith }
-
 called_on : (s u : State) (n : Need) → Heeds s u → IsCalled s n → IsCalled u n
 called_on s u (need.Row list depth) h called = let w = h.want in omega (arith, w, called)
 called_on s u (need.Grade list object) h called = h.asks object called
@@ -57,7 +52,7 @@ called_on s u need.Done h called = tt
 pub awaited_on : (s u : State) (n : Need) (noted : Tally) → Heeds s u → IsAwaited s n noted → IsAwaited u n noted
 awaited_on s u n noted h awaited = record {
   called = called_on s u n h awaited.called;
-  fewer = at_most_on noted s.tally u.tally awaited.fewer h.tally;
+  fewer = at_most_on awaited.fewer h.tally;
   told = λ paused. h.told paused noted awaited.fewer awaited.told;
 }
 
@@ -175,12 +170,6 @@ reach_more want page ahead count fits some =
     within : (want count up more : ℕ) → want ≤ count → want ≤ up → want ≤ min count (up + more)
     within want count up more h k = omega arith
 
--- nothing is there and no fault stands
-row_missing : (row : Option Row) (fault : Option SourceFault) → row_or_fault row fault ≡ None → (row ≡ None) × (fault ≡ None)
-row_missing (Some row) fault e = absurd (none_not_some (sym e))
-row_missing None (Some fault) e = absurd (none_not_some (sym e))
-row_missing None None e = (refl, refl)
-
 few_rows : (rows : List Row) (place : ℕ) → slice_get rows place ≡ None → length rows ≤ place
 few_rows [] place e = omega arith
 few_rows (row ∷ rows) zero e = absurd (none_not_some (sym e))
@@ -227,19 +216,11 @@ busy_going s page ahead busy = by s.paused refl
         (fetched (first_pending s) (length (rows_in s.log)) (min page (state_reach s page ahead - length (rows_in s.log))))) e))
 
 -- a grade that isn't decided is due
-grade_missing : (object : ℕ) (settling : Option Settling) (held : Option ℕ) → grade_or object (Some (asked_as settling)) held ≡ None
-    → (settling ≡ None) × (held ≡ None)
-grade_missing object (Some (Graded grade)) held e = absurd (none_not_some (sym e))
-grade_missing object (Some (Bad fault)) held e = absurd (none_not_some (sym e))
-grade_missing object (Some Missed) held e = absurd (none_not_some (sym e))
-grade_missing object None (Some grade) e = absurd (none_not_some (sym e))
-grade_missing object None None e = (refl, refl)
-
 pending_some : (s : State) (object : ℕ) → Contains s.asks object → decided s (need.Grade 0 object) ≡ None → first_pending s ≡ None → ⊥
 pending_some s object c undecided none =
     let ask = ask_in s.log object in
     let found : asked_in s object ≡ Some (asked_as (settling_in s.log object)) = ap (option_map (λ (one : Ask). asked_as one.settling)) (ask_is_found s.log s.asks object c) in
-    let missing = grade_missing object (settling_in s.log object) (grade_among (rows_in s.log) object) (sym (ap (λ asked. grade_or object asked (grade_among (rows_in s.log) object)) found) ∙ undecided) in
+    let missing = no_grade object (settling_in s.log object) (grade_among (rows_in s.log) object) (sym (ap (λ asked. grade_or object asked (grade_among (rows_in s.log) object)) found) ∙ undecided) in
     let due : is_due ask ≡ true = ap (λ (settling : Option Settling). not (is_some (grade_among (rows_in s.log) object)) && is_none settling) missing.0 ∙ ap (λ (held : Option ℕ). not (is_some held) && true) missing.1 in
     let no_first : first_due (asks_of s) ≡ None = unmapped (first_due (asks_of s)) none in
     let not_due = none_found is_due (asks_of s) ask no_first (contains_map (ask_in s.log) s.asks object c) in
@@ -259,7 +240,7 @@ going_on s n noted awaited untold = off s.paused refl
 busy_for : (settings : Settings) (s : State) (n : Need) (noted : Tally) → AreSettings settings → IsSound s → s.paused ≡ false → MayLook s n
     → IsAwaited s n noted → decided s n ≡ None → is_idle s settings.page settings.ahead ≡ false
 busy_for settings s (need.Row list depth) noted are sound going may awaited undecided =
-    let missing = row_missing (slice_get (rows_in s.log) (depth - 1)) (fault_in s.log) undecided in
+    let missing = no_row (slice_get (rows_in s.log) (depth - 1)) (fault_in s.log) undecided in
     let few = few_rows (rows_in s.log) (depth - 1) missing.0 in
     let wanted : depth ≤ s.want = awaited.called in
     let far : s.want ≤ state_reach s settings.page settings.ahead = reach_more s.want settings.page settings.ahead s.count sound.want are.some_rows in

@@ -1,9 +1,9 @@
 use Rattle.std.proofs.Common.{◌∙◌, refl, sym, subst}
-use Rattle.source_api.proofs.CountLaws.{none_fell_same}
+use Rattle.source_api.proofs.CountLaws.{none_fell_same, none_fell_on}
 use Rattle.fetcher.specs.Turning.{Brings}
 use Rattle.fetcher.specs.Chaining.{moment}
 use Rattle.fetcher.proofs.ChainLaws.{fetched_none, fetched_more}
-use Rattle.fetcher.proofs.MeterLaws.{Meters, meter_none, meter_more, counts_fit, feeds_same, feeds_on, none_fell_on}
+use Rattle.fetcher.proofs.MeterLaws.{Meters, meter_none, meter_more, counts_fit, feeds_same, feeds_on}
 use Rattle.fetcher.proofs.fetch.fetch_loop.Goals as goal
 
 pub loop-init : goal.loop-init

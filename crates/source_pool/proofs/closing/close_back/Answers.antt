@@ -1,4 +1,4 @@
-use Rattle.std.proofs.Common.{◌≡◌, ◌∷◌, ◌++◌, [], length, arith, sym, subst}
+use Rattle.std.proofs.Common.{length, arith, sym, subst}
 use Rattle.source_pool.proofs.Fronts.{popped}
 use Rattle.source_pool.proofs.CloseLaws.{ClosedFrom, closed_as, closed_more, passes_size, feeders_size, last_ones}
 use Rattle.source_pool.proofs.closing.close_back.Goals as goal

@@ -1,5 +1,5 @@
-use Rattle.std.proofs.Common.{◌≡◌, length, arith, ◌∙◌}
-use Rattle.source_pool.proofs.Walks.{IsOne, joined_as, other_free, joined_step}
+use Rattle.std.proofs.Common.{◌≡◌, length, arith}
+use Rattle.source_pool.proofs.Walks.{joined_as, other_free, joined_step}
 use Rattle.source_pool.proofs.sharing.join_all.Goals as goal
 
 pub join_one-requires-clause-other : goal.join_one-requires-clause-other
