@@ -4,5 +4,8 @@ mod CommandLaws
 mod SetRules
 mod Walking
 mod Clapping
+mod OptionLaws
 mod MakingLaws
+mod RunningLaws
+mod BulkingLaws
 mod LineLaws

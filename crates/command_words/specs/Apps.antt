@@ -10,3 +10,11 @@ bare_app = on_top (λ s. record s { disable_help_flag = true; disable_version_fl
 -- an option that has to be given, with a value
 abbrev pub needed_option : List ℕ → Rule
 needed_option name = record (new_rule name) { long = Some name; required = true }
+
+-- an option that need not be given, with a value
+abbrev pub free_option : List ℕ → Rule
+free_option name = record (new_rule name) { long = Some name }
+
+-- a place at which a word has to stand
+abbrev pub needed_place : List ℕ → Rule
+needed_place name = record (new_rule name) { required = true }

@@ -2,8 +2,10 @@
 use Rattle.std.specs.Prelude.{ℕ, Bool, true, false, List, [], ◌∷◌, Option, None, Some, option_map, codes, if◌then◌else◌}
 use Rattle.std.specs.Str.{bytes_eq}
 use Rattle.command_words.specs.declared.command.Command.{Command}
-use Rattle.command_words.specs.declared.command.Command.TheVariants.{One, Judge, Make}
+use Rattle.command_words.specs.declared.command.Command.TheVariants.{One, Judge, Make, Run, Bulk}
+use Rattle.command_words.specs.Bulking.{bulk_options, AreBulkOptions}
 use Rattle.command_words.specs.Making.{make_options}
+use Rattle.command_words.specs.Running.{run_options, AreRunSettings}
 
 -- the word that ends the options
 abbrev pub options_end : List ℕ
@@ -28,11 +30,22 @@ abbrev pub bare_command : List (List ℕ) → Option Command
 bare_command [] = None
 bare_command (name ∷ rest) = without_words (command_named name) rest
 
--- the words begin with the name `make`
-abbrev pub names_make : List (List ℕ) → Bool
-names_make [] = false
-names_make (name ∷ rest) = bytes_eq name (codes "make")
+-- the words begin with this name
+abbrev pub is_named : List ℕ → List (List ℕ) → Bool
+is_named name [] = false
+is_named name (word ∷ rest) = bytes_eq word name
 
 -- the command that the words are: its name is the first, and what follows is what it takes
 abbrev pub command_of : List (List ℕ) → Option Command
-command_of words = if names_make words then option_map Make (make_options words) else bare_command words
+command_of words =
+    if is_named (codes "make") words then option_map Make (make_options words)
+    else (if is_named (codes "run") words then option_map Run (run_options words)
+    else (if is_named (codes "bulk") words then option_map Bulk (bulk_options words) else bare_command words))
+
+-- the settings that a command has are within their ranges
+abbrev pub HasSettings : Command → Type 0
+HasSettings One = Unit {0}
+HasSettings Judge = Unit {0}
+HasSettings (Make options) = Unit {0}
+HasSettings (Run options) = AreRunSettings options.settings
+HasSettings (Bulk options) = AreBulkOptions options

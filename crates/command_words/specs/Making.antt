@@ -1,11 +1,11 @@
 -- Which words are those of `make`, and which table they ask for.
-use Rattle.std.specs.Prelude.{ℕ, true, List, [], ◌∷◌, Option, None, Some, codes, drop, if◌then◌else◌, nat_le}
+use Rattle.std.specs.Prelude.{ℕ, ◌≤◌, true, List, [], ◌∷◌, Option, codes, drop}
 use Rattle.std.specs.Option.{option_and_then, option_map}
-use Rattle.line_text.specs.Numbers.{number_up_to}
 use Rattle.clap.specs.Words.{App, Row, first_of, with_rule}
 use Rattle.command_words.specs.Apps.{bare_app, needed_option}
-use Rattle.command_words.specs.Line.{Takes, Given}
-use Rattle.command_words.specs.Taking.{given_text, taken}
+use Rattle.command_words.specs.Line.{OptionRule, Takes, Given}
+use Rattle.command_words.specs.OptionNumbers.{number_by, text_by}
+use Rattle.command_words.specs.Taking.{taken}
 use Rattle.command_words.specs.declared.making.MakeOptions.{MakeOptions}
 use Rattle.limits.specs.declared.TheConstants.{MAX_LISTS, MAX_OBJECTS, MAX_START}
 
@@ -13,22 +13,19 @@ use Rattle.limits.specs.declared.TheConstants.{MAX_LISTS, MAX_OBJECTS, MAX_START
 abbrev pub make_app : App
 make_app = with_rule (with_rule (with_rule bare_app (needed_option (codes "start"))) (needed_option (codes "count"))) (needed_option (codes "lists"))
 
--- the number where it is within its range
-abbrev pub at_least : ℕ → ℕ → Option ℕ
-at_least least number = if nat_le least number then Some number else None
+-- the number that a table is made from, its objects and its lists, each of which has to be given
+abbrev pub start_rule : OptionRule
+start_rule = record { name = codes "start"; least = 0; most = MAX_START; required = true }
 
--- the number that a value spells, where there is one within its range
-abbrev pub number_given : Option (List ℕ) → ℕ → ℕ → Option ℕ
-number_given value least most = option_and_then (λ text. option_and_then (at_least least) (number_up_to most text)) value
+abbrev pub count_rule : OptionRule
+count_rule = record { name = codes "count"; least = 1; most = MAX_OBJECTS; required = true }
 
--- what `make` takes: the number that a table is made from, its objects and its lists, each of which has to be given
+abbrev pub lists_rule : OptionRule
+lists_rule = record { name = codes "lists"; least = 1; most = MAX_LISTS; required = true }
+
+-- what `make` takes
 abbrev pub make_takes : Takes
-make_takes = record {
-  places = [];
-  options = record { name = codes "start"; least = 0; most = MAX_START; required = true }
-      ∷ record { name = codes "count"; least = 1; most = MAX_OBJECTS; required = true }
-      ∷ record { name = codes "lists"; least = 1; most = MAX_LISTS; required = true } ∷ [];
-}
+make_takes = record { places = []; options = start_rule ∷ count_rule ∷ lists_rule ∷ [] }
 
 abbrev pub with_lists : ℕ → ℕ → Option ℕ → Option MakeOptions
 with_lists start count lists = option_map (λ m. record { start = start; count = count; lists = m }) lists
@@ -36,20 +33,24 @@ with_lists start count lists = option_map (λ m. record { start = start; count =
 -- the table of these three texts, where each is a number within its range
 abbrev pub table_of : Option (List ℕ) → Option (List ℕ) → Option (List ℕ) → Option MakeOptions
 table_of start count lists =
-    option_and_then (λ n. option_and_then (λ rows. with_lists n rows (number_given lists 1 MAX_LISTS)) (number_given count 1 MAX_OBJECTS))
-    (number_given start 0 MAX_START)
+    option_and_then (λ n. option_and_then (λ rows. with_lists n rows (number_by lists_rule lists)) (number_by count_rule count))
+    (number_by start_rule start)
 
 -- the table that is asked for
 abbrev pub options_given : List Given → Option MakeOptions
-options_given given = table_of (given_text (codes "start") given) (given_text (codes "count") given) (given_text (codes "lists") given)
+options_given given = table_of (text_by start_rule given) (text_by count_rule given) (text_by lists_rule given)
 
 -- the table that words ask for, of which the first is the command's name: the others are the three options, in any order and each once
 abbrev pub make_options : List (List ℕ) → Option MakeOptions
 make_options words = option_and_then options_given (taken make_takes (drop 1 words))
 
--- the number of an option that `clap` found, and the table
-abbrev pub number_in : List Row → List ℕ → ℕ → ℕ → Option ℕ
-number_in rows name least most = number_given (first_of name rows) least most
-
+-- the table that the options ask for which `clap` found
 abbrev pub options_in : List Row → Option MakeOptions
-options_in rows = table_of (first_of (codes "start") rows) (first_of (codes "count") rows) (first_of (codes "lists") rows)
+options_in rows = table_of (first_of start_rule.name rows) (first_of count_rule.name rows) (first_of lists_rule.name rows)
+
+-- the numbers of a table are within their ranges
+pub record AreMakeOptions (options : MakeOptions) : Type 0 where
+  pub some_objects : 1 ≤ options.count
+  pub few_objects : options.count ≤ MAX_OBJECTS
+  pub some_lists : 1 ≤ options.lists
+  pub few_lists : options.lists ≤ MAX_LISTS

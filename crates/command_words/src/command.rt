@@ -1,17 +1,19 @@
 //! Commands, read from words.
 
-ghost use Rattle.std.specs.Prelude.{◌≡◌, None, Some, IfOk, OnOk, drop, true, false, option_and_then, slice_get};
+ghost use Rattle.std.specs.Prelude.{◌≡◌, None, Some, IfOk, IfSome, OnOk, drop, true, false, option_and_then, slice_get};
 ghost use Rattle.clap.specs.Words.{app_of};
-ghost use Rattle.command_words.specs.Commands.{command_named, command_of, bare_command, names_make, are_no_words};
+ghost use Rattle.command_words.specs.Commands.{command_named, command_of, bare_command, is_named, are_no_words, HasSettings};
 ghost use Rattle.command_words.specs.Apps.{bare_app};
 
+use super::bulking::{BulkOptions, read_bulk};
 use super::making::{MakeOptions, read_make};
+use super::running::{RunOptions, read_run};
 use super::words::Words;
 use clap::error::ErrorKind;
 use std::alloc::Global;
 
 /// What the program is to do.
-#[derive(Clone, Copy, Debug, PartialEq, Eq)]
+#[derive(Debug, PartialEq, Eq, Drop)]
 pub enum Command {
     /// `one`: answers the query of a bundle.
     One,
@@ -19,6 +21,10 @@ pub enum Command {
     Judge,
     /// `make`: writes a made table.
     Make(MakeOptions),
+    /// `run`: answers query lines over the lists of a catalog.
+    Run(RunOptions),
+    /// `bulk`: answers made queries over a made table.
+    Bulk(BulkOptions),
 }
 
 /// Why words are no command.
@@ -34,30 +40,44 @@ pub enum WordsFault {
 pub fn read_command(alloc: Global, words: &Words) -> Result<Command, WordsFault>
     ensures read { IfOk result (λ command. command_of words.now ≡ Some command) }
     ensures refused { result ≡ Err WordsFault.BadWords → command_of words.now ≡ None }
+    ensures settings { IfOk result HasSettings }
 {
-    if !names_make(words) {
-        return read_bare(alloc, words);
+    if is_named(words, "make") {
+        return match read_make(alloc, words) {
+            Ok(options) => Ok(Command::Make(options)),
+            Err(refusal) => Err(refusal),
+        };
     }
-    match read_make(alloc, words) {
-        Ok(options) => Ok(Command::Make(options)),
-        Err(refusal) => Err(refusal),
+    if is_named(words, "run") {
+        return match read_run(alloc, words) {
+            Ok(options) => Ok(Command::Run(options)),
+            Err(refusal) => Err(refusal),
+        };
     }
+    if is_named(words, "bulk") {
+        return match read_bulk(alloc, words) {
+            Ok(options) => Ok(Command::Bulk(options)),
+            Err(refusal) => Err(refusal),
+        };
+    }
+    read_bare(alloc, words)
 }
 
-/// Whether the first word names `make`.
-fn names_make(words: &Words) -> bool
-    ensures { result ≡ names_make words.now }
+/// Whether the first word is this name.
+fn is_named(words: &Words, name: &str) -> bool
+    ensures { result ≡ is_named name.now words.now }
 {
-    let Some(name) = words.get(0) else {
+    let Some(word) = words.get(0) else {
         return false;
     };
-    name == "make"
+    word == name
 }
 
 /// The command that the words are, of those that take no words.
 fn read_bare(alloc: Global, words: &Words) -> Result<Command, WordsFault>
     ensures read { IfOk result (λ command. bare_command words.now ≡ Some command) }
     ensures refused { result ≡ Err WordsFault.BadWords → bare_command words.now ≡ None }
+    ensures settings { IfOk result HasSettings }
 {
     let Some(command) = named(words) else {
         return Err(WordsFault::BadWords);
@@ -70,7 +90,8 @@ fn read_bare(alloc: Global, words: &Words) -> Result<Command, WordsFault>
 
 /// The command without words that the first word names.
 fn named(words: &Words) -> Option<Command>
-    ensures { result ≡ option_and_then command_named (slice_get words.now 0) }
+    ensures command { result ≡ option_and_then command_named (slice_get words.now 0) }
+    ensures settings { IfSome result HasSettings }
 {
     match words.get(0) {
         Some(name) => command_named(name),
@@ -80,7 +101,8 @@ fn named(words: &Words) -> Option<Command>
 
 /// The command without words of this name.
 fn command_named(name: &str) -> Option<Command>
-    ensures { result ≡ command_named name.now }
+    ensures command { result ≡ command_named name.now }
+    ensures settings { IfSome result HasSettings }
 {
     if name == "one" {
         Some(Command::One)

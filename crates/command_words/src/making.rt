@@ -3,7 +3,8 @@
 ghost use Rattle.std.specs.Prelude.{◌≡◌, ◌≤◌, false, None, Some, IfOk, IfSome, option_map};
 ghost use Rattle.clap.specs.Words.{app_of, rule_of, rows_of, found_of};
 ghost use Rattle.command_words.specs.Apps.{needed_option};
-ghost use Rattle.command_words.specs.Making.{make_app, make_options, options_in, number_in, number_given};
+ghost use Rattle.command_words.specs.Making.{make_app, make_options, options_in, AreMakeOptions};
+ghost use Rattle.command_words.specs.OptionNumbers.{number_in, number_given};
 
 use super::command::{WordsFault, bare_command};
 use super::words::Words;
@@ -43,7 +44,7 @@ pub(crate) fn read_make(alloc: Global, words: &Words) -> Result<MakeOptions, Wor
 }
 
 /// A command with the three options, without help and version options.
-fn make_command<'a>(alloc: Global) -> Result<clap::Command<'a>, AllocError>
+pub(crate) fn make_command<'a>(alloc: Global) -> Result<clap::Command<'a>, AllocError>
     ensures { IfOk result (λ command. app_of command ≡ make_app) }
 {
     bare_command(alloc)
@@ -53,7 +54,7 @@ fn make_command<'a>(alloc: Global) -> Result<clap::Command<'a>, AllocError>
 }
 
 /// An option that has to be given, with a value.
-fn needed<'a>(alloc: Global, name: &'a str) -> Arg<'a>
+pub(crate) fn needed<'a>(alloc: Global, name: &'a str) -> Arg<'a>
     ensures rule { rule_of result ≡ needed_option name.now }
     ensures local { result.global ≡ false }
 {
@@ -61,8 +62,9 @@ fn needed<'a>(alloc: Global, name: &'a str) -> Arg<'a>
 }
 
 /// What was given of the three options, where each number is within its range.
-fn options_of(matches: &ArgMatches) -> Option<MakeOptions>
-    ensures { result ≡ options_in (rows_of (found_of matches.now)) }
+pub(crate) fn options_of(matches: &ArgMatches) -> Option<MakeOptions>
+    ensures found { result ≡ options_in (rows_of (found_of matches.now)) }
+    ensures within { IfSome result AreMakeOptions }
 {
     Some(MakeOptions {
         start: number_of(matches, "start", 0, MAX_START)?,
@@ -72,16 +74,18 @@ fn options_of(matches: &ArgMatches) -> Option<MakeOptions>
 }
 
 /// The number of an option, where one within its range was given.
-fn number_of(matches: &ArgMatches, name: &str, least: u64, most: u64) -> Option<u64>
+pub(crate) fn number_of(matches: &ArgMatches, name: &str, least: u64, most: u64) -> Option<u64>
     ensures number { result ≡ number_in (rows_of (found_of matches.now)) name.now least most }
+    ensures above { IfSome result (λ number. least ≤ number) }
     ensures within { IfSome result (λ number. number ≤ most) }
 {
     number_given(matches.get_str(name), least, most)
 }
 
 /// The number that a value spells, where there is one within its range.
-fn number_given(value: Option<&str>, least: u64, most: u64) -> Option<u64>
+pub(crate) fn number_given(value: Option<&str>, least: u64, most: u64) -> Option<u64>
     ensures number { result ≡ number_given (option_map (λ text. text.now) value.entry) least most }
+    ensures above { IfSome result (λ number. least ≤ number) }
     ensures within { IfSome result (λ number. number ≤ most) }
 {
     match number_up_to(value?.as_bytes(), most) {

@@ -1,7 +1,7 @@
 use Rattle.std.proofs.Common.{ap, ◌∙◌}
 use Rattle.clap.specs.Words.{found_of}
 use Rattle.clap.proofs.WalkLemmas.{first_value-rows}
-use Rattle.command_words.specs.Making.{number_given}
+use Rattle.command_words.specs.OptionNumbers.{number_given}
 use Rattle.command_words.proofs.making.number_of.Goals as goal
 
 pub returns-clause-number : goal.returns-clause-number

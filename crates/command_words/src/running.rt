@@ -1,0 +1,188 @@
+//! The words of `run`.
+
+ghost use Rattle.std.specs.Prelude.{◌≡◌, ◌≤◌, false, None, Some, IfOk, IfSome};
+ghost use Rattle.std.specs.Str.{bytes_eq};
+ghost use Rattle.std.specs.Cmp.Rules.{comparing};
+ghost use Rattle.std.proofs.Common.{rules};
+ghost use Rattle.clap.specs.Words.{app_of, rule_of, rows_of, found_of};
+ghost use Rattle.command_words.specs.Apps.{free_option, needed_place};
+ghost use Rattle.command_words.specs.OptionNumbers.{free_number_in};
+ghost use Rattle.command_words.specs.Running.{run_app, run_options, run_in, settings_in, AreRunSettings};
+
+use super::command::{WordsFault, bare_command};
+use super::making::number_given;
+use super::words::Words;
+use clap::error::ErrorKind;
+use clap::{Arg, ArgMatches};
+use std::alloc::{AllocError, Global};
+use std::marker::Model;
+
+/// The most queries that take turns at once.
+const MAX_WORKERS: u64 = 32;
+
+/// The most rows of a page.
+const MAX_PAGE: u64 = 10_000;
+
+/// The most pages that are read ahead.
+const MAX_AHEAD: u64 = 100;
+
+/// Where a text stands, which contracts see as the bytes of the place.
+#[derive(Debug, Drop)]
+pub struct Place {
+    text: String,
+}
+
+impl Model for Place {
+    ghost use Rattle.std.specs.Prelude.{List, ℕ, string_bytes};
+
+    ghost Value = { List ℕ };
+
+    ghost view = { λ place. string_bytes place.text };
+}
+
+impl PartialEq for Place {
+    ghost eq = { bytes_eq };
+
+    ghost laws = { Prim.search (comparing, rules) };
+
+    fn eq(&self, other: &Place) -> bool {
+        self.text == other.text
+    }
+}
+
+impl Eq for Place {
+    ghost laws = { Prim.search (comparing, rules) };
+}
+
+impl Place {
+    ghost use Rattle.std.specs.Prelude.{◌≡◌, IfOk};
+
+    /// The place of this name.
+    pub(crate) fn make(alloc: Global, name: &str) -> Result<Place, AllocError>
+        ensures { IfOk result (λ place. place ≡ name.now) }
+    {
+        let text = String::from_str(alloc, name)?;
+        Ok(Place { text })
+    }
+
+    /// The name of the place.
+    pub fn as_str(&self) -> &str
+        ensures { result.now ≡ self.now }
+    {
+        self.text.as_str()
+    }
+}
+
+/// How queries are run.
+#[derive(Clone, Copy, Debug, PartialEq, Eq)]
+pub struct RunSettings {
+    /// How many queries take turns at once, 1 to 32.
+    pub workers: u32,
+    /// How many rows a page has at most, 1 to 10,000.
+    pub page: u32,
+    /// How many pages are read ahead, 0 to 100.
+    pub ahead: u32,
+}
+
+/// Which queries are to be run.
+#[derive(Debug, PartialEq, Eq, Drop)]
+pub struct RunOptions {
+    /// The place of the catalog of their lists.
+    pub catalog: Place,
+    /// How they are run.
+    pub settings: RunSettings,
+}
+
+/// Reads the words as those of `run`: the place of a catalog, and `--workers`, `--page` and `--ahead`,
+/// each once at most and with a number within its range.
+pub(crate) fn read_run(alloc: Global, words: &Words) -> Result<RunOptions, WordsFault>
+    ensures read { IfOk result (λ options. run_options words.now ≡ Some options) }
+    ensures refused { result ≡ Err WordsFault.BadWords → run_options words.now ≡ None }
+    ensures settings { IfOk result (λ options. AreRunSettings options.settings) }
+{
+    let Ok(command) = run_command(alloc) else {
+        return Err(WordsFault::Memory);
+    };
+    match command.try_get_matches_from(words.as_slice()) {
+        Ok(matches) => options_of(alloc, &matches),
+        Err(error) => match error.kind() {
+            ErrorKind::OutOfMemory => Err(WordsFault::Memory),
+            _ => Err(WordsFault::BadWords),
+        },
+    }
+}
+
+/// A command with a place and the three options, without help and version options.
+fn run_command<'a>(alloc: Global) -> Result<clap::Command<'a>, AllocError>
+    ensures { IfOk result (λ command. app_of command ≡ run_app) }
+{
+    bare_command(alloc)
+        .arg(needed_word(alloc, "catalog"))?
+        .arg(free(alloc, "workers"))?
+        .arg(free(alloc, "page"))?
+        .arg(free(alloc, "ahead"))
+}
+
+/// A place at which a word has to stand.
+fn needed_word<'a>(alloc: Global, name: &'a str) -> Arg<'a>
+    ensures rule { rule_of result ≡ needed_place name.now }
+    ensures local { result.global ≡ false }
+{
+    Arg::new(alloc, name).required(true)
+}
+
+/// An option that need not be given, with a value.
+pub(crate) fn free<'a>(alloc: Global, name: &'a str) -> Arg<'a>
+    ensures rule { rule_of result ≡ free_option name.now }
+    ensures local { result.global ≡ false }
+{
+    Arg::new(alloc, name).long(name)
+}
+
+/// What was given of the place and the options, where each number is within its range.
+fn options_of(alloc: Global, matches: &ArgMatches) -> Result<RunOptions, WordsFault>
+    ensures read { IfOk result (λ options. run_in (rows_of (found_of matches.now)) ≡ Some options) }
+    ensures refused { result ≡ Err WordsFault.BadWords → run_in (rows_of (found_of matches.now)) ≡ None }
+    ensures settings { IfOk result (λ options. AreRunSettings options.settings) }
+{
+    let Some(settings) = settings_of(matches) else {
+        return Err(WordsFault::BadWords);
+    };
+    let Some(name) = matches.get_str("catalog") else {
+        return Err(WordsFault::BadWords);
+    };
+    match Place::make(alloc, name) {
+        Ok(catalog) => Ok(RunOptions { catalog, settings }),
+        Err(_) => Err(WordsFault::Memory),
+    }
+}
+
+/// What was given of the options, and what stands for those that weren't.
+pub(crate) fn settings_of(matches: &ArgMatches) -> Option<RunSettings>
+    ensures found { result ≡ settings_in (rows_of (found_of matches.now)) }
+    ensures within { IfSome result AreRunSettings }
+{
+    let workers = number_or(matches, "workers", 4, 1, MAX_WORKERS)? as u32;
+    let page = number_or(matches, "page", 100, 1, MAX_PAGE)? as u32;
+    let ahead = number_or(matches, "ahead", 2, 0, MAX_AHEAD)? as u32;
+    Some(RunSettings {
+        workers,
+        page,
+        ahead,
+    })
+}
+
+/// The number of an option where it was given and its number is within its range, or the one that stands
+/// for it where it wasn't.
+fn number_or(matches: &ArgMatches, name: &str, default: u64, least: u64, most: u64) -> Option<u64>
+    requires above { least ≤ default }
+    requires within { default ≤ most }
+    ensures number { result ≡ free_number_in (rows_of (found_of matches.now)) name.now default least most }
+    ensures above { IfSome result (λ number. least ≤ number) }
+    ensures within { IfSome result (λ number. number ≤ most) }
+{
+    match matches.get_str(name) {
+        Some(text) => number_given(Some(text), least, most),
+        None => Some(default),
+    }
+}
