@@ -1,0 +1,131 @@
+-- The queries that are ready over the open sources of a catalog are ready for their counts.
+use Rattle.std.proofs.Common.{◌≡◌, ℕ, ◌+◌, ◌<◌, ◌≤◌, cond, List, [], ◌∷◌, All, map, length, suc, slice_get, slice_index_or, inl, inr, Option, None, Some, option_map, refl, sym, ap, ◌∙◌, subst, arith}
+use Rattle.std.specs.List.{AllByRecursion}
+use Rattle.std.proofs.lemmas.Bool.{cases_lt, le-leb}
+use Rattle.std.proofs.lemmas.Option.{same_Some}
+use Rattle.std.proofs.lemmas.List.{get_or_past}
+use Rattle.std.proofs.lemmas.List.Elements.{All-from_recursion}
+use Rattle.ranked_list.specs.declared.row.Row.{Row}
+use Rattle.query_core.specs.declared.ready.Ready.{Ready as ReadyQuery}
+use Rattle.query_admission.specs.View.{View}
+use Rattle.query_admission.specs.Admission.{IsAdmitted}
+use Rattle.query_admission.specs.declared.lists.Listed.{Listed}
+use Rattle.query_admission.proofs.Positions.{nothing}
+use Rattle.query_admission.proofs.ReadyLists.{admitted_states}
+use Rattle.query_world.specs.Made.{IsReadyFor}
+use Rattle.catalog_text.specs.Catalog.{Listed as Entry}
+use Rattle.catalog_open.specs.declared.opened.Opening.{Opening}
+use Rattle.catalog_open.specs.declared.opened.Opening.TheVariants.{Closed, Open}
+use Rattle.catalog_open.specs.declared.admissions.Stage.{Stage}
+use Rattle.catalog_open.specs.declared.admissions.Stage.TheVariants.{Refused, Ready}
+use Rattle.catalog_open.specs.Views.{entry_at, opening_at, place_of, said_of, listed_at, view_over, line_over}
+use Rattle.catalog_open.specs.Openings.{Counted, Sources, AreOpened, IsOpening, IsSource, run_count}
+use Rattle.catalog_open.specs.Admissions.{AreAdmitted}
+use Rattle.catalog_run.specs.Runs.{IsReadyOf}
+use Rattle.limits.specs.declared.TheConstants.{MAX_OBJECTS}
+
+-- a source that a query names is there, and has as many objects
+abbrev pub HasCount : List ℕ → ℕ → ℕ → Type 0
+HasCount counts n source = (source < length counts) × (slice_index_or counts source 0 ≡ n)
+
+run_count_is : (size : ℕ) → size ≤ MAX_OBJECTS → run_count size ≡ size
+run_count_is size small = ap (λ t. cond t size 0) (le-leb size MAX_OBJECTS small)
+
+module _ (lists told : List ℕ → Option (List Row)) (catalog : List Entry) (Wanted : ℕ → Type 0) (before now : Counted) (openings : List Opening) (s : Sources) (are : AreOpened lists catalog Wanted before now openings s) where
+  -- a list that states a size is that of an open source
+  open_source : (n place : ℕ) (o : Opening) (l : Listed) → n ≤ MAX_OBJECTS → opening_at openings place ≡ o → said_of (entry_at catalog place).random o ≡ l
+      → l.size ≡ Some n → HasCount s.counts n l.source
+  open_source n place Closed l small is said size = absurd (none_some (ap (λ (k : Listed). k.size) said ∙ size))
+    where
+      none_some : {m : ℕ} → None ≡ Some m → ⊥
+      none_some e = cc
+  open_source n place (Open size source) l small is said stated =
+      let same : size ≡ n = same_Some size n (ap (λ (k : Listed). k.size) said ∙ stated) in
+      let within : place < length openings = elim (cases_lt place (length openings)) [
+        | inl inside ↦ inside
+        | inr past ↦ absurd (closed_open (sym (get_or_past openings place Closed past) ∙ is))
+      ] in
+      let opening : IsOpening lists catalog s Wanted before now place (Open size source) = subst (IsOpening lists catalog s Wanted before now place) is (are.each place within) in
+      let source_is : IsSource lists catalog s place size source = opening.1 in
+      let counted : slice_index_or s.counts source 0 ≡ n = source_is.counted ∙ (ap run_count same ∙ run_count_is n small) in
+      let there : source < length s.counts = omega (arith, source_is.within, are.many_counts) in
+      subst (HasCount s.counts n) (ap (λ (k : Listed). k.source) said) (there, counted)
+    where
+      closed_open : {size source : ℕ} → Closed ≡ Open size source → ⊥
+      closed_open e = cc
+
+  named_source : (n : ℕ) (name : List ℕ) (l : Listed) → n ≤ MAX_OBJECTS → option_map (listed_at catalog openings) (place_of catalog name) ≡ Some l
+      → l.size ≡ Some n → HasCount s.counts n l.source
+  named_source n name l small e size = at (place_of catalog name) e
+    where
+      at : (p : Option ℕ) → option_map (listed_at catalog openings) p ≡ Some l → HasCount s.counts n l.source
+      at None e = absurd cc
+      at (Some place) e = open_source n place (opening_at openings place) l small refl (same_Some (listed_at catalog openings place) l e) size
+
+  all_sourced : (n : ℕ) (names : List (List ℕ)) (ls : List Listed) → n ≤ MAX_OBJECTS → map (view_over catalog openings told).listed names ≡ map Some ls
+      → ((place : ℕ) → place < length ls → (slice_index_or ls place nothing).size ≡ Some n) → AllByRecursion (HasCount s.counts n) (map (λ l. l.source) ls)
+  all_sourced n [] [] small e sizes = tt
+  all_sourced n [] (l ∷ ls) small e sizes = absurd cc
+  all_sourced n (name ∷ names) [] small e sizes = tt
+  all_sourced n (name ∷ names) (l ∷ ls) small e sizes =
+      let here : (view_over catalog openings told).listed name ≡ Some l = cc in
+      let rest : map (view_over catalog openings told).listed names ≡ map Some ls = cc in
+      (named_source n name l small here (sizes 0 (omega arith)), all_sourced n names ls small rest (λ place h. sizes (suc place) (omega (arith, h))))
+
+  ready_for : (number : ℕ) (bytes : List ℕ) (ready : ReadyQuery) → IsAdmitted (line_over (view_over catalog openings told) number bytes) ready
+      → IsReadyFor s.counts ready
+  ready_for number bytes ready admitted = record {
+    is = admitted.sound;
+    sources = subst (All (HasCount s.counts ready.count)) admitted.sources
+        (All-from_recursion (HasCount s.counts ready.count) (map (λ (l : Listed). l.source) admitted.lists)
+        (all_sourced ready.count ready.query.names admitted.lists admitted.sound.counted admitted.listed (admitted_states (line_over (view_over catalog openings told) number bytes) ready admitted)));
+  }
+
+  readies_for : (number : ℕ) (lines : List (List ℕ)) (stages : List Stage) (readies : List ReadyQuery)
+      → AreAdmitted (view_over catalog openings told) number lines stages readies → AllByRecursion (IsReadyFor s.counts) readies
+  readies_for number [] [] readies all = subst (AllByRecursion (IsReadyFor s.counts)) (sym all) tt
+  readies_for number [] (stage ∷ stages) readies all = absurd all
+  readies_for number (bytes ∷ lines) [] readies all = absurd all
+  readies_for number (bytes ∷ lines) (Refused refusal query ∷ stages) readies all = readies_for (number + 1) lines stages readies all.1
+  readies_for number (bytes ∷ lines) (Ready ∷ stages) [] all = absurd all
+  readies_for number (bytes ∷ lines) (Ready ∷ stages) (ready ∷ readies) all = (ready_for number bytes ready all.0, readies_for (number + 1) lines stages readies all.1)
+
+  -- each query that is ready is ready for the counts of the sources
+  pub all_ready : (number : ℕ) (lines : List (List ℕ)) (stages : List Stage) (readies : List ReadyQuery)
+      → AreAdmitted (view_over catalog openings told) number lines stages readies → All (IsReadyFor s.counts) readies
+  all_ready number lines stages readies all = All-from_recursion (IsReadyFor s.counts) readies (readies_for number lines stages readies all)
+
+-- each of them is the query of a line
+abbrev OwnedFrom : View → ℕ → List (List ℕ) → ReadyQuery → Type 0
+OwnedFrom view number lines ready = (at : ℕ) × (bytes : List ℕ) × (slice_get lines at ≡ Some bytes) × IsAdmitted (line_over view (number + at) bytes) ready
+
+later_own : (view : View) (number : ℕ) (bytes : List ℕ) (lines : List (List ℕ)) (readies : List ReadyQuery)
+    → AllByRecursion (OwnedFrom view (number + 1) lines) readies → AllByRecursion (OwnedFrom view number (bytes ∷ lines)) readies
+later_own view number bytes lines [] all = tt
+later_own view number bytes lines (ready ∷ readies) all =
+    let one = all.0 in
+    let e : number + 1 + one.0 ≡ number + suc one.0 = omega arith in
+    ((suc one.0, one.1, one.2, subst (λ n. IsAdmitted (line_over view n one.1) ready) e one.3), later_own view number bytes lines readies all.1)
+
+own_from : (view : View) (number : ℕ) (lines : List (List ℕ)) (stages : List Stage) (readies : List ReadyQuery) → AreAdmitted view number lines stages readies
+    → AllByRecursion (OwnedFrom view number lines) readies
+own_from view number [] [] readies are = subst (AllByRecursion (OwnedFrom view number [])) (sym are) tt
+own_from view number [] (stage ∷ stages) readies are = absurd are
+own_from view number (bytes ∷ lines) [] readies are = absurd are
+own_from view number (bytes ∷ lines) (Refused refusal query ∷ stages) readies are = later_own view number bytes lines readies (own_from view (number + 1) lines stages readies are.1)
+own_from view number (bytes ∷ lines) (Ready ∷ stages) [] are = absurd are
+own_from view number (bytes ∷ lines) (Ready ∷ stages) (ready ∷ readies) are =
+    let e : number ≡ number + 0 = omega arith in
+    ((0, bytes, refl, subst (λ n. IsAdmitted (line_over view n bytes) ready) e are.0), later_own view number bytes lines readies (own_from view (number + 1) lines stages readies are.1))
+
+owned : (view : View) (lines : List (List ℕ)) (readies : List ReadyQuery) → AllByRecursion (OwnedFrom view 1 lines) readies
+    → AllByRecursion (IsReadyOf view lines) readies
+owned view lines [] all = tt
+owned view lines (ready ∷ readies) all =
+    let one = all.0 in
+    let e : 1 + one.0 ≡ one.0 + 1 = omega arith in
+    (record { at = one.0; bytes = one.1; line = one.2; admitted = subst (λ n. IsAdmitted (line_over view n one.1) ready) e one.3 }, owned view lines readies all.1)
+
+pub all_own : (view : View) (lines : List (List ℕ)) (stages : List Stage) (readies : List ReadyQuery) → AreAdmitted view 1 lines stages readies
+    → All (IsReadyOf view lines) readies
+all_own view lines stages readies are = All-from_recursion (IsReadyOf view lines) readies (owned view lines readies (own_from view 1 lines stages readies are))

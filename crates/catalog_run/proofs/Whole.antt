@@ -1,0 +1,111 @@
+-- A run as a whole.
+use Rattle.std.proofs.Common.{◌≡◌, ℕ, ◌<◌, Bool, List, ◌++◌, Contains, length, reverse, slice_index_or, Option, Result, Ok, Err, IfOk, OnOk, sym, ◌∙◌, subst}
+use Rattle.std.proofs.lemmas.List.{get_or_default}
+use Rattle.ranked_list.specs.declared.row.Row.{Row}
+use Rattle.source_api.specs.declared.counts.Counts.{Counts}
+use Rattle.catalog_text.specs.Catalog.{Listed as Entry}
+use Rattle.catalog_open.specs.declared.opened.Opening.{Opening}
+use Rattle.catalog_open.specs.declared.opened.Opening.TheVariants.{Closed, Open}
+use Rattle.catalog_open.specs.Views.{opening_at, view_over, nothing_told}
+use Rattle.query_admission.specs.View.{View}
+use Rattle.world_run.specs.declared.settings.Settings.{Settings}
+use Rattle.catalog_run.specs.declared.outcome.LineOutcome.{LineOutcome}
+use Rattle.catalog_run.specs.Runs.{IsRun, RanOver}
+use Rattle.catalog_open.specs.Wanted.{IsMarked, IsWanted, AreMarked}
+use Rattle.catalog_open.specs.Openings.{Counted, Used, Moves, KeepsOthers, Sources, IsOpening, AreOpened, put_back}
+use Rattle.catalog_open.proofs.Moving.{moves_then, keeps_then}
+use Rattle.catalog_open.proofs.Opens.{numbered_within}
+
+opening_for : (lists : List ℕ → Option (List Row)) (catalog : List Entry) (s : Sources) (W V : ℕ → Type 0) (before now : Counted) (place : ℕ) (o : Opening)
+    → ((p : ℕ) → W p → V p) → ((p : ℕ) → V p → W p)
+    → IsOpening lists catalog s W before now place o → IsOpening lists catalog s V before now place o
+opening_for lists catalog s W V before now place Closed to from is = λ v. is (from place v)
+opening_for lists catalog s W V before now place (Open size source) to from is = (to place is.0, is.1)
+
+-- the same sources are wanted, in other words
+pub opened_for : (lists : List ℕ → Option (List Row)) (catalog : List Entry) (W V : ℕ → Type 0) (before now : Counted) (openings : List Opening) (s : Sources)
+    → ((p : ℕ) → W p → V p) → ((p : ℕ) → V p → W p)
+    → AreOpened lists catalog W before now openings s → AreOpened lists catalog V before now openings s
+opened_for lists catalog W V before now openings s to from are = record {
+  each = λ place within. opening_for lists catalog s W V before now place (opening_at openings place) to from (are.each place within);
+  numbered = are.numbered;
+  many_told = are.many_told;
+  many_counts = are.many_counts;
+  small = are.small;
+  used = are.used;
+  moves = are.moves;
+  others = λ place apart. are.others place (λ entry w. apart entry (to entry w));
+}
+
+pub opened_marked : (lists : List ℕ
+    → Option (List Row)) (catalog : List Entry) (lines : List (List ℕ)) (marks : List Bool) (before now : Counted) (openings : List Opening) (s : Sources) → AreMarked catalog lines marks
+    → AreOpened lists catalog (IsMarked marks) before now openings s → AreOpened lists catalog (IsWanted catalog lines) before now openings s
+opened_marked lists catalog lines marks before now openings s marked are = opened_for lists catalog (IsMarked marks) (IsWanted catalog lines) before now openings s marked.wanted marked.marked are
+
+-- an open source is wanted
+pub open_wanted : (lists : List ℕ → Option (List Row)) (catalog : List Entry) (W : ℕ → Type 0) (before now : Counted) (openings : List Opening) (s : Sources)
+    → AreOpened lists catalog W before now openings s
+    → (source : ℕ) → source < length s.places → W (slice_index_or s.places source 0)
+open_wanted lists catalog W before now openings s are source within =
+    let place = slice_index_or s.places source 0 in
+    let is = are.numbered source within in
+    let opening : IsOpening lists catalog s W before now place (Open is.size source) = subst (IsOpening lists catalog s W before now place) is.open_as (are.each place (numbered_within catalog openings place source is)) in
+    opening.0
+
+member_is : (xs : List ℕ) (x : ℕ) → (c : Contains xs x) → slice_index_or xs c.0 0 ≡ x
+member_is xs x c = get_or_default xs c.0 0 x c.1 ∙ c.2
+
+-- putting back keeps the others
+pub back_keeps : (lists : List ℕ → Option (List Row)) (catalog : List Entry) (W : ℕ
+    → Type 0) (before mid now : Counted) (openings : List Opening) (s : Sources) → AreOpened lists catalog W before mid openings s
+    → KeepsOthers catalog (Contains s.places) mid now → KeepsOthers catalog W before now
+back_keeps lists catalog W before mid now openings s are back =
+    keeps_then catalog W before mid now are.others
+    (λ place apart. back place (λ entry c. apart entry (subst W (member_is s.places entry c) (open_wanted lists catalog W before mid openings s are c.0 (c.1)))))
+
+-- the whole run
+pub is_run : (catalog : List Entry) (lines : List (List ℕ)) (lists : List ℕ
+    → Option (List Row)) (settings : Settings) (before mid after : Counted) (openings : List Opening) (s : Sources) (begun now : List Counts) (outcomes : List LineOutcome) (marks : List Bool)
+    → AreMarked catalog lines marks → AreOpened lists catalog (IsMarked marks) before mid openings s → length openings ≡ length catalog
+    → RanOver settings s begun now (view_over catalog openings nothing_told) lines outcomes → Moves (reverse (put_back catalog s.places now)) mid after
+    → IsRun (record { catalog = catalog; lines = lines; lists = lists; settings = settings; before = before; after = after }) outcomes
+is_run catalog lines lists settings before mid after openings s begun now outcomes marks marked are all ran back = record {
+  openings = openings;
+  sources = s;
+  mid = mid;
+  opened = opened_marked lists catalog lines marks before mid openings s marked are;
+  all = all;
+  begun = begun;
+  now = now;
+  ran = ran;
+  back = back;
+}
+
+-- where memory wasn't refused
+pub if_ran : {A E : Type 0} (r : Result A E) (P Q : A → Type 0) (R : Type 0) → IfOk r P → OnOk r R → ((x : A) → P x → R → Q x) → IfOk r Q
+if_ran (Ok x) P Q R h k f = f x h k
+if_ran (Err e) P Q R h k f = tt
+
+-- what the shelf counted
+pub run_moves : (lists : List ℕ → Option (List Row)) (catalog : List Entry) (W : ℕ
+    → Type 0) (before mid after : Counted) (openings : List Opening) (s : Sources) (back : List Used) → AreOpened lists catalog W before mid openings s
+    → Moves back mid after → (used : List Used) × Moves used before after
+run_moves lists catalog W before mid after openings s back are moves = (are.used ++ back, moves_then are.used back before mid after are.moves moves)
+
+-- nothing but at the places of what the lines want
+pub run_others : (lists : List ℕ
+    → Option (List Row)) (catalog : List Entry) (lines : List (List ℕ)) (marks : List Bool) (before mid after : Counted) (openings : List Opening) (s : Sources) → AreMarked catalog lines marks
+    → AreOpened lists catalog (IsMarked marks) before mid openings s → KeepsOthers catalog (Contains s.places) mid after → KeepsOthers catalog (IsWanted catalog lines) before after
+run_others lists catalog lines marks before mid after openings s marked are back =
+    back_keeps lists catalog (IsWanted catalog lines) before mid after openings s (opened_marked lists catalog lines marks before mid openings s marked are) back
+
+-- the lists that the sources tell, in other words
+pub opened_told : (lists : List ℕ → Option (List Row)) (catalog : List Entry) (W : ℕ
+    → Type 0) (before now : Counted) (openings : List Opening) (told same : List (Option (List Row))) (places counts : List ℕ) → same ≡ told
+    → AreOpened lists catalog W before now openings (record { told = told; places = places; counts = counts }) → AreOpened lists catalog W before now openings (record { told = same; places = places; counts = counts })
+opened_told lists catalog W before now openings told same places counts is are = subst (λ t. AreOpened lists catalog W before now openings (record { told = t; places = places; counts = counts })) (sym is) are
+
+pub ran_told : (settings : Settings) (told same : List (Option (List Row))) (places counts : List ℕ) (begun now : List Counts) (view : View)
+    (lines : List (List ℕ)) (outcomes : List LineOutcome) → same ≡ told
+    → RanOver settings (record { told = told; places = places; counts = counts }) begun now view lines outcomes → RanOver settings (record { told = same; places = places; counts = counts }) begun now view lines outcomes
+ran_told settings told same places counts begun now view lines outcomes is ran = subst (λ t. RanOver settings (record { told = t; places = places; counts = counts }) begun now view lines outcomes) (sym is) ran

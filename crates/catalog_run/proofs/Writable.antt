@@ -1,0 +1,110 @@
+-- The outcomes of a run can be written.
+use Rattle.std.proofs.Common.{◌≡◌, ℕ, ◌+◌, ◌<◌, List, [], ◌∷◌, All, Contains, length, inl, inr, Some, sym, ap, ◌∙◌, subst, arith}
+use Rattle.std.specs.List.{AllByRecursion}
+use Rattle.std.proofs.lemmas.Option.{same_Some}
+use Rattle.std.proofs.lemmas.List.Elements.{All-from_recursion}
+use Rattle.topk_theory.proofs.AgreementLists.{member_of_all, contains_here, contains_there}
+use Rattle.query_text.specs.declared.query.Query.{Query}
+use Rattle.cert_text.specs.declared.outcome.Outcome.{Outcome}
+use Rattle.cert_text.specs.declared.outcome.Outcome.TheVariants.{Answered, Refused}
+use Rattle.cert_text.specs.Outcome.{IsOutcome}
+use Rattle.query_core.specs.declared.ready.Ready.{Ready}
+use Rattle.source_state.specs.State.{State}
+use Rattle.source_state.specs.declared.look.LookFault.{LookFault}
+use Rattle.source_state.specs.declared.look.LookFault.TheVariants as look
+use Rattle.source_state.specs.declared.entry.SourceFault.{SourceFault}
+use Rattle.source_state.specs.declared.entry.SourceFault.TheVariants as fault
+use Rattle.access_log.specs.declared.core_fault.CoreFault.TheVariants as core
+use Rattle.query_admission.specs.View.{View}
+use Rattle.query_admission.specs.Causes.{admission_causes}
+use Rattle.query_admission.proofs.Becoming.{answered_writable, refused_writable}
+use Rattle.query_world.specs.declared.ended.Ended.{Ended}
+use Rattle.query_world.specs.declared.ended.Ended.TheVariants as ended
+use Rattle.query_world.specs.declared.ended.Refusal.TheVariants as refusal
+use Rattle.query_world.specs.declared.inquiry.Inquiry.{Inquiry}
+use Rattle.query_world.specs.Causes.{IsCause, IsOfList}
+use Rattle.query_world.specs.Endings.{EndsAs, IsRight}
+use Rattle.query_world.specs.Kept.{IsServed, IsWorld}
+use Rattle.query_world.specs.Made.{IsOf}
+use Rattle.query_world.specs.Worlds.{WorldState, state_at, needed, source_needed, list_needed}
+use Rattle.query_world.proofs.Serving.{listed, of_some_list}
+use Rattle.query_core.specs.Machines.{state_of}
+use Rattle.ranked_list.specs.declared.need.Need.{Need}
+use Rattle.ranked_list.specs.declared.need.Need.TheVariants as need
+use Rattle.catalog_open.specs.Views.{line_over}
+use Rattle.catalog_run.specs.declared.outcome.LineOutcome.{LineOutcome}
+use Rattle.catalog_run.specs.Outcomes.{ended_outcome, source_refusal}
+use Rattle.catalog_run.specs.Runs.{AreOutcomes, CanBeWritten, IsLineRefused, IsLineRun}
+
+line_refused : (view : View) (number : ℕ) (bytes : List ℕ) (o : LineOutcome) → IsLineRefused view number bytes o → CanBeWritten o
+line_refused view number bytes o is = subst (IsOutcome o.query) (sym is.outcome) (refused_writable o.query (line_over view number bytes) admission_causes is.refusal is.refused)
+
+-- a refusal of a list that the query has
+one_list : (query : Query) (list : ℕ) → list < length query.names → All (λ l. l < length query.names) (list ∷ [])
+one_list query list h = All-from_recursion (λ l. l < length query.names) (list ∷ []) (h, tt)
+
+source_written : (query : Query) (list : ℕ) (f : SourceFault) → list < length query.names → IsOutcome (Some query) (Refused (source_refusal list f))
+source_written query list (fault.OutOfOrder place before after) h = one_list query list h
+source_written query list (fault.TooHigh place grade) h = one_list query list h
+source_written query list (fault.Repeated object place) h = one_list query list h
+source_written query list (fault.Clash object sorted random) h = one_list query list h
+source_written query list (fault.Above object grade bottom) h = one_list query list h
+source_written query list (fault.ShortList stated got) h = one_list query list h
+
+look_written : (query : Query) (list : ℕ) (f : LookFault) (o : Outcome) → list < length query.names → ended_outcome (ended.Look list f) ≡ Some o
+    → IsOutcome (Some query) o
+look_written query list (look.Source f) o h e = subst (IsOutcome (Some query)) (same_Some _ o e) (source_written query list f h)
+look_written query list (look.Missing object) o h e = subst (IsOutcome (Some query)) (same_Some _ o e) (one_list query list h)
+look_written query list (look.AsksFull kept) o h e = subst (IsOutcome (Some query)) (same_Some _ o e) (one_list query list h)
+look_written query list look.Failed o h e = subst (IsOutcome (Some query)) (same_Some _ o e) (one_list query list h)
+look_written query list look.Garbled o h e = subst (IsOutcome (Some query)) (same_Some _ o e) (one_list query list h)
+look_written query list look.Memory o h e = absurd cc
+
+pub of_list_is : (list : ℕ) (n : Need) → IsOfList list n → list_needed n ≡ list
+of_list_is list (need.Row other depth) h = h
+of_list_is list (need.Grade other object) h = h
+of_list_is list need.Done h = absurd h
+
+ended_written : (states : List State) (ready : Ready) (q : Inquiry) (e : Ended) (o : Outcome) → IsServed states q → IsOf ready q → EndsAs q e
+    → IsRight ready e → ended_outcome e ≡ Some o → IsOutcome (Some ready.query) o
+ended_written states ready q (ended.Answered answer) o served of ends right e = subst (IsOutcome (Some ready.query)) (same_Some (Answered answer) o e) (answered_writable ready answer of.is right)
+ended_written states ready q (ended.Core (core.Strangers object count)) o served of ends right e =
+    subst (IsOutcome (Some ready.query)) (same_Some _ o e) (All-from_recursion (λ l. l < length ready.query.names) [] tt)
+ended_written states ready q (ended.Core (core.RoomFull room)) o served of ends right e =
+    subst (IsOutcome (Some ready.query)) (same_Some _ o e) (All-from_recursion (λ l. l < length ready.query.names) [] tt)
+ended_written states ready q (ended.Look list f) o served of ends right e =
+    let cause : IsCause (state_at states (source_needed q)) (state_of q.machine) q.waiting.noted (Some (refusal.Look list f)) =
+    subst (IsCause (state_at states (source_needed q)) (state_of q.machine) q.waiting.noted) ends served.cause in
+    let of_list : IsOfList list (needed q) = cause.0 in
+    let l = listed states q served.sources served.run (of_some_list list (needed q) of_list) in
+    let same : list_needed (needed q) ≡ list = of_list_is list (needed q) of_list in
+    let many : length q.sources.items ≡ length ready.query.names = ap (length {A = ℕ}) of.sources ∙ of.is.sources in
+    look_written ready.query list f o (omega (arith, l, same, many)) e
+
+line_run : (view : View) (states : List State) (q : Inquiry) (number : ℕ) (bytes : List ℕ) (o : LineOutcome) → IsServed states q
+    → IsLineRun view q number bytes o → CanBeWritten o
+line_run view states q number bytes o served is =
+    subst (λ query. IsOutcome query o.outcome) (sym is.outcome.query)
+    (ended_written states is.ready q is.ended o.outcome served is.of is.ends is.right is.outcome.outcome)
+
+all_written : (view : View) (states : List State) (queries : List Inquiry) (number : ℕ) (lines : List (List ℕ)) (outcomes : List LineOutcome)
+    → ((q : Inquiry) → Contains queries q → IsServed states q) → AreOutcomes view queries number lines outcomes → AllByRecursion CanBeWritten outcomes
+all_written view states queries number [] [] served are = tt
+all_written view states queries number [] (o ∷ outcomes) served are = absurd are
+all_written view states queries number (bytes ∷ lines) [] served are = absurd are
+all_written view states queries number (bytes ∷ lines) (o ∷ outcomes) served are = elim are [
+  | inl refused ↦ (line_refused view number bytes o refused.0, all_written view states queries (number + 1) lines outcomes served refused.1)
+  | inr run ↦
+      let q = run.0 in
+      let others = run.1 in
+      let all : (r : Inquiry) → Contains (q ∷ others) r → IsServed states r = λ r c. served r (subst (λ qs. Contains qs r) (sym run.2) c) in (
+        line_run view states q number bytes o (all q (contains_here q others)) run.3,
+        all_written view states others (number + 1) lines outcomes (λ r c. all r (contains_there q others r c)) run.4,
+      )
+]
+
+pub can_be_written : (view : View) (last : WorldState) (number : ℕ) (lines : List (List ℕ)) (outcomes : List LineOutcome) → IsWorld last
+    → AreOutcomes view last.queries number lines outcomes → All CanBeWritten outcomes
+can_be_written view last number lines outcomes world are =
+    All-from_recursion CanBeWritten outcomes
+    (all_written view last.states last.queries number lines outcomes (λ q c. member_of_all (IsServed last.states) last.queries q world.queries c) are)

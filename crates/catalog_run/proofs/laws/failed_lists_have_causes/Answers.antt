@@ -1,0 +1,5 @@
+use Rattle.catalog_run.proofs.Failures.{lines_failures}
+use Rattle.catalog_run.proofs.laws.failed_lists_have_causes.Goals as goal
+
+pub returns : goal.returns
+returns c = λ r outcomes run. lines_failures c.a_failure_refuses_those_that_wait.ensures r outcomes run

@@ -1,0 +1,14 @@
+use Rattle.topk_theory.proofs.AgreementLists.{all_from_members, member_of_all}
+use Rattle.query_world.specs.Causes.{HasCause}
+use Rattle.query_world.specs.Kept.{IsServed}
+use Rattle.catalog_open.specs.Views.{nothing_told, view_over}
+use Rattle.catalog_run.proofs.Right.{lines_right}
+use Rattle.catalog_run.proofs.laws.outcomes_are_right.Goals as goal
+
+pub returns-clause-answers : goal.returns-clause-answers
+returns-clause-answers c = λ r outcomes run. lines_right (view_over r.catalog run.openings nothing_told) run.ran.last.queries 1 r.lines outcomes run.ran.outcomes_are
+
+pub returns-clause-refusals : goal.returns-clause-refusals
+returns-clause-refusals c = λ r outcomes run.
+    let w = run.ran.last in
+    all_from_members (HasCause w.states) w.queries (λ q m. (member_of_all (IsServed w.states) w.queries q run.ran.world.queries m).cause)

@@ -1,0 +1,7 @@
+-- What query lines over the lists of a catalog come to.
+pub mod Outcomes
+pub mod Merging
+pub mod Runs
+pub mod Told
+pub mod Failures
+pub mod Answers

@@ -1,0 +1,154 @@
+//! Query lines over a catalog.
+
+ghost use Rattle.std.specs.Prelude.{◌≡◌, [], ℕ, Bool, List, Option, All, length, map, IfOk, OnOk};
+ghost use Rattle.ranked_list.specs.declared.row.Row.{Row};
+ghost use Rattle.source_api.specs.declared.counts.Counts.{Counts};
+ghost use Rattle.source_api.specs.Places.{SameAtEach};
+ghost use Rattle.world_run.specs.Runs.{AreSettings};
+ghost use Rattle.catalog_open.specs.Views.{view_over, nothing_told};
+ghost use Rattle.catalog_open.specs.Wanted.{IsMarked, IsWanted};
+ghost use Rattle.catalog_open.specs.Openings.{AreOpened, Counted, IsKnownAt, KeepsOthers, Moves, Used};
+ghost use Rattle.catalog_run.specs.Runs.{CanBeWritten, IsRun, RanOver};
+
+use super::Memory;
+use super::outcome::LineOutcome;
+use super::run::run_admitted;
+use catalog_open::{Catalogued, Opened, admit_all, mark_wanted, open_wanted, put_back_all};
+use catalog_text::Catalog;
+use source_api::{Shelf, Source};
+use std::alloc::Global;
+use world_run::Settings;
+
+/// Answers query lines, numbered from 1, over the lists of a catalog whose sources are taken of a shelf.
+///
+/// The sources that the lines want are opened in the order of the catalog: those of the lists that a line names which nothing refuses
+/// before its lists are opened. A source that fails at this, or is answered by garbled data, isn't open. Then the lines are admitted,
+/// and the queries that are ready run together, over one state of each source. At last the sources are put back, where memory is
+/// refused too.
+pub fn run_lines<H: Shelf>(
+    alloc: Global,
+    shelf: &mut H,
+    catalog: &Catalog,
+    lines: &[&[u8]],
+    settings: Settings,
+) -> Result<Vec<LineOutcome>, Memory>
+    requires { AreSettings settings }
+    ensures texts { SameAtEach (H.texts shelf.old) (H.texts shelf.new) }
+    ensures lists { SameAtEach (H.lists shelf.old) (H.lists shelf.new) }
+    ensures others { KeepsOthers catalog.now (IsWanted catalog.now (map (λ line. line.now) lines.now)) (H.at shelf.old) (H.at shelf.new) }
+    ensures moves { (used : List Used) × Moves used (H.at shelf.old) (H.at shelf.new) }
+    ensures run { IfOk result (λ outcomes. IsRun (record {
+      catalog = catalog.now;
+      lines = map (λ line. line.now) lines.now;
+      lists = H.lists shelf.old;
+      settings = settings;
+      before = H.at shelf.old;
+      after = H.at shelf.new;
+    }) outcomes.items) }
+    ensures writable { IfOk result (λ outcomes. All CanBeWritten outcomes.items) }
+{
+    let Ok(marks) = mark_wanted(alloc, catalog, lines) else {
+        return Err(Memory);
+    };
+    let mut opened = Opened::make(alloc);
+    let mut sources = Vec::new(alloc);
+    let result = open_and_run(
+        alloc,
+        shelf,
+        catalog,
+        &marks,
+        &mut opened,
+        &mut sources,
+        lines,
+        settings,
+    );
+    put_back_all(shelf, catalog, &opened.places, sources);
+    result
+}
+
+/// Opens the sources that are marked, and runs the lines over them.
+fn open_and_run<H: Shelf>(
+    alloc: Global,
+    shelf: &mut H,
+    catalog: &Catalog,
+    marks: &[bool],
+    opened: &mut Opened,
+    sources: &mut Vec<H::Item>,
+    lines: &[&[u8]],
+    settings: Settings,
+) -> Result<Vec<LineOutcome>, Memory>
+    requires settings { AreSettings settings }
+    requires marks { length marks.now ≡ length catalog.now }
+    requires openings { opened.old.openings.items ≡ [] }
+    requires places { opened.old.places.items ≡ [] }
+    requires counts { opened.old.counts.items ≡ [] }
+    requires sources { sources.old.items ≡ [] }
+    ensures texts { SameAtEach (H.texts shelf.old) (H.texts shelf.new) }
+    ensures lists { SameAtEach (H.lists shelf.old) (H.lists shelf.new) }
+    ensures known { All (IsKnownAt catalog.now (H.knows shelf.new)) opened.new.places.items }
+    ensures many { length sources.new.items ≡ length opened.new.places.items }
+    ensures opened { AreOpened (H.lists shelf.old) catalog.now (IsMarked marks.now) (H.at shelf.old) (H.at shelf.new)
+        opened.new.openings.items (record {
+          told = map H.Item.list sources.new.items;
+          places = opened.new.places.items;
+          counts = opened.new.counts.items;
+        }) }
+    ensures all { OnOk result (length opened.new.openings.items ≡ length catalog.now) }
+    ensures ran { IfOk result (λ outcomes. (begun : List Counts) × RanOver settings (record {
+      told = map H.Item.list sources.new.items;
+      places = opened.new.places.items;
+      counts = opened.new.counts.items;
+    })
+        begun (map H.Item.counts sources.new.items) (view_over catalog.now opened.new.openings.items nothing_told)
+        (map (λ line. line.now) lines.now) outcomes.items) }
+    ensures writable { IfOk result (λ outcomes. All CanBeWritten outcomes.items) }
+{
+    if open_wanted(alloc, shelf, catalog, marks, opened, sources).is_err() {
+        return Err(Memory);
+    }
+    run_opened(alloc, catalog, opened, sources, lines, settings)
+}
+
+/// Admits the lines over the open sources, and runs the queries that are ready.
+fn run_opened<S: Source>(
+    alloc: Global,
+    catalog: &Catalog,
+    opened: &Opened,
+    sources: &mut Vec<S>,
+    lines: &[&[u8]],
+    settings: Settings,
+) -> Result<Vec<LineOutcome>, Memory>
+    requires settings { AreSettings settings }
+    requires opened { (lists : List ℕ → Option (List Row)) × (marks : List Bool) × (before : Counted) × (now : Counted)
+        × AreOpened lists catalog.now (IsMarked marks) before now opened.now.openings.items (record {
+          told = map S.list sources.old.items;
+          places = opened.now.places.items;
+          counts = opened.now.counts.items;
+        }) }
+    ensures many { length sources.new.items ≡ length sources.old.items }
+    ensures lists { map S.list sources.new.items ≡ map S.list sources.old.items }
+    ensures ran { IfOk result (λ outcomes. RanOver settings (record {
+      told = map S.list sources.old.items;
+      places = opened.now.places.items;
+      counts = opened.now.counts.items;
+    })
+        (map S.counts sources.old.items) (map S.counts sources.new.items) (view_over catalog.now opened.now.openings.items nothing_told)
+        (map (λ line. line.now) lines.now) outcomes.items) }
+    ensures writable { IfOk result (λ outcomes. All CanBeWritten outcomes.items) }
+{
+    let lists = Catalogued {
+        catalog,
+        openings: &opened.openings,
+    };
+    let Ok(admissions) = admit_all(alloc, &lists, lines) else {
+        return Err(Memory);
+    };
+    run_admitted(
+        alloc,
+        &opened.counts,
+        &opened.places,
+        sources,
+        admissions,
+        settings,
+    )
+}

@@ -1,0 +1,82 @@
+//! The outcomes of lines from what they came to before they ran and how their queries ended.
+
+ghost use Rattle.std.specs.Prelude.{◌<◌, ◌∷◌, List, IfOk, length, reverse};
+ghost use Rattle.catalog_open.specs.declared.admissions.Stage.{Stage as AnyStage};
+ghost use Rattle.catalog_open.specs.declared.admissions.Stage.TheVariants as stage;
+ghost use Rattle.catalog_run.specs.Merging.{Fit, Merges, Nexts};
+
+use super::Memory;
+use super::outcome::{LineOutcome, ended_outcome};
+use catalog_open::{Admissions, Stage};
+use cert_text::Outcome;
+use query_core::Ready;
+use query_world::Ended;
+use std::alloc::Global;
+
+/// The outcomes of lines in their order: what refused a line before it ran, and how the queries ended that were ready, in theirs.
+pub(crate) fn merge(
+    alloc: Global,
+    admissions: Admissions,
+    mut endings: Vec<Ended>,
+) -> Result<Vec<LineOutcome>, Memory>
+    requires { Fit admissions.stages.items admissions.readies.items endings.items }
+    ensures { IfOk result (λ outcomes. Merges admissions.stages.items admissions.readies.items endings.items outcomes.items) }
+{
+    let Admissions {
+        mut stages,
+        mut readies,
+    } = admissions;
+    stages.reverse();
+    readies.reverse();
+    endings.reverse();
+    let mut outcomes = Vec::new(alloc);
+    while let Some(stage) = stages.pop() {
+        let outcome = next_outcome(stage, &mut readies, &mut endings)?;
+        let Ok(()) = outcomes.push(outcome) else {
+            return Err(Memory);
+        };
+    }
+    Ok(outcomes)
+}
+
+/// The outcome of a line that came to this before it ran; the queries that were ready, and how they ended, stand in the opposite
+/// order, so that the line's are the last ones.
+fn next_outcome(
+    stage: Stage,
+    readies: &mut Vec<Ready>,
+    endings: &mut Vec<Ended>,
+) -> Result<LineOutcome, Memory>
+    requires { (stages : List AnyStage) × Fit (stage ∷ stages) (reverse readies.old.items) (reverse endings.old.items) }
+    ensures { IfOk result (Nexts stage readies.old.items readies.new.items endings.old.items endings.new.items) }
+{
+    match stage {
+        Stage::Refused { refusal, query } => Ok(LineOutcome {
+            query,
+            count: 0,
+            outcome: Outcome::Refused(refusal),
+        }),
+        Stage::Ready => next_ended(readies, endings),
+    }
+}
+
+/// The outcome of a line whose query, and how it ended, are the last ones.
+fn next_ended(readies: &mut Vec<Ready>, endings: &mut Vec<Ended>) -> Result<LineOutcome, Memory>
+    requires readies { 0 < length readies.old.items }
+    requires endings { 0 < length endings.old.items }
+    ensures { IfOk result (Nexts stage.Ready readies.old.items readies.new.items endings.old.items endings.new.items) }
+{
+    let Some(ready) = readies.pop() else {
+        unreachable!();
+    };
+    let Some(ended) = endings.pop() else {
+        unreachable!();
+    };
+    let Some(outcome) = ended_outcome(ended) else {
+        return Err(Memory);
+    };
+    Ok(LineOutcome {
+        query: Some(ready.query),
+        count: ready.count,
+        outcome,
+    })
+}
