@@ -1,0 +1,9 @@
+-- Lemmas on one query over a pool.
+pub mod SeenLaws
+pub mod Opening
+pub mod AskingLaws
+mod Wants
+mod Looked
+mod Steps
+mod Stands
+mod Stops

@@ -1,0 +1,117 @@
+-- A query on its way through a pass: what it keeps from look to look, what a look does, and what all of them did.
+use Rattle.std.specs.Prelude.{◌≡◌, ◌≤◌, ◌<◌, ◌+◌, ℕ, Bool, true, false, Option, Some, None, List, All, length, count_by}
+use Rattle.ranked_list.specs.declared.need.Need.{Need}
+use Rattle.turn_lock.specs.Facts.{Begins, AtMost}
+use Rattle.source_state.specs.declared.look.Look.{Look}
+use Rattle.source_state.specs.declared.look.LookFault.{LookFault}
+use Rattle.source_state.specs.declared.look.LookFault.TheVariants as why
+use Rattle.source_state.specs.declared.look.Waiting.{Waiting}
+use Rattle.source_state.specs.State.{State, IsSound}
+use Rattle.source_pool.specs.declared.hold.Hold.{Hold}
+use Rattle.source_pool.specs.Passes.{hold_at, OthersStay}
+use Rattle.source_pool.specs.Looks.{shown_by, IsTurn, IsWithin, TookTurn, Waits}
+use Rattle.query_core.specs.Driving.{Continues, IsFedFrom}
+use Rattle.query_core.specs.Machines.{algorithm_of, state_of, MakesItsRun}
+use Rattle.query_world.specs.declared.ended.Refusal.{Refusal}
+use Rattle.query_world.specs.declared.ended.Refusal.TheVariants.{Core, Look as LookedFor}
+use Rattle.query_world.specs.declared.inquiry.Inquiry.{Inquiry}
+use Rattle.query_world.specs.Worlds.{state_at, told_to, needed, source_needed, is_done}
+use Rattle.query_world.specs.Kept.{IsServed}
+use Rattle.query_world.specs.Steps.{Answers}
+use Rattle.query_run.specs.Seen.{states_seen}
+use Rattle.query_run.specs.Advancing.{WaitsForNothing, IsSourceIn, Advances}
+use Rattle.query_run.specs.Asking.{is_grade_of, Wanted}
+use Rattle.query_run.specs.Ran.{Uses}
+
+-- states from which a query was fed: each is sound and has as many objects as the query counts, and the pass saw its log, or a longer one
+pub record FeedsFrom (holds : List Hold) (q : Inquiry) (states : List State) : Type 0 where
+  pub long : length states ≡ length holds
+  pub sound : All IsSound states
+  pub counted : (source : ℕ) → source < length states → (state_at states source).count ≡ (state_of q.machine).log.count
+  pub seen : (source : ℕ) → Begins (state_at states source).log (hold_at holds source).pass.1.seen
+  pub fed : IsFedFrom (told_to states q) (state_of q.machine)
+
+-- a query that reads through a pass: its sources are there, its machine is on its run, and was fed from what the pass saw
+pub record IsReading (holds : List Hold) (q : Inquiry) : Type 0 where
+  pub many : length q.sources.items ≡ (state_of q.machine).log.lists
+  pub each : All (IsSourceIn holds (state_of q.machine).log.count) q.sources.items
+  pub run : MakesItsRun q.machine
+  pub rests : q.waiting.need ≡ None
+  pub states : List State
+  pub feeds : FeedsFrom holds q states
+
+-- one look at the source of a query's need, and what the query makes of the answer
+pub record LooksOnce (before after : List Hold) (q r : Inquiry) : Type 0 where
+  pub answer : Look
+  pub turn : IsTurn (needed q) (hold_at before (source_needed q)) (hold_at after (source_needed q)) answer
+  pub waits : Waits (needed q) (hold_at before (source_needed q)) (hold_at after (source_needed q)) answer
+  pub shown : (hold_at after (source_needed q)).shown ≡ shown_by answer (hold_at before (source_needed q)).shown
+  pub took : TookTurn (hold_at before (source_needed q)).pass.1 (hold_at after (source_needed q)).pass.1
+  pub within : IsWithin (hold_at before (source_needed q)) → IsWithin (hold_at after (source_needed q))
+  pub others : OthersStay (source_needed q) before after
+  pub sources : r.sources.items ≡ q.sources.items
+  pub algorithm : algorithm_of r.machine ≡ algorithm_of q.machine
+  pub waiting : r.waiting ≡ q.waiting
+  pub run : MakesItsRun r.machine
+  pub answers : Answers q r answer
+
+-- how many grades a query was given of a source
+abbrev pub grades_given : Inquiry → ℕ → ℕ
+grades_given q source = count_by (is_grade_of q source) (state_of q.machine).log.accesses
+
+-- what a query on its way wanted of a source: where nothing is waited for there, all grades that it was asked for were given
+pub record WantsOf (q : Inquiry) (source : ℕ) (before now : Hold) : Type 0 where
+  pub wanted : Wanted q source before.pass.1 now.pass.1
+  pub given : now.waiting.need ≡ None → now.pass.1.asked ≤ before.pass.1.asked + grades_given q source
+
+-- what is waited for at a source is what the query needs, and what was noted then is no less than what the pass knew at first
+pub record WaitsAt (q : Inquiry) (source : ℕ) (need : Need) (before now : Hold) : Type 0 where
+  pub here : source ≡ source_needed q
+  pub needs : need ≡ needed q
+  pub going : is_done need ≡ false
+  pub noted : AtMost before.pass.1.tally now.waiting.noted
+
+-- a query that isn't refused: nothing but its need is waited for, and no fail was shown
+pub record IsOpen (before now : List Hold) (q : Inquiry) : Type 0 where
+  pub waits : (source : ℕ) (need : Need) → (hold_at now source).waiting.need ≡ Some need
+      → WaitsAt q source need (hold_at before source) (hold_at now source)
+  pub shown : (source : ℕ) → (hold_at now source).shown ≡ (hold_at before source).shown
+  pub wants : (source : ℕ) → WantsOf q source (hold_at before source) (hold_at now source)
+
+-- the query with what it waited for last
+abbrev pub with_waiting : Waiting → Inquiry → Inquiry
+with_waiting waiting q = record q { waiting = waiting }
+
+-- a query that has ended, with what it waited for last: its transcript and its refusal rest on what the pass saw, which waits for nothing
+pub record HasStopped (before now : List Hold) (q : Inquiry) : Type 0 where
+  pub last : Waiting
+  pub served : IsServed (states_seen now) (with_waiting last q)
+  pub uses : Uses before now (with_waiting last q)
+  pub rests : WaitsForNothing now
+
+abbrev pub Stands : List Hold → List Hold → Inquiry → Option Refusal → Type 0
+Stands before now q None = IsOpen before now q
+Stands before now q (Some refusal) = HasStopped before now q
+
+-- what the looks of a query did so far, from a first pass and query to these
+pub record HasLooked (before now : List Hold) (q r : Inquiry) : Type 0 where
+  pub reading : IsReading now r
+  pub advances : Advances q.sources.items before now
+  pub sources : r.sources.items ≡ q.sources.items
+  pub algorithm : algorithm_of r.machine ≡ algorithm_of q.machine
+  pub goes : Continues (state_of q.machine) (state_of r.machine)
+  pub stands : Stands before now r r.refusal
+
+-- the query is refused for want of memory
+abbrev pub is_memory : LookFault → Bool
+is_memory (why.Source fault) = false
+is_memory (why.Missing object) = false
+is_memory (why.AsksFull kept) = false
+is_memory why.Failed = false
+is_memory why.Garbled = false
+is_memory why.Memory = true
+
+abbrev pub wants_memory : Option Refusal → Bool
+wants_memory None = false
+wants_memory (Some (Core fault)) = false
+wants_memory (Some (LookedFor list fault)) = is_memory fault

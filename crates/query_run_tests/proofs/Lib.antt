@@ -1,0 +1,2 @@
+-- Lemmas on runs of one query over two sources.
+pub mod Readying
