@@ -1,0 +1,130 @@
+-- A crew that has run, and lists and counts of the slots.
+use Rattle.std.proofs.Common.{◌≡◌, ◌<◌, ℕ, zero, suc, Bool, true, false, ◌||◌, Option, List, [], ◌∷◌, length, map, All, slice_index_or, refl, sym, ap, subst, ◌∙◌, arith}
+use Rattle.std.specs.List.{AllZip, list_any}
+use Rattle.std.proofs.lemmas.List.{length-map}
+use Rattle.ranked_list.specs.declared.row.Row.{Row}
+use Rattle.atomic_table.specs.Seated.{TableId}
+use Rattle.source_pool.specs.declared.hold.Hold.{Hold}
+use Rattle.source_pool.specs.Passes.{hold_at, IsPassOf}
+use Rattle.source_api.specs.declared.counts.Counts.{Counts}
+use Rattle.source_api.specs.Counting.{NoneFell}
+use Rattle.fetcher.specs.declared.slot.Slot.{Slot}
+use Rattle.world_run.specs.declared.settings.Settings.{Settings}
+use Rattle.query_core.specs.declared.ready.Ready.{Ready}
+use Rattle.batch_run.specs.declared.work.Worker.{Worker}
+use Rattle.batch_run.specs.Slots.{SlotState, states_of, slot_at}
+use Rattle.batch_run.specs.Batches.{Run, run_of}
+use Rattle.batch_run.specs.declared.hire.Crew.{Crew}
+use Rattle.batch_run.specs.Crews.{slots_run, HasLeft, HasRun}
+use Rattle.batch_run.proofs.Places.{stands_at, map_at}
+use Rattle.batch_run.proofs.JoinLaws.{passes}
+
+module _ {S : Type 0} (list : S → Option (List Row)) (counts : S → Counts) where
+  -- the parts of the slots, at once and by their states
+  told_twice : (slots : List (Slot S)) → map (λ (slot : Slot S). list slot.source) slots ≡ map (λ (s : SlotState). s.told) (states_of list counts slots)
+  told_twice [] = refl
+  told_twice (slot ∷ slots) = ap (λ xs. list slot.source ∷ xs) (told_twice slots)
+
+  counts_twice : (slots : List (Slot S)) → map (λ (slot : Slot S). counts slot.source) slots ≡ map (λ (s : SlotState). s.counts) (states_of list counts slots)
+  counts_twice [] = refl
+  counts_twice (slot ∷ slots) = ap (λ xs. counts slot.source ∷ xs) (counts_twice slots)
+
+  pub run_is : (settings : Settings) (sizes : List ℕ) (readies : List Ready) (old new : List (Slot S))
+      → run_of list counts settings sizes readies old new ≡ slots_run settings sizes readies (states_of list counts old) (states_of list counts new)
+  run_is settings sizes readies old new =
+      ap (λ told. run settings sizes readies told (map (λ (slot : Slot S). counts slot.source) old) (map (λ (slot : Slot S). counts slot.source) new)) (told_twice old)
+      ∙ (ap (λ before. run settings sizes readies (map (λ (s : SlotState). s.told) (states_of list counts old)) before (map (λ (slot : Slot S). counts slot.source) new)) (counts_twice old)
+      ∙ ap (λ now. run settings sizes readies (map (λ (s : SlotState). s.told) (states_of list counts old)) (map (λ (s : SlotState). s.counts) (states_of list counts old)) now) (counts_twice new))
+    where
+      run : Settings → List ℕ → List Ready → List (Option (List Row)) → List Counts → List Counts → Run
+      run settings sizes readies told before now = record { settings = settings; sizes = sizes; readies = readies; told = told; before = before; now = now }
+
+  -- the lists stay, and no count falls, where that is so of each slot
+  pub lists_stay : (old new : List SlotState) → length old ≡ length new
+      → ((source : ℕ) → source < length old → (slot_at new source).told ≡ (slot_at old source).told) → map (λ (s : SlotState). s.told) new ≡ map (λ (s : SlotState). s.told) old
+  lists_stay [] [] size h = refl
+  lists_stay [] (s ∷ new) size h = absurd (omega (arith, size))
+  lists_stay (s ∷ old) [] size h = absurd (omega (arith, size))
+  lists_stay (s ∷ old) (t ∷ new) size h =
+      let first : t.told ≡ s.told = h 0 (omega arith) in
+      let rest = lists_stay old new (omega (arith, size)) (λ source l. h (suc source) (omega (arith, l))) in
+      ap (λ x. x ∷ map (λ (s : SlotState). s.told) new) first ∙ ap (λ xs. s.told ∷ xs) rest
+
+  pub none_fell : (old new : List SlotState) → length old ≡ length new
+      → ((source : ℕ) → source < length old → NoneFell (slot_at old source).counts (slot_at new source).counts)
+      → AllZip NoneFell (map (λ (s : SlotState). s.counts) old) (map (λ (s : SlotState). s.counts) new)
+  none_fell [] [] size h = tt
+  none_fell [] (s ∷ new) size h = absurd (omega (arith, size))
+  none_fell (s ∷ old) [] size h = absurd (omega (arith, size))
+  none_fell (s ∷ old) (t ∷ new) size h = (h 0 (omega arith), none_fell old new (omega (arith, size)) (λ source l. h (suc source) (omega (arith, l))))
+
+  pub slots_lists : (old new : List (Slot S)) → map (λ (s : SlotState). s.told) (states_of list counts new) ≡ map (λ (s : SlotState). s.told) (states_of list counts old)
+      → map (λ (slot : Slot S). list slot.source) new ≡ map (λ (slot : Slot S). list slot.source) old
+  slots_lists old new e = told_twice new ∙ (e ∙ sym (told_twice old))
+
+  pub slots_counts : (old new : List (Slot S))
+      → AllZip NoneFell (map (λ (s : SlotState). s.counts) (states_of list counts old)) (map (λ (s : SlotState). s.counts) (states_of list counts new))
+      → AllZip NoneFell (map (λ (slot : Slot S). counts slot.source) old) (map (λ (slot : Slot S). counts slot.source) new)
+  slots_counts old new h =
+      subst (λ xs. AllZip NoneFell xs (map (λ (slot : Slot S). counts slot.source) new)) (sym (counts_twice old))
+      (subst (AllZip NoneFell (map (λ (s : SlotState). s.counts) (states_of list counts old))) (sym (counts_twice new)) h)
+
+  -- no count fell where nothing was called
+  pub counts_same : (slots : List (Slot S)) → AllZip NoneFell (map (λ (slot : Slot S). counts slot.source) slots) (map (λ (slot : Slot S). counts slot.source) slots)
+  counts_same [] = tt
+  counts_same (slot ∷ slots) = (record { faults = omega arith; garbles = omega arith; rows_given = omega arith; grades_given = omega arith }, counts_same slots)
+
+-- no worker wanted memory
+pub none_short : (workers : List Worker) → list_any (λ (w : Worker). w.short) workers ≡ false → (i : ℕ) (d : Worker) → i < length workers → (slice_index_or workers i d).short ≡ false
+none_short [] e i d l = absurd (omega (arith, l))
+none_short (w ∷ workers) e zero d l = first_of (w.short) (list_any (λ (x : Worker). x.short) workers) e
+  where
+    first_of : (b c : Bool) → (b || c) ≡ false → b ≡ false
+    first_of true c e = e
+    first_of false c e = refl
+none_short (w ∷ workers) e (suc i) d l = none_short workers (rest_of w.short (list_any (λ (x : Worker). x.short) workers) e) i d (omega (arith, l))
+  where
+    rest_of : (b c : Bool) → (b || c) ≡ false → c ≡ false
+    rest_of true c e = absurd (cc)
+    rest_of false c e = e
+
+-- passes that stay are still the pool's
+pub passes_own : (pool : List TableId) (old new : List Worker) → passes new ≡ passes old → ((i : ℕ) (d : Worker) → i < length old → IsPassOf pool (slice_index_or old i d).pass)
+    → All (λ (worker : Worker). IsPassOf pool worker.pass) new
+passes_own pool old new same own i d l =
+    let long : length new ≡ length old = sym (length-map new (λ (w : Worker). w.pass)) ∙ (ap (length {A = List Hold}) same ∙ length-map old (λ (w : Worker). w.pass)) in
+    let within : i < length old = omega (arith, l, long) in
+    let e = (stands_at old i within).item in
+    let is : (slice_index_or new i d).pass ≡ (slice_index_or old i e).pass =
+    sym (map_at (λ (w : Worker). w.pass) new i d (slice_index_or new i d).pass l)
+    ∙ (ap (λ ps. slice_index_or ps i (slice_index_or new i d).pass) same ∙ map_at (λ (w : Worker). w.pass) old i e (slice_index_or new i d).pass within) in
+    subst (IsPassOf pool) (sym is) (own i e within)
+
+-- the workers of a crew, by their number
+pub left_as : (pool : List TableId) (settings : Settings) (counts : List ℕ) (readies : List Ready) (workers : List Worker) → length workers ≡ settings.workers
+    → ((i : ℕ) (d : Worker) → i < length workers → HasLeft pool counts settings.workers readies i (slice_index_or workers i d))
+    → (i : ℕ) (d : Worker) → i < length workers → HasLeft pool counts (length workers) readies i (slice_index_or workers i d)
+left_as pool settings counts readies workers size each i d l = subst (λ n. HasLeft pool counts n readies i (slice_index_or workers i d)) (sym size) (each i d l)
+
+pub parts_left : (pool : List TableId) (settings : Settings) (counts : List ℕ) (readies : List Ready) (workers : List Worker)
+    → ((i : ℕ) (d : Worker) → i < length workers → HasLeft pool counts settings.workers readies i (slice_index_or workers i d))
+    → (i : ℕ) (d : Worker) → i < length workers → (source : ℕ) → source < length counts → (hold_at (slice_index_or workers i d).pass source).pass.1.parts ≡ 1
+parts_left pool settings counts readies workers each i d l source s = (each i d l).parts source s
+
+module _ {S : Type 0} (list : S → Option (List Row)) (counts : S → Counts) where
+  -- what a run keeps of the sources
+  pub kept_lists : (settings : Settings) (sizes : List ℕ) (readies : List Ready) (old new : List (Slot S)) (crew : Crew)
+      → HasRun settings sizes readies (states_of list counts old) (states_of list counts new) crew
+      → map (λ (slot : Slot S). list slot.source) new ≡ map (λ (slot : Slot S). list slot.source) old
+  kept_lists settings sizes readies old new crew ran =
+      slots_lists list counts old new
+      (lists_stay list counts (states_of list counts old) (states_of list counts new) (ran.slots.0 ∙ sym ran.slots.1)
+      (λ source l. (ran.fetched source (subst (λ n. source < n) ran.slots.0 l)).told))
+
+  pub kept_counts : (settings : Settings) (sizes : List ℕ) (readies : List Ready) (old new : List (Slot S)) (crew : Crew)
+      → HasRun settings sizes readies (states_of list counts old) (states_of list counts new) crew
+      → AllZip NoneFell (map (λ (slot : Slot S). counts slot.source) old) (map (λ (slot : Slot S). counts slot.source) new)
+  kept_counts settings sizes readies old new crew ran =
+      slots_counts list counts old new
+      (none_fell list counts (states_of list counts old) (states_of list counts new) (ran.slots.0 ∙ sym ran.slots.1)
+      (λ source l. (ran.fetched source (subst (λ n. source < n) ran.slots.0 l)).later))

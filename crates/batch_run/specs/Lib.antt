@@ -1,0 +1,7 @@
+-- What a batch promises, and what carries it.
+pub mod Shares
+pub mod Using
+pub mod Batches
+pub mod Working
+pub mod Slots
+pub mod Crews

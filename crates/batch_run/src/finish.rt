@@ -1,0 +1,116 @@
+//! What a crew gives once it has run.
+
+ghost use Rattle.std.specs.Prelude.{◌≡◌, ◌≤◌, ◌<◌, [], ◌∷◌, ◌++◌, ℕ, List, All, length, map, vec_len, vec_capacity};
+ghost use Rattle.source_pool.specs.Passes.{IsPassOf};
+ghost use Rattle.source_pool.specs.Closed.{state_at};
+ghost use Rattle.query_core.specs.declared.ready.Ready.{Ready};
+ghost use Rattle.query_world.specs.declared.ended.Ended.{Ended as EndedOf};
+ghost use Rattle.world_run.specs.declared.settings.Settings.{Settings};
+ghost use Rattle.batch_run.specs.Slots.{SlotState, states_of, slot_at};
+ghost use Rattle.batch_run.specs.Batches.{IsBatch, use_at};
+ghost use Rattle.batch_run.specs.Crews.{slots_run, CanFinish, AreShares, Rejoins, UsedOf};
+
+use super::batch::{Batch, Use};
+use super::hire::Crew;
+use super::work::Worker;
+use fetcher::{Fetched, Slot};
+use query_run::Ended;
+use source_api::Source;
+use source_pool::{Feeders, Pool, PoolPass, States};
+
+/// Takes how the next query of a worker ended.
+fn next_of(worker: &mut Worker) -> Ended
+    requires { 0 < vec_len worker.old.ended }
+    ensures ended { worker.old.ended.items ≡ worker.new.ended.items ++ result ∷ [] }
+    ensures pass { worker.new.pass ≡ worker.old.pass }
+{
+    worker.ended.pop().unwrap()
+}
+
+/// Takes how the queries ended from the workers, in the order of the queries.
+fn gather(workers: &mut Vec<Worker>, count: usize, endings: &mut Vec<Ended>)
+    requires shares { (whole : List EndedOf) × (length whole ≡ count) × AreShares whole workers.old.items }
+    requires some { 0 < vec_len workers.old }
+    requires none { endings.old.items ≡ [] }
+    requires room { count ≤ vec_capacity endings.old }
+    ensures gathered { (whole : List EndedOf) → length whole ≡ count → AreShares whole workers.old.items → endings.new.items ≡ whole }
+    ensures passes { map (λ worker. worker.pass) workers.new.items ≡ map (λ worker. worker.pass) workers.old.items }
+    ensures filled { vec_len endings.new ≡ count }
+{
+    let all = workers.len();
+    for place in 0..count {
+        let ended = next_of(&mut workers[place % all]);
+        endings.push_reserved(ended);
+    }
+}
+
+/// Joins the passes of the workers to the first one.
+fn rejoin(pool: &Pool, pass: &mut PoolPass, workers: &mut Vec<Worker>)
+    requires own { IsPassOf pool.now pass.old }
+    requires others { All (λ worker. IsPassOf pool.now worker.pass) workers.old.items }
+    ensures { Rejoins pool.now (map (λ worker. worker.pass) workers.old.items) pass.old pass.new }
+{
+    while let Some(worker) = workers.pop() {
+        let Worker {
+            pass: other,
+            ended,
+            ..
+        } = worker;
+        drop(ended);
+        pool.join(pass, other);
+    }
+}
+
+/// What was used of a source, by its closing state and by what its fetcher fetched.
+fn used(states: &States, source: u32, fetched: Fetched) -> Use
+    requires { source < length states.now }
+    ensures { UsedOf (state_at states.now source) fetched result }
+{
+    let state = states.get(source).unwrap();
+    Use {
+        rows: fetched.rows,
+        grades: fetched.grades,
+        want: state.want(),
+        asks: state.asks(),
+    }
+}
+
+/// What was used of each source.
+fn use_all<S: Source>(states: &States, slots: &[Slot<S>], uses: &mut Vec<Use>)
+    requires states { length states.now ≡ length slots.now }
+    requires none { uses.old.items ≡ [] }
+    requires room { length slots.now ≤ vec_capacity uses.old }
+    ensures size { length uses.new.items ≡ length slots.now }
+    ensures each { (source : ℕ) → source < length slots.now
+        → UsedOf (state_at states.now source) (slot_at (states_of S.list S.counts slots.now) source).fetched (use_at uses.new.items source) }
+{
+    for source in 0..states.len() {
+        uses.push_reserved(used(states, source, slots[source as usize].fetched));
+    }
+}
+
+impl Crew {
+    /// What the batch gives, once it has run and no worker wanted memory.
+    pub(crate) fn finish<S: Source>(self, slots: &[Slot<S>], queries: usize) -> Batch
+        requires { (settings : Settings) × (counts : List ℕ) × (readies : List Ready) × (before : List SlotState)
+            × CanFinish settings counts readies before (states_of S.list S.counts slots.now) queries self }
+        ensures { (settings : Settings) (counts : List ℕ) (readies : List Ready) (before : List SlotState)
+            → CanFinish settings counts readies before (states_of S.list S.counts slots.now) queries self
+            → IsBatch (slots_run settings counts readies before (states_of S.list S.counts slots.now)) result }
+    {
+        let Crew {
+            pool,
+            mut pass,
+            feeders,
+            mut workers,
+            mut endings,
+            mut uses,
+        } = self;
+        gather(&mut workers, queries, &mut endings);
+        rejoin(&pool, &mut pass, &mut workers);
+        let states = pool.close(pass, Feeders::from_vec(feeders));
+        use_all(&states, slots, &mut uses);
+        drop(states);
+        Batch::make(endings, uses)
+    }
+}

@@ -1,0 +1,102 @@
+//! Workers, and what a run needs before it begins.
+
+ghost use Rattle.std.specs.Prelude.{◌≡◌, ◌≤◌, ◌<◌, ◌+◌, ◌^◌, [], ℕ, List, All, length, IfOk, OnOk, vec_len, vec_capacity};
+ghost use Rattle.source_pool.specs.Passes.{IsPassOf};
+ghost use Rattle.batch_run.specs.Crews.{IsHiring, IsNewCrew};
+
+use super::batch::Use;
+use super::work::Worker;
+use limits::MAX_OBJECTS;
+use query_run::{Ended, Memory};
+use source_pool::{Feeder, Pool, PoolPass};
+use std::alloc::Global;
+
+/// The pool of a batch with its first pass and its feeders, the workers, and room for what the batch gives.
+#[derive(Drop)]
+pub(crate) struct Crew {
+    pub(crate) pool: Pool,
+    pub(crate) pass: PoolPass,
+    pub(crate) feeders: Vec<Feeder>,
+    pub(crate) workers: Vec<Worker>,
+    pub(crate) endings: Vec<Ended>,
+    pub(crate) uses: Vec<Use>,
+}
+
+/// One more worker, for whom there is room. The first pass gives it a pass of its own.
+fn hire_next(
+    alloc: Global,
+    pool: &Pool,
+    pass: &mut PoolPass,
+    workers: &mut Vec<Worker>,
+    number: u32,
+) -> Result<(), Memory>
+    requires number { number ≡ vec_len workers.old }
+    requires few { number < 32 }
+    requires room { vec_len workers.old < vec_capacity workers.old }
+    requires own { IsPassOf pool.now pass.old }
+    requires hiring { (counts : List ℕ) × IsHiring pool.now counts pass.old workers.old.items }
+    ensures hired { OnOk result ((counts : List ℕ) → IsHiring pool.now counts pass.old workers.old.items → IsHiring pool.now counts pass.new workers.new.items) }
+    ensures size { OnOk result (vec_len workers.new ≡ number + 1) }
+    ensures room { vec_capacity workers.new ≡ vec_capacity workers.old }
+{
+    let Ok(new) = pool.split(alloc, pass) else {
+        return Err(Memory);
+    };
+    workers.push_reserved(Worker {
+        number,
+        pass: new,
+        ended: Vec::new(alloc),
+        short: false,
+    });
+    Ok(())
+}
+
+/// So many workers.
+fn hire(alloc: Global, pool: &Pool, pass: &mut PoolPass, count: u32) -> Result<Vec<Worker>, Memory>
+    requires few { count ≤ 32 }
+    requires own { (counts : List ℕ) × IsHiring pool.now counts pass.old [] }
+    ensures hired { IfOk result (λ workers. (counts : List ℕ) → IsHiring pool.now counts pass.old [] → IsHiring pool.now counts pass.new workers.items) }
+    ensures size { IfOk result (λ workers. vec_len workers ≡ count) }
+{
+    let Ok(mut workers) = Vec::with_capacity(alloc, count as usize) else {
+        return Err(Memory);
+    };
+    for number in 0..count {
+        hire_next(alloc, pool, pass, &mut workers, number)?;
+    }
+    Ok(workers)
+}
+
+impl Crew {
+    /// The pool of sources with these counts of objects, with so many workers, and room for the endings of so many queries.
+    pub(crate) fn make(
+        alloc: Global,
+        counts: &[u32],
+        queries: usize,
+        workers: u32,
+    ) -> Result<Crew, Memory>
+        requires few { length counts.now < 2 ^ 32 }
+        requires counts { All (λ count. count ≤ MAX_OBJECTS) counts.now }
+        requires workers { workers ≤ 32 }
+        ensures { IfOk result (IsNewCrew counts.now queries workers) }
+    {
+        let Ok(endings) = Vec::with_capacity(alloc, queries) else {
+            return Err(Memory);
+        };
+        let Ok(uses) = Vec::with_capacity(alloc, counts.len()) else {
+            return Err(Memory);
+        };
+        let Ok((pool, mut pass, feeders)) = Pool::open(alloc, counts) else {
+            return Err(Memory);
+        };
+        let workers = hire(alloc, &pool, &mut pass, workers)?;
+        Ok(Crew {
+            pool,
+            pass,
+            feeders: feeders.into_vec(),
+            workers,
+            endings,
+            uses,
+        })
+    }
+}

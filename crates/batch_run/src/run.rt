@@ -1,0 +1,56 @@
+//! The run of a batch.
+
+ghost use Rattle.std.specs.Prelude.{◌≡◌, ◌≤◌, ◌<◌, ◌^◌, None, All, map, length, IfOk};
+ghost use Rattle.std.specs.List.{AllZip};
+ghost use Rattle.source_api.specs.Counting.{NoneFell};
+ghost use Rattle.query_world.specs.Made.{IsReadyFor};
+ghost use Rattle.query_world.specs.Endings.{IsRight};
+ghost use Rattle.world_run.specs.Runs.{AreSettings};
+ghost use Rattle.batch_run.specs.Batches.{run_of, IsBatch};
+
+use super::batch::Batch;
+use super::hire::Crew;
+use fetcher::Slot;
+use limits::MAX_OBJECTS;
+use query_core::Ready;
+use query_run::Memory;
+use source_api::Source;
+use std::alloc::Global;
+use std::sync::Wait;
+use std::thread::Threads;
+use world_run::Settings;
+
+/// Runs all queries over the sources, those of the same numbers, which have so many objects each: as many workers as the settings say, at
+/// the same time, and beside them one fetcher a source. A worker runs, one after another and in their order, the queries whose place
+/// from 0 leaves its own number as the remainder. It may wait for ever, and does where the system makes no thread.
+///
+/// A batch comes only once all queries have ended. Where memory was wanted there is none.
+pub fn run_all<W: Threads + Wait + Sync, S: Source>(
+    rt: &W,
+    alloc: Global,
+    sources: &mut [Slot<S>],
+    counts: &[u32],
+    queries: &[Ready],
+    settings: Settings,
+) -> Result<Batch, Memory>
+    requires settings { AreSettings settings }
+    requires sources { length counts.now ≡ length sources.old }
+    requires few_sources { length counts.now < 2 ^ 32 }
+    requires counts { All (λ count. count ≤ MAX_OBJECTS) counts.now }
+    requires few_queries { length queries.now < 2 ^ 32 }
+    requires ready { All (IsReadyFor counts.now) queries.now }
+    requires empty { All (λ slot. slot.feeder ≡ None) sources.old }
+    ensures empty { All (λ slot. slot.feeder ≡ None) sources.new }
+    ensures lists { map (λ slot. S.list slot.source) sources.new ≡ map (λ slot. S.list slot.source) sources.old }
+    ensures later { AllZip NoneFell (map (λ slot. S.counts slot.source) sources.old) (map (λ slot. S.counts slot.source) sources.new) }
+    ensures batch { IfOk result (IsBatch (run_of S.list S.counts settings counts.now queries.now sources.old sources.new)) }
+    ensures right { IfOk result (λ batch. AllZip IsRight queries.now batch.endings) }
+{
+    let mut crew = Crew::make(alloc, counts, queries.len(), settings.workers)?;
+    crew.run(rt, alloc, sources, queries, settings);
+    if crew.is_short() {
+        drop(crew);
+        return Err(Memory);
+    }
+    Ok(crew.finish(sources, queries.len()))
+}
