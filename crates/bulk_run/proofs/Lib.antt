@@ -1,0 +1,7 @@
+-- Lemmas on made sources, ready queries, and how they end.
+mod HeldLaws
+mod Readying
+mod Unrefused
+mod OneAnswers
+mod Summing
+mod Bounds

@@ -1,0 +1,5 @@
+-- What many made queries over a made table come to.
+pub mod Held
+pub mod Sums
+pub mod Endings
+pub mod Text

@@ -1,0 +1,102 @@
+//! A made list as a source.
+
+ghost use Rattle.std.specs.Prelude.{◌≡◌, ◌≤◌, All, length, IfOk};
+ghost use Rattle.std.specs.List.{slice_index_or};
+ghost use Rattle.bulk_run.specs.Held.{fresh, grade_at, AreSmall};
+
+use super::Memory;
+use ranked_list::{MemList, Row};
+use source_api::{Source, Trouble, part_of};
+use std::alloc::Global;
+use std::marker::Model;
+
+/// The rows of a list in memory, whose objects are small numbers. A page is copied from the rows, and a grade is found by its object's
+/// number. No call of it ever fails or is garbled. Contracts see it as `Held`.
+#[derive(Drop)]
+pub struct MadeSource {
+    rows: Vec<Row>,
+    grades: Vec<Option<u32>>,
+    rows_given: u64,
+    grades_given: u64,
+}
+
+impl Model for MadeSource {
+    ghost use Rattle.bulk_run.specs.Held.{Held, AreGradesOf};
+
+    ghost Value = { Held };
+
+    ghost view = { λ m. record { rows = m.rows.items; rows_given = m.rows_given; grades_given = m.grades_given } };
+
+    ghost invariant = { λ m. AreGradesOf m.rows.items m.grades.items };
+}
+
+/// The grade at the number of an object.
+fn grade_at(grades: &[Option<u32>], object: u32) -> Option<u32>
+    ensures { result ≡ grade_at grades.now object }
+{
+    match grades.get(object as usize) {
+        Some(grade) => *grade,
+        None => None,
+    }
+}
+
+impl MadeSource {
+    /// A source of this list, of which nothing was asked yet. Takes memory for the rows and for a grade of each object.
+    pub fn make(alloc: Global, list: &MemList) -> Result<MadeSource, Memory>
+        requires { AreSmall list.now }
+        ensures { IfOk result (λ source. source ≡ fresh list.now) }
+    {
+        let size = list.len() as usize;
+        let mut rows = Vec::with_capacity(alloc, size)?;
+        let mut grades = Vec::new(alloc);
+        grades.resize(size + 1, None)?;
+        for row in list.iter() {
+            grades[row.object as usize] = Some(row.grade);
+            rows.push(*row)?;
+        }
+        Ok(MadeSource {
+            rows,
+            grades,
+            rows_given: 0,
+            grades_given: 0,
+        })
+    }
+}
+
+impl Source for MadeSource {
+    ghost use Rattle.bulk_run.specs.Held.{told_rows, told_once, counts_of};
+
+    ghost list = { told_rows };
+
+    ghost counts = { counts_of };
+
+    /// The number of rows.
+    fn size(&mut self, _: Global) -> Result<u64, Trouble> {
+        Ok(self.rows.len() as u64)
+    }
+
+    /// All of the rows that are asked for and are there.
+    fn page(&mut self, alloc: Global, from: u32, count: u32) -> Result<Vec<Row>, Trouble> {
+        let Ok(page) = Vec::from_slice(alloc, part_of(&self.rows, from, count)) else {
+            return Err(Trouble::Memory);
+        };
+        self.rows_given = self.rows_given.saturating_add(page.len() as u64);
+        Ok(page)
+    }
+
+    /// The grade at the object's number.
+    fn grade(&mut self, _: Global, object: u32) -> Result<Option<u32>, Trouble> {
+        self.grades_given = self.grades_given.saturating_add(1);
+        Ok(grade_at(&self.grades, object))
+    }
+
+    ghost distinct = { told_once };
+}
+
+/// Takes what may go to another thread.
+fn may_go<T: Send>(_: &T) {}
+
+/// That a made source may go to another thread.
+fn source_may_go(source: &MadeSource) {
+    may_go(source);
+}

@@ -1,0 +1,52 @@
+//! Made queries, ready to run.
+
+ghost use Rattle.std.specs.Prelude.{◌≡◌, ◌<◌, IfOk};
+ghost use Rattle.topk_theory.specs.Transcript.{list_numbers};
+ghost use Rattle.bulk_run.specs.Sums.{IsInput};
+ghost use Rattle.bulk_run.specs.Endings.{IsMadeReady, AreMadeReady};
+
+use super::Memory;
+use super::input::BulkInput;
+use made_queries::made_query;
+use query_core::Ready;
+use std::alloc::Global;
+
+/// The numbers of so many sources.
+fn source_numbers(alloc: Global, lists: u8) -> Result<Vec<u32>, Memory>
+    ensures { IfOk result (λ numbers. numbers.items ≡ list_numbers lists) }
+{
+    let mut numbers = Vec::new(alloc);
+    for list in 0..u32::from(lists) {
+        numbers.push(list)?;
+    }
+    Ok(numbers)
+}
+
+/// The query with a number, ready to run over the lists of the table.
+fn made_ready(alloc: Global, number: u32, input: BulkInput) -> Result<Ready, Memory>
+    requires { IsInput input }
+    ensures { IfOk result (IsMadeReady input number) }
+{
+    let Ok(query) = made_query(alloc, number, input.count, input.lists) else {
+        return Err(Memory);
+    };
+    let sources = source_numbers(alloc, query.expr.lists())?;
+    Ok(Ready {
+        query,
+        count: input.count,
+        sources,
+    })
+}
+
+/// The queries in the order of their numbers, each ready to run over the lists of the table.
+pub(crate) fn made_readies(alloc: Global, input: BulkInput) -> Result<Vec<Ready>, Memory>
+    requires { IsInput input }
+    ensures { IfOk result (λ readies. AreMadeReady input readies.items) }
+{
+    let mut readies = Vec::new(alloc);
+    for number in 0..input.queries {
+        let ready = made_ready(alloc, number, input)?;
+        readies.push(ready)?;
+    }
+    Ok(readies)
+}
