@@ -1,6 +1,6 @@
 //! One driver for the machines of all algorithms, over lists that a test gives, which need be no table.
 
-ghost use Rattle.std.specs.Prelude.{◌≡◌, [], IfOk, OnOk};
+ghost use Rattle.std.specs.Prelude.{◌≡◌, ◌≤◌, ◌<◌, None, [], IfOk, OnOk};
 ghost use Rattle.access_log.specs.Log.{IsWithinLimits};
 ghost use Rattle.access_log.specs.Machine.{MachineState, MayBeNextRow, MayBeNextGrade, IsOneMore, IsOfSeen, row_access, grade_access};
 ghost use Rattle.core_tests.specs.Wide.{IsWide};
@@ -40,7 +40,8 @@ pub(crate) trait Driven: Sized {
         ensures { OnOk result
             (IsOneMore (grade_access (state self.old).need grade) (state self.old).log (state self.new).log) };
 
-    fn finish(self) -> Result<Answer, Fail>
+    /// The answer, or None where no memory is left.
+    fn finish(self) -> Option<Answer>
         requires { (state self).need ≡ Need.Done };
 }
 
@@ -64,8 +65,8 @@ impl Driven for Ta {
         Ok(())
     }
 
-    fn finish(self) -> Result<Answer, Fail> {
-        Ok(self.answer()?)
+    fn finish(self) -> Option<Answer> {
+        self.answer().ok()
     }
 }
 
@@ -85,11 +86,11 @@ impl Driven for Nra {
     }
 
     fn take_grade(&mut self, _grade: u32) -> Result<(), Fail> {
-        Err("a row or the end")?
+        Err("a row or the end".into())
     }
 
-    fn finish(self) -> Result<Answer, Fail> {
-        Ok(self.answer()?)
+    fn finish(self) -> Option<Answer> {
+        self.answer().ok()
     }
 }
 
@@ -113,8 +114,8 @@ impl Driven for Ca {
         Ok(())
     }
 
-    fn finish(self) -> Result<Answer, Fail> {
-        Ok(self.answer()?)
+    fn finish(self) -> Option<Answer> {
+        self.answer().ok()
     }
 }
 
@@ -163,6 +164,41 @@ fn feed<M: Driven>(
     }
 }
 
+/// Feeds a machine from the lists until it needs nothing more, and says why it refused a row.
+fn feed_until_done<M: Driven>(
+    machine: &mut M,
+    wide: &mut Transcript,
+    lists: Lists<'_>,
+) -> Result<Option<CoreFault>, Fail>
+    requires { IsWide wide.old (M.state machine.old).log }
+    ensures { IfOk result (λ fault. fault ≡ None → (M.state machine.new).need ≡ Need.Done) }
+{
+    for _step in 0..1000 {
+        if machine.needed() == Need::Done {
+            return Ok(None);
+        }
+        if let Some(fault) = feed(machine, wide, lists)? {
+            return Ok(Some(fault));
+        }
+    }
+    Err("an end".into())
+}
+
+/// The same of a machine that was fed nothing.
+fn feed_all<M: Driven>(
+    alloc: Global,
+    machine: &mut M,
+    lists: Lists<'_>,
+) -> Result<Option<CoreFault>, Fail>
+    requires { (M.state machine.old).log.accesses ≡ [] }
+    ensures { IfOk result (λ fault. fault ≡ None → (M.state machine.new).need ≡ Need.Done) }
+{
+    let mut wide = Transcript::make(alloc, machine.lists(), 200_000)?;
+    let outcome = feed_until_done(machine, &mut wide, lists);
+    drop(wide);
+    outcome
+}
+
 /// Feeds a machine from the lists until it answers or refuses a row.
 fn drive<M: Driven + Drop>(
     alloc: Global,
@@ -172,16 +208,49 @@ fn drive<M: Driven + Drop>(
     requires { (M.state machine).log.accesses ≡ [] }
 {
     let mut machine = machine;
-    let mut wide = Transcript::make(alloc, machine.lists(), 200_000)?;
-    for _step in 0..1000 {
-        if machine.needed() == Need::Done {
-            return Ok(Ok(machine.finish()?));
+    match feed_all(alloc, &mut machine, lists) {
+        Ok(None) => match machine.finish() {
+            Some(answer) => Ok(Ok(answer)),
+            None => Err("memory".into()),
+        },
+        Ok(Some(fault)) => {
+            drop(machine);
+            Ok(Err(fault))
         }
-        if let Some(fault) = feed(&mut machine, &mut wide, lists)? {
-            return Ok(Err(fault));
+        Err(fail) => {
+            drop(machine);
+            Err(fail)
         }
     }
-    Err("an end")?
+}
+
+/// How many objects are asked for, how many there are and may be kept, and what an access costs.
+#[derive(Clone, Copy)]
+struct Terms {
+    k: u32,
+    count: u32,
+    room: u32,
+    costs: Costs,
+}
+
+/// The terms of a query over so many objects.
+fn terms_of(rt: &impl Abort, query: &Query, count: usize) -> Terms
+    ensures k { (1 ≤ result.k) × (result.k ≤ result.count) }
+    ensures count { result.count < 10 }
+    ensures room { (1 ≤ result.room) × (1 ≤ result.costs.sorted) }
+{
+    assert!(rt; count < 10, "a few objects");
+    let count = count as u32;
+    let terms = Terms {
+        k: query.k,
+        count,
+        room: query.room.unwrap_or(count),
+        costs: query.costs_in_force(),
+    };
+    assert!(rt; 1 <= terms.k && terms.k <= count, "k of them");
+    assert!(rt; 1 <= terms.room, "room for one");
+    assert!(rt; 1 <= terms.costs.sorted, "a cost");
+    terms
 }
 
 /// The outcome of a query's text over lists, the first of which has as many objects as are counted.
@@ -191,25 +260,21 @@ pub(crate) fn run(
     text: &str,
     lists: Lists<'_>,
 ) -> Result<Result<Answer, CoreFault>, Fail> {
+    let query = read(alloc, text.as_bytes())?;
     let count = lists.first().map_or(0, |rows| rows.len());
-    assert!(rt; count < 10, "a few objects");
-    let count = count as u32;
-    let Query {
+    let Terms {
         k,
-        names: _,
+        count,
+        room,
+        costs,
+    } = terms_of(rt, &query, count);
+    let Query {
+        names,
         expr,
         algorithm,
-        cost,
-        room,
-    } = read(alloc, text.as_bytes())?;
-    let room = room.unwrap_or(count);
-    let costs = cost.unwrap_or(Costs {
-        sorted: 1,
-        random: 1,
-    });
-    assert!(rt; 1 <= k && k <= count, "k of them");
-    assert!(rt; 1 <= room, "room for one");
-    assert!(rt; 1 <= costs.sorted, "a cost");
+        ..
+    } = query;
+    drop(names);
     match algorithm {
         Algorithm::Ta => drive(alloc, Ta::make(alloc, expr, k, count, room, costs)?, lists),
         Algorithm::Nra => drive(alloc, Nra::make(alloc, expr, k, count, room, costs)?, lists),
@@ -226,6 +291,6 @@ pub(crate) fn answer_to(
 ) -> Result<Answer, Fail> {
     match run(rt, alloc, text, lists)? {
         Ok(answer) => Ok(answer),
-        Err(_) => Err("an answer")?,
+        Err(_) => Err("an answer".into()),
     }
 }

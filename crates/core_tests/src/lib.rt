@@ -1,6 +1,8 @@
-//! Tests of transcripts and of the machines, row by row.
+//! Tests of the machines, row by row.
 #![tactic(auto)]
 
+#[cfg(test)]
+mod checks;
 #[cfg(test)]
 mod combined;
 #[cfg(test)]
@@ -10,8 +12,4 @@ mod no_random;
 #[cfg(test)]
 mod refusals;
 #[cfg(test)]
-mod rooms;
-#[cfg(test)]
 mod threshold;
-#[cfg(test)]
-mod transcripts;

@@ -2,14 +2,20 @@
 #![tactic(auto)]
 
 mod accesses;
+mod example;
 mod lists;
 mod numbers;
+mod streams;
 mod words;
 
 pub use accesses::{item, random, sorted};
+pub use example::{FIRST_ACCESSES, FIRST_ITEM, FIRST_QUERY, FIRST_TEXT};
 pub use lists::{Lists, list_of, page_of, table_of};
 pub use numbers::{Numbers, shuffled};
+pub use ranked_list::Item;
 use std::alloc::{AllocError, AllocFailed};
+pub use streams::Counting;
+pub use topk_theory::Access;
 pub use words::words_of;
 
 /// Why a value wasn't made. Nothing is left out of a value that was made.

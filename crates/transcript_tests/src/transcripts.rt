@@ -9,7 +9,7 @@ use query_text::read;
 use std::alloc::Global;
 use std::process::Abort;
 use std::test::Fail;
-use test_support::{random, sorted};
+use test_support::{random, random_row, sorted, sorted_row};
 
 /// Two accesses of two lists of `count` objects are taken, and the third is refused as this kind,
 /// or taken where it is 0.
@@ -47,68 +47,230 @@ fn ends_so(
     Ok(())
 }
 
-/// Each kind on each sort of access, and two kinds at once, of which the first is given.
+/// How many objects there are, three accesses, and the kind of the third's refusal, or 0 where it is taken. Each kind stands with
+/// each sort of access, and with a later kind, before which it is given.
+const KINDS: [(u32, [Access; 3], u8); 23] = [
+    // taken: the grade stays, another list, a known grade again
+    (
+        2,
+        [
+            sorted_row!(0, 5, 9),
+            sorted_row!(0, 6, 8),
+            random_row!(0, 6, 8),
+        ],
+        0,
+    ),
+    (
+        2,
+        [
+            sorted_row!(0, 5, 9),
+            random_row!(0, 6, 9),
+            sorted_row!(0, 6, 9),
+        ],
+        0,
+    ),
+    (
+        3,
+        [
+            sorted_row!(0, 5, 9),
+            random_row!(0, 6, 8),
+            sorted_row!(0, 7, 8),
+        ],
+        0,
+    ),
+    (
+        2,
+        [
+            random_row!(0, 5, 9),
+            random_row!(1, 6, 1_000_000),
+            random_row!(0, 6, 1_000_000),
+        ],
+        0,
+    ),
+    // no such list
+    (
+        2,
+        [
+            sorted_row!(0, 5, 9),
+            sorted_row!(1, 5, 9),
+            sorted_row!(2, 5, 9),
+        ],
+        1,
+    ),
+    (
+        2,
+        [
+            sorted_row!(0, 5, 9),
+            sorted_row!(1, 5, 9),
+            random_row!(2, 5, 9),
+        ],
+        1,
+    ),
+    (
+        2,
+        [
+            sorted_row!(0, 5, 9),
+            sorted_row!(1, 5, 9),
+            sorted_row!(2, 5, 1_000_001),
+        ],
+        1,
+    ),
+    // above the greatest grade
+    (
+        2,
+        [
+            sorted_row!(0, 5, 9),
+            sorted_row!(1, 5, 9),
+            sorted_row!(0, 6, 1_000_001),
+        ],
+        2,
+    ),
+    (
+        2,
+        [
+            sorted_row!(0, 5, 9),
+            sorted_row!(1, 5, 9),
+            random_row!(1, 6, 1_000_001),
+        ],
+        2,
+    ),
+    (
+        2,
+        [
+            sorted_row!(0, 5, 9),
+            sorted_row!(0, 6, 8),
+            random_row!(1, 7, 1_000_001),
+        ],
+        2,
+    ),
+    // one object too many
+    (
+        2,
+        [
+            sorted_row!(0, 5, 9),
+            sorted_row!(0, 6, 8),
+            sorted_row!(0, 7, 7),
+        ],
+        3,
+    ),
+    (
+        2,
+        [
+            sorted_row!(0, 5, 9),
+            random_row!(1, 6, 8),
+            random_row!(1, 7, 7),
+        ],
+        3,
+    ),
+    (
+        2,
+        [
+            sorted_row!(0, 5, 9),
+            sorted_row!(0, 6, 8),
+            sorted_row!(0, 7, 9),
+        ],
+        3,
+    ),
+    // the grade rises
+    (
+        2,
+        [
+            sorted_row!(0, 5, 9),
+            sorted_row!(1, 5, 10),
+            sorted_row!(0, 6, 10),
+        ],
+        4,
+    ),
+    (
+        2,
+        [
+            sorted_row!(0, 5, 9),
+            sorted_row!(0, 6, 8),
+            sorted_row!(0, 5, 9),
+        ],
+        4,
+    ),
+    // the object comes again
+    (
+        2,
+        [
+            sorted_row!(0, 5, 9),
+            sorted_row!(0, 6, 8),
+            sorted_row!(0, 5, 8),
+        ],
+        5,
+    ),
+    // another grade
+    (
+        2,
+        [
+            sorted_row!(0, 5, 9),
+            random_row!(0, 6, 8),
+            sorted_row!(0, 6, 7),
+        ],
+        6,
+    ),
+    (
+        2,
+        [
+            sorted_row!(0, 5, 9),
+            sorted_row!(0, 6, 8),
+            random_row!(0, 6, 9),
+        ],
+        6,
+    ),
+    (
+        2,
+        [
+            sorted_row!(0, 5, 9),
+            random_row!(0, 6, 8),
+            random_row!(0, 6, 7),
+        ],
+        6,
+    ),
+    (
+        2,
+        [
+            random_row!(0, 6, 8),
+            random_row!(0, 7, 9),
+            sorted_row!(0, 6, 7),
+        ],
+        6,
+    ),
+    (
+        2,
+        [
+            sorted_row!(0, 5, 9),
+            random_row!(0, 6, 8),
+            random_row!(0, 6, 10),
+        ],
+        6,
+    ),
+    // an object with a greater grade is passed over
+    (
+        3,
+        [
+            sorted_row!(0, 5, 9),
+            random_row!(0, 6, 8),
+            sorted_row!(0, 7, 7),
+        ],
+        7,
+    ),
+    // above the bottom
+    (
+        2,
+        [
+            sorted_row!(1, 5, 9),
+            sorted_row!(0, 5, 9),
+            random_row!(0, 6, 10),
+        ],
+        8,
+    ),
+];
+
 #[test]
 fn gives_the_first_kind(rt: HostRuntime) -> Result<(), Fail> {
-    let cases = [
-        // taken: the grade stays, another list, a known grade again
-        (2, [sorted(0, 5, 9), sorted(0, 6, 8), random(0, 6, 8)], 0),
-        (2, [sorted(0, 5, 9), random(0, 6, 9), sorted(0, 6, 9)], 0),
-        (3, [sorted(0, 5, 9), random(0, 6, 8), sorted(0, 7, 8)], 0),
-        (
-            2,
-            [
-                random(0, 5, 9),
-                random(1, 6, 1_000_000),
-                random(0, 6, 1_000_000),
-            ],
-            0,
-        ),
-        // no such list
-        (2, [sorted(0, 5, 9), sorted(1, 5, 9), sorted(2, 5, 9)], 1),
-        (2, [sorted(0, 5, 9), sorted(1, 5, 9), random(2, 5, 9)], 1),
-        (
-            2,
-            [sorted(0, 5, 9), sorted(1, 5, 9), sorted(2, 5, 1_000_001)],
-            1,
-        ),
-        // above the greatest grade
-        (
-            2,
-            [sorted(0, 5, 9), sorted(1, 5, 9), sorted(0, 6, 1_000_001)],
-            2,
-        ),
-        (
-            2,
-            [sorted(0, 5, 9), sorted(1, 5, 9), random(1, 6, 1_000_001)],
-            2,
-        ),
-        (
-            2,
-            [sorted(0, 5, 9), sorted(0, 6, 8), random(1, 7, 1_000_001)],
-            2,
-        ),
-        // one object too many
-        (2, [sorted(0, 5, 9), sorted(0, 6, 8), sorted(0, 7, 7)], 3),
-        (2, [sorted(0, 5, 9), random(1, 6, 8), random(1, 7, 7)], 3),
-        (2, [sorted(0, 5, 9), sorted(0, 6, 8), sorted(0, 7, 9)], 3),
-        // the grade rises
-        (2, [sorted(0, 5, 9), sorted(1, 5, 10), sorted(0, 6, 10)], 4),
-        (2, [sorted(0, 5, 9), sorted(0, 6, 8), sorted(0, 5, 9)], 4),
-        // the object comes again
-        (2, [sorted(0, 5, 9), sorted(0, 6, 8), sorted(0, 5, 8)], 5),
-        // another grade
-        (2, [sorted(0, 5, 9), random(0, 6, 8), sorted(0, 6, 7)], 6),
-        (2, [sorted(0, 5, 9), sorted(0, 6, 8), random(0, 6, 9)], 6),
-        (2, [sorted(0, 5, 9), random(0, 6, 8), random(0, 6, 7)], 6),
-        (2, [random(0, 6, 8), random(0, 7, 9), sorted(0, 6, 7)], 6),
-        (2, [sorted(0, 5, 9), random(0, 6, 8), random(0, 6, 10)], 6),
-        // an object with a greater grade is passed over
-        (3, [sorted(0, 5, 9), random(0, 6, 8), sorted(0, 7, 7)], 7),
-        // above the bottom
-        (2, [sorted(1, 5, 9), sorted(0, 5, 9), random(0, 6, 10)], 8),
-    ];
-    for (count, accesses, kind) in &cases {
+    for (count, accesses, kind) in &KINDS {
         ends(&rt, rt.alloc(), *count, accesses, *kind)?;
     }
     Ok(())

@@ -1,41 +1,44 @@
 //! Room that is taken beforehand, and the records that a transcript keeps.
 
-use access_log::{Access, Transcript};
-use room_map::RoomMap;
-use std::test::Fail;
+ghost use Rattle.std.specs.Prelude.{◌≡◌, []};
 
-/// A transcript of two lists, for which room was reserved.
-#[test]
-fn keeps_objects_in_the_order_of_first_sight(rt: HostRuntime) -> Result<(), Fail> {
-    let accesses = [
-        Access::Random {
-            list: 1,
-            object: 7,
-            grade: 4,
-        },
-        Access::Sorted {
-            list: 0,
-            object: 5,
-            grade: 9,
-        },
-        Access::Sorted {
-            list: 1,
-            object: 7,
-            grade: 4,
-        },
-    ];
-    let mut log = Transcript::make(rt.alloc(), 2, 3)?;
+use access_log::Transcript;
+use room_map::RoomMap;
+use std::process::Abort;
+use std::test::Fail;
+use test_support::{random, sorted};
+
+/// Takes three accesses, for which room is reserved.
+fn push_three(log: &mut Transcript) -> Result<(), Fail>
+    requires { log.old.accesses ≡ [] }
+{
     log.reserve(2, 3)?;
-    for access in accesses {
-        log.push(access)?;
-    }
+    log.push(random(1, 7, 4))?;
+    log.push(sorted(0, 5, 9))?;
+    log.push(sorted(1, 7, 4))?;
+    Ok(())
+}
+
+/// Compares what is kept of them.
+fn keeps_three(rt: &impl Abort, log: &Transcript) {
     assert_eq!(rt; log.seen(), 2);
     assert_eq!(rt; (log.object_at(0), log.object_at(1)), (5, 7));
     assert_eq!(rt; (log.place_of(7), log.place_of(6)), (Some(1), None));
     assert_eq!(rt; log.known(7), [None, Some(4)].as_slice());
     assert_eq!(rt; log.known(6), [None, None].as_slice());
     assert_eq!(rt; log.bottoms(), [9, 4].as_slice());
-    Ok(())
+}
+
+/// A transcript of two lists, for which room was reserved.
+#[test]
+fn keeps_objects_in_the_order_of_first_sight(rt: HostRuntime) -> Result<(), Fail> {
+    let mut log = Transcript::make(rt.alloc(), 2, 3)?;
+    let pushed = push_three(&mut log);
+    if pushed.is_ok() {
+        keeps_three(&rt, &log);
+    }
+    drop(log);
+    pushed
 }
 
 /// Keys keep their places where the map is widened.

@@ -1,0 +1,221 @@
+//! Refusals, each as its line.
+
+ghost use Rattle.std.specs.Prelude.{◌≡◌, Some, IsTrue};
+ghost use Rattle.cert_text.specs.declared.outcome.Outcome.TheVariants.{Refused};
+ghost use Rattle.cert_text.specs.Outcome.{IsOutcome};
+
+use cert_text::{Outcome, Refusal, write_outcome};
+use query_text::{Query, read};
+use std::alloc::Global;
+use std::process::Abort;
+use std::test::Fail;
+use tk_io::MemSink;
+
+/// A query of two lists.
+const QUERY: &[u8] = b"top 1 by sum(A,B) using ta";
+
+/// What comes before a query runs, and what its machine refuses.
+const ROWS: [(Refusal, &str); 16] = [
+    (
+        Refusal::ManyQueries { limit: 64 },
+        "refused 9 ManyQueries 64\n",
+    ),
+    (Refusal::NotOpened { list: 0 }, "refused 9 NotOpened A\n"),
+    (
+        Refusal::TooLarge {
+            list: 1,
+            count: 200_001,
+        },
+        "refused 9 TooLarge B 200001\n",
+    ),
+    (
+        Refusal::CountsDiffer {
+            list: 0,
+            n: 3,
+            other: 1,
+            m: 2,
+        },
+        "refused 9 CountsDiffer A 3 B 2\n",
+    ),
+    (Refusal::NoRandom { list: 1 }, "refused 9 NoRandom B\n"),
+    (
+        Refusal::LongLine { limit: 4096 },
+        "refused 9 LongLine 4096\n",
+    ),
+    (Refusal::Syntax { at: 5 }, "refused 9 Syntax 5\n"),
+    (Refusal::Number { at: 4 }, "refused 9 Number 4\n"),
+    (
+        Refusal::TooManyLists { at: 30 },
+        "refused 9 TooManyLists 30\n",
+    ),
+    (
+        Refusal::TooManyNodes { nodes: 65 },
+        "refused 9 TooManyNodes 65\n",
+    ),
+    (Refusal::TooDeep { depth: 9 }, "refused 9 TooDeep 9\n"),
+    (Refusal::TooBig { node: 2 }, "refused 9 TooBig 2\n"),
+    (
+        Refusal::UnknownList { list: 1 },
+        "refused 9 UnknownList B\n",
+    ),
+    (
+        Refusal::KAboveCount { k: 4, n: 3 },
+        "refused 9 KAboveCount 4 3\n",
+    ),
+    (
+        Refusal::Strangers {
+            object: 7,
+            count: 3,
+        },
+        "refused 9 Strangers 7 3\n",
+    ),
+    (Refusal::RoomFull { room: 2 }, "refused 9 RoomFull 2\n"),
+];
+
+/// What a source gives.
+const OF_SOURCES: [(Refusal, &str); 10] = [
+    (
+        Refusal::OutOfOrder {
+            list: 0,
+            place: 2,
+            before: 500,
+            after: 600,
+        },
+        "refused 9 OutOfOrder A 2 500 600\n",
+    ),
+    (
+        Refusal::TooHigh {
+            list: 1,
+            place: 1,
+            grade: 1_000_001,
+        },
+        "refused 9 TooHigh B 1 1000001\n",
+    ),
+    (
+        Refusal::Repeated {
+            list: 0,
+            object: 7,
+            place: 3,
+        },
+        "refused 9 Repeated A 7 3\n",
+    ),
+    (
+        Refusal::Clash {
+            list: 0,
+            object: 2,
+            sorted: 800,
+            random: 850,
+        },
+        "refused 9 Clash A 2 800 850\n",
+    ),
+    (
+        Refusal::Above {
+            list: 0,
+            object: 2,
+            grade: 950,
+            bottom: 900,
+        },
+        "refused 9 Above A 2 950 900\n",
+    ),
+    (
+        Refusal::Missing { list: 0, object: 3 },
+        "refused 9 Missing A 3\n",
+    ),
+    (
+        Refusal::ShortList {
+            list: 0,
+            stated: 5,
+            got: 3,
+        },
+        "refused 9 ShortList A 5 3\n",
+    ),
+    (
+        Refusal::AsksFull { list: 1, kept: 2 },
+        "refused 9 AsksFull B 2\n",
+    ),
+    (Refusal::Failed { list: 0 }, "refused 9 Failed A\n"),
+    (Refusal::Garbled { list: 1 }, "refused 9 Garbled B\n"),
+];
+
+/// Whether the list that a refusal names, if it names one, is a list of the query.
+fn is_of_query(query: &Query, refusal: Refusal) -> bool
+    ensures { IsTrue result → IsOutcome (Some query.now) (Refused refusal) }
+{
+    match refusal {
+        Refusal::CountsDiffer { list, other, .. } => {
+            u32::from(list) < query.names.len() && u32::from(other) < query.names.len()
+        }
+        Refusal::UnknownList { list }
+        | Refusal::NotOpened { list }
+        | Refusal::TooLarge { list, .. }
+        | Refusal::NoRandom { list }
+        | Refusal::OutOfOrder { list, .. }
+        | Refusal::TooHigh { list, .. }
+        | Refusal::Repeated { list, .. }
+        | Refusal::Clash { list, .. }
+        | Refusal::Above { list, .. }
+        | Refusal::Missing { list, .. }
+        | Refusal::ShortList { list, .. }
+        | Refusal::AsksFull { list, .. }
+        | Refusal::Failed { list }
+        | Refusal::Garbled { list } => u32::from(list) < query.names.len(),
+        _ => true,
+    }
+}
+
+/// A refusal of a query is written as this line.
+fn is_line(
+    rt: &impl Abort,
+    alloc: Global,
+    query: &Query,
+    refusal: Refusal,
+    line: &str,
+) -> Result<(), Fail> {
+    assert!(rt; is_of_query(query, refusal));
+    let mut out = MemSink::make(alloc, 40, &[])?;
+    let wrote = write_outcome(&mut out, 9, Some(query), 3, &Outcome::Refused(refusal));
+    assert_eq!(rt; out.taken(), line.as_bytes());
+    drop(out);
+    Ok(wrote?)
+}
+
+/// Each of these refusals of a query is written as its line.
+fn are_lines_of(
+    rt: &impl Abort,
+    alloc: Global,
+    query: &Query,
+    rows: &[(Refusal, &str)],
+) -> Result<(), Fail> {
+    for (refusal, line) in rows {
+        is_line(rt, alloc, query, *refusal, line)?;
+    }
+    Ok(())
+}
+
+/// Each of these refusals is written as its line.
+fn are_lines(rt: &impl Abort, alloc: Global, rows: &[(Refusal, &str)]) -> Result<(), Fail> {
+    let query = read(alloc, QUERY)?;
+    let outcome = are_lines_of(rt, alloc, &query, rows);
+    drop(query);
+    outcome
+}
+
+#[test]
+fn writes_each_refusal(rt: HostRuntime) -> Result<(), Fail> {
+    are_lines(&rt, rt.alloc(), &ROWS)
+}
+
+#[test]
+fn writes_each_refusal_of_a_source(rt: HostRuntime) -> Result<(), Fail> {
+    are_lines(&rt, rt.alloc(), &OF_SOURCES)
+}
+
+#[test]
+fn writes_a_refusal_without_a_query(rt: HostRuntime) -> Result<(), Fail> {
+    let refusal = Refusal::Syntax { at: 0 };
+    let mut out = MemSink::make(rt.alloc(), 40, &[])?;
+    let wrote = write_outcome(&mut out, 1, None, 0, &Outcome::Refused(refusal));
+    assert_eq!(rt; out.taken(), b"refused 1 Syntax 0\n".as_slice());
+    drop(out);
+    Ok(wrote?)
+}
