@@ -2,6 +2,7 @@
 //! stands beside it.
 #![tactic(auto)]
 
+use source_api::MemShelf;
 use std::io::ErrorKind;
 use std::rt::Files;
 use std::{fs, io};
@@ -31,6 +32,7 @@ fn run_example<R: Files + AllocGlobal>(rt: &R, name: &str) -> io::Result<(Status
         return Err(io::Error::from(ErrorKind::OutOfMemory));
     };
     let mut input = StdIntake::make(file);
-    let status = top(rt.alloc(), &words, &mut input, &mut out);
+    let mut shelf = MemShelf::make(rt.alloc());
+    let status = top(rt.alloc(), &words, &mut shelf, &mut input, &mut out);
     Ok((status, out.taken() == text.as_slice()))
 }

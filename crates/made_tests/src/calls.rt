@@ -1,5 +1,6 @@
 //! The command `make`.
 
+use source_api::MemShelf;
 use std::alloc::Global;
 use std::test::Fail;
 use test_support::words_of;
@@ -25,7 +26,8 @@ fn made(alloc: Global, fails: &[u64]) -> Result<(Status, MemSink), Fail> {
     )?;
     let mut input = MemIntake::make(alloc, &[], 50, &[1])?;
     let mut out = MemSink::make(alloc, 1000, fails)?;
-    let status = top(alloc, &words, &mut input, &mut out);
+    let mut shelf = MemShelf::make(alloc);
+    let status = top(alloc, &words, &mut shelf, &mut input, &mut out);
     Ok((status, out))
 }
 

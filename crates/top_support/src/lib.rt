@@ -1,6 +1,7 @@
-//! One drive of `top`, over streams in memory, for the tests of several crates.
+//! One drive of `top`, over streams and a shelf in memory, for the tests of several crates.
 #![tactic(auto)]
 
+use source_api::MemShelf;
 use std::alloc::Global;
 use test_support::{Unmade, words_of};
 use tk_io::{MemIntake, MemSink};
@@ -9,16 +10,29 @@ use topk_top::{Status, top};
 /// The bytes of each piece in which the input is given.
 const PIECE: u32 = 50;
 
-/// How `top` ends on these words and this input, and what it writes. There is room for so many bytes.
+/// How `top` ends on these words and this input, over a shelf on which nothing stands, and what it
+/// writes. There is room for so many bytes.
 pub fn end_of(
     alloc: Global,
     words: &[&str],
     input: &[u8],
     room: u32,
 ) -> Result<(Status, MemSink), Unmade> {
+    end_over(alloc, words, &mut MemShelf::make(alloc), input, room)
+}
+
+/// How `top` ends on these words and this input, over a shelf, and what it writes. There is room for
+/// so many bytes.
+pub fn end_over(
+    alloc: Global,
+    words: &[&str],
+    shelf: &mut MemShelf,
+    input: &[u8],
+    room: u32,
+) -> Result<(Status, MemSink), Unmade> {
     let words = words_of(alloc, words)?;
     let mut input = MemIntake::make(alloc, input, PIECE, &[])?;
     let mut out = MemSink::make(alloc, room, &[])?;
-    let status = top(alloc, &words, &mut input, &mut out);
+    let status = top(alloc, &words, shelf, &mut input, &mut out);
     Ok((status, out))
 }

@@ -1,5 +1,6 @@
 //! Rows from outside, and each fault in turn.
 
+use source_api::MemShelf;
 use std::alloc::Global;
 use std::env::{Env, FillError};
 use std::io;
@@ -229,7 +230,8 @@ fn process_end<R: Files + AllocGlobal>(rt: &R, given: &Given) -> Result<(u8, Vec
     let (reader, writer) = io::pipe(rt)?;
     let mut input = StdIntake::make(io::empty());
     let mut out = StdSink::make(writer);
-    let code = run_process(given, rt.alloc(), &mut input, &mut out);
+    let mut shelf = MemShelf::make(rt.alloc());
+    let code = run_process(given, rt.alloc(), &mut shelf, &mut input, &mut out);
     drop(out);
     let text = read_text(rt.alloc(), &mut StdIntake::make(reader), 100)?;
     Ok((code, text))
@@ -257,11 +259,12 @@ fn reads_the_words_of_a_process(rt: HostRuntime) -> Result<(), Fail> {
 fn ends_at_each_fault(rt: HostRuntime) -> Result<(), Fail> {
     let words = words_of(rt.alloc(), &["one"])?;
     let bytes = format!(in rt.alloc(); "{LISTS}query top 1 by sum(A,B) using ta")?;
+    let mut shelf = MemShelf::make(rt.alloc());
     for call in 1..4 {
         let mut input = MemIntake::make(rt.alloc(), bytes.as_bytes(), 60, &[call])?;
         let mut out = MemSink::make(rt.alloc(), 200, &[])?;
         assert_eq!(rt;
-            top(rt.alloc(), &words, &mut input, &mut out),
+            top(rt.alloc(), &words, &mut shelf, &mut input, &mut out),
             Status::ReadFault
         );
         assert!(rt; out.taken().is_empty());
@@ -270,7 +273,7 @@ fn ends_at_each_fault(rt: HostRuntime) -> Result<(), Fail> {
         let mut input = MemIntake::make(rt.alloc(), bytes.as_bytes(), 60, &[])?;
         let mut out = MemSink::make(rt.alloc(), room, &[])?;
         assert_eq!(rt;
-            top(rt.alloc(), &words, &mut input, &mut out),
+            top(rt.alloc(), &words, &mut shelf, &mut input, &mut out),
             Status::WriteFault
         );
         assert!(rt; CERTIFICATE.as_bytes().starts_with(out.taken()));
@@ -280,7 +283,7 @@ fn ends_at_each_fault(rt: HostRuntime) -> Result<(), Fail> {
         let mut input = MemIntake::make(rt.alloc(), bytes.as_bytes(), 60, &[])?;
         let sink = MemSink::make(rt.alloc(), 186, &[call])?;
         let mut out = ByteSink { sink };
-        let status = top(rt.alloc(), &words, &mut input, &mut out);
+        let status = top(rt.alloc(), &words, &mut shelf, &mut input, &mut out);
         let is_whole = call == 187;
         assert_eq!(rt; status == Status::Done, is_whole, "at call {call}");
         assert_eq!(rt; status == Status::WriteFault, !is_whole, "at call {call}");

@@ -1,13 +1,16 @@
 //! The program on an input that is no bundle: the top call over the words and the standard streams of the process.
 #![tactic(auto)]
 
+use file_source::FileShelf;
 use std::process::ExitCode;
 use tk_io::{StdIntake, StdSink};
 use topk_top::run_process;
 
 /// Ends with the status of the top call.
 fn main(rt: HostRuntime) -> ExitCode {
+    let mut shelf = FileShelf::make(rt.alloc(), &rt);
     let mut input = StdIntake::make(rt.stdin());
     let mut out = StdSink::make(rt.stdout());
-    ExitCode::from(run_process(&rt, rt.alloc(), &mut input, &mut out))
+    let code = run_process(&rt, rt.alloc(), &mut shelf, &mut input, &mut out);
+    ExitCode::from(code)
 }

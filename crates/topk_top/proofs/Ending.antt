@@ -5,6 +5,8 @@ use Rattle.tk_io.specs.declared.Failed.{Failed}
 use Rattle.tk_io.specs.Faults.{HasCause}
 use Rattle.tk_io.specs.Whole.{TookFront}
 use Rattle.line_text.specs.Lines.{lines}
+use Rattle.ranked_list.specs.declared.row.Row.{Row}
+use Rattle.source_api.specs.declared.ledger.PlaceCounts.{PlaceCounts}
 use Rattle.cert_judge.specs.declared.told.Told.{Told}
 use Rattle.cert_judge.specs.declared.told.Told.TheVariants.{BadLine, Inconsistent, WildGuess, WrongSize, UnseenAnswer, Figure, Fixes, Beaten}
 use Rattle.cert_judge.specs.Judging.{Tells}
@@ -13,24 +15,30 @@ use Rattle.cert_text.specs.declared.outcome.Outcome.{Outcome}
 use Rattle.cert_text.specs.declared.outcome.Outcome.TheVariants.{Answered, Refused}
 use Rattle.command_words.specs.Commands.{command_of}
 use Rattle.command_words.specs.declared.command.Command.{Command}
-use Rattle.command_words.specs.declared.command.Command.TheVariants.{One, Judge, Make}
+use Rattle.command_words.specs.declared.command.Command.TheVariants.{One, Judge, Make, Run, Bulk}
 use Rattle.topk_top.specs.Judge.{JudgeReplies, told_status}
 use Rattle.topk_top.specs.Reply.{Replies, outcome_status, words_refused_text}
-use Rattle.topk_top.specs.Ends.{Call, Streams, LeftAlone, ReadWhole, WroteNothing, WroteWhole, EndsAs, EndsReading, EndsRefused, Ends, Says}
+use Rattle.topk_top.specs.Calls.{Call, Outside, KeepsShelf, LeftAlone, ReadWhole, WroteNothing, WroteWhole}
+use Rattle.topk_top.specs.Shelves.{Shelf}
+use Rattle.topk_top.specs.Ends.{EndsAs, EndsReading, EndsRefused, Ends, Says}
 use Rattle.topk_top.specs.declared.status.Status.{Status}
 use Rattle.topk_top.specs.declared.status.Status.TheVariants.{Done, Partial, BadWords, WriteFault, Memory}
+use Rattle.topk_top.proofs.RunEnding.{asks_kept}
 
 -- the status of an outcome is Done or Partial
 is_outcome_status : {A : Type 0} (outcome : Outcome) (status : Status) → status ≡ outcome_status outcome → (status ≡ Done → A) → (status ≡ Partial → A) → A
 is_outcome_status (Answered answer) status e done partial = done e
 is_outcome_status (Refused refusal) status e done partial = partial e
 
--- a call, by its words and what its streams were before and after it
-abbrev pub call_at : List (List ℕ) → Streams → Streams → Call
+-- a call, by its words and what stood outside before it and after it
+abbrev pub call_at : List (List ℕ) → Outside → Outside → Call
 call_at words before after = record { words = words; before = before; after = after }
 
-abbrev pub streams_at : Option (List ℕ) → ℕ → Option (List ℕ) → ℕ → Streams
-streams_at left reads held writes = record { input = record { left = left; faults = reads }; output = record { held = held; faults = writes } }
+abbrev pub outside_at : Option (List ℕ) → ℕ → Option (List ℕ) → ℕ → Shelf → Outside
+outside_at left reads held writes shelf = record { input = record { left = left; faults = reads }; output = record { held = held; faults = writes }; shelf = shelf }
+
+abbrev pub shelf_at : (List ℕ → Option (List ℕ)) → (List ℕ → Option (List Row)) → (List ℕ → PlaceCounts) → Shelf
+shelf_at texts lists at = record { texts = texts; lists = lists; at = at }
 
 -- what is said where words are refused ends so
 pub ends_refused : (c : Call) (result : Status) → LeftAlone c
@@ -87,11 +95,13 @@ ends_judged c bytes told result read tells said =
     ]
 
 -- memory may be wanting before the words are known
-pub ends_without_memory : (command : Option Command) (c : Call) → LeftAlone c → WroteNothing c → EndsAs command c Memory
-ends_without_memory None c alone nothing = (alone, nothing)
-ends_without_memory (Some One) c alone nothing = (alone.faults, nothing)
-ends_without_memory (Some Judge) c alone nothing = (alone.faults, nothing)
-ends_without_memory (Some (Make options)) c alone nothing = (alone, nothing)
+pub ends_without_memory : (command : Option Command) (c : Call) → KeepsShelf c → LeftAlone c → WroteNothing c → EndsAs command c Memory
+ends_without_memory None c kept alone nothing = (kept, (alone, nothing))
+ends_without_memory (Some One) c kept alone nothing = (kept, (alone.faults, nothing))
+ends_without_memory (Some Judge) c kept alone nothing = (kept, (alone.faults, nothing))
+ends_without_memory (Some (Make options)) c kept alone nothing = (kept, (alone, nothing))
+ends_without_memory (Some (Bulk options)) c kept alone nothing = (kept, (alone, nothing))
+ends_without_memory (Some (Run options)) c kept alone nothing = inl (asks_kept options.catalog c.before.shelf c.after.shelf kept, alone, nothing)
 
 -- a call ends as its command does
 pub ends_as : (command : Option Command) (c : Call) (status : Status) → command_of c.words ≡ command → EndsAs command c status → Ends c status

@@ -1,4 +1,6 @@
 -- Lemmas on calls, and on the lists of a bundle.
+mod LineTexts
+mod RunEnding
 mod Ending
 mod Bundling
 mod Replying
@@ -9,3 +11,5 @@ mod Certifying
 mod AnswersFixed
 mod Counters
 mod OneCertificate
+mod ToldText
+mod ToldRuns

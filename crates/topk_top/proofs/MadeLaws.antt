@@ -7,7 +7,8 @@ use Rattle.ranked_list.specs.Bundle.{sections}
 use Rattle.command_words.specs.declared.making.MakeOptions.{MakeOptions}
 use Rattle.table_make.specs.Made.{made_list, made_table}
 use Rattle.table_text.specs.Numbered.{list_names}
-use Rattle.topk_top.specs.Ends.{Call, LeftAlone, EndsWriting, Says}
+use Rattle.topk_top.specs.Calls.{Call, LeftAlone}
+use Rattle.topk_top.specs.Ends.{EndsWriting, Says}
 use Rattle.topk_top.specs.Made.{made_text}
 use Rattle.topk_top.specs.declared.status.Status.{Status}
 use Rattle.topk_top.specs.declared.status.Status.TheVariants.{Done}

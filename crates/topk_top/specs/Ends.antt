@@ -1,78 +1,20 @@
 -- How a top call ends, by its words and its status.
 use Rattle.std.specs.Prelude.{◌≡◌, ℕ, List, ◌⊎◌, Option, Some, None}
-use Rattle.std.specs.Io.KnownBytes.{Appends, Keeps}
+use Rattle.std.specs.Io.KnownBytes.{Appends}
 use Rattle.tk_io.specs.Faults.{Rose}
-use Rattle.tk_io.specs.Whole.{GaveAll, GaveMore, GaveUpTo, TookFront}
+use Rattle.tk_io.specs.Whole.{TookFront}
 use Rattle.command_words.specs.Commands.{command_of}
 use Rattle.command_words.specs.declared.command.Command.{Command}
-use Rattle.command_words.specs.declared.command.Command.TheVariants.{One, Judge, Make}
+use Rattle.command_words.specs.declared.command.Command.TheVariants.{One, Judge, Make, Run, Bulk}
+use Rattle.topk_top.specs.Calls.{Call, LeftAlone, KeepsShelf, ReadWhole, ReadFailed, ReadLong, WroteNothing, WroteWhole, WroteFront}
+use Rattle.topk_top.specs.RunEnds.{EndsRunning}
+use Rattle.topk_top.specs.Bulk.{bulk_text}
 use Rattle.topk_top.specs.Codes.{exit_code}
 use Rattle.topk_top.specs.Made.{made_text}
 use Rattle.topk_top.specs.Reply.{Replies, words_refused_text}
 use Rattle.topk_top.specs.Judge.{JudgeReplies}
 use Rattle.topk_top.specs.declared.status.Status.{Status}
 use Rattle.topk_top.specs.declared.status.Status.TheVariants.{Done, Partial, BadWords, BadCatalog, ReadFault, WriteFault, OpenFault, PortFault, Memory, LongInput, BadInput}
-use Rattle.limits.specs.declared.TheConstants.{MAX_INPUT}
-
--- an input: what it has left, where it tells it, and its count of faults
-pub record Input : Type 0 where
-  pub left : Option (List ℕ)
-  pub faults : ℕ
-
--- an output: what it holds, where it tells it, and its count of faults
-pub record Output : Type 0 where
-  pub held : Option (List ℕ)
-  pub faults : ℕ
-
--- the streams of a call at one moment
-pub record Streams : Type 0 where
-  pub input : Input
-  pub output : Output
-
--- a call: its words, and its streams before it and after it
-pub record Call : Type 0 where
-  pub words : List (List ℕ)
-  pub before : Streams
-  pub after : Streams
-
--- the most bytes of an input
-abbrev pub input_limit : ℕ
-input_limit = MAX_INPUT
-
--- the input was left as it was
-pub record LeftAlone (c : Call) : Type 0 where
-  pub left : Keeps c.before.input.left c.after.input.left
-  pub faults : c.after.input.faults ≡ c.before.input.faults
-
--- the input gave these bytes, no more than the limit, and ended, and no read failed
-pub record ReadWhole (c : Call) (bytes : List ℕ) : Type 0 where
-  pub given : GaveAll input_limit c.before.input.left c.after.input.left bytes
-  pub faults : c.after.input.faults ≡ c.before.input.faults
-
--- a read failed, before the input gave more bytes than the limit
-pub record ReadFailed (c : Call) : Type 0 where
-  pub given : GaveUpTo input_limit c.before.input.left c.after.input.left
-  pub faults : Rose c.before.input.faults c.after.input.faults
-
--- the input gave more bytes than the limit, and no read failed
-pub record ReadLong (c : Call) : Type 0 where
-  pub given : GaveMore input_limit c.before.input.left c.after.input.left
-  pub faults : c.after.input.faults ≡ c.before.input.faults
-
--- nothing was written, and no write failed
-pub record WroteNothing (c : Call) : Type 0 where
-  pub held : Keeps c.before.output.held c.after.output.held
-  pub faults : c.after.output.faults ≡ c.before.output.faults
-
--- the text was written whole, and no write failed
-pub record WroteWhole (c : Call) (text : List ℕ) : Type 0 where
-  pub held : Appends c.before.output.held c.after.output.held text
-  pub faults : c.after.output.faults ≡ c.before.output.faults
-
--- a front of the text was written, and a write failed
-pub record WroteFront (c : Call) (text : List ℕ) : Type 0 where
-  pub held : TookFront c.before.output.held c.after.output.held text
-  pub faults : Rose c.before.output.faults c.after.output.faults
 
 -- how words end that are no command
 abbrev pub EndsRefused : Call → Status → Type 0
@@ -126,10 +68,12 @@ EndsWriting text c BadInput = ⊥
 
 -- how each command ends, and words that are none
 abbrev pub EndsAs : Option Command → Call → Status → Type 0
-EndsAs None c status = EndsRefused c status
-EndsAs (Some One) c status = EndsReading Replies c status
-EndsAs (Some Judge) c status = EndsReading JudgeReplies c status
-EndsAs (Some (Make options)) c status = EndsWriting (made_text options) c status
+EndsAs None c status = KeepsShelf c × EndsRefused c status
+EndsAs (Some One) c status = KeepsShelf c × EndsReading Replies c status
+EndsAs (Some Judge) c status = KeepsShelf c × EndsReading JudgeReplies c status
+EndsAs (Some (Make options)) c status = KeepsShelf c × EndsWriting (made_text options) c status
+EndsAs (Some (Run options)) c status = EndsRunning options c status
+EndsAs (Some (Bulk options)) c status = KeepsShelf c × EndsWriting (bulk_text options) c status
 
 -- how a call ends
 abbrev pub Ends : Call → Status → Type 0

@@ -1,5 +1,6 @@
 -- Replies as the code keeps them.
-use Rattle.std.specs.Prelude.{◌≡◌, ℕ, List, Some}
+use Rattle.std.specs.Prelude.{◌≡◌, ℕ, List, Option, Some, codes}
+use Rattle.std.specs.Io.KnownBytes.{Keeps}
 use Rattle.line_text.specs.Lines.{lines}
 use Rattle.ranked_list.specs.Bundle.{Content, Spells, IsFirstFault}
 use Rattle.cert_text.specs.declared.outcome.Outcome.{Outcome}
@@ -7,11 +8,15 @@ use Rattle.cert_text.specs.Outcome.{IsOutcome, outcome_text}
 use Rattle.query_core.specs.declared.ready.Ready.{Ready}
 use Rattle.query_admission.specs.Becomes.{Becomes}
 use Rattle.topk_top.specs.declared.status.Status.{Status}
-use Rattle.topk_top.specs.declared.status.Status.TheVariants.{BadInput}
+use Rattle.topk_top.specs.declared.status.Status.TheVariants.{BadCatalog, BadInput, Memory}
 use Rattle.topk_top.specs.declared.one.Line.{Line}
 use Rattle.topk_top.specs.declared.one.Reply.{Reply}
 use Rattle.topk_top.specs.declared.one.Reply.TheVariants.{NoBundle, Line as LineReply}
+use Rattle.catalog_text.specs.declared.catalog.CatalogFault.{CatalogFault}
+use Rattle.catalog_text.specs.declared.catalog.CatalogFault.TheVariants.{CatalogLine, SameName, Memory as NoMemory}
 use Rattle.topk_top.specs.Bundled.{bundle_line}
+use Rattle.topk_top.specs.Ends.{Says}
+use Rattle.topk_top.specs.Running.{catalog_refused_text}
 use Rattle.topk_top.specs.Reply.{bundle_refused_text, outcome_status}
 
 -- what becomes of a bundle's query line, and can be written
@@ -43,3 +48,9 @@ reply_status (LineReply line) = outcome_status line.outcome
 abbrev pub IsWritable : Reply → Type 0
 IsWritable (NoBundle text) = Unit {0}
 IsWritable (LineReply line) = IsOutcome line.query line.outcome
+
+-- how a call ends for a fault of a text that should be a catalog: the fault is said, or nothing for want of memory
+abbrev pub SaysFault : Option (List ℕ) → Option (List ℕ) → ℕ → ℕ → CatalogFault → Status → Type 0
+SaysFault held now faults faults_now (CatalogLine line) end = Says held now faults faults_now (catalog_refused_text (codes "CatalogLine") line) BadCatalog end
+SaysFault held now faults faults_now (SameName line) end = Says held now faults faults_now (catalog_refused_text (codes "SameName") line) BadCatalog end
+SaysFault held now faults faults_now NoMemory end = (end ≡ Memory) × Keeps held now × (faults_now ≡ faults)

@@ -3,16 +3,21 @@
 ghost use Rattle.std.specs.Prelude.{◌≡◌, ◌≤◌, ℕ, List, MatchResult};
 ghost use Rattle.cert_text.specs.Outcome.{IsOutcome, outcome_text};
 ghost use Rattle.topk_top.specs.Reply.{Replies, outcome_status};
-ghost use Rattle.topk_top.specs.Ends.{Call, Ends, EndsReading, Says};
+ghost use Rattle.topk_top.specs.Shelves.{Shelf as AnyShelf};
+ghost use Rattle.topk_top.specs.Calls.{Call};
+ghost use Rattle.topk_top.specs.Ends.{Ends, EndsReading, Says};
 ghost use Rattle.topk_top.specs.Outcomes.{reply_text, reply_status, IsWritable};
 
+use super::bulking::bulk;
 use super::judging::judge;
 use super::made::make;
 use super::one::{Line, Reply, reply_to};
+use super::running::run;
 use super::status::Status;
 use cert_text::{Outcome, write_outcome};
 use command_words::{Command, Words, WordsFault, read_command};
 use limits::MAX_INPUT;
+use source_api::Shelf;
 use std::alloc::Global;
 use tk_io::{Failed, Intake, ReadError, Sink, read_text, write_text};
 
@@ -25,9 +30,20 @@ const WORDS_REFUSED: &[u8] = b"refused words\n";
 /// writes the certificate of the answer or the line of a refusal: `refused bundle LINE` where the
 /// input is no bundle, else the first refusal that holds of the query line. `judge` reads a certificate
 /// and writes `fixes`, or on which table the answer is beaten, or why it isn't judged. `make` writes the
-/// made table that its options ask for, and leaves the input as it was. Words that are no command are
-/// answered with `refused words`.
-pub fn top<R: Intake, K: Sink>(alloc: Global, words: &Words, input: &mut R, out: &mut K) -> Status
+/// made table that its options ask for, and leaves the input as it was. `run` reads query lines from the
+/// input, answers them over the lists of the catalog that its words name, whose sources are taken of the
+/// shelf, and writes what became of each line, in their order: `refused catalog NAME RECORD` alone where
+/// the catalog's text is none. `bulk` makes a table and queries over it as its options ask for, runs them
+/// all and writes the sums over their answers; it leaves the input as it was. Words that are no command
+/// are answered with `refused words`.
+#[tactic(auto, using(crate::proofs::RunEnding::run_settings, crate::proofs::RunEnding::bulk_settings))]
+pub fn top<H: Shelf, R: Intake, K: Sink>(
+    alloc: Global,
+    words: &Words,
+    shelf: &mut H,
+    input: &mut R,
+    out: &mut K,
+) -> Status
     ensures reads { R.faults input.old ≤ R.faults input.new }
     ensures writes { K.faults out.old ≤ K.faults out.new }
     ensures ends { Ends (record {
@@ -35,10 +51,12 @@ pub fn top<R: Intake, K: Sink>(alloc: Global, words: &Words, input: &mut R, out:
       before = record {
         input = record { left = R.left input.old; faults = R.faults input.old };
         output = record { held = K.held out.old; faults = K.faults out.old };
+        shelf = record { texts = H.texts shelf.old; lists = H.lists shelf.old; at = H.at shelf.old };
       };
       after = record {
         input = record { left = R.left input.new; faults = R.faults input.new };
         output = record { held = K.held out.new; faults = K.faults out.new };
+        shelf = record { texts = H.texts shelf.new; lists = H.lists shelf.new; at = H.at shelf.new };
       };
     }) result }
 {
@@ -46,6 +64,8 @@ pub fn top<R: Intake, K: Sink>(alloc: Global, words: &Words, input: &mut R, out:
         Ok(Command::One) => one(alloc, input, out),
         Ok(Command::Judge) => judge(alloc, input, out),
         Ok(Command::Make(options)) => make(alloc, options, out),
+        Ok(Command::Run(options)) => run(alloc, &options, shelf, input, out),
+        Ok(Command::Bulk(options)) => bulk(alloc, options, out),
         Err(WordsFault::BadWords) => say(out, WORDS_REFUSED, Status::BadWords),
         Err(WordsFault::Memory) => Status::Memory,
     }
@@ -55,15 +75,17 @@ pub fn top<R: Intake, K: Sink>(alloc: Global, words: &Words, input: &mut R, out:
 fn one<R: Intake, K: Sink>(alloc: Global, input: &mut R, out: &mut K) -> Status
     ensures reads { R.faults input.old ≤ R.faults input.new }
     ensures writes { K.faults out.old ≤ K.faults out.new }
-    ensures ends { (words : List (List ℕ)) → EndsReading Replies (record {
+    ensures ends { (words : List (List ℕ)) (shelf : AnyShelf) → EndsReading Replies (record {
       words = words;
       before = record {
         input = record { left = R.left input.old; faults = R.faults input.old };
         output = record { held = K.held out.old; faults = K.faults out.old };
+        shelf = shelf;
       };
       after = record {
         input = record { left = R.left input.new; faults = R.faults input.new };
         output = record { held = K.held out.new; faults = K.faults out.new };
+        shelf = shelf;
       };
     }) result }
 {

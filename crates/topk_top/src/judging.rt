@@ -2,7 +2,9 @@
 
 ghost use Rattle.std.specs.Prelude.{◌≡◌, ◌≤◌, ℕ, List};
 ghost use Rattle.cert_judge.specs.Text.{told_text};
-ghost use Rattle.topk_top.specs.Ends.{Call, EndsReading, Says};
+ghost use Rattle.topk_top.specs.Shelves.{Shelf};
+ghost use Rattle.topk_top.specs.Calls.{Call};
+ghost use Rattle.topk_top.specs.Ends.{EndsReading, Says};
 ghost use Rattle.topk_top.specs.Judge.{JudgeReplies, told_status};
 
 use super::call::ended;
@@ -16,15 +18,17 @@ use tk_io::{Intake, ReadError, Sink, read_text};
 pub(crate) fn judge<R: Intake, K: Sink>(alloc: Global, input: &mut R, out: &mut K) -> Status
     ensures reads { R.faults input.old ≤ R.faults input.new }
     ensures writes { K.faults out.old ≤ K.faults out.new }
-    ensures ends { (words : List (List ℕ)) → EndsReading JudgeReplies (record {
+    ensures ends { (words : List (List ℕ)) (shelf : Shelf) → EndsReading JudgeReplies (record {
       words = words;
       before = record {
         input = record { left = R.left input.old; faults = R.faults input.old };
         output = record { held = K.held out.old; faults = K.faults out.old };
+        shelf = shelf;
       };
       after = record {
         input = record { left = R.left input.new; faults = R.faults input.new };
         output = record { held = K.held out.new; faults = K.faults out.new };
+        shelf = shelf;
       };
     }) result }
 {

@@ -1,7 +1,9 @@
 //! The command `make`: a made table.
 
 ghost use Rattle.std.specs.Prelude.{◌≡◌, ◌≤◌, ℕ, List};
-ghost use Rattle.topk_top.specs.Ends.{Call, Input, EndsWriting};
+ghost use Rattle.topk_top.specs.Shelves.{Shelf};
+ghost use Rattle.topk_top.specs.Calls.{Call, Input};
+ghost use Rattle.topk_top.specs.Ends.{EndsWriting};
 ghost use Rattle.topk_top.specs.Made.{made_text};
 
 use super::call::ended;
@@ -15,15 +17,17 @@ use tk_io::Sink;
 /// Writes the table that the options ask for.
 pub(crate) fn make<K: Sink>(alloc: Global, options: MakeOptions, out: &mut K) -> Status
     ensures counts { K.faults out.old ≤ K.faults out.new }
-    ensures ends { (words : List (List ℕ)) (input : Input) → EndsWriting (made_text options) (record {
+    ensures ends { (words : List (List ℕ)) (input : Input) (shelf : Shelf) → EndsWriting (made_text options) (record {
       words = words;
       before = record {
         input = input;
         output = record { held = K.held out.old; faults = K.faults out.old };
+        shelf = shelf;
       };
       after = record {
         input = input;
         output = record { held = K.held out.new; faults = K.faults out.new };
+        shelf = shelf;
       };
     }) result }
 {

@@ -1,11 +1,13 @@
 //! The top call over std's readers and writers.
 
 ghost use Rattle.std.specs.Prelude.{List, ℕ};
-ghost use Rattle.topk_top.specs.Ends.{Call, ExitsBy};
+ghost use Rattle.topk_top.specs.Calls.{Call};
+ghost use Rattle.topk_top.specs.Ends.{ExitsBy};
 
 use super::call::top;
 use super::status::Status;
 use command_words::{Words, WordsFault, read_words};
+use source_api::Shelf;
 use std::alloc::Global;
 use std::env::Env;
 use std::io::{Read, Write};
@@ -15,9 +17,10 @@ use tk_io::{StdIntake, StdSink};
 /// the words no command, as no words are none.
 ///
 /// What the words are is the process's own: the clause says that the call ends as some words do.
-pub fn run_process<E: Env, R: Read + Drop, W: Write + Drop>(
+pub fn run_process<E: Env, H: Shelf, R: Read + Drop, W: Write + Drop>(
     env: &E,
     alloc: Global,
+    shelf: &mut H,
     input: &mut StdIntake<R>,
     out: &mut StdSink<W>,
 ) -> u8
@@ -26,10 +29,12 @@ pub fn run_process<E: Env, R: Read + Drop, W: Write + Drop>(
       before = record {
         input = record { left = R.remaining input.old.stream; faults = input.old.faults };
         output = record { held = W.contents out.old.stream; faults = out.old.faults };
+        shelf = record { texts = H.texts shelf.old; lists = H.lists shelf.old; at = H.at shelf.old };
       };
       after = record {
         input = record { left = R.remaining input.new.stream; faults = input.new.faults };
         output = record { held = W.contents out.new.stream; faults = out.new.faults };
+        shelf = record { texts = H.texts shelf.new; lists = H.lists shelf.new; at = H.at shelf.new };
       };
     }) result }
 {
@@ -38,13 +43,14 @@ pub fn run_process<E: Env, R: Read + Drop, W: Write + Drop>(
         Err(WordsFault::BadWords) => Words::make(alloc),
         Err(WordsFault::Memory) => return Status::Memory.code(),
     };
-    run(alloc, &words, input, out)
+    run(alloc, &words, shelf, input, out)
 }
 
 /// Calls `top` over a reader and a writer, and gives the exit status of how it ended.
-pub fn run<R: Read + Drop, W: Write + Drop>(
+pub fn run<H: Shelf, R: Read + Drop, W: Write + Drop>(
     alloc: Global,
     words: &Words,
+    shelf: &mut H,
     input: &mut StdIntake<R>,
     out: &mut StdSink<W>,
 ) -> u8
@@ -53,12 +59,14 @@ pub fn run<R: Read + Drop, W: Write + Drop>(
       before = record {
         input = record { left = R.remaining input.old.stream; faults = input.old.faults };
         output = record { held = W.contents out.old.stream; faults = out.old.faults };
+        shelf = record { texts = H.texts shelf.old; lists = H.lists shelf.old; at = H.at shelf.old };
       };
       after = record {
         input = record { left = R.remaining input.new.stream; faults = input.new.faults };
         output = record { held = W.contents out.new.stream; faults = out.new.faults };
+        shelf = record { texts = H.texts shelf.new; lists = H.lists shelf.new; at = H.at shelf.new };
       };
     }) result }
 {
-    top(alloc, words, input, out).code()
+    top(alloc, words, shelf, input, out).code()
 }

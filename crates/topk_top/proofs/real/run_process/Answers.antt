@@ -1,8 +1,10 @@
 use Rattle.std.proofs.Common.{[], refl}
 use Rattle.std.proofs.KnownBytes.{Keeps-refl}
 use Rattle.command_words.specs.Commands.{command_of}
+use Rattle.topk_top.specs.Calls.{Outside}
+use Rattle.topk_top.specs.Shelves.{Shelf}
 use Rattle.topk_top.specs.declared.status.Status.TheVariants.{Memory}
-use Rattle.topk_top.proofs.Ending.{call_at, streams_at, ends_without_memory}
+use Rattle.topk_top.proofs.Ending.{call_at, outside_at, shelf_at, ends_without_memory}
 use Rattle.topk_top.proofs.real.run_process.Goals as goal
 
 -- nothing was read or written, so the call ends as one without words does
@@ -10,7 +12,8 @@ pub returns-in-Err-Memory : goal.returns-in-Err-Memory
 returns-in-Err-Memory g c =
     let left = g.R.Read.remaining c.args.input.now.stream in
     let held = g.W.Write.contents c.args.out.now.stream in
-    let streams = streams_at left c.args.input.now.faults held c.args.out.now.faults in
-    let ends = ends_without_memory (command_of []) (call_at [] streams streams)
+    let shelf : Shelf = shelf_at (g.H.Shelf.texts c.args.shelf.now) (g.H.Shelf.lists c.args.shelf.now) (g.H.Shelf.at c.args.shelf.now) in
+    let outside : Outside = outside_at left c.args.input.now.faults held c.args.out.now.faults shelf in
+    let ends = ends_without_memory (command_of []) (call_at [] outside outside) refl
     (record { left = Keeps-refl left; faults = refl }) (record { held = Keeps-refl held; faults = refl }) in
     ([], (Memory, ends, c.code.ensures))

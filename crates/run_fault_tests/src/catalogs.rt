@@ -1,0 +1,60 @@
+//! Words and catalogs that are refused.
+
+use run_support::{Case, run_of};
+use std::alloc::Global;
+use std::test::Fail;
+use test_support::Unmade;
+use top_support::end_of;
+use topk_top::Status;
+
+/// Texts that are no catalog, and what is written of each.
+const NO_CATALOGS: &[(&str, &str)] = &[
+    (
+        "name,place,random\nA,a,yes\nB,b,maybe\n",
+        "refused catalog CatalogLine 3\n",
+    ),
+    (
+        "name,place,random\nA,a,yes\nA,b,yes\n",
+        "refused catalog SameName 3\n",
+    ),
+    ("", "refused catalog CatalogLine 1\n"),
+    ("A,a,yes\n", "refused catalog CatalogLine 1\n"),
+    (
+        "name,place,random\nA,http://host/a,yes\n",
+        "refused catalog CatalogLine 2\n",
+    ),
+];
+
+/// The first text after which a run ends otherwise or writes something else.
+fn first_other(
+    alloc: Global,
+    rows: &[(&'static str, &'static str)],
+) -> Result<Option<&'static str>, Unmade> {
+    for (catalog, text) in rows {
+        let case = Case {
+            options: &[],
+            catalog: *catalog,
+            sources: &[],
+            lines: "top 1 by A using ta\n",
+        };
+        let (status, out) = run_of(alloc, &case)?;
+        if status != Status::BadCatalog || out.taken() != text.as_bytes() {
+            return Ok(Some(*catalog));
+        }
+    }
+    Ok(None)
+}
+
+#[test]
+fn refuses_what_is_no_catalog(rt: HostRuntime) -> Result<(), Fail> {
+    assert_eq!(rt; first_other(rt.alloc(), NO_CATALOGS)?, None);
+    Ok(())
+}
+
+#[test]
+fn refuses_words_without_a_catalog(rt: HostRuntime) -> Result<(), Fail> {
+    let (status, out) = end_of(rt.alloc(), &["run"], b"", 100)?;
+    assert_eq!(rt; status, Status::BadWords);
+    assert_eq!(rt; out.taken(), b"refused words\n".as_slice());
+    Ok(())
+}

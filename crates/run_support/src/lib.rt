@@ -1,0 +1,8 @@
+//! Runs of query lines over a shelf in memory, as plain data, for the tests of several crates.
+#![tactic(auto)]
+
+mod cases;
+mod shelves;
+
+pub use cases::{CATALOG, Case, Row, first_wrong, run_of};
+pub use shelves::{Held, Kind, shelf_of};

@@ -1,0 +1,182 @@
+//! Query lines that are refused.
+
+use run_support::{Case, Held, Kind, Row, first_wrong};
+use std::test::Fail;
+use topk_top::Status;
+
+const TWO: &str = "name,place,random\nA,a,yes\nB,b,yes\n";
+
+/// The sources of these rows give one row in each page, and nothing is read ahead.
+const ONE_ROW: &[&str] = &["--page", "1", "--ahead", "0"];
+
+const A: &[(u32, u32)] = &[(1, 900), (2, 800), (3, 100)];
+
+const SECOND: Held = Held {
+    place: "b",
+    rows: &[(2, 700), (3, 600), (1, 500)],
+    kind: Kind::Honest,
+};
+
+const BY_TEXT: &[Row] = &[
+    Row {
+        case: Case {
+            options: &[],
+            catalog: "name,place,random\nA,nowhere,yes\n",
+            sources: &[],
+            lines: "top 01 by A using ta\ntop 0 by A using ta\ntop 1 by\ntop 1 by foo(A) using ta\n",
+        },
+        status: Status::Partial,
+        text: "refused 1 Syntax 5\nrefused 2 Number 4\nrefused 3 Syntax 8\nrefused 4 Syntax 12\n",
+    },
+    Row {
+        case: Case {
+            options: &[],
+            catalog: "name,place,random\nN,nowhere,yes\nM,nowhere,yes\n",
+            sources: &[],
+            lines: "top 1 by N using ta\ntop 1 by sum(M,N) using ta\ntop 1 by sum(Z,N) using ta\n",
+        },
+        status: Status::Partial,
+        text: "refused 1 NotOpened N\nrefused 2 NotOpened M\nrefused 3 UnknownList Z\n",
+    },
+];
+
+const BY_ROWS: &[Row] = &[
+    Row {
+        case: Case {
+            options: &["--page", "2"],
+            catalog: "name,place,random\nA,a,yes\n",
+            sources: &[Held {
+                place: "a",
+                rows: &[(7, 9), (8, 8), (7, 7)],
+                kind: Kind::Honest,
+            }],
+            lines: "top 3 by A using nra",
+        },
+        status: Status::Partial,
+        text: "refused 1 Repeated A 7 3\n",
+    },
+    Row {
+        case: Case {
+            options: &[],
+            catalog: TWO,
+            sources: &[
+                Held {
+                    place: "a",
+                    rows: &[(1, 9), (2, 8)],
+                    kind: Kind::Honest,
+                },
+                Held {
+                    place: "b",
+                    rows: &[(1, 7), (3, 6)],
+                    kind: Kind::Honest,
+                },
+            ],
+            lines: "top 2 by sum(A,B) using ta",
+        },
+        status: Status::Partial,
+        text: "refused 1 Strangers 3 2\n",
+    },
+    Row {
+        case: Case {
+            options: &["--workers", "1", "--page", "1", "--ahead", "0"],
+            catalog: "name,place,random\nA,a,yes\nB,b,yes\nC,c,yes\nD,d,yes\n",
+            sources: &[
+                Held {
+                    place: "a",
+                    rows: &[(1, 9), (2, 8)],
+                    kind: Kind::Honest,
+                },
+                Held {
+                    place: "b",
+                    rows: &[(3, 7), (1, 6)],
+                    kind: Kind::Honest,
+                },
+                Held {
+                    place: "c",
+                    rows: &[(4, 7), (1, 6)],
+                    kind: Kind::Honest,
+                },
+                Held {
+                    place: "d",
+                    rows: &[(5, 7), (1, 6)],
+                    kind: Kind::Honest,
+                },
+            ],
+            lines: "top 1 by sum(A,B) using ta\ntop 1 by sum(A,C) using ta\ntop 1 by sum(A,D) using ta\n",
+        },
+        status: Status::Partial,
+        text: "refused 1 Missing A 3\nrefused 2 Missing A 4\nrefused 3 AsksFull A 2\n",
+    },
+];
+
+const BY_GRADES: &[Row] = &[
+    Row {
+        case: Case {
+            options: ONE_ROW,
+            catalog: TWO,
+            sources: &[
+                Held {
+                    place: "a",
+                    rows: A,
+                    kind: Kind::Lies(2, 850),
+                },
+                SECOND,
+            ],
+            lines: "top 1 by sum(A,B) using ta",
+        },
+        status: Status::Partial,
+        text: "refused 1 Clash A 2 800 850\n",
+    },
+    Row {
+        case: Case {
+            options: ONE_ROW,
+            catalog: TWO,
+            sources: &[
+                Held {
+                    place: "a",
+                    rows: A,
+                    kind: Kind::Lies(2, 950),
+                },
+                SECOND,
+            ],
+            lines: "top 1 by sum(A,B) using ta",
+        },
+        status: Status::Partial,
+        text: "refused 1 Above A 2 950 900\n",
+    },
+    Row {
+        case: Case {
+            options: ONE_ROW,
+            catalog: TWO,
+            sources: &[
+                Held {
+                    place: "a",
+                    rows: A,
+                    kind: Kind::States(5),
+                },
+                SECOND,
+            ],
+            lines: "top 5 by A using nra",
+        },
+        status: Status::Partial,
+        text: "refused 1 ShortList A 5 3\n",
+    },
+];
+
+#[test]
+fn refuses_by_text_and_catalog(rt: HostRuntime) -> Result<(), Fail> {
+    assert_eq!(rt; first_wrong(rt.alloc(), BY_TEXT)?, None);
+    Ok(())
+}
+
+#[test]
+fn refuses_by_rows(rt: HostRuntime) -> Result<(), Fail> {
+    assert_eq!(rt; first_wrong(rt.alloc(), BY_ROWS)?, None);
+    Ok(())
+}
+
+#[test]
+fn refuses_by_grades(rt: HostRuntime) -> Result<(), Fail> {
+    assert_eq!(rt; first_wrong(rt.alloc(), BY_GRADES)?, None);
+    Ok(())
+}

@@ -1,0 +1,108 @@
+-- Runs for which all is told.
+use Rattle.std.proofs.Common.{◌≡◌, ◌≢◌, ℕ, Bool, true, false, List, inl, inr, refl, sym, ap, subst}
+use Rattle.std.specs.Prelude.{◌⊎◌}
+use Rattle.std.specs.Str.{bytes_eq}
+use Rattle.std.proofs.lemmas.Slice.Eq.{bytes_eq-Decides}
+use Rattle.tk_io.specs.Faults.{Rose}
+use Rattle.source_api.specs.declared.ledger.PlaceCounts.{PlaceCounts}
+use Rattle.source_api.specs.Places.{CountsTexts}
+use Rattle.line_text.specs.Lines.{lines}
+use Rattle.csv_records.specs.Records.{records_of}
+use Rattle.catalog_text.specs.Catalog.{Listed as Entry, IsCatalog}
+use Rattle.catalog_open.specs.Openings.{TroubleAt}
+use Rattle.catalog_open.specs.Views.{entry_at}
+use Rattle.command_words.specs.declared.running.RunOptions.{RunOptions}
+use Rattle.command_words.specs.declared.running.RunSettings.{RunSettings}
+use Rattle.catalog_run.specs.Told.{AllBecome, TellsTables, view_told}
+use Rattle.catalog_run.specs.declared.outcome.LineOutcome.{LineOutcome}
+use Rattle.catalog_run.specs.Runs.{Run, IsRun}
+use Rattle.topk_top.specs.Calls.{Call, WroteWhole}
+use Rattle.topk_top.specs.Shelves.{Shelf, AsksText, GivesText}
+use Rattle.topk_top.specs.Running.{run_by}
+use Rattle.topk_top.specs.RunEnds.{EndsRunning, LinesReplied, from_shelf}
+use Rattle.topk_top.specs.RunLaws.{TellsAll, WritesTheOne, ToldRunsWriteTheOne}
+use Rattle.topk_top.specs.Ends.{EndsAs}
+use Rattle.topk_top.specs.declared.status.Status.{Status}
+use Rattle.topk_top.specs.declared.status.Status.TheVariants.{Done, Partial, BadWords, BadCatalog, ReadFault, WriteFault, OpenFault, PortFault, Memory, LongInput, BadInput}
+use Rattle.topk_top.proofs.ToldText.{gives_told, refuses_none, one_catalog, gave_told, gave_no_more}
+
+-- trouble since a text was asked for is trouble from before that on
+trouble_since : (before mid now : PlaceCounts) → CountsTexts before mid → TroubleAt mid now → TroubleAt before now
+trouble_since before mid now texts (inl takes) = inl (subst (λ n. Rose n now.take_faults) (ap (λ p. p.take_faults) texts.others) takes)
+trouble_since before mid now texts (inr (inl faults)) = inr (inl (subst (λ n. Rose n now.sources.faults) (ap (λ p. p.sources.faults) texts.others) faults))
+trouble_since before mid now texts (inr (inr garbles)) = inr (inr (subst (λ n. Rose n now.sources.garbles) (ap (λ p. p.sources.garbles) texts.others) garbles))
+
+trouble_at : (catalog : List ℕ) (before mid : Shelf) (now : PlaceCounts) (place : List ℕ) → AsksText catalog before mid → TroubleAt (mid.at place) now
+    → TroubleAt (before.at place) now
+trouble_at catalog before mid now place asked trouble = go (bytes_eq place catalog) (bytes_eq-Decides place catalog)
+  where
+    go : (b : Bool) → ((b ≡ true → place ≡ catalog) × (place ≡ catalog → b ≡ true)) → TroubleAt (before.at place) now
+    go true decides =
+        let same : place ≡ catalog = decides.0 refl in
+        subst (λ p. TroubleAt (before.at p) now) (sym same) (trouble_since (before.at catalog) (mid.at catalog) now asked.here (subst (λ p. TroubleAt (mid.at p) now) same trouble))
+    go false decides =
+        let other : place ≢ catalog = λ e. let t : false ≡ true = decides.1 e in absurd cc in
+        subst (λ counts. TroubleAt counts now) (asked.elsewhere place other) trouble
+
+-- the tables that are told before the catalog's text was asked for are told after that
+tells_since : (s : RunSettings) (catalog : List Entry) (ls : List (List ℕ)) (place : List ℕ) (before given after : Shelf) → AsksText place before given
+    → TellsTables (run_by s catalog ls before after) → TellsTables (run_by s catalog ls given after)
+tells_since s catalog ls place before given after asked tells =
+    let lists : before.lists ≡ given.lists = sym (λ i at. asked.tells.lists at i) in
+    let moved : TellsTables (run_by s catalog ls (record before { lists = given.lists }) after) =
+    subst (λ l. TellsTables (run_by s catalog ls (record before { lists = l }) after)) lists tells in
+    record {
+      told = moved.told;
+      tables = moved.tables;
+      untroubled = λ entry wanted trouble. moved.untroubled entry wanted (trouble_at place before given (after.at (entry_at catalog entry).place) (entry_at catalog entry).place asked trouble);
+    }
+
+-- what lines come to where all is told
+abbrev pub ComeToOne : Type 0
+ComeToOne = (r : Run) (outcomes : List LineOutcome) → IsRun r outcomes → TellsTables r → AllBecome (view_told r.catalog r.lists) 1 r.lines outcomes
+
+-- the reply to lines where all is told
+replied : ComeToOne → (o : RunOptions) (c : Call) (status : Status) (catalog : List Entry) (bytes text : List ℕ) (given : Shelf) (said : List ℕ)
+    → TellsAll o c catalog bytes → GivesText o.catalog c.before.shelf given text → LinesReplied o.settings text (from_shelf given c) status said
+    → WroteWhole c said → WritesTheOne c catalog bytes status
+replied one o c status catalog bytes text given said all gives r wrote =
+    let same_text : text ≡ all.text = gives_told o.catalog text all.text c.before.shelf given all.tells.told gives in
+    let same_catalog : r.replies.catalog ≡ catalog =
+    one_catalog (records_of all.text) r.replies.catalog catalog (subst (λ t. IsCatalog (records_of t) r.replies.catalog) same_text r.replies.is) all.is in
+    let same_bytes : r.bytes ≡ bytes = gave_told _ bytes r.bytes c.before.input.left c.after.input.left all.input r.read.given in
+    let tables : TellsTables (run_by o.settings r.replies.catalog (lines r.bytes) given c.after.shelf) =
+    subst (λ k. TellsTables (run_by o.settings k (lines r.bytes) given c.after.shelf)) (sym same_catalog)
+    (subst (λ b. TellsTables (run_by o.settings catalog (lines b) given c.after.shelf)) (sym same_bytes)
+    (tells_since o.settings catalog (lines bytes) o.catalog c.before.shelf given c.after.shelf gives.asked all.tables)) in
+    let become : AllBecome (view_told r.replies.catalog given.lists) 1 (lines r.bytes) r.replies.outcomes =
+    one (run_by o.settings r.replies.catalog (lines r.bytes) given c.after.shelf) r.replies.outcomes r.replies.run tables in
+    let lists : given.lists ≡ c.before.shelf.lists = λ i at. gives.asked.tells.lists at i in
+    record {
+      outcomes = r.replies.outcomes;
+      become =
+          subst (λ l. AllBecome (view_told catalog l) 1 (lines bytes) r.replies.outcomes) lists
+          (subst (λ k. AllBecome (view_told k given.lists) 1 (lines bytes) r.replies.outcomes) same_catalog
+          (subst (λ b. AllBecome (view_told r.replies.catalog given.lists) 1 (lines b) r.replies.outcomes) same_bytes become));
+      status_is = r.replies.status_is;
+      wrote = subst (WroteWhole c) r.replies.said_is wrote;
+    }
+
+told_run : ComeToOne → (o : RunOptions) (c : Call) (status : Status) (catalog : List Entry) (bytes : List ℕ) → TellsAll o c catalog bytes → EndsRunning o c status
+    → (status ≡ Memory) ⊎ WritesTheOne c catalog bytes status
+told_run one o c Done catalog bytes all (text, given, gives, (said, r, wrote)) = inr (replied one o c Done catalog bytes text given said all gives r (record { held = wrote.held; faults = wrote.faults }))
+told_run one o c Partial catalog bytes all (text, given, gives, (said, r, wrote)) = inr (replied one o c Partial catalog bytes text given said all gives r (record { held = wrote.held; faults = wrote.faults }))
+told_run one o c BadCatalog catalog bytes all (text, given, gives, (said, refused, wrote)) =
+    absurd (refuses_none text said catalog refused.refuses
+    (subst (λ t. IsCatalog (records_of t) catalog) (sym (gives_told o.catalog text all.text c.before.shelf given all.tells.told gives)) all.is))
+told_run one o c WriteFault catalog bytes all (text, given, gives, (said, cause, wrote)) = absurd (all.writes wrote.faults)
+told_run one o c ReadFault catalog bytes all (text, given, gives, (stands, failed, nothing)) = absurd (all.reads failed.faults)
+told_run one o c LongInput catalog bytes all (text, given, gives, (stands, long, nothing)) =
+    absurd (gave_no_more _ bytes c.before.input.left c.after.input.left all.input all.short long.given)
+told_run one o c OpenFault catalog bytes all h = absurd (all.opens h.0.rose)
+told_run one o c Memory catalog bytes all h = inl refl
+told_run one o c BadWords catalog bytes all h = absurd h
+told_run one o c PortFault catalog bytes all h = absurd h
+told_run one o c BadInput catalog bytes all h = absurd h
+
+pub told_runs : ComeToOne → ToldRunsWriteTheOne
+told_runs one o c status catalog bytes all ends = told_run one o c status catalog bytes all (subst (λ command. EndsAs command c status) all.tells.words ends)

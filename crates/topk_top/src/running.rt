@@ -1,0 +1,201 @@
+//! The command `run`: query lines over the lists of a catalog.
+
+ghost use Rattle.std.specs.Prelude.{◌≡◌, ◌≤◌, ℕ, List, All, IfOk, map};
+ghost use Rattle.line_text.specs.Lines.{lines};
+ghost use Rattle.csv_records.specs.Records.{records_of};
+ghost use Rattle.catalog_text.specs.Catalog.{IsCatalog};
+ghost use Rattle.command_words.specs.Running.{AreRunSettings};
+ghost use Rattle.catalog_run.specs.Runs.{CanBeWritten, IsRun};
+ghost use Rattle.topk_top.specs.Shelves.{TakesSources};
+ghost use Rattle.topk_top.specs.Calls.{Call};
+ghost use Rattle.topk_top.specs.Ends.{Says};
+ghost use Rattle.topk_top.specs.RunEnds.{RunsOver, EndsRunning};
+ghost use Rattle.topk_top.specs.Outcomes.{SaysFault};
+ghost use Rattle.topk_top.specs.Running.{run_by, catalog_refused_text};
+
+use super::Memory;
+use super::call::ended;
+use super::line_outcomes::write_outcomes;
+use super::status::Status;
+use catalog_run::{LineOutcome, Settings, run_lines};
+use catalog_text::{Catalog, CatalogFault, read_catalog};
+use command_words::{RunOptions, RunSettings};
+use limits::MAX_INPUT;
+use line_text::first_line;
+use source_api::{Shelf, Trouble};
+use std::alloc::Global;
+use tk_io::{Intake, Pieces, ReadError, Sink, read_text};
+
+/// Answers the query lines that the input has, over the lists of the catalog that the options name.
+pub(crate) fn run<H: Shelf, R: Intake, K: Sink>(
+    alloc: Global,
+    options: &RunOptions,
+    shelf: &mut H,
+    input: &mut R,
+    out: &mut K,
+) -> Status
+    requires { AreRunSettings options.now.settings }
+    ensures reads { R.faults input.old ≤ R.faults input.new }
+    ensures writes { K.faults out.old ≤ K.faults out.new }
+    ensures ends { (words : List (List ℕ)) → EndsRunning options.now (record {
+      words = words;
+      before = record {
+        input = record { left = R.left input.old; faults = R.faults input.old };
+        output = record { held = K.held out.old; faults = K.faults out.old };
+        shelf = record { texts = H.texts shelf.old; lists = H.lists shelf.old; at = H.at shelf.old };
+      };
+      after = record {
+        input = record { left = R.left input.new; faults = R.faults input.new };
+        output = record { held = K.held out.new; faults = K.faults out.new };
+        shelf = record { texts = H.texts shelf.new; lists = H.lists shelf.new; at = H.at shelf.new };
+      };
+    }) result }
+{
+    match shelf.text(alloc, options.catalog.as_str()) {
+        Ok(text) => run_over(alloc, &text, options.settings, shelf, input, out),
+        Err(Trouble::Memory) => Status::Memory,
+        Err(Trouble::Failed) => Status::OpenFault,
+        Err(Trouble::Garbled) => Status::OpenFault,
+    }
+}
+
+/// Answers the query lines of the input over the lists of a catalog, by the catalog's text.
+fn run_over<H: Shelf, R: Intake, K: Sink>(
+    alloc: Global,
+    text: &[u8],
+    settings: RunSettings,
+    shelf: &mut H,
+    input: &mut R,
+    out: &mut K,
+) -> Status
+    requires { AreRunSettings settings }
+    ensures reads { R.faults input.old ≤ R.faults input.new }
+    ensures writes { K.faults out.old ≤ K.faults out.new }
+    ensures ends { (words : List (List ℕ)) → RunsOver settings text.now (record {
+      words = words;
+      before = record {
+        input = record { left = R.left input.old; faults = R.faults input.old };
+        output = record { held = K.held out.old; faults = K.faults out.old };
+        shelf = record { texts = H.texts shelf.old; lists = H.lists shelf.old; at = H.at shelf.old };
+      };
+      after = record {
+        input = record { left = R.left input.new; faults = R.faults input.new };
+        output = record { held = K.held out.new; faults = K.faults out.new };
+        shelf = record { texts = H.texts shelf.new; lists = H.lists shelf.new; at = H.at shelf.new };
+      };
+    }) result }
+{
+    match read_catalog(alloc, text) {
+        Ok(catalog) => run_input(alloc, &catalog, settings, shelf, input, out),
+        Err(fault) => refuse(out, fault),
+    }
+}
+
+/// Ends for this fault of a text that should be a catalog: it is written, unless memory was wanting.
+fn refuse<K: Sink>(out: &mut K, fault: CatalogFault) -> Status
+    ensures counts { K.faults out.old ≤ K.faults out.new }
+    ensures says { SaysFault (K.held out.old) (K.held out.new) (K.faults out.old) (K.faults out.new) fault result }
+{
+    match fault {
+        CatalogFault::CatalogLine { line } => refuse_catalog(out, b"CatalogLine", line),
+        CatalogFault::SameName { line } => refuse_catalog(out, b"SameName", line),
+        CatalogFault::Memory => Status::Memory,
+    }
+}
+
+/// Writes which record of a text that is no catalog is at fault, by the fault's name, and ends so, or with
+/// a write fault.
+fn refuse_catalog<K: Sink>(out: &mut K, fault: &[u8], record_number: u64) -> Status
+    ensures counts { K.faults out.old ≤ K.faults out.new }
+    ensures says { Says (K.held out.old) (K.held out.new) (K.faults out.old) (K.faults out.new)
+        (catalog_refused_text fault.now record_number) Status.BadCatalog result }
+{
+    let mut pieces = Pieces::make();
+    pieces.put(out, b"refused catalog ");
+    pieces.put(out, fault);
+    pieces.put(out, b" ");
+    pieces.put_number(out, record_number);
+    pieces.put(out, b"\n");
+    let written = pieces.end(out);
+    ended(written, Status::BadCatalog)
+}
+
+/// Answers the query lines of the input over the lists of a catalog.
+fn run_input<H: Shelf, R: Intake, K: Sink>(
+    alloc: Global,
+    catalog: &Catalog,
+    settings: RunSettings,
+    shelf: &mut H,
+    input: &mut R,
+    out: &mut K,
+) -> Status
+    requires { AreRunSettings settings }
+    ensures reads { R.faults input.old ≤ R.faults input.new }
+    ensures writes { K.faults out.old ≤ K.faults out.new }
+    ensures ends { (words : List (List ℕ)) (text : List ℕ) → IsCatalog (records_of text) catalog.now → RunsOver settings text (record {
+      words = words;
+      before = record {
+        input = record { left = R.left input.old; faults = R.faults input.old };
+        output = record { held = K.held out.old; faults = K.faults out.old };
+        shelf = record { texts = H.texts shelf.old; lists = H.lists shelf.old; at = H.at shelf.old };
+      };
+      after = record {
+        input = record { left = R.left input.new; faults = R.faults input.new };
+        output = record { held = K.held out.new; faults = K.faults out.new };
+        shelf = record { texts = H.texts shelf.new; lists = H.lists shelf.new; at = H.at shelf.new };
+      };
+    }) result }
+{
+    match read_text(alloc, input, MAX_INPUT) {
+        Ok(text) => match run_text(alloc, catalog, settings, shelf, &text) {
+            Ok(outcomes) => write_outcomes(out, &outcomes),
+            Err(_) => Status::Memory,
+        },
+        Err(ReadError::Failed) => Status::ReadFault,
+        Err(ReadError::Long) => Status::LongInput,
+        Err(ReadError::Memory) => Status::Memory,
+    }
+}
+
+/// The outcomes of the lines of a text.
+fn run_text<H: Shelf>(
+    alloc: Global,
+    catalog: &Catalog,
+    settings: RunSettings,
+    shelf: &mut H,
+    text: &[u8],
+) -> Result<Vec<LineOutcome>, Memory>
+    requires { AreRunSettings settings }
+    ensures takes { TakesSources catalog.now (lines text.now) (record { texts = H.texts shelf.old; lists = H.lists shelf.old; at = H.at shelf.old })
+        (record { texts = H.texts shelf.new; lists = H.lists shelf.new; at = H.at shelf.new }) }
+    ensures run { IfOk result (λ outcomes. IsRun (run_by settings catalog.now (lines text.now)
+        (record { texts = H.texts shelf.old; lists = H.lists shelf.old; at = H.at shelf.old })
+        (record { texts = H.texts shelf.new; lists = H.lists shelf.new; at = H.at shelf.new })) outcomes.items) }
+    ensures writable { IfOk result (λ outcomes. All CanBeWritten outcomes.items) }
+{
+    let lines = lines_of(alloc, text)?;
+    let settings = Settings {
+        workers: settings.workers,
+        page: settings.page,
+        ahead: settings.ahead,
+    };
+    match run_lines(alloc, shelf, catalog, &lines, settings) {
+        Ok(outcomes) => Ok(outcomes),
+        Err(_) => Err(Memory),
+    }
+}
+
+/// The lines of a text.
+fn lines_of(alloc: Global, text: &[u8]) -> Result<Vec<&[u8]>, Memory>
+    ensures { IfOk result (λ found. map (λ line. line.now) found.items ≡ lines text.now) }
+{
+    let mut found = Vec::new(alloc);
+    let mut rest = text;
+    while let Some((line, more)) = first_line(rest) {
+        let Ok(()) = found.push(line) else {
+            return Err(Memory);
+        };
+        rest = more;
+    }
+    Ok(found)
+}
