@@ -1,5 +1,7 @@
-# topk: `make try` answers a query over a bundle of crates/examples/data/ without proving anything, `make run` proves the program
-# first, `make test` passes all proofs and tests, and `make bench` tells how long queries take.
+# topk: `make try` answers the query lines of crates/hotels without proving anything, `make run` proves the program first,
+# `make test` passes all proofs and tests, and `make bench` tells how long queries take.
+
+HOTELS = crates/hotels/data
 
 .PHONY: topk try run test bench
 
@@ -8,12 +10,15 @@ topk:
 	cd crates/topk && rt run -- one < ../examples/data/two_lists.bundle > /dev/null
 	cp crates/topk/out/topk topk
 
+# Some lines of the catalog's queries are refused, so the status is 1.
 run: topk
+	cd $(HOTELS) && ../../../topk run catalog.csv < ../stdin; test $$? -eq 1
 	./topk one < crates/examples/data/two_lists.bundle
 
-# The same answer from the unproved code, in about a minute: nothing is proved, and nothing is left behind.
+# The same answers from the unproved code, in about a minute: nothing is proved, and nothing is left behind.
 try:
-	cd crates/topk && rt try -- one < ../examples/data/two_lists.bundle
+	cd crates/hotels && rt try $(foreach list,price rating centre quiet,--data hotels/$(list).csv=data/hotels/$(list).csv) \
+		--data catalog.csv=data/catalog.csv -- run catalog.csv < stdin; test $$? -eq 1
 
 test:
 	rt ci
