@@ -1,15 +1,15 @@
 -- The ranks of all places, however they are parted.
-use Rattle.std.proofs.Common.{◌≡◌, ◌≢◌, ◌⊎◌, inl, inr, ℕ, zero, suc, ◌+◌, ◌<◌, List, [], ◌∷◌, Option, Some, None, length, set, is_some, replicate, refl, sym, ap, ◌∙◌, subst, arith}
+use Rattle.std.proofs.Common.{◌≡◌, ◌≢◌, ◌⊎◌, inl, inr, ℕ, zero, suc, ◌+◌, ◌<◌, ◌≤◌, List, [], ◌∷◌, Option, Some, None, length, set, is_some, replicate, refl, sym, ap, ◌∙◌, subst, arith}
 use Rattle.std.specs.declared.cmp.Reverse.{Reverse}
 use Rattle.std.specs.List.{count_by}
 use Rattle.std.proofs.lemmas.Bool.{cases_eq}
-use Rattle.std.proofs.lemmas.List.{length-set, ext_get_or}
+use Rattle.std.proofs.lemmas.List.{length-set, length-replicate, ext_get_or}
 use Rattle.std.proofs.lemmas.List.Sums.{sum_by-cons}
 use Rattle.std.proofs.lemmas.Option.{none-some}
 use Rattle.indexed_heap.specs.Ranks.{rank_at}
 use Rattle.best_k.specs.declared.rank.Rank.{Rank}
 use Rattle.best_k.specs.Halves.{either, joined, IsHalved, IsHalvedBut}
-use Rattle.best_k.proofs.Halving.{at_same, at_other, within_at, one}
+use Rattle.best_k.proofs.Halving.{at_same, at_other, within_at, count_none, one}
 
 pub length-joined : (top : List (Option Rank)) (rest : List (Option (Reverse Rank))) → length (joined top rest) ≡ length top
 length-joined [] rest = refl
@@ -170,3 +170,22 @@ pub same_halved_but : (changed k : ℕ) (top others : List (Option Rank)) (rest 
     → IsHalvedBut changed k others left → IsHalvedBut changed k top rest
 same_halved_but changed k top others rest left e e' halved =
     subst (λ (t : List (Option Rank)). IsHalvedBut changed k t rest) (sym e) (subst (λ (r : List (Option (Reverse Rank))). IsHalvedBut changed k others r) (sym e') halved)
+
+-- ---- where nobody has a rank
+none_ranked : {T : Type 0} (room place : ℕ) → rank_at {T = T} (replicate room None) place ≡ None
+none_ranked zero place = refl
+none_ranked (suc room) zero = refl
+none_ranked {T = T} (suc room) (suc place) = none_ranked {T = T} room place
+
+pub halved_none : (k room : ℕ) (top : List (Option Rank)) (rest : List (Option (Reverse Rank))) → 1 ≤ k → top ≡ replicate room None
+    → rest ≡ replicate room None → IsHalved k top rest
+halved_none k room top rest positive top_is rest_is =
+    let counted : count_by is_some (replicate {A = Option Rank} room None) ≡ 0 = count_none (replicate room None) (none_ranked {T = Rank} room) in
+    same_halved k top (replicate room None) rest (replicate room None) top_is rest_is (record {
+      positive = positive;
+      same_room = length-replicate room None ∙ sym (length-replicate room None);
+      apart = λ place a b at_top at_rest. none-some a (sym (none_ranked room place) ∙ at_top);
+      before = λ p q a b at_top at_rest. absurd (none-some a (sym (none_ranked room p) ∙ at_top));
+      few = omega (arith, counted);
+      full = λ q b at. absurd (none-some b (sym (none_ranked room q) ∙ at));
+    })

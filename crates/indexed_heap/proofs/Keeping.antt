@@ -1,5 +1,5 @@
 -- What a heap keeps, as it is made and when a leaf is written.
-use Rattle.std.proofs.Common.{◌≡◌, inl, inr, ℕ, zero, suc, ◌∷◌, ◌+◌, ◌-◌, ◌*◌, ◌<◌, ◌≤◌, ◌++◌, Bool, true, List, [], Option, Some, None, length, take, drop, set, map, replicate, get_or, is_some, refl, sym, ap, ◌∙◌, subst, arith}
+use Rattle.std.proofs.Common.{◌≡◌, inl, inr, ℕ, zero, suc, ◌∷◌, ◌+◌, ◌-◌, ◌*◌, ◌<◌, ◌≤◌, ◌++◌, Bool, true, cond, List, [], Option, Some, None, length, take, drop, set, map, replicate, get_or, is_some, refl, sym, ap, ◌∙◌, subst, arith}
 use Rattle.std.specs.declared.cmp.Ordering.{Ordering}
 use Rattle.std.specs.List.{count_by}
 use Rattle.std.specs.Option.{option_map}
@@ -48,6 +48,13 @@ filled {T = T} room n before nodes is empty none =
     take-nil : (i : ℕ) → take {A = Option (Ranked T)} i [] ≡ []
     take-nil zero = refl
     take-nil (suc i) = refl
+
+-- the same where it was filled if this holds
+pub refilled : {T : Type 0} (room n : ℕ) (fits : Bool) (before nodes : List (Option (Ranked T)))
+    → nodes ≡ cond fits (take (2 * room) before ++ replicate (2 * room - n) None) before
+    → fits ≡ true → before ≡ [] → n ≡ 0 → nodes ≡ replicate (room + room) None
+refilled {T = T} room n fits before nodes is holds empty none =
+    filled room n before nodes (is ∙ ap (λ b. cond {A = List (Option (Ranked T))} b (take (2 * room) before ++ replicate (2 * room - n) None) before) holds) empty none
 
 pub keeps_none : {T : Type 0} (cmp : T → T → Ordering) (room : ℕ) (nodes : List (Option (Ranked T))) → room ≤ 200000 → nodes ≡ replicate (room + room) None
     → Keeps cmp room 0 nodes

@@ -2,3 +2,4 @@ pub mod TreeLaws
 pub mod Greatest
 pub mod Keeping
 pub mod Widening
+pub mod Within

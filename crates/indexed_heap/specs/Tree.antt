@@ -55,3 +55,10 @@ pub record Keeps {T : Type 0} (cmp : T → T → Ordering) (room held : ℕ) (no
   pub small : room ≤ MAX_OBJECTS
   pub tree : IsTree cmp room nodes
   pub count : held ≡ count_by is_some (ranks_of room nodes)
+
+-- what a heap keeps inside, with memory for the nodes of its greatest width
+pub record IsFilled {T : Type 0} (cmp : T → T → Ordering) (most room held : ℕ) (nodes : List (Option (Ranked T))) (capacity : ℕ) : Type 0 where
+  pub keeps : Keeps cmp room held nodes
+  pub few : most ≤ MAX_OBJECTS
+  pub within : room ≤ most
+  pub memory : most + most ≤ capacity

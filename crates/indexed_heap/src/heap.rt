@@ -1,36 +1,69 @@
 //! The heap.
 
-ghost use Rattle.std.specs.Prelude.{◌≡◌, ◌+◌, ◌-◌, ◌<◌, ◌≤◌, ◌++◌, length, replicate, count_by, is_some, slice_set, IfOk, OnErr, OnOk, IfNone, IfSome, IsTrue};
-ghost use Rattle.std.specs.Option.{option_map};
-ghost use Rattle.indexed_heap.specs.Tree.{IsAtKey};
-ghost use Rattle.indexed_heap.specs.Ranks.{rank_at, one_if, IsGreatest, HasNone};
+ghost use Rattle.std.specs.Prelude.{◌≡◌, ◌+◌, ◌-◌, ◌<◌, ◌≤◌, ◌++◌, length, replicate, count_by, is_some, slice_set, IfOk, OnErr, OnOk, IfNone, IfSome};
+ghost use Rattle.indexed_heap.specs.Ranks.{rank_at, ranks_within, IsGreatest, HasNone, FitsRoom};
 
 use super::Memory;
-use super::tree::{Ranked, first_node, set_leaf};
+use super::filled::Filled;
+use super::tree::Ranked;
 use limits::MAX_OBJECTS;
 use std::alloc::Global;
 use std::marker::Model;
+use std::mem::swap;
 
 /// A finite map from keys to ranks whose greatest rank is at hand. Contracts see it as a list with a place for
 /// each key below the room: the key's rank, or None where it has none.
+///
+/// The leaves are written as keys come: the tree is only as wide as the greatest key wants that ever had a rank, and where a
+/// greater one comes it is copied at four times the width, for which memory is held from the beginning.
 #[derive(Drop)]
 pub struct IndexedHeap<T: Ord + Copy> {
-    alloc: Global,
     room: u32,
-    held: u32,
-    nodes: Vec<Option<Ranked<T>>>,
+    /// The ranks of the keys below its width. No other key has one.
+    filled: Filled<T>,
+    /// Where the ranks are copied, once a wider tree is wanted.
+    other: Filled<T>,
 }
 
 impl<T: Ord + Copy> Model for IndexedHeap<T> {
     ghost use Rattle.std.specs.Prelude.{List, Option};
+    ghost use Rattle.indexed_heap.specs.Ranks.{ranks_within, FitsRoom};
 
     ghost Value = { List (Option T) };
 
-    ghost use Rattle.indexed_heap.specs.Tree.{ranks_of, Keeps};
+    ghost view = { λ a. ranks_within a.room a.filled.ranks };
 
-    ghost view = { λ a. ranks_of a.room a.nodes.items };
+    ghost invariant = { λ a. FitsRoom a.room a.filled a.other };
+}
 
-    ghost invariant = { λ a. Keeps T.cmp a.room a.held a.nodes.items };
+/// Makes a heap wider, if it is too narrow for a key below the room: at least four times as wide, within the room.
+fn reach<T: Ord + Copy>(filled: &mut Filled<T>, other: &mut Filled<T>, room: u32, key: u32)
+    requires fits { FitsRoom room filled.old other.old }
+    requires within { key < room }
+    ensures fits { FitsRoom room filled.new other.new }
+    ensures wide { key < length filled.new.ranks }
+    ensures ranks { ranks_within room filled.new.ranks ≡ ranks_within room filled.old.ranks }
+{
+    if key < filled.room() {
+        return;
+    }
+    let wide = (4 * filled.room()).max(key + 1).min(room);
+    copy(filled, other, wide);
+    swap(filled, other);
+}
+
+/// Copies a heap's ranks into another one, which gets this width.
+fn copy<T: Ord + Copy>(filled: &Filled<T>, other: &mut Filled<T>, wide: u32)
+    requires held { wide ≤ other.old.most }
+    requires wide { length filled.now.ranks ≤ wide }
+    ensures ranks { other.new ≡ record other.old { ranks = ranks_within wide filled.now.ranks } }
+{
+    other.clear_to(wide);
+    for key in 0..filled.room() {
+        if let Some(rank) = filled.get(key) {
+            other.put(key, rank);
+        }
+    }
 }
 
 impl<T: Ord + Copy> IndexedHeap<T> {
@@ -39,15 +72,14 @@ impl<T: Ord + Copy> IndexedHeap<T> {
         requires { room ≤ MAX_OBJECTS }
         ensures { IfOk result (λ heap. heap ≡ replicate room None) }
     {
-        let mut nodes = Vec::new(alloc);
-        let Ok(()) = nodes.resize(2 * room as usize, None) else {
-            return Err(Memory);
-        };
+        let mut filled = Filled::make(alloc);
+        filled.hold(room)?;
+        let mut other = Filled::make(alloc);
+        other.hold(room)?;
         Ok(IndexedHeap {
-            alloc,
             room,
-            held: 0,
-            nodes,
+            filled,
+            other,
         })
     }
 
@@ -62,18 +94,14 @@ impl<T: Ord + Copy> IndexedHeap<T> {
     pub fn len(&self) -> u32
         ensures { result ≡ count_by is_some self.now }
     {
-        self.held
+        self.filled.len()
     }
 
     /// The rank of a key, None where it has none.
     pub fn get(&self, key: u32) -> Option<T>
         ensures { result ≡ rank_at self.now key }
     {
-        if key >= self.room {
-            return None;
-        }
-        let ranked = self.nodes[self.room as usize + key as usize]?;
-        Some(ranked.rank)
+        self.filled.get(key)
     }
 
     /// Whether a key has a rank.
@@ -88,26 +116,16 @@ impl<T: Ord + Copy> IndexedHeap<T> {
         ensures none { IfNone result (HasNone self.now) }
         ensures greatest { IfSome result (λ top. IsGreatest T.cmp self.now top.key top.rank) }
     {
-        first_node(&self.nodes)
+        self.filled.greatest()
     }
 
-    /// Writes the leaf of a key.
-    fn write(&mut self, key: u32, leaf: Option<Ranked<T>>)
-        requires within { key < length self.old }
-        requires own { IsAtKey key leaf }
-        ensures { self.new ≡ slice_set self.old key (option_map (λ ranked. ranked.rank) leaf) }
-    {
-        let had = self.nodes[self.room as usize + key as usize].is_some();
-        self.held = count_after(self.held, had, leaf.is_some());
-        set_leaf(&mut self.nodes, self.room, key, leaf);
-    }
-
-    /// Gives a key a rank, in place of the one that it had.
+    /// Gives a key a rank, in place of the one that it had. Takes no memory.
     pub fn put(&mut self, key: u32, rank: T)
         requires { key < length self.old }
         ensures { self.new ≡ slice_set self.old key (Some rank) }
     {
-        self.write(key, Some(Ranked { key, rank }));
+        reach(&mut self.filled, &mut self.other, self.room, key);
+        self.filled.put(key, rank);
     }
 
     /// Takes the rank of a key away. Where it has none nothing changes.
@@ -115,7 +133,10 @@ impl<T: Ord + Copy> IndexedHeap<T> {
         requires { key < length self.old }
         ensures { self.new ≡ slice_set self.old key None }
     {
-        self.write(key, None);
+        if key >= self.filled.room() {
+            return;
+        }
+        self.filled.remove(key);
     }
 
     /// Makes the room at least `room`, at most 200,000; the ranks stay. Where memory is refused nothing has changed.
@@ -127,26 +148,9 @@ impl<T: Ord + Copy> IndexedHeap<T> {
         if room <= self.room {
             return Ok(());
         }
-        let mut wider = IndexedHeap::make(self.alloc, room)?;
-        for key in 0..self.room {
-            if let Some(rank) = self.get(key) {
-                wider.put(key, rank);
-            }
-        }
-        *self = wider;
+        self.filled.hold(room)?;
+        self.other.hold(room)?;
+        self.room = room;
         Ok(())
-    }
-}
-
-/// The count of ranks after a change of one key, which had a rank before and has one after as told.
-fn count_after(count: u32, had: bool, has: bool) -> u32
-    requires room { count ≤ MAX_OBJECTS }
-    requires counted { IsTrue had → 1 ≤ count }
-    ensures { result + one_if had ≡ count + one_if has }
-{
-    match (had, has) {
-        (true, false) => count - 1,
-        (false, true) => count + 1,
-        _ => count,
     }
 }

@@ -2,6 +2,7 @@
 //! taken once: from then on no change takes memory, and each costs at most the logarithm of the room.
 #![tactic(auto)]
 
+mod filled;
 mod heap;
 mod tree;
 

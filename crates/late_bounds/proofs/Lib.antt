@@ -1,3 +1,4 @@
+pub mod Beginning
 pub mod Places
 pub mod Noted
 pub mod Noting

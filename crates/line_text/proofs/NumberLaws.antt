@@ -98,7 +98,7 @@ pub record AddsDigit (ds : List ℕ) (i : ℕ) : Type 0 where
   pub value : digits_value 10 (take (i + 1) ds) ≡ digits_value 10 (take i ds) * 10 + (get_or ds i 0 - 48)
   pub most : digits_value 10 (take (i + 1) ds) ≤ digits_value 10 ds
 
-decimal_digit_value : (c : ℕ) → 48 ≤ c → c ≤ 57 → digit_value c ≡ c - 48
+pub decimal_digit_value : (c : ℕ) → 48 ≤ c → c ≤ 57 → digit_value c ≡ c - 48
 decimal_digit_value c low high = rw (le-ltb c 48 low, lt-ltb c 58 (omega arith)) refl
 
 pub digit_more : (ds : List ℕ) (i : ℕ) → all_ascii_digits ds ≡ true → i < length ds → AddsDigit ds i

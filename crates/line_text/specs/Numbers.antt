@@ -1,5 +1,5 @@
 -- Numbers as text: `0`, or a digit 1 to 9 followed by digits.
-use Rattle.std.specs.Prelude.{◌≡◌, ◌==◌, ◌&&◌, ◌≤◌, ◌^◌, ℕ, Bool, true, false, List, [], ◌∷◌, if◌then◌else◌, nat_le}
+use Rattle.std.specs.Prelude.{◌≡◌, ◌==◌, ◌&&◌, ◌<◌, ◌≤◌, ◌^◌, ℕ, Bool, true, false, List, [], ◌∷◌, ◌++◌, if◌then◌else◌, length, nat_le, take}
 use Rattle.std.specs.Option.{option_and_then}
 use Rattle.std.specs.declared.option.Option.{Option}
 use Rattle.std.specs.declared.option.Option.TheVariants.{None, Some}
@@ -34,3 +34,16 @@ abbrev pub ReadsNumber : List ℕ → Result ℕ NumberFault → Type 0
 ReadsNumber text (Ok number) = number_of text ≡ Some number
 ReadsNumber text (Err NoNumber) = number_of text ≡ None
 ReadsNumber text (Err TooLarge) = (number : ℕ) × (2 ^ 64 ≤ number) × (number_of text ≡ Some number)
+
+-- the text is a number of 32 bits, and then the rest
+pub record BeginsWithNumber (text : List ℕ) (number : ℕ) (rest : List ℕ) : Type 0 where
+  pub digits : List ℕ
+  pub whole : text ≡ digits ++ rest
+  pub read : number_up_to 4294967295 digits ≡ Some number
+
+-- the bytes before a place of the text are digits of this value
+pub record AreDigitsBefore (text : List ℕ) (place value : ℕ) : Type 0 where
+  pub within : place ≤ length text
+  pub digits : all_ascii_digits (take place text) ≡ true
+  pub is : value ≡ digits_value 10 (take place text)
+  pub few : value < 43000000000

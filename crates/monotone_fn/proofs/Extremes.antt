@@ -1,6 +1,6 @@
 -- `least` and `greatest` give the number among a list that none is smaller, or greater, than.
 use Rattle.std.proofs.Common.{◌≡◌, ℕ, zero, suc, ◌<◌, ◌≤◌, List, [], ◌∷◌, length, get_or, All, Option, Some, None, sym, ap, arith}
-use Rattle.std.specs.Prelude.{unwrap_or, IfNone, IfSome}
+use Rattle.std.specs.Prelude.{unwrap_or, MatchOption}
 use Rattle.std.proofs.lemmas.List.Elements.{All-head, All-tail}
 use Rattle.monotone_fn.specs.Shape.{greatest, IsGreatest}
 use Rattle.monotone_fn.specs.Value.{least, IsLeast}
@@ -50,11 +50,11 @@ greatest-IsGreatest ns v h =
     at_any (n ∷ ns) zero v l e = e
     at_any (n ∷ ns) (suc k) v l e = at_any ns k v (omega arith) e
 
--- the same of what a search of the numbers found
-pub least-found : (o : Option ℕ) (ns : List ℕ) → IfNone o (ns ≡ []) → IfSome o (IsLeast ns) → unwrap_or o 0 ≡ least ns
-least-found None ns e h = ap least (sym e)
-least-found (Some v) ns e h = least-IsLeast ns v h
+-- the same of a least or a greatest that was kept, if there is one
+pub least_kept : (o : Option ℕ) (ns : List ℕ) → MatchOption o (ns ≡ []) (IsLeast ns) → unwrap_or o 0 ≡ least ns
+least_kept None ns none = ap least (sym none)
+least_kept (Some v) ns is = least-IsLeast ns v is
 
-pub greatest-found : (o : Option ℕ) (ns : List ℕ) → IfNone o (ns ≡ []) → IfSome o (IsGreatest ns) → unwrap_or o 0 ≡ greatest ns
-greatest-found None ns e h = ap greatest (sym e)
-greatest-found (Some v) ns e h = greatest-IsGreatest ns v h
+pub greatest_kept : (o : Option ℕ) (ns : List ℕ) → MatchOption o (ns ≡ []) (IsGreatest ns) → unwrap_or o 0 ≡ greatest ns
+greatest_kept None ns none = ap greatest (sym none)
+greatest_kept (Some v) ns is = greatest-IsGreatest ns v is

@@ -2,4 +2,5 @@ pub mod Extremes
 pub mod Fills
 pub mod Laws
 pub mod Medians
+pub mod Summaries
 pub mod Walks

@@ -4,5 +4,6 @@ pub mod Limits
 pub mod NodesFall
 pub mod Shape
 pub mod Shown
+pub mod Summary
 pub mod Tree
 pub mod Value

@@ -8,6 +8,7 @@ mod fault;
 mod grades;
 mod node;
 mod shape;
+mod summary;
 mod value;
 mod values;
 

@@ -5,9 +5,11 @@ ghost use Rattle.monotone_fn.specs.Tree.{trees, terms};
 ghost use Rattle.monotone_fn.specs.Shape.{nodes_of, nodes_below, nodes_in, nodes_under, list_count, list_count_in, list_count_under};
 ghost use Rattle.monotone_fn.specs.Value.{value, values, products};
 ghost use Rattle.monotone_fn.specs.Limits.{Passes};
+ghost use Rattle.monotone_fn.specs.Summary.{Summarizes};
 ghost use Rattle.monotone_fn.specs.Shown.{tree_of};
 
 use super::node::{Node, Nodes, Terms};
+use super::summary::Summary;
 use super::values::Values;
 use limits::{MAX_NODES, MAX_VALUE};
 
@@ -39,9 +41,9 @@ fn value_of_parts(node: &Node, grades: &[u32], ended: &mut u32) -> Option<u64>
 {
     match node {
         Node::List(list) => Some(u64::from(grades[usize::from(*list)])),
-        Node::Min(nodes) => Some(values_at(nodes, grades, ended)?.least()),
-        Node::Max(nodes) => Some(values_at(nodes, grades, ended)?.greatest()),
-        Node::Sum(nodes) => Some(values_at(nodes, grades, ended)?.total()),
+        Node::Min(nodes) => Some(summary_at(nodes, grades, ended)?.least.unwrap_or(0)),
+        Node::Max(nodes) => Some(summary_at(nodes, grades, ended)?.greatest.unwrap_or(0)),
+        Node::Sum(nodes) => Some(summary_at(nodes, grades, ended)?.total),
         Node::Median(nodes) => Some(values_at(nodes, grades, ended)?.median()),
         Node::Wsum(terms) => weighted_at(terms, grades, ended),
     }
@@ -61,6 +63,22 @@ fn values_at(nodes: &Nodes, grades: &[u32], ended: &mut u32) -> Option<Values>
         values.push(value_at(node, grades, ended)?);
     }
     Some(values)
+}
+
+/// What the values of nodes come to.
+#[cycle(value)]
+fn summary_at(nodes: &Nodes, grades: &[u32], ended: &mut u32) -> Option<Summary>
+    requires lists { list_count_in (trees nodes.now) ≤ length grades.now }
+    requires few { length (nodes_in (trees nodes.now)) < MAX_NODES }
+    requires room { ended.old + length (nodes_in (trees nodes.now)) < 2 ^ 32 }
+    ensures summary { IfSome result (Summarizes (values (trees nodes.now) grades.now)) }
+    ensures passes { Passes grades.now (nodes_in (trees nodes.now)) ended.old ended.new result }
+{
+    let mut summary = Summary::start();
+    for node in &nodes.items {
+        summary = summary.with(value_at(node, grades, ended)?);
+    }
+    Some(summary)
 }
 
 /// The sum of weight times value, or the last `u64` where it passes that.

@@ -18,3 +18,9 @@ pub use told::ToldList;
 /// No memory was left.
 #[derive(Clone, Copy, Debug, PartialEq, Eq)]
 pub struct Memory;
+
+impl From<object_map::Memory> for Memory {
+    fn from(_: object_map::Memory) -> Memory {
+        Memory
+    }
+}

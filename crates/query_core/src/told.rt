@@ -1,21 +1,21 @@
 //! A list that is told, as a query reads it.
 
-ghost use Rattle.std.specs.Prelude.{◌≡◌, ◌-◌, ◌==◌, ℕ, nat_eq, slice_get, IfOk, OnOk, if◌then◌else◌};
-ghost use Rattle.std.specs.HashMap.{get};
+ghost use Rattle.std.specs.Prelude.{◌≡◌, ◌-◌, ◌==◌, ℕ, slice_get, IfOk, OnOk, if◌then◌else◌};
+ghost use Rattle.object_map.specs.Values.{value_of};
 ghost use Rattle.topk_theory.specs.Bounds.{grade_among};
 
 use super::Memory;
+use object_map::ObjectMap;
 use ranked_list::{MemList, Row};
 use std::alloc::Global;
-use std::collections::HashMap;
 use std::marker::Model;
 
 /// A list that is read by depth, and by object. The grades by object are put together when the first
 /// is asked for. Contracts see the rows.
-#[derive(Debug, Drop)]
+#[derive(Drop)]
 pub struct ToldList<'a> {
     rows: &'a MemList,
-    grades: Option<HashMap<u32, u32>>,
+    grades: Option<ObjectMap<u32>>,
 }
 
 impl<'a> Model for ToldList<'a> {
@@ -54,19 +54,18 @@ impl<'a> ToldList<'a> {
             self.grades = Some(grades_of(alloc, self.rows)?);
         }
         match &self.grades {
-            Some(grades) => Ok(grades.get(&object).copied()),
+            Some(grades) => Ok(grades.get(object)),
             None => Ok(None),
         }
     }
 }
 
 /// The grades of a list by object.
-fn grades_of(alloc: Global, rows: &MemList) -> Result<HashMap<u32, u32>, Memory>
-    ensures { IfOk result (λ grades. (object : ℕ) → get nat_eq grades object ≡ grade_among rows.now object) }
+fn grades_of(alloc: Global, rows: &MemList) -> Result<ObjectMap<u32>, Memory>
+    ensures { IfOk result (λ grades. (object : ℕ) → value_of grades object ≡ grade_among rows.now object) }
 {
-    let Ok(mut grades) = HashMap::with_capacity(alloc, rows.len() as usize) else {
-        return Err(Memory);
-    };
+    let mut grades = ObjectMap::make(alloc);
+    grades.widen(rows.len().saturating_mul(2))?;
     for place in (0..rows.len()).rev() {
         if let Some(row) = rows.get(place) {
             put(&mut grades, row)?;
@@ -76,12 +75,10 @@ fn grades_of(alloc: Global, rows: &MemList) -> Result<HashMap<u32, u32>, Memory>
 }
 
 /// Puts the grade of a row.
-fn put(grades: &mut HashMap<u32, u32>, row: Row) -> Result<(), Memory>
-    ensures { OnOk result ((object : ℕ) → get nat_eq grades.new object
-        ≡ (if row.object == object then Some row.grade else get nat_eq grades.old object)) }
+fn put(grades: &mut ObjectMap<u32>, row: Row) -> Result<(), Memory>
+    ensures { OnOk result ((object : ℕ) → value_of grades.new object
+        ≡ (if row.object == object then Some row.grade else value_of grades.old object)) }
 {
-    match grades.insert(row.object, row.grade) {
-        Ok(_) => Ok(()),
-        Err(_) => Err(Memory),
-    }
+    grades.insert(row.object, row.grade)?;
+    Ok(())
 }

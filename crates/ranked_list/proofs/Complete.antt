@@ -13,7 +13,7 @@ use Rattle.line_text.specs.Names.{is_name, IsName}
 use Rattle.ranked_list.specs.declared.row.Row.{Row}
 use Rattle.ranked_list.specs.Table.{IsRanked, objects, top_grade}
 use Rattle.ranked_list.specs.Bundle.{Content, IsBundle, sections, bundle_lines, list_line, row_line, query_line}
-use Rattle.ranked_list.specs.Reading.{Front, list_part, row_part, room, is_wanted, takes_row, with_row, is_whole, is_whole_after, is_taken, takes_list, with_list, first_front, read_on, read_first, read_all}
+use Rattle.ranked_list.specs.Reading.{InsideList, list_part, row_part, room, is_wanted, takes_row, with_row, is_whole, is_whole_after, is_taken, takes_list, with_list, first_front, read_on, read_first, read_all}
 use Rattle.ranked_list.proofs.RankLaws.{Capped, no_row, next_in_order, next_has, next_is_new}
 use Rattle.ranked_list.proofs.PartLaws.{part_of-list_line, part_of-row_line, part_of-query_line}
 use Rattle.ranked_list.proofs.ReadLaws.{read_on-takes, read_on-query, ends_alone}
@@ -30,18 +30,18 @@ pub record RowsFit (closed : List (List Row)) (rows : List Row) : Type 0 where
   pub wanted : (object : ℕ) → is_member nat_eq (objects rows) object ≡ true → is_wanted closed object ≡ true
 
 -- the next of them may come
-next_taken : (front : Front) (row : Row) (rows : List Row) → RowsFit front.closed (front.rows ++ row ∷ rows) → takes_row front row ≡ true
+next_taken : (front : InsideList) (row : Row) (rows : List Row) → RowsFit front.closed (front.rows ++ row ∷ rows) → takes_row front row ≡ true
 next_taken front row rows fit =
     takes_from front row (let space = fit.space in omega (arith, length-append front.rows (row ∷ rows)))
     (next_in_order front.rows row rows fit.ranked) (fit.wanted row.object (next_has front.rows row rows)) (next_is_new front.rows row rows fit.ranked)
 
 -- a row's line is read as it
-row_step : (front : Front) (from : ℕ) (row : Row) (rest : List (List ℕ)) → takes_row front row ≡ true → row.object < 2 ^ 32 → row.grade ≤ top_grade
+row_step : (front : InsideList) (from : ℕ) (row : Row) (rest : List (List ℕ)) → takes_row front row ≡ true → row.object < 2 ^ 32 → row.grade ≤ top_grade
     → read_on front from (row_line row ∷ rest) ≡ read_on (with_row front row) (from + 1) rest
 row_step front from row rest takes small cap =
     read_on-takes front from (row_line row) rest (row_line row ∷ rest) (row_part row) refl (sym (part_of-row_line row small (omega arith))) takes
 
-complete_rows : (front : Front) (rows : List Row) (from : ℕ) (rest : List (List ℕ)) → RowsFit front.closed (front.rows ++ rows)
+complete_rows : (front : InsideList) (rows : List Row) (from : ℕ) (rest : List (List ℕ)) → RowsFit front.closed (front.rows ++ rows)
     → (after : ℕ) × (read_on front from (map row_line rows ++ rest) ≡ read_on (record front { rows = front.rows ++ rows }) after rest)
 complete_rows front [] from rest fit = (from, ap (λ rows. read_on (record front { rows = rows }) from rest) (sym (append-nil front.rows)))
 complete_rows front (row ∷ rows) from rest fit =
@@ -95,22 +95,22 @@ contains_head : (first : List Row) (more : List (List Row)) → Contains (first 
 contains_head first more = (0, omega arith, refl)
 
 -- what is there of a bundle whose lists begin with those of a front
-pub record IsSplit (c : Content) (front : Front) (more_names : List (List ℕ)) (more_lists : List (List Row)) : Type 0 where
+pub record IsSplit (c : Content) (front : InsideList) (more_names : List (List ℕ)) (more_lists : List (List Row)) : Type 0 where
   pub each : length front.names ≡ length front.closed
   pub names : c.names ≡ all_names front ++ more_names
   pub lists : c.lists ≡ all_lists front ++ more_lists
 
-open_there : (c : Content) (front : Front) (names : List (List ℕ)) (lists : List (List Row)) → IsSplit c front names lists → Contains c.lists front.rows
+open_there : (c : Content) (front : InsideList) (names : List (List ℕ)) (lists : List (List Row)) → IsSplit c front names lists → Contains c.lists front.rows
 open_there c front names lists s =
     subst (λ ls. Contains ls front.rows) (sym s.lists) (Contains-append_left (all_lists front) lists front.rows (Contains-push front.closed front.rows))
 
-next_there : (c : Content) (front : Front) (names : List (List ℕ)) (rows : List Row) (lists : List (List Row)) → IsSplit c front names (rows ∷ lists)
+next_there : (c : Content) (front : InsideList) (names : List (List ℕ)) (rows : List Row) (lists : List (List Row)) → IsSplit c front names (rows ∷ lists)
     → Contains c.lists rows
 next_there c front names rows lists s =
     subst (λ ls. Contains ls rows) (sym s.lists) (Contains-append_right (all_lists front) (rows ∷ lists) rows (contains_head rows lists))
 
 -- the open list is whole
-split_whole : (c : Content) → IsBundle c → (front : Front) (names : List (List ℕ)) (lists : List (List Row)) → IsSplit c front names lists
+split_whole : (c : Content) → IsBundle c → (front : InsideList) (names : List (List ℕ)) (lists : List (List Row)) → IsSplit c front names lists
     → is_whole front ≡ true
 split_whole c b front names lists s = by_closed front.closed refl
   where
@@ -139,7 +139,7 @@ none_same (n ∷ names) name all =
     or_from_false : (x y : Bool) → x ≡ false → y ≡ false → (x || y) ≡ false
     or_from_false x y p q = rw (p, q) refl
 
-split_new : (c : Content) → IsBundle c → (front : Front) (name : List ℕ) (names : List (List ℕ)) (lists : List (List Row))
+split_new : (c : Content) → IsBundle c → (front : InsideList) (name : List ℕ) (names : List (List ℕ)) (lists : List (List Row))
     → IsSplit c front (name ∷ names) lists → is_taken front name ≡ false
 split_new c b front name names lists s =
     sym (by_or (list_any same front.names) (same front.name)) ∙ sym (list_any-append same front.names (front.name ∷ [])) ∙ none_same (all_names front) name apart
@@ -159,13 +159,13 @@ split_new c b front name names lists s =
         let there = ap (λ ns. get_or ns k d) s.names ∙ get_or_append_left (all_names front) (name ∷ names) d k l in
         b.apart k (length (all_names front)) d l (omega arith) (there ∙ e ∙ sym here)
 
-split_named : (c : Content) → IsBundle c → (front : Front) (name : List ℕ) (names : List (List ℕ)) (lists : List (List Row))
+split_named : (c : Content) → IsBundle c → (front : InsideList) (name : List ℕ) (names : List (List ℕ)) (lists : List (List Row))
     → IsSplit c front (name ∷ names) lists → is_name name ≡ true
 split_named c b front name names lists s =
     All-contains IsName c.names name b.names
     (subst (λ ns. Contains ns name) (sym s.names) (Contains-append_right (all_names front) (name ∷ names) name (0, omega arith, refl)))
 
-split_takes : (c : Content) → IsBundle c → (front : Front) (name : List ℕ) (names : List (List ℕ)) (rows : List Row) (lists : List (List Row))
+split_takes : (c : Content) → IsBundle c → (front : InsideList) (name : List ℕ) (names : List (List ℕ)) (rows : List Row) (lists : List (List Row))
     → IsSplit c front (name ∷ names) (rows ∷ lists)
     → takes_list front name ≡ true
 split_takes c b front name names rows lists s =
@@ -177,7 +177,7 @@ split_takes c b front name names rows lists s =
     (not_from_false _ (split_new c b front name names (rows ∷ lists) s))
 
 -- its rows fit
-split_fit : (c : Content) → IsBundle c → (front : Front) (names : List (List ℕ)) (rows : List Row) (lists : List (List Row))
+split_fit : (c : Content) → IsBundle c → (front : InsideList) (names : List (List ℕ)) (rows : List Row) (lists : List (List Row))
     → IsSplit c front names (rows ∷ lists) → RowsFit (all_lists front) rows
 split_fit c b front names rows lists s = by_closed front.closed refl
   where
@@ -194,7 +194,7 @@ split_fit c b front names rows lists s = by_closed front.closed refl
         (next_there c front names rows lists s))
 
 -- the list that is next is taken in
-split_next : (c : Content) (front : Front) (name : List ℕ) (names : List (List ℕ)) (rows : List Row) (lists : List (List Row))
+split_next : (c : Content) (front : InsideList) (name : List ℕ) (names : List (List ℕ)) (rows : List Row) (lists : List (List Row))
     → IsSplit c front (name ∷ names) (rows ∷ lists)
     → IsSplit c (record { names = all_names front; closed = all_lists front; name = name; rows = rows }) names lists
 split_next c front name names rows lists s = record {
@@ -207,7 +207,7 @@ same_content : (c : Content) (names : List (List ℕ)) (lists : List (List Row))
     → (let a : Content = record { names = names; lists = lists; query = c.query } in a) ≡ c
 same_content c names lists n l = rw (n, l) refl
 
-complete_lists : (c : Content) → IsBundle c → (front : Front) (names : List (List ℕ)) (lists : List (List Row)) (from : ℕ) → length names ≡ length lists
+complete_lists : (c : Content) → IsBundle c → (front : InsideList) (names : List (List ℕ)) (lists : List (List Row)) (from : ℕ) → length names ≡ length lists
     → IsSplit c front names lists
     → read_on front from (sections names lists ++ query_line c.query ∷ []) ≡ Ok c
 complete_lists c b front [] [] from e s =

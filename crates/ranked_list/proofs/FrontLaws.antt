@@ -14,7 +14,7 @@ use Rattle.line_text.specs.Names.{is_name, IsName}
 use Rattle.ranked_list.specs.declared.row.Row.{Row}
 use Rattle.ranked_list.specs.Table.{IsRanked, IsTable, objects}
 use Rattle.ranked_list.specs.Bundle.{IsBundle, section, sections, list_line, row_line}
-use Rattle.ranked_list.specs.Reading.{Front, last_row, in_order, room, is_wanted, takes_row, with_row, is_whole, is_whole_after, is_taken, takes_list, with_list, with_query}
+use Rattle.ranked_list.specs.Reading.{InsideList, last_row, in_order, room, is_wanted, takes_row, with_row, is_whole, is_whole_after, is_taken, takes_list, with_list, with_query}
 use Rattle.ranked_list.proofs.Members.{Within, Within-push, member_from_contains, contains_from_member, all_there}
 use Rattle.ranked_list.proofs.RankLaws.{IsRanked-push, distinct_objects, length-objects}
 
@@ -34,14 +34,14 @@ abbrev pub Fits : List (List Row) → List Row → Type 0
 Fits [] rows = length rows ≤ 200000
 Fits (first ∷ more) rows = (length rows ≤ length first) × Within (objects rows) (objects first)
 
-abbrev pub all_names : Front → List (List ℕ)
+abbrev pub all_names : InsideList → List (List ℕ)
 all_names front = front.names ++ front.name ∷ []
 
-abbrev pub all_lists : Front → List (List Row)
+abbrev pub all_lists : InsideList → List (List Row)
 all_lists front = front.closed ++ front.rows ∷ []
 
 -- what holds of the front of a bundle
-pub record IsFront (front : Front) : Type 0 where
+pub record IsFront (front : InsideList) : Type 0 where
   pub each : length front.names ≡ length front.closed
   pub few : length front.closed + 1 ≤ 64
   pub names : All IsName (all_names front)
@@ -53,7 +53,7 @@ pub record IsFront (front : Front) : Type 0 where
   pub fits : Fits front.closed front.rows
 
 -- the lines of a front
-abbrev pub front_lines : Front → List (List ℕ)
+abbrev pub front_lines : InsideList → List (List ℕ)
 front_lines front = sections (all_names front) (all_lists front)
 
 -- ---- lines
@@ -72,7 +72,7 @@ sections-push names lists name rows e =
     ∙ flat_map-append (λ list. section list.0 list.1) (zip names lists) ((name, rows) ∷ [])
     ∙ ap (λ more. sections names lists ++ more) (append-nil (section name rows))
 
-pub front_lines-row : (front : Front) (row : Row) → length front.names ≡ length front.closed
+pub front_lines-row : (front : InsideList) (row : Row) → length front.names ≡ length front.closed
     → front_lines (with_row front row) ≡ front_lines front ++ row_line row ∷ []
 front_lines-row front row each =
     sections-push front.names front.closed front.name (front.rows ++ row ∷ []) each
@@ -80,7 +80,7 @@ front_lines-row front row each =
     ∙ sym (append_assoc (sections front.names front.closed) (section front.name front.rows) (row_line row ∷ []))
     ∙ ap (λ ls. ls ++ row_line row ∷ []) (sym (sections-push front.names front.closed front.name front.rows each))
 
-pub front_lines-list : (front : Front) (name : List ℕ) → length front.names ≡ length front.closed
+pub front_lines-list : (front : InsideList) (name : List ℕ) → length front.names ≡ length front.closed
     → front_lines (with_list front name) ≡ front_lines front ++ list_line name ∷ []
 front_lines-list front name each =
     sections-push (all_names front) (all_lists front) name [] (omega (arith, length_push front.names front.name, length_push front.closed front.rows))
@@ -96,13 +96,13 @@ wanted_has (first ∷ more) rows row fits space wanted = (
 )
 
 -- what it says that a row may come
-pub record RowFits (front : Front) (row : Row) : Type 0 where
+pub record RowFits (front : InsideList) (row : Row) : Type 0 where
   pub space : length front.rows < room front.closed
   pub order : in_order (last_row front.rows) row ≡ true
   pub wanted : is_wanted front.closed row.object ≡ true
   pub new : is_member nat_eq (objects front.rows) row.object ≡ false
 
-pub row_fits : (front : Front) (row : Row) → takes_row front row ≡ true → RowFits front row
+pub row_fits : (front : InsideList) (row : Row) → takes_row front row ≡ true → RowFits front row
 row_fits front row takes =
     let space = ltb (length front.rows) (room front.closed) in
     let order = in_order (last_row front.rows) row in
@@ -113,7 +113,7 @@ row_fits front row takes =
     let inner = and_parts space order middle.0 in
     record { space = ltb-true _ _ inner.0; order = inner.1; wanted = middle.1; new = not-true _ outer.1 }
 
-pub IsFront-row : (front : Front) (row : Row) → IsFront front → takes_row front row ≡ true → Small row → IsFront (with_row front row)
+pub IsFront-row : (front : InsideList) (row : Row) → IsFront front → takes_row front row ≡ true → Small row → IsFront (with_row front row)
 IsFront-row front row f takes small =
     let fits = row_fits front row takes in record {
       each = f.each;
@@ -211,18 +211,18 @@ differ (n ∷ names) name h =
     let parts = or_parts (bytes_eq n name) (list_any (λ other. bytes_eq other name) names) h in
     All-cons (λ other. other ≢ name) n names (λ e. both_ways _ parts.0 ((bytes_eq-Decides n name).1 e)) (differ names name parts.1)
 
-pub all_differ : (front : Front) (name : List ℕ) → is_taken front name ≡ false → All (λ other. other ≢ name) (all_names front)
+pub all_differ : (front : InsideList) (name : List ℕ) → is_taken front name ≡ false → All (λ other. other ≢ name) (all_names front)
 all_differ front name h =
     let parts = or_parts (list_any (λ other. bytes_eq other name) front.names) (bytes_eq front.name name) h in
     All-push (λ other. other ≢ name) front.names front.name (differ front.names name parts.0) (λ e. both_ways _ parts.1 ((bytes_eq-Decides front.name name).1 e))
 
 -- what it says that a list may begin
-pub record ListFits (front : Front) (name : List ℕ) : Type 0 where
+pub record ListFits (front : InsideList) (name : List ℕ) : Type 0 where
   pub whole : is_whole front ≡ true
   pub few : length front.closed + 1 < 64
   pub new : is_taken front name ≡ false
 
-pub list_fits : (front : Front) (name : List ℕ) → takes_list front name ≡ true → ListFits front name
+pub list_fits : (front : InsideList) (name : List ℕ) → takes_list front name ≡ true → ListFits front name
 list_fits front name takes =
     let whole = is_whole front in
     let few = ltb (length front.closed + 1) 64 in
@@ -242,7 +242,7 @@ Fits-nil : (closed : List (List Row)) (rows : List Row) → Fits (closed ++ rows
 Fits-nil [] rows = (omega arith, λ o has. absurd (false≢true has))
 Fits-nil (first ∷ more) rows = (omega arith, λ o has. absurd (false≢true has))
 
-pub IsFront-list : (front : Front) (name : List ℕ) → IsFront front → takes_list front name ≡ true → is_name name ≡ true → IsFront (with_list front name)
+pub IsFront-list : (front : InsideList) (name : List ℕ) → IsFront front → takes_list front name ≡ true → is_name name ≡ true → IsFront (with_list front name)
 IsFront-list front name f takes named =
     let fits = list_fits front name takes in
     let lists = AreLists-push f.count front.closed front.rows f.closed f.ranked f.small f.fits fits.whole in record {
@@ -259,7 +259,8 @@ IsFront-list front name f takes named =
 
 -- ---- the query, where the open list is whole
 
-pub whole_bundle : (front : Front) (query : List ℕ) → IsFront front → is_whole front ≡ true → All (λ byte. byte ≢ 10) query → IsBundle (with_query front query)
+pub whole_bundle : (front : InsideList) (query : List ℕ) → IsFront front → is_whole front ≡ true → All (λ byte. byte ≢ 10) query
+    → IsBundle (with_query front query)
 whole_bundle front query f whole one_line =
     let lists = AreLists-push f.count front.closed front.rows f.closed f.ranked f.small f.fits whole in
     let a = lists.1 in record {

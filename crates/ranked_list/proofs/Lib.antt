@@ -9,3 +9,4 @@ pub mod Viable
 pub mod Complete
 pub mod Outcome
 pub mod TableLaws
+pub mod FrontLines

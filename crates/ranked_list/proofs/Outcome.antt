@@ -3,8 +3,8 @@ use Rattle.std.proofs.Common.{◌≡◌, ◌≢◌, ◌<◌, ◌≤◌, ◌+◌,
 use Rattle.std.specs.List.{All}
 use Rattle.std.proofs.lemmas.List.Elements.{All-head, All-tail, All-drop}
 use Rattle.std.proofs.lemmas.Bool.{cases_Bool}
-use Rattle.ranked_list.specs.Bundle.{Content, IsBundle, Spells, Begins, IsFirstFault, bundle_lines, query_line}
-use Rattle.ranked_list.specs.Reading.{Front, Part, list_part, row_part, query_part, no_part, part_of, takes_row, with_row, takes_list, with_list, is_whole, with_query, takes_part, with_part, first_front, read_part, read_on, read_first, read_all}
+use Rattle.ranked_list.specs.Bundle.{Content, IsBundle, Spells, BeginsBundle, IsFirstFault, bundle_lines, query_line}
+use Rattle.ranked_list.specs.Reading.{InsideList, Part, list_part, row_part, query_part, no_part, part_of, takes_row, with_row, takes_list, with_list, is_whole, with_query, takes_part, with_part, first_front, read_part, read_on, read_first, read_all}
 use Rattle.ranked_list.proofs.PartLaws.{PartMeans, part_means}
 use Rattle.ranked_list.proofs.ReadLaws.{read_on-nil, read_on-cons, read_part-takes, read_part-refuses, ends_alone, ends_before_more, ends_short}
 use Rattle.ranked_list.proofs.FrontLaws.{IsFront, IsFront-row, IsFront-list, IsFront-first, front_lines, front_lines-row, front_lines-list, whole_bundle}
@@ -25,7 +25,7 @@ pub record Fails (lines : List (List ℕ)) (read : List (List ℕ) → Result Co
   pub before : ℕ
   pub at : fault ≡ from + before
   pub within : before ≤ length ls
-  pub begins : Begins (lines ++ take before ls)
+  pub begins : BeginsBundle (lines ++ take before ls)
   pub fails : before < length ls → (more : List (List ℕ)) → read (take (suc before) ls ++ more) ≡ Err fault
 
 -- what a reading of the lines after a front's says
@@ -34,14 +34,14 @@ Outcome lines read from ls (Ok c) = IsBundle c × (lines ++ ls ≡ bundle_lines 
 Outcome lines read from ls (Err fault) = Fails lines read from fault ls
 
 -- the first line is at fault
-pub outcome_fault : (lines : List (List ℕ)) (read : List (List ℕ) → Result Content ℕ) (from : ℕ) (next : List ℕ) (ls : List (List ℕ)) → Begins lines
+pub outcome_fault : (lines : List (List ℕ)) (read : List (List ℕ) → Result Content ℕ) (from : ℕ) (next : List ℕ) (ls : List (List ℕ)) → BeginsBundle lines
     → ((rest : List (List ℕ)) → read (next ∷ rest) ≡ Err from) → Outcome lines read from (next ∷ ls) (read (next ∷ ls))
 outcome_fault lines read from next ls begins fails =
     subst (Outcome lines read from (next ∷ ls)) (sym (fails ls)) (record {
       before = 0;
       at = omega arith;
       within = omega arith;
-      begins = subst Begins (sym (append-nil lines)) begins;
+      begins = subst BeginsBundle (sym (append-nil lines)) begins;
       fails = λ l more. fails more;
     })
 
@@ -61,24 +61,24 @@ outcome_taken lines after read then from next ls goes grown outcome =
       before = suc h.before;
       at = let at = h.at in omega arith;
       within = let within = h.within in omega arith;
-      begins = subst Begins (joined (take h.before ls)) h.begins;
+      begins = subst BeginsBundle (joined (take h.before ls)) h.begins;
       fails = λ l more. goes (take (suc h.before) ls ++ more) ∙ h.fails (omega arith) more;
     }
 
 -- ---- one line after a front
 
-step : (front : Front) (from : ℕ) (next : List ℕ) (part : Part) → part_of next ≡ part → (rest : List (List ℕ))
+step : (front : InsideList) (from : ℕ) (next : List ℕ) (part : Part) → part_of next ≡ part → (rest : List (List ℕ))
     → read_on front from (next ∷ rest) ≡ read_part front from rest (λ f. read_on f (from + 1) rest) part
 step front from next part is rest = read_on-cons front from next rest ∙ ap (read_part front from rest (λ f. read_on f (from + 1) rest)) is
 
-refused : (front : Front) (from : ℕ) (next : List ℕ) (ls : List (List ℕ)) (part : Part) → IsFront front → part_of next ≡ part
+refused : (front : InsideList) (from : ℕ) (next : List ℕ) (ls : List (List ℕ)) (part : Part) → IsFront front → part_of next ≡ part
     → ((text : List ℕ) → part ≡ query_part text → ⊥) → takes_part front part ≡ false
     → Outcome (front_lines front) (read_on front from) from (next ∷ ls) (read_on front from (next ∷ ls))
 refused front from next ls part f is other refuses =
     outcome_fault (front_lines front) (read_on front from) from next ls (viable front f) (λ rest.
     step front from next part is rest ∙ read_part-refuses front from rest (λ f. read_on f (from + 1) rest) part other refuses)
 
-taken : (front : Front) (from : ℕ) (next : List ℕ) (ls : List (List ℕ)) (part : Part) → part_of next ≡ part → takes_part front part ≡ true
+taken : (front : InsideList) (from : ℕ) (next : List ℕ) (ls : List (List ℕ)) (part : Part) → part_of next ≡ part → takes_part front part ≡ true
     → front_lines (with_part front part) ≡ front_lines front ++ next ∷ []
     → Outcome (front_lines (with_part front part)) (read_on (with_part front part) (from + 1)) (from + 1) ls (read_on (with_part front part) (from + 1) ls)
     → Outcome (front_lines front) (read_on front from) from (next ∷ ls) (read_on front from (next ∷ ls))
@@ -86,7 +86,7 @@ taken front from next ls part is takes grown outcome =
     outcome_taken (front_lines front) (front_lines (with_part front part)) (read_on front from) (read_on (with_part front part) (from + 1)) from next ls
     (λ rest. step front from next part is rest ∙ read_part-takes front from rest (λ f. read_on f (from + 1) rest) part takes) grown outcome
 
-queried : (front : Front) (from : ℕ) (next : List ℕ) (ls : List (List ℕ)) (query : List ℕ) → IsFront front → part_of next ≡ query_part query
+queried : (front : InsideList) (from : ℕ) (next : List ℕ) (ls : List (List ℕ)) (query : List ℕ) → IsFront front → part_of next ≡ query_part query
     → next ≡ query_line query → All (λ byte. byte ≢ 10) query
     → (b : Bool) → is_whole front ≡ b → Outcome (front_lines front) (read_on front from) from (next ∷ ls) (read_on front from (next ∷ ls))
 queried front from next ls query f is spelled one_line false short =
@@ -122,23 +122,23 @@ query_text_of : (next query : List ℕ) → next ≡ query_line query → All (�
 query_text_of next query e all = All-drop (λ byte. byte ≢ 10) 6 (query_line query) (subst (All (λ byte. byte ≢ 10)) e all)
 
 -- what the reading after a front finds out
-pub outcome : (front : Front) (from : ℕ) (ls : List (List ℕ)) → IsFront front → AreLines ls
+pub outcome : (front : InsideList) (from : ℕ) (ls : List (List ℕ)) → IsFront front → AreLines ls
     → Outcome (front_lines front) (read_on front from) from ls (read_on front from ls)
 outcome front from [] f lines =
     subst (Outcome (front_lines front) (read_on front from) from []) (sym (read_on-nil front from)) (record {
       before = 0;
       at = omega arith;
       within = omega arith;
-      begins = subst Begins (sym (append-nil (front_lines front))) (viable front f);
+      begins = subst BeginsBundle (sym (append-nil (front_lines front))) (viable front f);
       fails = λ l more. absurd (omega arith);
     })
 outcome front from (next ∷ ls) f lines =
     by_part front from next ls f (All-head (λ line. All (λ byte. byte ≢ 10) line) next ls lines) (part_of next) refl (part_means next)
     (λ after g. outcome after (from + 1) ls g (All-tail (λ line. All (λ byte. byte ≢ 10) line) next ls lines))
   where
-    by_part : (front : Front) (from : ℕ) (next : List ℕ) (ls : List (List ℕ)) → IsFront front → All (λ byte. byte ≢ 10) next → (part : Part)
+    by_part : (front : InsideList) (from : ℕ) (next : List ℕ) (ls : List (List ℕ)) → IsFront front → All (λ byte. byte ≢ 10) next → (part : Part)
         → part_of next ≡ part → PartMeans next part
-        → ((after : Front) → IsFront after → Outcome (front_lines after) (read_on after (from + 1)) (from + 1) ls (read_on after (from + 1) ls))
+        → ((after : InsideList) → IsFront after → Outcome (front_lines after) (read_on after (from + 1)) (from + 1) ls (read_on after (from + 1) ls))
         → Outcome (front_lines front) (read_on front from) from (next ∷ ls) (read_on front from (next ∷ ls))
     by_part front from next ls f line (list_part name) is means more =
         ⊎_elim
@@ -160,7 +160,7 @@ outcome front from (next ∷ ls) f lines =
 -- ---- all lines
 
 -- some bundle has a first line, so nothing begins each bundle's
-pub begins_none : Begins []
+pub begins_none : BeginsBundle []
 begins_none =
     let v = viable (first_front (65 ∷ [])) (IsFront-first (65 ∷ []) refl) in
     (front_lines (first_front (65 ∷ [])) ++ v.0, v.1, v.2)
@@ -189,7 +189,7 @@ pub first_fault : (ls : List (List ℕ)) (fault : ℕ) → Fails [] read_all 1 f
 first_fault ls fault f = record {
   counted = let at = f.at in omega arith;
   within = let at = f.at in let within = f.within in omega arith;
-  begins = let before : fault - 1 ≡ f.before = (let at = f.at in omega arith) in subst (λ n. Begins (take n ls)) (sym before) f.begins;
+  begins = let before : fault - 1 ≡ f.before = (let at = f.at in omega arith) in subst (λ n. BeginsBundle (take n ls)) (sym before) f.begins;
   ends = λ l begun.
       let at = f.at in
       let place : fault ≡ suc f.before = omega arith in

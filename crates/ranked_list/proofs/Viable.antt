@@ -8,8 +8,8 @@ use Rattle.std.proofs.lemmas.List.Elements.{All-nil}
 use Rattle.std.proofs.lemmas.Bool.{and_from, or_left, or_right, or_cases, cases_Bool, not_from_false, false≢true}
 use Rattle.ranked_list.specs.declared.row.Row.{Row}
 use Rattle.ranked_list.specs.Table.{objects}
-use Rattle.ranked_list.specs.Bundle.{Begins, bundle_lines, row_line, query_line}
-use Rattle.ranked_list.specs.Reading.{Front, last_row, in_order, room, is_wanted, takes_row, with_row, is_whole, is_whole_after, with_query}
+use Rattle.ranked_list.specs.Bundle.{BeginsBundle, bundle_lines, row_line, query_line}
+use Rattle.ranked_list.specs.Reading.{InsideList, last_row, in_order, room, is_wanted, takes_row, with_row, is_whole, is_whole_after, with_query}
 use Rattle.ranked_list.proofs.Members.{Within, member-push, contains_from_member, at_most, fewer}
 use Rattle.ranked_list.proofs.RankLaws.{order_from, length-objects, distinct_objects, object_at, no_row}
 use Rattle.ranked_list.proofs.FrontLaws.{Small, Fits, AreLists, IsFront, IsFront-row, front_lines, front_lines-row, whole_bundle}
@@ -21,7 +21,7 @@ least_row object = record { object = object; grade = 0 }
 least_in_order : (o : Option Row) (object : ℕ) → in_order o (least_row object) ≡ true
 least_in_order o object = order_from o (least_row object) (omega arith) (λ above e. omega arith)
 
-pub takes_from : (front : Front) (row : Row) → length front.rows < room front.closed → in_order (last_row front.rows) row ≡ true
+pub takes_from : (front : InsideList) (row : Row) → length front.rows < room front.closed → in_order (last_row front.rows) row ≡ true
     → is_wanted front.closed row.object ≡ true
     → is_member nat_eq (objects front.rows) row.object ≡ false → takes_row front row ≡ true
 takes_from front row space order wanted new =
@@ -30,16 +30,16 @@ takes_from front row space order wanted new =
     (not_from_false _ new)
 
 -- a front that begins with another's lines
-pub record GoesOn (front after : Front) : Type 0 where
+pub record GoesOn (front after : InsideList) : Type 0 where
   pub is_front : IsFront after
   pub closed : after.closed ≡ front.closed
   pub more : List (List ℕ)
   pub lines : front_lines after ≡ front_lines front ++ more
 
-goes_nowhere : (front : Front) → IsFront front → GoesOn front front
+goes_nowhere : (front : InsideList) → IsFront front → GoesOn front front
 goes_nowhere front f = record { is_front = f; closed = refl; more = []; lines = sym (append-nil (front_lines front)) }
 
-goes_by_row : (front after : Front) (row : Row) → IsFront front → GoesOn (with_row front row) after → GoesOn front after
+goes_by_row : (front after : InsideList) (row : Row) → IsFront front → GoesOn (with_row front row) after → GoesOn front after
 goes_by_row front after row f g = record {
   is_front = g.is_front;
   closed = g.closed;
@@ -48,8 +48,8 @@ goes_by_row front after row f g = record {
 }
 
 -- the front with each of the objects that it lacks
-pub record Filled (front : Front) (wanted : List ℕ) : Type 0 where
-  pub after : Front
+pub record Filled (front : InsideList) (wanted : List ℕ) : Type 0 where
+  pub after : InsideList
   pub goes : GoesOn front after
   pub keeps : Within (objects front.rows) (objects after.rows)
   pub has : Within wanted (objects after.rows)
@@ -71,7 +71,7 @@ added rows row =
 has_first : (object : ℕ) (wanted xs : List ℕ) → is_member nat_eq xs object ≡ true → Within wanted xs → Within (object ∷ wanted) xs
 has_first object wanted xs has within o h = ⊎_elim (λ e. subst (λ x. is_member nat_eq xs x ≡ true) (sym (eqb-true o object e)) has) (λ rest. within o rest) (or_cases (eqb o object) (is_member nat_eq wanted o) h)
 
-fill : (first : List Row) (others : List (List Row)) (front : Front) (wanted : List ℕ) → front.closed ≡ first ∷ others → IsFront front → All Small first
+fill : (first : List Row) (others : List (List Row)) (front : InsideList) (wanted : List ℕ) → front.closed ≡ first ∷ others → IsFront front → All Small first
     → Within wanted (objects first) → Filled front wanted
 fill first others front [] e f small within = record { after = front; goes = goes_nowhere front f; keeps = λ o has. has; has = λ o has. absurd (false≢true has) }
 fill first others front (object ∷ wanted) e f small within =
@@ -100,7 +100,7 @@ fill first others front (object ∷ wanted) e f small within =
     there : is_member nat_eq (objects first) object ≡ true
     there = within object (or_left (eqb object object) _ (eq-eqb object object refl))
 
-    takes_least : (first : List Row) (others : List (List Row)) (front : Front) (object : ℕ) → front.closed ≡ first ∷ others → IsFront front
+    takes_least : (first : List Row) (others : List (List Row)) (front : InsideList) (object : ℕ) → front.closed ≡ first ∷ others → IsFront front
         → is_member nat_eq (objects first) object ≡ true
         → is_member nat_eq (objects front.rows) object ≡ false → takes_row front (least_row object) ≡ true
     takes_least first others front object e f there lacks =
@@ -113,12 +113,12 @@ fill first others front (object ∷ wanted) e f small within =
         lacks
 
 -- a front that goes on to one whose list is whole
-pub record CanEnd (front : Front) : Type 0 where
-  pub after : Front
+pub record CanEnd (front : InsideList) : Type 0 where
+  pub after : InsideList
   pub goes : GoesOn front after
   pub whole : is_whole after ≡ true
 
-can_end_first : (front : Front) (rows : List Row) → front.rows ≡ rows → front.closed ≡ [] → IsFront front → CanEnd front
+can_end_first : (front : InsideList) (rows : List Row) → front.rows ≡ rows → front.closed ≡ [] → IsFront front → CanEnd front
 can_end_first front [] is none f =
     let takes =
     takes_from front (least_row 0)
@@ -138,7 +138,7 @@ can_end_first front (row ∷ rows) is none f = record {
   whole = subst (λ closed. is_whole_after closed front.rows ≡ true) (sym none) (subst (λ rows. is_whole_after [] rows ≡ true) (sym is) (lt-ltb 0 _ (omega arith)));
 }
 
-can_end_later : (front : Front) (first : List Row) (others : List (List Row)) → front.closed ≡ first ∷ others → IsFront front → CanEnd front
+can_end_later : (front : InsideList) (first : List Row) (others : List (List Row)) → front.closed ≡ first ∷ others → IsFront front → CanEnd front
 can_end_later front first others e f =
     let table = subst (λ closed. AreLists f.count closed) e f.closed in
     let full = fill first others front (objects first) e f (table.small 0 first (omega arith)) (λ o has. has) in
@@ -153,7 +153,7 @@ can_end_later front first others e f =
       whole = subst (λ closed. is_whole_after closed full.after.rows ≡ true) (sym closed) (eq-eqb _ _ same);
     }
 
-pub can_end : (front : Front) → IsFront front → CanEnd front
+pub can_end : (front : InsideList) → IsFront front → CanEnd front
 can_end front f = by_closed front.closed refl
   where
     by_closed : (closed : List (List Row)) → front.closed ≡ closed → CanEnd front
@@ -161,11 +161,11 @@ can_end front f = by_closed front.closed refl
     by_closed (first ∷ others) e = can_end_later front first others e f
 
 -- the lines of a front with its query
-pub bundle_lines-query : (front : Front) (query : List ℕ) → bundle_lines (with_query front query) ≡ front_lines front ++ query_line query ∷ []
+pub bundle_lines-query : (front : InsideList) (query : List ℕ) → bundle_lines (with_query front query) ≡ front_lines front ++ query_line query ∷ []
 bundle_lines-query front query = refl
 
 -- the lines of a front begin some bundle's
-pub viable : (front : Front) → IsFront front → Begins (front_lines front)
+pub viable : (front : InsideList) → IsFront front → BeginsBundle (front_lines front)
 viable front f =
     let end = can_end front f in
     let g = end.goes in (

@@ -63,16 +63,16 @@ pub record Spells (ls : List (List ℕ)) (c : Content) : Type 0 where
   pub spelled : ls ≡ bundle_lines c
 
 -- the lines are the front of the lines of some bundle
-abbrev pub Begins : List (List ℕ) → Type 0
-Begins ls = (rest : List (List ℕ)) × (c : Content) × Spells (ls ++ rest) c
+abbrev pub BeginsBundle : List (List ℕ) → Type 0
+BeginsBundle ls = (rest : List (List ℕ)) × (c : Content) × Spells (ls ++ rest) c
 
 -- the line, counted from 1, is the first such that no bundle's lines begin with the lines up to and including it,
 -- or the number of lines plus one where all of them are the front of some bundle's
 pub record IsFirstFault (ls : List (List ℕ)) (line : ℕ) : Type 0 where
   pub counted : 1 ≤ line
   pub within : line ≤ length ls + 1
-  pub begins : Begins (take (line - 1) ls)
-  pub ends : line ≤ length ls → Begins (take line ls) → ⊥
+  pub begins : BeginsBundle (take (line - 1) ls)
+  pub ends : line ≤ length ls → BeginsBundle (take line ls) → ⊥
 
 -- the reading of lines that spell this content: it is the content of what was read, or memory was refused
 abbrev pub IsReadAs : Content → Result Bundle BundleFault → Type 0

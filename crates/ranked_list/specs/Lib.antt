@@ -3,3 +3,4 @@ pub mod Order
 pub mod Bundle
 pub mod Reading
 pub mod Tracking
+pub mod Fronts

@@ -57,14 +57,14 @@ part_read (Query text) = query_part text.now
 part_read Other = no_part
 
 -- the front of a bundle that ends inside a list: the names of the lists before it, these lists, and its own name and its rows so far
-pub record Front : Type 0 where
+pub record InsideList : Type 0 where
   pub names : List (List ℕ)
   pub closed : List (List Row)
   pub name : List ℕ
   pub rows : List Row
 
 -- the front that has only the line of its first list
-abbrev pub first_front : List ℕ → Front
+abbrev pub first_front : List ℕ → InsideList
 first_front name = record { names = []; closed = []; name = name; rows = [] }
 
 -- the last row, if there is one
@@ -93,12 +93,12 @@ is_wanted [] object = true
 is_wanted (first ∷ more) object = is_member nat_eq (objects first) object
 
 -- whether a row may come next
-abbrev pub takes_row : Front → Row → Bool
+abbrev pub takes_row : InsideList → Row → Bool
 takes_row front row =
     ((nat_lt (length front.rows) (room front.closed) && in_order (last_row front.rows) row) && is_wanted front.closed row.object)
     && not (is_member nat_eq (objects front.rows) row.object)
 
-abbrev pub with_row : Front → Row → Front
+abbrev pub with_row : InsideList → Row → InsideList
 with_row front row = record front { rows = front.rows ++ row ∷ [] }
 
 -- whether the list that is open may end
@@ -106,22 +106,22 @@ abbrev pub is_whole_after : List (List Row) → List Row → Bool
 is_whole_after [] rows = nat_lt 0 (length rows)
 is_whole_after (first ∷ more) rows = length rows == length first
 
-abbrev pub is_whole : Front → Bool
+abbrev pub is_whole : InsideList → Bool
 is_whole front = is_whole_after front.closed front.rows
 
 -- whether a name is taken
-abbrev pub is_taken : Front → List ℕ → Bool
+abbrev pub is_taken : InsideList → List ℕ → Bool
 is_taken front name = list_any (λ other. bytes_eq other name) front.names || bytes_eq front.name name
 
 -- whether a list with this name may begin
-abbrev pub takes_list : Front → List ℕ → Bool
+abbrev pub takes_list : InsideList → List ℕ → Bool
 takes_list front name = (is_whole front && nat_lt (length front.closed + 1) MAX_BUNDLE_LISTS) && not (is_taken front name)
 
-abbrev pub with_list : Front → List ℕ → Front
+abbrev pub with_list : InsideList → List ℕ → InsideList
 with_list front name = record { names = front.names ++ front.name ∷ []; closed = front.closed ++ front.rows ∷ []; name = name; rows = [] }
 
 -- what the bundle says that ends with this query
-abbrev pub with_query : Front → List ℕ → Content
+abbrev pub with_query : InsideList → List ℕ → Content
 with_query front query = record { names = front.names ++ front.name ∷ []; lists = front.closed ++ front.rows ∷ []; query = query }
 
 -- the content where no line is left, else that the line after is at fault
@@ -130,27 +130,27 @@ at_end c line [] = Ok c
 at_end c line (next ∷ ls) = Err line
 
 -- whether the line may come next inside the lists
-abbrev pub takes_part : Front → Part → Bool
+abbrev pub takes_part : InsideList → Part → Bool
 takes_part front (list_part name) = takes_list front name
 takes_part front (row_part row) = takes_row front row
 takes_part front (query_part text) = false
 takes_part front no_part = false
 
-abbrev pub with_part : Front → Part → Front
+abbrev pub with_part : InsideList → Part → InsideList
 with_part front (list_part name) = with_list front name
 with_part front (row_part row) = with_row front row
 with_part front (query_part text) = front
 with_part front no_part = front
 
 -- one line more, which is line number `line`
-abbrev pub read_part : Front → ℕ → List (List ℕ) → (Front → Result Content ℕ) → Part → Result Content ℕ
+abbrev pub read_part : InsideList → ℕ → List (List ℕ) → (InsideList → Result Content ℕ) → Part → Result Content ℕ
 read_part front line ls go (list_part name) = if takes_list front name then go (with_list front name) else Err line
 read_part front line ls go (row_part row) = if takes_row front row then go (with_row front row) else Err line
 read_part front line ls go (query_part text) = if is_whole front then at_end (with_query front text) (line + 1) ls else Err line
 read_part front line ls go no_part = Err line
 
 -- the lines after a front, of which the first is line number `line`: the content, or the number of the line at fault
-unfoldable pub read_on : Front → ℕ → List (List ℕ) → Result Content ℕ
+unfoldable pub read_on : InsideList → ℕ → List (List ℕ) → Result Content ℕ
 read_on front line [] = Err line
 read_on front line (next ∷ ls) = read_part front line ls (λ front. read_on front (line + 1) ls) (part_of next)
 

@@ -2,7 +2,7 @@
 use Rattle.std.specs.Prelude.{◌≡◌, ◌==◌, ◌≤◌, ℕ, Bool, true, false, Option, None, Some, List, [], ◌∷◌, map, length, is_some, nat_eq, IfSome}
 use Rattle.std.specs.Set.{is_member}
 use Rattle.ranked_list.specs.Table.{IsRanked, objects}
-use Rattle.std.specs.HashMap.{get}
+use Rattle.object_map.specs.Values.{value_of}
 use Rattle.std.specs.declared.result.Result.{Result}
 use Rattle.std.specs.declared.result.Result.TheVariants.{Ok, Err}
 use Rattle.ranked_list.specs.declared.row.Row.{Row}
@@ -11,10 +11,10 @@ use Rattle.ranked_list.specs.declared.bundle.Bundle.{Bundle}
 use Rattle.ranked_list.specs.declared.bundle.BundleFault.{BundleFault}
 use Rattle.ranked_list.specs.declared.bundle.BundleFault.TheVariants.{BadBundle, Memory}
 use Rattle.ranked_list.specs.Bundle.{Content, content}
-use Rattle.ranked_list.specs.Reading.{Front, last_row, TellsObjects}
+use Rattle.ranked_list.specs.Reading.{InsideList, last_row, TellsObjects}
 
 -- the front that a reader has read
-abbrev pub front_of : Reader → Front
+abbrev pub front_of : Reader → InsideList
 front_of reader = record { names = map (λ name. name.items) reader.names.items; closed = reader.closed.items; name = reader.name.items; rows = reader.rows }
 
 -- the test is passed by the objects of the first list, if there is one
@@ -32,9 +32,9 @@ has_number number (Some own) = own == number
 pub record IsTracked (reader : Reader) : Type 0 where
   pub last : reader.last ≡ last_row reader.rows
   pub number : reader.number ≡ length reader.closed.items
-  pub seen : TellsObjects (λ object. has_number reader.number (get nat_eq reader.given object)) reader.rows
-  pub first : TellsFirst (λ object. is_some (get nat_eq reader.given object)) reader.closed.items
-  pub past : (object : ℕ) → IfSome (get nat_eq reader.given object) (λ number. number ≤ reader.number)
+  pub seen : TellsObjects (λ object. has_number reader.number (value_of reader.given object)) reader.rows
+  pub first : TellsFirst (λ object. is_some (value_of reader.given object)) reader.closed.items
+  pub past : (object : ℕ) → IfSome (value_of reader.given object) (λ number. number ≤ reader.number)
 
 -- a list is ranked and has so many rows, all of objects that pass the test
 pub record IsAlike (count : ℕ) (test : ℕ → Bool) (rows : List Row) : Type 0 where

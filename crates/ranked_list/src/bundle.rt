@@ -10,6 +10,7 @@ ghost use Rattle.ranked_list.specs.Tracking.{front_of, IsTracked, Gives};
 use super::line::{Line, line_of};
 use super::mem_list::MemList;
 use super::reader::Reader;
+use super::row_front::next_line;
 use line_text::first_line;
 use std::alloc::Global;
 use thiserror::Error;
@@ -56,8 +57,7 @@ fn read_rest(alloc: Global, mut reader: Reader, bytes: &[u8]) -> Result<Bundle, 
 {
     let mut rest = bytes;
     let mut number: u64 = 2;
-    while let Some((text, more)) = first_line(rest) {
-        let line = line_of(text);
+    while let Some((line, more)) = next_line(rest) {
         if let Line::Query(query) = line {
             return read_end(alloc, reader, query, number, more);
         }

@@ -11,6 +11,7 @@ mod order;
 mod page_rows;
 mod reader;
 mod row;
+mod row_front;
 mod table;
 
 pub use bundle::{Bundle, BundleFault, read_bundle};
@@ -26,6 +27,12 @@ pub use table::is_table;
 /// No memory was left.
 #[derive(Clone, Copy, Debug, PartialEq, Eq)]
 pub struct Memory;
+
+impl From<object_map::Memory> for Memory {
+    fn from(_: object_map::Memory) -> Memory {
+        Memory
+    }
+}
 
 impl From<AllocError> for Memory {
     fn from(_: AllocError) -> Memory {

@@ -1,11 +1,12 @@
 //! Sets of objects, and objects with the numbers of lists.
 
 ghost use Rattle.std.specs.Prelude.{◌≡◌, ◌==◌, ℕ, Some, true, not, nat_eq, IfOk, OnOk, if◌then◌else◌};
-ghost use Rattle.std.specs.HashMap.{get};
+ghost use Rattle.object_map.specs.Values.{value_of};
 ghost use Rattle.std.specs.HashSet.{contains};
 
 use super::Memory;
-use std::collections::{HashMap, HashSet};
+use object_map::ObjectMap;
+use std::collections::HashSet;
 
 /// Puts an object into a set, and says whether it is new there.
 pub(crate) fn put(set: &mut HashSet<u32>, object: u32) -> Result<bool, Memory>
@@ -20,15 +21,13 @@ pub(crate) fn put(set: &mut HashSet<u32>, object: u32) -> Result<bool, Memory>
 
 /// Gives an object this number, and says which it had before.
 pub(crate) fn mark(
-    numbers: &mut HashMap<u32, u8>,
+    numbers: &mut ObjectMap<u8>,
     object: u32,
     number: u8,
 ) -> Result<Option<u8>, Memory>
-    ensures tells { IfOk result (λ before. before ≡ get nat_eq numbers.old object) }
-    ensures marks { OnOk result ((other : ℕ) → get nat_eq numbers.new other ≡ (if object == other then Some number else get nat_eq numbers.old other)) }
+    ensures tells { IfOk result (λ before. before ≡ value_of numbers.old object) }
+    ensures marks { OnOk result ((other : ℕ) → value_of numbers.new other ≡ (if object == other then Some number else value_of numbers.old other)) }
 {
-    match numbers.insert(object, number) {
-        Ok(before) => Ok(before),
-        Err(_) => Err(Memory),
-    }
+    numbers.reach(object)?;
+    Ok(numbers.insert(object, number)?)
 }

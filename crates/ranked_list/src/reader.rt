@@ -15,8 +15,8 @@ use super::objects::mark;
 use super::order::check_next;
 use super::row::Row;
 use limits::{MAX_BUNDLE_LISTS, MAX_OBJECTS};
+use object_map::ObjectMap;
 use std::alloc::Global;
-use std::collections::HashMap;
 use std::mem::replace;
 
 /// The lists of a bundle so far, of which the last is open.
@@ -35,7 +35,7 @@ pub(crate) struct Reader {
     /// The number of the open list, from 0.
     number: u8,
     /// For each object the number of the last list that has it.
-    given: HashMap<u32, u8>,
+    given: ObjectMap<u8>,
 }
 
 impl Reader {
@@ -50,7 +50,7 @@ impl Reader {
             rows: MemList::make(alloc),
             last: None,
             number: 0,
-            given: HashMap::new(alloc),
+            given: ObjectMap::make(alloc),
         })
     }
 

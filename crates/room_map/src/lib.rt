@@ -10,6 +10,12 @@ use std::alloc::AllocError;
 #[derive(Clone, Copy, Debug, PartialEq, Eq)]
 pub struct Memory;
 
+impl From<object_map::Memory> for Memory {
+    fn from(_: object_map::Memory) -> Memory {
+        Memory
+    }
+}
+
 impl From<AllocError> for Memory {
     fn from(_: AllocError) -> Memory {
         Memory

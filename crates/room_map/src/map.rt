@@ -1,14 +1,12 @@
 //! The map from keys to their places.
 
-ghost use Rattle.std.specs.Prelude.{◌≡◌, ◌<◌, ◌≤◌, ◌==◌, [], ◌∷◌, ◌++◌, ℕ, length, nat_eq, position, slice_get, Contains, IfOk, OnOk, OnErr, IsTrue};
-ghost use Rattle.std.specs.Prelude.{◌+◌, false};
-ghost use Rattle.std.specs.List.{list_any};
-ghost use Rattle.indexmap.specs.IndexSet.{spare, IsUnique};
+ghost use Rattle.std.specs.Prelude.{◌≡◌, ◌<◌, ◌≤◌, ◌==◌, [], ◌∷◌, ◌++◌, ◌+◌, ℕ, None, length, nat_eq, position, slice_get, Contains, IfOk, OnOk, OnErr};
+ghost use Rattle.object_map.specs.Values.{value_of, IsSet};
 ghost use Rattle.room_map.specs.Keys.{FitsRoom};
 
 use super::Memory;
-use indexmap::IndexSet;
 use limits::MAX_OBJECTS;
+use object_map::ObjectMap;
 use std::alloc::Global;
 use std::marker::Model;
 
@@ -17,32 +15,39 @@ use std::marker::Model;
 #[derive(Drop)]
 pub struct RoomMap {
     room: u32,
-    keys: IndexSet<u32>,
+    keys: Vec<u32>,
+    places: ObjectMap<u32>,
 }
 
 impl Model for RoomMap {
-    ghost use Rattle.std.specs.Prelude.{◌≤◌, ◌+◌, length, nat_eq};
-    ghost use Rattle.limits.specs.declared.TheConstants.{MAX_OBJECTS};
-    ghost use Rattle.room_map.specs.Keys.{Keys};
-    ghost use Rattle.indexmap.specs.IndexSet.{spare, IsUnique};
+    ghost use Rattle.std.specs.Prelude.{vec_capacity};
+    ghost use Rattle.room_map.specs.Keys.{Keys, IsKept};
 
     ghost Value = { Keys };
 
-    ghost view = { λ a. record { room = a.room; keys = a.keys.keys } };
+    ghost view = { λ a. record { room = a.room; keys = a.keys.items } };
 
-    ghost invariant = { λ a. (a.room ≤ MAX_OBJECTS) × (length a.keys.keys ≤ a.room) × (a.room ≤ length a.keys.keys + spare a.keys) × IsUnique nat_eq a.keys };
+    ghost invariant = { λ a. IsKept a.room a.keys.items (vec_capacity a.keys) a.places };
 }
 
-/// Adds a key that isn't there as the last one. There is room for it.
-fn put_last(keys: &mut IndexSet<u32>, key: u32)
-    requires absent { list_any (nat_eq key) keys.old.keys ≡ false }
-    requires room { 0 < spare keys.old }
-    requires unique { IsUnique nat_eq keys.old }
-    ensures keys { keys.new.keys ≡ keys.old.keys ++ key ∷ [] }
-    ensures room { spare keys.old ≤ spare keys.new + 1 }
-    ensures unique { IsUnique nat_eq keys.new }
+/// No places, with memory for so many, and a table for twice as many numbers: small where few keys are.
+fn places_for(alloc: Global, room: u32) -> Result<ObjectMap<u32>, Memory>
+    ensures none { IfOk result (λ places. (key : ℕ) → value_of places key ≡ None) }
+    ensures spare { IfOk result (λ places. room ≤ places.spare) }
 {
-    keys.insert(key).unwrap();
+    let mut places = ObjectMap::make(alloc);
+    places.reserve(room)?;
+    places.widen(room.saturating_mul(2))?;
+    Ok(places)
+}
+
+/// Gives a key its place. Memory is held for it.
+fn put_place(places: &mut ObjectMap<u32>, key: u32, place: u32)
+    requires { 0 < places.old.spare }
+    ensures set { IsSet places.old places.new key place }
+    ensures spare { places.old.spare ≤ places.new.spare + 1 }
+{
+    places.insert(key, place).unwrap();
 }
 
 impl RoomMap {
@@ -51,8 +56,9 @@ impl RoomMap {
         requires { room ≤ MAX_OBJECTS }
         ensures { IfOk result (λ map. map ≡ record { room = room; keys = [] }) }
     {
-        let keys = IndexSet::with_capacity(alloc, room as usize)?;
-        Ok(RoomMap { room, keys })
+        let keys = Vec::with_capacity(alloc, room as usize)?;
+        let places = places_for(alloc, room)?;
+        Ok(RoomMap { room, keys, places })
     }
 
     /// Adds a key that isn't there as the last one, and gives its place, from 0.
@@ -63,7 +69,8 @@ impl RoomMap {
         ensures added { self.new ≡ record self.old { keys = self.old.keys ++ key ∷ [] } }
     {
         let place = self.keys.len() as u32;
-        put_last(&mut self.keys, key);
+        self.keys.push_reserved(key);
+        put_place(&mut self.places, key, place);
         place
     }
 
@@ -71,8 +78,7 @@ impl RoomMap {
     pub fn place(&self, key: u32) -> Option<u32>
         ensures { result ≡ position (nat_eq key) self.now.keys }
     {
-        let place = self.keys.get_index_of(&key)?;
-        Some(place as u32)
+        self.places.get(key)
     }
 
     /// The key at a place.
@@ -80,7 +86,7 @@ impl RoomMap {
         requires { place < length self.now.keys }
         ensures { slice_get self.now.keys place ≡ Some result }
     {
-        self.keys.as_slice()[place as usize]
+        self.keys[place as usize]
     }
 
     /// How many keys there are.
@@ -116,8 +122,10 @@ impl RoomMap {
         ensures err { OnErr result (self.new ≡ self.old) }
     {
         if room > self.room {
-            let more = room as usize - self.keys.len();
-            self.keys.reserve(more)?;
+            let more = room - self.keys.len() as u32;
+            self.keys.reserve(more as usize)?;
+            self.places.reserve(more)?;
+            self.places.widen(room.saturating_mul(2))?;
             self.room = room;
         }
         Ok(())

@@ -1,12 +1,14 @@
 -- Each step of a walk over nodes.
-use Rattle.std.proofs.Common.{◌≡◌, ◌+◌, ◌*◌, ◌-◌, ◌^◌, ◌≤◌, ◌++◌, min, List, length, map, drop, sum, subst, arith}
+use Rattle.std.proofs.Common.{◌≡◌, ◌+◌, ◌*◌, ◌-◌, ◌^◌, ◌≤◌, ◌++◌, min, List, length, map, drop, sum, ap, ◌∙◌, subst, arith}
 use Rattle.std.proofs.lemmas.List.{drop_all}
 use Rattle.monotone_fn.specs.Tree.{trees, terms}
 use Rattle.monotone_fn.specs.Shape.{nodes_of, nodes_in, nodes_under, list_count_in, list_count_under}
-use Rattle.monotone_fn.specs.Value.{values, products}
+use Rattle.monotone_fn.specs.Value.{value, values, products}
 use Rattle.monotone_fn.specs.Shown.{tree_of, term_of}
 use Rattle.monotone_fn.specs.declared.node.Node.{Node}
 use Rattle.monotone_fn.specs.declared.node.Term.{Term}
+use Rattle.monotone_fn.proofs.Extremes.{least_kept, greatest_kept}
+use Rattle.monotone_fn.proofs.Summaries.{SummarizesSoFar, summarizes_more, summarizes_all}
 use Rattle.monotone_fn.proofs.Walks.{Walking, Walking-some, Walking-none, Passes-below_none, Passes-checked, drop-item, values-room, values-step, products-step}
 use Rattle.monotone_fn.proofs.value.+value.Goals as goal
 
@@ -55,6 +57,58 @@ values_at-loop-node-preserved t c =
       walking = Walking-some x (nodes_in all) (nodes_of (tree_of node)) (nodes_in rest) c.args.ended.now c.loop-node.ended c.value_at.new.ended c.in_ok-value_at.field-0 walking c.in_ok-value_at.ensures.passes;
       values = rw c.push.ensures (values-step x c.loop-node.values (values all x) (tree_of node) rest c.in_ok-value_at.field-0 values' c.in_ok-value_at.ensures.value);
     }
+
+pub value_of_parts-returns-in_ok-summary_at-in-Min-clause-value :
+    goal.value_of_parts-returns-in_ok-summary_at-in-Min-clause-value
+value_of_parts-returns-in_ok-summary_at-in-Min-clause-value t c =
+    let summary = c.in_ok-summary_at-in-Min in
+    let is = c.unwrap_or.ensures ∙ least_kept summary.field-0.least (values (trees c.in-Min.nodes) c.args.grades.now) summary.ensures.summary.least in
+    let node = ap (λ t. value t c.args.grades.now) (ap tree_of c.in-Min.is) in
+    omega (arith, is, node)
+
+pub value_of_parts-returns-in_ok-summary_at-in-Max-clause-value :
+    goal.value_of_parts-returns-in_ok-summary_at-in-Max-clause-value
+value_of_parts-returns-in_ok-summary_at-in-Max-clause-value t c =
+    let summary = c.in_ok-summary_at-in-Max in
+    let is = c.unwrap_or-in-Max.ensures ∙ greatest_kept summary.field-0.greatest (values (trees c.in-Max.nodes) c.args.grades.now) summary.ensures.summary.greatest in
+    let node = ap (λ t. value t c.args.grades.now) (ap tree_of c.in-Max.is) in
+    omega (arith, is, node)
+
+pub summary_at-returns-in_err-value_at-clause-passes :
+    goal.summary_at-returns-in_err-value_at-clause-passes
+summary_at-returns-in_err-value_at-clause-passes t c =
+    let x = c.args.grades.now in
+    let all = nodes_in (trees c.args.nodes.now) in
+    let items = c.deref-node-items.result.now in
+    let node = c.node-item.result in
+    let left = drop-item items c.loop-node.node-index node (omega arith) c.node-item.is in
+    let at = subst (λ (ns : List Node). Walking x all (nodes_in (trees (map tree_of ns))) c.args.ended.now c.loop-node.ended) left c.loop-node.invariant.walking in
+    rw c.from_residual.ensures (Walking-none x all (nodes_of (tree_of node)) (nodes_in (trees (map tree_of (drop (c.loop-node.node-index + 1) items)))) c.args.ended.now c.loop-node.ended c.value_at.new.ended at c.in_err-value_at.ensures.passes)
+
+pub summary_at-loop-node-preserved : goal.summary_at-loop-node-preserved
+summary_at-loop-node-preserved t c =
+    let x = c.args.grades.now in
+    let all = trees c.args.nodes.now in
+    let items = c.deref-node-items.result.now in
+    let node = c.node-item.result in
+    let rest = trees (map tree_of (drop (c.loop-node.node-index + 1) items)) in
+    let left = drop-item items c.loop-node.node-index node (omega arith) c.node-item.is in
+    let lists = subst (λ (ns : List Node). list_count_in (trees (map tree_of ns)) ≤ length x) left c.loop-node.invariant.lists in
+    let walking = subst (λ (ns : List Node). Walking x (nodes_in all) (nodes_in (trees (map tree_of ns))) c.args.ended.now c.loop-node.ended) left c.loop-node.invariant.walking in
+    let so_far = subst (λ (ns : List Node). SummarizesSoFar c.loop-node.summary (values (trees (map tree_of ns)) x) (values all x)) left c.loop-node.invariant.so_far in
+    record {
+      lists = omega (arith, lists);
+      walking = Walking-some x (nodes_in all) (nodes_of (tree_of node)) (nodes_in rest) c.args.ended.now c.loop-node.ended c.value_at.new.ended c.in_ok-value_at.field-0 walking c.in_ok-value_at.ensures.passes;
+      so_far = summarizes_more x (values all x) (tree_of node) rest c.in_ok-value_at.field-0 c.loop-node.summary c.with-summary.result so_far c.in_ok-value_at.ensures.value c.with-summary.ensures;
+    }
+
+pub summary_at-returns-clause-summary : goal.summary_at-returns-clause-summary
+summary_at-returns-clause-summary t c =
+    let x = c.args.grades.now in
+    let items = c.deref-node-items.result.now in
+    let none = drop_all c.loop-node.node-index items (omega arith) in
+    summarizes_all c.loop-node.summary (values (trees c.args.nodes.now) x)
+    (subst (λ (ns : List Node). SummarizesSoFar c.loop-node.summary (values (trees (map tree_of ns)) x) (values (trees c.args.nodes.now) x)) none c.loop-node.invariant.so_far)
 
 pub weighted_at-returns-in_err-value-clause-passes :
     goal.weighted_at-returns-in_err-value-clause-passes

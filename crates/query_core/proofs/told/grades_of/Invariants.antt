@@ -1,8 +1,8 @@
-use Rattle.std.proofs.Common.{◌≡◌, ℕ, nat_eq, drop}
-use Rattle.std.specs.HashMap.{get}
+use Rattle.std.proofs.Common.{◌≡◌, ℕ, drop}
+use Rattle.object_map.specs.Values.{value_of}
 use Rattle.topk_theory.specs.Bounds.{grade_among}
 use Rattle.query_core.proofs.told.grades_of.Given as goal
 
 -- the grades of the rows from this place down
 abbrev pub invariant-loop-place : goal.invariant-loop-place
-invariant-loop-place l = (object : ℕ) → get nat_eq l.grades object ≡ grade_among (drop l.place l.rows) object
+invariant-loop-place l = (object : ℕ) → value_of l.grades object ≡ grade_among (drop l.place l.rows) object

@@ -1,21 +1,14 @@
-use Rattle.std.proofs.Common.{◌<◌, ◌≤◌, ◌∙◌, List, Option, Some, length, sym, ap, arith}
-use Rattle.indexed_heap.specs.Ranks.{rank_at}
-use Rattle.indexed_heap.specs.Tree.{ranks_of}
-use Rattle.indexed_heap.proofs.Keeping.{length-ranks_of}
-use Rattle.indexed_heap.proofs.Widening.{copied_rank, copied_none}
+use Rattle.std.proofs.Common.{◌≡◌, ◌≤◌, ◌-◌, ◌++◌, ◌∙◌, ℕ, List, Option, None, length, replicate, sym, ap, ap₂, arith}
+use Rattle.indexed_heap.specs.Ranks.{Held, ranks_within}
+use Rattle.indexed_heap.proofs.Within.{length-within, wider_within}
 use Rattle.indexed_heap.proofs.heap.IndexedHeap.widen.Goals as goal
-use Rattle.indexed_heap.proofs.heap.IndexedHeap.widen.Goals.{in-Some, in_default}
 
-pub loop-key-preserved : goal.loop-key-preserved
-loop-key-preserved g c =
-    let ranks = ranks_of c.self.inside.room c.self.inside.nodes.items in
-    let size = length-ranks_of g.T.Ord.cmp c.self.inside.room c.self.inside.nodes.items c.self.invariant.tree in
-    let within : c.loop-key.key < length ranks = omega arith in
-    let fits : length ranks ≤ c.args.room = omega arith in
-    let here = ap (λ (rs : List (Option g.row.T.Denot)). rank_at rs c.loop-key.key) (sym c.self.view_is) in
-    elim c.match-get.branch [
-      | in-Some w ↦
-          copied_rank ranks c.loop-key.wider c.match-get.wider c.args.room c.loop-key.key (Some w.in-Some.rank) within fits (w.in-Some.ensures ∙ here) c.loop-key.invariant
-          (w.wider-is ∙ w.put.ensures)
-      | in_default w ↦ w.wider-is ∙ copied_none ranks c.loop-key.wider c.args.room c.loop-key.key within fits (sym w.in_default.is ∙ c.get.ensures ∙ here) c.loop-key.invariant
-    ]
+pub returns-clause-ok : goal.returns-clause-ok
+returns-clause-ok g c =
+    let ranks = c.self.inside.filled.ranks in
+    let few = c.self.invariant.within in
+    let size : c.self.inside.room ≡ length c.args.self.now = sym (length-within c.self.inside.room ranks few) ∙ ap length c.self.view_is in
+    let wider : c.self.inside.room ≤ c.args.room = omega (arith, c.if-room-self.false) in
+    ap (λ (v : Held g.row.T.Denot). ranks_within c.args.room v.ranks) c.in_ok-hold.ensures.ok
+    ∙ wider_within c.self.inside.room c.args.room ranks few wider
+    ∙ ap₂ (λ (rs : List (Option g.row.T.Denot)) (n : ℕ). rs ++ replicate (c.args.room - n) None) c.self.view_is size

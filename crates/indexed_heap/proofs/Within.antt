@@ -1,0 +1,100 @@
+-- The ranks of the keys below a room, of which those past a list have none.
+use Rattle.std.proofs.Common.{◌≡◌, inl, inr, ℕ, zero, suc, ◌+◌, ◌-◌, ◌<◌, ◌≤◌, ◌++◌, List, Option, Some, None, length, set, replicate, get_or, is_some, refl, sym, ap, ◌∙◌, subst, arith, length-append}
+use Rattle.std.specs.declared.cmp.Ordering.{Ordering}
+use Rattle.std.specs.List.{count_by}
+use Rattle.std.specs.Prelude.{IfNone, IfSome}
+use Rattle.std.proofs.lemmas.Bool.{cases_lt}
+use Rattle.std.proofs.lemmas.List.{append_assoc, length-replicate, replicate-append-replicate, get_or-replicate, get_or_past, get_or_append_left, get_or-append_right, set-append_left, set-get_or, length-set}
+use Rattle.std.proofs.lemmas.List.Sums.{sum_by-append, sum_by-cons}
+use Rattle.indexed_heap.specs.declared.tree.Ranked.{Ranked}
+use Rattle.indexed_heap.specs.Ranks.{rank_at, ranks_within, HasNone, IsGreatest, one_if}
+
+-- as many keys as the room
+pub length-within : {T : Type 0} (room : ℕ) (ranks : List (Option T)) → length ranks ≤ room → length (ranks_within room ranks) ≡ room
+length-within {T = T} room ranks few =
+    let size = length-append ranks (replicate (room - length ranks) None) in
+    let more = length-replicate {A = Option T} (room - length ranks) None in
+    omega arith
+
+-- no rank in a list of none
+none_at : {T : Type 0} (n place : ℕ) → rank_at {T = T} (replicate n None) place ≡ None
+none_at {T = T} n place =
+    elim (cases_lt place n) as (λ _. rank_at {T = T} (replicate n None) place ≡ None) [
+      | inl within ↦ get_or-replicate n place None None within
+      | inr past ↦ get_or_past (replicate n None) place None (rw length-replicate past)
+    ]
+
+-- each key has the rank that it has in the list
+pub rank_within : {T : Type 0} (room : ℕ) (ranks : List (Option T)) (key : ℕ) → rank_at (ranks_within room ranks) key ≡ rank_at ranks key
+rank_within {T = T} room ranks key =
+    elim (cases_lt key (length ranks)) as (λ _. rank_at (ranks_within room ranks) key ≡ rank_at ranks key) [
+      | inl here ↦ get_or_append_left ranks (replicate (room - length ranks) None) None key here
+      | inr past ↦
+          get_or-append_right ranks (replicate (room - length ranks) None) (length ranks) key None refl past
+          ∙ none_at (room - length ranks) (key - length ranks) ∙ sym (get_or_past ranks key None past)
+    ]
+
+count_of_none : (T : Type 0) (n : ℕ) → count_by {X = Option T} is_some (replicate n None) ≡ 0
+count_of_none T zero = refl
+count_of_none T (suc n) = let more = count_of_none T n in omega (arith, sum_by-cons {X = Option T})
+
+-- as many ranks as in the list
+pub count_within : {T : Type 0} (room : ℕ) (ranks : List (Option T)) → count_by is_some (ranks_within room ranks) ≡ count_by is_some ranks
+count_within {T = T} room ranks =
+    let both = sum_by-append (λ (r : Option T). one_if (is_some r)) ranks (replicate (room - length ranks) None) in
+    let none = count_of_none T (room - length ranks) in
+    omega arith
+
+-- a rank that is written in the list, and one that is taken away past it
+pub set_within : {T : Type 0} (room : ℕ) (ranks : List (Option T)) (key : ℕ) (rank : Option T) → key < length ranks
+    → ranks_within room (set ranks key rank) ≡ set (ranks_within room ranks) key rank
+set_within {T = T} room ranks key rank here =
+    ap (λ n. set ranks key rank ++ replicate (room - n) None) (length-set ranks key rank)
+    ∙ sym (set-append_left ranks (replicate (room - length ranks) None) key rank here)
+
+pub unset_past : {T : Type 0} (room : ℕ) (ranks : List (Option T)) (key : ℕ) → length ranks ≤ key
+    → ranks_within room ranks ≡ set (ranks_within room ranks) key None
+unset_past {T = T} room ranks key past =
+    let had : get_or (ranks_within room ranks) key None ≡ None = rank_within room ranks key ∙ get_or_past ranks key None past in
+    sym (ap (set (ranks_within room ranks) key) (sym had) ∙ set-get_or (ranks_within room ranks) key None)
+
+-- a list that goes on with none is within a room what it was
+pub within_within : {T : Type 0} (room wide : ℕ) (ranks : List (Option T)) → length ranks ≤ wide → wide ≤ room
+    → ranks_within room (ranks_within wide ranks) ≡ ranks_within room ranks
+within_within {T = T} room wide ranks few fits =
+    let size = length-within wide ranks few in
+    let rest : wide - length ranks + (room - wide) ≡ room - length ranks = omega arith in
+    ap (λ n. ranks_within wide ranks ++ replicate (room - n) None) size
+    ∙ append_assoc ranks (replicate (wide - length ranks) None) (replicate (room - wide) None)
+    ∙ ap (λ t. ranks ++ t) (replicate-append-replicate (wide - length ranks) (room - wide) None ∙ ap (λ n. replicate n None) rest)
+
+-- and a wider room has more of none
+pub wider_within : {T : Type 0} (room wide : ℕ) (ranks : List (Option T)) → length ranks ≤ room → room ≤ wide
+    → ranks_within wide ranks ≡ ranks_within room ranks ++ replicate (wide - room) None
+wider_within {T = T} room wide ranks few fits =
+    let rest : room - length ranks + (wide - room) ≡ wide - length ranks = omega arith in
+    sym (append_assoc ranks (replicate (room - length ranks) None) (replicate (wide - room) None)
+    ∙ ap (λ t. ranks ++ t) (replicate-append-replicate (room - length ranks) (wide - room) None ∙ ap (λ n. replicate n None) rest))
+
+-- what the greatest says of the list it says within a room
+pub HasNone-within : {T : Type 0} (room : ℕ) (ranks : List (Option T)) → HasNone ranks → HasNone (ranks_within room ranks)
+HasNone-within room ranks none key = rank_within room ranks key ∙ none key
+
+pub IsGreatest-within : {T : Type 0} (cmp : T → T → Ordering) (room : ℕ) (ranks : List (Option T)) (key : ℕ) (rank : T) → IsGreatest cmp ranks key rank
+    → IsGreatest cmp (ranks_within room ranks) key rank
+IsGreatest-within cmp room ranks key rank top = record {
+  there = rank_within room ranks key ∙ top.there;
+  none_above = λ other another has. top.none_above other another (sym (rank_within room ranks other) ∙ has);
+}
+
+pub none_within : {T : Type 0} (room : ℕ) (ranks shown : List (Option T)) (first : Option (Ranked T)) → ranks_within room ranks ≡ shown
+    → IfNone first (HasNone ranks) → IfNone first (HasNone shown)
+none_within {T = T} room ranks shown None is none = subst (λ (rs : List (Option T)). HasNone rs) is (HasNone-within room ranks none)
+none_within room ranks shown (Some top) is none = tt
+
+pub greatest_within : {T : Type 0} (cmp : T → T → Ordering) (room : ℕ) (ranks shown : List (Option T)) (first : Option (Ranked T))
+    → ranks_within room ranks ≡ shown
+    → IfSome first (λ top. IsGreatest cmp ranks top.key top.rank) → IfSome first (λ top. IsGreatest cmp shown top.key top.rank)
+greatest_within cmp room ranks shown None is top = tt
+greatest_within {T = T} cmp room ranks shown (Some top) is greatest =
+    subst (λ (rs : List (Option T)). IsGreatest cmp rs top.key top.rank) is (IsGreatest-within cmp room ranks top.key top.rank greatest)
