@@ -1,6 +1,7 @@
 -- The closing states, from the last source to the first.
-use Rattle.std.proofs.Common.{◌≡◌, ◌<◌, ◌≤◌, ◌+◌, ◌-◌, ◌||◌, inl, inr, ℕ, Bool, true, List, [], ◌∷◌, ◌++◌, length, take, reverse, refl, sym, ap, subst, ◌∙◌, arith, le_refl}
+use Rattle.std.proofs.Common.{◌≡◌, ◌<◌, ◌≤◌, ◌+◌, ◌-◌, ◌||◌, inl, inr, ℕ, Bool, true, List, [], ◌∷◌, ◌++◌, length, take, reverse, Contains, refl, sym, ap, subst, ◌∙◌, arith, le_refl}
 use Rattle.std.proofs.lemmas.List.{length_push, length-reverse, get_or-reverse, take_all}
+use Rattle.std.proofs.lemmas.List.Elements.{Contains-append_cases}
 use Rattle.std.proofs.lemmas.Bool.Decides.{eqb_tells}
 use Rattle.atomic_table.specs.Seated.{TableId}
 use Rattle.turn_lock.specs.declared.known.Known.{Known}
@@ -33,6 +34,7 @@ closed_one feeder pass both state is writer parts mine theirs agrees sound =
       tally = sym all.tally ∙ (ap (λ (k : Known LogEntry). k.tally) is ∙ writers_own feeder.writer pass.writer _ _ _ writer);
       want = whole.mark ∙ ap (λ (k : Known LogEntry). k.high) is;
       asks = whole.asks ∙ ap (λ (k : Known LogEntry). k.asked) is;
+      mine = λ object c. Contains-append_cases feeder.mine pass.mine object (subst (λ (k : Known LogEntry). Contains k.mine object) is (whole.mine object c));
       seen = begins_on theirs.seen agrees.past.seen;
       met = begins_on theirs.met agrees.past.met;
       fails = at_most_on theirs.tally agrees.past.tally;

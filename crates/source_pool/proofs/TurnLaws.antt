@@ -1,7 +1,8 @@
 -- What a turn of a look makes of the pass.
-use Rattle.std.proofs.Common.{◌≡◌, ◌≢◌, ◌≤◌, ◌<◌, ◌+◌, ◌⊎◌, inl, inr, ℕ, true, false, cond, max, Option, Some, None, List, length, nat_lt, Contains, refl, sym, ap, subst, ◌∙◌, arith, le_refl, le_trans}
+use Rattle.std.proofs.Common.{◌≡◌, ◌≢◌, ◌≤◌, ◌<◌, ◌+◌, ◌⊎◌, inl, inr, ℕ, true, false, cond, max, Option, Some, None, List, [], ◌∷◌, ◌++◌, length, drop, nat_lt, Contains, refl, sym, ap, subst, ◌∙◌, arith, le_refl, le_trans, append-nil}
 use Rattle.std.proofs.lemmas.Bool.{cases_Bool, le-ltb, ltb-true}
 use Rattle.std.proofs.lemmas.List.{length_push}
+use Rattle.std.proofs.Math.Seq.{drop-length, drop-append_seam}
 use Rattle.std.specs.Option.{IfSome}
 use Rattle.atomic_table.specs.Seated.{TableId}
 use Rattle.ranked_list.specs.declared.need.Need.{Need}
@@ -126,10 +127,15 @@ answers n before after (look.Fault why.Memory) t = record { undecided = said_now
 not_raised : (mark high : ℕ) → raised mark mark high ≡ high
 not_raised mark high = ap (λ b. cond b mark high) (le-ltb mark mark (le_refl mark))
 
+-- where a turn leaves the asks, it adds none
+none_new : (mine asks left : List ℕ) → left ≡ asks → mine ++ drop (length asks) left ≡ mine
+none_new mine asks left same = ap (λ (l : List ℕ). mine ++ drop (length asks) l) same ∙ (ap (λ (l : List ℕ). mine ++ l) (drop-length asks) ∙ append-nil mine)
+
 pub marks_kept : (f g : Facts LogEntry) (k : Known LogEntry) → g.mark ≡ f.mark → g.asks ≡ f.asks → KeepsMarks k (after_turn f g k)
 marks_kept f g k mark asks = record {
   high = ap (λ m. raised f.mark m k.high) mark ∙ not_raised f.mark k.high;
   asked = let same : length g.asks ≡ length f.asks = ap length asks in omega arith;
+  mine = none_new k.mine f.asks g.asks asks;
 }
 
 marks_same : {n : Need} {before after : Hold} {answer : Look} → (t : Turned n before after answer) → t.turn.left ≡ t.turn.found
@@ -164,17 +170,29 @@ one_added : (found : Option Ask) (object : ℕ) (asks : List ℕ) → length (on
 one_added None object asks = let e = length_push asks object in omega (arith, e)
 one_added (Some ask) object asks = omega arith
 
+-- the ask of an object that wasn't asked is the one that is added
+one_new : (found : Option Ask) (object : ℕ) (asks mine : List ℕ)
+    → (mine ++ drop (length asks) (one_asked found object asks) ≡ mine) ⊎ (mine ++ drop (length asks) (one_asked found object asks) ≡ mine ++ object ∷ [])
+one_new None object asks mine = inr (ap (λ (l : List ℕ). mine ++ l) (drop-append_seam asks (object ∷ [])))
+one_new (Some ask) object asks mine = inl (none_new mine asks asks refl)
+
 has_called : (n : Need) (s : State) (k : Known LogEntry) → MayLookFor k n → HasCalled n k (after_turn (facts_of s) (facts_of (called s n)) k)
-has_called (need.Row list depth) s k may = record { wanted = omega arith; high = raised_to s.want depth k.high; asked = omega arith }
+has_called (need.Row list depth) s k may = record {
+  wanted = omega arith;
+  high = raised_to s.want depth k.high;
+  asked = omega arith;
+  mine = none_new k.mine s.asks s.asks refl;
+}
 has_called (need.Grade list object) s k may = record {
   asks = asked_member s object;
   high = not_raised s.want k.high;
   asked = let few = one_added (ask_of (asks_of s) object) object s.asks in omega (arith, few);
+  mine = one_new (ask_of (asks_of s) object) object s.asks k.mine;
 }
 has_called need.Done s k may = absurd may
 
 begins_to_wait : {n : Need} {before after : Hold} {answer : Look} → (t : Turned n before after answer)
-    → looking.Begins n t.turn.found t.turn.left before.waiting after.waiting → BeginsToWait n before after
+    → looking.BeginsWaiting n t.turn.found t.turn.left before.waiting after.waiting → BeginsToWait n before after
 begins_to_wait {n = n} {before = before} {after = after} t b =
     let given : after.pass.1 ≡ after_turn (facts_of t.turn.found) (facts_of (called t.turn.found n)) before.pass.1 =
     t.turn.gave ∙ ap (λ s. after_turn (facts_of t.turn.found) (facts_of s) before.pass.1) b.calls in

@@ -1,5 +1,5 @@
 -- How a pool closes.
-use Rattle.std.specs.Prelude.{◌≡◌, ◌<◌, ◌≤◌, ◌+◌, ◌-◌, ℕ, max, List, length}
+use Rattle.std.specs.Prelude.{◌≡◌, ◌<◌, ◌≤◌, ◌+◌, ◌-◌, ◌⊎◌, ℕ, max, List, length, Contains}
 use Rattle.std.specs.List.{slice_index_or}
 use Rattle.atomic_table.specs.Seated.{TableId}
 use Rattle.turn_lock.specs.declared.known.Known.{Known}
@@ -19,7 +19,7 @@ pub record HaveAll (pool : List TableId) (holds : List Hold) (feeds : List Feed)
   pub parts : (source : ℕ) → source < length pool → (hold_at holds source).pass.1.parts + (feed_at feeds source).pass.1.parts ≡ all_parts
 
 -- the closing state of a source, by what the feeder's pass and the last pass know of it: the feeder knows its whole log and tally, and
--- the pass a front of them; its want is the greatest that either set, and its asks are those that both added
+-- the pass a front of them; its want is the greatest that either set, and its asks are those that both added: as many, and each of them one of theirs
 pub record IsClosed (feeder pass : Known LogEntry) (state : State) : Type 0 where
   pub sound : IsSound state
   pub name : (state.list, state.count) ≡ feeder.name
@@ -27,6 +27,7 @@ pub record IsClosed (feeder pass : Known LogEntry) (state : State) : Type 0 wher
   pub tally : state.tally ≡ feeder.tally
   pub want : state.want ≡ max feeder.high pass.high
   pub asks : length state.asks ≡ feeder.asked + pass.asked
+  pub mine : (object : ℕ) → Contains state.asks object → Contains feeder.mine object ⊎ Contains pass.mine object
   pub seen : Begins pass.seen state.log
   pub met : Begins pass.met state.asks
   pub fails : AtMost pass.tally state.tally

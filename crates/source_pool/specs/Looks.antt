@@ -1,5 +1,5 @@
 -- What a look through a pass of a pool answers, and what it changes of what the pass holds of its source.
-use Rattle.std.specs.Prelude.{◌≡◌, ◌≢◌, ◌≤◌, ◌+◌, ◌-◌, ◌⊎◌, ℕ, max, true, false, Option, Some, None, List, length, slice_get, Contains}
+use Rattle.std.specs.Prelude.{◌≡◌, ◌≢◌, ◌≤◌, ◌+◌, ◌-◌, ◌⊎◌, ℕ, max, true, false, Option, Some, None, List, [], ◌∷◌, ◌++◌, length, slice_get, Contains}
 use Rattle.ranked_list.specs.declared.need.Need.{Need}
 use Rattle.ranked_list.specs.declared.need.Need.TheVariants as need
 use Rattle.topk_theory.specs.Bounds.{grade_among}
@@ -85,21 +85,24 @@ Answers need before after (look.Grade grade) = IsSaid need before after (look.Gr
 Answers need before after look.NotYet = IsAwaited need before after
 Answers need before after (look.Fault fault) = Refuses need before after fault
 
--- the highest mark that the pass set, and the number of asks that it added, stay
+-- the highest mark that the pass set, and the asks that it added, stay
 pub record KeepsMarks (before after : Known LogEntry) : Type 0 where
   pub high : after.high ≡ before.high
   pub asked : after.asked ≡ before.asked
+  pub mine : after.mine ≡ before.mine
 
--- the state has the want of a row or the ask of an object; the pass may have raised the mark so far, or added one ask
+-- the state has the want of a row or the ask of an object; the pass may have raised the mark so far, or added this one ask
 pub record HasWant (depth : ℕ) (before after : Known LogEntry) : Type 0 where
   pub wanted : depth ≤ after.sight.mark
   pub high : after.high ≤ max before.high depth
   pub asked : after.asked ≡ before.asked
+  pub mine : after.mine ≡ before.mine
 
 pub record HasAsk (object : ℕ) (before after : Known LogEntry) : Type 0 where
   pub asks : Contains after.met object
   pub high : after.high ≡ before.high
   pub asked : after.asked ≤ before.asked + 1
+  pub mine : (after.mine ≡ before.mine) ⊎ (after.mine ≡ before.mine ++ object ∷ [])
 
 abbrev pub HasCalled : Need → Known LogEntry → Known LogEntry → Type 0
 HasCalled (need.Row list depth) before after = HasWant depth before after

@@ -123,7 +123,7 @@ pub record WaitsOn (need : Need) (before after : State) (waiting left : Waiting)
   pub goes_on : left ≡ waiting
 
 -- it begins to wait for this need: the want or the ask comes, and the tally is noted
-pub record Begins (need : Need) (before after : State) (waiting left : Waiting) : Type 0 where
+pub record BeginsWaiting (need : Need) (before after : State) (waiting left : Waiting) : Type 0 where
   pub fresh : waits_for waiting.need need ≡ false
   pub calls : after ≡ called before need
   pub notes : left ≡ record { need = Some need; noted = after.tally }
@@ -133,7 +133,7 @@ pub record IsOpen (need : Need) (before after : State) (waiting left : Waiting) 
   pub undecided : decided before need ≡ None
   pub untold : told waiting need before.tally ≡ None
   pub room : is_full before need ≡ false
-  pub waits : WaitsOn need before after waiting left ⊎ Begins need before after waiting left
+  pub waits : WaitsOn need before after waiting left ⊎ BeginsWaiting need before after waiting left
 
 -- a look that refuses
 abbrev pub Refuses : Need → State → State → Waiting → Waiting → LookFault → Type 0

@@ -1,5 +1,5 @@
 -- A step on one seat keeps the core of the rule where the seat's new view fits, its ticket is nobody's, and the others still fit.
-use Rattle.std.proofs.Common.{◌≡◌, ◌≢◌, ℕ, ◌≤◌, List, set, length, Option, Some, None, refl, sym, ap, ◌∙◌, subst, ⊎_elim, arith}
+use Rattle.std.proofs.Common.{◌≡◌, ◌≢◌, ℕ, ◌≤◌, List, set, length, Contains, Option, Some, None, refl, sym, ap, ◌∙◌, subst, ⊎_elim, arith}
 use mathlib.Core.Option as slot
 use mathlib.Core.Option.{some, some-injective, some-ne-none}
 use mathlib.Core.Logic.{dite}
@@ -10,7 +10,7 @@ use Rattle.turn_lock.specs.declared.facts.Facts.{Facts}
 use Rattle.turn_lock.specs.declared.known.Known.{Known}
 use Rattle.turn_lock.specs.declared.view.View.{View}
 use Rattle.turn_lock.specs.Known.{all_parts, IsPastOf}
-use Rattle.turn_lock.specs.Rule.{LockState, total, count_some, parts_of, asked_of, drew, has_turn, queue, nobody, Knows, Fits, Reached, words_of, Shelf, Core, Ruled}
+use Rattle.turn_lock.specs.Rule.{LockState, total, count_some, parts_of, asked_of, drew, has_turn, queue, nobody, Knows, Fits, Reached, IsAdded, words_of, Shelf, Core, Ruled}
 use Rattle.turn_lock.proofs.Growth.{begins_nothing}
 use Rattle.turn_lock.proofs.Totals.{total_set, total_below, set_there}
 
@@ -47,6 +47,7 @@ module _ {E : Type 0} where
     sight = x.sight;
     high = x.high;
     spent = x.spent;
+    mine = x.mine;
   }
 
   pub fits_longer : (serving length more writer seat : ℕ) (now : Facts E) (v : View E) → length ≤ more → Fits serving length writer now seat v
@@ -77,6 +78,13 @@ module _ {E : Type 0} where
       let h : r.1.known.high ≡ v.known.high = ap (λ (u : View E). u.known.high) same in let m = r.3 in
       (id, w, set_there views id v w at, omega arith))
       (λ (ne : r.0 ≢ id). (r.0, r.1, set_else views id r.0 w ne ∙ r.2, r.3))
+
+  pub added_on : (ask : ℕ) (views : List (View E)) (id : ℕ) (v w : View E) → get_elem? views id ≡ some v
+      → (Contains v.known.mine ask → Contains w.known.mine ask) → IsAdded ask views → IsAdded ask (set views id w)
+  added_on ask views id v w at more a = dite (ℕ_discrete a.0 id)
+      (λ (e : a.0 ≡ id). let same : a.1 ≡ v = some-injective a.1 v (sym a.2 ∙ (ap (λ j. get_elem? views j) e ∙ at)) in
+      (id, w, set_there views id v w at, more (subst (λ (u : View E). Contains u.known.mine ask) same a.3)))
+      (λ (ne : a.0 ≢ id). (a.0, a.1, set_else views id a.0 w ne ∙ a.2, a.3))
 
 module _ {V E : Type 0} (facts : V → Facts E) where
   -- at most 2^32 passes are in the queue
@@ -125,10 +133,10 @@ module _ {V E : Type 0} (facts : V → Facts E) where
   -- a step that leaves what the pass did, and what is in force
   pub rules_on : (s : LockState V E) (r : Ruled facts s) (serving : ℕ) (id : ℕ) (v w : View E) (ws : List ℕ) (hs : List (slot.Option (Option V)))
       → get_elem? s.views id ≡ some v
-      → w.known.parts ≡ v.known.parts → w.known.asked ≡ v.known.asked → w.known.high ≡ v.known.high
+      → w.known.parts ≡ v.known.parts → w.known.asked ≡ v.known.asked → w.known.high ≡ v.known.high → w.known.mine ≡ v.known.mine
       → Core facts serving r.writer r.now record { words = ws; homes = hs; views = set s.views id w }
       → Ruled facts record { words = ws; homes = hs; views = set s.views id w }
-  rules_on s r serving id v w ws hs at parts asked high core = record {
+  rules_on s r serving id v w ws hs at parts asked high mine core = record {
     serving = serving;
     writer = r.writer;
     now = r.now;
@@ -136,6 +144,7 @@ module _ {V E : Type 0} (facts : V → Facts E) where
     whole = let t = total_set parts_of s.views id v w at in let o = r.whole in omega arith;
     asked = let t = total_set asked_of s.views id v w at in let o = r.asked in omega arith;
     reached = reached_on r.now.mark s.views id v w at (omega arith) r.reached;
+    mine = λ ask c. added_on ask s.views id v w at (subst (λ (l : List ℕ). Contains l ask) (sym mine)) (r.mine ask c);
   }
 
   -- a step that leaves the words, the slot, and what the pass knows
@@ -146,7 +155,7 @@ module _ {V E : Type 0} (facts : V → Facts E) where
       let le : queue s.views ≤ queue (set s.views id w) = omega arith in
       let held : w.known.held ≡ v.known.held = ap (λ (k : Known E). k.held) known in
       rules_on s r r.serving id v w ws s.homes at (ap (λ (k : Known E). k.parts) known) (ap (λ (k : Known E). k.asked) known)
-      (ap (λ (k : Known E). k.high) known)
+      (ap (λ (k : Known E). k.high) known) (ap (λ (k : Known E). k.mine) known)
       (carries s r.serving r.writer r.now r.serving r.writer r.now id v w ws s.homes r.core at
       (same ∙ (r.core.words ∙ ap (λ n. words_of r.serving n (length r.now.log)) (sym q)))
       (λ j u ne e. fits_longer r.serving (queue s.views) (queue (set s.views id w)) r.writer j r.now u le (r.core.each j u e))

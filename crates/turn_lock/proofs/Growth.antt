@@ -1,8 +1,10 @@
 -- Begins, AtMost, Grows and IsKept hold of a value with itself, and go on from one to the next.
-use Rattle.std.proofs.Common.{List, [], ◌++◌, refl, sym, ap, ◌∙◌, append_assoc, append-nil, le_refl, le_trans}
+use Rattle.std.proofs.Common.{◌≡◌, List, [], ◌++◌, length, drop, refl, sym, ap, ◌∙◌, append_assoc, append-nil, le_refl, le_trans}
+use Rattle.std.proofs.Math.Seq.{drop-append_seam}
 use Rattle.turn_lock.specs.declared.facts.Tally.{Tally}
 use Rattle.turn_lock.specs.declared.facts.Facts.{Facts}
 use Rattle.turn_lock.specs.Facts.{Begins, AtMost, Grows, IsKept}
+use Rattle.turn_lock.specs.Known.{new_asks}
 
 pub begins_same : {A : Type 0} (xs : List A) → Begins xs xs
 begins_same xs = record { rest = []; goes_on = sym (append-nil xs) }
@@ -40,3 +42,7 @@ kept_same f = record { log = refl; tally = refl }
 
 pub kept_on : {E : Type 0} {f g h : Facts E} → IsKept f g → IsKept g h → IsKept f h
 kept_on a b = record { log = b.log ∙ a.log; tally = b.tally ∙ a.tally }
+
+-- the asks that a turn added are those that go on from the ones that it found
+pub new_asks_are : {E : Type 0} (taken given : Facts E) (b : Begins taken.asks given.asks) → new_asks taken given ≡ b.rest
+new_asks_are taken given b = ap (drop (length taken.asks)) b.goes_on ∙ drop-append_seam taken.asks b.rest

@@ -1,7 +1,8 @@
 -- The steps with which passes are split and joined keep the rule, and so does the opening. What the last pass finds at the close.
-use Rattle.std.proofs.Common.{◌≡◌, ◌≢◌, ◌⊎◌, ℕ, zero, suc, ◌-◌, ◌<◌, ◌≤◌, List, [], ◌∷◌, ◌++◌, set, length, true, false, Bool, ◌||◌, Option, Some, None, refl, sym, ap, ◌∙◌, subst, ⊎_elim, inl, inr, arith, le_refl}
+use Rattle.std.proofs.Common.{◌≡◌, ◌≢◌, ◌⊎◌, ℕ, zero, suc, ◌-◌, ◌<◌, ◌≤◌, List, [], ◌∷◌, ◌++◌, set, length, Contains, true, false, Bool, ◌||◌, Option, Some, None, refl, sym, ap, ◌∙◌, subst, ⊎_elim, inl, inr, arith, le_refl, length-append}
 use Rattle.std.specs.Prelude.{slice_set, slice_index, nat_lt, if◌then◌else◌, max}
 use Rattle.std.proofs.lemmas.Bool.{ltb-true, ltb-false}
+use Rattle.std.proofs.lemmas.List.Elements.{Contains-append_left, Contains-append_right}
 use Rattle.std.proofs.Math.Nat.{le-max_left, le-max_right, max-le}
 use mathlib.Core.Option as slot
 use mathlib.Core.Option.{some, some-injective, some-ne-none}
@@ -22,7 +23,7 @@ use Rattle.turn_lock.specs.Rule.{PassState, total, count_some, parts_of, asked_o
 use Rattle.turn_lock.specs.Steps.{Offers, Compares, kept_view, given_view, joined_view}
 use Rattle.turn_lock.proofs.Growth.{begins_nothing, begins_same, at_most_same}
 use Rattle.turn_lock.proofs.Totals.{total_set, total_none, total_two, total_snoc, set_there, set_swapped}
-use Rattle.turn_lock.proofs.Carrying.{none_where, not_some, nobody_is_past, fits_longer, queue_same, turns_same, reached_on, carries, stays}
+use Rattle.turn_lock.proofs.Carrying.{none_where, not_some, nobody_is_past, fits_longer, queue_same, turns_same, reached_on, added_on, carries, stays}
 use Rattle.turn_lock.proofs.Turning.{agrees}
 
 module _ {A : Type 0} where
@@ -189,9 +190,9 @@ module _ {V E : Type 0} (facts : V → Facts E) where
       let q = queue_same s.views id v left at refl in
       let le : queue s.views ≤ queue views = omega arith in
       let name = k.name (let p : 0 < v.known.parts = omega arith in p) in
-      let past : (parts high asked turns : ℕ) (w : Bool) → IsPastOf r.now
-      (record v.known { parts = parts; high = high; asked = asked; turns = turns; writer = w }) =
-      λ _ _ _ _ _. record { seen = k.past.seen; met = k.past.met; tally = k.past.tally } in
+      let past : (parts high asked turns : ℕ) (mine : List ℕ) (w : Bool) → IsPastOf r.now
+      (record v.known { parts = parts; high = high; asked = asked; mine = mine; turns = turns; writer = w }) =
+      λ _ _ _ _ _ _. record { seen = k.past.seen; met = k.past.met; tally = k.past.tally } in
       let cut : Core facts r.serving r.writer r.now record { words = s.words; homes = s.homes; views = views } =
       carries facts s r.serving r.writer r.now r.serving r.writer r.now id v left s.words s.homes r.core at
       (r.core.words ∙ ap (λ n. words_of r.serving n (length r.now.log)) (sym q))
@@ -202,11 +203,12 @@ module _ {V E : Type 0} (facts : V → Facts E) where
         spent = λ _. free;
         knows = record {
           name = λ _. name;
-          past = past (v.known.parts - v.offer) v.known.high v.known.asked v.known.turns v.known.writer;
+          past = past (v.known.parts - v.offer) v.known.high v.known.asked v.known.turns v.known.mine v.known.writer;
           role = λ w. let o = k.role w in (o.0, record { seen = o.1.seen; tally = o.1.tally });
           sight = k.sight;
           high = k.high;
           spent = λ none. absurd (omega arith);
+          mine = k.mine;
         };
         one = x.one;
         other = x.other;
@@ -223,11 +225,12 @@ module _ {V E : Type 0} (facts : V → Facts E) where
           spent = λ _. refl;
           knows = record {
             name = λ _. name;
-            past = past v.offer 0 0 0 false;
+            past = past v.offer 0 0 0 [] false;
             role = λ w. absurd (cc);
             sight = k.sight;
             high = omega arith;
             spent = λ _. (refl, refl);
+            mine = refl;
           };
           one = nobody_is_past r.now;
           other = nobody_is_past r.now;
@@ -236,6 +239,8 @@ module _ {V E : Type 0} (facts : V → Facts E) where
         asked = let t = total_set asked_of s.views id v left at in let a = total_snoc asked_of views right in let o = r.asked in omega arith;
         reached = let m = reached_on r.now.mark s.views id v left at (le_refl v.known.high) r.reached in
             (m.0, m.1, at_longer views (right ∷ []) m.0 m.1 m.2, m.3);
+        mine = λ ask c. let a = added_on ask s.views id v left at (λ here. here) (r.mine ask c) in
+            (a.0, a.1, at_longer views (right ∷ []) a.0 a.1 a.2, a.3);
       }
 
   spent_fits : (serving length writer seat : ℕ) (now : Facts E) → Fits serving length writer now seat spent_view
@@ -250,6 +255,7 @@ module _ {V E : Type 0} (facts : V → Facts E) where
       sight = omega arith;
       high = omega arith;
       spent = λ _. (refl, refl);
+      mine = refl;
     };
     one = nobody_is_past now;
     other = nobody_is_past now;
@@ -261,7 +267,7 @@ module _ {V E : Type 0} (facts : V → Facts E) where
     ticket = x.ticket;
     turn = x.turn;
     spent = x.spent;
-    knows = record { name = k.name; past = k.past; role = λ w. let o = k.role w in (is w o.0, o.1); sight = k.sight; high = k.high; spent = k.spent };
+    knows = record { name = k.name; past = k.past; role = λ w. let o = k.role w in (is w o.0, o.1); sight = k.sight; high = k.high; spent = k.spent; mine = k.mine };
     one = x.one;
     other = x.other;
   }
@@ -294,6 +300,7 @@ module _ {V E : Type 0} (facts : V → Facts E) where
     sight = x.sight;
     high = max-le x.high y.high;
     spent = λ none. absurd (omega arith);
+    mine = let both = length-append a.mine b.mine in let p = x.mine in let q = y.mine in omega arith;
   }
 
   pub joins : (id : ℕ) (v : View E) (other : ℕ) (w : View E) → v.ticket ≡ None → v.known.held ≡ None → w.ticket ≡ None → w.known.held ≡ None
@@ -363,6 +370,23 @@ module _ {V E : Type 0} (facts : V → Facts E) where
             ap (λ (u : View E). u.known.high) same in
             (id, both, set_there middle id v both here, let top : r.now.mark ≤ max v.known.high w.known.high = omega arith in top))
             (λ (ne' : m.0 ≢ other). (m.0, m.1, set_else middle id m.0 both ne ∙ (set_else s.views other m.0 spent_view ne' ∙ m.2), m.3)));
+        mine = λ ask c. let a = r.mine ask c in dite (ℕ_discrete a.0 id)
+            (λ (e : a.0 ≡ id). let same : a.1 ≡ v = some_same_view s.views a.0 id a.1 v a.2 at e in (
+              id,
+              both,
+              set_there middle id v both here,
+              Contains-append_left v.known.mine w.known.mine ask
+                  (subst (λ (u : View E). Contains u.known.mine ask) same a.3),
+            ))
+            (λ (ne : a.0 ≢ id). dite (ℕ_discrete a.0 other)
+            (λ (e : a.0 ≡ other). let same : a.1 ≡ w = some_same_view s.views a.0 other a.1 w a.2 at' e in (
+              id,
+              both,
+              set_there middle id v both here,
+              Contains-append_right v.known.mine w.known.mine ask
+                  (subst (λ (u : View E). Contains u.known.mine ask) same a.3),
+            ))
+            (λ (ne' : a.0 ≢ other). (a.0, a.1, set_else middle id a.0 both ne ∙ (set_else s.views other a.0 spent_view ne' ∙ a.2), a.3)));
       } in
       subst (λ (vs : List (View E)). Ruled facts record { words = s.words; homes = s.homes; views = vs })
       (sym (set_swapped s.views id other both spent_view apart)) ruled
@@ -402,6 +426,7 @@ module _ {V E : Type 0} (facts : V → Facts E) where
               sight = le_refl f.mark;
               high = le_refl f.mark;
               spent = λ none. absurd (omega arith);
+              mine = refl;
             };
             one = nobody_is_past f;
             other = nobody_is_past f;
@@ -412,6 +437,7 @@ module _ {V E : Type 0} (facts : V → Facts E) where
         whole = refl;
         asked = omega arith;
         reached = (0, v, refl, le_refl f.mark);
+        mine = λ ask c. (0, v, refl, c);
       }
     where
       first_only : (j : ℕ) (v u : View E) → get_elem? (v ∷ []) j ≡ some u → (j ≡ 0) × (v ≡ u)

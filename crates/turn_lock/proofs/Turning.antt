@@ -1,7 +1,8 @@
 -- The steps of a turn keep the rule: a ticket is drawn, watched until it is served, the new log is counted, and the turn passed on.
-use Rattle.std.proofs.Common.{◌≡◌, ◌≢◌, ◌⊎◌, ℕ, ◌+◌, ◌%◌, ◌^◌, ◌<◌, ◌≤◌, List, [], ◌∷◌, set, length, true, false, Bool, Option, Some, None, refl, sym, ap, ◌∙◌, subst, ⊎_elim, inl, inr, arith, le_refl, length-append}
+use Rattle.std.proofs.Common.{◌≡◌, ◌≢◌, ◌⊎◌, ℕ, ◌+◌, ◌%◌, ◌^◌, ◌<◌, ◌≤◌, List, [], ◌∷◌, set, length, Contains, true, false, Bool, Option, Some, None, refl, sym, ap, ◌∙◌, subst, ⊎_elim, inl, inr, arith, le_refl, length-append, length-drop}
 use Rattle.std.specs.Prelude.{slice_set, slice_index, nat_lt, if◌then◌else◌, unwrap_or}
 use Rattle.std.proofs.lemmas.Bool.{ltb-false}
+use Rattle.std.proofs.lemmas.List.Elements.{Contains-append_left, Contains-append_right, Contains-append_cases}
 use mathlib.Core.Option as slot
 use mathlib.Core.Option.{some, some-injective, some-ne-none}
 use mathlib.Core.Logic.{dite}
@@ -13,12 +14,12 @@ use Rattle.turn_lock.specs.declared.facts.Facts.{Facts}
 use Rattle.turn_lock.specs.declared.known.Known.{Known}
 use Rattle.turn_lock.specs.declared.view.View.{View}
 use Rattle.turn_lock.specs.Facts.{Begins, Grows, IsKept}
-use Rattle.turn_lock.specs.Known.{IsPastOf, HasAll, Agrees, holding, raised, after_turn}
+use Rattle.turn_lock.specs.Known.{IsPastOf, HasAll, Agrees, holding, raised, new_asks, after_turn}
 use Rattle.turn_lock.specs.Rule.{LockState, PassState, total, count_some, parts_of, asked_of, drew, has_turn, queue, Knows, Fits, Reached, words_of, Shelf, Ruled}
 use Rattle.turn_lock.specs.Steps.{Draws, Watches, Counts, PassesOn}
-use Rattle.turn_lock.proofs.Growth.{begins_on, begins_same, at_most_on, at_most_same}
+use Rattle.turn_lock.proofs.Growth.{begins_on, begins_same, at_most_on, at_most_same, new_asks_are}
 use Rattle.turn_lock.proofs.Totals.{total_set, total_at, total_none, total_alone, total_two, set_there}
-use Rattle.turn_lock.proofs.Carrying.{not_some, some_same, knows_turn, fits_longer, queue_same, turns_same, reached_on, queue_bounded, alone, carries, rules_on, stays}
+use Rattle.turn_lock.proofs.Carrying.{not_some, some_same, knows_turn, fits_longer, queue_same, turns_same, reached_on, added_on, queue_bounded, alone, carries, rules_on, stays}
 
 -- one more, modulo 2^64
 one_more : (a : ℕ) → (a % 2 ^ 64 + 1) % 2 ^ 64 ≡ (a + 1) % 2 ^ 64
@@ -40,6 +41,19 @@ in_hand d (x ∷ _) = unwrap_or x.1 d
 begins_length : {A : Type 0} (xs ys : List A) → Begins xs ys → length xs ≤ length ys
 begins_length xs ys b = let e = ap length b.goes_on in let f = length-append xs b.rest in omega arith
 
+-- an empty list has nothing in it
+none_there : {A : Type 0} (xs : List A) (x : A) → length xs ≡ 0 → Contains xs x → ⊥
+none_there xs x none c = let within = c.1 in absurd (omega arith)
+
+-- an ask in force after a turn was in force before it, or the turn added it
+asks_of_turn : {E : Type 0} (taken given : Facts E) (ask : ℕ) → Begins taken.asks given.asks → Contains given.asks ask
+    → Contains taken.asks ask ⊎ Contains (new_asks taken given) ask
+asks_of_turn taken given ask b c =
+    elim (Contains-append_cases taken.asks b.rest ask (subst (λ (l : List ℕ). Contains l ask) b.goes_on c)) [
+      | inl old ↦ inl old
+      | inr more ↦ inr (subst (λ (l : List ℕ). Contains l ask) (sym (new_asks_are taken given b)) more)
+    ]
+
 module _ {V E : Type 0} (facts : V → Facts E) where
   -- what the rule says of a live pass and what is in force
   pub agrees : (s : LockState V E) (r : Ruled facts s) (id : ℕ) (v : View E) → get_elem? s.views id ≡ some v → 0 < v.known.parts
@@ -51,6 +65,7 @@ module _ {V E : Type 0} (facts : V → Facts E) where
     sight = x.sight;
     high = x.high;
     asked = let t = total_at asked_of s.views id v at in let o = r.asked in omega arith;
+    mine = x.mine;
     whole = λ all.
         let idle : (j : ℕ) (u : View E) → j ≢ id → get_elem? s.views j ≡ some u → (u.known.high ≡ 0) × (u.known.asked ≡ 0) =
         λ j u ne e. (r.core.each j u e).knows.spent (let t = total_two parts_of s.views j id u v ne e at in let o = r.whole in omega arith) in
@@ -60,6 +75,10 @@ module _ {V E : Type 0} (facts : V → Facts E) where
               let h : m.1.known.high ≡ v.known.high = ap (λ (u : View E). u.known.high) same in omega arith)
               (λ (ne : m.0 ≢ id). let i = idle m.0 m.1 ne m.2 in let h = i.0 in omega arith);
           asks = let t = total_alone asked_of s.views id v at (λ j u ne e. (idle j u ne e).1) in let o = r.asked in omega arith;
+          mine = λ ask c. let a = r.mine ask c in dite (ℕ_discrete a.0 id)
+              (λ (e : a.0 ≡ id). let same : a.1 ≡ v = some-injective a.1 v (sym a.2 ∙ (ap (λ j. get_elem? s.views j) e ∙ at)) in
+              subst (λ (u : View E). Contains u.known.mine ask) same a.3)
+              (λ (ne : a.0 ≢ id). absurd (none_there a.1.known.mine ask ((r.core.each a.0 a.1 a.2).knows.mine ∙ (idle a.0 a.1 ne a.2).1) a.3));
         };
   }
 
@@ -82,7 +101,7 @@ module _ {V E : Type 0} (facts : V → Facts E) where
         w,
         keeps,
         tt,
-        rules_on facts s r r.serving id v w _ s.homes at refl refl refl
+        rules_on facts s r r.serving id v w _ s.homes at refl refl refl refl
             (carries facts s r.serving r.writer r.now r.serving r.writer r.now id v w _ s.homes r.core at words
             (λ j u ne e. fits_longer r.serving q (queue (set s.views id w)) r.writer j r.now u le (r.core.each j u e))
             record {
@@ -128,7 +147,7 @@ module _ {V E : Type 0} (facts : V → Facts E) where
         y,
         ap (λ l. get_elem? l 0) home.1,
         subst (λ (f : Facts E). Agrees f v.known) (sym home.2) (agrees s r id v at live),
-        rules_on facts s r r.serving id v w s.words _ at refl refl refl
+        rules_on facts s r r.serving id v w s.words _ at refl refl refl refl
             (carries facts s r.serving r.writer r.now r.serving r.writer r.now id v w s.words _ r.core at
             (r.core.words ∙ ap (λ n. words_of r.serving n (length r.now.log)) (sym q))
             (λ j u ne e. fits_longer r.serving (queue s.views) (queue (set s.views id w)) r.writer j r.now u le (r.core.each j u e))
@@ -200,6 +219,7 @@ module _ {V E : Type 0} (facts : V → Facts E) where
       sight = let a = k.sight in let b = grows.mark in omega arith;
       high = let a = k.high in let b = grows.mark in omega arith;
       spent = k.spent;
+      mine = k.mine;
     };
     one = past_on x.one;
     other = past_on x.other;
@@ -243,6 +263,7 @@ module _ {V E : Type 0} (facts : V → Facts E) where
         sight = le_refl g.mark;
         high = high.1;
         spent = λ none. absurd (omega arith);
+        mine = let a = length-append v.known.mine (new_asks f g) in let b = length-drop (length f.asks) g.asks in let c = k.mine in omega arith;
       }
 
   pub counts : (slots id : ℕ) (me : PassState V E) (f : Facts E) (y : V) (n : ℕ) → me.0.known.held ≡ Some f → me.1 ≡ (0, Some y) ∷ []
@@ -296,6 +317,11 @@ module _ {V E : Type 0} (facts : V → Facts E) where
               (λ (same : f.mark ≡ g.mark). subst (λ m. Reached m (set s.views id w)) (sym mark ∙ same)
               (reached_on r.now.mark s.views id v w at rise r.reached))
               high.2;
+          mine = λ ask c. ⊎_elim
+              (λ (old : Contains f.asks ask). added_on ask s.views id v w at (Contains-append_left v.known.mine (new_asks f g) ask)
+              (r.mine ask (subst (λ (z : Facts E). Contains z.asks ask) turn.1 old)))
+              (λ (new : Contains (new_asks f g) ask). (id, w, set_there s.views id v w at, Contains-append_right v.known.mine (new_asks f g) ask new))
+              (asks_of_turn f g ask grows.asks c);
         },
         λ f' y' holds' hand'. let same_f : f ≡ f' = some_same v.known.held f f' holds holds' in let same_y : y ≡ y' = hands y y' me.1 hand hand' in
             (λ i. (record v { known = holding (facts (same_y i)) (after_turn (same_f i) (facts (same_y i)) v.known) }, me.1)),
@@ -325,7 +351,7 @@ module _ {V E : Type 0} (facts : V → Facts E) where
         w,
         gives,
         tt,
-        rules_on facts s r (r.serving + 1) id v w _ _ at refl refl refl
+        rules_on facts s r (r.serving + 1) id v w _ _ at refl refl refl refl
             (carries facts s r.serving r.writer r.now (r.serving + 1) r.writer r.now id v w _ _ r.core at words
             (λ j u ne e. let o = r.core.each j u e in record {
               ticket = λ k d. let b = o.ticket k d in let low = b.0 in let high = b.1 in

@@ -1,5 +1,5 @@
 -- What a pass knows, what holds of it and the value that it takes, and how a turn, a split and a join change it.
-use Rattle.std.specs.Prelude.{◌≡◌, ℕ, ◌+◌, ◌-◌, ◌≤◌, List, length, Bool, true, false, ◌||◌, max, Some, None, nat_lt, if◌then◌else◌}
+use Rattle.std.specs.Prelude.{◌≡◌, ℕ, ◌+◌, ◌-◌, ◌≤◌, List, [], ◌++◌, length, drop, Contains, Bool, true, false, ◌||◌, max, Some, None, nat_lt, if◌then◌else◌}
 use Rattle.turn_lock.specs.declared.facts.Tally.{Tally}
 use Rattle.turn_lock.specs.declared.facts.Facts.{Facts}
 use Rattle.turn_lock.specs.declared.known.Known.{Known}
@@ -24,6 +24,7 @@ pub record HasAll {E : Type 0} (now : Facts E) (pass : Known E) : Type 0 where
 pub record DidAll {E : Type 0} (now : Facts E) (pass : Known E) : Type 0 where
   pub mark : now.mark ≡ pass.high
   pub asks : length now.asks ≡ pass.asked
+  pub mine : (ask : ℕ) → Contains now.asks ask → Contains pass.mine ask
 
 -- what holds of a pass and of the value that it takes
 pub record Agrees {E : Type 0} (now : Facts E) (pass : Known E) : Type 0 where
@@ -33,6 +34,7 @@ pub record Agrees {E : Type 0} (now : Facts E) (pass : Known E) : Type 0 where
   pub sight : pass.sight.mark ≤ now.mark
   pub high : pass.high ≤ now.mark
   pub asked : pass.asked ≤ length now.asks
+  pub mine : length pass.mine ≡ pass.asked
   pub whole : pass.parts ≡ all_parts → DidAll now pass
 
 -- what a pass has seen is how what it sees later begins
@@ -56,6 +58,7 @@ module _ {E : Type 0} where
     sight = record { mark = f.mark; due = f.due };
     high = f.mark;
     asked = length f.asks;
+    mine = f.asks;
     parts = all_parts;
     turns = 0;
     writer = true;
@@ -65,6 +68,10 @@ module _ {E : Type 0} where
   -- the pass with its turn, in which it took a value of these facts
   abbrev pub holding : Facts E → Known E → Known E
   holding taken pass = record pass { held = Some taken }
+
+  -- the asks that a turn added, in which the one was taken and the other given
+  abbrev pub new_asks : Facts E → Facts E → List ℕ
+  new_asks taken given = drop (length taken.asks) given.asks
 
   -- the pass after its turn, in which it took the one and gave the other
   abbrev pub after_turn : Facts E → Facts E → Known E → Known E
@@ -76,6 +83,7 @@ module _ {E : Type 0} where
     sight = record { mark = given.mark; due = given.due };
     high = raised taken.mark given.mark pass.high;
     asked = pass.asked + (length given.asks - length taken.asks);
+    mine = pass.mine ++ new_asks taken given;
     parts = pass.parts;
     turns = pass.turns + 1;
     writer = pass.writer;
@@ -88,7 +96,7 @@ module _ {E : Type 0} where
 
   -- the pass that was split off with so many parts: it did nothing yet, and is no writer
   abbrev pub split_off : ℕ → Known E → Known E
-  split_off parts pass = record pass { high = 0; asked = 0; parts = parts; turns = 0; writer = false }
+  split_off parts pass = record pass { high = 0; asked = 0; mine = []; parts = parts; turns = 0; writer = false }
 
 -- the longer list
 abbrev pub longer : {A : Type 0} → List A → List A → List A
@@ -114,6 +122,7 @@ joined a b = record {
   sight = a.sight;
   high = max a.high b.high;
   asked = a.asked + b.asked;
+  mine = a.mine ++ b.mine;
   parts = a.parts + b.parts;
   turns = a.turns + b.turns;
   writer = a.writer || b.writer;

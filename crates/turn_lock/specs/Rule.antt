@@ -1,6 +1,6 @@
 -- What holds between any two steps on a lock: of its words, of the slot, and of all passes.
 -- The words are the next ticket, the ticket whose turn it is, both modulo 2^64, and the length of the log.
-use Rattle.std.specs.Prelude.{◌≡◌, ℕ, zero, suc, ◌+◌, ◌%◌, ◌^◌, ◌<◌, ◌≤◌, List, [], ◌∷◌, length, true, false, Option, Some, None}
+use Rattle.std.specs.Prelude.{◌≡◌, ℕ, zero, suc, ◌+◌, ◌%◌, ◌^◌, ◌<◌, ◌≤◌, List, [], ◌∷◌, length, Contains, true, false, Option, Some, None}
 use mathlib.Core.Option as slot
 use lib.ListN.{get_elem?}
 use Rattle.atomic_table.specs.Table.{State, Me}
@@ -58,6 +58,7 @@ module _ {E : Type 0} where
     sight = record { mark = 0; due = 0 };
     high = 0;
     asked = 0;
+    mine = [];
     parts = 0;
     turns = 0;
     writer = false;
@@ -84,6 +85,7 @@ module _ {E : Type 0} where
     pub sight : pass.sight.mark ≤ now.mark
     pub high : pass.high ≤ now.mark
     pub spent : pass.parts ≡ 0 → (pass.high ≡ 0) × (pass.asked ≡ 0)
+    pub mine : length pass.mine ≡ pass.asked
 
   -- the ticket of a pass waits to be served, and who has the turn is served and took what is in force
   pub record Fits (serving length writer : ℕ) (now : Facts E) (seat : ℕ) (v : View E) : Type 0 where
@@ -103,6 +105,10 @@ module _ {E : Type 0} where
   abbrev pub Reached : ℕ → List (View E) → Type 0
   Reached mark views = (seat : ℕ) × (v : View E) × (get_elem? views seat ≡ slot.some v) × (mark ≤ v.known.high)
 
+  -- some pass added the ask
+  abbrev pub IsAdded : ℕ → List (View E) → Type 0
+  IsAdded ask views = (seat : ℕ) × (v : View E) × (get_elem? views seat ≡ slot.some v) × Contains v.known.mine ask
+
 -- the words of the table, for what is served, how many are in the queue, and the length of the log
 abbrev pub words_of : ℕ → ℕ → ℕ → List ℕ
 words_of serving length entries = ((serving + length) % 2 ^ 64) ∷ (serving % 2 ^ 64) ∷ entries ∷ []
@@ -120,7 +126,7 @@ module _ {V E : Type 0} (facts : V → Facts E) where
     pub apart : Apart s.views
     pub shelf : Shelf (total has_turn s.views) now s.homes
 
-  -- the rule of the lock: the parts add up to all, the asks to those in force, and some pass set the mark
+  -- the rule of the lock: the parts add up to all, the asks to those in force, some pass set the mark, and each ask was added by some pass
   pub record Ruled (s : LockState V E) : Type 0 where
     pub serving : ℕ
     pub writer : ℕ
@@ -129,3 +135,4 @@ module _ {V E : Type 0} (facts : V → Facts E) where
     pub whole : total parts_of s.views ≡ all_parts
     pub asked : total asked_of s.views ≡ length now.asks
     pub reached : Reached now.mark s.views
+    pub mine : (ask : ℕ) → Contains now.asks ask → IsAdded ask s.views

@@ -25,6 +25,8 @@ pub struct Known<E> {
     pub high: u32,
     /// How many asks its turns added.
     pub asked: u64,
+    /// The asks that its turns added. There are as many as `asked` says.
+    pub mine: LinkedList<u32>,
     /// How many of the lock's 2^32 parts it has.
     pub parts: u64,
     /// How many turns it had.

@@ -1,13 +1,19 @@
 //! What the words of the contracts mean: laws on turns and on joins.
-ghost use Rattle.std.specs.Prelude.{◌≡◌, ◌≤◌, ◌⊎◌, ℕ, List, length};
+ghost use Rattle.std.specs.Prelude.{◌≡◌, ◌≤◌, ◌⊎◌, ◌++◌, ℕ, List, length};
 ghost use Rattle.turn_lock.specs.declared.facts.Facts.{Facts};
 ghost use Rattle.turn_lock.specs.declared.known.Known.{Known};
-ghost use Rattle.turn_lock.specs.Known.{after_turn, without, split_off, joined, longer};
+ghost use Rattle.turn_lock.specs.Facts.{Begins};
+ghost use Rattle.turn_lock.specs.Known.{new_asks, after_turn, without, split_off, joined, longer};
 
 /// The highest mark that a pass set never falls in a turn, and never passes the value's mark.
 pub fn a_turn_never_lowers_high<E>()
     ensures { (taken given : Facts E) (pass : Known E) → pass.high ≤ taken.mark → taken.mark ≤ given.mark
         → (pass.high ≤ (after_turn taken given pass).high) × ((after_turn taken given pass).high ≤ given.mark) }
+{}
+
+/// The asks that a turn leaves are those that it found, and then those that it added.
+pub fn a_turn_adds_its_asks<E>()
+    ensures { (taken given : Facts E) → Begins taken.asks given.asks → given.asks ≡ taken.asks ++ new_asks taken given }
 {}
 
 /// Of two lists the longer one is one of the two, and neither is longer than it.

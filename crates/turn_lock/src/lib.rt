@@ -13,7 +13,9 @@ mod view;
 
 pub use facts::{Facts, Tally};
 pub use known::{Known, Sight};
-pub use laws::{a_turn_never_lowers_high, parts_add_up, the_longer_list_is_kept};
+pub use laws::{
+    a_turn_adds_its_asks, a_turn_never_lowers_high, parts_add_up, the_longer_list_is_kept,
+};
 pub use lock::TurnLock;
 pub use logged::Logged;
 pub use pass::Pass;
