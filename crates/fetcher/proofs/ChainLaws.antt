@@ -1,6 +1,7 @@
 -- One more turn at the end of others.
-use Rattle.std.proofs.Common.{ℕ, Option, List, [], ◌∷◌, ◌++◌, refl, subst}
+use Rattle.std.proofs.Common.{ℕ, Option, List, [], ◌∷◌, ◌++◌, IfSome, refl, subst}
 use Rattle.ranked_list.specs.declared.row.Row.{Row}
+use Rattle.source_api.specs.Told.{HasEachOnce}
 use Rattle.fetcher.specs.Chaining.{Moment, OneTurn, IsTurnOf, AreTurns, IsFetched}
 
 turns_more : (page ahead : ℕ) (list : Option (List Row)) (before mid : Moment) (turns : List OneTurn) (last : OneTurn)
@@ -9,10 +10,10 @@ turns_more : (page ahead : ℕ) (list : Option (List Row)) (before mid : Moment)
 turns_more page ahead list before mid [] last h t = (subst (λ m. IsTurnOf page ahead list m last.next last.answer) h t, refl)
 turns_more page ahead list before mid (turn ∷ turns) last h t = (h.0, turns_more page ahead list turn.next mid turns last h.1 t)
 
-pub fetched_none : (page ahead : ℕ) (list : Option (List Row)) (before : Moment) → IsFetched page ahead list before before
-fetched_none page ahead list before = record { turns = []; each = refl }
+pub fetched_none : (page ahead : ℕ) (list : Option (List Row)) (before : Moment) → IfSome list HasEachOnce → IsFetched page ahead list before before
+fetched_none page ahead list before once = record { distinct = once; turns = []; each = refl }
 
 pub fetched_more : (page ahead : ℕ) (list : Option (List Row)) (before mid : Moment) (last : OneTurn) → IsFetched page ahead list before mid
     → IsTurnOf page ahead list mid last.next last.answer
     → IsFetched page ahead list before last.next
-fetched_more page ahead list before mid last h t = record { turns = h.turns ++ last ∷ []; each = turns_more page ahead list before mid h.turns last h.each t }
+fetched_more page ahead list before mid last h t = record { distinct = h.distinct; turns = h.turns ++ last ∷ []; each = turns_more page ahead list before mid h.turns last h.each t }

@@ -37,6 +37,7 @@ feeds_by s t known agrees grows want asks =
       parts = refl;
       high = marks.high;
       asked = marks.asked;
+      mine = marks.mine;
       sight = le_trans agrees.sight grows.mark;
     }
 

@@ -1,5 +1,6 @@
 pub mod ReachLaws
 pub mod EventLaws
+pub mod CauseLaws
 mod FeedLaws
 pub mod BringLaws
 mod MeterLaws

@@ -1,5 +1,5 @@
 -- What the turns of a fetcher bring together, turn by turn.
-use Rattle.std.proofs.Common.{◌≡◌, ◌≤◌, ◌<◌, ◌+◌, ◌-◌, ◌^◌, ℕ, max, None, List, ◌++◌, length, refl, sym, ap, subst, ◌∙◌, arith, le_trans, le_refl, Option}
+use Rattle.std.proofs.Common.{◌≡◌, ◌≤◌, ◌<◌, ◌+◌, ◌-◌, ◌^◌, ℕ, max, Some, None, List, [], ◌∷◌, ◌++◌, length, refl, sym, ap, subst, ◌∙◌, arith, le_trans, le_refl, Option}
 use Rattle.std.proofs.lemmas.List.{length-append}
 use Rattle.ranked_list.specs.declared.row.Row.{Row}
 use Rattle.tk_io.specs.Faults.{Rose}
@@ -12,22 +12,27 @@ use Rattle.topk_theory.proofs.AgreementLists.{distinct_fits}
 use Rattle.source_state.specs.declared.entry.LogEntry.{LogEntry}
 use Rattle.source_state.specs.declared.entry.LogEntry.TheVariants.{Settled}
 use Rattle.source_state.specs.declared.entry.Settling.{Settling}
-use Rattle.source_state.specs.declared.entry.Settling.TheVariants.{Missed}
+use Rattle.source_state.specs.declared.entry.Settling.TheVariants.{Bad, Missed}
+use Rattle.source_state.specs.declared.entry.SourceFault.{SourceFault}
+use Rattle.source_state.specs.declared.entry.Asked.TheVariants as became
 use Rattle.source_state.specs.declared.event.Event.{Event}
 use Rattle.source_state.specs.declared.event.Event.TheVariants as event
 use Rattle.source_state.specs.Log.{rows_in, settled_in, fault_in}
-use Rattle.source_state.specs.State.{State, settle, IsSound}
+use Rattle.source_state.specs.State.{State, asked_in, settle, IsSound}
 use Rattle.source_state.specs.Events as events
-use Rattle.source_state.specs.Events.{logged, one_more}
+use Rattle.source_state.specs.Events.{logged, paged, one_more}
 use Rattle.source_state.specs.Looking.{reach_of}
+use Rattle.source_state.proofs.AskLaws.{pending_parts}
 use Rattle.source_api.specs.declared.counts.Counts.{Counts}
 use Rattle.source_api.specs.Counting.{raised, NoneFell}
 use Rattle.fetcher.specs.declared.turned.Fetched.{Fetched}
 use Rattle.fetcher.specs.declared.turned.Turned.{Turned}
 use Rattle.fetcher.specs.declared.turned.Turned.TheVariants as turned
 use Rattle.fetcher.specs.Turning.{Feeds, IsFed, Brings}
+use Rattle.fetcher.specs.Causes.{IsFaultOfGrade, ComesOf, HasGiven}
 use Rattle.fetcher.specs.Metering.{WentUp, RoseBy, IsMetered, nothing, counted_by, HasCountOf}
 use Rattle.fetcher.proofs.ReachLaws.{reach_more, reach_within}
+use Rattle.fetcher.proofs.CauseLaws.{page_most, settle_bad, page_comes, settled_comes, comes_none}
 use Rattle.fetcher.proofs.EventLaws.{page_stays, page_all, settling_more, settling_rows, settling_fault}
 
 -- all rows that were given are kept, while no row fault stands
@@ -105,6 +110,55 @@ asked_on grades asks more h b =
     let e : length more ≡ length (asks ++ b.rest) = ap (length {A = ℕ}) b.goes_on in
     omega (arith, h, e, length-append asks b.rest)
 
+-- what was given, by turns that leave the rows and what settles, or add to them
+given_same : (number : ℕ) (k1 k2 : Known LogEntry) → Feeds k1 k2 → k2.seen ≡ k1.seen → HasGiven number k1.name.1 k1.seen → HasGiven number k2.name.1 k2.seen
+given_same number k1 k2 feeds same h =
+    subst (λ log. HasGiven number k2.name.1 log) (sym same) (subst (λ n. HasGiven number n k1.seen) (ap (λ (p : ℕ × ℕ). p.1) (sym feeds.name)) h)
+
+given_found : (number : ℕ) (e : Event) (k1 k2 : Known LogEntry) → (fed : IsFed e k1 k2) → HasGiven number k1.name.1 k1.seen
+    → HasGiven number fed.found.count fed.found.log
+given_found number e k1 k2 fed h =
+    subst (λ log. HasGiven number fed.found.count log) (sym fed.is.log) (subst (λ n. HasGiven number n k1.seen) (ap (λ (p : ℕ × ℕ). p.1) (sym fed.is.name)) h)
+
+found_name : (e : Event) (k1 k2 : Known LogEntry) → Feeds k1 k2 → (fed : IsFed e k1 k2) → fed.found.count ≡ k2.name.1
+found_name e k1 k2 feeds fed = ap (λ (p : ℕ × ℕ). p.1) (fed.is.name ∙ sym feeds.name)
+
+given_page : (number rows : ℕ) (given : List Row) (k1 k2 : Known LogEntry) → length given ≡ rows → Feeds k1 k2 → IsFed (event.Page given) k1 k2
+    → HasGiven number k1.name.1 k1.seen → HasGiven (number + rows) k2.name.1 k2.seen
+given_page number rows given k1 k2 size feeds fed h =
+    let was = given_found number (event.Page given) k1 k2 fed h in
+    let many : length was.given ≡ number = was.many in
+    record {
+      given = was.given ++ given;
+      many = omega (arith, length-append was.given given, size, many);
+      comes = subst (λ log. ComesOf k2.name.1 (was.given ++ given) log) (sym fed.sees.log)
+          (subst (λ n. ComesOf n (was.given ++ given) (paged fed.found given).log) (found_name (event.Page given) k1 k2 feeds fed)
+          (page_comes fed.found.count was.given given fed.found refl fed.may was.comes));
+    }
+
+given_settled : (number object : ℕ) (e : Event) (settling : Settling) (k1 k2 : Known LogEntry) → Feeds k1 k2 → (fed : IsFed e k1 k2)
+    → (events.after fed.found e).log ≡ fed.found.log ++ Settled object settling ∷ [] → asked_in fed.found object ≡ Some became.Pending
+    → ((fault : SourceFault) → settling ≡ Bad fault → IsFaultOfGrade (rows_in fed.found.log) object fault)
+    → HasGiven number k1.name.1 k1.seen → HasGiven number k2.name.1 k2.seen
+given_settled number object e settling k1 k2 feeds fed is pending well h =
+    let was = given_found number e k1 k2 fed h in
+    record {
+      given = was.given;
+      many = was.many;
+      comes = subst (λ log. ComesOf k2.name.1 was.given log) (sym (fed.sees.log ∙ is))
+          (subst (λ n. ComesOf n was.given (fed.found.log ++ Settled object settling ∷ [])) (found_name e k1 k2 feeds fed)
+          (settled_comes fed.found.count was.given fed.found.log object settling (pending_parts fed.found object pending).1 well was.comes));
+    }
+
+-- no row is kept that wasn't given
+page_kept : (given : List Row) (k1 k2 : Known LogEntry) → IsFed (event.Page given) k1 k2 → length (rows_in k2.seen) ≤ length (rows_in k1.seen) + length given
+page_kept given k1 k2 fed =
+    subst (λ log. length (rows_in log) ≤ length (rows_in k1.seen) + length given) (sym fed.sees.log)
+    (subst (λ log. length (rows_in (paged fed.found given).log) ≤ length (rows_in log) + length given) fed.is.log (page_most fed.found given))
+
+kept_more : (start rows more before now : ℕ) → before ≤ start + rows → now ≤ before + more → now ≤ start + (rows + more)
+kept_more start rows more before now a b = omega arith
+
 -- what was metered, before a turn
 pub record Meters (page ahead : ℕ) (fetched : Fetched) (counts now : Counts) (before after : Known LogEntry) : Type 0 where
   pub metered : IsMetered page ahead fetched counts now before after
@@ -121,6 +175,8 @@ still page ahead fetched c0 c1 c2 k0 k1 k2 some m feeds seen rows grades failed 
     rows = went_same c0.rows_given fetched.rows c1.rows_given c2.rows_given m.metered.rows rows;
     grades = went_same c0.grades_given fetched.grades c1.grades_given c2.grades_given m.metered.grades grades;
     reach = max_on (length (rows_in k0.seen)) fetched.rows _ _ m.metered.reach (reach_on page ahead k1 k2 some feeds);
+    kept = subst (λ log. length (rows_in log) ≤ length (rows_in k0.seen) + fetched.rows) (sym seen) m.metered.kept;
+    comes = λ none. given_same fetched.rows k1 k2 feeds seen (m.metered.comes none);
     settled = m.metered.settled ∙ ap (λ log. length (settled_in log)) (sym seen);
     asked = asked_on fetched.grades k1.met k2.met m.metered.asked feeds.follows.met;
     failed = failed;
@@ -143,13 +199,15 @@ one_failed before now then_ first last rose more = rose_least before (one_more l
 
 -- a turn that settles an object
 settled_turn : (page ahead : ℕ) (fetched : Fetched) (c0 c1 c2 : Counts) (k0 k1 k2 : Known LogEntry) → 1 ≤ page → Meters page ahead fetched c0 c1 k0 k1
-    → Feeds k1 k2 → NoneFell c1 c2 → Settles k1 k2
+    → Feeds k1 k2 → NoneFell c1 c2 → Settles k1 k2 → (HasGiven fetched.rows k1.name.1 k1.seen → HasGiven fetched.rows k2.name.1 k2.seen)
     → k2.tally ≡ k1.tally → c2.rows_given ≡ c1.rows_given → c2.grades_given ≡ faults.counted c1.grades_given → Meters page ahead (record fetched { grades = fetched.grades + 1 }) c0 c2 k0 k2
-settled_turn page ahead fetched c0 c1 c2 k0 k1 k2 some m feeds later s tally rows grades = record {
+settled_turn page ahead fetched c0 c1 c2 k0 k1 k2 some m feeds later s given tally rows grades = record {
   metered = record {
     rows = went_same c0.rows_given fetched.rows c1.rows_given c2.rows_given m.metered.rows rows;
     grades = went_more c0.grades_given fetched.grades 1 c1.grades_given c2.grades_given m.metered.grades grades;
     reach = max_on (length (rows_in k0.seen)) fetched.rows _ _ m.metered.reach (reach_on page ahead k1 k2 some feeds);
+    kept = let a = m.metered.kept in let b = s.rows in omega (arith, a, b);
+    comes = λ none. given (m.metered.comes none);
     settled = let a = m.metered.settled in let b = s.settled in omega (arith, a, b);
     asked = let a = m.metered.settled in let b = s.settled in let d = s.asks in omega (arith, a, b, d);
     failed = same_failed k0 k1 k2 c0.faults c1.faults c2.faults (ap (λ (t : Tally). t.failed) tally) m.metered.failed later.faults;
@@ -171,6 +229,9 @@ meter_more page ahead fetched (turned.Paged rows) list c0 c1 c2 k0 k1 k2 some m 
         rows = went_more c0.rows_given fetched.rows rows c1.rows_given c2.rows_given m.metered.rows b.gave.rows;
         grades = went_same c0.grades_given fetched.grades c1.grades_given c2.grades_given m.metered.grades b.gave.grades;
         reach = max_page (length (rows_in k0.seen)) (length (rows_in k1.seen)) fetched.rows rows _ all b.reach;
+        kept = kept_more (length (rows_in k0.seen)) fetched.rows rows (length (rows_in k1.seen)) (length (rows_in k2.seen)) m.metered.kept
+            (subst (λ n. length (rows_in k2.seen) ≤ length (rows_in k1.seen) + n) size (page_kept b.given k1 k2 fed));
+        comes = λ none. given_page fetched.rows rows b.given k1 k2 size feeds fed (m.metered.comes none);
         settled = m.metered.settled ∙ sym (ap (λ log. length (settled_in log)) fed.sees.log ∙ (ap (length {A = ℕ}) (page_stays fed.found b.given).settled ∙ ap (λ log. length (settled_in log)) fed.is.log));
         asked = asked_on fetched.grades k1.met k2.met m.metered.asked feeds.follows.met;
         failed = same_failed k0 k1 k2 c0.faults c1.faults c2.faults (ap (λ (t : Tally). t.failed) b.tally) m.metered.failed later.faults;
@@ -188,9 +249,15 @@ meter_more page ahead fetched (turned.Paged rows) list c0 c1 c2 k0 k1 k2 some m 
     sum_of a b c d e f p q r = omega arith
 meter_more page ahead fetched (turned.Graded object) list c0 c1 c2 k0 k1 k2 some m feeds later b =
     settled_turn page ahead fetched c0 c1 c2 k0 k1 k2 some m feeds later
-    (settles_by (event.Grade object b.grade) object (λ s. settle (rows_in s.log) object b.grade) k1 k2 (λ s. refl) b.fed) b.tally b.gave.rows b.gave.grades
+    (settles_by (event.Grade object b.grade) object (λ s. settle (rows_in s.log) object b.grade) k1 k2 (λ s. refl) b.fed)
+    (given_settled fetched.rows object (event.Grade object b.grade) (settle (rows_in b.fed.found.log) object b.grade) k1 k2 feeds b.fed refl b.fed.may
+    (settle_bad (rows_in b.fed.found.log) object b.grade))
+    b.tally b.gave.rows b.gave.grades
 meter_more page ahead fetched (turned.Missed object) list c0 c1 c2 k0 k1 k2 some m feeds later b =
-    settled_turn page ahead fetched c0 c1 c2 k0 k1 k2 some m feeds later (settles_by (event.Miss object) object (λ s. Missed) k1 k2 (λ s. refl) b.fed) b.tally b.gave.rows b.gave.grades
+    settled_turn page ahead fetched c0 c1 c2 k0 k1 k2 some m feeds later
+    (settles_by (event.Miss object) object (λ s. Missed) k1 k2 (λ s. refl) b.fed)
+    (given_settled fetched.rows object (event.Miss object) Missed k1 k2 feeds b.fed refl b.fed.may (λ fault e. absurd (let bad : Missed ≡ Bad fault = e in cc)))
+    b.tally b.gave.rows b.gave.grades
 meter_more page ahead fetched turned.Failed list c0 c1 c2 k0 k1 k2 some m feeds later b =
     still page ahead fetched c0 c1 c2 k0 k1 k2 some m feeds b.seen b.gave.rows b.gave.grades
     (subst (λ (t : Tally). RoseBy (t.failed - k0.tally.failed) c0.faults c2.faults) (sym b.tally) (one_failed c0.faults c1.faults c2.faults k0.tally.failed k1.tally.failed m.metered.failed b.cause))
@@ -242,6 +309,8 @@ meter_none page ahead counts known = record {
     rows = refl;
     grades = refl;
     reach = least (length (rows_in known.seen)) (reach_of known.sight.mark page ahead known.name.1);
+    kept = omega arith;
+    comes = λ none. record { given = []; many = refl; comes = subst (ComesOf known.name.1 []) (sym none) (comes_none known.name.1) };
     settled = omega arith;
     asked = omega arith;
     failed = none_rose counts.faults known.tally.failed;
@@ -257,7 +326,7 @@ meter_none page ahead counts known = record {
     none_rose n first = omega arith
 
 pub feeds_same : (known : Known LogEntry) → Feeds known known
-feeds_same known = record { follows = record { seen = begins_same known.seen; met = begins_same known.met; tally = at_most_same known.tally }; name = refl; parts = refl; high = refl; asked = refl; sight = le_refl known.sight.mark }
+feeds_same known = record { follows = record { seen = begins_same known.seen; met = begins_same known.met; tally = at_most_same known.tally }; name = refl; parts = refl; high = refl; asked = refl; mine = refl; sight = le_refl known.sight.mark }
 
 pub feeds_on : (k0 k1 k2 : Known LogEntry) → Feeds k0 k1 → Feeds k1 k2 → Feeds k0 k2
 feeds_on k0 k1 k2 a b = record {
@@ -266,5 +335,6 @@ feeds_on k0 k1 k2 a b = record {
   parts = b.parts ∙ a.parts;
   high = b.high ∙ a.high;
   asked = b.asked ∙ a.asked;
+  mine = b.mine ∙ a.mine;
   sight = le_trans a.sight b.sight;
 }

@@ -1,10 +1,11 @@
 -- The turns of a fetcher one after another.
-use Rattle.std.specs.Prelude.{◌≡◌, ℕ, Option, List, [], ◌∷◌}
+use Rattle.std.specs.Prelude.{◌≡◌, ℕ, Option, List, [], ◌∷◌, IfSome}
 use Rattle.ranked_list.specs.declared.row.Row.{Row}
 use Rattle.turn_lock.specs.declared.known.Known.{Known}
 use Rattle.source_state.specs.declared.entry.LogEntry.{LogEntry}
 use Rattle.source_api.specs.declared.counts.Counts.{Counts}
 use Rattle.source_api.specs.Counting.{NoneFell}
+use Rattle.source_api.specs.Told.{HasEachOnce}
 use Rattle.fetcher.specs.declared.turned.Turned.{Turned}
 use Rattle.fetcher.specs.Turning.{Feeds, Brings}
 
@@ -32,7 +33,8 @@ abbrev pub AreTurns : ℕ → ℕ → Option (List Row) → Moment → List OneT
 AreTurns page ahead list before [] after = after ≡ before
 AreTurns page ahead list before (turn ∷ turns) after = IsTurnOf page ahead list before turn.next turn.answer × AreTurns page ahead list turn.next turns after
 
--- some turns in their order lead from one moment to another
+-- some turns in their order lead from one moment to another; a list that is told has no object twice
 pub record IsFetched (page ahead : ℕ) (list : Option (List Row)) (before after : Moment) : Type 0 where
+  pub distinct : IfSome list HasEachOnce
   pub turns : List OneTurn
   pub each : AreTurns page ahead list before turns after

@@ -1,5 +1,5 @@
 -- What the turns of a fetcher bring together.
-use Rattle.std.specs.Prelude.{◌≡◌, ◌≤◌, ◌<◌, ◌+◌, ◌-◌, ◌^◌, ℕ, max, length}
+use Rattle.std.specs.Prelude.{◌≡◌, ◌≤◌, ◌<◌, ◌+◌, ◌-◌, ◌^◌, ℕ, max, [], length}
 use Rattle.turn_lock.specs.declared.known.Known.{Known}
 use Rattle.source_state.specs.declared.entry.LogEntry.{LogEntry}
 use Rattle.source_state.specs.Log.{rows_in, settled_in}
@@ -10,6 +10,7 @@ use Rattle.source_api.specs.Counting.{raised}
 use Rattle.fetcher.specs.declared.turned.Fetched.{Fetched}
 use Rattle.fetcher.specs.declared.turned.Turned.{Turned}
 use Rattle.fetcher.specs.declared.turned.Turned.TheVariants as turned
+use Rattle.fetcher.specs.Causes.{HasGiven}
 
 -- a count went up by so many, and stands still at the last value of its type
 abbrev pub WentUp : ℕ → ℕ → ℕ → Type 0
@@ -20,12 +21,15 @@ abbrev pub RoseBy : ℕ → ℕ → ℕ → Type 0
 RoseBy number before now = raised before number ≤ now
 
 -- what was fetched of a source: its counts rose by the rows and grades that were given; the rows kept before and those given are
--- together within the reach of the want that was seen, if any were given; each grade that was given settled an object that was asked, and
--- they are no more than the asks that were seen; and the fails that were counted are no more than the calls that failed
+-- together within the reach of the want that was seen, if any were given, and no row is kept that wasn't given; what stands in a log that was
+-- empty comes of the rows that were given; each grade that was given settled an object that was asked, and they are no more than the asks that
+-- were seen; and the fails that were counted are no more than the calls that failed
 pub record IsMetered (page ahead : ℕ) (fetched : Fetched) (counts now : Counts) (before after : Known LogEntry) : Type 0 where
   pub rows : WentUp fetched.rows counts.rows_given now.rows_given
   pub grades : WentUp fetched.grades counts.grades_given now.grades_given
   pub reach : length (rows_in before.seen) + fetched.rows ≤ max (length (rows_in before.seen)) (reach_of after.sight.mark page ahead after.name.1)
+  pub kept : length (rows_in after.seen) ≤ length (rows_in before.seen) + fetched.rows
+  pub comes : before.seen ≡ [] → HasGiven fetched.rows after.name.1 after.seen
   pub settled : length (settled_in before.seen) + fetched.grades ≡ length (settled_in after.seen)
   pub asked : fetched.grades ≤ length after.met
   pub failed : RoseBy (after.tally.failed - before.tally.failed) counts.faults now.faults

@@ -49,6 +49,7 @@ pub record Feeds (before after : Known LogEntry) : Type 0 where
   pub parts : after.parts ≡ before.parts
   pub high : after.high ≡ before.high
   pub asked : after.asked ≡ before.asked
+  pub mine : after.mine ≡ before.mine
   pub sight : before.sight.mark ≤ after.sight.mark
 
 -- a turn in which the state stays, and what is to be fetched next is read

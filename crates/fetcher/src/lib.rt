@@ -9,7 +9,9 @@ mod stop;
 mod turned;
 
 pub use fetch::{fetch_loop, fetch_turn};
-pub use laws::{turns_tell_the_list, what_is_fetched_is_called_for};
+pub use laws::{
+    told_lists_neither_repeat_nor_clash, turns_tell_the_list, what_is_fetched_is_called_for,
+};
 pub use slot::Slot;
 pub use source_state::reach;
 pub use stop::Stop;

@@ -13,7 +13,8 @@ loop-init g c = record {
   feeds = feeds_same c.args.feeder.now.pass.1;
   list = refl;
   later = none_fell_same (g.S.Source.counts c.args.source.now);
-  turns = fetched_none c.args.page c.args.ahead (g.S.Source.list c.args.source.now) (moment (g.S.Source.counts c.args.source.now) c.args.feeder.now.pass.1);
+  turns = fetched_none c.args.page c.args.ahead (g.S.Source.list c.args.source.now) (moment (g.S.Source.counts c.args.source.now) c.args.feeder.now.pass.1)
+      ((g.met.S.Source g.world.𝓛 g.world.𝓜 g.world.𝓡 ((λ s x. x), (λ x. x), (λ x. x), λ x. x)).distinct c.args.source.now);
   meters = meter_none c.args.page c.args.ahead (g.S.Source.counts c.args.source.now) c.args.feeder.now.pass.1;
 }
 
