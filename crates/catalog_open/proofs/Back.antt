@@ -1,5 +1,5 @@
 -- Sources are put back, the last first.
-use Rattle.std.proofs.Common.{◌≡◌, ◌≢◌, ℕ, suc, ◌+◌, ◌<◌, ◌≤◌, Bool, true, List, [], ◌∷◌, ◌++◌, All, Contains, map, drop, length, length-append, reverse, slice_index_or, append_assoc, drop-cons, refl, sym, ap, ◌∙◌, subst, arith}
+use Rattle.std.proofs.Common.{◌≡◌, ℕ, suc, ◌+◌, ◌<◌, ◌≤◌, Bool, true, List, [], ◌∷◌, ◌++◌, Contains, drop, length, length-append, reverse, slice_index_or, append_assoc, drop-cons, refl, sym, ap, ◌∙◌, subst, arith}
 use Rattle.std.proofs.lemmas.List.{reverse-append}
 use Rattle.std.proofs.lemmas.List.Elements.{Contains-get_or}
 use Rattle.source_api.specs.declared.counts.Counts.{Counts}
@@ -7,14 +7,15 @@ use Rattle.source_api.specs.declared.ledger.PlaceCounts.{PlaceCounts}
 use Rattle.source_api.specs.Places.{SameElsewhere, put_back_at, with_source}
 use Rattle.catalog_text.specs.Catalog.{Listed as Entry}
 use Rattle.catalog_open.specs.Views.{entry_at}
-use Rattle.catalog_open.specs.Openings.{Counted, Used, Moves, MovesAt, KeepsOthers, put_back}
-use Rattle.catalog_open.proofs.Moving.{moves_none, moves_then, moves_here, keeps_then, keeps_here}
+use Rattle.catalog_open.specs.Openings.{Counted, Used, Moves, MovesAt, PutsBack, KeepsOthers, put_back}
+use Rattle.catalog_open.proofs.Moving.{moves_none, moves_then, moves_here, takes_here, keeps_then, keeps_here}
 
 -- the sources that are left, by what they have counted, and what was put back
 pub record BackSoFar (catalog : List Entry) (places : List ℕ) (counts left : List Counts) (before now : Counted) : Type 0 where
   pub back : List Counts
   pub counts_are : counts ≡ left ++ back
   pub moves : Moves (reverse (put_back catalog (drop (length left) places) back)) before now
+  pub takes : (place : List ℕ) → (now place).take_faults ≡ (before place).take_faults
   pub others : KeepsOthers catalog (Contains places) before now
 
 put_nothing : (catalog : List Entry) (places : List ℕ) → put_back catalog places [] ≡ []
@@ -26,6 +27,7 @@ back_none catalog places counts before = record {
   back = [];
   counts_are = sym (nil_right counts);
   moves = subst (λ us. Moves (reverse us) before before) (sym (put_nothing catalog (drop (length counts) places))) (moves_none before);
+  takes = λ place. refl;
   others = λ place apart. refl;
 }
   where
@@ -61,6 +63,7 @@ back_more catalog places counts left rest one place before mid now so_far popped
       back = one ∷ so_far.back;
       counts_are = so_far.counts_are ∙ ap (λ l. l ++ so_far.back) popped ∙ append_assoc rest (one ∷ []) so_far.back;
       moves = subst (λ vs. Moves vs before now) (sym turned) moves;
+      takes = λ other. takes_here text mid now elsewhere (ap (λ (c : PlaceCounts). c.take_faults) here) other ∙ so_far.takes other;
       others = keeps_then catalog (Contains places) before mid now so_far.others (keeps_here catalog (Contains places) place text mid now (subst (Contains places) (sym is) (contains_read places (length rest) within)) refl elsewhere);
     }
   where
@@ -69,11 +72,13 @@ back_more catalog places counts left rest one place before mid now so_far popped
 
 -- all are put back
 pub back_all : (catalog : List Entry) (places : List ℕ) (counts left : List Counts) (before now : Counted) → BackSoFar catalog places counts left before now
-    → left ≡ [] → Moves (reverse (put_back catalog places counts)) before now
+    → left ≡ [] → PutsBack (reverse (put_back catalog places counts)) before now
 back_all catalog places counts left before now so_far none =
     let same : counts ≡ so_far.back = so_far.counts_are ∙ ap (λ l. l ++ so_far.back) none in
+    let moves : Moves (reverse (put_back catalog places counts)) before now =
     subst (λ cs. Moves (reverse (put_back catalog places cs)) before now) (sym same)
-    (subst (λ l. Moves (reverse (put_back catalog (drop (length l) places) so_far.back)) before now) none so_far.moves)
+    (subst (λ l. Moves (reverse (put_back catalog (drop (length l) places) so_far.back)) before now) none so_far.moves) in
+    record { texts = moves.texts; takes = so_far.takes; sources = moves.sources }
 
 -- the same of a source of the shelf
 pub back_step : (catalog : List Entry) (places : List ℕ) (counts left rest : List Counts) (one : Counts) (place : ℕ) (text : List ℕ) (knows : Bool)

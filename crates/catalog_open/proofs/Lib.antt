@@ -1,6 +1,7 @@
 -- Lemmas on opening the sources of a catalog.
 pub mod Moving
 pub mod Opens
+pub mod Unread
 pub mod Marking
 pub mod Admits
 pub mod Back

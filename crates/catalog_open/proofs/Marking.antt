@@ -1,11 +1,11 @@
 -- Which sources lines want, with one line more.
-use Rattle.std.proofs.Common.{◌≡◌, ◌≢◌, ◌⊎◌, ℕ, ◌+◌, ◌<◌, ◌≤◌, zero, suc, Bool, true, false, List, [], ◌∷◌, ◌++◌, All, Contains, map, take, length, length-append, replicate, set, get_or, slice_get, slice_index_or, inl, inr, Option, None, Some, Result, Ok, Err, refl, sym, ap, ◌∙◌, subst, length-take-le, Bor, arith}
-use Rattle.std.specs.List.{position, AllByRecursion}
+use Rattle.std.proofs.Common.{◌≡◌, ◌≢◌, ℕ, ◌+◌, ◌<◌, ◌≤◌, zero, suc, Bool, false, List, [], ◌∷◌, ◌++◌, All, Contains, map, take, length, length-append, replicate, get_or, slice_get, inl, inr, None, Some, Ok, Err, refl, sym, ap, ◌∙◌, subst, length-take-le, Bor, arith}
+use Rattle.std.specs.List.{AllByRecursion}
 use Rattle.std.specs.Str.{bytes_eq}
-use Rattle.std.proofs.lemmas.Bool.{cases_lt, cases_eq, false≢true}
+use Rattle.std.proofs.lemmas.Bool.{cases_lt, false≢true}
 use Rattle.std.proofs.lemmas.Option.{slice_get-get_or, slice_get_within, get_or_from_slice_get, slice_get_past, same_Some}
 use Rattle.std.proofs.lemmas.List.{get_or_past, get_or_push, get_or-replicate, length-map, length-replicate, map-append, take_more}
-use Rattle.std.proofs.lemmas.List.Elements.{All-from_recursion, Contains-append_left, Contains-push, Contains-push_cases}
+use Rattle.std.proofs.lemmas.List.Elements.{All-from_recursion}
 use Rattle.std.proofs.lemmas.List.Quantifiers.{position-Some}
 use Rattle.topk_theory.proofs.AgreementLists.{get_front}
 use Rattle.query_text.specs.declared.query.Query.{Query}
@@ -16,7 +16,7 @@ use Rattle.query_admission.specs.Causes.{most_queries}
 use Rattle.query_admission.proofs.Admitting.{read_once}
 use Rattle.catalog_text.specs.Catalog.{Listed as Entry}
 use Rattle.catalog_open.specs.Views.{place_of}
-use Rattle.catalog_open.specs.Wanted.{Wants, IsWanted, AreMarked, MarksMore, is_marked}
+use Rattle.catalog_open.specs.Wanted.{Wants, AreMarked, MarksMore, is_marked}
 
 -- the places of names are known one way
 pub places_once : (xs ys : List ℕ) → map Some xs ≡ map Some ys → xs ≡ ys

@@ -1,5 +1,5 @@
 -- What is counted on a shelf between moments.
-use Rattle.std.proofs.Common.{◌≡◌, ◌≢◌, ℕ, ◌+◌, ◌-◌, ◌<◌, ◌≤◌, ◌^◌, min, Bool, true, false, List, [], ◌∷◌, ◌++◌, map, inl, inr, refl, sym, ap, ◌∙◌, subst, arith}
+use Rattle.std.proofs.Common.{◌≡◌, ◌≢◌, ℕ, ◌-◌, ◌≤◌, ◌^◌, min, Bool, true, false, List, [], ◌∷◌, ◌++◌, map, inl, inr, refl, sym, ap, ◌∙◌, subst, arith}
 use Rattle.std.specs.Prelude.{if◌then◌else◌}
 use Rattle.std.specs.Str.{bytes_eq}
 use Rattle.std.proofs.lemmas.Slice.Eq.{bytes_eq-Decides}
@@ -12,14 +12,14 @@ use Rattle.source_api.specs.declared.source.Trouble.TheVariants.{Failed, Garbled
 use Rattle.source_api.specs.Counting.{HasCause, added, no_counts, raised}
 use Rattle.source_api.specs.Places.{SameElsewhere, put_back_at}
 use Rattle.catalog_text.specs.Catalog.{Listed as Entry}
-use Rattle.catalog_open.specs.Openings.{Counted, Used, used_at, added_all, AddsSources, Moves, MovesAt, KeepsOthers, TroubleAt}
+use Rattle.catalog_open.specs.Openings.{Counted, Used, used_at, added_all, AddsSources, Moves, MovesAt, PutsBack, KeepsOthers, TroubleAt}
 use Rattle.catalog_open.specs.Views.{entry_at}
 
 added_append : (c : Counts) (xs ys : List Counts) → added_all c (xs ++ ys) ≡ added_all (added_all c xs) ys
 added_append c [] ys = refl
 added_append c (x ∷ xs) ys = added_append (added c x) xs ys
 
-used_append : (place : List ℕ) (u v : List Used) → used_at place (u ++ v) ≡ used_at place u ++ used_at place v
+pub used_append : (place : List ℕ) (u v : List Used) → used_at place (u ++ v) ≡ used_at place u ++ used_at place v
 used_append place [] v = refl
 used_append place (one ∷ u) v = go (bytes_eq one.place place) (used_append place u v)
   where
@@ -77,6 +77,25 @@ here_one place before now elsewhere at other = elim (bytes_eq place other) as (�
         sources = ap (λ (c : PlaceCounts). c.sources) still ∙ ap (added_all (before other).sources) (sym (used_elsewhere place other at.counts e));
       }
 ] refl
+
+-- where the failed takes of a place stay, and what is counted elsewhere, no take failed
+pub takes_here : (place : List ℕ) (before now : Counted) → SameElsewhere place before now → (now place).take_faults ≡ (before place).take_faults
+    → (other : List ℕ) → (now other).take_faults ≡ (before other).take_faults
+takes_here place before now elsewhere at other =
+    elim (bytes_eq place other) as (λ t. bytes_eq place other ≡ t → (now other).take_faults ≡ (before other).take_faults) [
+      | true ↦ λ e. subst (λ o. (now o).take_faults ≡ (before o).take_faults) ((bytes_eq-Decides place other).0 e) at
+      | false ↦ λ e.
+          let apart : other ≢ place = λ same. false≢true (sym e ∙ (bytes_eq-Decides place other).1 (sym same)) in
+          ap (λ (c : PlaceCounts). c.take_faults) (elsewhere other apart)
+    ] refl
+
+-- sources that are put back move so
+pub puts_moves : (u : List Used) (before now : Counted) → PutsBack u before now → Moves u before now
+puts_moves u before now puts = record {
+  texts = puts.texts;
+  takes = λ place. let e = puts.takes place in omega (arith, e);
+  sources = puts.sources;
+}
 
 -- what changes at one place alone moves so
 pub moves_here : (place : List ℕ) (before now : Counted) → SameElsewhere place before now → (at : MovesAt (before place) (now place))

@@ -5,7 +5,7 @@ use Rattle.tk_io.specs.Faults.{Rose}
 use Rattle.ranked_list.specs.declared.row.Row.{Row}
 use Rattle.source_api.specs.declared.counts.Counts.{Counts}
 use Rattle.source_api.specs.declared.ledger.PlaceCounts.{PlaceCounts}
-use Rattle.source_api.specs.Counting.{added}
+use Rattle.source_api.specs.Counting.{added, raised}
 use Rattle.catalog_text.specs.Catalog.{Listed as Entry}
 use Rattle.catalog_open.specs.declared.opened.Opening.{Opening}
 use Rattle.catalog_open.specs.declared.opened.Opening.TheVariants.{Closed, Open}
@@ -37,6 +37,12 @@ pub record Moves (used : List Used) (before now : Counted) : Type 0 where
   pub takes : (place : List ℕ) → (before place).take_faults ≤ (now place).take_faults
   pub sources : (place : List ℕ) → (now place).sources ≡ added_all (before place).sources (used_at place used)
 
+-- between two moments these sources were put back on a shelf, and neither a text nor a source was asked for that failed
+pub record PutsBack (used : List Used) (before now : Counted) : Type 0 where
+  pub texts : (place : List ℕ) → (now place).text_faults ≡ (before place).text_faults
+  pub takes : (place : List ℕ) → (now place).take_faults ≡ (before place).take_faults
+  pub sources : (place : List ℕ) → (now place).sources ≡ added_all (before place).sources (used_at place used)
+
 -- at a place sources were put back, and nothing else was counted
 pub record AddsSources (before now : PlaceCounts) : Type 0 where
   pub counts : List Counts
@@ -48,6 +54,21 @@ pub record MovesAt (before now : PlaceCounts) : Type 0 where
   pub takes : before.take_faults ≤ now.take_faults
   pub counts : List Counts
   pub sources : now.sources ≡ added_all before.sources counts
+
+-- a source has given neither a row nor a grade
+pub record IsUnread (counts : Counts) : Type 0 where
+  pub rows : counts.rows_given ≡ 0
+  pub grades : counts.grades_given ≡ 0
+
+-- the sources that were put back at a place had given nothing; a count stands still at its last value
+pub record GivesNothing (before now : PlaceCounts) : Type 0 where
+  pub rows : raised now.sources.rows_given 0 ≡ raised before.sources.rows_given 0
+  pub grades : raised now.sources.grades_given 0 ≡ raised before.sources.grades_given 0
+
+-- between two moments nothing was read of sources: those that were put back had given nothing, and the open ones have given nothing if those before hadn't
+pub record ReadsNothing (before now : Counted) (earlier opened : List Counts) : Type 0 where
+  pub back : (place : List ℕ) → GivesNothing (before place) (now place)
+  pub open_ones : All IsUnread earlier → All IsUnread opened
 
 -- between two moments nothing was counted but at the places of these entries of the catalog
 abbrev pub KeepsOthers : List Entry → (ℕ → Type 0) → Counted → Counted → Type 0

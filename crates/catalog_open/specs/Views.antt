@@ -6,7 +6,7 @@ use Rattle.std.specs.Str.{bytes_eq}
 use Rattle.ranked_list.specs.declared.row.Row.{Row}
 use Rattle.catalog_text.specs.Catalog.{Listed as Entry}
 use Rattle.query_admission.specs.View.{View}
-use Rattle.query_admission.specs.Causes.{Line}
+use Rattle.query_admission.specs.Causes.{QueryLine}
 use Rattle.query_admission.specs.declared.lists.Listed.{Listed}
 use Rattle.catalog_open.specs.declared.opened.Opening.{Opening}
 use Rattle.catalog_open.specs.declared.opened.Opening.TheVariants.{Closed, Open}
@@ -50,5 +50,5 @@ view_over catalog openings lists = record {
 }
 
 -- the query line of a number over such lists
-abbrev pub line_over : View → ℕ → List ℕ → Line
+abbrev pub line_over : View → ℕ → List ℕ → QueryLine
 line_over view number bytes = record { view = view; number = number; bytes = bytes }

@@ -2,7 +2,7 @@
 
 ghost use Rattle.std.specs.Prelude.{◌≡◌, All, Contains, length, map, reverse};
 ghost use Rattle.source_api.specs.Places.{SameAtEach};
-ghost use Rattle.catalog_open.specs.Openings.{IsKnownAt, KeepsOthers, Moves, put_back};
+ghost use Rattle.catalog_open.specs.Openings.{IsKnownAt, KeepsOthers, PutsBack, put_back};
 
 use catalog_text::Catalog;
 use source_api::Shelf;
@@ -19,7 +19,7 @@ pub fn put_back_all<H: Shelf>(
     ensures texts { SameAtEach (H.texts shelf.old) (H.texts shelf.new) }
     ensures lists { SameAtEach (H.lists shelf.old) (H.lists shelf.new) }
     ensures others { KeepsOthers catalog.now (Contains places.now) (H.at shelf.old) (H.at shelf.new) }
-    ensures moves { Moves (reverse (put_back catalog.now places.now (map H.Item.counts sources.items))) (H.at shelf.old) (H.at shelf.new) }
+    ensures moves { PutsBack (reverse (put_back catalog.now places.now (map H.Item.counts sources.items))) (H.at shelf.old) (H.at shelf.new) }
 {
     while let Some(source) = sources.pop() {
         let Some(entry) = catalog.get(places[sources.len()]) else {

@@ -5,7 +5,7 @@ ghost use Rattle.ranked_list.specs.declared.row.Row.{Row};
 ghost use Rattle.source_api.specs.Counting.{no_counts};
 ghost use Rattle.source_api.specs.Places.{SameAtEach, SameElsewhere};
 ghost use Rattle.catalog_open.specs.Wanted.{is_marked, IsMarked};
-ghost use Rattle.catalog_open.specs.Openings.{Counted, AddsSources, AreOpened, IsKnownAt, IsToldAs, MovesAt, TroubleAt, run_count};
+ghost use Rattle.catalog_open.specs.Openings.{Counted, AddsSources, AreOpened, GivesNothing, IsKnownAt, IsToldAs, IsUnread, MovesAt, ReadsNothing, TroubleAt, run_count};
 ghost use Rattle.catalog_open.specs.declared.opened.Opening.TheVariants as Opening;
 
 use super::Memory;
@@ -49,6 +49,8 @@ fn ask_size<H: Shelf>(
     ensures known { (other : List ℕ) → H.knows shelf.old other ≡ true → H.knows shelf.new other ≡ true }
     ensures elsewhere { SameElsewhere place.now (H.at shelf.old) (H.at shelf.new) }
     ensures used { AddsSources (H.at shelf.old place.now) (H.at shelf.new place.now) }
+    ensures back { GivesNothing (H.at shelf.old place.now) (H.at shelf.new place.now) }
+    ensures unread { IfOk result (λ found. IfSome found (λ taken. IsUnread (H.Item.counts taken.source))) }
     ensures opens { IfOk result (λ found. MatchOption found
         (TroubleAt (H.at shelf.old place.now) (H.at shelf.new place.now))
         (λ taken. (H.Item.list taken.source ≡ H.Item.list source) × IfSome (H.Item.list source) (λ rows. taken.size ≡ length rows))) }
@@ -78,6 +80,8 @@ fn open_source<H: Shelf>(
     ensures known { (other : List ℕ) → H.knows shelf.old other ≡ true → H.knows shelf.new other ≡ true }
     ensures elsewhere { SameElsewhere place.now (H.at shelf.old) (H.at shelf.new) }
     ensures moves { MovesAt (H.at shelf.old place.now) (H.at shelf.new place.now) }
+    ensures back { GivesNothing (H.at shelf.old place.now) (H.at shelf.new place.now) }
+    ensures unread { IfOk result (λ found. IfSome found (λ taken. IsUnread (H.Item.counts taken.source))) }
     ensures opens { IfOk result (λ found. MatchOption found
         (TroubleAt (H.at shelf.old place.now) (H.at shelf.new place.now))
         (λ taken. (H.knows shelf.new place.now ≡ true) × IsToldAs (H.lists shelf.old place.now) (H.Item.list taken.source) taken.size)) }
@@ -155,6 +159,7 @@ fn open_next<H: Shelf>(
     ensures many { length sources.new.items ≡ length opened.new.places.items }
     ensures few { length sources.new.items ≤ place + 1 }
     ensures known { All (IsKnownAt catalog.now (H.knows shelf.old)) opened.old.places.items → All (IsKnownAt catalog.now (H.knows shelf.new)) opened.new.places.items }
+    ensures unread { ReadsNothing (H.at shelf.old) (H.at shelf.new) (map H.Item.counts sources.old.items) (map H.Item.counts sources.new.items) }
     ensures opened { (lists : List ℕ → Option (List Row)) (marks : List Bool) (before : Counted) → SameAtEach lists (H.lists shelf.old)
         → is_marked marks place ≡ true
         → AreOpened lists catalog.now (IsMarked marks) before (H.at shelf.old) opened.old.openings.items (record { told = map H.Item.list sources.old.items; places = opened.old.places.items; counts = opened.old.counts.items })
@@ -209,6 +214,7 @@ fn visit_next<H: Shelf>(
     ensures many { length sources.new.items ≡ length opened.new.places.items }
     ensures few { length sources.new.items ≤ place + 1 }
     ensures known { All (IsKnownAt catalog.now (H.knows shelf.old)) opened.old.places.items → All (IsKnownAt catalog.now (H.knows shelf.new)) opened.new.places.items }
+    ensures unread { ReadsNothing (H.at shelf.old) (H.at shelf.new) (map H.Item.counts sources.old.items) (map H.Item.counts sources.new.items) }
     ensures opened { (lists : List ℕ → Option (List Row)) (marks : List Bool) (before : Counted) → SameAtEach lists (H.lists shelf.old)
         → is_marked marks place ≡ wanted
         → AreOpened lists catalog.now (IsMarked marks) before (H.at shelf.old) opened.old.openings.items (record { told = map H.Item.list sources.old.items; places = opened.old.places.items; counts = opened.old.counts.items })
@@ -222,7 +228,7 @@ fn visit_next<H: Shelf>(
 
 /// Opens the sources of a catalog that are marked, in its order: each is taken of the shelf and asked for its size. What became of
 /// them is put into `opened`, and the open sources into `sources`, both empty before. Where memory is refused, those that are open
-/// by then stand there, to be put back.
+/// by then stand there, to be put back. Nothing is read of the sources.
 pub fn open_wanted<H: Shelf>(
     alloc: Global,
     shelf: &mut H,
@@ -240,6 +246,9 @@ pub fn open_wanted<H: Shelf>(
     ensures lists { SameAtEach (H.lists shelf.old) (H.lists shelf.new) }
     ensures all { OnOk result (length opened.new.openings.items ≡ length catalog.now) }
     ensures known { All (IsKnownAt catalog.now (H.knows shelf.new)) opened.new.places.items }
+    ensures back { (place : List ℕ) → GivesNothing (H.at shelf.old place) (H.at shelf.new place) }
+    ensures few { length sources.new.items ≤ length catalog.now }
+    ensures unread { All IsUnread (map H.Item.counts sources.new.items) }
     ensures opened { AreOpened (H.lists shelf.old) catalog.now (IsMarked marks.now) (H.at shelf.old) (H.at shelf.new) opened.new.openings.items (record { told = map H.Item.list sources.new.items; places = opened.new.places.items; counts = opened.new.counts.items }) }
 {
     for place in 0..catalog.len() {

@@ -1,4 +1,4 @@
-use Rattle.std.proofs.Common.{◌≡◌, true, ◌∷◌, [], ap, subst, ◌∙◌, length, map, refl, sym, slice_index_or, arith}
+use Rattle.std.proofs.Common.{◌≡◌, true, ◌∷◌, [], ap, subst, ◌∙◌, map, refl, sym, slice_index_or, arith}
 use Rattle.std.proofs.lemmas.List.{length-map, map-append}
 use Rattle.ranked_list.proofs.Members.{past_end}
 use Rattle.catalog_text.specs.Listed.{listed}

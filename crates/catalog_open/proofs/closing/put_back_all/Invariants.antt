@@ -1,4 +1,4 @@
-use Rattle.std.proofs.Common.{◌≡◌, ◌≤◌, length, map, All}
+use Rattle.std.proofs.Common.{◌≤◌, length, map, All}
 use Rattle.source_api.specs.Places.{SameAtEach}
 use Rattle.catalog_open.specs.Openings.{IsKnownAt}
 use Rattle.catalog_open.proofs.Back.{BackSoFar}

@@ -1,7 +1,7 @@
-use Rattle.std.proofs.Common.{◌≡◌, ◌≤◌, length, map, All}
+use Rattle.std.proofs.Common.{◌≡◌, ◌≤◌, ℕ, List, length, map, All}
 use Rattle.source_api.specs.Places.{SameAtEach}
 use Rattle.catalog_open.specs.Wanted.{IsMarked}
-use Rattle.catalog_open.specs.Openings.{AreOpened, IsKnownAt}
+use Rattle.catalog_open.specs.Openings.{AreOpened, GivesNothing, IsKnownAt, IsUnread}
 use Rattle.catalog_open.proofs.opening.open_wanted.Given as goal
 
 -- the sources of the entries so far were opened, where they are wanted
@@ -13,6 +13,8 @@ invariant-loop-place g l = record {
   texts : SameAtEach (g.H.Shelf.texts l.fn.shelf) (g.H.Shelf.texts l.shelf);
   lists : SameAtEach (g.H.Shelf.lists l.fn.shelf) (g.H.Shelf.lists l.shelf);
   known : All (IsKnownAt l.catalog (g.H.Shelf.knows l.shelf)) l.opened.places.items;
+  back : (place : List ℕ) → GivesNothing (g.H.Shelf.at l.fn.shelf place) (g.H.Shelf.at l.shelf place);
+  unread : All IsUnread (map g.H.Item.Source.counts l.sources.items);
   opened : AreOpened (g.H.Shelf.lists l.fn.shelf) l.catalog (IsMarked l.marks) (g.H.Shelf.at l.fn.shelf)
       (g.H.Shelf.at l.shelf) l.opened.openings.items (record {
         told = map g.H.Item.Source.list l.sources.items;

@@ -1,6 +1,5 @@
-use Rattle.std.proofs.Common.{◌≡◌, ◌≤◌, ◌<◌, map, Some, All, Contains, length, sym, subst, arith}
+use Rattle.std.proofs.Common.{◌≤◌, ◌<◌, All, Contains, length, sym, subst, arith}
 use Rattle.query_admission.specs.Causes.{most_queries}
-use Rattle.catalog_open.specs.Views.{place_of}
 use Rattle.catalog_open.specs.Wanted.{MarksMore}
 use Rattle.catalog_open.proofs.Marking.{marks_wanted, places_within}
 use Rattle.catalog_open.proofs.Opens.{match_some}
