@@ -1,7 +1,8 @@
 -- Workers that are hired, and what they leave.
-use Rattle.std.proofs.Common.{◌≡◌, ◌≤◌, ◌<◌, ◌-◌, inl, inr, ℕ, None, List, [], length, All, slice_index_or, refl, sym, ap, subst, ◌∙◌, arith}
+use Rattle.std.proofs.Common.{◌≡◌, ◌≤◌, ◌<◌, ◌-◌, inl, inr, ℕ, None, List, [], length, All, Contains, slice_index_or, refl, sym, ap, subst, ◌∙◌, arith}
 use Rattle.std.proofs.lemmas.Bool.{cases_lt}
 use Rattle.std.proofs.lemmas.List.{get_or_past}
+use Rattle.topk_theory.proofs.AgreementLists.{contains_nil}
 use Rattle.atomic_table.specs.Seated.{TableId}
 use Rattle.turn_lock.specs.Known.{all_parts}
 use Rattle.source_pool.specs.declared.hold.Hold.{Hold}
@@ -10,7 +11,7 @@ use Rattle.source_pool.specs.Looks.{IsWithin}
 use Rattle.source_pool.specs.Sharing.{IsOpened}
 use Rattle.query_core.specs.declared.ready.Ready.{Ready}
 use Rattle.query_world.specs.Made.{IsReadyFor}
-use Rattle.world_run.specs.declared.settings.Settings.{Settings}
+use Rattle.batch_run.specs.declared.settings.Settings.{Settings}
 use Rattle.batch_run.specs.declared.work.Worker.{Worker}
 use Rattle.batch_run.specs.Working.{DidOf, IsAtWork, Worked, AllWorked}
 use Rattle.batch_run.specs.Crews.{fresh_hold, IsHired, IsBase, IsHiring, HasLeft}
@@ -22,18 +23,20 @@ fresh_within hold none rests = record {
   noted = λ some. absurd (some rests);
 }
 
-did_nothing : (source : ℕ) (hold : Hold) → hold.pass.1.high ≡ 0 → hold.pass.1.asked ≡ 0 → hold.shown ≡ record { failed = 0; garbled = 0; memory = 0 }
+did_nothing : (source : ℕ) (hold : Hold) → hold.pass.1.high ≡ 0 → hold.pass.1.asked ≡ 0 → hold.pass.1.mine ≡ [] → hold.shown ≡ record { failed = 0; garbled = 0; memory = 0 }
     → hold.waiting.need ≡ None → DidOf [] source hold
-did_nothing source hold high asked none rests = record {
+did_nothing source hold high asked mine none rests = record {
   rows = inl high;
   grades = omega (arith, asked);
+  mine = λ object c. absurd (contains_nil object (subst (λ os. Contains os object) mine c));
   failed = omega arith;
   garbled = omega arith;
   within = fresh_within hold none rests;
 }
 
 -- what holds of what a hired worker's pass holds, where it holds of what is fresh and of what isn't there
-hired_hold : (P : Hold → Type 0) (pool : List TableId) (counts : List ℕ) (number : ℕ) (worker : Worker) → length pool ≡ length counts → IsHired pool counts number worker
+hired_hold : (P : Hold → Type 0) (pool : List TableId) (counts : List ℕ) (number : ℕ) (worker : Worker) → length pool ≡ length counts
+    → IsHired pool counts number worker
     → ((source : ℕ) → P (fresh_hold pool counts source)) → P no_hold → (source : ℕ) → P (hold_at worker.pass source)
 hired_hold P pool counts number worker size h fresh none source =
     elim (cases_lt source (length counts)) [
@@ -41,7 +44,8 @@ hired_hold P pool counts number worker size h fresh none source =
       | inr past ↦ subst P (sym (get_or_past worker.pass source no_hold (let long = h.own.size in omega (arith, past, size, long)))) none
     ]
 
-pub hired_at_work : (pool : List TableId) (counts : List ℕ) (workers number : ℕ) (readies : List Ready) (worker : Worker) → 1 ≤ workers → length pool ≡ length counts
+pub hired_at_work : (pool : List TableId) (counts : List ℕ) (workers number : ℕ) (readies : List Ready) (worker : Worker) → 1 ≤ workers
+    → length pool ≡ length counts
     → IsHired pool counts number worker → All (IsReadyFor counts) readies → IsAtWork pool workers readies worker
 hired_at_work pool counts workers number readies worker some size h ready = record {
   some = some;
@@ -56,8 +60,8 @@ hired_at_work pool counts workers number readies worker some size h ready = reco
         (omega (arith, for.0, size, long), ap (λ (hold : Hold). hold.pass.1.name.1) (h.fresh source for.0) ∙ for.1);
   };
   none = h.none;
-  idle = λ source. hired_hold (DidOf [] source) pool counts number worker size h (λ s. did_nothing source (fresh_hold pool counts s) refl refl refl refl)
-      (did_nothing source no_hold refl refl refl refl) source;
+  idle = λ source. hired_hold (DidOf [] source) pool counts number worker size h (λ s. did_nothing source (fresh_hold pool counts s) refl refl refl refl refl)
+      (did_nothing source no_hold refl refl refl refl refl) source;
 }
 
 pub all_at_work : (pool : List TableId) (counts : List ℕ) (holds : List Hold) (workers : List Worker) (readies : List Ready) → 1 ≤ length workers
@@ -76,7 +80,8 @@ left_of pool counts workers number readies before after h w = record {
   worked = w.worked;
 }
 
-pub all_left : (pool : List TableId) (counts : List ℕ) (holds : List Hold) (before after : List Worker) (readies : List Ready) → IsHiring pool counts holds before
+pub all_left : (pool : List TableId) (counts : List ℕ) (holds : List Hold) (before after : List Worker) (readies : List Ready)
+    → IsHiring pool counts holds before
     → AllWorked pool (length before) readies before after
     → (i : ℕ) (d : Worker) → i < length after → HasLeft pool counts (length before) readies i (slice_index_or after i d)
 all_left pool counts holds before after readies h w i d l =
@@ -84,7 +89,8 @@ all_left pool counts holds before after readies h w i d l =
     left_of pool counts (length before) i readies (slice_index_or before i d) (slice_index_or after i d) (h.each i d within) (w.each i d within)
 
 -- the first pass of a pool that was opened
-pub hiring_none : (counts : List ℕ) (pool : List TableId) (holds : List Hold) (feeds : List Feed) → IsOpened counts pool holds feeds → IsHiring pool counts holds []
+pub hiring_none : (counts : List ℕ) (pool : List TableId) (holds : List Hold) (feeds : List Feed) → IsOpened counts pool holds feeds
+    → IsHiring pool counts holds []
 hiring_none counts pool holds feeds opened = record {
   base = record {
     size = opened.size;
@@ -92,6 +98,7 @@ hiring_none counts pool holds feeds opened = record {
     parts = λ source l. let e : (hold_at holds source).pass.1.parts ≡ all_parts - 1 = ap (λ (hold : Hold). hold.pass.1.parts) (opened.held source l) in omega (arith, e);
     high = λ source l. ap (λ (hold : Hold). hold.pass.1.high) (opened.held source l);
     asked = λ source l. ap (λ (hold : Hold). hold.pass.1.asked) (opened.held source l);
+    mine = λ source l. ap (λ (hold : Hold). hold.pass.1.mine) (opened.held source l);
     gives = λ source l. ap Rattle.source_pool.specs.Sharing.new_hold (opened.held source l);
   };
   each = λ i d l. absurd (omega (arith, l));

@@ -1,10 +1,10 @@
 -- From what a crew did to a batch.
-use Rattle.std.proofs.Common.{◌≡◌, ◌≤◌, ◌<◌, ◌-◌, ◌*◌, ◌^◌, inl, inr, ℕ, min, max, false, cond, Option, Some, None, List, [], length, map, reverse, All, Contains, IfSome, count_by, slice_index, slice_index_or, refl, sym, ap, subst, ◌∙◌, arith}
+use Rattle.std.proofs.Common.{◌≡◌, ◌≤◌, ◌<◌, ◌+◌, ◌-◌, ◌*◌, ◌^◌, inl, inr, ℕ, min, max, false, cond, Option, Some, None, List, [], length, map, reverse, All, Contains, IfSome, count_by, slice_index, slice_index_or, refl, sym, ap, subst, ◌∙◌, arith}
 use Rattle.std.specs.List.{AllZip, sum_by}
 use Rattle.std.proofs.lemmas.List.{length-map}
 use Rattle.std.proofs.lemmas.List.Sums.{sum_by-cons, count_by-le-length}
 use Rattle.std.proofs.lemmas.Slice.Zip.{AllZip-long}
-use Rattle.topk_theory.proofs.AgreementLists.{contains_at}
+use Rattle.topk_theory.proofs.AgreementLists.{contains_nil, contains_at}
 use Rattle.ranked_list.specs.declared.row.Row.{Row}
 use Rattle.atomic_table.specs.Seated.{TableId}
 use Rattle.turn_lock.specs.declared.facts.Tally.{Tally}
@@ -14,6 +14,7 @@ use Rattle.source_api.specs.declared.counts.Counts.{Counts}
 use Rattle.source_state.specs.declared.entry.LogEntry.{LogEntry}
 use Rattle.source_state.specs.declared.entry.FailKind.{FailKind}
 use Rattle.source_state.specs.declared.entry.FailKind.TheVariants as kind
+use Rattle.source_state.specs.Log.{settled_in}
 use Rattle.source_state.specs.State.{State, IsSound, last_count}
 use Rattle.source_state.specs.Looking.{reach_of}
 use Rattle.source_state.proofs.Lists.{none_not_some}
@@ -29,17 +30,19 @@ use Rattle.query_world.specs.Kept.{IsServed}
 use Rattle.query_world.specs.Made.{IsOf}
 use Rattle.query_world.specs.Endings.{EndsAs, IsRight}
 use Rattle.query_run.specs.Asking.{grades_asked}
+use Rattle.fetcher.specs.Causes.{HasGiven}
 use Rattle.fetcher.specs.Chaining.{moment, IsFetched}
 use Rattle.fetcher.specs.Telling.{TellsOf}
 use Rattle.fetcher.specs.Metering.{RoseBy, WentUp}
-use Rattle.fetcher.proofs.ToldLaws.{fetched_tells}
+use Rattle.fetcher.proofs.ToldLaws.{fetched_from_nothing}
 use Rattle.fetcher.proofs.ClosedLaws.{called_for}
-use Rattle.world_run.specs.declared.settings.Settings.{Settings}
-use Rattle.world_run.specs.Runs.{AreSettings, told_at, counts_at}
+use Rattle.batch_run.specs.declared.settings.Settings.{Settings}
+use Rattle.batch_run.specs.Ranges.{AreSettings}
+use Rattle.batch_run.specs.Numbered.{told_at, counts_at}
 use Rattle.batch_run.specs.declared.batch.Use.{Use}
 use Rattle.batch_run.specs.declared.work.Worker.{Worker}
 use Rattle.batch_run.specs.Shares.{share, share_from}
-use Rattle.batch_run.specs.Using.{is_refused_for, IsWantedBy, all_grades_asked, IsUsed, HasCounted}
+use Rattle.batch_run.specs.Using.{is_refused_for, IsWantedBy, IsNamedBy, all_grades_asked, IsUsed, HasCounted}
 use Rattle.batch_run.specs.Batches.{batch_of, use_at, IsClosing, IsSpared, IsBatch}
 use Rattle.batch_run.specs.Working.{End, IsEndOf, DidOf, RanAll}
 use Rattle.batch_run.specs.Slots.{SlotState, slot_at}
@@ -48,13 +51,15 @@ use Rattle.batch_run.proofs.SumLaws.{sum_up, sum_up_bound, sum_by_most}
 use Rattle.batch_run.proofs.ShareLaws.{HasShares, whole_of, shares_add}
 use Rattle.batch_run.proofs.Places.{map_at, stands_at}
 use Rattle.batch_run.proofs.Picks.{Picked, picked, sum_ones, share_member, share_map, share_long, member_mapped}
+use Rattle.batch_run.proofs.TruthLaws.{told_honest}
 use Rattle.batch_run.proofs.ShutLaws.{Shut, fetched_shut}
 use Rattle.batch_run.proofs.LaterLaws.{begins_on, at_most_on, IsAhead, ahead_of, all_later, served_later}
 use Rattle.batch_run.proofs.JoinLaws.{passes}
 use Rattle.batch_run.proofs.Zips.{zip_map, zip_part, all_seconds, both_parts}
 
 -- the pass of a worker among the passes
-pass_at : (workers : List Worker) (i : ℕ) (d : List Hold) (e : Worker) → i < length workers → slice_index_or (passes workers) i d ≡ (slice_index_or workers i e).pass
+pass_at : (workers : List Worker) (i : ℕ) (d : List Hold) (e : Worker) → i < length workers
+    → slice_index_or (passes workers) i d ≡ (slice_index_or workers i e).pass
 pass_at workers i d e l = map_at (λ (w : Worker). w.pass) workers i e d l
 
 -- the parts of a lock come together
@@ -83,7 +88,8 @@ pub record EndsAt (workers : ℕ) (readies : List Ready) (number : ℕ) (worker 
   pub ran : RanAll (share workers number readies) worker ends
   pub ended : worker.ended.items ≡ reverse (map (λ end. end.1) ends)
 
-ends_at : (pool : List TableId) (counts : List ℕ) (workers : ℕ) (readies : List Ready) (number : ℕ) (worker : Worker) → HasLeft pool counts workers readies number worker
+ends_at : (pool : List TableId) (counts : List ℕ) (workers : ℕ) (readies : List Ready) (number : ℕ) (worker : Worker)
+    → HasLeft pool counts workers readies number worker
     → worker.short ≡ false → (ends : List End) × EndsAt workers readies number worker ends
 ends_at pool counts workers readies number worker h enough =
     let worked = h.worked enough in
@@ -117,14 +123,11 @@ some_whole workers readies some p =
     (map (λ (end : End). end.1) h.whole, length-map h.whole (λ (end : End). end.1) ∙ AllZip-long of readies h.whole h.follows, shares_of workers readies p h.whole h.shares)
 
 -- the closing state of a source
-tells_nothing : (list : List Row) → TellsOf list []
-tells_nothing list = record { rows = refl; settled = λ object settling e. absurd (none_not_some e) }
-
 told_closing : (page ahead : ℕ) (told : Option (List Row)) (before after : Counts) (first last : Known LogEntry) → first.seen ≡ []
     → IsFetched page ahead told (moment before first) (moment after last) → IfSome told (λ list. TellsOf list last.seen)
 told_closing page ahead None before after first last none turns = tt
 told_closing page ahead (Some list) before after first last none turns =
-    fetched_tells page ahead list (moment before first) (moment after last) turns (subst (TellsOf list) (sym none) (tells_nothing list))
+    fetched_from_nothing page ahead list (moment before first) (moment after last) turns none
 
 told_as : (told : Option (List Row)) (log seen : List LogEntry) → log ≡ seen → IfSome told (λ list. TellsOf list seen) → IfSome told (λ list. TellsOf list log)
 told_as told log seen e h = subst (λ l. IfSome told (λ list. TellsOf list l)) (sym e) h
@@ -143,6 +146,8 @@ closing_is pool settings source count before after feed pass s h =
       count = ap (λ (p : ℕ × ℕ). p.1) name;
       tells = told_as before.told s.log feed.pass.1.seen h.closed.log
           (told_closing settings.page settings.ahead before.told before.counts after.counts (first_feed (lock_at pool source) source count).pass.1 feed.pass.1 refl h.fetched.turns);
+      honest = told_honest settings.page settings.ahead before.told before.counts after.counts (first_feed (lock_at pool source) source count).pass.1 feed.pass.1 s
+          refl h.closed.log h.closed.asked (ap (λ (p : ℕ × ℕ). p.1) name) h.fetched.turns;
     }
 
 closing_shut : (pool : List TableId) (settings : Settings) (source count : ℕ) (before after : SlotState) (feed : Feed) (pass : Known LogEntry) (s : State)
@@ -150,6 +155,13 @@ closing_shut : (pool : List TableId) (settings : Settings) (source count : ℕ) 
 closing_shut pool settings source count before after feed pass s h =
     subst Shut (sym h.closed.log)
     (fetched_shut settings.page settings.ahead before.told (moment before.counts (first_feed (lock_at pool source) source count).pass.1) (moment after.counts feed.pass.1) h.fetched.turns tt)
+
+-- what came of a source, in the closing state
+came_closed : (feeder pass : Known LogEntry) (s : State) (rows used : ℕ) → IsClosed feeder pass s → used ≡ rows → HasGiven rows feeder.name.1 feeder.seen
+    → HasGiven used s.count s.log
+came_closed feeder pass s rows used closed same came =
+    let count : feeder.name.1 ≡ s.count = ap (λ (p : ℕ × ℕ). p.1) (sym closed.name) in
+    subst (HasGiven used s.count) (sym closed.log) (subst (λ n. HasGiven used n feeder.seen) count (subst (λ n. HasGiven n feeder.name.1 feeder.seen) (sym same) came))
 
 -- what a worker's pass knows of a source, to the closing state
 ahead_at : (pool : List TableId) (settings : Settings) (source count : ℕ) (before after : SlotState) (feed : Feed) (pass mine : Known LogEntry) (s : State)
@@ -239,7 +251,8 @@ module _ (pool : List TableId) (settings : Settings) (counts : List ℕ) (readie
       ahead_at pool settings source (slice_index counts source) (slot_at before source) (slot_at after source) (feed_at feeds source) (hold_at pass source).pass.1
       (hold_at (slice_index_or workers i d).pass source).pass.1 (state_at states source) (closes source s) (knows i d l source s) ((h.left i d l).name source s)
 
-  ended : (i : ℕ) (d : Worker) → i < length workers → (ready : Ready) (end : End) → IsEndOf (slice_index_or workers i d).pass ready end → IsEnded states ready end
+  ended : (i : ℕ) (d : Worker) → i < length workers → (ready : Ready) (end : End) → IsEndOf (slice_index_or workers i d).pass ready end
+      → IsEnded states ready end
   ended i d l ready end is =
       let size = h.base_is.size in
       let own = (h.left i d l).own.size in
@@ -289,7 +302,8 @@ module _ (pool : List TableId) (settings : Settings) (counts : List ℕ) (readie
     ends_all = both_parts (IsEnded states) (λ (end : End). end.0) (λ (end : End). end.1) EndsAs (λ ready end is. is.ends) readies ends whole.follows
 
     -- the greatest depth that was wanted
-    wanted_by : (source depth : ℕ) (i : ℕ) → IsWantedBy (map (λ (end : End). end.0) (share_from (length workers) i 0 ends)) source depth → IsWantedBy queries source depth
+    wanted_by : (source depth : ℕ) (i : ℕ) → IsWantedBy (map (λ (end : End). end.0) (share_from (length workers) i 0 ends)) source depth
+        → IsWantedBy queries source depth
     wanted_by source depth i (inl none) = inl none
     wanted_by source depth i (inr one) =
         inr (one.0, member_mapped (λ (end : End). end.0) (share_from (length workers) i 0 ends) ends (λ x c. share_member (length workers) i 0 ends x c) one.0 one.1, one.2)
@@ -332,6 +346,31 @@ module _ (pool : List TableId) (settings : Settings) (counts : List ℕ) (readie
         let up : sum_up g (length (passes workers)) ≡ sum_up g (length workers) = ap (sum_up g) long in
         omega (arith, most, all, mine, none, up)
 
+    -- which objects were asked
+    named_from : (source object i : ℕ) → IsNamedBy (map (λ (end : End). end.0) (share_from (length workers) i 0 ends)) source object
+        → IsNamedBy queries source object
+    named_from source object i one =
+        (one.0, member_mapped (λ (end : End). end.0) (share_from (length workers) i 0 ends) ends (λ x c. share_member (length workers) i 0 ends x c) one.0 one.1, one.2)
+
+    mine_by : (source object : ℕ) → source < length counts → Contains (hold_at pass source).pass.1.mine object → IsNamedBy queries source object
+    mine_by source object s c = elim (h.rejoins.mine source (there source s) object c) [
+      | inl base ↦ absurd (contains_nil object (subst (λ os. Contains os object) (h.base_is.mine source s) base))
+      | inr one ↦
+          let place = one.1.0 in
+          let within : place < length workers = subst (λ n. place < n) (length-map workers (λ (w : Worker). w.pass)) one.1.1 in
+          let e = (stands_at workers place within).item in
+          let is : (slice_index_or workers place e).pass ≡ one.0 = sym (pass_at workers place one.0 e within) ∙ one.1.2 in
+          named_from source object place ((did place e within source).mine object (subst (λ (p : List Hold). Contains (hold_at p source).pass.1.mine object) (sym is) one.2))
+    ]
+
+    named_by : (source object : ℕ) → source < length counts → Contains (state_at states source).asks object → IsNamedBy queries source object
+    named_by source object s c =
+        let none : (feed_at feeds source).pass.1.mine ≡ [] = (h.fetched source s).feeds.mine in
+        elim ((h.closed.each source (there source s)).mine object c) [
+          | inl fed ↦ absurd (contains_nil object (subst (λ os. Contains os object) none fed))
+          | inr passed ↦ mine_by source object s passed
+        ]
+
     asks_by : (source : ℕ) → source < length counts → length (state_at states source).asks ≤ all_grades_asked queries source
     asks_by source s =
         let closed = (h.closed.each source (there source s)).asks in
@@ -340,7 +379,9 @@ module _ (pool : List TableId) (settings : Settings) (counts : List ℕ) (readie
         omega (arith, closed, none, asked)
 
     -- the queries that are refused for a fail of a kind, of which each worker was shown so many
-    few_refused : (what : FailKind) (source number : ℕ) → ((i : ℕ) → i < length workers → min (count_by (is_refused_for what source) (map (λ (end : End). end.0) (share_from (length workers) i 0 ends))) last_count ≤ number)
+    few_refused : (what : FailKind) (source number : ℕ)
+        → ((i : ℕ) → i < length workers
+        → min (count_by (is_refused_for what source) (map (λ (end : End). end.0) (share_from (length workers) i 0 ends))) last_count ≤ number)
         → count_by (is_refused_for what source) queries ≤ settings.workers * number
     few_refused what source number each =
         let test = is_refused_for what source in
@@ -404,10 +445,17 @@ module _ (pool : List TableId) (settings : Settings) (counts : List ℕ) (readie
           wanted = subst (IsWantedBy queries source) (sym u.want) (want_by source s);
           asks = u.asks;
           asked = subst (λ n. n ≤ all_grades_asked queries source) (sym u.asks) (asks_by source s);
+          named = λ object c. named_by source object s c;
           rows = subst (λ n. WentUp n (slot_at before source).counts.rows_given (slot_at after source).counts.rows_given) (sym u.rows) metered.rows;
           reach = subst (λ n. (use_at uses source).rows ≤ reach_of n settings.page settings.ahead (state_at states source).count) (sym u.want) (omega (arith, rows, same));
           grades = subst (λ n. WentUp n (slot_at before source).counts.grades_given (slot_at after source).counts.grades_given) (sym u.grades) metered.grades;
           once = subst (λ n. n ≤ (use_at uses source).asks) (sym u.grades) (subst (λ n. (slot_at after source).fetched.grades ≤ n) (sym u.asks) called.grades);
+          settled =
+              let grades : 0 + (slot_at after source).fetched.grades ≡ length (settled_in (feed_at feeds source).pass.1.seen) = metered.settled in
+              let settled : (slot_at after source).fetched.grades ≡ length (settled_in (feed_at feeds source).pass.1.seen) = omega (arith, grades) in
+              ap (λ log. length (settled_in log)) (h.closed.each source (there source s)).log ∙ (sym settled ∙ sym u.grades);
+          comes = came_closed (feed_at feeds source).pass.1 (hold_at pass source).pass.1 (state_at states source) (slot_at after source).fetched.rows (use_at uses source).rows
+              (h.closed.each source (there source s)) u.rows (metered.comes refl);
         }
 
     -- the counts and lists of the slots, as a run has them

@@ -14,13 +14,16 @@ use Rattle.batch_run.proofs.Places.{stands_at}
 -- the endings before a place are taken, and the workers have their shares of the others
 pub record GatheredTo (place : ℕ) (whole : List Ended) (workers : List Worker) (endings : List Ended) : Type 0 where
   pub taken : endings ≡ take place whole
-  pub left : (i : ℕ) (d : Worker) → i < length workers → (slice_index_or workers i d).ended.items ≡ reverse (share_from (length workers) i place (drop place whole))
+  pub left : (i : ℕ) (d : Worker) → i < length workers
+      → (slice_index_or workers i d).ended.items ≡ reverse (share_from (length workers) i place (drop place whole))
 
-pub gathered_none : (whole : List Ended) (workers : List Worker) (endings : List Ended) → AreShares whole workers → endings ≡ [] → GatheredTo 0 whole workers endings
+pub gathered_none : (whole : List Ended) (workers : List Worker) (endings : List Ended) → AreShares whole workers → endings ≡ []
+    → GatheredTo 0 whole workers endings
 gathered_none whole workers endings h none = record { taken = none; left = h.each }
 
 -- the last one that a worker has left is the next one
-pub next_left : (place : ℕ) (whole : List Ended) (workers : List Worker) (endings : List Ended) (x d : Ended) (e : Worker) → 0 < length workers → place < length whole
+pub next_left : (place : ℕ) (whole : List Ended) (workers : List Worker) (endings : List Ended) (x d : Ended) (e : Worker) → 0 < length workers
+    → place < length whole
     → GatheredTo place whole workers endings
     → (slice_index_or workers (place % length workers) e).ended.items
     ≡ reverse (share_from (length workers) (place % length workers) (place + 1) (drop (place + 1) whole)) ++ slice_index_or whole place d ∷ []
@@ -67,7 +70,8 @@ gathered_more place whole workers endings x now some l h is left = record {
         ap (share_from w i place) (drop-cons whole place x l ∙ ap (λ p. slice_index_or whole place x ∷ drop p whole) (let on : suc place ≡ place + 1 = omega arith in on))
         ∙ share_else w i place (slice_index_or whole place x) (drop (place + 1) whole) (λ e. apart (sym e))
 
-pub gathered_all : (place : ℕ) (whole : List Ended) (workers : List Worker) (endings : List Ended) → length whole ≤ place → GatheredTo place whole workers endings
+pub gathered_all : (place : ℕ) (whole : List Ended) (workers : List Worker) (endings : List Ended) → length whole ≤ place
+    → GatheredTo place whole workers endings
     → endings ≡ whole
 gathered_all place whole workers endings all h = h.taken ∙ take_all place whole all
 

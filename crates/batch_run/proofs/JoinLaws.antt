@@ -2,7 +2,7 @@
 use Rattle.std.proofs.Common.{◌≡◌, ◌+◌, ◌⊎◌, inl, inr, ℕ, max, List, [], ◌∷◌, ◌++◌, map, Contains, refl, sym, ap, subst, ◌∙◌, arith, append_assoc}
 use Rattle.std.proofs.lemmas.Bool.{cases_lt}
 use Rattle.std.proofs.lemmas.List.Sums.{sum_by-cons}
-use Rattle.std.proofs.lemmas.List.Elements.{Contains-append_left, Contains-append_right}
+use Rattle.std.proofs.lemmas.List.Elements.{Contains-append_left, Contains-append_right, Contains-append_cases}
 use Rattle.topk_theory.proofs.AgreementLists.{contains_nil, contains_here, contains_there, contains_cases}
 use Rattle.atomic_table.specs.Seated.{TableId}
 use Rattle.turn_lock.specs.Known.{Follows}
@@ -19,6 +19,7 @@ rejoins_none pool before own = record {
   knows = λ other c. absurd (contains_nil other c);
   parts = λ source l. omega arith;
   asked = λ source l. omega arith;
+  mine = λ source l object c. inl c;
   high = λ source l. inl refl;
 }
 
@@ -41,7 +42,24 @@ high_more source one done before mid after e was =
       | inr mine ↦ inr (one, contains_here one done, e ∙ mine)
     ]
 
-rejoins_more : (pool : List TableId) (one : List Hold) (done : List (List Hold)) (before mid after : List Hold) → Rejoins pool done before mid → IsPassOf pool after
+-- the asks with those of one more pass
+mine_more : (source object : ℕ) (one : List Hold) (done : List (List Hold)) (before mid after : List Hold)
+    → (hold_at after source).pass.1.mine ≡ (hold_at mid source).pass.1.mine ++ (hold_at one source).pass.1.mine
+    → (Contains (hold_at mid source).pass.1.mine object
+    → Contains (hold_at before source).pass.1.mine object ⊎ ((other : List Hold) × Contains done other × Contains (hold_at other source).pass.1.mine object))
+    → Contains (hold_at after source).pass.1.mine object
+    → Contains (hold_at before source).pass.1.mine object ⊎ ((other : List Hold) × Contains (one ∷ done) other × Contains (hold_at other source).pass.1.mine object)
+mine_more source object one done before mid after more was c =
+    elim (Contains-append_cases (hold_at mid source).pass.1.mine (hold_at one source).pass.1.mine object (subst (λ os. Contains os object) more c)) [
+      | inl old ↦ elim (was old) [
+        | inl base ↦ inl base
+        | inr some ↦ inr (some.0, contains_there one done some.0 some.1, some.2)
+      ]
+      | inr new ↦ inr (one, contains_here one done, new)
+    ]
+
+rejoins_more : (pool : List TableId) (one : List Hold) (done : List (List Hold)) (before mid after : List Hold) → Rejoins pool done before mid
+    → IsPassOf pool after
     → IsJoined pool mid one after → Rejoins pool (one ∷ done) before after
 rejoins_more pool one done before mid after h own joined = record {
   own = own;
@@ -59,6 +77,7 @@ rejoins_more pool one done before mid after h own joined = record {
       let rest = h.asked source l in
       let sum = sum_by-cons (λ (p : List Hold). (hold_at p source).pass.1.asked) one done in
       omega (arith, more, rest, sum);
+  mine = λ source l object c. mine_more source object one done before mid after (ap (λ (x : Hold). x.pass.1.mine) (joined.holds source l)) (h.mine source l object) c;
   high = λ source l. high_more source one done before mid after (ap (λ (x : Hold). x.pass.1.high) (joined.holds source l)) (h.high source l);
 }
 
@@ -79,7 +98,8 @@ no_more (x ∷ xs) = ap (λ ys. x ∷ ys) (no_more xs)
 pub rejoined_none : (pool : List TableId) (workers : List Worker) (before : List Hold) → IsPassOf pool before → RejoinedSo pool workers workers before before
 rejoined_none pool workers before own = record { done = []; splits = sym (no_more workers); joins = rejoins_none pool before own }
 
-pub rejoined_more : (pool : List TableId) (workers left rest : List Worker) (worker : Worker) (before mid after : List Hold) → RejoinedSo pool workers left before mid
+pub rejoined_more : (pool : List TableId) (workers left rest : List Worker) (worker : Worker) (before mid after : List Hold)
+    → RejoinedSo pool workers left before mid
     → left ≡ rest ++ worker ∷ [] → IsPassOf pool after → IsJoined pool mid worker.pass after → RejoinedSo pool workers rest before after
 rejoined_more pool workers left rest worker before mid after h popped own joined = record {
   done = worker ∷ h.done;

@@ -75,5 +75,6 @@ all_later holds states many ahead sound shut = record {
       (later_seen (hold_at holds source).pass.1 (state_at states source) (ahead source within) (sound source within) (shut source within));
 }
 
-pub served_later : (holds : List Hold) (states : List State) (q : Inquiry) → AreLater (states_seen holds) states → IsServed (states_seen holds) q → IsServed states q
+pub served_later : (holds : List Hold) (states : List State) (q : Inquiry) → AreLater (states_seen holds) states → IsServed (states_seen holds) q
+    → IsServed states q
 served_later holds states q later h = served_stays (states_seen holds) states q later h

@@ -1,9 +1,11 @@
 -- Lemmas on batches.
+pub mod Pages
 pub mod SumLaws
 pub mod ShareLaws
 pub mod Zips
 pub mod Places
 pub mod ShutLaws
+pub mod TruthLaws
 pub mod LaterLaws
 pub mod WorkLaws
 pub mod JoinLaws
@@ -13,4 +15,7 @@ pub mod CrewLaws
 pub mod SlotLaws
 pub mod Picks
 pub mod FinishLaws
+pub mod TableLaws
+pub mod RunOverLists
+pub mod EndingLaws
 pub mod RunLaws

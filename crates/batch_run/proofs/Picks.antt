@@ -36,7 +36,8 @@ sum_ones f (x ∷ xs) h =
     omega (arith, rest, one, sum_by-cons f x xs)
 
 -- a member of a share is one of the whole
-member_by : {X : Type 0} (b : Bool) (y : X) (share xs : List X) (x : X) → (Contains share x → Contains xs x) → Contains (cond b (y ∷ share) share) x → Contains (y ∷ xs) x
+member_by : {X : Type 0} (b : Bool) (y : X) (share xs : List X) (x : X) → (Contains share x → Contains xs x) → Contains (cond b (y ∷ share) share) x
+    → Contains (y ∷ xs) x
 member_by true y share xs x within c = elim (contains_cases y share x c) [
   | inl same ↦ subst (Contains (y ∷ xs)) same (contains_here y xs)
   | inr there ↦ contains_there y xs x (within there)
@@ -47,7 +48,8 @@ pub share_member : {X : Type 0} (w i p : ℕ) (xs : List X) (x : X) → Contains
 share_member w i p [] x c = c
 share_member w i p (y ∷ xs) x c = member_by (p % w == i) y (share_from w i (p + 1) xs) xs x (λ d. share_member w i (p + 1) xs x d) c
 
-map_by : {X Y : Type 0} (f : X → Y) (b : Bool) (x : X) (share : List X) (other : List Y) → map f share ≡ other → map f (cond b (x ∷ share) share) ≡ cond b (f x ∷ other) other
+map_by : {X Y : Type 0} (f : X → Y) (b : Bool) (x : X) (share : List X) (other : List Y) → map f share ≡ other
+    → map f (cond b (x ∷ share) share) ≡ cond b (f x ∷ other) other
 map_by f true x share other e = ap (λ ys. f x ∷ ys) e
 map_by f false x share other e = e
 
@@ -63,7 +65,8 @@ pub share_long : {X : Type 0} (w i p : ℕ) (xs : List X) → length (share_from
 share_long w i p [] = omega arith
 share_long w i p (x ∷ xs) = long_by (p % w == i) x (share_from w i (p + 1) xs) (length xs) (share_long w i (p + 1) xs)
 
-pub member_mapped : {X Y : Type 0} (f : X → Y) (xs ys : List X) → ((x : X) → Contains xs x → Contains ys x) → (y : Y) → Contains (map f xs) y → Contains (map f ys) y
+pub member_mapped : {X Y : Type 0} (f : X → Y) (xs ys : List X) → ((x : X) → Contains xs x → Contains ys x) → (y : Y) → Contains (map f xs) y
+    → Contains (map f ys) y
 member_mapped f xs ys within y c =
     let from = contains_map_from f xs y c in
     subst (Contains (map f ys)) from.2 (contains_map f ys from.0 (within from.0 from.1))

@@ -19,13 +19,15 @@ same_at [] place d e l = absurd (omega (arith, l))
 same_at (x ∷ xs) zero d e l = refl
 same_at (x ∷ xs) (suc place) d e l = same_at xs place d e (omega (arith, l))
 
-pub map_at : {A B : Type 0} (f : A → B) (xs : List A) (place : ℕ) (d : A) (e : B) → place < length xs → slice_index_or (map f xs) place e ≡ f (slice_index_or xs place d)
+pub map_at : {A B : Type 0} (f : A → B) (xs : List A) (place : ℕ) (d : A) (e : B) → place < length xs
+    → slice_index_or (map f xs) place e ≡ f (slice_index_or xs place d)
 map_at f [] place d e l = absurd (omega (arith, l))
 map_at f (x ∷ xs) zero d e l = refl
 map_at f (x ∷ xs) (suc place) d e l = map_at f xs place d e (omega (arith, l))
 
 -- a list whose item at a place is put again, but for what f doesn't read
-pub map_set : {A B : Type 0} (f : A → B) (xs : List A) (place : ℕ) (x d : A) → place < length xs → f x ≡ f (slice_index_or xs place d) → map f (set xs place x) ≡ map f xs
+pub map_set : {A B : Type 0} (f : A → B) (xs : List A) (place : ℕ) (x d : A) → place < length xs → f x ≡ f (slice_index_or xs place d)
+    → map f (set xs place x) ≡ map f xs
 map_set f [] place x d l e = absurd (omega (arith, l))
 map_set f (y ∷ xs) zero x d l e = ap (λ b. b ∷ map f xs) e
 map_set f (y ∷ xs) (suc place) x d l e = ap (λ bs. f y ∷ bs) (map_set f xs place x d (omega (arith, l)) e)

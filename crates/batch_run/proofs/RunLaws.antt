@@ -9,7 +9,7 @@ use Rattle.source_pool.specs.Passes.{hold_at, IsPassOf}
 use Rattle.source_api.specs.declared.counts.Counts.{Counts}
 use Rattle.source_api.specs.Counting.{NoneFell}
 use Rattle.fetcher.specs.declared.slot.Slot.{Slot}
-use Rattle.world_run.specs.declared.settings.Settings.{Settings}
+use Rattle.batch_run.specs.declared.settings.Settings.{Settings}
 use Rattle.query_core.specs.declared.ready.Ready.{Ready}
 use Rattle.batch_run.specs.declared.work.Worker.{Worker}
 use Rattle.batch_run.specs.Slots.{SlotState, states_of, slot_at}
@@ -58,7 +58,8 @@ module _ {S : Type 0} (list : S → Option (List Row)) (counts : S → Counts) w
   none_fell (s ∷ old) [] size h = absurd (omega (arith, size))
   none_fell (s ∷ old) (t ∷ new) size h = (h 0 (omega arith), none_fell old new (omega (arith, size)) (λ source l. h (suc source) (omega (arith, l))))
 
-  pub slots_lists : (old new : List (Slot S)) → map (λ (s : SlotState). s.told) (states_of list counts new) ≡ map (λ (s : SlotState). s.told) (states_of list counts old)
+  pub slots_lists : (old new : List (Slot S))
+      → map (λ (s : SlotState). s.told) (states_of list counts new) ≡ map (λ (s : SlotState). s.told) (states_of list counts old)
       → map (λ (slot : Slot S). list slot.source) new ≡ map (λ (slot : Slot S). list slot.source) old
   slots_lists old new e = told_twice new ∙ (e ∙ sym (told_twice old))
 
@@ -70,12 +71,14 @@ module _ {S : Type 0} (list : S → Option (List Row)) (counts : S → Counts) w
       (subst (AllZip NoneFell (map (λ (s : SlotState). s.counts) (states_of list counts old))) (sym (counts_twice new)) h)
 
   -- no count fell where nothing was called
-  pub counts_same : (slots : List (Slot S)) → AllZip NoneFell (map (λ (slot : Slot S). counts slot.source) slots) (map (λ (slot : Slot S). counts slot.source) slots)
+  pub counts_same : (slots : List (Slot S))
+      → AllZip NoneFell (map (λ (slot : Slot S). counts slot.source) slots) (map (λ (slot : Slot S). counts slot.source) slots)
   counts_same [] = tt
   counts_same (slot ∷ slots) = (record { faults = omega arith; garbles = omega arith; rows_given = omega arith; grades_given = omega arith }, counts_same slots)
 
 -- no worker wanted memory
-pub none_short : (workers : List Worker) → list_any (λ (w : Worker). w.short) workers ≡ false → (i : ℕ) (d : Worker) → i < length workers → (slice_index_or workers i d).short ≡ false
+pub none_short : (workers : List Worker) → list_any (λ (w : Worker). w.short) workers ≡ false → (i : ℕ) (d : Worker) → i < length workers
+    → (slice_index_or workers i d).short ≡ false
 none_short [] e i d l = absurd (omega (arith, l))
 none_short (w ∷ workers) e zero d l = first_of (w.short) (list_any (λ (x : Worker). x.short) workers) e
   where
@@ -89,7 +92,8 @@ none_short (w ∷ workers) e (suc i) d l = none_short workers (rest_of w.short (
     rest_of false c e = e
 
 -- passes that stay are still the pool's
-pub passes_own : (pool : List TableId) (old new : List Worker) → passes new ≡ passes old → ((i : ℕ) (d : Worker) → i < length old → IsPassOf pool (slice_index_or old i d).pass)
+pub passes_own : (pool : List TableId) (old new : List Worker) → passes new ≡ passes old
+    → ((i : ℕ) (d : Worker) → i < length old → IsPassOf pool (slice_index_or old i d).pass)
     → All (λ (worker : Worker). IsPassOf pool worker.pass) new
 passes_own pool old new same own i d l =
     let long : length new ≡ length old = sym (length-map new (λ (w : Worker). w.pass)) ∙ (ap (length {A = List Hold}) same ∙ length-map old (λ (w : Worker). w.pass)) in

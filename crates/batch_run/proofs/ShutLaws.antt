@@ -48,14 +48,16 @@ no_rows_front [] ys e = refl
 no_rows_front (x ∷ xs) ys e = absurd (cc)
 
 -- what is behind a fault adds no row
-pub shut_rows : (front rest : List LogEntry) (fault : SourceFault) → Shut (front ++ rest) → fault_in front ≡ Some fault → rows_in (front ++ rest) ≡ rows_in front
+pub shut_rows : (front rest : List LogEntry) (fault : SourceFault) → Shut (front ++ rest) → fault_in front ≡ Some fault
+    → rows_in (front ++ rest) ≡ rows_in front
 shut_rows [] rest fault h e = absurd (none_not_some e)
 shut_rows (Kept row ∷ front) rest fault h e = ap (λ rows. row ∷ rows) (shut_rows front rest fault h e)
 shut_rows (Settled object settling ∷ front) rest fault h e = shut_rows front rest fault h e
 shut_rows (Fault other ∷ front) rest fault h e =
     h.0 ∙ sym (no_rows_front (rows_in front) (rows_in rest) (sym (filter_map-append kept_row front rest) ∙ h.0))
 
-pub shut_begins : (front whole : List LogEntry) (fault : SourceFault) → Begins front whole → Shut whole → fault_in front ≡ Some fault → rows_in whole ≡ rows_in front
+pub shut_begins : (front whole : List LogEntry) (fault : SourceFault) → Begins front whole → Shut whole → fault_in front ≡ Some fault
+    → rows_in whole ≡ rows_in front
 shut_begins front whole fault begins h e =
     ap rows_in begins.goes_on ∙ shut_rows front begins.rest fault (subst Shut begins.goes_on h) e
 

@@ -13,7 +13,7 @@ use Rattle.fetcher.specs.declared.turned.Fetched.{Fetched}
 use Rattle.fetcher.specs.Turning.{Feeds}
 use Rattle.fetcher.specs.Chaining.{moment, IsFetched}
 use Rattle.fetcher.specs.Metering.{IsMetered}
-use Rattle.world_run.specs.declared.settings.Settings.{Settings}
+use Rattle.batch_run.specs.declared.settings.Settings.{Settings}
 use Rattle.batch_run.specs.Slots.{SlotState, state_of, states_of, slot_at, Fetches, AllFetch, AreLent, AreTakenBack}
 use Rattle.batch_run.specs.Crews.{HasFetched}
 use Rattle.batch_run.proofs.Places.{map_at, stands_at}

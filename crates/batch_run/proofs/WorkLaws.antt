@@ -25,7 +25,7 @@ use Rattle.query_run.specs.Asking.{Wanted, grades_asked}
 use Rattle.query_run.specs.Ran.{shown_to}
 use Rattle.batch_run.specs.declared.work.Worker.{Worker}
 use Rattle.batch_run.specs.Shares.{share, share_from}
-use Rattle.batch_run.specs.Using.{is_fail, refuses_for, is_refused_for, IsWantedBy, all_grades_asked}
+use Rattle.batch_run.specs.Using.{is_fail, refuses_for, is_refused_for, IsWantedBy, IsNamedBy, all_grades_asked}
 use Rattle.batch_run.specs.Working.{KnowsAll, End, IsEndOf, DidOf, RanAll, RanOne, RanSo, HasWorked}
 use Rattle.batch_run.proofs.LaterLaws.{follows_on}
 use Rattle.batch_run.proofs.ShareLaws.{share_push, share_here, share_else}
@@ -91,7 +91,8 @@ failed_by_fault why.Failed shown = refl
 failed_by_fault why.Garbled shown = refl
 failed_by_fault why.Memory shown = refl
 
-garbled_by_fault : (fault : LookFault) (shown : Tally) → (shown_fault fault shown).garbled ≡ cond (is_fail kind.Garbled fault) (one_more shown.garbled) shown.garbled
+garbled_by_fault : (fault : LookFault) (shown : Tally)
+    → (shown_fault fault shown).garbled ≡ cond (is_fail kind.Garbled fault) (one_more shown.garbled) shown.garbled
 garbled_by_fault (why.Source fault) shown = refl
 garbled_by_fault (why.Missing object) shown = refl
 garbled_by_fault (why.AsksFull kept) shown = refl
@@ -126,10 +127,14 @@ one_counted : (b : Bool) (count before now : ℕ) → min count last_count ≤ b
 one_counted true count before now h e = omega (arith, h, e)
 one_counted false count before now h e = omega (arith, h, e)
 
-wanted_on : (queries : List Inquiry) (q : Inquiry) (source high more : ℕ) → more ≤ high → IsWantedBy queries source high → IsWantedBy (queries ++ q ∷ []) source more
+wanted_on : (queries : List Inquiry) (q : Inquiry) (source high more : ℕ) → more ≤ high → IsWantedBy queries source high
+    → IsWantedBy (queries ++ q ∷ []) source more
 wanted_on queries q source high more le (inl none) = inl (omega (arith, le, none))
 wanted_on queries q source high more le (inr some) =
     inr (some.0, Contains-append_left queries (q ∷ []) some.0 some.1, record { list = some.2.list; listed = some.2.listed; of = some.2.of; deep = le_trans le some.2.deep })
+
+named_on : (queries : List Inquiry) (q : Inquiry) (source object : ℕ) → IsNamedBy queries source object → IsNamedBy (queries ++ q ∷ []) source object
+named_on queries q source object some = (some.0, Contains-append_left queries (q ∷ []) some.0 some.1, some.2)
 
 pub did_more : (queries : List Inquiry) (q : Inquiry) (source : ℕ) (before after : Hold) → DidOf queries source before → KnowsMore before after
     → after.shown ≡ shown_to q q.refusal source before.shown → Wanted q source before.pass.1 after.pass.1 → DidOf (queries ++ q ∷ []) source after
@@ -143,6 +148,10 @@ did_more queries q source before after did more shown wanted = record {
       let now = wanted.grades in
       let was = did.grades in
       omega (arith, total, now, was);
+  mine = λ object c. elim (wanted.mine object c) [
+    | inl old ↦ named_on queries q source object (did.mine object old)
+    | inr asked ↦ (q, Contains-append_right queries (q ∷ []) q (contains_here q []), asked)
+  ];
   failed = subst (λ n. min n last_count ≤ after.shown.failed) (sym (sum_by_push (λ r. cond (is_refused_for kind.Failed source r) 1 0) queries q))
       (one_counted (is_refused_for kind.Failed source q) (count_by (is_refused_for kind.Failed source) queries) before.shown.failed after.shown.failed did.failed
       (ap (λ (t : Tally). t.failed) shown ∙ shown_failed q q.refusal source before.shown));
@@ -177,7 +186,8 @@ share_to workers number place readies ready l is =
     ∙ ap (λ p. share workers number (take place readies) ++ share_from workers number p (ready ∷ [])) (let long = length-take place readies in omega (arith, long, l)))
 
 -- a place of another worker
-pub ran_past : (workers place : ℕ) (readies : List Ready) (ready : Ready) (worker : Worker) → place < length readies → ready ≡ slice_index_or readies place ready
+pub ran_past : (workers place : ℕ) (readies : List Ready) (ready : Ready) (worker : Worker) → place < length readies
+    → ready ≡ slice_index_or readies place ready
     → place % workers ≢ worker.number → RanSo workers (take place readies) worker → RanSo workers (take (place + 1) readies) worker
 ran_past workers place readies ready worker l is apart h =
     let nothing : share_from workers worker.number place (ready ∷ []) ≡ [] = share_else workers worker.number place ready [] apart in
@@ -190,7 +200,8 @@ ran_past workers place readies ready worker l is apart h =
     no_more (x ∷ xs) = ap (λ ys. x ∷ ys) (no_more xs)
 
 -- a place of its own
-pub ran_next : (workers place : ℕ) (readies : List Ready) (ready : Ready) (before after : Worker) → place < length readies → ready ≡ slice_index_or readies place ready
+pub ran_next : (workers place : ℕ) (readies : List Ready) (ready : Ready) (before after : Worker) → place < length readies
+    → ready ≡ slice_index_or readies place ready
     → place % workers ≡ before.number → RanOne ready before after → after.short ≡ false → RanSo workers (take place readies) before
     → RanSo workers (take (place + 1) readies) after
 ran_next workers place readies ready before after l is own one long h =
@@ -217,7 +228,8 @@ ran_next workers place readies ready before after l is own one long h =
     }
 
 -- once it has worked
-pub has_worked : (workers place : ℕ) (readies : List Ready) (before after : Worker) → length readies ≤ place → after.number ≡ before.number → after.pass ≡ before.pass
+pub has_worked : (workers place : ℕ) (readies : List Ready) (before after : Worker) → length readies ≤ place → after.number ≡ before.number
+    → after.pass ≡ before.pass
     → after.ended.items ≡ reverse before.ended.items → RanSo workers (take place readies) before → HasWorked workers readies after
 has_worked workers place readies before after all number pass back h = record {
   ends = h.ends;
@@ -230,7 +242,8 @@ has_worked workers place readies before after all number pass back h = record {
   ended = back ∙ ap reverse h.ended;
 }
 
-pub all_sources_stay : (before after : List Hold) (readies : List Ready) → KnowsAll before after → All (HasSourcesIn before) readies → All (HasSourcesIn after) readies
+pub all_sources_stay : (before after : List Hold) (readies : List Ready) → KnowsAll before after → All (HasSourcesIn before) readies
+    → All (HasSourcesIn after) readies
 all_sources_stay before after readies knows h i d l = sources_stay before after (slice_index_or readies i d) knows (h i d l)
 
 -- a place that is passed by

@@ -16,7 +16,8 @@ zip_map R S f (x ∷ xs) [] h = absurd h
 zip_map R S f (x ∷ xs) (y ∷ ys) h = (f x y h.0, zip_map R S f xs ys h.1)
 
 -- a relation to a part of each
-pub zip_part : {A B C : Type 0} (R : A → B → Type 0) (S : A → C → Type 0) (part : B → C) → ((x : A) (y : B) → R x y → S x (part y)) → (xs : List A) (ys : List B)
+pub zip_part : {A B C : Type 0} (R : A → B → Type 0) (S : A → C → Type 0) (part : B → C) → ((x : A) (y : B) → R x y → S x (part y))
+    → (xs : List A) (ys : List B)
     → AllZip R xs ys → AllZip S xs (map part ys)
 zip_part R S part f [] [] h = tt
 zip_part R S part f [] (y ∷ ys) h = absurd h
@@ -24,7 +25,8 @@ zip_part R S part f (x ∷ xs) [] h = absurd h
 zip_part R S part f (x ∷ xs) (y ∷ ys) h = (f x y h.0, zip_part R S part f xs ys h.1)
 
 -- what holds of a part of each second one, and between two parts of it
-pub all_seconds : {A B C : Type 0} (R : A → B → Type 0) (part : B → C) (P : C → Type 0) → ((x : A) (y : B) → R x y → P (part y)) → (xs : List A) (ys : List B) → AllZip R xs ys
+pub all_seconds : {A B C : Type 0} (R : A → B → Type 0) (part : B → C) (P : C → Type 0) → ((x : A) (y : B) → R x y → P (part y)) → (xs : List A) (ys : List B)
+    → AllZip R xs ys
     → All P (map part ys)
 all_seconds R part P f [] [] h = All-nil P
 all_seconds R part P f [] (y ∷ ys) h = absurd h

@@ -1,7 +1,8 @@
 -- Batches: queries that ran over sources at the same time, how they ended, and what was used of each source.
-use Rattle.std.specs.Prelude.{◌≡◌, ◌≢◌, ◌<◌, ℕ, Option, Some, List, All, length, map, IfSome}
+use Rattle.std.specs.Prelude.{◌≡◌, ◌≢◌, ◌<◌, ℕ, Option, Some, List, All, Contains, length, map, IfSome}
 use Rattle.std.specs.List.{AllZip, slice_index_or}
 use Rattle.ranked_list.specs.declared.row.Row.{Row}
+use Rattle.ranked_list.specs.Table.{IsRanked, objects}
 use Rattle.source_api.specs.declared.counts.Counts.{Counts}
 use Rattle.source_state.specs.declared.look.LookFault.TheVariants as why
 use Rattle.source_state.specs.State.{State, IsSound}
@@ -12,11 +13,12 @@ use Rattle.query_world.specs.declared.inquiry.Inquiry.{Inquiry}
 use Rattle.query_world.specs.Worlds.{state_at}
 use Rattle.query_world.specs.Kept.{IsServed}
 use Rattle.query_world.specs.Made.{IsOf}
+use Rattle.query_world.specs.Honest.{IsTrueOf}
 use Rattle.query_world.specs.Endings.{EndsAs, IsRight}
 use Rattle.fetcher.specs.declared.slot.Slot.{Slot}
 use Rattle.fetcher.specs.Telling.{TellsOf}
-use Rattle.world_run.specs.declared.settings.Settings.{Settings}
-use Rattle.world_run.specs.Runs.{told_at, counts_at}
+use Rattle.batch_run.specs.declared.settings.Settings.{Settings}
+use Rattle.batch_run.specs.Numbered.{told_at, counts_at}
 use Rattle.batch_run.specs.declared.batch.Use.{Use}
 use Rattle.batch_run.specs.Using.{IsUsed, HasCounted}
 
@@ -56,12 +58,17 @@ size_at sizes source = slice_index_or sizes source 0
 abbrev pub use_at : List Use → ℕ → Use
 use_at uses source = slice_index_or uses source (record { rows = 0; grades = 0; want = 0; asks = 0 })
 
--- the closing state of a source: it is sound, and tells of the source's list alone, where the source tells one
+-- where a list is ranked and as long as the source counts, and only objects of it were asked, the state tells the truth of it
+pub record IsHonestFor (list : List Row) (s : State) : Type 0 where
+  pub honest : IsRanked list → length list ≡ s.count → ((object : ℕ) → Contains s.asks object → Contains (objects list) object) → IsTrueOf list s
+
+-- the closing state of a source: it is sound, and tells of the source's list alone, where the source tells one, and honestly
 pub record IsClosing (source size : ℕ) (told : Option (List Row)) (s : State) : Type 0 where
   pub sound : IsSound s
   pub list : s.list ≡ source
   pub count : s.count ≡ size
   pub tells : IfSome told (λ list. TellsOf list s.log)
+  pub honest : IfSome told (λ list. IsHonestFor list s)
 
 -- a query isn't refused for want of memory
 abbrev pub IsSpared : Inquiry → Type 0

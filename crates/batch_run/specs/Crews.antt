@@ -14,8 +14,8 @@ use Rattle.fetcher.specs.declared.turned.Fetched.{Fetched}
 use Rattle.fetcher.specs.Turning.{Feeds}
 use Rattle.fetcher.specs.Chaining.{moment, IsFetched}
 use Rattle.fetcher.specs.Metering.{IsMetered}
-use Rattle.world_run.specs.declared.settings.Settings.{Settings}
-use Rattle.world_run.specs.Runs.{AreSettings}
+use Rattle.batch_run.specs.declared.settings.Settings.{Settings}
+use Rattle.batch_run.specs.Ranges.{AreSettings}
 use Rattle.batch_run.specs.declared.batch.Use.{Use}
 use Rattle.batch_run.specs.declared.work.Worker.{Worker}
 use Rattle.batch_run.specs.declared.hire.Crew.{Crew}
@@ -43,6 +43,7 @@ pub record IsBase (pool : List TableId) (counts : List ℕ) (given : ℕ) (holds
   pub parts : (source : ℕ) → source < length counts → (hold_at holds source).pass.1.parts + given + 1 ≡ all_parts
   pub high : (source : ℕ) → source < length counts → (hold_at holds source).pass.1.high ≡ 0
   pub asked : (source : ℕ) → source < length counts → (hold_at holds source).pass.1.asked ≡ 0
+  pub mine : (source : ℕ) → source < length counts → (hold_at holds source).pass.1.mine ≡ []
   pub gives : (source : ℕ) → source < length counts → new_hold (hold_at holds source) ≡ fresh_hold pool counts source
 
 -- so many workers were hired
@@ -72,8 +73,10 @@ pub record HasFetched (pool : List TableId) (settings : Settings) (source count 
   pub told : after.told ≡ before.told
   pub later : NoneFell before.counts after.counts
   pub feeds : Feeds (first_feed (lock_at pool source) source count).pass.1 feed.pass.1
-  pub turns : IsFetched settings.page settings.ahead before.told (moment before.counts (first_feed (lock_at pool source) source count).pass.1) (moment after.counts feed.pass.1)
-  pub metered : IsMetered settings.page settings.ahead after.fetched before.counts after.counts (first_feed (lock_at pool source) source count).pass.1 feed.pass.1
+  pub turns : IsFetched settings.page settings.ahead before.told (moment before.counts (first_feed (lock_at pool source) source count).pass.1)
+      (moment after.counts feed.pass.1)
+  pub metered : IsMetered settings.page settings.ahead after.fetched before.counts after.counts
+      (first_feed (lock_at pool source) source count).pass.1 feed.pass.1
 
 -- a crew that has run: its first pass did nothing, each worker left its share, and each feeder fetched
 pub record HasRun (settings : Settings) (counts : List ℕ) (readies : List Ready) (before after : List SlotState) (crew : Crew) : Type 0 where
@@ -90,11 +93,15 @@ pub record HasRun (settings : Settings) (counts : List ℕ) (readies : List Read
 -- these passes were joined to a pass
 pub record Rejoins (pool : List TableId) (others : List (List Hold)) (before after : List Hold) : Type 0 where
   pub own : IsPassOf pool after
-  pub knows : (other : List Hold) → Contains others other → (source : ℕ) → source < length pool → Follows (hold_at other source).pass.1 (hold_at after source).pass.1
+  pub knows : (other : List Hold) → Contains others other → (source : ℕ) → source < length pool
+      → Follows (hold_at other source).pass.1 (hold_at after source).pass.1
   pub parts : (source : ℕ) → source < length pool
       → (hold_at after source).pass.1.parts ≡ (hold_at before source).pass.1.parts + sum_by (λ other. (hold_at other source).pass.1.parts) others
   pub asked : (source : ℕ) → source < length pool
       → (hold_at after source).pass.1.asked ≡ (hold_at before source).pass.1.asked + sum_by (λ other. (hold_at other source).pass.1.asked) others
+  pub mine : (source : ℕ) → source < length pool → (object : ℕ) → Contains (hold_at after source).pass.1.mine object
+      → Contains (hold_at before source).pass.1.mine object
+      ⊎ ((other : List Hold) × Contains others other × Contains (hold_at other source).pass.1.mine object)
   pub high : (source : ℕ) → source < length pool → ((hold_at after source).pass.1.high ≡ (hold_at before source).pass.1.high)
       ⊎ ((other : List Hold) × Contains others other × ((hold_at after source).pass.1.high ≡ (hold_at other source).pass.1.high))
 

@@ -11,7 +11,7 @@ use Rattle.fetcher.specs.declared.turned.Fetched.{Fetched}
 use Rattle.fetcher.specs.Turning.{Feeds}
 use Rattle.fetcher.specs.Chaining.{moment, IsFetched}
 use Rattle.fetcher.specs.Metering.{IsMetered}
-use Rattle.world_run.specs.declared.settings.Settings.{Settings}
+use Rattle.batch_run.specs.declared.settings.Settings.{Settings}
 
 -- a slot of any kind of source: the list that its source tells, what the source counted, its feeder, and what was fetched
 pub record SlotState : Type 0 where

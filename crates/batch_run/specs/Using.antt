@@ -6,15 +6,17 @@ use Rattle.source_state.specs.declared.entry.FailKind.{FailKind}
 use Rattle.source_state.specs.declared.entry.FailKind.TheVariants as kind
 use Rattle.source_state.specs.declared.look.LookFault.{LookFault}
 use Rattle.source_state.specs.declared.look.LookFault.TheVariants as why
+use Rattle.source_state.specs.Log.{settled_in}
 use Rattle.source_state.specs.State.{State}
 use Rattle.source_state.specs.Looking.{reach_of}
 use Rattle.query_world.specs.declared.ended.Refusal.{Refusal}
 use Rattle.query_world.specs.declared.ended.Refusal.TheVariants.{Core, Look}
 use Rattle.query_world.specs.declared.inquiry.Inquiry.{Inquiry}
 use Rattle.query_world.specs.Worlds.{source_of}
-use Rattle.query_run.specs.Asking.{IsAskedFor, grades_asked}
+use Rattle.query_run.specs.Asking.{IsAskedFor, AsksGradeOf, grades_asked}
+use Rattle.fetcher.specs.Causes.{HasGiven}
 use Rattle.fetcher.specs.Metering.{WentUp, RoseBy}
-use Rattle.world_run.specs.declared.settings.Settings.{Settings}
+use Rattle.batch_run.specs.declared.settings.Settings.{Settings}
 use Rattle.batch_run.specs.declared.batch.Use.{Use}
 
 -- a look's fault is that a call failed so
@@ -51,22 +53,30 @@ is_refused_for what source q = refuses_for what source q q.refusal
 abbrev pub IsWantedBy : List Inquiry → ℕ → ℕ → Type 0
 IsWantedBy queries source depth = (depth ≡ 0) ⊎ ((q : Inquiry) × Contains queries q × IsAskedFor q source depth)
 
+-- one of these queries asked a list of this source for the grade of an object
+abbrev pub IsNamedBy : List Inquiry → ℕ → ℕ → Type 0
+IsNamedBy queries source object = (q : Inquiry) × Contains queries q × AsksGradeOf q source object
+
 -- how many grades these queries asked a source for
 abbrev pub all_grades_asked : List Inquiry → ℕ → ℕ
 all_grades_asked queries source = sum_by (λ q. grades_asked q source) queries
 
 -- what was used of a source, between what it had counted before and what it counts now. Its closing state has what the queries wanted of
--- it, which is what some query asked for, and no more grades than all asked for; the rows that it gave are within the reach of the greatest depth
--- that was wanted, whatever the number of the queries; and a grade was given for each object once at most
+-- it, which is what some query asked for, and no more grades than all asked for, each of an object that one of them named; the rows that it gave
+-- are within the reach of the greatest depth that was wanted, whatever the number of the queries; and a grade was given for each object once at most,
+-- and settled it; and what the log has of rows and of faults came of so many rows
 pub record IsUsed (settings : Settings) (queries : List Inquiry) (source : ℕ) (s : State) (before now : Counts) (used : Use) : Type 0 where
   pub want : used.want ≡ s.want
   pub wanted : IsWantedBy queries source used.want
   pub asks : used.asks ≡ length s.asks
   pub asked : used.asks ≤ all_grades_asked queries source
+  pub named : (object : ℕ) → Contains s.asks object → IsNamedBy queries source object
   pub rows : WentUp used.rows before.rows_given now.rows_given
   pub reach : used.rows ≤ reach_of used.want settings.page settings.ahead s.count
   pub grades : WentUp used.grades before.grades_given now.grades_given
   pub once : used.grades ≤ used.asks
+  pub settled : length (settled_in s.log) ≡ used.grades
+  pub comes : HasGiven used.rows s.count s.log
 
 -- so many lines, of which each worker has no more than the count rose
 pub record IsFewFor (workers lines calls : ℕ) (before now : ℕ) : Type 0 where

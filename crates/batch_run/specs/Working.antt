@@ -1,5 +1,5 @@
 -- What a worker does with its share of the queries.
-use Rattle.std.specs.Prelude.{◌≡◌, ◌≤◌, ◌<◌, ◌++◌, ◌∷◌, [], ℕ, min, false, List, All, length, map, reverse, count_by}
+use Rattle.std.specs.Prelude.{◌≡◌, ◌≤◌, ◌<◌, ◌++◌, ◌∷◌, [], ℕ, min, false, List, All, Contains, length, map, reverse, count_by}
 use Rattle.std.specs.List.{AllZip, slice_index_or}
 use Rattle.atomic_table.specs.Seated.{TableId}
 use Rattle.source_state.specs.declared.entry.FailKind.TheVariants as kind
@@ -19,7 +19,7 @@ use Rattle.query_run.specs.Advancing.{WaitsForNothing, HasSourcesIn, KnowsMore}
 use Rattle.query_run.specs.Ran.{Ran}
 use Rattle.batch_run.specs.declared.work.Worker.{Worker}
 use Rattle.batch_run.specs.Shares.{share}
-use Rattle.batch_run.specs.Using.{is_refused_for, IsWantedBy, all_grades_asked}
+use Rattle.batch_run.specs.Using.{is_refused_for, IsWantedBy, IsNamedBy, all_grades_asked}
 use Rattle.batch_run.specs.Batches.{IsSpared}
 
 -- a pass later on: of each source it knows at least as much
@@ -42,10 +42,11 @@ pub record IsEndOf (holds : List Hold) (ready : Ready) (end : End) : Type 0 wher
   pub since : KnowsAll then_held holds
 
 -- what these queries did of a source through a pass: it was raised no further than they asked, no more asks were added than they asked
--- for grades, and each of them that was refused for a fail was shown one, which the pass knows of
+-- for grades, each for an object that one of them named, and each of them that was refused for a fail was shown one, which the pass knows of
 pub record DidOf (queries : List Inquiry) (source : ℕ) (hold : Hold) : Type 0 where
   pub rows : IsWantedBy queries source hold.pass.1.high
   pub grades : hold.pass.1.asked ≤ all_grades_asked queries source
+  pub mine : (object : ℕ) → Contains hold.pass.1.mine object → IsNamedBy queries source object
   pub failed : min (count_by (is_refused_for kind.Failed source) queries) last_count ≤ hold.shown.failed
   pub garbled : min (count_by (is_refused_for kind.Garbled source) queries) last_count ≤ hold.shown.garbled
   pub within : IsWithin hold
@@ -69,7 +70,8 @@ pub record IsAtWork (pool : List TableId) (workers : ℕ) (readies : List Ready)
 pub record RanOne (ready : Ready) (before after : Worker) : Type 0 where
   pub number : after.number ≡ before.number
   pub knows : KnowsAll before.pass after.pass
-  pub ran : after.short ≡ false → (ended : Ended) × (after.ended.items ≡ before.ended.items ++ ended ∷ []) × Ran ready before.pass after.pass ended × IsRight ready ended
+  pub ran : after.short ≡ false
+      → (ended : Ended) × (after.ended.items ≡ before.ended.items ++ ended ∷ []) × Ran ready before.pass after.pass ended × IsRight ready ended
 
 -- a worker that ran its share of these queries, in their order
 pub record RanSo (workers : ℕ) (readies : List Ready) (worker : Worker) : Type 0 where

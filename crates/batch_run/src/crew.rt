@@ -2,13 +2,14 @@
 
 ghost use Rattle.std.specs.Prelude.{◌≡◌, ◌≤◌, ◌<◌, ℕ, List, None, All, length};
 ghost use Rattle.std.specs.List.{list_any};
-ghost use Rattle.world_run.specs.Runs.{AreSettings};
+ghost use Rattle.batch_run.specs.Ranges.{AreSettings};
 ghost use Rattle.query_world.specs.Made.{IsReadyFor};
 ghost use Rattle.batch_run.specs.Slots.{states_of};
 ghost use Rattle.batch_run.specs.Crews.{IsNewCrew, HasRun};
 
 use super::hire::Crew;
 use super::lend::{lend, take_back};
+use super::settings::Settings;
 use super::sides::run_sides;
 use fetcher::Slot;
 use query_core::Ready;
@@ -16,7 +17,6 @@ use source_api::Source;
 use std::alloc::Global;
 use std::sync::Wait;
 use std::thread::Threads;
-use world_run::Settings;
 
 impl Crew {
     /// Runs the queries over the sources. The feeders stand in the slots meanwhile.
@@ -29,7 +29,8 @@ impl Crew {
         settings: Settings,
     )
         requires settings { AreSettings settings }
-        requires new { (counts : List ℕ) × IsNewCrew counts (length queries.now) settings.workers self.old × (length counts ≡ length slots.old) × All (IsReadyFor counts) queries.now }
+        requires new { (counts : List ℕ) × IsNewCrew counts (length queries.now) settings.workers self.old
+            × (length counts ≡ length slots.old) × All (IsReadyFor counts) queries.now }
         ensures ran { (counts : List ℕ) → IsNewCrew counts (length queries.now) settings.workers self.old → All (IsReadyFor counts) queries.now
             → HasRun settings counts queries.now (states_of S.list S.counts slots.old) (states_of S.list S.counts slots.new) self.new }
         ensures empty { All (λ slot. slot.feeder ≡ None) slots.new }

@@ -5,7 +5,7 @@ ghost use Rattle.source_pool.specs.Passes.{IsPassOf};
 ghost use Rattle.source_pool.specs.Closed.{state_at};
 ghost use Rattle.query_core.specs.declared.ready.Ready.{Ready};
 ghost use Rattle.query_world.specs.declared.ended.Ended.{Ended as EndedOf};
-ghost use Rattle.world_run.specs.declared.settings.Settings.{Settings};
+ghost use Rattle.batch_run.specs.declared.settings.Settings.{Settings};
 ghost use Rattle.batch_run.specs.Slots.{SlotState, states_of, slot_at};
 ghost use Rattle.batch_run.specs.Batches.{IsBatch, use_at};
 ghost use Rattle.batch_run.specs.Crews.{slots_run, CanFinish, AreShares, Rejoins, UsedOf};

@@ -35,7 +35,8 @@ fn hire_next(
     requires room { vec_len workers.old < vec_capacity workers.old }
     requires own { IsPassOf pool.now pass.old }
     requires hiring { (counts : List ℕ) × IsHiring pool.now counts pass.old workers.old.items }
-    ensures hired { OnOk result ((counts : List ℕ) → IsHiring pool.now counts pass.old workers.old.items → IsHiring pool.now counts pass.new workers.new.items) }
+    ensures hired { OnOk result ((counts : List ℕ) → IsHiring pool.now counts pass.old workers.old.items
+        → IsHiring pool.now counts pass.new workers.new.items) }
     ensures size { OnOk result (vec_len workers.new ≡ number + 1) }
     ensures room { vec_capacity workers.new ≡ vec_capacity workers.old }
 {

@@ -6,12 +6,15 @@ mod batch;
 mod crew;
 mod finish;
 mod hire;
+mod laws;
 mod lend;
 mod run;
+mod settings;
 mod sides;
 mod work;
 
 pub use batch::{Batch, Use};
+pub use laws::{queries_are_on_their_runs, told_tables_give_the_one_ending};
 pub use query_run::{Ended, Memory};
 pub use run::run_all;
-pub use world_run::Settings;
+pub use settings::Settings;

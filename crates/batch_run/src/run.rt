@@ -5,11 +5,12 @@ ghost use Rattle.std.specs.List.{AllZip};
 ghost use Rattle.source_api.specs.Counting.{NoneFell};
 ghost use Rattle.query_world.specs.Made.{IsReadyFor};
 ghost use Rattle.query_world.specs.Endings.{IsRight};
-ghost use Rattle.world_run.specs.Runs.{AreSettings};
+ghost use Rattle.batch_run.specs.Ranges.{AreSettings};
 ghost use Rattle.batch_run.specs.Batches.{run_of, IsBatch};
 
 use super::batch::Batch;
 use super::hire::Crew;
+use super::settings::Settings;
 use fetcher::Slot;
 use limits::MAX_OBJECTS;
 use query_core::Ready;
@@ -18,7 +19,6 @@ use source_api::Source;
 use std::alloc::Global;
 use std::sync::Wait;
 use std::thread::Threads;
-use world_run::Settings;
 
 /// Runs all queries over the sources, those of the same numbers, which have so many objects each: as many workers as the settings say, at
 /// the same time, and beside them one fetcher a source. A worker runs, one after another and in their order, the queries whose place

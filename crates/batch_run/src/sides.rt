@@ -1,10 +1,11 @@
 //! The two sides of a run: the fetchers, and the workers.
 
 ghost use Rattle.std.specs.Prelude.{◌≡◌, ◌≤◌, ◌<◌, All, length};
-ghost use Rattle.world_run.specs.Runs.{AreSettings};
+ghost use Rattle.batch_run.specs.Ranges.{AreSettings};
 ghost use Rattle.batch_run.specs.Working.{IsAtWork, Worked, AllWorked};
 ghost use Rattle.batch_run.specs.Slots.{HasFeeder, Fetches, AllFetch, state_of};
 
+use super::settings::Settings;
 use super::work::{Worker, work};
 use fetcher::{Slot, Stop, fetch_loop};
 use query_core::Ready;
@@ -14,7 +15,6 @@ use std::alloc::Global;
 use std::sync::Wait;
 use std::thread;
 use std::thread::Threads;
-use world_run::Settings;
 
 /// Fetches from a source, by the feeder in its slot, until the sign is set.
 fn fetch_slot<S: Source>(

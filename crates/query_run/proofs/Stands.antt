@@ -40,7 +40,8 @@ use Rattle.query_run.proofs.Wants.{marks_same, wanted_kept, wants_given, wants_s
 use Rattle.query_run.proofs.Steps.{Place}
 
 -- a source where nothing is waited for, as long as the query is unrefused
-pub waits_elsewhere : (before now : List Hold) (q : Inquiry) (source : ℕ) → IsOpen before now q → source ≢ source_needed q → (hold_at now source).waiting.need ≡ None
+pub waits_elsewhere : (before now : List Hold) (q : Inquiry) (source : ℕ) → IsOpen before now q → source ≢ source_needed q
+    → (hold_at now source).waiting.need ≡ None
 waits_elsewhere before now q source h apart = elim (option_cases (hold_at now source).waiting.need) [
   | inl none ↦ none
   | inr some ↦ absurd (apart (h.waits source some.0 some.1).here)
@@ -156,7 +157,8 @@ open_waits before now after q r place h others shown sources same going most wai
   ];
 }
   where
-    here : (n : Need) → (hold_at after (source_needed q)).waiting.need ≡ Some n → WaitsAt r (source_needed q) n (hold_at before (source_needed q)) (hold_at after (source_needed q))
+    here : (n : Need) → (hold_at after (source_needed q)).waiting.need ≡ Some n
+        → WaitsAt r (source_needed q) n (hold_at before (source_needed q)) (hold_at after (source_needed q))
     here n e = elim waits [
       | inl on ↦ waits_same q r (source_needed q) n (hold_at before (source_needed q)) (hold_at now (source_needed q)) (hold_at after (source_needed q)) sources same on.same
           (h.waits (source_needed q) n (sym (ap (λ (w : Waiting). w.need) on.same) ∙ e))
@@ -210,7 +212,8 @@ abbrev rest_at : Tally → Waiting
 rest_at noted = record { need = None; noted = noted }
 
 -- a query that is refused for its room
-pub core_stops : (before now after : List Hold) (q r : Inquiry) (states : List State) (fault : CoreFault) → IsOpen before now q → OthersStay (source_needed q) now after
+pub core_stops : (before now after : List Hold) (q r : Inquiry) (states : List State) (fault : CoreFault) → IsOpen before now q
+    → OthersStay (source_needed q) now after
     → Over (hold_at now (source_needed q)) (hold_at after (source_needed q))
     → (hold_at after (source_needed q)).shown ≡ (hold_at now (source_needed q)).shown
     → r.sources.items ≡ q.sources.items → state_of r.machine ≡ state_of q.machine → r.refusal ≡ Some (refusal.Core fault)
@@ -242,7 +245,8 @@ noted_of why.Failed noted known = noted
 noted_of why.Garbled noted known = noted
 noted_of why.Memory noted known = noted
 
-cause_noted : (s : State) (n : Need) (noted known : Tally) (fault : LookFault) → CanNotBeHad s n noted fault → CanNotBeHad s n (noted_of fault noted known) fault
+cause_noted : (s : State) (n : Need) (noted known : Tally) (fault : LookFault) → CanNotBeHad s n noted fault
+    → CanNotBeHad s n (noted_of fault noted known) fault
 cause_noted s n noted known (why.Source fault) h = h
 cause_noted s n noted known (why.Missing object) h = h
 cause_noted s n noted known (why.AsksFull kept) h = h
@@ -291,7 +295,8 @@ fault_shown before now after q r source fault h others shown sources =
     ]
 
 -- a query whose need can't be had
-pub fault_stops : (before now after : List Hold) (q r : Inquiry) (states : List State) (fault : LookFault) → IsOpen before now q → OthersStay (source_needed q) now after
+pub fault_stops : (before now after : List Hold) (q r : Inquiry) (states : List State) (fault : LookFault) → IsOpen before now q
+    → OthersStay (source_needed q) now after
     → Over (hold_at now (source_needed q)) (hold_at after (source_needed q))
     → (hold_at after (source_needed q)).shown ≡ shown_fault fault (hold_at now (source_needed q)).shown
     → r.sources.items ≡ q.sources.items → state_of r.machine ≡ state_of q.machine → r.refusal ≡ Some (refusal.Look (list_needed (needed q)) fault)
@@ -327,7 +332,8 @@ fault_stops before now after q r states fault h others over shown sources same r
     }
 
 -- a query that needs nothing more
-pub done_stops : (before now : List Hold) (r : Inquiry) → IsReading now r → IsOpen before now r → r.refusal ≡ None → is_done (needed r) ≡ true → HasStopped before now r
+pub done_stops : (before now : List Hold) (r : Inquiry) → IsReading now r → IsOpen before now r → r.refusal ≡ None → is_done (needed r) ≡ true
+    → HasStopped before now r
 done_stops before now r reading h unrefused done =
     let last = rest_at (hold_at before (source_needed r)).pass.1.tally in
     record {

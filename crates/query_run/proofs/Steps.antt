@@ -104,7 +104,8 @@ decided_looks states source n u waiting left answer l by rests same = record {
 }
 
 -- a query reads on through the pass
-still_reads : (source : ℕ) (before after : List Hold) (q : Inquiry) (states : List State) → SeesOn source before after → IsReading before q → FeedsFrom after q states
+still_reads : (source : ℕ) (before after : List Hold) (q : Inquiry) (states : List State) → SeesOn source before after → IsReading before q
+    → FeedsFrom after q states
     → IsReading after q
 still_reads source before after q states on h feeds = record {
   many = h.many;

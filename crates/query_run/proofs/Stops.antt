@@ -213,7 +213,8 @@ step_fault before now after q r fault h reading ending on l is =
           (fault_seen (needed q) (hold_at now s) (hold_at after s) fault turn));
     }
 
-step_by : (sources : List ℕ) (before now after : List Hold) (q r : Inquiry) (answer : Look) → Advances sources before now → IsOpen before now q → IsReading now q
+step_by : (sources : List ℕ) (before now after : List Hold) (q r : Inquiry) (answer : Look) → Advances sources before now → IsOpen before now q
+    → IsReading now q
     → is_ended q ≡ false → SeesOn (source_needed q) now after → (l : LooksOnce now after q r) → l.answer ≡ answer → Stepped before after q r
 step_by sources before now after q r (look.Row row) advances h reading ending on l is = step_row before now after q r row h reading ending on l is
 step_by sources before now after q r (look.Grade grade) advances h reading ending on l is = step_grade before now after q r grade h reading ending on l is
@@ -300,7 +301,7 @@ looked_none before q rests reading unrefused = record {
     waits = λ source n e. absurd (none_not_some (sym (rests.rests source) ∙ e));
     shown = λ source. refl;
     wants = λ source. record {
-      wanted = record { rows = inl (le_refl _); grades = omega arith };
+      wanted = record { rows = inl (le_refl _); grades = omega arith; mine = λ object c. inl c };
       given = λ none. omega arith;
     };
   });
@@ -310,7 +311,8 @@ looked_none before q rests reading unrefused = record {
 pub stopped : (before now : List Hold) (first r : Inquiry) → HasLooked before now first r → is_ended r ≡ true → HasStopped before now r
 stopped before now first r h end = by_refusal r.refusal refl h.stands end
   where
-    by_refusal : (refused : Option Refusal) → r.refusal ≡ refused → Stands before now r refused → (is_some r.refusal || is_done (needed r)) ≡ true → HasStopped before now r
+    by_refusal : (refused : Option Refusal) → r.refusal ≡ refused → Stands before now r refused → (is_some r.refusal || is_done (needed r)) ≡ true
+        → HasStopped before now r
     by_refusal None e stands end = done_stops before now r h.reading stands e (ap (λ o. is_some o || is_done (needed r)) (sym e) ∙ end)
     by_refusal (Some refused) e stands end = stands
 

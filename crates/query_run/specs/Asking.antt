@@ -1,5 +1,5 @@
 -- How much a query asks of its sources.
-use Rattle.std.specs.Prelude.{◌≡◌, ◌==◌, ◌&&◌, ◌≤◌, ◌<◌, ◌+◌, ◌⊎◌, ℕ, Bool, not, List, [], ◌∷◌, ◌++◌, length, count_by}
+use Rattle.std.specs.Prelude.{◌≡◌, ◌==◌, ◌&&◌, ◌≤◌, ◌<◌, ◌+◌, ◌⊎◌, ℕ, Bool, not, List, [], ◌∷◌, ◌++◌, length, count_by, Contains}
 use Rattle.ranked_list.specs.declared.need.Need.{Need}
 use Rattle.ranked_list.specs.declared.need.Need.TheVariants.{Row, Grade, Done}
 use Rattle.turn_lock.specs.declared.known.Known.{Known}
@@ -35,8 +35,17 @@ pub record IsAskedFor (q : Inquiry) (source depth : ℕ) : Type 0 where
   pub of : source_of q list ≡ source
   pub deep : depth ≤ depth_of list (accesses_asked q)
 
--- what a query wanted of a source through a pass: it raised the mark no further than it asked for rows of the source, if at all, and added
--- no more asks than it asked the source for grades
+-- of a list that this source has, the query asked for the grade of this object
+pub record AsksGradeOf (q : Inquiry) (source object : ℕ) : Type 0 where
+  pub list : ℕ
+  pub listed : list < length q.sources.items
+  pub of : source_of q list ≡ source
+  pub grade : ℕ
+  pub asks : Contains (accesses_asked q) (Random list object grade)
+
+-- what a query wanted of a source through a pass: it raised the mark no further than it asked for rows of the source, if at all, added
+-- no more asks than it asked the source for grades, and each of them for an object whose grade it asked for
 pub record Wanted (q : Inquiry) (source : ℕ) (before after : Known LogEntry) : Type 0 where
   pub rows : (after.high ≤ before.high) ⊎ IsAskedFor q source after.high
   pub grades : after.asked ≤ before.asked + grades_asked q source
+  pub mine : (object : ℕ) → Contains after.mine object → Contains before.mine object ⊎ AsksGradeOf q source object

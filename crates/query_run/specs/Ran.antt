@@ -25,7 +25,7 @@ shown_to q (Some (Core fault)) source shown = shown
 shown_to q (Some (Look list fault)) source shown = if source_of q list == source then shown_fault fault shown else shown
 
 -- what a query did through a pass, which held the one before and holds the other now: a fail that refuses it came after all those that the
--- pass knew of before, and is shown once; and of each source it wanted no more than the rows and grades that it asked for
+-- pass knew of before, and is shown once; and of each source it wanted nothing but the rows and grades that it asked for
 pub record Uses (before after : List Hold) (q : Inquiry) : Type 0 where
   pub since : AtMost (hold_at before (source_needed q)).pass.1.tally q.waiting.noted
   pub shown : (source : ℕ) → (hold_at after source).shown ≡ shown_to q q.refusal source (hold_at before source).shown

@@ -1,0 +1,14 @@
+-- What is known of the sources of a batch, by their numbers.
+use Rattle.std.specs.Prelude.{ℕ, Option, None, List}
+use Rattle.std.specs.List.{slice_index_or}
+use Rattle.ranked_list.specs.declared.row.Row.{Row}
+use Rattle.source_api.specs.declared.counts.Counts.{Counts}
+use Rattle.source_api.specs.Counting.{no_counts}
+
+-- the list that a source tells, by its number, if it tells one
+abbrev pub told_at : List (Option (List Row)) → ℕ → Option (List Row)
+told_at told source = slice_index_or told source None
+
+-- the counts of the source of a number
+abbrev pub counts_at : List Counts → ℕ → Counts
+counts_at counts source = slice_index_or counts source no_counts
