@@ -1,5 +1,5 @@
 -- Grades by number, and what a made source tells.
-use Rattle.std.proofs.Common.{◌≡◌, ◌≢◌, ◌<◌, ◌+◌, ℕ, suc, Bool, true, false, cond, not, ◌&&◌, inl, inr, List, [], ◌∷◌, ◌++◌, length, map, take, get_or, All, Contains, Option, Some, None, refl, sym, ap, subst, ◌∙◌, arith}
+use Rattle.std.proofs.Common.{◌≡◌, ◌≢◌, ◌≤◌, ◌<◌, ◌+◌, ℕ, suc, Bool, true, false, cond, not, ◌&&◌, inl, inr, List, [], ◌∷◌, ◌++◌, length, map, take, get_or, All, Contains, Option, Some, None, refl, sym, ap, subst, ◌∙◌, arith}
 use Rattle.std.specs.Prelude.{nat_eq}
 use Rattle.std.specs.List.{slice_set}
 use Rattle.std.specs.Set.{is_member}
@@ -12,7 +12,9 @@ use Rattle.ranked_list.proofs.Members.{contains_from_member}
 use Rattle.topk_theory.proofs.AgreementLists.{contains_nil, contains_map, contains_map_from}
 use Rattle.source_api.specs.Told.{HasEachOnce, IsGrade}
 use Rattle.source_api.specs.InMemory.{each_once, told_of}
-use Rattle.bulk_run.specs.Held.{Held, AreGradesOf, AreSmall, fresh, grade_at}
+use Rattle.query_world.proofs.Making.{take_whole}
+use Rattle.fetcher.specs.declared.slot.Slot.{Slot}
+use Rattle.bulk_run.specs.Held.{Held, AreGradesOf, AreSmall, fresh, fresh_slot, new_slot, grade_at}
 
 -- ---- grades by number
 
@@ -61,6 +63,13 @@ grades_kept list grades n row l is small long h =
     subst (λ (rows : List Row). AreGradesOf rows (slice_set grades row.object (Some row.grade))) (sym front)
     (grade_kept (take n list) row grades (omega (arith, low, same, long)) h)
 
+-- once all rows were taken
+pub rows_whole : (list kept : List Row) (n : ℕ) → length list ≤ n → kept ≡ take n list → kept ≡ list
+rows_whole list kept n l is = is ∙ take_whole list n l
+
+pub grades_whole : (list : List Row) (grades : List (Option ℕ)) (n : ℕ) → length list ≤ n → AreGradesOf (take n list) grades → AreGradesOf list grades
+grades_whole list grades n l h = subst (λ (rows : List Row). AreGradesOf rows grades) (take_whole list n l) h
+
 -- ---- what is told
 
 -- rows in which no object comes twice are told
@@ -84,14 +93,18 @@ once_passes (row ∷ rows) h =
 pub told_whole : (rows : List Row) → HasEachOnce rows → told_of None [] rows ≡ Some rows
 told_whole rows once = ap (λ b. cond {A = Option (List Row)} b (Some rows) None) (once_passes rows once)
 
--- ---- sources of lists
+-- ---- slots of lists
 
 pub small_at : (table : List (List Row)) (i : ℕ) (list : List Row) → All AreSmall table → i < length table → list ≡ get_or table i list → AreSmall list
 small_at table i list small l is = subst AreSmall (sym is) (small i list l)
 
-pub sources_more : (table : List (List Row)) (sources now : List Held) (i : ℕ) (list : List Row) (source : Held) → i < length table → list ≡ get_or table i list
-    → sources ≡ map fresh (take i table) → source ≡ fresh list → now ≡ sources ++ source ∷ [] → now ≡ map fresh (take (i + 1) table)
-sources_more table sources now i list source l is before made push =
-    push ∙ ap (λ (held : Held). sources ++ held ∷ []) made ∙ ap (λ (xs : List Held). xs ++ fresh list ∷ []) before
-    ∙ sym (map-append fresh (take i table) (list ∷ []))
-    ∙ ap (map fresh) (ap (λ (rows : List Row). take i table ++ rows ∷ []) is ∙ sym (take_more table i list l))
+pub slots_more : (table : List (List Row)) (slots now : List (Slot Held)) (i : ℕ) (list : List Row) (slot : Slot Held) → i < length table → list ≡ get_or table i list
+    → slots ≡ map fresh_slot (take i table) → slot ≡ fresh_slot list → now ≡ slots ++ slot ∷ [] → now ≡ map fresh_slot (take (i + 1) table)
+slots_more table slots now i list slot l is before made push =
+    push ∙ ap (λ (one : Slot Held). slots ++ one ∷ []) made ∙ ap (λ (xs : List (Slot Held)). xs ++ fresh_slot list ∷ []) before
+    ∙ sym (map-append fresh_slot (take i table) (list ∷ []))
+    ∙ ap (map fresh_slot) (ap (λ (rows : List Row). take i table ++ rows ∷ []) is ∙ sym (take_more table i list l))
+
+-- the source of a slot of which nothing was fetched yet
+pub slot_made : (list : List Row) (source : Held) (slot : Slot Held) → source ≡ fresh list → slot ≡ new_slot source → slot ≡ fresh_slot list
+slot_made list source slot is made = made ∙ ap new_slot is

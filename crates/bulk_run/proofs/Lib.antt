@@ -1,7 +1,6 @@
 -- Lemmas on made sources, ready queries, and how they end.
 mod HeldLaws
 mod Readying
-mod Unrefused
 mod OneAnswers
 mod Summing
 mod Bounds

@@ -1,94 +1,89 @@
 -- Each made query ends with its one answer.
-use Rattle.std.proofs.Common.{◌≡◌, ◌≤◌, ℕ, None, List, [], ◌∷◌, length, map, All, Contains, Option, sym, ap, subst, ◌∙◌}
+use Rattle.std.proofs.Common.{◌≡◌, ℕ, zero, suc, Some, None, List, [], ◌∷◌, map, Option, refl, sym, ap, subst, ◌∙◌, arith}
 use Rattle.std.specs.List.{AllZip, range_with_len}
+use Rattle.tk_io.specs.Faults.{Rose}
 use Rattle.ranked_list.specs.declared.row.Row.{Row}
-use Rattle.topk_theory.proofs.AgreementLists.{contains_here, contains_there}
 use Rattle.access_log.specs.Log.{AgreesWith}
-use Rattle.access_log.specs.Machine.{IsSameLog}
-use Rattle.access_log.specs.declared.answer.Answer.{Answer}
+use Rattle.access_log.specs.declared.core_fault.CoreFault.TheVariants.{Strangers, RoomFull}
 use Rattle.query_text.specs.declared.query.Query.{Query}
 use Rattle.query_core.specs.declared.ready.Ready.{Ready}
-use Rattle.query_core.specs.Machines.{state_of}
-use Rattle.query_core.specs.OneAnswer.{IsOneAnswer, IsAnswered}
-use Rattle.query_core.proofs.Answering.{agrees_same}
+use Rattle.query_core.specs.OneAnswer.{IsOneAnswer}
 use Rattle.query_world.specs.declared.ended.Ended.{Ended}
 use Rattle.query_world.specs.declared.ended.Ended.TheVariants.{Answered, Core, Look}
-use Rattle.query_world.specs.declared.inquiry.Inquiry.{Inquiry}
-use Rattle.query_world.specs.Worlds.{WorldState}
-use Rattle.query_world.specs.Kept.{IsWorld}
-use Rattle.query_world.specs.Made.{IsReadyFor, IsMade, IsOf, AreOf}
-use Rattle.query_world.specs.Honest.{IsOnItsRun}
-use Rattle.query_world.specs.Endings.{EndsAs, IsRight, IsAnswerOf}
-use Rattle.query_world.proofs.Stepping.{zip_member}
-use Rattle.world_run.specs.declared.settings.Settings.{Settings}
-use Rattle.world_run.specs.Runs.{IsRunBy}
+use Rattle.fetcher.specs.declared.slot.Slot.{Slot}
+use Rattle.batch_run.specs.declared.settings.Settings.{Settings}
+use Rattle.batch_run.specs.Numbered.{counts_at}
+use Rattle.batch_run.specs.Batches.{BatchState, Run, run_of, IsBatch}
+use Rattle.batch_run.specs.Tables.{lists_for, TellsTables, EndsOver}
 use Rattle.bulk_run.specs.declared.input.BulkInput.{BulkInput}
-use Rattle.bulk_run.specs.Held.{Held, counts_of}
-use Rattle.bulk_run.specs.Sums.{IsInput, table_of, query_of}
+use Rattle.bulk_run.specs.Held.{Held, fresh_slot, told_rows, counts_of}
+use Rattle.bulk_run.specs.Sums.{table_of, query_of}
 use Rattle.bulk_run.specs.Endings.{IsMadeReady, AreMadeReady, EndsInOne, AllEndInOne}
-use Rattle.bulk_run.proofs.Readying.{made_lists}
-use Rattle.bulk_run.proofs.Unrefused.{FailuresAreOfWaiting, IsUnrefused, all_unrefused}
-use Rattle.limits.specs.declared.TheConstants.{MAX_OBJECTS}
+use Rattle.bulk_run.proofs.Readying.{table_told, made_lists, all_have_tables}
 
--- an answer of a query that isn't refused is the one answer
-answered_in_one : (input : BulkInput) (number : ℕ) (ready : Ready) (q : Inquiry) (answer : Answer) → IsMadeReady input number ready
-    → IsUnrefused (table_of input) q → IsAnswerOf q answer → IsAnswered ready.query ready.count answer → EndsInOne (query_of input number) (table_of input) (Answered answer)
-answered_in_one input number ready q answer made h ends right =
-    let log = (state_of q.machine).log in
-    let back : IsSameLog log answer.transcript = record { lists = sym ends.log.lists; count = sym ends.log.count; accesses = sym ends.log.accesses } in
-    let agrees : AgreesWith (table_of input) answer.transcript = agrees_same (table_of input) log answer.transcript back h.agrees in
-    (subst (λ (query : Query). IsOneAnswer query (table_of input) answer) made.query (right.every (table_of input) agrees), agrees)
+-- ---- no call failed
 
-ends_in_one : (input : BulkInput) (number : ℕ) (ready : Ready) (q : Inquiry) (e : Ended) → IsMadeReady input number ready → IsUnrefused (table_of input) q
-    → EndsAs q e → IsRight ready e → EndsInOne (query_of input number) (table_of input) e
-ends_in_one input number ready q (Answered answer) made h ends right = answered_in_one input number ready q answer made h ends right
-ends_in_one input number ready q (Core fault) made h ends right = refused (sym h.never ∙ ends)
+-- made sources have counted no fault and no garble
+no_faults : (slots : List (Slot Held)) (source : ℕ) → (counts_at (map (λ slot. counts_of slot.source) slots) source).faults ≡ 0
+no_faults [] source = refl
+no_faults (slot ∷ slots) zero = refl
+no_faults (slot ∷ slots) (suc source) = no_faults slots source
+
+no_garbles : (slots : List (Slot Held)) (source : ℕ) → (counts_at (map (λ slot. counts_of slot.source) slots) source).garbles ≡ 0
+no_garbles [] source = refl
+no_garbles (slot ∷ slots) zero = refl
+no_garbles (slot ∷ slots) (suc source) = no_garbles slots source
+
+not_rose : (before now : ℕ) → now ≡ 0 → Rose before now → ⊥
+not_rose before now none rose = omega (arith, none, rose)
+
+tells_tables : (input : BulkInput) (settings : Settings) (counts : List ℕ) (readies : List Ready) (before now : List (Slot Held))
+    → AreMadeReady input readies → before ≡ map fresh_slot (table_of input)
+    → TellsTables (run_of told_rows counts_of settings counts readies before now) (table_of input)
+tells_tables input settings counts readies before now are fresh = record {
+  told = ap (λ (slots : List (Slot Held)). map (λ slot. told_rows slot.source) slots) fresh ∙ table_told input;
+  tables = all_have_tables input readies are;
+  untroubled = λ source l. record { faults = not_rose _ _ (no_faults now source); garbles = not_rose _ _ (no_garbles now source) };
+}
+
+-- ---- how each ends
+
+never_full : (query : Query) (room : ℕ) → query.room ≡ None → query.room ≡ Some room → ⊥
+never_full query room none stated = refused (sym none ∙ stated)
   where
-    refused : {X : Type 0} {x : X} {P : Type 0} → None ≡ Option.Some x → P
-    refused e = absurd cc
-ends_in_one input number ready q (Look list fault) made h ends right = refused (sym h.never ∙ ends)
-  where
-    refused : {X : Type 0} {x : X} {P : Type 0} → None ≡ Option.Some x → P
-    refused e = absurd cc
+    refused : None ≡ Option.Some room → ⊥
+    refused e = cc
 
-all_in_one : (input : BulkInput) (numbers : List ℕ) (readies : List Ready) (queries : List Inquiry) (endings : List Ended)
-    → ((q : Inquiry) → Contains queries q → IsUnrefused (table_of input) q) → AllZip (IsMadeReady input) numbers readies → AllZip IsOf readies queries
-    → AllZip EndsAs queries endings → AllZip IsRight readies endings → AllZip (λ number. EndsInOne (query_of input number) (table_of input)) numbers endings
-all_in_one input [] [] [] [] h made of ends right = tt
-all_in_one input [] [] [] (e ∷ endings) h made of ends right = absurd ends
-all_in_one input [] [] (q ∷ queries) endings h made of ends right = absurd of
-all_in_one input [] (ready ∷ readies) queries endings h made of ends right = absurd made
-all_in_one input (number ∷ numbers) [] queries endings h made of ends right = absurd made
-all_in_one input (number ∷ numbers) (ready ∷ readies) [] endings h made of ends right = absurd of
-all_in_one input (number ∷ numbers) (ready ∷ readies) (q ∷ queries) [] h made of ends right = absurd ends
-all_in_one input (number ∷ numbers) (ready ∷ readies) (q ∷ queries) (e ∷ endings) h made of ends right = (
-  ends_in_one input number ready q e made.0 (h q (contains_here q queries)) ends.0 right.0,
-  all_in_one input numbers readies queries endings (λ r c. h r (contains_there q queries r c)) made.1 of.1 ends.1 right.1,
-)
+ends_in_one : (input : BulkInput) (number : ℕ) (ready : Ready) (e : Ended) → IsMadeReady input number ready → EndsOver (lists_for (table_of input) ready) ready e
+    → EndsInOne (query_of input number) (table_of input) e
+ends_in_one input number ready (Answered answer) made h =
+    let agrees : AgreesWith (table_of input) answer.transcript =
+    subst (λ (D : List (List Row)). AgreesWith D answer.transcript) (made_lists input ready.sources.items made.sources) h.agrees in
+    (subst (λ (query : Query). IsOneAnswer query (table_of input) answer) made.query (h.answered.every (table_of input) agrees), agrees)
+ends_in_one input number ready (Core (RoomFull room)) made h = never_full ready.query room (ap (λ (query : Query). query.room) made.query) h.stated
+ends_in_one input number ready (Core (Strangers object count)) made h = h
+ends_in_one input number ready (Look list fault) made h = h
 
--- what is known of the run of made queries over the sources of their table
-pub record Ran (input : BulkInput) (settings : Settings) (counts : List ℕ) (readies : List Ready) (before now : List Held) (first last : WorldState) (endings : List Ended) : Type 0 where
-  pub told : List (Option (List Row))
-  pub made : IsMade counts readies first
-  pub begun : IsWorld first
-  pub many : length before ≡ length first.states
-  pub run : IsRunBy settings told (map counts_of before) (map counts_of now) first last
-  pub world : IsWorld last
-  pub of : AreOf readies last
-  pub on : All (IsOnItsRun (table_of input)) last.queries
-  pub ends : AllZip EndsAs last.queries endings
-  pub right : AllZip IsRight readies endings
+all_in_one : (input : BulkInput) (numbers : List ℕ) (readies : List Ready) (endings : List Ended) → AllZip (IsMadeReady input) numbers readies
+    → AllZip (λ ready. EndsOver (lists_for (table_of input) ready) ready) readies endings
+    → AllZip (λ number. EndsInOne (query_of input number) (table_of input)) numbers endings
+all_in_one input [] [] [] made ends = tt
+all_in_one input [] [] (e ∷ endings) made ends = absurd ends
+all_in_one input [] (ready ∷ readies) endings made ends = absurd made
+all_in_one input (number ∷ numbers) [] endings made ends = absurd made
+all_in_one input (number ∷ numbers) (ready ∷ readies) [] made ends = absurd ends
+all_in_one input (number ∷ numbers) (ready ∷ readies) (e ∷ endings) made ends =
+    (ends_in_one input number ready e made.0 ends.0, all_in_one input numbers readies endings made.1 ends.1)
 
-pub ran_in_one : (input : BulkInput) (settings : Settings) (counts : List ℕ) (readies : List Ready) (before now : List Held) (first last : WorldState) (endings : List Ended)
-    → IsInput input → AreMadeReady input readies → All (λ count. count ≤ MAX_OBJECTS) counts → All (IsReadyFor counts) readies → FailuresAreOfWaiting
-    → Ran input settings counts readies before now first last endings → AllEndInOne input endings
-ran_in_one input settings counts readies before now first last endings within are small ready law h =
-    all_in_one input (range_with_len 0 input.queries) readies last.queries endings
-    (all_unrefused settings h.told before now counts readies (table_of input) first last h.run law h.begun h.many small ready h.made h.world h.of
-    (λ one c. let number = zip_member (IsMadeReady input) (range_with_len 0 input.queries) readies one are c in ap (λ (query : Query). query.room) number.2.query)
-    (λ q c.
-    let from = zip_member IsOf readies last.queries q h.of c in
-    let number = zip_member (IsMadeReady input) (range_with_len 0 input.queries) readies from.0 are from.1 in
-    made_lists input q.sources.items (from.2.sources ∙ number.2.sources))
-    h.on)
-    are h.of h.ends h.right
+-- what `told_tables_give_the_one_ending` promises
+abbrev pub ToldTablesGiveTheOneEnding : Type 0
+ToldTablesGiveTheOneEnding = (run : Run) (batch : BatchState) (lists : List (List Row)) → IsBatch run batch → TellsTables run lists
+    → AllZip (λ ready. EndsOver (lists_for lists ready) ready) run.readies batch.endings
+
+-- how a batch of made queries over the sources of their table ended
+pub ran_in_one : (input : BulkInput) (settings : Settings) (counts : List ℕ) (readies : List Ready) (before now : List (Slot Held)) (batch : BatchState)
+    → AreMadeReady input readies → before ≡ map fresh_slot (table_of input) → ToldTablesGiveTheOneEnding
+    → IsBatch (run_of told_rows counts_of settings counts readies before now) batch → AllEndInOne input batch.endings
+ran_in_one input settings counts readies before now batch are fresh law ran =
+    all_in_one input (range_with_len 0 input.queries) readies batch.endings are
+    (law (run_of told_rows counts_of settings counts readies before now) batch (table_of input) ran (tells_tables input settings counts readies before now are fresh))

@@ -1,9 +1,9 @@
 -- Made queries are ready to run over the made table.
-use Rattle.std.proofs.Common.{◌≡◌, ◌≤◌, ◌<◌, ◌+◌, ℕ, suc, min, Option, Some, List, [], ◌∷◌, ◌++◌, length, map, replicate, All, refl, sym, ap, subst, ◌∙◌, arith}
+use Rattle.std.proofs.Common.{◌≡◌, ◌≤◌, ◌<◌, ◌+◌, ℕ, suc, min, Option, Some, None, List, [], ◌∷◌, ◌++◌, length, map, replicate, All, refl, sym, ap, subst, ◌∙◌, arith}
 use Rattle.std.specs.Prelude.{◌%◌}
 use Rattle.std.specs.List.{AllZip, range_with_len, slice_index_or}
 use Rattle.std.proofs.Math.Nat.{mod-lt}
-use Rattle.std.proofs.lemmas.List.{get_or-replicate, length-replicate, map-id}
+use Rattle.std.proofs.lemmas.List.{get_or-replicate, length-replicate, length-map, map-id}
 use Rattle.std.proofs.lemmas.List.Elements.{All-replicate}
 use Rattle.std.proofs.lemmas.List.FromFn.{length-range_with_len, length-map-range_with_len, get_or-range_with_len, map-range_with_len_more, fill_by_all}
 use Rattle.std.proofs.lemmas.Slice.Zip.{all_zipped_more, AllZip-long}
@@ -20,15 +20,12 @@ use Rattle.table_text.specs.Numbered.{list_name}
 use Rattle.query_text.specs.declared.query.Query.{Query}
 use Rattle.query_text.specs.Query.{IsLawful}
 use Rattle.query_core.specs.declared.ready.Ready.{Ready}
-use Rattle.query_core.specs.Machines.{state_of}
-use Rattle.query_world.specs.declared.inquiry.Inquiry.{Inquiry}
-use Rattle.query_world.specs.Worlds.{WorldState}
-use Rattle.query_world.specs.Made.{IsReadyFor, IsFresh, IsMade}
-use Rattle.query_world.specs.Honest.{HasTable, lists_of}
-use Rattle.query_world.proofs.Making.{opened_length}
+use Rattle.query_world.specs.Made.{IsReadyFor}
 use Rattle.query_world.proofs.Stepping.{zip_member}
+use Rattle.fetcher.specs.declared.slot.Slot.{Slot}
+use Rattle.batch_run.specs.Tables.{lists_for}
 use Rattle.bulk_run.specs.declared.input.BulkInput.{BulkInput}
-use Rattle.bulk_run.specs.Held.{AreSmall, fresh, told_rows}
+use Rattle.bulk_run.specs.Held.{Held, AreSmall, fresh_slot, told_rows}
 use Rattle.bulk_run.specs.Sums.{IsInput, table_of, query_of}
 use Rattle.bulk_run.specs.Endings.{IsMadeReady, AreMadeReady}
 use Rattle.bulk_run.proofs.HeldLaws.{told_whole}
@@ -55,17 +52,29 @@ table_small input =
     let long : length list ≡ input.count = member_of_all (λ (rows : List Row). length rows ≡ input.count) (table_of input) list table.sized c in
     subst AreSmall from.2 (list_small input.start input.count from.0 (ap length from.2 ∙ long)))
 
--- the sources of the table tell it
-told_all : (lists : List (List Row)) → All HasEachOnce lists → map told_rows (map fresh lists) ≡ map Some lists
+-- the sources in slots tell the table
+told_all : (lists : List (List Row)) → All HasEachOnce lists → map (λ slot. told_rows slot.source) (map fresh_slot lists) ≡ map Some lists
 told_all [] h = refl
 told_all (list ∷ lists) h =
-    ap (λ (told : Option (List Row)). told ∷ map told_rows (map fresh lists)) (told_whole list (h 0 list (omega arith)))
+    ap (λ (told : Option (List Row)). told ∷ map (λ slot. told_rows slot.source) (map fresh_slot lists)) (told_whole list (h 0 list (omega arith)))
     ∙ ap (λ (told : List (Option (List Row))). Some list ∷ told) (told_all lists (λ k d l. h (suc k) d (omega arith)))
 
-pub table_told : (input : BulkInput) → map told_rows (map fresh (table_of input)) ≡ map Some (table_of input)
+pub table_told : (input : BulkInput) → map (λ slot. told_rows slot.source) (map fresh_slot (table_of input)) ≡ map Some (table_of input)
 table_told input =
     told_all (table_of input)
     (all_from_members HasEachOnce (table_of input) (λ list c. (member_of_all IsRanked (table_of input) list (is_table input.start input.count input.lists).ranked c).distinct))
+
+-- there are as many slots as lists, and none has a feeder yet
+pub slots_long : (input : BulkInput) (slots : List (Slot Held)) → slots ≡ map fresh_slot (table_of input) → length slots ≡ input.lists
+slots_long input slots are = ap length are ∙ length-map (table_of input) fresh_slot ∙ table_long input
+
+none_in : (lists : List (List Row)) → All (λ (slot : Slot Held). slot.feeder ≡ None) (map fresh_slot lists)
+none_in lists =
+    all_from_members (λ (slot : Slot Held). slot.feeder ≡ None) (map fresh_slot lists) (λ slot c.
+    let from = contains_map_from fresh_slot lists slot c in sym (ap (λ (one : Slot Held). one.feeder) from.2))
+
+pub none_fed : (input : BulkInput) (slots : List (Slot Held)) → slots ≡ map fresh_slot (table_of input) → All (λ (slot : Slot Held). slot.feeder ≡ None) slots
+none_fed input slots are = subst (All (λ (slot : Slot Held). slot.feeder ≡ None)) (sym are) (none_in (table_of input))
 
 -- the lists of the table, in their order
 pub in_order : (D : List (List Row)) → map (list_at D) (list_numbers (length D)) ≡ D
@@ -127,26 +136,20 @@ all_ready_for input readies counts is are =
 pub all_counted : (input : BulkInput) (counts : List ℕ) → IsInput input → counts ≡ replicate input.lists input.count → All (λ count. count ≤ 200000) counts
 all_counted input counts within is = subst (All (λ count. count ≤ 200000)) (sym is) (All-replicate (λ count. count ≤ 200000) input.lists input.count within.few_objects)
 
--- a new world of them has a table for each query, which is the made one
+pub counts_long : (input : BulkInput) (counts : List ℕ) → counts ≡ replicate input.lists input.count → length counts ≡ input.lists
+counts_long input counts is = ap length is ∙ length-replicate input.lists input.count
+
+-- the lists of each are the made table
 pub made_lists : (input : BulkInput) (sources : List ℕ) → sources ≡ list_numbers input.lists → map (list_at (table_of input)) sources ≡ table_of input
 made_lists input sources is =
     ap (map (list_at (table_of input))) (is ∙ ap list_numbers (sym (table_long input))) ∙ in_order (table_of input)
 
-fresh_table : (input : BulkInput) (number : ℕ) (ready : Ready) (q : Inquiry) → IsMadeReady input number ready → IsFresh ready q → HasTable (table_of input) q
-fresh_table input number ready q made new =
-    let count : (state_of q.machine).log.count ≡ input.count = new.machine.begun.count ∙ made.count in
-    subst (λ n. IsTable n (lists_of (table_of input) q)) (sym count)
-    (subst (IsTable input.count) (sym (made_lists input q.sources.items (new.sources ∙ made.sources))) (is_table input.start input.count input.lists))
+has_table : (input : BulkInput) (number : ℕ) (ready : Ready) → IsMadeReady input number ready → IsTable ready.count (lists_for (table_of input) ready)
+has_table input number ready made =
+    subst (λ n. IsTable n (lists_for (table_of input) ready)) (sym made.count)
+    (subst (IsTable input.count) (sym (made_lists input ready.sources.items made.sources)) (is_table input.start input.count input.lists))
 
-pub all_have_tables : (input : BulkInput) (readies : List Ready) (counts : List ℕ) (w : WorldState) → AreMadeReady input readies → IsMade counts readies w
-    → All (HasTable (table_of input)) w.queries
-all_have_tables input readies counts w are made =
-    all_from_members (HasTable (table_of input)) w.queries (λ q c.
-    let ready = zip_member IsFresh readies w.queries q made.queries c in
-    let number = zip_member (IsMadeReady input) (range_with_len 0 input.queries) readies ready.0 are ready.1 in
-    fresh_table input number.0 ready.0 q number.2 ready.2)
-
--- and a state for each list
-pub made_long : (input : BulkInput) (counts : List ℕ) (readies : List Ready) (w : WorldState) → counts ≡ replicate input.lists input.count
-    → IsMade counts readies w → length w.states ≡ input.lists
-made_long input counts readies w is made = ap length made.states ∙ opened_length 0 counts ∙ ap length is ∙ length-replicate input.lists input.count
+pub all_have_tables : (input : BulkInput) (readies : List Ready) → AreMadeReady input readies → All (λ ready. IsTable ready.count (lists_for (table_of input) ready)) readies
+all_have_tables input readies are =
+    all_from_members (λ (ready : Ready). IsTable ready.count (lists_for (table_of input) ready)) readies (λ ready c.
+    let number = zip_member (IsMadeReady input) (range_with_len 0 input.queries) readies ready are c in has_table input number.0 ready number.2)

@@ -104,7 +104,8 @@ module _ (input : BulkInput) where
   abbrev EndsSo : ℕ → Ended → Type 0
   EndsSo number e = EndsInOne (query_of input number) (table_of input) e
 
-  figures_same : (f : Ended → ℕ) (one : Query → List (List Row) → ℕ) → ((number : ℕ) (e : Ended) → EndsSo number e → f e ≡ one (query_of input number) (table_of input))
+  figures_same : (f : Ended → ℕ) (one : Query → List (List Row) → ℕ)
+      → ((number : ℕ) (e : Ended) → EndsSo number e → f e ≡ one (query_of input number) (table_of input))
       → (numbers : List ℕ) (endings : List Ended) → AllZip EndsSo numbers endings → sum_by f endings ≡ sum_by (λ number. one (query_of input number) (table_of input)) numbers
   figures_same f one same [] [] h = refl
   figures_same f one same [] (e ∷ endings) h = absurd h
@@ -116,7 +117,8 @@ module _ (input : BulkInput) where
       let right = sum_by-cons (λ number. one (query_of input number) (table_of input)) number numbers in
       omega (arith, here, rest, left, right)
 
-  all_answered : (numbers : List ℕ) (endings : List Ended) → AllZip EndsSo numbers endings → sum_by (λ e. cond {A = ℕ} (is_answered e) 1 0) endings ≡ length numbers
+  all_answered : (numbers : List ℕ) (endings : List Ended) → AllZip EndsSo numbers endings
+      → sum_by (λ e. cond {A = ℕ} (is_answered e) 1 0) endings ≡ length numbers
   all_answered [] [] h = refl
   all_answered [] (e ∷ endings) h = absurd h
   all_answered (number ∷ numbers) [] h = absurd h

@@ -30,8 +30,7 @@ AreMadeReady input readies = AllZip (IsMadeReady input) (range_with_len 0 input.
 -- a query ended with its one answer over a table, which agrees with its transcript
 abbrev pub EndsInOne : Query → List (List Row) → Ended → Type 0
 EndsInOne q D (Answered answer) = IsOneAnswer q D answer × AgreesWith D answer.transcript
-EndsInOne q D (Core fault) = ⊥
-EndsInOne q D (Look list fault) = ⊥
+EndsInOne _ _ _ = ⊥
 
 -- each query ended with its one answer
 abbrev pub AllEndInOne : BulkInput → List Ended → Type 0
@@ -53,13 +52,11 @@ low_of answer = sum_by (λ item. item.low) answer.items
 -- a figure of an ending; nothing where the query was refused
 abbrev pub figure_of : (Answer → ℕ) → Ended → ℕ
 figure_of figure (Answered answer) = figure answer
-figure_of figure (Core fault) = 0
-figure_of figure (Look list fault) = 0
+figure_of _ _ = 0
 
 abbrev pub is_answered : Ended → Bool
 is_answered (Answered answer) = true
-is_answered (Core fault) = false
-is_answered (Look list fault) = false
+is_answered _ = false
 
 -- the sums over endings
 abbrev pub sums_over : List Ended → BulkSums

@@ -6,6 +6,8 @@ use Rattle.source_api.specs.declared.counts.Counts.{Counts}
 use Rattle.source_api.specs.Told.{HasEachOnce, IsGrade}
 use Rattle.source_api.specs.InMemory.{told_of}
 use Rattle.source_api.specs.EachOnce.{told_law}
+use Rattle.fetcher.specs.declared.slot.Slot.{Slot}
+use Rattle.fetcher.specs.Metering.{nothing}
 
 -- the rows, and how many rows and grades were given
 pub record Held : Type 0 where
@@ -16,6 +18,13 @@ pub record Held : Type 0 where
 -- a source of a list of which nothing was asked yet
 abbrev pub fresh : List Row → Held
 fresh rows = record { rows = rows; rows_given = 0; grades_given = 0 }
+
+-- a slot with a source, which has no feeder yet; a slot with a source of a list of which nothing was asked yet
+abbrev pub new_slot : Held → Slot Held
+new_slot source = record { source = source; feeder = None; fetched = nothing }
+
+abbrev pub fresh_slot : List Row → Slot Held
+fresh_slot rows = new_slot (fresh rows)
 
 -- its rows are told where no object comes twice
 abbrev pub told_rows : Held → Option (List Row)

@@ -12,3 +12,8 @@ figure before number = before ++ decimal number
 abbrev pub sums_text : BulkSums → List ℕ
 sums_text sums = concat (figure (codes "bulk queries ") sums.queries ∷ figure (codes " answered ") sums.answered ∷ figure (codes " depth ") sums.depth
     ∷ figure (codes " sorted ") sums.sorted ∷ figure (codes " random ") sums.random ∷ figure (codes " values ") sums.values ∷ codes "\n" ∷ [])
+
+-- the end of it, from the sorted accesses on
+abbrev pub accesses_text : BulkSums → List ℕ
+accesses_text sums = concat (figure (codes " sorted ") sums.sorted ∷ figure (codes " random ") sums.random ∷ figure (codes " values ") sums.values
+    ∷ codes "\n" ∷ [])

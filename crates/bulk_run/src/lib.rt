@@ -5,6 +5,7 @@ mod input;
 mod made_source;
 mod readies;
 mod run;
+mod slots;
 mod sums;
 mod writing;
 

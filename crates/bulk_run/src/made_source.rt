@@ -2,7 +2,7 @@
 
 ghost use Rattle.std.specs.Prelude.{◌≡◌, ◌≤◌, All, length, IfOk};
 ghost use Rattle.std.specs.List.{slice_index_or};
-ghost use Rattle.bulk_run.specs.Held.{fresh, grade_at, AreSmall};
+ghost use Rattle.bulk_run.specs.Held.{fresh, grade_at, AreSmall, AreGradesOf};
 
 use super::Memory;
 use ranked_list::{MemList, Row};
@@ -40,20 +40,38 @@ fn grade_at(grades: &[Option<u32>], object: u32) -> Option<u32>
     }
 }
 
+/// The rows of a list.
+fn rows_of(alloc: Global, list: &MemList) -> Result<Vec<Row>, Memory>
+    ensures { IfOk result (λ rows. rows.items ≡ list.now) }
+{
+    let mut rows = Vec::with_capacity(alloc, list.len() as usize)?;
+    for row in list.iter() {
+        rows.push(*row)?;
+    }
+    Ok(rows)
+}
+
+/// The grades of a list, each at the number of its object.
+fn grades_of(alloc: Global, list: &MemList) -> Result<Vec<Option<u32>>, Memory>
+    requires { AreSmall list.now }
+    ensures { IfOk result (λ grades. AreGradesOf list.now grades.items) }
+{
+    let mut grades = Vec::new(alloc);
+    grades.resize(list.len() as usize + 1, None)?;
+    for row in list.iter() {
+        grades[row.object as usize] = Some(row.grade);
+    }
+    Ok(grades)
+}
+
 impl MadeSource {
     /// A source of this list, of which nothing was asked yet. Takes memory for the rows and for a grade of each object.
     pub fn make(alloc: Global, list: &MemList) -> Result<MadeSource, Memory>
         requires { AreSmall list.now }
         ensures { IfOk result (λ source. source ≡ fresh list.now) }
     {
-        let size = list.len() as usize;
-        let mut rows = Vec::with_capacity(alloc, size)?;
-        let mut grades = Vec::new(alloc);
-        grades.resize(size + 1, None)?;
-        for row in list.iter() {
-            grades[row.object as usize] = Some(row.grade);
-            rows.push(*row)?;
-        }
+        let rows = rows_of(alloc, list)?;
+        let grades = grades_of(alloc, list)?;
         Ok(MadeSource {
             rows,
             grades,

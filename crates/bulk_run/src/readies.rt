@@ -30,7 +30,11 @@ fn made_ready(alloc: Global, number: u32, input: BulkInput) -> Result<Ready, Mem
     let Ok(query) = made_query(alloc, number, input.count, input.lists) else {
         return Err(Memory);
     };
-    let sources = source_numbers(alloc, query.expr.lists())?;
+    let lists = query.expr.lists();
+    let Ok(sources) = source_numbers(alloc, lists) else {
+        drop(query);
+        return Err(Memory);
+    };
     Ok(Ready {
         query,
         count: input.count,

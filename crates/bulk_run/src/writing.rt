@@ -5,7 +5,7 @@ ghost use Rattle.std.specs.Io.KnownBytes.{Appends};
 ghost use Rattle.tk_io.specs.Faults.{HasCause};
 ghost use Rattle.tk_io.specs.Pieces.{Puts};
 ghost use Rattle.tk_io.specs.Whole.{TookFront};
-ghost use Rattle.bulk_run.specs.Text.{figure, sums_text};
+ghost use Rattle.bulk_run.specs.Text.{figure, accesses_text, sums_text};
 
 use super::sums::BulkSums;
 use tk_io::{Failed, Pieces, Sink};
@@ -18,6 +18,16 @@ fn put_figure<K: Sink>(out: &mut K, pieces: &mut Pieces, before: &[u8], number: 
     pieces.put_number(out, number);
 }
 
+/// Puts the figures of the accesses and the values, and the end of the line, behind the bytes that wait.
+fn put_accesses<K: Sink>(out: &mut K, pieces: &mut Pieces, sums: &BulkSums)
+    ensures { Puts (K.held out.old) (K.held out.new) (K.faults out.old) (K.faults out.new) pieces.old pieces.new (accesses_text sums.now) }
+{
+    put_figure(out, pieces, b" sorted ", sums.sorted);
+    put_figure(out, pieces, b" random ", sums.random);
+    put_figure(out, pieces, b" values ", sums.values);
+    pieces.put(out, b"\n");
+}
+
 /// Puts the line of sums behind the bytes that wait.
 fn put_sums<K: Sink>(out: &mut K, pieces: &mut Pieces, sums: &BulkSums)
     ensures { Puts (K.held out.old) (K.held out.new) (K.faults out.old) (K.faults out.new) pieces.old pieces.new (sums_text sums.now) }
@@ -25,10 +35,7 @@ fn put_sums<K: Sink>(out: &mut K, pieces: &mut Pieces, sums: &BulkSums)
     put_figure(out, pieces, b"bulk queries ", sums.queries);
     put_figure(out, pieces, b" answered ", sums.answered);
     put_figure(out, pieces, b" depth ", sums.depth);
-    put_figure(out, pieces, b" sorted ", sums.sorted);
-    put_figure(out, pieces, b" random ", sums.random);
-    put_figure(out, pieces, b" values ", sums.values);
-    pieces.put(out, b"\n");
+    put_accesses(out, pieces, sums);
 }
 
 /// Writes the line of sums: `bulk queries QUERIES answered ANSWERED depth DEPTH sorted SORTED random RANDOM values VALUES`. Takes no

@@ -1,23 +1,68 @@
 //! Rows of inputs with the lines that they come to.
 
-ghost use Rattle.world_run.specs.Runs.{AreSettings};
+ghost use Rattle.batch_run.specs.Ranges.{AreSettings};
 ghost use Rattle.bulk_run.specs.Sums.{IsInput};
 
+use batch_run::Settings;
 use bulk_run::{BulkInput, run_bulk, write_sums};
 use std::alloc::Global;
-use std::test::Fail;
+use std::sync::Wait;
+use std::test::*;
+use std::thread::Threads;
 use tk_io::{MemSink, Sink};
-use world_run::Settings;
 
 /// What is written of an input that is run with these settings.
-fn written(alloc: Global, input: BulkInput, settings: Settings) -> Result<MemSink, Fail>
+fn written<R: Threads + Wait + Sync>(
+    rt: &R,
+    alloc: Global,
+    input: BulkInput,
+    settings: Settings,
+) -> Result<MemSink, Fail>
     requires input { IsInput input }
     requires settings { AreSettings settings }
 {
-    let sums = run_bulk(alloc, input, settings)?;
+    let sums = run_bulk(rt, alloc, input, settings)?;
     let mut out = MemSink::make(alloc, 1000, &[])?;
     write_sums(&mut out, &sums)?;
     Ok(out)
+}
+
+/// One query after another, over pages of 100 rows.
+const ALONE: Settings = Settings {
+    workers: 1,
+    page: 100,
+    ahead: 0,
+};
+
+/// Eight queries at the same time, over pages of 50 rows, two of them read ahead.
+const EIGHT: Settings = Settings {
+    workers: 8,
+    page: 50,
+    ahead: 2,
+};
+
+/// As many workers as there may be, over pages of one row.
+const MOST: Settings = Settings {
+    workers: 32,
+    page: 1,
+    ahead: 2,
+};
+
+/// No query.
+const NONE: BulkInput = BulkInput {
+    start: 7,
+    count: 100,
+    lists: 3,
+    queries: 0,
+};
+
+const NONE_LINE: &str = "bulk queries 0 answered 0 depth 0 sorted 0 random 0 values 0\n";
+
+#[test]
+fn no_query(rt: HostRuntime) -> Result<(), Fail> {
+    let out = written(&rt, rt.alloc(), NONE, EIGHT)?;
+    assert_eq!(rt; out.taken(), NONE_LINE.as_bytes());
+    Ok(())
 }
 
 const ONE_ROW: BulkInput = BulkInput {
@@ -29,6 +74,13 @@ const ONE_ROW: BulkInput = BulkInput {
 
 const ONE_ROW_LINE: &str = "bulk queries 1 answered 1 depth 1 sorted 1 random 0 values 951640\n";
 
+#[test]
+fn one_row(rt: HostRuntime) -> Result<(), Fail> {
+    let out = written(&rt, rt.alloc(), ONE_ROW, MOST)?;
+    assert_eq!(rt; out.taken(), ONE_ROW_LINE.as_bytes());
+    Ok(())
+}
+
 const THREE_LISTS: BulkInput = BulkInput {
     start: 7,
     count: 100,
@@ -39,76 +91,66 @@ const THREE_LISTS: BulkInput = BulkInput {
 const THREE_LISTS_LINE: &str =
     "bulk queries 6 answered 6 depth 164 sorted 492 random 196 values 43899669\n";
 
-/// One query after another, over pages of all rows.
-const ALONE: Settings = Settings {
-    workers: 1,
-    page: 100,
-    ahead: 0,
-};
-
-/// All queries in turn, over pages of one row.
-const TOGETHER: Settings = Settings {
-    workers: 32,
-    page: 1,
-    ahead: 2,
-};
-
-#[test]
-fn one_row(rt: HostRuntime) -> Result<(), Fail> {
-    let out = written(rt.alloc(), ONE_ROW, ALONE)?;
-    assert_eq!(rt; out.taken(), ONE_ROW_LINE.as_bytes());
-    Ok(())
-}
-
 #[test]
 fn queries_alone(rt: HostRuntime) -> Result<(), Fail> {
-    let out = written(rt.alloc(), THREE_LISTS, ALONE)?;
+    let out = written(&rt, rt.alloc(), THREE_LISTS, ALONE)?;
     assert_eq!(rt; out.taken(), THREE_LISTS_LINE.as_bytes());
     Ok(())
 }
 
 #[test]
-fn queries_together(rt: HostRuntime) -> Result<(), Fail> {
-    let out = written(rt.alloc(), THREE_LISTS, TOGETHER)?;
+fn queries_on_eight_workers(rt: HostRuntime) -> Result<(), Fail> {
+    let out = written(&rt, rt.alloc(), THREE_LISTS, EIGHT)?;
     assert_eq!(rt; out.taken(), THREE_LISTS_LINE.as_bytes());
     Ok(())
 }
 
-/// Four lists of 2,000 rows, and queries whose k, expression, algorithm and costs differ.
+#[test]
+fn more_workers_than_queries(rt: HostRuntime) -> Result<(), Fail> {
+    let out = written(&rt, rt.alloc(), THREE_LISTS, MOST)?;
+    assert_eq!(rt; out.taken(), THREE_LISTS_LINE.as_bytes());
+    Ok(())
+}
+
+/// Eight lists of five rows, so that five objects are the most that a query asks for.
+const EIGHT_LISTS: BulkInput = BulkInput {
+    start: 9,
+    count: 5,
+    lists: 8,
+    queries: 12,
+};
+
+const EIGHT_LISTS_LINE: &str =
+    "bulk queries 12 answered 12 depth 41 sorted 328 random 156 values 172080129\n";
+
+#[test]
+fn eight_fetchers(rt: HostRuntime) -> Result<(), Fail> {
+    let out = written(&rt, rt.alloc(), EIGHT_LISTS, EIGHT)?;
+    assert_eq!(rt; out.taken(), EIGHT_LISTS_LINE.as_bytes());
+    Ok(())
+}
+
+/// Four lists of 200 rows, and queries whose k, expression, algorithm and costs differ.
 const FOUR_LISTS: BulkInput = BulkInput {
     start: 7,
-    count: 2000,
+    count: 200,
     lists: 4,
-    queries: 40,
+    queries: 20,
 };
 
 const FOUR_LISTS_LINE: &str =
-    "bulk queries 40 answered 40 depth 13653 sorted 54612 random 32548 values 800007208\n";
-
-/// One query after another, over pages of 50 rows.
-const ONE_IN_TURN: Settings = Settings {
-    workers: 1,
-    page: 50,
-    ahead: 2,
-};
-
-/// Eight queries in turn at once, over the same pages.
-const EIGHT_IN_TURN: Settings = Settings {
-    workers: 8,
-    page: 50,
-    ahead: 2,
-};
+    "bulk queries 20 answered 20 depth 1126 sorted 4504 random 2800 values 358564775\n";
 
 #[test]
-fn forty_queries_alone(rt: HostRuntime) -> Result<(), Fail> {
-    let out = written(rt.alloc(), FOUR_LISTS, ONE_IN_TURN)?;
+fn twenty_queries_alone(rt: HostRuntime) -> Result<(), Fail> {
+    let out = written(&rt, rt.alloc(), FOUR_LISTS, ALONE)?;
     assert_eq!(rt; out.taken(), FOUR_LISTS_LINE.as_bytes());
     Ok(())
 }
 
 #[test]
-fn forty_queries_eight_at_once(rt: HostRuntime) -> Result<(), Fail> {
-    let out = written(rt.alloc(), FOUR_LISTS, EIGHT_IN_TURN)?;
+fn twenty_queries_on_eight_workers(rt: HostRuntime) -> Result<(), Fail> {
+    let out = written(&rt, rt.alloc(), FOUR_LISTS, EIGHT)?;
     assert_eq!(rt; out.taken(), FOUR_LISTS_LINE.as_bytes());
     Ok(())
 }

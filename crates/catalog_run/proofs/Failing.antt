@@ -1,47 +1,38 @@
 -- A query that is refused because a call failed is refused for one of the source of its list, and that stands behind a count of the shelf.
-use Rattle.std.proofs.Common.{◌≡◌, ℕ, zero, suc, ◌+◌, ◌-◌, ◌^◌, ◌<◌, ◌≤◌, min, Bool, true, false, List, [], ◌∷◌, All, Contains, length, reverse, inl, inr, Option, None, Some, slice_get, slice_index_or, refl, sym, ap, ◌∙◌, subst, arith}
+use Rattle.std.proofs.Common.{◌≡◌, ℕ, zero, suc, ◌+◌, ◌-◌, ◌^◌, ◌<◌, ◌≤◌, min, Bool, true, false, List, [], ◌∷◌, Contains, length, reverse, inl, inr, Some, slice_index_or, refl, sym, ap, ◌∙◌, subst, arith}
 use Rattle.std.specs.Prelude.{if◌then◌else◌}
 use Rattle.std.specs.Str.{bytes_eq}
-use Rattle.std.specs.List.{AllZip, sum_by}
-use Rattle.std.proofs.lemmas.Option.{same_Some}
+use Rattle.std.specs.List.{count_by, sum_by}
+use Rattle.std.proofs.lemmas.Bool.{cases_lt, false≢true}
 use Rattle.std.proofs.lemmas.List.{reverse-append}
 use Rattle.std.proofs.lemmas.List.Elements.{Contains-append_left, Contains-append_right}
 use Rattle.std.proofs.lemmas.List.Sums.{get_or-le-sum_by, sum_by-cons}
 use Rattle.std.proofs.lemmas.Slice.Eq.{bytes_eq-Decides}
 use Rattle.tk_io.specs.Faults.{Rose}
-use Rattle.ranked_list.specs.declared.row.Row.{Row}
-use Rattle.topk_theory.proofs.AgreementLists.{contains_nil, contains_here, contains_there, contains_cases, slice_get_from_read}
+use Rattle.topk_theory.proofs.AgreementLists.{contains_nil, contains_here, contains_there, contains_cases}
+use Rattle.nra_theory.proofs.Counts.{none_counted}
 use Rattle.source_api.specs.declared.counts.Counts.{Counts}
 use Rattle.source_api.specs.Counting.{added, raised}
 use Rattle.source_state.specs.declared.entry.FailKind.{FailKind}
-use Rattle.source_state.specs.declared.entry.FailKind.TheVariants.{Failed, Garbled}
-use Rattle.source_state.specs.declared.look.Look.{Look}
-use Rattle.source_state.specs.declared.look.Look.TheVariants as look
 use Rattle.source_state.specs.declared.look.LookFault.{LookFault}
-use Rattle.source_state.specs.Looking.{refusal_of}
-use Rattle.query_core.specs.declared.ready.Ready.{Ready as ReadyQuery}
-use Rattle.query_world.specs.declared.ended.Refusal.{Refusal}
+use Rattle.source_state.specs.State.{State}
+use Rattle.query_core.specs.Machines.{state_of}
 use Rattle.query_world.specs.declared.ended.Refusal.TheVariants as refusal
 use Rattle.query_world.specs.declared.inquiry.Inquiry.{Inquiry}
-use Rattle.query_world.specs.declared.step.Step.{Step}
-use Rattle.query_world.specs.declared.step.Step.TheVariants.{Fail, Turn}
-use Rattle.query_world.specs.Worlds.{WorldState, needed, list_needed, source_needed}
-use Rattle.query_world.specs.Steps.{Answers, MayStep, RowTaken}
-use Rattle.query_world.specs.Runs.{Runs}
-use Rattle.query_world.specs.Kept.{IsWorld}
-use Rattle.query_world.specs.Made.{AreOf, IsMade, IsOf, IsReadyFor}
-use Rattle.query_world.specs.Fails.{IsToldOfFail}
-use Rattle.query_world.proofs.Stepping.{made_of, made_world, ran, stepped}
-use Rattle.world_run.specs.declared.settings.Settings.{Settings}
-use Rattle.world_run.specs.Runs.{IsRunBy, counts_at}
-use Rattle.world_run.proofs.Running.{run_causes}
+use Rattle.query_world.specs.Worlds.{state_at, needed, list_needed, source_needed, source_of}
+use Rattle.query_world.specs.Causes.{IsCause, IsOfList}
+use Rattle.query_world.specs.Kept.{IsServed}
+use Rattle.query_world.proofs.Serving.{listed, of_some_list}
+use Rattle.batch_run.specs.Numbered.{counts_at}
+use Rattle.batch_run.specs.Using.{IsFewFor, is_fail, is_refused_for}
+use Rattle.batch_run.proofs.EndingLaws.{counted_for, no_calls}
 use Rattle.catalog_text.specs.Catalog.{Listed as Entry}
 use Rattle.catalog_open.specs.Views.{entry_at}
-use Rattle.catalog_open.specs.Openings.{Counted, Used, used_at, added_all, Moves, put_back}
-use Rattle.limits.specs.declared.TheConstants.{MAX_OBJECTS}
+use Rattle.catalog_open.specs.Openings.{Counted, Used, used_at, added_all, PutsBack, put_back}
+use Rattle.catalog_run.proofs.Writable.{of_list_is}
 
 -- what is counted of sources that were put back
-faults_sum : (c : Counts) (xs : List Counts) → min (added_all c xs).faults (2 ^ 64 - 1) ≡ min (c.faults + sum_by (λ (x : Counts). x.faults) xs) (2 ^ 64 - 1)
+pub faults_sum : (c : Counts) (xs : List Counts) → min (added_all c xs).faults (2 ^ 64 - 1) ≡ min (c.faults + sum_by (λ (x : Counts). x.faults) xs) (2 ^ 64 - 1)
 faults_sum c [] = let none : sum_by (λ (x : Counts). x.faults) [] ≡ 0 = refl in omega (arith, none)
 faults_sum c (x ∷ xs) =
     let rest = faults_sum (added c x) xs in
@@ -49,7 +40,7 @@ faults_sum c (x ∷ xs) =
     let more : sum_by (λ (y : Counts). y.faults) (x ∷ xs) ≡ x.faults + sum_by (λ (y : Counts). y.faults) xs = sum_by-cons (λ (y : Counts). y.faults) x xs in
     omega (arith, rest, here, more)
 
-garbles_sum : (c : Counts) (xs : List Counts) → min (added_all c xs).garbles (2 ^ 64 - 1) ≡ min (c.garbles + sum_by (λ (x : Counts). x.garbles) xs) (2 ^ 64 - 1)
+pub garbles_sum : (c : Counts) (xs : List Counts) → min (added_all c xs).garbles (2 ^ 64 - 1) ≡ min (c.garbles + sum_by (λ (x : Counts). x.garbles) xs) (2 ^ 64 - 1)
 garbles_sum c [] = let none : sum_by (λ (x : Counts). x.garbles) [] ≡ 0 = refl in omega (arith, none)
 garbles_sum c (x ∷ xs) =
     let rest = garbles_sum (added c x) xs in
@@ -61,28 +52,24 @@ member_sum : (f : Counts → ℕ) (xs : List Counts) (x : Counts) → Contains x
 member_sum f xs x c = subst (λ (y : Counts). f y ≤ sum_by f xs) c.2 (get_or-le-sum_by f xs c.0 x c.1)
 
 -- where one that was put back had met trouble, a count rose
-pub rose_faults : (used back : List Used) (before mid after : Counted) (place : List ℕ) (x : Counts) → Moves used before mid → Moves back mid after
-    → Contains (used_at place back) x → 1 ≤ x.faults → Rose (before place).sources.faults (after place).sources.faults
-rose_faults used back before mid after place x first second c some =
-    let m = faults_sum (before place).sources (used_at place used) in
+pub rose_faults : (back : List Used) (mid after : Counted) (place : List ℕ) (x : Counts) → PutsBack back mid after → Contains (used_at place back) x
+    → 1 ≤ x.faults → Rose (mid place).sources.faults (after place).sources.faults
+rose_faults back mid after place x puts c some =
     let n = faults_sum (mid place).sources (used_at place back) in
-    let is_mid : (mid place).sources.faults ≡ (added_all (before place).sources (used_at place used)).faults = ap (λ (k : Counts). k.faults) (first.sources place) in
-    let is_after : (after place).sources.faults ≡ (added_all (mid place).sources (used_at place back)).faults = ap (λ (k : Counts). k.faults) (second.sources place) in
+    let is_after : (after place).sources.faults ≡ (added_all (mid place).sources (used_at place back)).faults = ap (λ (k : Counts). k.faults) (puts.sources place) in
     let one : x.faults ≤ sum_by (λ (y : Counts). y.faults) (used_at place back) = member_sum (λ (y : Counts). y.faults) (used_at place back) x c in
-    omega (arith, m, n, is_mid, is_after, one, some)
+    omega (arith, n, is_after, one, some)
 
-pub rose_garbles : (used back : List Used) (before mid after : Counted) (place : List ℕ) (x : Counts) → Moves used before mid → Moves back mid after
-    → Contains (used_at place back) x → 1 ≤ x.garbles → Rose (before place).sources.garbles (after place).sources.garbles
-rose_garbles used back before mid after place x first second c some =
-    let m = garbles_sum (before place).sources (used_at place used) in
+pub rose_garbles : (back : List Used) (mid after : Counted) (place : List ℕ) (x : Counts) → PutsBack back mid after → Contains (used_at place back) x
+    → 1 ≤ x.garbles → Rose (mid place).sources.garbles (after place).sources.garbles
+rose_garbles back mid after place x puts c some =
     let n = garbles_sum (mid place).sources (used_at place back) in
-    let is_mid : (mid place).sources.garbles ≡ (added_all (before place).sources (used_at place used)).garbles = ap (λ (k : Counts). k.garbles) (first.sources place) in
-    let is_after : (after place).sources.garbles ≡ (added_all (mid place).sources (used_at place back)).garbles = ap (λ (k : Counts). k.garbles) (second.sources place) in
+    let is_after : (after place).sources.garbles ≡ (added_all (mid place).sources (used_at place back)).garbles = ap (λ (k : Counts). k.garbles) (puts.sources place) in
     let one : x.garbles ≤ sum_by (λ (y : Counts). y.garbles) (used_at place back) = member_sum (λ (y : Counts). y.garbles) (used_at place back) x c in
-    omega (arith, m, n, is_mid, is_after, one, some)
+    omega (arith, n, is_after, one, some)
 
 -- what a source had counted is among what was put back at its place
-contains_back : {X : Type 0} → (xs : List X) (x : X) → Contains xs x → Contains (reverse xs) x
+pub contains_back : {X : Type 0} → (xs : List X) (x : X) → Contains xs x → Contains (reverse xs) x
 contains_back [] x c = absurd (contains_nil x c)
 contains_back (y ∷ xs) x c =
     subst (λ zs. Contains zs x) (sym (reverse-append (y ∷ []) xs))
@@ -98,7 +85,8 @@ used_one (u ∷ used) one c = elim (contains_cases u used one c) [
   | inr there ↦ later (bytes_eq u.place one.place) (used_one used one there)
 ]
   where
-    later : (b : Bool) → Contains (used_at one.place used) one.counts → Contains (if b then u.counts ∷ used_at one.place used else used_at one.place used) one.counts
+    later : (b : Bool) → Contains (used_at one.place used) one.counts
+        → Contains (if b then u.counts ∷ used_at one.place used else used_at one.place used) one.counts
     later true c = contains_there u.counts (used_at one.place used) one.counts c
     later false c = c
 
@@ -122,96 +110,40 @@ counted_back catalog places now source l m =
     let one : Used = record { place = (entry_at catalog (slice_index_or places source 0)).place; counts = counts_at now source } in
     used_one (reverse (put_back catalog places now)) one (contains_back (put_back catalog places now) one (back_one catalog places now source l m))
 
--- a source that fails among lawful steps is there
-fail_within : (steps : List Step) (w last : WorldState) (source : ℕ) (what : FailKind) → IsWorld w → Runs w steps last → Contains steps (Fail source what)
-    → source < length w.states
-fail_within [] w last source what world runs c = absurd (contains_nil (Fail source what) c)
-fail_within (step ∷ steps) w last source what world runs c =
-    elim (contains_cases step steps (Fail source what) c) [
-      | inl same ↦ (subst (MayStep w) same runs.1).0
-      | inr there ↦
-          let one = stepped step w runs.0 world runs.1 runs.2 in
-          let long = one.later.sources in
-          let rest = fail_within steps runs.0 last source what one.world runs.3 there in
-          omega (arith, long, rest)
-    ]
+-- the list for which a query is refused is one of its own, and that of its need
+pub record IsNeeded (q : Inquiry) (list : ℕ) : Type 0 where
+  pub of : list < length q.sources.items
+  pub is : source_of q list ≡ source_needed q
 
--- the members of two lists that go together
-zip_at : {A B : Type 0} (R : A → B → Type 0) (xs : List A) (ys : List B) (i : ℕ) (d : A) (y : B) → AllZip R xs ys → slice_get ys i ≡ Some y
-    → R (slice_index_or xs i d) y
-zip_at R [] [] i d y zip e = absurd cc
-zip_at R [] (b ∷ ys) i d y zip e = absurd zip
-zip_at R (a ∷ xs) [] i d y zip e = absurd zip
-zip_at R (a ∷ xs) (b ∷ ys) zero d y zip e = subst (R a) (same_Some b y e) zip.0
-zip_at R (a ∷ xs) (b ∷ ys) (suc i) d y zip e = zip_at R xs ys i d y zip.1 e
+pub refused_there : (states : List State) (q : Inquiry) (list : ℕ) (f : LookFault) → IsServed states q → q.refusal ≡ Some (refusal.Look list f)
+    → IsNeeded q list
+refused_there states q list f served e =
+    let cause : IsCause (state_at states (source_needed q)) (state_of q.machine) q.waiting.noted (Some (refusal.Look list f)) =
+    subst (IsCause (state_at states (source_needed q)) (state_of q.machine) q.waiting.noted) e served.cause in
+    let of_list : IsOfList list (needed q) = cause.0 in
+    let l = listed states q served.sources served.run (of_some_list list (needed q) of_list) in
+    let same : list_needed (needed q) ≡ list = of_list_is list (needed q) of_list in
+    record { of = omega (arith, l, same); is = ap (source_of q) (sym same) }
 
--- a turn that refuses a query for a list looked at that list
-looked_list : (q r : Inquiry) (answer : Look) (list : ℕ) (fault : LookFault) → Answers q r answer → r.refusal ≡ Some (refusal.Look list fault)
-    → list_needed (needed q) ≡ list
-looked_list q r (look.Row row) list fault answers e = absurd (subst (RowTaken row q r) e answers)
-looked_list q r (look.Grade grade) list fault answers e = absurd (none_some (sym answers.0 ∙ e))
-  where
-    none_some : {x : Refusal} → None ≡ Some x → ⊥
-    none_some e = cc
-looked_list q r look.NotYet list fault answers e = absurd (none_some (sym answers.0 ∙ e))
-  where
-    none_some : {x : Refusal} → None ≡ Some x → ⊥
-    none_some e = cc
-looked_list q r (look.Fault other) list fault answers e =
-    let same : refusal.Look (list_needed (needed q)) other ≡ refusal.Look list fault = same_Some _ _ (sym answers.0 ∙ e) in
-    cc
+counted_one : {X : Type 0} (p : X → Bool) (xs : List X) (x : X) → Contains xs x → p x ≡ true → 1 ≤ count_by p xs
+counted_one p xs x c passes = elim (cases_lt 0 (count_by p xs)) [
+  | inl some ↦ omega (arith, some)
+  | inr none ↦ absurd (false≢true (sym (none_counted p xs x none c) ∙ passes))
+]
 
--- each query that is refused because a call failed was told so while it waited
-abbrev pub FailsAreTold : Type 0
-FailsAreTold = (counts : List ℕ) (readies : List ReadyQuery) (first : WorldState) (steps : List Step) (last : WorldState)
-    → All (λ count. count ≤ MAX_OBJECTS) counts → All (IsReadyFor counts) readies → IsMade counts readies first → Runs first steps last
-    → (query : ℕ) (q : Inquiry) (list : ℕ) (what : FailKind) → slice_get last.queries query ≡ Some q → q.refusal ≡ Some (refusal.Look list (refusal_of what))
-    → IsToldOfFail first steps last query list what
+-- where a query is refused for calls of a kind the source has counted some
+some_calls : (workers lines calls before now : ℕ) → 1 ≤ lines → IsFewFor workers lines calls before now → 1 ≤ now
+some_calls workers lines calls before now some few = elim (cases_lt 0 now) [
+  | inl counted ↦ omega (arith, counted)
+  | inr none ↦ absurd (let no_lines = no_calls workers lines calls before now few (λ rose. absurd (omega (arith, rose, none))) in omega (arith, some, no_lines))
+]
 
--- a source failed among the steps of a world
-pub record HasFail (steps : List Step) (first : WorldState) (source : ℕ) (what : FailKind) : Type 0 where
-  pub within : source < length first.states
-  pub fails : Contains steps (Fail source what)
-
--- that of the list for which the query is refused
-pub fail_of_list : FailsAreTold → (counts : List ℕ) (readies : List ReadyQuery) (first : WorldState) (steps : List Step) (last : WorldState)
-    → All (λ count. count ≤ MAX_OBJECTS) counts → All (IsReadyFor counts) readies → IsMade counts readies first → Runs first steps last
-    → (q : Inquiry) (ready : ReadyQuery) (list : ℕ) (what : FailKind) → Contains last.queries q → q.refusal ≡ Some (refusal.Look list (refusal_of what))
-    → HasFail steps first (slice_index_or q.sources.items list 0) what
-fail_of_list law counts readies first steps last small ready made runs q any list what c refused =
-    let at : slice_get last.queries c.0 ≡ Some q = slice_get_from_read last.queries c.0 q c.1 ∙ ap Some c.2 in
-    let told = law counts readies first steps last small ready made runs c.0 q list what at refused in
-    let world = made_world counts readies first small ready made in
-    let of = made_of counts readies first made in
-    let t = told.turn in
-    let here : AreOf readies told.before = (ran told.front first told.before world told.ran).1 readies of in
-    let there : AreOf readies last = (ran steps first last world runs).1 readies of in
-    let of_turn : IsOf (slice_index_or readies c.0 any) t.q = zip_at IsOf readies told.before.queries c.0 any t.q here t.is in
-    let of_last : IsOf (slice_index_or readies c.0 any) q = zip_at IsOf readies last.queries c.0 any q there at in
-    let sources : t.q.sources.items ≡ q.sources.items = of_turn.sources ∙ sym of_last.sources in
-    let list_is : list_needed (needed t.q) ≡ list = looked_list t.q t.r t.turns.answer list (refusal_of what) t.turns.answers told.refused in
-    let source_is : source_needed t.q ≡ slice_index_or q.sources.items list 0 = ap (λ l. slice_index_or t.q.sources.items l 0) list_is ∙ ap (λ (s : List ℕ). slice_index_or s list 0) sources in
-    let s = told.since in
-    let in_front : Contains told.front (Fail (source_needed t.q) what) =
-    subst (λ (ss : List Step). Contains ss (Fail (source_needed t.q) what)) (sym s.order)
-    (Contains-append_right s.earlier (Turn c.0 ∷ s.later) (Fail (source_needed t.q) what) (contains_there (Turn c.0) s.later (Fail (source_needed t.q) what) s.fails)) in
-    let in_all : Contains steps (Fail (source_needed t.q) what) =
-    subst (λ (ss : List Step). Contains ss (Fail (source_needed t.q) what)) (sym told.order)
-    (Contains-append_left told.front (Turn c.0 ∷ told.rest) (Fail (source_needed t.q) what) in_front) in
-    let fails : Contains steps (Fail (slice_index_or q.sources.items list 0) what) = subst (λ source. Contains steps (Fail source what)) source_is in_all in
-    record { within = fail_within steps first last (slice_index_or q.sources.items list 0) what world runs fails; fails = fails }
-
--- a source that failed has counted it
-pub failed_counted : (settings : Settings) (told : List (Option (List Row))) (before now : List Counts) (first last : WorldState)
-    (run : IsRunBy settings told before now first last) (source : ℕ) → source < length before → Contains run.steps (Fail source Failed)
-    → 1 ≤ (counts_at now source).faults
-failed_counted settings told before now first last run source l c =
-    let rose : Rose (counts_at before source).faults (counts_at now source).faults = (run_causes settings told before now first last run source l).failed c in
-    omega (arith, rose)
-
-pub garbled_counted : (settings : Settings) (told : List (Option (List Row))) (before now : List Counts) (first last : WorldState)
-    (run : IsRunBy settings told before now first last) (source : ℕ) → source < length before → Contains run.steps (Fail source Garbled)
-    → 1 ≤ (counts_at now source).garbles
-garbled_counted settings told before now first last run source l c =
-    let rose : Rose (counts_at before source).garbles (counts_at now source).garbles = (run_causes settings told before now first last run source l).garbled c in
-    omega (arith, rose)
+pub calls_behind : (what : FailKind) (fault : LookFault) (states : List State) (queries : List Inquiry) (q : Inquiry) (list workers calls before now : ℕ)
+    → is_fail what fault ≡ true → IsServed states q → Contains queries q → q.refusal ≡ Some (refusal.Look list fault)
+    → IsFewFor workers (count_by (is_refused_for what (source_of q list)) queries) calls before now → 1 ≤ now
+calls_behind what fault states queries q list workers calls before now is served c e few =
+    let there = refused_there states q list fault served e in
+    let refused : is_refused_for what (source_of q list) q ≡ true =
+    subst (λ source. is_refused_for what source q ≡ true) (sym there.is) (counted_for what fault states q list is served e).1 in
+    some_calls workers (count_by (is_refused_for what (source_of q list)) queries) calls before now
+    (counted_one (is_refused_for what (source_of q list)) queries q c refused) few

@@ -24,7 +24,6 @@ use Rattle.cert_text.specs.declared.outcome.Outcome.TheVariants.{Answered, Refus
 use Rattle.cert_text.specs.declared.refusal.Refusal.{Refusal}
 use Rattle.cert_text.specs.declared.refusal.Refusal.TheVariants.{NotOpened, Failed, Garbled}
 use Rattle.query_core.specs.declared.ready.Ready.{Ready as ReadyQuery}
-use Rattle.query_core.specs.Machines.{state_of}
 use Rattle.query_admission.specs.View.{View, is_closed}
 use Rattle.query_admission.specs.Causes.{most_queries, Cause, admission_causes, text_refusal, Over, ListsGive, Gives}
 use Rattle.query_admission.specs.Admission.{IsRefused, IsAdmitted}
@@ -36,12 +35,10 @@ use Rattle.query_world.specs.declared.ended.Ended.{Ended}
 use Rattle.query_world.specs.declared.ended.Ended.TheVariants as ended
 use Rattle.query_world.specs.declared.ended.Refusal.TheVariants as refusal
 use Rattle.query_world.specs.declared.inquiry.Inquiry.{Inquiry}
-use Rattle.query_world.specs.Worlds.{state_at, source_needed, needed, list_needed}
-use Rattle.query_world.specs.Causes.{IsCause, IsOfList}
+use Rattle.query_world.specs.Worlds.{source_of}
 use Rattle.query_world.specs.Endings.{EndsAs}
 use Rattle.query_world.specs.Kept.{IsServed}
 use Rattle.query_world.specs.Made.{IsOf}
-use Rattle.query_world.proofs.Serving.{listed, of_some_list}
 use Rattle.catalog_text.specs.Catalog.{Listed as Entry}
 use Rattle.catalog_open.specs.declared.opened.Opening.{Opening}
 use Rattle.catalog_open.specs.declared.opened.Opening.TheVariants.{Closed, Open}
@@ -49,16 +46,14 @@ use Rattle.catalog_open.specs.Views.{entry_at, opening_at, place_of, said_of, li
 use Rattle.catalog_open.specs.Wanted.{IsWanted}
 use Rattle.catalog_open.specs.Openings.{IsOpening, IsSource, TroubleAt}
 use Rattle.catalog_open.proofs.Marking.{places_within}
-use Rattle.catalog_open.proofs.Moving.{moves_at, trouble_on}
 use Rattle.catalog_run.specs.declared.outcome.LineOutcome.{LineOutcome}
 use Rattle.catalog_run.specs.Outcomes.{ended_outcome, source_refusal}
 use Rattle.catalog_run.specs.Runs.{Run, IsRun, IsLineRefused, IsLineRun, AreOutcomes}
 use Rattle.catalog_run.specs.Failures.{place_at, failed_list, HasRisen, HasFailedAt, HasFailure}
 use Rattle.catalog_run.proofs.Alike.{first_is_many}
-use Rattle.catalog_run.proofs.Becoming.{failed_rose_at, garbled_rose_at, source_for, text_for}
-use Rattle.catalog_run.proofs.Failing.{FailsAreTold}
+use Rattle.catalog_run.proofs.Becoming.{failed_rose_at, garbled_rose_at, served_all, text_for}
+use Rattle.catalog_run.proofs.Failing.{refused_there}
 use Rattle.catalog_run.proofs.ToldLists.{known_places, named_wanted}
-use Rattle.catalog_run.proofs.Writable.{of_list_is}
 
 -- the place of a list of a query
 place_there : (catalog : List Entry) (names : List (List ℕ)) (places : List ℕ) (list : ℕ) → map (place_of catalog) names ≡ map Some places → list < length names
@@ -71,7 +66,8 @@ place_there catalog (n ∷ ns) (p ∷ ps) (suc list) e l =
     place_there catalog ns ps list rest (omega (arith, l))
 
 -- what is said of a list by its place
-said_there : (says : ℕ → Listed) (places : List ℕ) (list : ℕ) → list < length places → slice_index_or (map says places) list nothing ≡ says (slice_index_or places list 0)
+said_there : (says : ℕ → Listed) (places : List ℕ) (list : ℕ) → list < length places
+    → slice_index_or (map says places) list nothing ≡ says (slice_index_or places list 0)
 said_there says [] list l = absurd (omega (arith, l))
 said_there says (p ∷ ps) zero l = refl
 said_there says (p ∷ ps) (suc list) l = said_there says ps list (omega (arith, l))
@@ -89,15 +85,18 @@ many_places catalog names places e = sym (length-map places Some) ∙ ap length 
 none_listed : {n : ℕ} → None ≡ Some n → ⊥
 none_listed e = cc
 
+pub of_text : (f : QueryFault) (refusal : Refusal) → text_refusal f ≡ Some refusal → failed_list refusal ≡ None
+of_text (text.LongLine limit) refusal e = sym (ap failed_list (same_Some _ refusal e))
+of_text (text.Syntax at) refusal e = sym (ap failed_list (same_Some _ refusal e))
+of_text (text.Number at) refusal e = sym (ap failed_list (same_Some _ refusal e))
+of_text (text.TooManyLists at) refusal e = sym (ap failed_list (same_Some _ refusal e))
+of_text (text.TooManyNodes nodes) refusal e = sym (ap failed_list (same_Some _ refusal e))
+of_text (text.TooDeep depth) refusal e = sym (ap failed_list (same_Some _ refusal e))
+of_text (text.TooBig node) refusal e = sym (ap failed_list (same_Some _ refusal e))
+of_text text.Memory refusal e = absurd cc
+
 not_of_text : (f : QueryFault) (refusal : Refusal) (list : ℕ) → text_refusal f ≡ Some refusal → failed_list refusal ≡ Some list → ⊥
-not_of_text (text.LongLine limit) refusal list e h = none_listed (ap failed_list (same_Some _ refusal e) ∙ h)
-not_of_text (text.Syntax at) refusal list e h = none_listed (ap failed_list (same_Some _ refusal e) ∙ h)
-not_of_text (text.Number at) refusal list e h = none_listed (ap failed_list (same_Some _ refusal e) ∙ h)
-not_of_text (text.TooManyLists at) refusal list e h = none_listed (ap failed_list (same_Some _ refusal e) ∙ h)
-not_of_text (text.TooManyNodes nodes) refusal list e h = none_listed (ap failed_list (same_Some _ refusal e) ∙ h)
-not_of_text (text.TooDeep depth) refusal list e h = none_listed (ap failed_list (same_Some _ refusal e) ∙ h)
-not_of_text (text.TooBig node) refusal list e h = none_listed (ap failed_list (same_Some _ refusal e) ∙ h)
-not_of_text text.Memory refusal list e h = absurd cc
+not_of_text f refusal list e h = none_listed (sym (of_text f refusal e) ∙ h)
 
 not_listed : (one other : Refusal) (list : ℕ) → one ≡ other → failed_list other ≡ None → failed_list one ≡ Some list → ⊥
 not_listed one other list e none some = none_listed (sym none ∙ sym (ap failed_list e) ∙ some)
@@ -111,7 +110,7 @@ refused_some one other e = refused_once (same_Some (Refused one) (Refused other)
 answered_refused : (answer : Answer) (refusal : Refusal) → Some (Answered answer) ≡ Some (Refused refusal) → ⊥
 answered_refused answer refusal e = cc
 
-source_unlisted : (list : ℕ) (f : SourceFault) → failed_list (source_refusal list f) ≡ None
+pub source_unlisted : (list : ℕ) (f : SourceFault) → failed_list (source_refusal list f) ≡ None
 source_unlisted list (fault.OutOfOrder place before after) = refl
 source_unlisted list (fault.TooHigh place grade) = refl
 source_unlisted list (fault.Repeated object place) = refl
@@ -130,7 +129,7 @@ some_query : (query : Option Query) (list : ℕ) → All (λ l. l < length (name
 some_query None list named = absurd (let l = named 0 0 (omega arith) in omega (arith, l))
 some_query (Some q) list named = (q, refl)
 
-module _ (law : FailsAreTold) (r : Run) (outcomes : List LineOutcome) (run : IsRun r outcomes) where
+module _ (r : Run) (outcomes : List LineOutcome) (run : IsRun r outcomes) where
   abbrev says : ℕ → Listed
   says = listed_at r.catalog run.openings
 
@@ -139,23 +138,21 @@ module _ (law : FailsAreTold) (r : Run) (outcomes : List LineOutcome) (run : IsR
 
   -- trouble at the place of a list that isn't open
   closed_trouble : (place : ℕ) → IsWanted r.catalog r.lines place → place < length r.catalog → is_closed (says place) ≡ true
-      → TroubleAt (r.before (entry_at r.catalog place).place) (r.after (entry_at r.catalog place).place)
+      → TroubleAt (r.before (entry_at r.catalog place).place) (run.mid (entry_at r.catalog place).place)
   closed_trouble place wanted inside closed =
       let all = run.all in
       go (opening_at run.openings place) closed (run.opened.each place (omega (arith, inside, all)))
     where
       go : (o : Opening) → is_closed (said_of (entry_at r.catalog place).random o) ≡ true
           → IsOpening r.lists r.catalog run.sources (IsWanted r.catalog r.lines) r.before run.mid place o
-          → TroubleAt (r.before (entry_at r.catalog place).place) (r.after (entry_at r.catalog place).place)
-      go Closed closed opening =
-          let at = (entry_at r.catalog place).place in
-          trouble_on (r.before at) (run.mid at) (r.after at) (opening wanted) (moves_at _ run.mid r.after at run.back)
+          → TroubleAt (r.before (entry_at r.catalog place).place) (run.mid (entry_at r.catalog place).place)
+      go Closed closed opening = opening wanted
       go (Open size source) closed opening = absurd cc
 
   -- a line that is refused since a list wasn't opened
   not_opened : (at : ℕ) (bytes : List ℕ) (o : LineOutcome) (refusal : Refusal) (list : ℕ) → slice_get r.lines at ≡ Some bytes → at + 1 ≤ most_queries
       → (is : IsRefused admission_causes (line_over U (at + 1) bytes) refusal o.query)
-      → Over (line_over U (at + 1) bytes) (λ q lists. ListsGive q lists Cause.not_opened refusal) → failed_list refusal ≡ Some list → HasFailedAt r o refusal list
+      → Over (line_over U (at + 1) bytes) (λ q lists. ListsGive q lists Cause.not_opened refusal) → failed_list refusal ≡ Some list → HasFailedAt r run.mid o refusal list
   not_opened at bytes o refusal list line few is g fails =
       let h = g.holds in
       let q = g.query in
@@ -182,13 +179,13 @@ module _ (law : FailsAreTold) (r : Run) (outcomes : List LineOutcome) (run : IsR
         query_is = has.1 ∙ ap Some (read_once bytes has.0 q reads g.reads);
         place = text;
         place_is = subst (λ n. place_at r.catalog q n ≡ Some text) number at_place;
-        risen = subst (HasRisen (r.before text) (r.after text)) (sym h.1) trouble;
+        risen = subst (HasRisen (r.before text) (run.mid text) (r.after text)) (sym h.1) trouble;
       }
 
   -- the cause of a refusal of a list that comes before the line runs
   refused_why : (at : ℕ) (bytes : List ℕ) (o : LineOutcome) (refusal : Refusal) (list : ℕ) → slice_get r.lines at ≡ Some bytes
       → (is : IsRefused admission_causes (line_over U (at + 1) bytes) refusal o.query) → failed_list refusal ≡ Some list
-      → (c : Cause) → c ≡ is.first.cause → Gives (line_over U (at + 1) bytes) c refusal → HasFailedAt r o refusal list
+      → (c : Cause) → c ≡ is.first.cause → Gives (line_over U (at + 1) bytes) c refusal → HasFailedAt r run.mid o refusal list
   refused_why at bytes o refusal list line is fails Cause.many_queries c g = absurd (not_listed refusal _ list g.0 refl fails)
   refused_why at bytes o refusal list line is fails Cause.text c g = absurd (not_of_text g.0 refusal list g.1 fails)
   refused_why at bytes o refusal list line is fails Cause.unknown_list c g = absurd (not_listed refusal _ list g.holds.1 refl fails)
@@ -205,15 +202,15 @@ module _ (law : FailsAreTold) (r : Run) (outcomes : List LineOutcome) (run : IsR
         | inr early ↦ early
       ]
 
-  line_refused : (at : ℕ) (bytes : List ℕ) (o : LineOutcome) → slice_get r.lines at ≡ Some bytes → IsLineRefused U (at + 1) bytes o → HasFailure r o
+  line_refused : (at : ℕ) (bytes : List ℕ) (o : LineOutcome) → slice_get r.lines at ≡ Some bytes → IsLineRefused U (at + 1) bytes o → HasFailure r run.mid o
   line_refused at bytes o line is = λ refusal list e fails.
       let same : is.refusal ≡ refusal = refused_once (sym is.outcome ∙ e) in
       let refused = subst (λ x. IsRefused admission_causes (line_over U (at + 1) bytes) x o.query) same is.refused in
       refused_why at bytes o refusal list line refused fails refused.first.cause refl refused.first.gives
 
   -- the list of a query that ran
-  ran_at : (at : ℕ) (bytes : List ℕ) (q : Inquiry) (ready : ReadyQuery) (list : ℕ) → IsAdmitted (line_over U (at + 1) bytes) ready → IsOf ready q
-      → list < length ready.query.names → place_at r.catalog ready.query list ≡ Some (text_for law r outcomes run q list)
+  pub ran_at : (at : ℕ) (bytes : List ℕ) (q : Inquiry) (ready : ReadyQuery) (list : ℕ) → IsAdmitted (line_over U (at + 1) bytes) ready → IsOf ready q
+      → list < length ready.query.names → place_at r.catalog ready.query list ≡ Some (text_for r outcomes run q list)
   ran_at at bytes q ready list admitted of l =
       let names = ready.query.names in
       let places = known_places r.catalog says names admitted.lists admitted.listed in
@@ -221,7 +218,7 @@ module _ (law : FailsAreTold) (r : Run) (outcomes : List LineOutcome) (run : IsR
       let inside : list < length places.places = omega (arith, l, names_long) in
       let lists_long : length admitted.lists ≡ length places.places = ap (length {A = Listed}) places.said ∙ length-map places.places says in
       let place = slice_index_or places.places list 0 in
-      let source_is : source_for law r outcomes run q list ≡ (says place).source =
+      let source_is : source_of q list ≡ (says place).source =
       ap (λ (sources : List ℕ). slice_index_or sources list 0) (of.sources ∙ sym admitted.sources ∙ ap (map (λ (l : Listed). l.source)) places.said)
       ∙ source_there says places.places list inside in
       let states : (slice_index_or admitted.lists list nothing).size ≡ Some ready.count = admitted_states (line_over U (at + 1) bytes) ready admitted list (omega (arith, inside, lists_long)) in
@@ -247,21 +244,18 @@ module _ (law : FailsAreTold) (r : Run) (outcomes : List LineOutcome) (run : IsR
               let source_is : IsSource r.lists r.catalog run.sources place size source = opening.1 in
               source_is.stands
 
-  ran_list : (q : Inquiry) (ready : ReadyQuery) (list : ℕ) (f : LookFault) → IsServed run.ran.last.states q → IsOf ready q
+  pub ran_list : (q : Inquiry) (ready : ReadyQuery) (list : ℕ) (f : LookFault) → IsServed run.ran.ran.states q → IsOf ready q
       → q.refusal ≡ Some (refusal.Look list f) → list < length ready.query.names
   ran_list q ready list f served of e =
-      let cause : IsCause (state_at run.ran.last.states (source_needed q)) (state_of q.machine) q.waiting.noted (Some (refusal.Look list f)) =
-      subst (IsCause (state_at run.ran.last.states (source_needed q)) (state_of q.machine) q.waiting.noted) e served.cause in
-      let of_list : IsOfList list (needed q) = cause.0 in
-      let l = listed run.ran.last.states q served.sources served.run (of_some_list list (needed q) of_list) in
-      let same : list_needed (needed q) ≡ list = of_list_is list (needed q) of_list in
+      let there = refused_there run.ran.ran.states q list f served e in
+      let l = there.of in
       let many : length q.sources.items ≡ length ready.query.names = ap (length {A = ℕ}) of.sources ∙ of.is.sources in
-      omega (arith, l, same, many)
+      omega (arith, l, many)
 
   -- a query that ran and is refused because a call failed
   ran_why : (at : ℕ) (bytes : List ℕ) (o : LineOutcome) (q : Inquiry) (ready : ReadyQuery) (e : Ended) (refusal : Refusal) (list : ℕ)
-      → IsAdmitted (line_over U (at + 1) bytes) ready → IsOf ready q → IsServed run.ran.last.states q → Contains run.ran.last.queries q → EndsAs q e
-      → o.query ≡ Some ready.query → ended_outcome e ≡ Some (Refused refusal) → failed_list refusal ≡ Some list → HasFailedAt r o refusal list
+      → IsAdmitted (line_over U (at + 1) bytes) ready → IsOf ready q → IsServed run.ran.ran.states q → Contains run.ran.ran.queries q → EndsAs q e
+      → o.query ≡ Some ready.query → ended_outcome e ≡ Some (Refused refusal) → failed_list refusal ≡ Some list → HasFailedAt r run.mid o refusal list
   ran_why at bytes o q ready (ended.Answered answer) refusal list admitted of served c ends is e fails = absurd (answered_refused answer refusal e)
   ran_why at bytes o q ready (ended.Core (core.Strangers object count)) refusal list admitted of served c ends is e fails =
       absurd (not_listed refusal _ list (sym (refused_some _ refusal e)) refl fails)
@@ -278,39 +272,39 @@ module _ (law : FailsAreTold) (r : Run) (outcomes : List LineOutcome) (run : IsR
       let same : Failed other ≡ refusal = refused_some (Failed other) refusal e in
       let number : other ≡ list = same_Some other list (ap failed_list same ∙ fails) in
       let l = ran_list q ready other why.Failed served of ends in
-      let rose = failed_rose_at law r outcomes run q ready other c ends in
-      let text = text_for law r outcomes run q other in
+      let rose = failed_rose_at r outcomes run q other c ends in
+      let text = text_for r outcomes run q other in
       record {
         query = ready.query;
         query_is = is;
         place = text;
         place_is = subst (λ n. place_at r.catalog ready.query n ≡ Some text) number (ran_at at bytes q ready other admitted of l);
-        risen = subst (HasRisen (r.before text) (r.after text)) same rose.1;
+        risen = subst (HasRisen (r.before text) (run.mid text) (r.after text)) same rose.1;
       }
   ran_why at bytes o q ready (ended.Look other why.Garbled) refusal list admitted of served c ends is e fails =
       let same : Garbled other ≡ refusal = refused_some (Garbled other) refusal e in
       let number : other ≡ list = same_Some other list (ap failed_list same ∙ fails) in
       let l = ran_list q ready other why.Garbled served of ends in
-      let rose = garbled_rose_at law r outcomes run q ready other c ends in
-      let text = text_for law r outcomes run q other in
+      let rose = garbled_rose_at r outcomes run q other c ends in
+      let text = text_for r outcomes run q other in
       record {
         query = ready.query;
         query_is = is;
         place = text;
         place_is = subst (λ n. place_at r.catalog ready.query n ≡ Some text) number (ran_at at bytes q ready other admitted of l);
-        risen = subst (HasRisen (r.before text) (r.after text)) same rose.1;
+        risen = subst (HasRisen (r.before text) (run.mid text) (r.after text)) same rose.1;
       }
 
-  line_ran : (at : ℕ) (bytes : List ℕ) (o : LineOutcome) (q : Inquiry) → Contains run.ran.last.queries q → IsLineRun U q (at + 1) bytes o → HasFailure r o
+  line_ran : (at : ℕ) (bytes : List ℕ) (o : LineOutcome) (q : Inquiry) → Contains run.ran.ran.queries q → IsLineRun U q (at + 1) bytes o → HasFailure r run.mid o
   line_ran at bytes o q c is = λ refusal list e fails.
-      ran_why at bytes o q is.ready is.ended refusal list is.admitted is.of (member_of_all (IsServed run.ran.last.states) run.ran.last.queries q run.ran.world.queries c) c is.ends is.outcome.query
+      ran_why at bytes o q is.ready is.ended refusal list is.admitted is.of (served_all r outcomes run q c) c is.ends is.outcome.query
       (is.outcome.outcome ∙ ap Some e) fails
 
   -- the lines from one on
   all_failures : (at : ℕ) (queries : List Inquiry) (lines : List (List ℕ)) (others : List LineOutcome)
       → ((i : ℕ) (bytes : List ℕ) → slice_get lines i ≡ Some bytes → slice_get r.lines (at + i) ≡ Some bytes)
-      → ((q : Inquiry) → Contains queries q → Contains run.ran.last.queries q)
-      → AreOutcomes U queries (at + 1) lines others → AllByRecursion (HasFailure r) others
+      → ((q : Inquiry) → Contains queries q → Contains run.ran.ran.queries q)
+      → AreOutcomes U queries (at + 1) lines others → AllByRecursion (HasFailure r run.mid) others
   all_failures at queries [] [] lines_are there are = tt
   all_failures at queries [] (o ∷ others) lines_are there are = absurd are
   all_failures at queries (bytes ∷ lines) [] lines_are there are = absurd are
@@ -322,11 +316,11 @@ module _ (law : FailsAreTold) (r : Run) (outcomes : List LineOutcome) (run : IsR
       elim are [
         | inl refused ↦ (line_refused at bytes o line refused.0, all_failures (at + 1) queries lines others rest there refused.1)
         | inr ran ↦
-            let all : (q : Inquiry) → Contains (ran.0 ∷ ran.1) q → Contains run.ran.last.queries q = λ q c. there q (subst (λ qs. Contains qs q) (sym ran.2) c) in (
+            let all : (q : Inquiry) → Contains (ran.0 ∷ ran.1) q → Contains run.ran.ran.queries q = λ q c. there q (subst (λ qs. Contains qs q) (sym ran.2) c) in (
               line_ran at bytes o ran.0 (all ran.0 (contains_here ran.0 ran.1)) ran.3,
               all_failures (at + 1) ran.1 lines others rest (λ q c. all q (contains_there ran.0 ran.1 q c)) ran.4,
             )
       ]
 
-  pub lines_failures : All (HasFailure r) outcomes
-  lines_failures = All-from_recursion (HasFailure r) outcomes (all_failures 0 run.ran.last.queries r.lines outcomes (λ i bytes e. let same : i ≡ 0 + i = omega arith in subst (λ j. slice_get r.lines j ≡ Some bytes) same e) (λ q c. c) run.ran.outcomes_are)
+  pub lines_failures : All (HasFailure r run.mid) outcomes
+  lines_failures = All-from_recursion (HasFailure r run.mid) outcomes (all_failures 0 run.ran.ran.queries r.lines outcomes (λ i bytes e. let same : i ≡ 0 + i = omega arith in subst (λ j. slice_get r.lines j ≡ Some bytes) same e) (λ q c. c) run.ran.outcomes_are)

@@ -10,4 +10,8 @@ pub mod ToldLists
 pub mod Failing
 pub mod Becoming
 pub mod Failures
+pub mod FewLines
+pub mod Given
+pub mod Slotted
 pub mod Right
+pub mod OneOver

@@ -70,7 +70,7 @@ pub next_fits : (stages : List Stage) (readies : List ReadyQuery) (endings : Lis
     → MergesSoFar stages readies endings ls lr le outcomes → ls ≡ rest ++ stage ∷ [] → (ss : List Stage) × Fit (stage ∷ ss) (reverse lr) (reverse le)
 next_fits stages readies endings ls rest lr le outcomes stage so_far e = (reverse rest, subst (λ ss. Fit ss (reverse lr) (reverse le)) (popped ls rest stage e) so_far.fit)
 
-one_on : {X : Type 0} (all front left rest : List X) (x : X) → all ≡ front ++ reverse left → left ≡ rest ++ x ∷ [] → all ≡ (front ++ x ∷ []) ++ reverse rest
+pub one_on : {X : Type 0} (all front left rest : List X) (x : X) → all ≡ front ++ reverse left → left ≡ rest ++ x ∷ [] → all ≡ (front ++ x ∷ []) ++ reverse rest
 one_on all front left rest x is e = is ∙ ap (λ t. front ++ t) (popped left rest x e) ∙ sym (append_assoc front (x ∷ []) (reverse rest))
 
 -- one outcome more

@@ -1,5 +1,5 @@
 -- The queries that are ready over the open sources of a catalog are ready for their counts.
-use Rattle.std.proofs.Common.{◌≡◌, ℕ, ◌+◌, ◌<◌, ◌≤◌, cond, List, [], ◌∷◌, All, map, length, suc, slice_get, slice_index_or, inl, inr, Option, None, Some, option_map, refl, sym, ap, ◌∙◌, subst, arith}
+use Rattle.std.proofs.Common.{◌≡◌, ℕ, ◌+◌, ◌-◌, ◌<◌, ◌≤◌, cond, List, [], ◌∷◌, All, map, length, suc, slice_get, slice_index_or, inl, inr, Option, None, Some, option_map, refl, sym, ap, ◌∙◌, subst, arith}
 use Rattle.std.specs.List.{AllByRecursion}
 use Rattle.std.proofs.lemmas.Bool.{cases_lt, le-leb}
 use Rattle.std.proofs.lemmas.Option.{same_Some}
@@ -7,7 +7,11 @@ use Rattle.std.proofs.lemmas.List.{get_or_past}
 use Rattle.std.proofs.lemmas.List.Elements.{All-from_recursion}
 use Rattle.ranked_list.specs.declared.row.Row.{Row}
 use Rattle.query_core.specs.declared.ready.Ready.{Ready as ReadyQuery}
+use Rattle.topk_theory.proofs.AgreementLists.{contains_here, member_of_all}
+use Rattle.cert_text.specs.declared.refusal.Refusal.{Refusal}
+use Rattle.cert_text.specs.declared.refusal.Refusal.TheVariants.{ManyQueries}
 use Rattle.query_admission.specs.View.{View}
+use Rattle.query_admission.specs.Causes.{most_queries, Cause, admission_causes, Gives, NoneOf}
 use Rattle.query_admission.specs.Admission.{IsAdmitted}
 use Rattle.query_admission.specs.declared.lists.Listed.{Listed}
 use Rattle.query_admission.proofs.Positions.{nothing}
@@ -129,3 +133,26 @@ owned view lines (ready ∷ readies) all =
 pub all_own : (view : View) (lines : List (List ℕ)) (stages : List Stage) (readies : List ReadyQuery) → AreAdmitted view 1 lines stages readies
     → All (IsReadyOf view lines) readies
 all_own view lines stages readies are = All-from_recursion (IsReadyOf view lines) readies (owned view lines readies (own_from view 1 lines stages readies are))
+
+-- an admitted line is one of the first
+pub admitted_few : (view : View) (number : ℕ) (bytes : List ℕ) → NoneOf (Gives (line_over view number bytes)) admission_causes → number ≤ most_queries
+admitted_few view number bytes none =
+    elim (cases_lt most_queries number) [
+      | inl late ↦ absurd (member_of_all (λ (c : Cause). (r : Refusal) → ¬ Gives (line_over view number bytes) c r) admission_causes Cause.many_queries none
+          (contains_here Cause.many_queries (Cause.text ∷ Cause.unknown_list ∷ Cause.not_opened ∷ Cause.too_large ∷ Cause.counts_differ ∷ Cause.k_above_count ∷ Cause.no_random ∷ []))
+          (ManyQueries most_queries) (refl, late))
+      | inr few ↦ few
+    ]
+
+-- no more lines are ready than may be
+pub readies_few : (view : View) (number : ℕ) (lines : List (List ℕ)) (stages : List Stage) (readies : List ReadyQuery)
+    → AreAdmitted view number lines stages readies → length readies ≤ most_queries + 1 - number
+readies_few view number [] [] readies are = let none : length readies ≡ 0 = ap length are in omega (arith, none)
+readies_few view number [] (stage ∷ stages) readies are = absurd are
+readies_few view number (bytes ∷ lines) [] readies are = absurd are
+readies_few view number (bytes ∷ lines) (Refused refusal query ∷ stages) readies are = let rest = readies_few view (number + 1) lines stages readies are.1 in omega (arith, rest)
+readies_few view number (bytes ∷ lines) (Ready ∷ stages) [] are = absurd are
+readies_few view number (bytes ∷ lines) (Ready ∷ stages) (ready ∷ readies) are =
+    let rest = readies_few view (number + 1) lines stages readies are.1 in
+    let few = admitted_few view number bytes are.0.unrefused in
+    omega (arith, rest, few)

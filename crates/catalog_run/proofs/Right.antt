@@ -19,14 +19,14 @@ use Rattle.catalog_run.specs.Answers.{IsRightLine}
 use Rattle.catalog_run.specs.Outcomes.{ended_outcome, look_refusal}
 use Rattle.catalog_run.specs.Runs.{IsLineRefused, IsLineRun, AreOutcomes}
 
-refused_answered : (refusal : Refusal) (answer : Answer) → Refused refusal ≡ Answered answer → ⊥
+pub refused_answered : (refusal : Refusal) (answer : Answer) → Refused refusal ≡ Answered answer → ⊥
 refused_answered refusal answer e = cc
 
-never_answered : (o : Option Refusal) (answer : Answer) → option_map Refused o ≡ Some (Answered answer) → ⊥
+pub never_answered : (o : Option Refusal) (answer : Answer) → option_map Refused o ≡ Some (Answered answer) → ⊥
 never_answered None answer e = cc
 never_answered (Some refusal) answer e = refused_answered refusal answer (same_Some (Refused refusal) (Answered answer) e)
 
-same_answer : {one other : Answer} → Answered one ≡ Answered other → one ≡ other
+pub same_answer : {one other : Answer} → Answered one ≡ Answered other → one ≡ other
 same_answer e = cc
 
 ended_right : (ready : ReadyQuery) (e : Ended) (answer : Answer) → IsRight ready e → ended_outcome e ≡ Some (Answered answer)

@@ -2,7 +2,6 @@
 use Rattle.std.proofs.Common.{◌≡◌, ℕ, zero, suc, ◌+◌, ◌<◌, ◌≤◌, List, [], ◌∷◌, All, Contains, map, length, inl, inr, Option, None, Some, is_none, option_map, unwrap_or, slice_get, slice_index_or, refl, sym, ap, ◌∙◌, subst, arith}
 use Rattle.std.specs.Prelude.{Ok}
 use Rattle.std.specs.Option.{option_and_then}
-use Rattle.std.proofs.lemmas.Bool.{cases_lt}
 use Rattle.std.proofs.lemmas.Option.{same_Some}
 use Rattle.ranked_list.specs.declared.row.Row.{Row}
 use Rattle.ranked_list.specs.Table.{IsTable}
@@ -10,20 +9,16 @@ use Rattle.topk_theory.specs.Transcript.{list_at}
 use Rattle.topk_theory.proofs.AgreementLists.{contains_here, contains_there, all_from_members, member_of_all}
 use Rattle.query_text.specs.declared.query.Query.{Query}
 use Rattle.query_text.specs.Reading.{Reads}
-use Rattle.cert_text.specs.declared.refusal.Refusal.{Refusal}
-use Rattle.cert_text.specs.declared.refusal.Refusal.TheVariants.{ManyQueries}
 use Rattle.query_core.specs.declared.ready.Ready.{Ready as ReadyQuery}
 use Rattle.query_admission.specs.View.{View, count_of}
-use Rattle.query_admission.specs.Causes.{most_queries, Cause, admission_causes, Gives, NoneOf}
+use Rattle.query_admission.specs.Causes.{most_queries, admission_causes}
 use Rattle.query_admission.specs.Admission.{IsAdmitted}
 use Rattle.query_admission.specs.declared.lists.Listed.{Listed}
 use Rattle.query_world.specs.declared.inquiry.Inquiry.{Inquiry}
-use Rattle.query_world.specs.Made.{IsFresh}
+use Rattle.query_world.specs.Made.{IsOf}
 use Rattle.query_world.specs.Honest.{HasTable as HasQueryTable, IsOnItsRun}
-use Rattle.query_world.proofs.Stepping.{made_world, zip_member}
-use Rattle.query_world.proofs.Honest.{made_true, ran_honestly}
-use Rattle.world_run.specs.Runs.{RunsOver}
-use Rattle.world_run.proofs.Honesty.{new_honest}
+use Rattle.query_world.proofs.Stepping.{zip_member}
+use Rattle.batch_run.specs.Batches.{BatchState, IsBatch, Run as BatchRun}
 use Rattle.catalog_text.specs.Catalog.{Listed as Entry}
 use Rattle.catalog_open.specs.declared.opened.Opening.{Opening}
 use Rattle.catalog_open.specs.declared.opened.Opening.TheVariants.{Closed, Open}
@@ -31,13 +26,19 @@ use Rattle.catalog_open.specs.Views.{entry_at, opening_at, place_of, said_of, li
 use Rattle.catalog_open.specs.Wanted.{IsWanted}
 use Rattle.catalog_open.specs.Openings.{Sources, IsOpening, IsSource, IsToldAs, IsNumbered}
 use Rattle.catalog_open.proofs.Marking.{places_within}
-use Rattle.catalog_open.proofs.Moving.{moves_at, trouble_on}
+use Rattle.catalog_open.proofs.Moving.{moves_at, puts_moves, trouble_on}
 use Rattle.catalog_run.specs.declared.outcome.LineOutcome.{LineOutcome}
-use Rattle.catalog_run.specs.Runs.{Run, IsRun, IsReadyOf}
+use Rattle.catalog_run.specs.Runs.{Run, IsRun, IsReadyOf, batch_over}
 use Rattle.catalog_run.specs.Told.{told_listed, view_told, TellsTables}
 use Rattle.catalog_run.proofs.Alike.{plain, Alike, none_alike, unseen_rows}
-use Rattle.catalog_run.proofs.Running.{made_new}
+pub use Rattle.catalog_run.proofs.Readies.{admitted_few}
 use Rattle.catalog_run.proofs.Whole.{open_wanted}
+
+-- where the sources of a batch tell lists that form a table for each query, each query is on the run of its algorithm over them
+abbrev pub QueriesAreOnTheirRuns : Type 0
+QueriesAreOnTheirRuns =
+    (run : BatchRun) (batch : BatchState) → (ran : IsBatch run batch) → (lists : List (List Row)) → run.told ≡ map Some lists
+    → All (HasQueryTable lists) ran.queries → All (IsOnItsRun lists) ran.queries
 
 -- what is known of lists by their names, by their places in a catalog
 abbrev pub by_place : List Entry → (ℕ → Listed) → List ℕ → Option Listed
@@ -49,7 +50,7 @@ pub record HavePlaces (catalog : List Entry) (says : ℕ → Listed) (names : Li
   pub known : map (place_of catalog) names ≡ map Some places
   pub said : lists ≡ map says places
 
-some_place : (says : ℕ → Listed) (o : Option ℕ) (l : Listed) → option_map says o ≡ Some l → (place : ℕ) × (o ≡ Some place) × (l ≡ says place)
+pub some_place : (says : ℕ → Listed) (o : Option ℕ) (l : Listed) → option_map says o ≡ Some l → (place : ℕ) × (o ≡ Some place) × (l ≡ says place)
 some_place says None l e = absurd cc
 some_place says (Some place) l e = (place, refl, sym (same_Some (says place) l e))
 
@@ -125,16 +126,6 @@ alike_places catalog lines says others at bytes line few same = record {
       };
 }
 
--- an admitted line is one of the first
-pub admitted_few : (view : View) (number : ℕ) (bytes : List ℕ) → NoneOf (Gives (line_over view number bytes)) admission_causes → number ≤ most_queries
-admitted_few view number bytes none =
-    elim (cases_lt most_queries number) [
-      | inl late ↦ absurd (member_of_all (λ (c : Cause). (r : Refusal) → ¬ Gives (line_over view number bytes) c r) admission_causes Cause.many_queries none
-          (contains_here Cause.many_queries (Cause.text ∷ Cause.unknown_list ∷ Cause.not_opened ∷ Cause.too_large ∷ Cause.counts_differ ∷ Cause.k_above_count ∷ Cause.no_random ∷ []))
-          (ManyQueries most_queries) (refl, late))
-      | inr few ↦ few
-    ]
-
 -- the rows of a source, if it tells them
 abbrev pub rows_of : Option (List Row) → List Row
 rows_of told = unwrap_or told []
@@ -187,7 +178,8 @@ told_once_at : (lists : List ℕ → Option (List Row)) (catalog : List Entry) (
     → told_of lists catalog place ≡ Some rows → option_and_then (told_of lists catalog) o ≡ Some rows
 told_once_at lists catalog o place rows is told = ap (option_and_then (told_of lists catalog)) is ∙ told
 
-names_told : (lists : List ℕ → Option (List Row)) (catalog : List Entry) (names : List (List ℕ)) (places : List ℕ) → map (place_of catalog) names ≡ map Some places
+pub names_told : (lists : List ℕ → Option (List Row)) (catalog : List Entry) (names : List (List ℕ)) (places : List ℕ)
+    → map (place_of catalog) names ≡ map Some places
     → ((place : ℕ) → Contains places place → told_of lists catalog place ≡ Some (rows_of (told_of lists catalog place)))
     → map (view_told catalog lists).told names ≡ map Some (map (λ place. rows_of (told_of lists catalog place)) places)
 names_told lists catalog [] [] e told = refl
@@ -213,7 +205,7 @@ module _ (r : Run) (outcomes : List LineOutcome) (run : IsRun r outcomes) (tells
           → IsOpening r.lists r.catalog run.sources (IsWanted r.catalog r.lines) r.before run.mid place o → IsToldOpen r run.openings run.sources place
       go Closed is opening =
           let text = (entry_at r.catalog place).place in
-          absurd (tells.untroubled place wanted (trouble_on (r.before text) (run.mid text) (r.after text) (opening wanted) (moves_at _ run.mid r.after text run.back)))
+          absurd (tells.untroubled place wanted (trouble_on (r.before text) (run.mid text) (r.after text) (opening wanted) (moves_at _ run.mid r.after text (puts_moves _ run.mid r.after run.back))))
       go (Open size source) is opening =
           let told = tells.told place wanted in
           let at : IsSource r.lists r.catalog run.sources place size source = opening.1 in
@@ -289,25 +281,19 @@ module _ (r : Run) (outcomes : List LineOutcome) (run : IsRun r outcomes) (tells
         table = subst (λ n. IsTable n D) counted table.1;
       }
 
-  -- so each query of the world is on its run
-  fresh_table : (ready : ReadyQuery) (q : Inquiry) → IsFresh ready q → HasLists r lists_told ready → HasQueryTable lists_told q
-  fresh_table ready q fresh has =
-      subst (λ n. IsTable n (map (list_at lists_told) q.sources.items)) (sym fresh.machine.begun.count)
-      (subst (λ sources. IsTable ready.count (map (list_at lists_told) sources)) (sym fresh.sources) (subst (IsTable ready.count) has.is has.table))
+  -- so each query of the batch is on its run
+  query_table : (ready : ReadyQuery) (q : Inquiry) → IsOf ready q → HasLists r lists_told ready → HasQueryTable lists_told q
+  query_table ready q of has =
+      subst (λ n. IsTable n (map (list_at lists_told) q.sources.items)) (sym (of.goes.count ∙ of.begun.count))
+      (subst (λ sources. IsTable ready.count (map (list_at lists_told) sources)) (sym of.sources) (subst (IsTable ready.count) has.is has.table))
 
-  made_tables : All (HasQueryTable lists_told) run.ran.first.queries
-  made_tables =
-      all_from_members (HasQueryTable lists_told) run.ran.first.queries
+  tables : All (HasQueryTable lists_told) run.ran.ran.queries
+  tables =
+      all_from_members (HasQueryTable lists_told) run.ran.ran.queries
       (λ q c.
-      let m = zip_member IsFresh run.ran.readies run.ran.first.queries q run.ran.made.queries c in
+      let m = zip_member IsOf run.ran.readies run.ran.ran.queries q run.ran.ran.of c in
       let own = member_of_all (IsReadyOf (view_over r.catalog run.openings nothing_told) r.lines) run.ran.readies m.0 run.ran.own m.1 in
-      fresh_table m.0 q m.2 (has_lists own.at own.bytes m.0 own.line own.admitted))
+      query_table m.0 q m.2 (has_lists own.at own.bytes m.0 own.line own.admitted))
 
-  pub on_their_runs : All (IsOnItsRun lists_told) run.ran.last.queries
-  on_their_runs =
-      let w = run.ran in
-      let new = made_new run.sources.counts w.readies w.first run.opened.small w.ready w.made in
-      let world = made_world run.sources.counts w.readies w.first run.opened.small w.ready w.made in
-      let runs = subst (λ told. RunsOver r.settings told w.first w.ran.steps w.last) (sym are_told) w.ran.runs in
-      let honest = new_honest r.settings lists_told w.ran.steps w.first w.last new made_tables runs in
-      ran_honestly lists_told w.ran.steps w.first w.last world (made_true lists_told run.sources.counts w.readies w.first world w.made made_tables) honest.0
+  pub on_their_runs : QueriesAreOnTheirRuns → All (IsOnItsRun lists_told) run.ran.ran.queries
+  on_their_runs law = law (batch_over r.settings run.sources run.begun run.now run.ran.readies) run.ran.batch run.ran.ran lists_told (sym are_told) tables

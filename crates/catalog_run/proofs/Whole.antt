@@ -1,5 +1,5 @@
 -- A run as a whole.
-use Rattle.std.proofs.Common.{◌≡◌, ℕ, ◌<◌, Bool, List, ◌++◌, Contains, length, reverse, slice_index_or, Option, Result, Ok, Err, IfOk, OnOk, sym, ◌∙◌, subst}
+use Rattle.std.proofs.Common.{◌≡◌, ℕ, ◌<◌, Bool, List, ◌++◌, All, Contains, length, reverse, slice_index_or, Option, Result, Ok, Err, IfOk, OnOk, sym, ◌∙◌, subst}
 use Rattle.std.proofs.lemmas.List.{get_or_default}
 use Rattle.ranked_list.specs.declared.row.Row.{Row}
 use Rattle.source_api.specs.declared.counts.Counts.{Counts}
@@ -8,12 +8,12 @@ use Rattle.catalog_open.specs.declared.opened.Opening.{Opening}
 use Rattle.catalog_open.specs.declared.opened.Opening.TheVariants.{Closed, Open}
 use Rattle.catalog_open.specs.Views.{opening_at, view_over, nothing_told}
 use Rattle.query_admission.specs.View.{View}
-use Rattle.world_run.specs.declared.settings.Settings.{Settings}
+use Rattle.batch_run.specs.declared.settings.Settings.{Settings}
 use Rattle.catalog_run.specs.declared.outcome.LineOutcome.{LineOutcome}
 use Rattle.catalog_run.specs.Runs.{IsRun, RanOver}
 use Rattle.catalog_open.specs.Wanted.{IsMarked, IsWanted, AreMarked}
-use Rattle.catalog_open.specs.Openings.{Counted, Used, Moves, KeepsOthers, Sources, IsOpening, AreOpened, put_back}
-use Rattle.catalog_open.proofs.Moving.{moves_then, keeps_then}
+use Rattle.catalog_open.specs.Openings.{Counted, Used, IsUnread, GivesNothing, Moves, PutsBack, KeepsOthers, Sources, IsOpening, AreOpened, put_back}
+use Rattle.catalog_open.proofs.Moving.{moves_then, puts_moves, keeps_then}
 use Rattle.catalog_open.proofs.Opens.{numbered_within}
 
 opening_for : (lists : List ℕ → Option (List Row)) (catalog : List Entry) (s : Sources) (W V : ℕ → Type 0) (before now : Counted) (place : ℕ) (o : Opening)
@@ -67,15 +67,18 @@ back_keeps lists catalog W before mid now openings s are back =
 pub is_run : (catalog : List Entry) (lines : List (List ℕ)) (lists : List ℕ
     → Option (List Row)) (settings : Settings) (before mid after : Counted) (openings : List Opening) (s : Sources) (begun now : List Counts) (outcomes : List LineOutcome) (marks : List Bool)
     → AreMarked catalog lines marks → AreOpened lists catalog (IsMarked marks) before mid openings s → length openings ≡ length catalog
-    → RanOver settings s begun now (view_over catalog openings nothing_told) lines outcomes → Moves (reverse (put_back catalog s.places now)) mid after
+    → ((place : List ℕ) → GivesNothing (before place) (mid place)) → All IsUnread begun
+    → RanOver settings s begun now (view_over catalog openings nothing_told) lines outcomes → PutsBack (reverse (put_back catalog s.places now)) mid after
     → IsRun (record { catalog = catalog; lines = lines; lists = lists; settings = settings; before = before; after = after }) outcomes
-is_run catalog lines lists settings before mid after openings s begun now outcomes marks marked are all ran back = record {
+is_run catalog lines lists settings before mid after openings s begun now outcomes marks marked are all idle unread ran back = record {
   openings = openings;
   sources = s;
   mid = mid;
+  idle = idle;
   opened = opened_marked lists catalog lines marks before mid openings s marked are;
   all = all;
   begun = begun;
+  unread = unread;
   now = now;
   ran = ran;
   back = back;
@@ -89,8 +92,8 @@ if_ran (Err e) P Q R h k f = tt
 -- what the shelf counted
 pub run_moves : (lists : List ℕ → Option (List Row)) (catalog : List Entry) (W : ℕ
     → Type 0) (before mid after : Counted) (openings : List Opening) (s : Sources) (back : List Used) → AreOpened lists catalog W before mid openings s
-    → Moves back mid after → (used : List Used) × Moves used before after
-run_moves lists catalog W before mid after openings s back are moves = (are.used ++ back, moves_then are.used back before mid after are.moves moves)
+    → PutsBack back mid after → (used : List Used) × Moves used before after
+run_moves lists catalog W before mid after openings s back are moves = (are.used ++ back, moves_then are.used back before mid after are.moves (puts_moves back mid after moves))
 
 -- nothing but at the places of what the lines want
 pub run_others : (lists : List ℕ

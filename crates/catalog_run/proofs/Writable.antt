@@ -24,9 +24,9 @@ use Rattle.query_world.specs.declared.ended.Refusal.TheVariants as refusal
 use Rattle.query_world.specs.declared.inquiry.Inquiry.{Inquiry}
 use Rattle.query_world.specs.Causes.{IsCause, IsOfList}
 use Rattle.query_world.specs.Endings.{EndsAs, IsRight}
-use Rattle.query_world.specs.Kept.{IsServed, IsWorld}
+use Rattle.query_world.specs.Kept.{IsServed}
 use Rattle.query_world.specs.Made.{IsOf}
-use Rattle.query_world.specs.Worlds.{WorldState, state_at, needed, source_needed, list_needed}
+use Rattle.query_world.specs.Worlds.{state_at, needed, source_needed, list_needed}
 use Rattle.query_world.proofs.Serving.{listed, of_some_list}
 use Rattle.query_core.specs.Machines.{state_of}
 use Rattle.ranked_list.specs.declared.need.Need.{Need}
@@ -103,8 +103,8 @@ all_written view states queries number (bytes ∷ lines) (o ∷ outcomes) served
       )
 ]
 
-pub can_be_written : (view : View) (last : WorldState) (number : ℕ) (lines : List (List ℕ)) (outcomes : List LineOutcome) → IsWorld last
-    → AreOutcomes view last.queries number lines outcomes → All CanBeWritten outcomes
-can_be_written view last number lines outcomes world are =
+pub can_be_written : (view : View) (states : List State) (queries : List Inquiry) (number : ℕ) (lines : List (List ℕ)) (outcomes : List LineOutcome)
+    → All (IsServed states) queries → AreOutcomes view queries number lines outcomes → All CanBeWritten outcomes
+can_be_written view states queries number lines outcomes served are =
     All-from_recursion CanBeWritten outcomes
-    (all_written view last.states last.queries number lines outcomes (λ q c. member_of_all (IsServed last.states) last.queries q world.queries c) are)
+    (all_written view states queries number lines outcomes (λ q c. member_of_all (IsServed states) queries q served c) are)

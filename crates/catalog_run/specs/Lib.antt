@@ -5,3 +5,4 @@ pub mod Runs
 pub mod Told
 pub mod Failures
 pub mod Answers
+pub mod Giving

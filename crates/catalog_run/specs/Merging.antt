@@ -17,24 +17,18 @@ pub record IsEndedAs (ready : ReadyQuery) (ended : Ended) (o : LineOutcome) : Ty
 -- each line that was ready has one of the queries and of the endings, in their order
 abbrev pub Fit : List Stage → List ReadyQuery → List Ended → Type 0
 Fit [] [] [] = Unit {0}
-Fit [] [] (ended ∷ endings) = ⊥
-Fit [] (ready ∷ readies) endings = ⊥
 Fit (Refused refusal query ∷ stages) readies endings = Fit stages readies endings
-Fit (Ready ∷ stages) [] endings = ⊥
-Fit (Ready ∷ stages) (ready ∷ readies) [] = ⊥
 Fit (Ready ∷ stages) (ready ∷ readies) (ended ∷ endings) = Fit stages readies endings
+Fit _ _ _ = ⊥
 
 -- the outcomes are those of the lines, in their order
 abbrev pub Merges : List Stage → List ReadyQuery → List Ended → List LineOutcome → Type 0
 Merges [] [] [] outcomes = outcomes ≡ []
-Merges [] [] (ended ∷ endings) outcomes = ⊥
-Merges [] (ready ∷ readies) endings outcomes = ⊥
 Merges (stage ∷ stages) readies endings [] = ⊥
 Merges (Refused refusal query ∷ stages) readies endings (o ∷ outcomes) =
     (o ≡ record { query = query; count = 0; outcome = IsRefused refusal }) × Merges stages readies endings outcomes
-Merges (Ready ∷ stages) [] endings (o ∷ outcomes) = ⊥
-Merges (Ready ∷ stages) (ready ∷ readies) [] (o ∷ outcomes) = ⊥
 Merges (Ready ∷ stages) (ready ∷ readies) (ended ∷ endings) (o ∷ outcomes) = IsEndedAs ready ended o × Merges stages readies endings outcomes
+Merges _ _ _ _ = ⊥
 
 -- the outcome of a line that came to this before it ran; the queries that are ready and the endings stand in the opposite order
 abbrev pub Nexts : Stage → (before after : List ReadyQuery) → (endings others : List Ended) → LineOutcome → Type 0

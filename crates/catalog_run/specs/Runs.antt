@@ -1,7 +1,9 @@
 -- What query lines over the lists of a catalog come to, as a whole.
 use Rattle.std.specs.Prelude.{◌≡◌, ◌⊎◌, ◌+◌, ℕ, List, [], ◌∷◌, All, Option, Some, length, reverse, slice_get}
+use Rattle.std.specs.List.{AllZip}
 use Rattle.ranked_list.specs.declared.row.Row.{Row}
 use Rattle.source_api.specs.declared.counts.Counts.{Counts}
+use Rattle.source_api.specs.Counting.{NoneFell}
 use Rattle.cert_text.specs.declared.outcome.Outcome.TheVariants.{Refused}
 use Rattle.cert_text.specs.declared.refusal.Refusal.{Refusal}
 use Rattle.cert_text.specs.Outcome.{IsOutcome}
@@ -11,17 +13,15 @@ use Rattle.query_admission.specs.Causes.{admission_causes}
 use Rattle.query_admission.specs.Admission.{IsRefused, IsAdmitted}
 use Rattle.query_world.specs.declared.ended.Ended.{Ended}
 use Rattle.query_world.specs.declared.inquiry.Inquiry.{Inquiry}
-use Rattle.query_world.specs.Worlds.{WorldState}
-use Rattle.query_world.specs.Kept.{IsWorld}
-use Rattle.query_world.specs.Made.{IsOf, IsReadyFor, IsMade}
+use Rattle.query_world.specs.Made.{IsOf, IsReadyFor}
 use Rattle.query_world.specs.Endings.{EndsAs, IsRight}
-use Rattle.world_run.specs.declared.settings.Settings.{Settings}
-use Rattle.world_run.specs.Runs.{IsRunBy}
+use Rattle.batch_run.specs.declared.settings.Settings.{Settings}
+use Rattle.batch_run.specs.Batches.{BatchState, IsBatch, Run as BatchRun}
 use Rattle.catalog_text.specs.Catalog.{Listed as Entry}
 use Rattle.catalog_open.specs.declared.opened.Opening.{Opening}
 use Rattle.catalog_open.specs.Views.{view_over, line_over, nothing_told}
 use Rattle.catalog_open.specs.Wanted.{IsWanted}
-use Rattle.catalog_open.specs.Openings.{Counted, Moves, Sources, AreOpened, put_back}
+use Rattle.catalog_open.specs.Openings.{Counted, IsUnread, GivesNothing, PutsBack, Sources, AreOpened, put_back}
 use Rattle.catalog_run.specs.declared.outcome.LineOutcome.{LineOutcome}
 use Rattle.catalog_run.specs.Merging.{IsEndedAs}
 
@@ -32,7 +32,7 @@ pub record IsLineRefused (view : View) (number : ℕ) (bytes : List ℕ) (o : Li
   pub count : o.count ≡ 0
   pub refused : IsRefused admission_causes (line_over view number bytes) refusal o.query
 
--- the line is ready, this is its query as it ran in a world, and the outcome is how that ended: right where it is answered, and else refused as the query is
+-- the line is ready, this is its query as it stood at its end, and the outcome is how that ended: right where it is answered, and else refused as the query is
 pub record IsLineRun (view : View) (query : Inquiry) (number : ℕ) (bytes : List ℕ) (o : LineOutcome) : Type 0 where
   pub ready : Ready
   pub admitted : IsAdmitted (line_over view number bytes) ready
@@ -46,12 +46,11 @@ pub record IsLineRun (view : View) (query : Inquiry) (number : ℕ) (bytes : Lis
 -- the others are those of the lines below
 abbrev pub AreOutcomes : View → List Inquiry → ℕ → List (List ℕ) → List LineOutcome → Type 0
 AreOutcomes view queries number [] [] = queries ≡ []
-AreOutcomes view queries number [] (o ∷ outcomes) = ⊥
-AreOutcomes view queries number (bytes ∷ lines) [] = ⊥
 AreOutcomes view queries number (bytes ∷ lines) (o ∷ outcomes) =
     (IsLineRefused view number bytes o × AreOutcomes view queries (number + 1) lines outcomes)
     ⊎ ((query : Inquiry) × (others : List Inquiry) × (queries ≡ query ∷ others) × IsLineRun view query number bytes o
     × AreOutcomes view others (number + 1) lines outcomes)
+AreOutcomes _ _ _ _ _ = ⊥
 
 -- the outcome can be written: an answer with its query, a refusal with the query whose lists it names
 abbrev pub CanBeWritten : LineOutcome → Type 0
@@ -73,29 +72,34 @@ pub record Run : Type 0 where
   pub before : Counted
   pub after : Counted
 
--- the queries of the lines that are ready ran in one world over the open sources, by steps that are due and true of the lists that are told,
--- and the lines have the outcomes that follow from how they ended
+-- the batch of these queries over the open sources, which had counted so much before it and count so much now
+abbrev pub batch_over : Settings → Sources → List Counts → List Counts → List Ready → BatchRun
+batch_over settings s begun now readies = record { settings = settings; sizes = s.counts; readies = readies; told = s.told; before = begun; now = now }
+
+-- the queries of the lines that are ready ran as one batch over the open sources, no count of which fell, and the lines have the outcomes that follow from
+-- how they ended
 pub record RanOver (settings : Settings) (s : Sources) (begun now : List Counts) (view : View) (lines : List (List ℕ))
     (outcomes : List LineOutcome) : Type 0 where
   pub many : length begun ≡ length s.told
+  pub later : AllZip NoneFell begun now
   pub readies : List Ready
   pub own : All (IsReadyOf view lines) readies
   pub ready : All (IsReadyFor s.counts) readies
-  pub first : WorldState
-  pub last : WorldState
-  pub made : IsMade s.counts readies first
-  pub ran : IsRunBy settings s.told begun now first last
-  pub world : IsWorld last
-  pub outcomes_are : AreOutcomes view last.queries 1 lines outcomes
+  pub batch : BatchState
+  pub ran : IsBatch (batch_over settings s begun now readies) batch
+  pub outcomes_are : AreOutcomes view ran.queries 1 lines outcomes
 
--- the sources that the lines want were opened, and the lines ran over them; then the open sources were put back with what they had counted
+-- the sources that the lines want were opened, which reads nothing of them, and the lines ran over them; then the open sources were put back with what they
+-- had counted
 pub record IsRun (r : Run) (outcomes : List LineOutcome) : Type 0 where
   pub openings : List Opening
   pub sources : Sources
   pub mid : Counted
+  pub idle : (place : List ℕ) → GivesNothing (r.before place) (mid place)
   pub opened : AreOpened r.lists r.catalog (IsWanted r.catalog r.lines) r.before mid openings sources
   pub all : length openings ≡ length r.catalog
   pub begun : List Counts
+  pub unread : All IsUnread begun
   pub now : List Counts
   pub ran : RanOver r.settings sources begun now (view_over r.catalog openings nothing_told) r.lines outcomes
-  pub back : Moves (reverse (put_back r.catalog sources.places now)) mid r.after
+  pub back : PutsBack (reverse (put_back r.catalog sources.places now)) mid r.after

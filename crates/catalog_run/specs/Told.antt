@@ -6,7 +6,7 @@ use Rattle.ranked_list.specs.Table.{IsTable}
 use Rattle.query_text.specs.declared.query.Query.{Query}
 use Rattle.query_text.specs.Reading.{Reads}
 use Rattle.query_admission.specs.View.{View, AreTold}
-use Rattle.query_admission.specs.Causes.{Line, admission_causes, Gives, NoneOf}
+use Rattle.query_admission.specs.Causes.{QueryLine, admission_causes, Gives, NoneOf}
 use Rattle.query_admission.specs.Becomes.{Becomes}
 use Rattle.query_admission.specs.declared.lists.Listed.{Listed}
 use Rattle.catalog_text.specs.Catalog.{Listed as Entry}
@@ -28,11 +28,11 @@ view_told catalog lists = record {
 }
 
 -- a line of a run, over the lists that are told
-abbrev pub told_line : Run → ℕ → List ℕ → Line
+abbrev pub told_line : Run → ℕ → List ℕ → QueryLine
 told_line r number bytes = line_over (view_told r.catalog r.lists) number bytes
 
 -- if nothing refuses the line before it runs, the lists of its query form a table
-abbrev pub LineHasTable : Line → Type 0
+abbrev pub LineHasTable : QueryLine → Type 0
 LineHasTable x = (query : Query) (D : List (List Row)) → NoneOf (Gives x) admission_causes → Reads x.bytes (Ok query) → AreTold x.view query D
     → (n : ℕ) × IsTable n D
 
@@ -47,7 +47,6 @@ pub record TellsTables (r : Run) : Type 0 where
 -- each of some lines, numbered from this number on, becomes what it becomes over these lists
 abbrev pub AllBecome : View → ℕ → List (List ℕ) → List LineOutcome → Type 0
 AllBecome view number [] [] = Unit {0}
-AllBecome view number [] (o ∷ outcomes) = ⊥
-AllBecome view number (bytes ∷ lines) [] = ⊥
 AllBecome view number (bytes ∷ lines) (o ∷ outcomes) =
     Becomes (line_over view number bytes) o.query o.count o.outcome × AllBecome view (number + 1) lines outcomes
+AllBecome _ _ _ _ = ⊥

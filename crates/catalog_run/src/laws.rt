@@ -1,19 +1,18 @@
 //! Laws of runs of query lines.
 
-ghost use Rattle.std.specs.Prelude.{◌≡◌, ℕ, Some, List, All, slice_get};
-ghost use Rattle.source_state.specs.declared.entry.FailKind.{FailKind};
-ghost use Rattle.source_state.specs.Looking.{refusal_of};
-ghost use Rattle.query_world.specs.declared.ended.Refusal.TheVariants.{Look};
-ghost use Rattle.query_world.specs.declared.inquiry.Inquiry.{Inquiry};
+ghost use Rattle.std.specs.Prelude.{◌<◌, ℕ, List, All, length};
 ghost use Rattle.query_world.specs.Causes.{HasCause};
-ghost use Rattle.query_world.specs.Fails.{IsToldOfFail};
+ghost use Rattle.batch_run.specs.Batches.{size_at};
+ghost use Rattle.batch_run.specs.Numbered.{counts_at};
+ghost use Rattle.catalog_open.specs.Openings.{put_back, used_at};
 ghost use Rattle.catalog_run.specs.declared.outcome.LineOutcome.{LineOutcome as AnyOutcome};
 ghost use Rattle.catalog_run.specs.Runs.{Run, IsRun};
 ghost use Rattle.catalog_run.specs.Told.{AllBecome, TellsTables, view_told};
-ghost use Rattle.catalog_run.specs.Answers.{IsRightLine};
-ghost use Rattle.catalog_run.specs.Failures.{HasFailure};
+ghost use Rattle.catalog_run.specs.Answers.{IsOneOverTold, IsRightLine};
+ghost use Rattle.catalog_run.specs.Failures.{HasFailure, RefusesFew};
+ghost use Rattle.catalog_run.specs.Giving.{GaveWhatIsAsked, RoseByGiven};
 
-use query_world::a_failure_refuses_those_that_wait;
+use batch_run::queries_are_on_their_runs;
 
 /// Where the sources that the lines want tell their lists, the lists of each line that nothing refuses before it runs form a table, and
 /// nothing fails, each line comes to the one outcome that it has over these lists: it is refused for the first of the causes that holds,
@@ -21,30 +20,39 @@ use query_world::a_failure_refuses_those_that_wait;
 pub fn told_tables_give_the_one_outcome()
     ensures { (r : Run) (outcomes : List AnyOutcome) → IsRun r outcomes → TellsTables r → AllBecome (view_told r.catalog r.lists) 1 r.lines outcomes }
 {
-    a_failure_refuses_those_that_wait();
+    queries_are_on_their_runs();
 }
 
 /// Whatever the sources told, each answer is right for its query: some table agrees with its transcript, and on every table that agrees it
 /// is the one answer. Each query that is refused in running has its cause in what was read of its lists, as it stands at the end.
 pub fn outcomes_are_right()
     ensures answers { (r : Run) (outcomes : List AnyOutcome) → IsRun r outcomes → All IsRightLine outcomes }
-    ensures refusals { (r : Run) (outcomes : List AnyOutcome) → (run : IsRun r outcomes) → All (HasCause run.ran.last.states) run.ran.last.queries }
+    ensures refusals { (r : Run) (outcomes : List AnyOutcome) → (run : IsRun r outcomes) → All (HasCause run.ran.ran.states) run.ran.ran.queries }
 {}
 
-/// A line is refused for a list that wasn't opened, that failed or that was garbled only where the count behind that rose in the run at
-/// the list's place on the shelf, or stands at its last value.
-pub fn failed_lists_have_causes()
-    ensures { (r : Run) (outcomes : List AnyOutcome) → IsRun r outcomes → All (HasFailure r) outcomes }
-{
-    a_failure_refuses_those_that_wait();
-}
+/// Whatever else failed in the run, an answer over lists that the shelf tells, and that form a table, is the one answer over them.
+pub fn answers_over_told_tables_are_the_one()
+    ensures { (r : Run) (outcomes : List AnyOutcome) → IsRun r outcomes → All (IsOneOverTold r) outcomes }
+{}
 
-/// One failure isn't for ever. A query that is refused because a call failed had begun to wait for its need at an earlier turn of its
-/// own, and a call of the need's source failed so between that turn and the one that refused it.
-pub fn a_failure_refuses_those_that_waited()
-    ensures { (r : Run) (outcomes : List AnyOutcome) → (run : IsRun r outcomes) → (query : ℕ) (q : Inquiry) (list : ℕ) (what : FailKind)
-        → slice_get run.ran.last.queries query ≡ Some q → q.refusal ≡ Some (Look list (refusal_of what))
-        → IsToldOfFail run.ran.first run.ran.ran.steps run.ran.last query list what }
-{
-    a_failure_refuses_those_that_wait();
-}
+/// A line is refused for a list that wasn't opened only where the count behind that rose at the list's place on the shelf while the sources
+/// were opened, and for a list that failed or that was garbled only where it rose there while the lines ran; or it stands at its last value.
+pub fn failed_lists_have_causes()
+    ensures { (r : Run) (outcomes : List AnyOutcome) → (run : IsRun r outcomes) → All (HasFailure r run.mid) outcomes }
+{}
+
+/// One failure isn't for ever. Of the lines that are refused because calls of a place's sources failed, or were answered by garbled data,
+/// each worker has no more than there were such calls.
+pub fn failures_refuse_few_lines()
+    ensures { (r : Run) (outcomes : List AnyOutcome) → IsRun r outcomes → (place : List ℕ) → RefusesFew r outcomes place }
+{}
+
+/// However many the lines, a source gives no row beyond the reach of the greatest depth to which one of them asked, and no more grades than
+/// there are objects whose grades were asked for, from when it is opened until it is put back. What the shelf counts of a place rises by
+/// what the open sources of the place gave, and by no more.
+pub fn sources_give_what_is_asked()
+    ensures sources { (r : Run) (outcomes : List AnyOutcome) → (run : IsRun r outcomes) → (source : ℕ) → source < length run.sources.places
+        → GaveWhatIsAsked r.settings run.ran.ran.queries source (size_at run.sources.counts source) (counts_at run.now source) }
+    ensures places { (r : Run) (outcomes : List AnyOutcome) → (run : IsRun r outcomes) → (place : List ℕ)
+        → RoseByGiven (r.before place) (r.after place) (used_at place (put_back r.catalog run.sources.places run.now)) }
+{}

@@ -1,31 +1,35 @@
 //! Query lines over a catalog.
 
-ghost use Rattle.std.specs.Prelude.{◌≡◌, [], ℕ, Bool, List, Option, All, length, map, IfOk, OnOk};
+ghost use Rattle.std.specs.Prelude.{◌≡◌, ◌≤◌, [], ℕ, Bool, List, Option, All, length, map, IfOk, OnOk};
 ghost use Rattle.ranked_list.specs.declared.row.Row.{Row};
 ghost use Rattle.source_api.specs.declared.counts.Counts.{Counts};
 ghost use Rattle.source_api.specs.Places.{SameAtEach};
-ghost use Rattle.world_run.specs.Runs.{AreSettings};
+ghost use Rattle.batch_run.specs.Ranges.{AreSettings};
 ghost use Rattle.catalog_open.specs.Views.{view_over, nothing_told};
 ghost use Rattle.catalog_open.specs.Wanted.{IsMarked, IsWanted};
-ghost use Rattle.catalog_open.specs.Openings.{AreOpened, Counted, IsKnownAt, KeepsOthers, Moves, Used};
+ghost use Rattle.catalog_open.specs.Openings.{AreOpened, Counted, GivesNothing, IsKnownAt, IsUnread, KeepsOthers, Moves, Used};
 ghost use Rattle.catalog_run.specs.Runs.{CanBeWritten, IsRun, RanOver};
 
 use super::Memory;
 use super::outcome::LineOutcome;
 use super::run::run_admitted;
+use batch_run::Settings;
 use catalog_open::{Catalogued, Opened, admit_all, mark_wanted, open_wanted, put_back_all};
 use catalog_text::Catalog;
 use source_api::{Shelf, Source};
 use std::alloc::Global;
-use world_run::Settings;
+use std::sync::Wait;
+use std::thread::Threads;
 
 /// Answers query lines, numbered from 1, over the lists of a catalog whose sources are taken of a shelf.
 ///
 /// The sources that the lines want are opened in the order of the catalog: those of the lists that a line names which nothing refuses
 /// before its lists are opened. A source that fails at this, or is answered by garbled data, isn't open. Then the lines are admitted,
-/// and the queries that are ready run together, over one state of each source. At last the sources are put back, where memory is
-/// refused too.
-pub fn run_lines<H: Shelf>(
+/// and the queries that are ready run at the same time, over one state of each source: as many workers as the settings say, and beside
+/// them one fetcher a source. A call may wait for ever, and does where the system makes no thread. At last the sources are put back,
+/// where memory is refused too.
+pub fn run_lines<W: Threads + Wait + Sync, H: Shelf>(
+    rt: &W,
     alloc: Global,
     shelf: &mut H,
     catalog: &Catalog,
@@ -53,6 +57,7 @@ pub fn run_lines<H: Shelf>(
     let mut opened = Opened::make(alloc);
     let mut sources = Vec::new(alloc);
     let result = open_and_run(
+        rt,
         alloc,
         shelf,
         catalog,
@@ -67,7 +72,8 @@ pub fn run_lines<H: Shelf>(
 }
 
 /// Opens the sources that are marked, and runs the lines over them.
-fn open_and_run<H: Shelf>(
+fn open_and_run<W: Threads + Wait + Sync, H: Shelf>(
+    rt: &W,
     alloc: Global,
     shelf: &mut H,
     catalog: &Catalog,
@@ -94,7 +100,8 @@ fn open_and_run<H: Shelf>(
           counts = opened.new.counts.items;
         }) }
     ensures all { OnOk result (length opened.new.openings.items ≡ length catalog.now) }
-    ensures ran { IfOk result (λ outcomes. (begun : List Counts) × RanOver settings (record {
+    ensures idle { (place : List ℕ) → GivesNothing (H.at shelf.old place) (H.at shelf.new place) }
+    ensures ran { IfOk result (λ outcomes. (begun : List Counts) × All IsUnread begun × RanOver settings (record {
       told = map H.Item.list sources.new.items;
       places = opened.new.places.items;
       counts = opened.new.counts.items;
@@ -106,11 +113,12 @@ fn open_and_run<H: Shelf>(
     if open_wanted(alloc, shelf, catalog, marks, opened, sources).is_err() {
         return Err(Memory);
     }
-    run_opened(alloc, catalog, opened, sources, lines, settings)
+    run_opened(rt, alloc, catalog, opened, sources, lines, settings)
 }
 
 /// Admits the lines over the open sources, and runs the queries that are ready.
-fn run_opened<S: Source>(
+fn run_opened<W: Threads + Wait + Sync, S: Source>(
+    rt: &W,
     alloc: Global,
     catalog: &Catalog,
     opened: &Opened,
@@ -125,6 +133,7 @@ fn run_opened<S: Source>(
           places = opened.now.places.items;
           counts = opened.now.counts.items;
         }) }
+    requires few { length sources.old.items ≤ length catalog.now }
     ensures many { length sources.new.items ≡ length sources.old.items }
     ensures lists { map S.list sources.new.items ≡ map S.list sources.old.items }
     ensures ran { IfOk result (λ outcomes. RanOver settings (record {
@@ -136,6 +145,7 @@ fn run_opened<S: Source>(
         (map (λ line. line.now) lines.now) outcomes.items) }
     ensures writable { IfOk result (λ outcomes. All CanBeWritten outcomes.items) }
 {
+    prove!(sources.len() <= catalog.len() as usize);
     let lists = Catalogued {
         catalog,
         openings: &opened.openings,
@@ -143,12 +153,5 @@ fn run_opened<S: Source>(
     let Ok(admissions) = admit_all(alloc, &lists, lines) else {
         return Err(Memory);
     };
-    run_admitted(
-        alloc,
-        &opened.counts,
-        &opened.places,
-        sources,
-        admissions,
-        settings,
-    )
+    run_admitted(rt, alloc, &opened.counts, sources, admissions, settings)
 }

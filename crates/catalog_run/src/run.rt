@@ -1,56 +1,86 @@
 //! The run of queries over open sources.
 
-ghost use Rattle.std.specs.Prelude.{◌≡◌, ◌≤◌, ℕ, List, All, IfOk, length, map};
+ghost use Rattle.std.specs.Prelude.{◌≡◌, ◌≤◌, ◌<◌, ◌^◌, [], ℕ, List, All, IfOk, length, map};
+ghost use Rattle.std.specs.List.{AllZip};
+ghost use Rattle.source_api.specs.Counting.{NoneFell};
 ghost use Rattle.query_admission.specs.View.{View as AnyView};
 ghost use Rattle.query_world.specs.Made.{IsReadyFor};
-ghost use Rattle.world_run.specs.Runs.{AreSettings};
+ghost use Rattle.batch_run.specs.Ranges.{AreSettings};
+ghost use Rattle.batch_run.specs.Batches.{IsBatch};
 ghost use Rattle.catalog_open.specs.Admissions.{AreAdmitted};
-ghost use Rattle.catalog_run.specs.Runs.{CanBeWritten, RanOver};
+ghost use Rattle.catalog_run.specs.Runs.{CanBeWritten, RanOver, batch_over};
 
 use super::Memory;
 use super::merging::merge;
 use super::outcome::LineOutcome;
+use super::slots::{fill_slots, take_out};
+use batch_run::{Batch, Settings, run_all};
 use catalog_open::Admissions;
-use query_world::World;
+use limits::MAX_OBJECTS;
+use query_core::Ready;
 use source_api::Source;
 use std::alloc::Global;
-use world_run::{Settings, run_world};
+use std::sync::Wait;
+use std::thread::Threads;
 
-/// Runs the queries that are ready over the sources of these counts, and gives the outcomes of the lines.
-pub(crate) fn run_admitted<S: Source>(
+/// Runs queries over the sources of these counts, which stand in slots while they run.
+fn run_queries<W: Threads + Wait + Sync, S: Source>(
+    rt: &W,
     alloc: Global,
     counts: &[u32],
-    places: &[u32],
-    sources: &mut [S],
+    sources: &mut Vec<S>,
+    queries: &[Ready],
+    settings: Settings,
+) -> Result<Batch, Memory>
+    requires settings { AreSettings settings }
+    requires many { length sources.old.items ≡ length counts.now }
+    requires few_sources { length counts.now < 2 ^ 32 }
+    requires few_queries { length queries.now < 2 ^ 32 }
+    requires small { All (λ count. count ≤ MAX_OBJECTS) counts.now }
+    requires ready { All (IsReadyFor counts.now) queries.now }
+    ensures many { length sources.new.items ≡ length sources.old.items }
+    ensures lists { map S.list sources.new.items ≡ map S.list sources.old.items }
+    ensures later { AllZip NoneFell (map S.counts sources.old.items) (map S.counts sources.new.items) }
+    ensures batch { IfOk result (IsBatch (batch_over settings (record { told = map S.list sources.old.items; places = []; counts = counts.now })
+        (map S.counts sources.old.items) (map S.counts sources.new.items) queries.now)) }
+{
+    let Ok(mut slots) = Vec::with_capacity(alloc, sources.len()) else {
+        return Err(Memory);
+    };
+    fill_slots(sources, &mut slots);
+    let result = run_all(rt, alloc, &mut slots, counts, queries, settings);
+    take_out(slots, sources);
+    match result {
+        Ok(batch) => Ok(batch),
+        Err(_) => Err(Memory),
+    }
+}
+
+/// Runs the queries that are ready over the sources of these counts, and gives the outcomes of the lines.
+pub(crate) fn run_admitted<W: Threads + Wait + Sync, S: Source>(
+    rt: &W,
+    alloc: Global,
+    counts: &[u32],
+    sources: &mut Vec<S>,
     admissions: Admissions,
     settings: Settings,
 ) -> Result<Vec<LineOutcome>, Memory>
     requires settings { AreSettings settings }
-    requires many { length sources.old ≡ length counts.now }
-    requires small { All (λ count. count ≤ 200000) counts.now }
+    requires many { length sources.old.items ≡ length counts.now }
+    requires few { length counts.now < 2 ^ 32 }
+    requires small { All (λ count. count ≤ MAX_OBJECTS) counts.now }
     requires ready { All (IsReadyFor counts.now) admissions.readies.items }
     requires admitted { (view : AnyView) × (lines : List (List ℕ)) × AreAdmitted view 1 lines admissions.stages.items admissions.readies.items }
-    ensures many { length sources.new ≡ length sources.old }
-    ensures lists { map S.list sources.new ≡ map S.list sources.old }
-    ensures ran { IfOk result (λ outcomes. (view : AnyView) (lines : List (List ℕ)) → AreAdmitted view 1 lines admissions.stages.items admissions.readies.items
-        → RanOver settings (record { told = map S.list sources.old; places = places.now; counts = counts.now })
-        (map S.counts sources.old) (map S.counts sources.new) view lines outcomes.items) }
+    ensures many { length sources.new.items ≡ length sources.old.items }
+    ensures lists { map S.list sources.new.items ≡ map S.list sources.old.items }
+    ensures ran { IfOk result (λ outcomes. (view : AnyView) (lines : List (List ℕ)) (places : List ℕ)
+        → AreAdmitted view 1 lines admissions.stages.items admissions.readies.items
+        → RanOver settings (record { told = map S.list sources.old.items; places = places; counts = counts.now })
+        (map S.counts sources.old.items) (map S.counts sources.new.items) view lines outcomes.items) }
     ensures writable { IfOk result (λ outcomes. All CanBeWritten outcomes.items) }
 {
-    if counts.len() > u32::MAX as usize {
-        return Err(Memory);
-    }
-    if admissions.readies.len() > u32::MAX as usize {
-        return Err(Memory);
-    }
-    let Ok(mut world) = World::make(alloc, counts, &admissions.readies) else {
+    let Ok(batch) = run_queries(rt, alloc, counts, sources, &admissions.readies, settings) else {
         return Err(Memory);
     };
-    if run_world(alloc, &mut world, sources, settings).is_err() {
-        return Err(Memory);
-    }
-    let Ok(endings) = world.finish() else {
-        return Err(Memory);
-    };
-    merge(alloc, admissions, endings.into_vec())
+    merge(alloc, admissions, batch.into_endings())
 }

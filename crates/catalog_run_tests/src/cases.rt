@@ -2,35 +2,17 @@
 
 ghost use Rattle.std.specs.Prelude.{All, IfSome};
 ghost use Rattle.catalog_run.specs.Runs.{CanBeWritten};
-ghost use Rattle.world_run.specs.Runs.{AreSettings};
+ghost use Rattle.batch_run.specs.Ranges.{AreSettings};
 
 use catalog_run::{LineOutcome, Settings, run_lines};
 use catalog_text::read_catalog;
 use cert_text::put_outcome;
-use ranked_list::Row;
-use source_api::{MemShelf, MemSource};
+use source_api::MemShelf;
+use source_support::{Held, shelf_of};
 use std::alloc::Global;
+use std::sync::Wait;
+use std::thread::Threads;
 use tk_io::{MemSink, Pieces};
-
-/// How a source differs from an honest one: it states another size, its page call or its grade call of this number fails or is
-/// garbled, or it lies about the grade of an object.
-#[derive(Clone, Copy)]
-pub enum Fault {
-    None,
-    States(u64),
-    FailsPage(u64),
-    GarblesPage(u64),
-    FailsGrade(u64),
-    Lies(u32, u32),
-}
-
-/// A source on the shelf: its place, its rows as objects with their grades, and its fault.
-#[derive(Clone, Copy)]
-pub struct Held {
-    pub place: &'static str,
-    pub rows: &'static [(u32, u32)],
-    pub fault: Fault,
-}
 
 /// A run with one worker that reads no page ahead: the catalog's text, the sources on the shelf, the lines, how many rows a page has,
 /// and the call for a source that fails; and the text that it is to write, in pieces.
@@ -42,47 +24,6 @@ pub struct Case {
     pub page: u32,
     pub fails_take: Option<u64>,
     pub text: &'static [&'static str],
-}
-
-/// A source of these rows with this fault.
-fn source_of(alloc: Global, held: &Held) -> Option<MemSource> {
-    let mut rows = Vec::new(alloc);
-    for (object, grade) in held.rows {
-        rows.push(Row {
-            object: *object,
-            grade: *grade,
-        })
-        .ok()?;
-    }
-    let mut source = MemSource::make(alloc, &rows).ok()?;
-    match bend(&mut source, held.fault) {
-        Some(()) => Some(source),
-        None => None,
-    }
-}
-
-/// Gives a source a fault.
-fn bend(source: &mut MemSource, fault: Fault) -> Option<()> {
-    match fault {
-        Fault::None => Some(()),
-        Fault::States(size) => {
-            source.stated = Some(size);
-            Some(())
-        }
-        Fault::FailsPage(call) => source.fail_pages.push(call).ok(),
-        Fault::GarblesPage(call) => source.garble_pages.push(call).ok(),
-        Fault::FailsGrade(call) => source.fail_grades.push(call).ok(),
-        Fault::Lies(object, grade) => source.lies.push(Row { object, grade }).ok(),
-    }
-}
-
-/// Puts these sources on a shelf.
-fn put_sources(alloc: Global, shelf: &mut MemShelf, sources: &[Held]) -> Option<()> {
-    for held in sources {
-        let source = source_of(alloc, held)?;
-        shelf.add_source(held.place, source).ok()?;
-    }
-    Some(())
 }
 
 /// The lines as bytes.
@@ -106,7 +47,12 @@ fn settings_of(page: u32) -> Settings
 }
 
 /// The outcomes of a run over a shelf.
-fn outcomes_of(alloc: Global, shelf: &mut MemShelf, case: &Case) -> Option<Vec<LineOutcome>>
+fn outcomes_of<W: Threads + Wait + Sync>(
+    rt: &W,
+    alloc: Global,
+    shelf: &mut MemShelf,
+    case: &Case,
+) -> Option<Vec<LineOutcome>>
     ensures { IfSome result (λ outcomes. All CanBeWritten outcomes.items) }
 {
     let Ok(catalog) = read_catalog(alloc, case.catalog.as_bytes()) else {
@@ -115,7 +61,8 @@ fn outcomes_of(alloc: Global, shelf: &mut MemShelf, case: &Case) -> Option<Vec<L
     let Some(lines) = bytes_of(alloc, case.lines) else {
         return None;
     };
-    match run_lines(alloc, shelf, &catalog, &lines, settings_of(case.page)) {
+    let settings = settings_of(case.page);
+    match run_lines(rt, alloc, shelf, &catalog, &lines, settings) {
         Ok(outcomes) => Some(outcomes),
         Err(_) => None,
     }
@@ -154,12 +101,16 @@ fn is_text(bytes: &[u8], pieces: &[&'static str]) -> bool {
 }
 
 /// Whether a run over a shelf writes what it is to write.
-fn runs_over(alloc: Global, shelf: &mut MemShelf, case: &Case) -> Option<bool> {
-    put_sources(alloc, shelf, case.sources)?;
+fn runs_over<W: Threads + Wait + Sync>(
+    rt: &W,
+    alloc: Global,
+    shelf: &mut MemShelf,
+    case: &Case,
+) -> Option<bool> {
     if let Some(call) = case.fails_take {
         shelf.fail_takes.push(call).ok()?;
     }
-    let outcomes = outcomes_of(alloc, shelf, case)?;
+    let outcomes = outcomes_of(rt, alloc, shelf, case)?;
     let mut out = MemSink::make(alloc, 4000, &[]).ok()?;
     match write_all(&mut out, &outcomes) {
         Some(()) => Some(is_text(out.taken(), case.text)),
@@ -168,17 +119,19 @@ fn runs_over(alloc: Global, shelf: &mut MemShelf, case: &Case) -> Option<bool> {
 }
 
 /// Whether a run writes what it is to write.
-fn runs(alloc: Global, case: &Case) -> bool {
-    let mut shelf = MemShelf::make(alloc);
-    runs_over(alloc, &mut shelf, case) == Some(true)
+fn runs<W: Threads + Wait + Sync>(rt: &W, alloc: Global, case: &Case) -> bool {
+    match shelf_of(alloc, case.sources) {
+        Some(mut shelf) => runs_over(rt, alloc, &mut shelf, case) == Some(true),
+        None => false,
+    }
 }
 
 /// The first of these runs, counted from 1, that doesn't write what it is to write; 0 where each does.
-pub fn first_wrong(alloc: Global, cases: &[Case]) -> u64 {
+pub fn first_wrong<W: Threads + Wait + Sync>(rt: &W, alloc: Global, cases: &[Case]) -> u64 {
     let mut number: u64 = 0;
     for case in cases {
         number = number.saturating_add(1);
-        if !runs(alloc, case) {
+        if !runs(rt, alloc, case) {
             return number;
         }
     }

@@ -1,6 +1,7 @@
 //! The outcomes of lines.
 
-use super::cases::{Case, Fault, Held, first_wrong};
+use super::cases::{Case, first_wrong};
+use source_support::{Held, Kind};
 use std::test::Fail;
 
 /// The first lists: their objects' grades don't rise.
@@ -13,7 +14,7 @@ const BOTH: &[Held] = &[
     Held {
         place: "a",
         rows: A,
-        fault: Fault::None,
+        kind: Kind::Honest,
     },
     SECOND,
 ];
@@ -21,7 +22,7 @@ const BOTH: &[Held] = &[
 const SECOND: Held = Held {
     place: "b",
     rows: B,
-    fault: Fault::None,
+    kind: Kind::Honest,
 };
 
 const TWO: &str = "name,place,random\nA,a,yes\nB,b,yes\n";
@@ -58,13 +59,13 @@ const BEFORE: &[Case] = &[
             Held {
                 place: "a",
                 rows: A,
-                fault: Fault::None,
+                kind: Kind::Honest,
             },
             SECOND,
             Held {
                 place: "s",
                 rows: &[(1, 5), (2, 4)],
-                fault: Fault::None,
+                kind: Kind::Honest,
             },
         ],
         lines: &[
@@ -96,7 +97,7 @@ const BEFORE: &[Case] = &[
 
 #[test]
 fn refuses_before_running(rt: HostRuntime) -> Result<(), Fail> {
-    assert_eq!(rt; first_wrong(rt.alloc(), BEFORE), 0);
+    assert_eq!(rt; first_wrong(&rt, rt.alloc(), BEFORE), 0);
     Ok(())
 }
 
@@ -108,12 +109,12 @@ const ROWS: &[Case] = &[
             Held {
                 place: "a",
                 rows: &[(1, 500), (2, 600)],
-                fault: Fault::None,
+                kind: Kind::Honest,
             },
             Held {
                 place: "b",
                 rows: &[(1, 400), (2, 300)],
-                fault: Fault::None,
+                kind: Kind::Honest,
             },
         ],
         lines: &[LINE, "top 2 by sum(A,B) using ta"],
@@ -129,7 +130,7 @@ const ROWS: &[Case] = &[
         sources: &[Held {
             place: "a",
             rows: &[(7, 9), (8, 8), (7, 7)],
-            fault: Fault::None,
+            kind: Kind::Honest,
         }],
         lines: &["top 3 by A using nra"],
         page: 2,
@@ -142,7 +143,7 @@ const ROWS: &[Case] = &[
             Held {
                 place: "a",
                 rows: A,
-                fault: Fault::States(5),
+                kind: Kind::States(5),
             },
             SECOND,
         ],
@@ -155,7 +156,7 @@ const ROWS: &[Case] = &[
 
 #[test]
 fn refuses_by_the_rows(rt: HostRuntime) -> Result<(), Fail> {
-    assert_eq!(rt; first_wrong(rt.alloc(), ROWS), 0);
+    assert_eq!(rt; first_wrong(&rt, rt.alloc(), ROWS), 0);
     Ok(())
 }
 
@@ -167,22 +168,22 @@ const OBJECTS: &[Case] = &[
             Held {
                 place: "a",
                 rows: &[(1, 9), (2, 8)],
-                fault: Fault::None,
+                kind: Kind::Honest,
             },
             Held {
                 place: "b",
                 rows: &[(3, 7), (1, 6)],
-                fault: Fault::None,
+                kind: Kind::Honest,
             },
             Held {
                 place: "c",
                 rows: &[(4, 7), (1, 6)],
-                fault: Fault::None,
+                kind: Kind::Honest,
             },
             Held {
                 place: "d",
                 rows: &[(5, 7), (1, 6)],
-                fault: Fault::None,
+                kind: Kind::Honest,
             },
         ],
         lines: &[
@@ -200,12 +201,12 @@ const OBJECTS: &[Case] = &[
             Held {
                 place: "a",
                 rows: &[(1, 9), (2, 8)],
-                fault: Fault::None,
+                kind: Kind::Honest,
             },
             Held {
                 place: "b",
                 rows: &[(1, 7), (3, 6)],
-                fault: Fault::None,
+                kind: Kind::Honest,
             },
         ],
         lines: &["top 2 by sum(A,B) using ta"],
@@ -236,7 +237,7 @@ const OBJECTS: &[Case] = &[
 
 #[test]
 fn refuses_by_the_objects(rt: HostRuntime) -> Result<(), Fail> {
-    assert_eq!(rt; first_wrong(rt.alloc(), OBJECTS), 0);
+    assert_eq!(rt; first_wrong(&rt, rt.alloc(), OBJECTS), 0);
     Ok(())
 }
 
@@ -248,7 +249,7 @@ const CALLS: &[Case] = &[
             Held {
                 place: "a",
                 rows: A,
-                fault: Fault::FailsPage(2),
+                kind: Kind::FailsAtPage(2),
             },
             SECOND,
         ],
@@ -263,12 +264,12 @@ const CALLS: &[Case] = &[
             Held {
                 place: "b",
                 rows: B,
-                fault: Fault::GarblesPage(1),
+                kind: Kind::GarblesAtPage(1),
             },
             Held {
                 place: "a",
                 rows: A,
-                fault: Fault::None,
+                kind: Kind::Honest,
             },
         ],
         lines: &[LINE],
@@ -282,7 +283,7 @@ const CALLS: &[Case] = &[
             Held {
                 place: "a",
                 rows: A,
-                fault: Fault::FailsGrade(1),
+                kind: Kind::FailsAtGrade(1),
             },
             SECOND,
         ],
@@ -306,7 +307,7 @@ const CALLS: &[Case] = &[
 
 #[test]
 fn refuses_by_calls_that_fail(rt: HostRuntime) -> Result<(), Fail> {
-    assert_eq!(rt; first_wrong(rt.alloc(), CALLS), 0);
+    assert_eq!(rt; first_wrong(&rt, rt.alloc(), CALLS), 0);
     Ok(())
 }
 
@@ -318,7 +319,7 @@ const GRADES: &[Case] = &[
             Held {
                 place: "a",
                 rows: A,
-                fault: Fault::Lies(2, 850),
+                kind: Kind::Lies(2, 850),
             },
             SECOND,
         ],
@@ -333,7 +334,7 @@ const GRADES: &[Case] = &[
             Held {
                 place: "a",
                 rows: A,
-                fault: Fault::Lies(2, 950),
+                kind: Kind::Lies(2, 950),
             },
             SECOND,
         ],
@@ -346,6 +347,6 @@ const GRADES: &[Case] = &[
 
 #[test]
 fn refuses_by_the_grades(rt: HostRuntime) -> Result<(), Fail> {
-    assert_eq!(rt; first_wrong(rt.alloc(), GRADES), 0);
+    assert_eq!(rt; first_wrong(&rt, rt.alloc(), GRADES), 0);
     Ok(())
 }

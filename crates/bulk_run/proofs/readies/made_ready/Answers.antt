@@ -11,6 +11,6 @@ pub returns : goal.returns
 returns c =
     let input = c.args.input in
     let tree : c.in-Ok.query.expr ≡ made_tree c.args.number input.lists = ap (λ (q : Query). q.expr) c.in-Ok.ensures.made in
-    let many : c.lists.result ≡ input.lists =
-    c.lists.ensures.lists ∙ ap list_count tree ∙ (made_fits c.args.number input.lists c.requires.some_lists c.requires.few_lists).names in
-    ready_made input c.args.number _ c.requires c.in-Ok.ensures.made refl (c.in_ok-sources.ensures ∙ ap list_numbers many) c.in-Ok.ensures.lawful c.lists.ensures.made
+    let many : c.lists-lists.result ≡ input.lists =
+    c.lists-lists.ensures.lists ∙ ap list_count tree ∙ (made_fits c.args.number input.lists c.requires.some_lists c.requires.few_lists).names in
+    ready_made input c.args.number _ c.requires c.in-Ok.ensures.made refl (c.in-Ok-source_numbers.ensures ∙ ap list_numbers many) c.in-Ok.ensures.lawful c.lists-lists.ensures.made

@@ -2,4 +2,4 @@ use Rattle.catalog_run.proofs.Failures.{lines_failures}
 use Rattle.catalog_run.proofs.laws.failed_lists_have_causes.Goals as goal
 
 pub returns : goal.returns
-returns c = λ r outcomes run. lines_failures c.a_failure_refuses_those_that_wait.ensures r outcomes run
+returns c = λ r outcomes run. lines_failures r outcomes run

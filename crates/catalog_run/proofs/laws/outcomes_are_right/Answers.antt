@@ -6,9 +6,9 @@ use Rattle.catalog_run.proofs.Right.{lines_right}
 use Rattle.catalog_run.proofs.laws.outcomes_are_right.Goals as goal
 
 pub returns-clause-answers : goal.returns-clause-answers
-returns-clause-answers c = λ r outcomes run. lines_right (view_over r.catalog run.openings nothing_told) run.ran.last.queries 1 r.lines outcomes run.ran.outcomes_are
+returns-clause-answers c = λ r outcomes run. lines_right (view_over r.catalog run.openings nothing_told) run.ran.ran.queries 1 r.lines outcomes run.ran.outcomes_are
 
 pub returns-clause-refusals : goal.returns-clause-refusals
 returns-clause-refusals c = λ r outcomes run.
-    let w = run.ran.last in
-    all_from_members (HasCause w.states) w.queries (λ q m. (member_of_all (IsServed w.states) w.queries q run.ran.world.queries m).cause)
+    let b = run.ran.ran in
+    all_from_members (HasCause b.states) b.queries (λ q m. (member_of_all (IsServed b.states) b.queries q b.served m).cause)

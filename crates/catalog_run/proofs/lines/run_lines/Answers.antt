@@ -1,5 +1,5 @@
 use Rattle.std.proofs.Common.{◌≡◌, Contains, length, map, reverse, subst}
-use Rattle.catalog_open.specs.Openings.{AreOpened, KeepsOthers, Moves, put_back}
+use Rattle.catalog_open.specs.Openings.{AreOpened, KeepsOthers, PutsBack, put_back}
 use Rattle.catalog_open.specs.Wanted.{IsMarked}
 use Rattle.catalog_run.proofs.Whole.{if_ran, is_run, run_moves, run_others}
 use Rattle.catalog_run.proofs.lines.run_lines.Goals as goal
@@ -20,6 +20,6 @@ pub returns-clause-run : goal.returns-clause-run
 returns-clause-run g c =
     let r = c.open_and_run-result in
     let are = subst (λ marks. AreOpened (g.H.Shelf.lists c.args.shelf.now) c.args.catalog.now (IsMarked marks) (g.H.Shelf.at c.args.shelf.now) (g.H.Shelf.at r.new.shelf) r.new.opened.openings.items (record { told = map g.H.Item.Source.list r.new.sources.items; places = r.new.opened.places.items; counts = r.new.opened.counts.items })) c.deref.ensures.value r.ensures.opened in
-    let back = subst (λ places. Moves (reverse (put_back c.args.catalog.now places (map g.H.Item.Source.counts r.new.sources.items))) (g.H.Shelf.at r.new.shelf) (g.H.Shelf.at c.put_back_all.new.shelf)) c.deref-2.ensures.value c.put_back_all.ensures.moves in
+    let back = subst (λ places. PutsBack (reverse (put_back c.args.catalog.now places (map g.H.Item.Source.counts r.new.sources.items))) (g.H.Shelf.at r.new.shelf) (g.H.Shelf.at c.put_back_all.new.shelf)) c.deref-2.ensures.value c.put_back_all.ensures.moves in
     if_ran r.result _ _ (length r.new.opened.openings.items ≡ length c.args.catalog.now) r.ensures.ran r.ensures.all
-    (λ outcomes ran all. is_run c.args.catalog.now (map (λ line. line.now) c.args.lines.now) (g.H.Shelf.lists c.args.shelf.now) c.args.settings (g.H.Shelf.at c.args.shelf.now) (g.H.Shelf.at r.new.shelf) (g.H.Shelf.at c.put_back_all.new.shelf) r.new.opened.openings.items _ ran.0 (map g.H.Item.Source.counts r.new.sources.items) outcomes.items c.in-Ok.marks.items c.in-Ok.ensures are all ran.1 back)
+    (λ outcomes ran all. is_run c.args.catalog.now (map (λ line. line.now) c.args.lines.now) (g.H.Shelf.lists c.args.shelf.now) c.args.settings (g.H.Shelf.at c.args.shelf.now) (g.H.Shelf.at r.new.shelf) (g.H.Shelf.at c.put_back_all.new.shelf) r.new.opened.openings.items _ ran.0 (map g.H.Item.Source.counts r.new.sources.items) outcomes.items c.in-Ok.marks.items c.in-Ok.ensures are all r.ensures.idle ran.1 ran.2 back)

@@ -2,16 +2,15 @@ use Rattle.std.proofs.Common.{◌≡◌, ◌+◌, None, length, ap, ◌∙◌, a
 use Rattle.std.specs.Slice.Iter.{iter_rest}
 use Rattle.std.proofs.lemmas.Grind.{common_steps}
 use Rattle.std.proofs.lemmas.Iterator.{YieldsList-from_slice}
-use Rattle.std.proofs.lemmas.Iterator.Consumers.{YieldsList-turn}
+use Rattle.std.proofs.lemmas.Iterator.Consumers.{YieldsList-turn, YieldsList-end}
 use Rattle.std.proofs.lemmas.List.{length_push, length-set}
-use Rattle.bulk_run.proofs.HeldLaws.{none_kept, row_kept, grades_kept}
-use Rattle.bulk_run.proofs.made_source.MadeSource.make.Goals as goal
+use Rattle.bulk_run.proofs.HeldLaws.{none_kept, grades_kept, grades_whole}
+use Rattle.bulk_run.proofs.made_source.grades_of.Goals as goal
 
 pub loop-row-init : goal.loop-row-init
 loop-row-init c =
     let room : length c.resize.new.self.items ≡ length c.args.list.now + 1 = first_of (search rules, grind (arith, common_steps)) in
     record {
-      rows = c.in_ok-rows.ensures.items;
       grades = none_kept (length c.args.list.now + 1) c.resize.new.self.items room (λ k l. c.in_ok-resize.ensures.by_index.1 k None (search rules) (first_of (search rules, grind (arith, common_steps))) (first_of (search rules, grind (arith, common_steps))));
       room = room;
     }
@@ -23,7 +22,12 @@ loop-row-preserved c =
     let h = c.loop-row.invariant in
     rw (length_push c.loop-row.yielded c.in-Some.row)
     (record {
-      rows = row_kept list c.loop-row.rows.items c.push.new.self.items (length c.loop-row.yielded) c.in-Some.row.now t.0 t.1 h.rows c.in_ok-push.ensures.items;
       grades = grades_kept list c.loop-row.grades.items (length c.loop-row.yielded) c.in-Some.row.now t.0 t.1 c.requires h.room h.grades;
       room = length-set c.loop-row.grades.items c.in-Some.row.now.object _ ∙ h.room;
     })
+
+pub returns : goal.returns
+returns c =
+    let list = c.args.list.now in
+    let t = YieldsList-end (YieldsList-from_slice list (ap iter_rest c.into_iter-row-iterator.ensures.into_iter_gives ∙ c.iter-row-items.ensures.rest)) c.loop-row.yielded _ c.loop-row.yielded_by _ _ c.in-None.is c.next.ensures.steps in
+    grades_whole list c.loop-row.grades.items (length c.loop-row.yielded) (omega (arith, t.1)) c.loop-row.invariant.grades
