@@ -1,4 +1,4 @@
-//! The program on the words of `bulk`: forty queries over a made table of four lists, eight of them in turn at once.
+//! The program on the words of `bulk`: forty queries over a made table of four lists, on eight workers.
 #![tactic(auto)]
 
 use file_source::FileShelf;
@@ -11,6 +11,6 @@ fn main(rt: HostRuntime) -> ExitCode {
     let mut shelf = FileShelf::make(rt.alloc(), &rt);
     let mut input = StdIntake::make(rt.stdin());
     let mut out = StdSink::make(rt.stdout());
-    let code = run_process(&rt, rt.alloc(), &mut shelf, &mut input, &mut out);
+    let code = run_process(&rt, &rt, rt.alloc(), &mut shelf, &mut input, &mut out);
     ExitCode::from(code)
 }

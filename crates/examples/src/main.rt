@@ -5,6 +5,8 @@
 use source_api::MemShelf;
 use std::io::ErrorKind;
 use std::rt::Files;
+use std::sync::Wait;
+use std::thread::Threads;
 use std::{fs, io};
 use tk_io::{MemSink, StdIntake};
 use topk_top::{Status, Words, top};
@@ -21,7 +23,10 @@ fn main(rt: HostRuntime) -> io::Result<()> {
 }
 
 /// How an example ends, and whether what it wrote is its text.
-fn run_example<R: Files + AllocGlobal>(rt: &R, name: &str) -> io::Result<(Status, bool)> {
+fn run_example<R: Files + AllocGlobal + Threads + Wait + Sync>(
+    rt: &R,
+    name: &str,
+) -> io::Result<(Status, bool)> {
     let text = fs::read(rt, format!(in rt.alloc(); "{name}.text")?)?;
     let file = fs::open(rt, format!(in rt.alloc(); "{name}.bundle")?)?;
     let mut words = Words::make(rt.alloc());
@@ -33,6 +38,6 @@ fn run_example<R: Files + AllocGlobal>(rt: &R, name: &str) -> io::Result<(Status
     };
     let mut input = StdIntake::make(file);
     let mut shelf = MemShelf::make(rt.alloc());
-    let status = top(rt.alloc(), &words, &mut shelf, &mut input, &mut out);
+    let status = top(rt, rt.alloc(), &words, &mut shelf, &mut input, &mut out);
     Ok((status, out.taken() == text.as_slice()))
 }

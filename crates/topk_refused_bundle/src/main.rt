@@ -11,6 +11,6 @@ fn main(rt: HostRuntime) -> ExitCode {
     let mut shelf = FileShelf::make(rt.alloc(), &rt);
     let mut input = StdIntake::make(rt.stdin());
     let mut out = StdSink::make(rt.stdout());
-    let code = run_process(&rt, rt.alloc(), &mut shelf, &mut input, &mut out);
+    let code = run_process(&rt, &rt, rt.alloc(), &mut shelf, &mut input, &mut out);
     ExitCode::from(code)
 }

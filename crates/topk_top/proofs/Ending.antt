@@ -1,6 +1,7 @@
 -- A call that comes to its text ends with it, or with a write fault.
-use Rattle.std.proofs.Common.{◌≡◌, ℕ, List, Option, Some, None, Result, Ok, Err, OnOk, OnErr, MatchResult, inl, inr, refl, sym, subst}
-use Rattle.std.specs.Io.KnownBytes.{Appends}
+use Rattle.std.proofs.Common.{◌≡◌, ◌≤◌, ◌+◌, ℕ, List, [], length, arith, Option, Some, None, Result, Ok, Err, OnOk, OnErr, MatchResult, inl, inr, refl, sym, subst}
+use Rattle.std.specs.Io.KnownBytes.{Appends, Consumes, Keeps}
+use Rattle.std.proofs.KnownBytes.{Consumes-kept, Consumes-nil}
 use Rattle.tk_io.specs.declared.Failed.{Failed}
 use Rattle.tk_io.specs.Faults.{HasCause}
 use Rattle.tk_io.specs.Whole.{TookFront}
@@ -18,7 +19,7 @@ use Rattle.command_words.specs.declared.command.Command.{Command}
 use Rattle.command_words.specs.declared.command.Command.TheVariants.{One, Judge, Make, Run, Bulk}
 use Rattle.topk_top.specs.Judge.{JudgeReplies, told_status}
 use Rattle.topk_top.specs.Reply.{Replies, outcome_status, words_refused_text}
-use Rattle.topk_top.specs.Calls.{Call, Outside, KeepsShelf, LeftAlone, ReadWhole, WroteNothing, WroteWhole}
+use Rattle.topk_top.specs.Calls.{Call, Output, Outside, KeepsShelf, LeftAlone, ReadSome, ReadWhole, WroteNothing, WroteWhole, input_limit}
 use Rattle.topk_top.specs.Shelves.{Shelf}
 use Rattle.topk_top.specs.Ends.{EndsAs, EndsReading, EndsRefused, Ends, Says}
 use Rattle.topk_top.specs.declared.status.Status.{Status}
@@ -30,10 +31,6 @@ is_outcome_status : {A : Type 0} (outcome : Outcome) (status : Status) → statu
 is_outcome_status (Answered answer) status e done partial = done e
 is_outcome_status (Refused refusal) status e done partial = partial e
 
--- a call, by its words and what stood outside before it and after it
-abbrev pub call_at : List (List ℕ) → Outside → Outside → Call
-call_at words before after = record { words = words; before = before; after = after }
-
 abbrev pub outside_at : Option (List ℕ) → ℕ → Option (List ℕ) → ℕ → Shelf → Outside
 outside_at left reads held writes shelf = record { input = record { left = left; faults = reads }; output = record { held = held; faults = writes }; shelf = shelf }
 
@@ -42,7 +39,7 @@ shelf_at texts lists at = record { texts = texts; lists = lists; at = at }
 
 -- what is said where words are refused ends so
 pub ends_refused : (c : Call) (result : Status) → LeftAlone c
-    → Says c.before.output.held c.after.output.held c.before.output.faults c.after.output.faults words_refused_text BadWords result → EndsRefused c result
+    → Says c.before.output c.after.output words_refused_text BadWords result → EndsRefused c result
 ends_refused c result alone said = elim said [
   | inl whole ↦ subst (λ s. EndsRefused c s) (sym whole.0) (alone, record { held = whole.1; faults = whole.2 })
   | inr front ↦ subst (λ s. EndsRefused c s) (sym front.0) (alone, record { held = front.1; faults = front.2 })
@@ -60,7 +57,7 @@ ends_whole c bytes status text read replied wrote = elim replied [
 
 -- what is said in reply to the whole input ends so
 pub ends_replied : (c : Call) (bytes : List ℕ) (status result : Status) (text : List ℕ) → ReadWhole c bytes → Replies bytes status text
-    → Says c.before.output.held c.after.output.held c.before.output.faults c.after.output.faults text status result → EndsReading Replies c result
+    → Says c.before.output c.after.output text status result → EndsReading Replies c result
 ends_replied c bytes status result text read replied said = elim said [
   | inl whole ↦ subst (λ s. EndsReading Replies c s) (sym whole.0) (ends_whole c bytes status text read replied (record { held = whole.1; faults = whole.2 }))
   | inr front ↦ subst (λ s. EndsReading Replies c s) (sym front.0) (bytes, status, text, read, replied, record { held = front.1; faults = front.2 })
@@ -86,7 +83,7 @@ ends_told c bytes status text read replied wrote = is_told_status replied.told s
 
 -- what is told of the whole input ends so
 pub ends_judged : (c : Call) (bytes : List ℕ) (told : Told) (result : Status) → ReadWhole c bytes → Tells (lines bytes) told
-    → Says c.before.output.held c.after.output.held c.before.output.faults c.after.output.faults (told_text told) (told_status told) result → EndsReading JudgeReplies c result
+    → Says c.before.output c.after.output (told_text told) (told_status told) result → EndsReading JudgeReplies c result
 ends_judged c bytes told result read tells said =
     let replied : JudgeReplies bytes (told_status told) (told_text told) = record { told = told; tells = tells; status_is = refl; text_is = refl } in
     elim said [
@@ -94,11 +91,21 @@ ends_judged c bytes told result read tells said =
       | inr front ↦ subst (λ s. EndsReading JudgeReplies c s) (sym front.0) (bytes, told_status told, told_text told, read, replied, record { held = front.1; faults = front.2 })
     ]
 
+-- nothing of the input was read, or all of it
+consumed_none : (before now : Option (List ℕ)) → Keeps before now → Consumes before now []
+consumed_none before now kept = Consumes-kept before before now [] (Consumes-nil before) kept
+
+read_none : (c : Call) → LeftAlone c → ReadSome c
+read_none c alone = record { given = ([], omega arith, consumed_none c.before.input.left c.after.input.left alone.left); faults = alone.faults }
+
+pub read_all : (c : Call) (bytes : List ℕ) → ReadWhole c bytes → ReadSome c
+read_all c bytes read = let within = read.given.within in record { given = (bytes, omega (arith, within), read.given.given); faults = read.faults }
+
 -- memory may be wanting before the words are known
 pub ends_without_memory : (command : Option Command) (c : Call) → KeepsShelf c → LeftAlone c → WroteNothing c → EndsAs command c Memory
 ends_without_memory None c kept alone nothing = (kept, (alone, nothing))
-ends_without_memory (Some One) c kept alone nothing = (kept, (alone.faults, nothing))
-ends_without_memory (Some Judge) c kept alone nothing = (kept, (alone.faults, nothing))
+ends_without_memory (Some One) c kept alone nothing = (kept, (read_none c alone, nothing))
+ends_without_memory (Some Judge) c kept alone nothing = (kept, (read_none c alone, nothing))
 ends_without_memory (Some (Make options)) c kept alone nothing = (kept, (alone, nothing))
 ends_without_memory (Some (Bulk options)) c kept alone nothing = (kept, (alone, nothing))
 ends_without_memory (Some (Run options)) c kept alone nothing = inl (asks_kept options.catalog c.before.shelf c.after.shelf kept, alone, nothing)
@@ -108,13 +115,17 @@ pub ends_as : (command : Option Command) (c : Call) (status : Status) → comman
 ends_as command c status is ends = subst (λ o. EndsAs o c status) (sym is) ends
 
 -- a text that was written, or wasn't, is said
+abbrev pub out_at : Option (List ℕ) → ℕ → Output
+out_at held faults = record { held = held; faults = faults }
+
 pub said : {T : Type 0} → (before now : Option (List ℕ)) (faults_before faults_now : ℕ) (text : List ℕ) (status result : Status) (written : Result T Failed)
     → OnOk written (Appends before now text) → OnErr written (TookFront before now text) → HasCause faults_before faults_now written
-    → MatchResult written (λ _. result ≡ status) (λ _. result ≡ WriteFault) → Says before now faults_before faults_now text status result
+    → MatchResult written (λ _. result ≡ status) (λ _. result ≡ WriteFault) → Says (out_at before faults_before) (out_at now faults_now) text status result
 said before now faults_before faults_now text status result (Ok done) whole front cause ended = inl (ended, whole, cause.stays)
 said before now faults_before faults_now text status result (Err failed) whole front cause ended = inr (ended, front, cause.failed)
 
 pub said_as : (before now : Option (List ℕ)) (faults_before faults_now : ℕ) (text other : List ℕ) (status another result : Status) → text ≡ other
-    → status ≡ another → Says before now faults_before faults_now text status result → Says before now faults_before faults_now other another result
+    → status ≡ another → Says (out_at before faults_before) (out_at now faults_now) text status result → Says (out_at before faults_before) (out_at now faults_now) other another result
 said_as before now faults_before faults_now text other status another result same_text same_status h =
-    subst (λ t. Says before now faults_before faults_now t another result) same_text (subst (λ s. Says before now faults_before faults_now text s result) same_status h)
+    subst (λ t. Says (out_at before faults_before) (out_at now faults_now) t another result) same_text
+    (subst (λ s. Says (out_at before faults_before) (out_at now faults_now) text s result) same_status h)

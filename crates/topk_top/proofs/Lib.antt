@@ -12,4 +12,7 @@ mod AnswersFixed
 mod Counters
 mod OneCertificate
 mod ToldText
+mod OneReading
+mod OneBecoming
+mod OneText
 mod ToldRuns

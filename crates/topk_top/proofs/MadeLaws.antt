@@ -21,7 +21,7 @@ text_is options table is =
 
 -- what is said without reading the input ends so
 pub ends_written : (text : List ℕ) (c : Call) (result : Status) → LeftAlone c
-    → Says c.before.output.held c.after.output.held c.before.output.faults c.after.output.faults text Done result → EndsWriting text c result
+    → Says c.before.output c.after.output text Done result → EndsWriting text c result
 ends_written text c result alone said = elim said [
   | inl whole ↦ subst (λ s. EndsWriting text c s) (sym whole.0) (alone, record { held = whole.1; faults = whole.2 })
   | inr front ↦ subst (λ s. EndsWriting text c s) (sym front.0) (alone, record { held = front.1; faults = front.2 })

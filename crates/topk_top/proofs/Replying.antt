@@ -6,7 +6,7 @@ use Rattle.topk_top.specs.Reply.{Replies}
 use Rattle.topk_top.specs.Outcomes.{IsReply, reply_text, reply_status}
 
 pub replies_to : (bytes : List ℕ) (reply : Reply) → IsReply bytes reply → Replies bytes (reply_status reply) (reply_text reply)
-replies_to bytes (NoBundle text) h = inl (record { no_bundle = h.0; line = h.1.0; fault = h.1.1; status_is = refl; text_is = h.1.2 })
+replies_to bytes (NoBundle line) h = inl (record { no_bundle = h.0; line = line; fault = h.1; status_is = refl; text_is = refl })
 replies_to bytes (Line line) h = inr (record {
   content = h.0;
   spelled = h.1;

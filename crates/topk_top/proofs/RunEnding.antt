@@ -84,7 +84,7 @@ takes_none catalog lines s = record {
 
 -- what is said of a text that is no catalog ends so
 pub ends_no_catalog : (s : RunSettings) (text said : List ℕ) (c : Call) (result : Status) → CatalogRefused text c said
-    → Says c.before.output.held c.after.output.held c.before.output.faults c.after.output.faults said BadCatalog result → RunsOver s text c result
+    → Says c.before.output c.after.output said BadCatalog result → RunsOver s text c result
 ends_no_catalog s text said c result refused says = elim says [
   | inl whole ↦ subst (RunsOver s text c) (sym whole.0) (said, refused, record { held = whole.1; faults = whole.2 })
   | inr front ↦ subst (RunsOver s text c) (sym front.0) (said, inl refused, record { held = front.1; faults = front.2 })
@@ -92,7 +92,7 @@ ends_no_catalog s text said c result refused says = elim says [
 
 -- a text that should be a catalog ends so for its fault
 pub ends_at_fault : (s : RunSettings) (text : List ℕ) (c : Call) (fault : CatalogFault) (result : Status) → Judges (records_of text) (Err fault) → KeepsShelf c
-    → LeftAlone c → SaysFault c.before.output.held c.after.output.held c.before.output.faults c.after.output.faults fault result → RunsOver s text c result
+    → LeftAlone c → SaysFault c.before.output c.after.output fault result → RunsOver s text c result
 ends_at_fault s text c (CatalogLine line) result judged kept alone says =
     ends_no_catalog s text (catalog_refused_text (codes "CatalogLine") line) c result
     (record { refuses = inl (record { number = line; first = judged; said_is = refl }); shelf = kept; alone = alone }) says
@@ -113,7 +113,7 @@ ends_whole s text said c outcomes replied wrote = elim (is_run_status outcomes) 
 -- what is said in reply to lines ends so
 pub ends_lines : (s : RunSettings) (text said : List ℕ) (c : Call) (outcomes : List LineOutcome) (result : Status)
     → LinesReplied s text c (run_status outcomes) said
-    → Says c.before.output.held c.after.output.held c.before.output.faults c.after.output.faults said (run_status outcomes) result → RunsOver s text c result
+    → Says c.before.output c.after.output said (run_status outcomes) result → RunsOver s text c result
 ends_lines s text said c outcomes result replied says = elim says [
   | inl whole ↦ subst (RunsOver s text c) (sym whole.0) (ends_whole s text said c outcomes replied (record { held = whole.1; faults = whole.2 }))
   | inr front ↦ subst (RunsOver s text c) (sym front.0) (said, inr (run_status outcomes, replied), record { held = front.1; faults = front.2 })

@@ -20,10 +20,11 @@ use Rattle.topk_top.specs.Calls.{Call, WroteWhole}
 use Rattle.topk_top.specs.Shelves.{Shelf, AsksText, GivesText}
 use Rattle.topk_top.specs.Running.{run_by}
 use Rattle.topk_top.specs.RunEnds.{EndsRunning, LinesReplied, from_shelf}
-use Rattle.topk_top.specs.RunLaws.{TellsAll, WritesTheOne, ToldRunsWriteTheOne}
-use Rattle.topk_top.specs.Ends.{EndsAs}
+use Rattle.topk_top.specs.RunLaws.{TellsAll, ComeTo, WritesTheOne, ToldRunsWriteTheOne, TellTheSame, WroteTheSame, SettingsChangeNothing}
+use Rattle.topk_top.specs.Ends.{Ends, EndsAs}
 use Rattle.topk_top.specs.declared.status.Status.{Status}
 use Rattle.topk_top.specs.declared.status.Status.TheVariants.{Done, Partial, BadWords, BadCatalog, ReadFault, WriteFault, OpenFault, PortFault, Memory, LongInput, BadInput}
+use Rattle.topk_top.proofs.OneText.{come_to_one}
 use Rattle.topk_top.proofs.ToldText.{gives_told, refuses_none, one_catalog, gave_told, gave_no_more}
 
 -- trouble since a text was asked for is trouble from before that on
@@ -77,17 +78,24 @@ replied one o c status catalog bytes text given said all gives r wrote =
     let become : AllBecome (view_told r.replies.catalog given.lists) 1 (lines r.bytes) r.replies.outcomes =
     one (run_by o.settings r.replies.catalog (lines r.bytes) given c.after.shelf) r.replies.outcomes r.replies.run tables in
     let lists : given.lists ≡ c.before.shelf.lists = λ i at. gives.asked.tells.lists at i in
-    record {
+    let comes : ComeTo catalog c.before.shelf.lists (lines bytes) status said = record {
       outcomes = r.replies.outcomes;
       become =
           subst (λ l. AllBecome (view_told catalog l) 1 (lines bytes) r.replies.outcomes) lists
           (subst (λ k. AllBecome (view_told k given.lists) 1 (lines bytes) r.replies.outcomes) same_catalog
           (subst (λ b. AllBecome (view_told r.replies.catalog given.lists) 1 (lines b) r.replies.outcomes) same_bytes become));
       status_is = r.replies.status_is;
-      wrote = subst (WroteWhole c) r.replies.said_is wrote;
+      text_is = r.replies.said_is;
+    } in
+    record {
+      text = said;
+      wrote = wrote;
+      comes = comes;
+      only = λ other text them. come_to_one (run_by o.settings catalog (lines bytes) c.before.shelf c.after.shelf) all.tables status other said text comes them;
     }
 
-told_run : ComeToOne → (o : RunOptions) (c : Call) (status : Status) (catalog : List Entry) (bytes : List ℕ) → TellsAll o c catalog bytes → EndsRunning o c status
+told_run : ComeToOne → (o : RunOptions) (c : Call) (status : Status) (catalog : List Entry) (bytes : List ℕ) → TellsAll o c catalog bytes
+    → EndsRunning o c status
     → (status ≡ Memory) ⊎ WritesTheOne c catalog bytes status
 told_run one o c Done catalog bytes all (text, given, gives, (said, r, wrote)) = inr (replied one o c Done catalog bytes text given said all gives r (record { held = wrote.held; faults = wrote.faults }))
 told_run one o c Partial catalog bytes all (text, given, gives, (said, r, wrote)) = inr (replied one o c Partial catalog bytes text given said all gives r (record { held = wrote.held; faults = wrote.faults }))
@@ -106,3 +114,20 @@ told_run one o c BadInput catalog bytes all h = absurd h
 
 pub told_runs : ComeToOne → ToldRunsWriteTheOne
 told_runs one o c status catalog bytes all ends = told_run one o c status catalog bytes all (subst (λ command. EndsAs command c status) all.tells.words ends)
+
+-- two runs over the same lists
+wrote_same : (o p : RunOptions) (c d : Call) (status other : Status) (catalog : List Entry) (bytes : List ℕ) → TellTheSame o p c d catalog bytes
+    → WritesTheOne c catalog bytes status → WritesTheOne d catalog bytes other → WroteTheSame c d status other
+wrote_same o p c d status other catalog bytes tell one two =
+    let lists : d.before.shelf.lists ≡ c.before.shelf.lists = λ i at. tell.lists at i in
+    let same = one.only other two.text (subst (λ l. ComeTo catalog l (lines bytes) other two.text) lists two.comes) in
+    record { text = one.text; one = one.wrote; two = subst (WroteWhole d) same.1 two.wrote; status_is = sym same.0 }
+
+pub settings_nothing : ToldRunsWriteTheOne → SettingsChangeNothing
+settings_nothing told o p c d status other catalog bytes tell ends ended = elim (told o c status catalog bytes tell.one ends) [
+  | inl memory ↦ inl memory
+  | inr one ↦ elim (told p d other catalog bytes tell.other ended) [
+    | inl memory ↦ inr (inl memory)
+    | inr two ↦ inr (inr (wrote_same o p c d status other catalog bytes tell one two))
+  ]
+]

@@ -6,7 +6,7 @@ use Rattle.ranked_list.specs.declared.row.Row.{Row}
 use Rattle.ranked_list.specs.Bundle.{Content}
 use Rattle.topk_theory.specs.Transcript.{list_at}
 use Rattle.query_admission.specs.View.{View}
-use Rattle.query_admission.specs.Causes.{Line}
+use Rattle.query_admission.specs.Causes.{QueryLine}
 use Rattle.query_admission.specs.declared.lists.Listed.{Listed}
 
 -- where a name stands in a bundle
@@ -25,7 +25,7 @@ bundle_view c = record {
 }
 
 -- the query line of a bundle, which is line 1
-abbrev pub bundle_line : Content → Line
+abbrev pub bundle_line : Content → QueryLine
 bundle_line c = record { view = bundle_view c; number = 1; bytes = c.query }
 
 -- the lists at these places of a bundle

@@ -6,7 +6,7 @@ use Rattle.tk_io.specs.Whole.{TookFront}
 use Rattle.command_words.specs.Commands.{command_of}
 use Rattle.command_words.specs.declared.command.Command.{Command}
 use Rattle.command_words.specs.declared.command.Command.TheVariants.{One, Judge, Make, Run, Bulk}
-use Rattle.topk_top.specs.Calls.{Call, LeftAlone, KeepsShelf, ReadWhole, ReadFailed, ReadLong, WroteNothing, WroteWhole, WroteFront}
+use Rattle.topk_top.specs.Calls.{Call, Output, LeftAlone, KeepsShelf, ReadSome, ReadWhole, ReadFailed, ReadLong, WroteNothing, WroteWhole, WroteFront}
 use Rattle.topk_top.specs.RunEnds.{EndsRunning}
 use Rattle.topk_top.specs.Bulk.{bulk_text}
 use Rattle.topk_top.specs.Codes.{exit_code}
@@ -46,7 +46,7 @@ EndsReading replies c BadInput = Replied replies c BadInput
 EndsReading replies c WriteFault = (bytes : List ℕ) × (status : Status) × (text : List ℕ) × ReadWhole c bytes × replies bytes status text × WroteFront c text
 EndsReading replies c ReadFault = ReadFailed c × WroteNothing c
 EndsReading replies c LongInput = ReadLong c × WroteNothing c
-EndsReading replies c Memory = (c.after.input.faults ≡ c.before.input.faults) × WroteNothing c
+EndsReading replies c Memory = ReadSome c × WroteNothing c
 EndsReading replies c BadWords = ⊥
 EndsReading replies c BadCatalog = ⊥
 EndsReading replies c OpenFault = ⊥
@@ -84,7 +84,7 @@ abbrev pub ExitsBy : Call → ℕ → Type 0
 ExitsBy c code = (status : Status) × Ends c status × (code ≡ exit_code status)
 
 -- a text was written whole with its status, or a front of it with a write fault
-abbrev pub Says : Option (List ℕ) → Option (List ℕ) → ℕ → ℕ → List ℕ → Status → Status → Type 0
-Says before now faults_before faults_now text status result =
-    ((result ≡ status) × Appends before now text × (faults_now ≡ faults_before))
-    ⊎ ((result ≡ WriteFault) × TookFront before now text × Rose faults_before faults_now)
+abbrev pub Says : Output → Output → List ℕ → Status → Status → Type 0
+Says before now text status result =
+    ((result ≡ status) × Appends before.held now.held text × (now.faults ≡ before.faults))
+    ⊎ ((result ≡ WriteFault) × TookFront before.held now.held text × Rose before.faults now.faults)

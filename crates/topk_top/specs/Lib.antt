@@ -12,4 +12,5 @@ pub mod RunEnds
 pub mod Ends
 pub mod Outcomes
 pub mod Laws
+pub mod Limits
 pub mod RunLaws

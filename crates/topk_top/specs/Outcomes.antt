@@ -1,26 +1,27 @@
 -- Replies as the code keeps them.
-use Rattle.std.specs.Prelude.{◌≡◌, ℕ, List, Option, Some, codes}
+use Rattle.std.specs.Prelude.{◌≡◌, ℕ, List, Some, codes}
 use Rattle.std.specs.Io.KnownBytes.{Keeps}
 use Rattle.line_text.specs.Lines.{lines}
 use Rattle.ranked_list.specs.Bundle.{Content, Spells, IsFirstFault}
 use Rattle.cert_text.specs.declared.outcome.Outcome.{Outcome}
 use Rattle.cert_text.specs.Outcome.{IsOutcome, outcome_text}
+use Rattle.catalog_run.specs.declared.outcome.LineOutcome.{LineOutcome}
 use Rattle.query_core.specs.declared.ready.Ready.{Ready}
 use Rattle.query_admission.specs.Becomes.{Becomes}
 use Rattle.topk_top.specs.declared.status.Status.{Status}
 use Rattle.topk_top.specs.declared.status.Status.TheVariants.{BadCatalog, BadInput, Memory}
-use Rattle.topk_top.specs.declared.one.Line.{Line}
 use Rattle.topk_top.specs.declared.one.Reply.{Reply}
-use Rattle.topk_top.specs.declared.one.Reply.TheVariants.{NoBundle, Line as LineReply}
+use Rattle.topk_top.specs.declared.one.Reply.TheVariants.{NoBundle, Line}
 use Rattle.catalog_text.specs.declared.catalog.CatalogFault.{CatalogFault}
 use Rattle.catalog_text.specs.declared.catalog.CatalogFault.TheVariants.{CatalogLine, SameName, Memory as NoMemory}
 use Rattle.topk_top.specs.Bundled.{bundle_line}
+use Rattle.topk_top.specs.Calls.{Output}
 use Rattle.topk_top.specs.Ends.{Says}
 use Rattle.topk_top.specs.Running.{catalog_refused_text}
 use Rattle.topk_top.specs.Reply.{bundle_refused_text, outcome_status}
 
 -- what becomes of a bundle's query line, and can be written
-pub record IsLineOf (c : Content) (line : Line) : Type 0 where
+pub record IsLineOf (c : Content) (line : LineOutcome) : Type 0 where
   pub becomes : Becomes (bundle_line c) line.query line.count line.outcome
   pub writable : IsOutcome line.query line.outcome
 
@@ -31,26 +32,25 @@ pub record BecomesOf (c : Content) (ready : Ready) (outcome : Outcome) : Type 0 
 
 -- the reply to an input of these bytes
 abbrev pub IsReply : List ℕ → Reply → Type 0
-IsReply bytes (NoBundle text) =
-    ((c : Content) → ¬ Spells (lines bytes) c) × ((line : ℕ) × IsFirstFault (lines bytes) line × (text.items ≡ bundle_refused_text line))
-IsReply bytes (LineReply line) = (c : Content) × Spells (lines bytes) c × IsLineOf c line
+IsReply bytes (NoBundle line) = ((c : Content) → ¬ Spells (lines bytes) c) × IsFirstFault (lines bytes) line
+IsReply bytes (Line line) = (c : Content) × Spells (lines bytes) c × IsLineOf c line
 
 -- the text of a reply, and its status
 abbrev pub reply_text : Reply → List ℕ
-reply_text (NoBundle text) = text.items
-reply_text (LineReply line) = outcome_text 1 line.query line.count line.outcome
+reply_text (NoBundle line) = bundle_refused_text line
+reply_text (Line line) = outcome_text 1 line.query line.count line.outcome
 
 abbrev pub reply_status : Reply → Status
-reply_status (NoBundle text) = BadInput
-reply_status (LineReply line) = outcome_status line.outcome
+reply_status (NoBundle line) = BadInput
+reply_status (Line line) = outcome_status line.outcome
 
 -- a reply can be written
 abbrev pub IsWritable : Reply → Type 0
-IsWritable (NoBundle text) = Unit {0}
-IsWritable (LineReply line) = IsOutcome line.query line.outcome
+IsWritable (NoBundle line) = Unit {0}
+IsWritable (Line line) = IsOutcome line.query line.outcome
 
 -- how a call ends for a fault of a text that should be a catalog: the fault is said, or nothing for want of memory
-abbrev pub SaysFault : Option (List ℕ) → Option (List ℕ) → ℕ → ℕ → CatalogFault → Status → Type 0
-SaysFault held now faults faults_now (CatalogLine line) end = Says held now faults faults_now (catalog_refused_text (codes "CatalogLine") line) BadCatalog end
-SaysFault held now faults faults_now (SameName line) end = Says held now faults faults_now (catalog_refused_text (codes "SameName") line) BadCatalog end
-SaysFault held now faults faults_now NoMemory end = (end ≡ Memory) × Keeps held now × (faults_now ≡ faults)
+abbrev pub SaysFault : Output → Output → CatalogFault → Status → Type 0
+SaysFault before now (CatalogLine line) end = Says before now (catalog_refused_text (codes "CatalogLine") line) BadCatalog end
+SaysFault before now (SameName line) end = Says before now (catalog_refused_text (codes "SameName") line) BadCatalog end
+SaysFault before now NoMemory end = (end ≡ Memory) × Keeps before.held now.held × (now.faults ≡ before.faults)

@@ -5,7 +5,7 @@ use Rattle.csv_records.specs.Records.{records_of}
 use Rattle.catalog_text.specs.Catalog.{Listed as Entry, IsCatalog}
 use Rattle.command_words.specs.declared.running.RunOptions.{RunOptions}
 use Rattle.command_words.specs.declared.running.RunSettings.{RunSettings}
-use Rattle.topk_top.specs.Calls.{Call, LeftAlone, KeepsShelf, ReadWhole, ReadFailed, ReadLong, WroteNothing, WroteWhole, WroteFront}
+use Rattle.topk_top.specs.Calls.{Call, LeftAlone, KeepsShelf, ReadSome, ReadWhole, ReadFailed, ReadLong, WroteNothing, WroteWhole, WroteFront}
 use Rattle.topk_top.specs.Shelves.{Shelf, AsksText, GivesText, TextFailed, TakesSources}
 use Rattle.topk_top.specs.Running.{RefusesCatalog, RepliesToLines}
 use Rattle.topk_top.specs.declared.status.Status.{Status}
@@ -39,7 +39,7 @@ pub record LinesLeft (text : List ℕ) (c : Call) : Type 0 where
 
 -- where memory may be wanting: before the text is known to be a catalog, before the input has ended, or when its lines are run
 abbrev pub WantsMemory : List ℕ → Call → Type 0
-WantsMemory text c = (KeepsShelf c × LeftAlone c) ⊎ ((CatalogStands text c × (c.after.input.faults ≡ c.before.input.faults)) ⊎ LinesLeft text c)
+WantsMemory text c = (KeepsShelf c × LeftAlone c) ⊎ ((CatalogStands text c × ReadSome c) ⊎ LinesLeft text c)
 
 -- how query lines end over the catalog that is this text, once the shelf gave it
 abbrev pub RunsOver : RunSettings → List ℕ → Call → Status → Type 0

@@ -1,17 +1,25 @@
 -- What a run comes to where all that it reads is told.
-use Rattle.std.specs.Prelude.{◌≡◌, ◌⊎◌, ◌≤◌, ℕ, List, length, Some}
+use Rattle.std.specs.Prelude.{◌≡◌, ◌⊎◌, ◌≤◌, ◌<◌, ℕ, List, length, Option, Some}
 use Rattle.tk_io.specs.Faults.{Rose}
 use Rattle.line_text.specs.Lines.{lines}
+use Rattle.ranked_list.specs.declared.row.Row.{Row}
+use Rattle.source_api.specs.Places.{SameAtEach}
 use Rattle.csv_records.specs.Records.{records_of}
 use Rattle.catalog_text.specs.Catalog.{Listed as Entry, IsCatalog}
 use Rattle.command_words.specs.Commands.{command_of}
 use Rattle.command_words.specs.declared.command.Command.TheVariants.{Run}
 use Rattle.command_words.specs.declared.running.RunOptions.{RunOptions}
+use Rattle.command_words.specs.declared.running.RunSettings.{RunSettings}
+use Rattle.batch_run.specs.Numbered.{counts_at}
+use Rattle.batch_run.specs.Batches.{size_at}
+use Rattle.catalog_open.specs.Openings.{used_at, put_back}
 use Rattle.catalog_run.specs.declared.outcome.LineOutcome.{LineOutcome}
 use Rattle.catalog_run.specs.Told.{AllBecome, TellsTables, view_told}
+use Rattle.catalog_run.specs.Failures.{RefusesFew}
+use Rattle.catalog_run.specs.Giving.{GaveWhatIsAsked, RoseByGiven}
 use Rattle.topk_top.specs.Calls.{Call, WroteWhole, input_limit}
-use Rattle.topk_top.specs.Shelves.{TextFailed}
-use Rattle.topk_top.specs.Running.{RefusesCatalog, outcomes_text, run_by, run_status}
+use Rattle.topk_top.specs.Shelves.{Shelf, TextFailed}
+use Rattle.topk_top.specs.Running.{RefusesCatalog, RepliesToLines, outcomes_text, run_by, run_status, settings_by}
 use Rattle.topk_top.specs.Ends.{Ends}
 use Rattle.topk_top.specs.declared.status.Status.{Status}
 use Rattle.topk_top.specs.declared.status.Status.TheVariants.{Done, Partial, BadWords, BadCatalog, ReadFault, WriteFault, OpenFault, PortFault, Memory, LongInput, BadInput}
@@ -54,15 +62,57 @@ pub record TellsAll (o : RunOptions) (c : Call) (catalog : List Entry) (bytes : 
   pub reads : ¬ Rose c.before.input.faults c.after.input.faults
   pub writes : ¬ Rose c.before.output.faults c.after.output.faults
 
--- the text that is written is that of what each line becomes over the lists that are told, and the status is done exactly where each line is answered
-pub record WritesTheOne (c : Call) (catalog : List Entry) (bytes : List ℕ) (status : Status) : Type 0 where
+-- what lines come to over the lists that are told: the text is that of what each line becomes, and the status is done exactly where each is answered
+pub record ComeTo (catalog : List Entry) (lists : List ℕ → Option (List Row)) (lines : List (List ℕ)) (status : Status) (text : List ℕ) : Type 0 where
   pub outcomes : List LineOutcome
-  pub become : AllBecome (view_told catalog c.before.shelf.lists) 1 (lines bytes) outcomes
+  pub become : AllBecome (view_told catalog lists) 1 lines outcomes
   pub status_is : status ≡ run_status outcomes
-  pub wrote : WroteWhole c (outcomes_text 1 outcomes)
+  pub text_is : text ≡ outcomes_text 1 outcomes
+
+-- the lines of these bytes come to this status and to the text that is written, and to no other
+pub record WritesTheOne (c : Call) (catalog : List Entry) (bytes : List ℕ) (status : Status) : Type 0 where
+  pub text : List ℕ
+  pub wrote : WroteWhole c text
+  pub comes : ComeTo catalog c.before.shelf.lists (lines bytes) status text
+  pub only : (other : Status) (said : List ℕ) → ComeTo catalog c.before.shelf.lists (lines bytes) other said → (other ≡ status) × (said ≡ text)
 
 -- where all is told and nothing fails, a run writes the one text, whatever its settings, unless memory is wanting
 abbrev pub ToldRunsWriteTheOne : Type 0
 ToldRunsWriteTheOne =
     (o : RunOptions) (c : Call) (status : Status) (catalog : List Entry) (bytes : List ℕ) → TellsAll o c catalog bytes → Ends c status
     → (status ≡ Memory) ⊎ WritesTheOne c catalog bytes status
+
+-- for two runs the same is told: of the same catalog and the same bytes, by shelves that tell the same lists
+pub record TellTheSame (o p : RunOptions) (c d : Call) (catalog : List Entry) (bytes : List ℕ) : Type 0 where
+  pub one : TellsAll o c catalog bytes
+  pub other : TellsAll p d catalog bytes
+  pub lists : SameAtEach c.before.shelf.lists d.before.shelf.lists
+
+-- two runs wrote one text and ended with one status
+pub record WroteTheSame (c d : Call) (status other : Status) : Type 0 where
+  pub text : List ℕ
+  pub one : WroteWhole c text
+  pub two : WroteWhole d text
+  pub status_is : status ≡ other
+
+-- the settings change nothing: two runs for which the same is told write the same text and end with the same status, unless memory is wanting
+abbrev pub SettingsChangeNothing : Type 0
+SettingsChangeNothing =
+    (o p : RunOptions) (c d : Call) (status other : Status) (catalog : List Entry) (bytes : List ℕ) → TellTheSame o p c d catalog bytes
+    → Ends c status → Ends d other → (status ≡ Memory) ⊎ ((other ≡ Memory) ⊎ WroteTheSame c d status other)
+
+-- what stands behind the reply to lines: a source gave no more than the lines asked of it, from when it was opened until it was put back, and what the shelf
+-- counted at a place rose by that; and a call of a source of a place that failed, or was answered by garbled data, refused one line of each worker at most
+pub record IsSparing (settings : RunSettings) (text bytes : List ℕ) (before after : Shelf) (status : Status) (said : List ℕ)
+    (r : RepliesToLines settings text bytes before after status said) : Type 0 where
+  pub gave : (source : ℕ) → source < length r.run.sources.places
+      → GaveWhatIsAsked (settings_by settings) r.run.ran.ran.queries source (size_at r.run.sources.counts source) (counts_at r.run.now source)
+  pub counted : (place : List ℕ)
+      → RoseByGiven (before.at place) (after.at place) (used_at place (put_back r.catalog r.run.sources.places r.run.now))
+  pub refused : (place : List ℕ) → RefusesFew (run_by settings r.catalog (lines bytes) before after) r.outcomes place
+
+-- each reply to lines is sparing, however many they are
+abbrev pub RepliesAreSparing : Type 0
+RepliesAreSparing =
+    (settings : RunSettings) (text bytes : List ℕ) (before after : Shelf) (status : Status) (said : List ℕ)
+    (r : RepliesToLines settings text bytes before after status said) → IsSparing settings text bytes before after status said r

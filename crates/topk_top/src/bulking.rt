@@ -5,37 +5,33 @@ ghost use Rattle.command_words.specs.Bulking.{AreBulkOptions};
 ghost use Rattle.bulk_run.specs.Sums.{bulk_sums};
 ghost use Rattle.topk_top.specs.Bulk.{input_of, bulk_text};
 ghost use Rattle.topk_top.specs.Shelves.{Shelf};
-ghost use Rattle.topk_top.specs.Calls.{Call, Input};
+ghost use Rattle.topk_top.specs.Calls.{Input, output_as, outside_of, call_at};
 ghost use Rattle.topk_top.specs.Ends.{EndsWriting};
 
 use super::Memory;
 use super::call::ended;
+use super::running::settings_of;
 use super::status::Status;
 use bulk_run::{BulkInput, BulkSums, run_bulk, write_sums};
 use command_words::BulkOptions;
 use std::alloc::Global;
+use std::sync::Wait;
+use std::thread::Threads;
 use tk_io::Sink;
-use world_run::Settings;
 
 /// Runs the made queries that the options ask for, and writes the sums over their answers.
-pub(crate) fn bulk<K: Sink>(alloc: Global, options: BulkOptions, out: &mut K) -> Status
+pub(crate) fn bulk<W: Threads + Wait + Sync, K: Sink>(
+    rt: &W,
+    alloc: Global,
+    options: BulkOptions,
+    out: &mut K,
+) -> Status
     requires { AreBulkOptions options }
     ensures counts { K.faults out.old ≤ K.faults out.new }
-    ensures ends { (words : List (List ℕ)) (input : Input) (shelf : Shelf) → EndsWriting (bulk_text options) (record {
-      words = words;
-      before = record {
-        input = input;
-        output = record { held = K.held out.old; faults = K.faults out.old };
-        shelf = shelf;
-      };
-      after = record {
-        input = input;
-        output = record { held = K.held out.new; faults = K.faults out.new };
-        shelf = shelf;
-      };
-    }) result }
+    ensures ends { (words : List (List ℕ)) (input : Input) (shelf : Shelf) → EndsWriting (bulk_text options) (call_at words (outside_of input (output_as K.held K.faults out.old) shelf)
+        (outside_of input (output_as K.held K.faults out.new) shelf)) result }
 {
-    let Ok(sums) = sums_of(alloc, options) else {
+    let Ok(sums) = sums_of(rt, alloc, options) else {
         return Status::Memory;
     };
     let written = write_sums(out, &sums);
@@ -43,7 +39,11 @@ pub(crate) fn bulk<K: Sink>(alloc: Global, options: BulkOptions, out: &mut K) ->
 }
 
 /// The sums over the answers of the made queries that the options ask for.
-fn sums_of(alloc: Global, options: BulkOptions) -> Result<BulkSums, Memory>
+fn sums_of<W: Threads + Wait + Sync>(
+    rt: &W,
+    alloc: Global,
+    options: BulkOptions,
+) -> Result<BulkSums, Memory>
     requires { AreBulkOptions options }
     ensures { IfOk result (λ sums. sums ≡ bulk_sums (input_of options)) }
 {
@@ -53,12 +53,7 @@ fn sums_of(alloc: Global, options: BulkOptions) -> Result<BulkSums, Memory>
         lists: options.table.lists,
         queries: options.queries,
     };
-    let settings = Settings {
-        workers: options.settings.workers,
-        page: options.settings.page,
-        ahead: options.settings.ahead,
-    };
-    match run_bulk(alloc, input, settings) {
+    match run_bulk(rt, alloc, input, settings_of(options.settings)) {
         Ok(sums) => Ok(sums),
         Err(_) => Err(Memory),
     }

@@ -2,24 +2,27 @@
 
 ghost use Rattle.std.specs.Prelude.{◌≡◌, ◌≤◌, ℕ, List, MatchResult};
 ghost use Rattle.cert_text.specs.Outcome.{IsOutcome, outcome_text};
-ghost use Rattle.topk_top.specs.Reply.{Replies, outcome_status};
+ghost use Rattle.topk_top.specs.Reply.{Replies, bundle_refused_text, outcome_status};
 ghost use Rattle.topk_top.specs.Shelves.{Shelf as AnyShelf};
-ghost use Rattle.topk_top.specs.Calls.{Call};
+ghost use Rattle.topk_top.specs.Calls.{input_as, output_as, outside_of, call_at, call_of};
 ghost use Rattle.topk_top.specs.Ends.{Ends, EndsReading, Says};
 ghost use Rattle.topk_top.specs.Outcomes.{reply_text, reply_status, IsWritable};
 
 use super::bulking::bulk;
 use super::judging::judge;
 use super::made::make;
-use super::one::{Line, Reply, reply_to};
+use super::one::{Reply, reply_to};
 use super::running::run;
 use super::status::Status;
+use catalog_run::LineOutcome;
 use cert_text::{Outcome, write_outcome};
 use command_words::{Command, Words, WordsFault, read_command};
 use limits::MAX_INPUT;
 use source_api::Shelf;
 use std::alloc::Global;
-use tk_io::{Failed, Intake, ReadError, Sink, read_text, write_text};
+use std::sync::Wait;
+use std::thread::Threads;
+use tk_io::{Failed, Intake, Pieces, ReadError, Sink, read_text, write_text};
 
 /// What is written where the words are no command.
 const WORDS_REFUSED: &[u8] = b"refused words\n";
@@ -36,8 +39,13 @@ const WORDS_REFUSED: &[u8] = b"refused words\n";
 /// the catalog's text is none. `bulk` makes a table and queries over it as its options ask for, runs them
 /// all and writes the sums over their answers; it leaves the input as it was. Words that are no command
 /// are answered with `refused words`.
+///
+/// The queries of `run` and `bulk` are shared out among as many threads as their options say, and each source
+/// has one more thread that reads it. Where the system makes no thread these two may wait for ever; the other
+/// commands start none.
 #[tactic(auto, using(crate::proofs::RunEnding::run_settings, crate::proofs::RunEnding::bulk_settings))]
-pub fn top<H: Shelf, R: Intake, K: Sink>(
+pub fn top<W: Threads + Wait + Sync, H: Shelf, R: Intake, K: Sink>(
+    rt: &W,
     alloc: Global,
     words: &Words,
     shelf: &mut H,
@@ -46,26 +54,15 @@ pub fn top<H: Shelf, R: Intake, K: Sink>(
 ) -> Status
     ensures reads { R.faults input.old ≤ R.faults input.new }
     ensures writes { K.faults out.old ≤ K.faults out.new }
-    ensures ends { Ends (record {
-      words = words.now;
-      before = record {
-        input = record { left = R.left input.old; faults = R.faults input.old };
-        output = record { held = K.held out.old; faults = K.faults out.old };
-        shelf = record { texts = H.texts shelf.old; lists = H.lists shelf.old; at = H.at shelf.old };
-      };
-      after = record {
-        input = record { left = R.left input.new; faults = R.faults input.new };
-        output = record { held = K.held out.new; faults = K.faults out.new };
-        shelf = record { texts = H.texts shelf.new; lists = H.lists shelf.new; at = H.at shelf.new };
-      };
-    }) result }
+    ensures ends { Ends (call_of R.left R.faults K.held K.faults H.texts H.lists H.at words.now
+        (input.old, out.old, shelf.old) (input.new, out.new, shelf.new)) result }
 {
     match read_command(alloc, words) {
         Ok(Command::One) => one(alloc, input, out),
         Ok(Command::Judge) => judge(alloc, input, out),
         Ok(Command::Make(options)) => make(alloc, options, out),
-        Ok(Command::Run(options)) => run(alloc, &options, shelf, input, out),
-        Ok(Command::Bulk(options)) => bulk(alloc, options, out),
+        Ok(Command::Run(options)) => run(rt, alloc, &options, shelf, input, out),
+        Ok(Command::Bulk(options)) => bulk(rt, alloc, options, out),
         Err(WordsFault::BadWords) => say(out, WORDS_REFUSED, Status::BadWords),
         Err(WordsFault::Memory) => Status::Memory,
     }
@@ -75,19 +72,9 @@ pub fn top<H: Shelf, R: Intake, K: Sink>(
 fn one<R: Intake, K: Sink>(alloc: Global, input: &mut R, out: &mut K) -> Status
     ensures reads { R.faults input.old ≤ R.faults input.new }
     ensures writes { K.faults out.old ≤ K.faults out.new }
-    ensures ends { (words : List (List ℕ)) (shelf : AnyShelf) → EndsReading Replies (record {
-      words = words;
-      before = record {
-        input = record { left = R.left input.old; faults = R.faults input.old };
-        output = record { held = K.held out.old; faults = K.faults out.old };
-        shelf = shelf;
-      };
-      after = record {
-        input = record { left = R.left input.new; faults = R.faults input.new };
-        output = record { held = K.held out.new; faults = K.faults out.new };
-        shelf = shelf;
-      };
-    }) result }
+    ensures ends { (words : List (List ℕ)) (shelf : AnyShelf) → EndsReading Replies (call_at words
+        (outside_of (input_as R.left R.faults input.old) (output_as K.held K.faults out.old) shelf)
+        (outside_of (input_as R.left R.faults input.new) (output_as K.held K.faults out.new) shelf)) result }
 {
     match read_text(alloc, input, MAX_INPUT) {
         Ok(text) => match reply_to(alloc, &text) {
@@ -104,20 +91,34 @@ fn one<R: Intake, K: Sink>(alloc: Global, input: &mut R, out: &mut K) -> Status
 fn write_reply<K: Sink>(out: &mut K, reply: &Reply) -> Status
     requires { IsWritable reply.now }
     ensures counts { K.faults out.old ≤ K.faults out.new }
-    ensures says { Says (K.held out.old) (K.held out.new) (K.faults out.old) (K.faults out.new)
+    ensures says { Says (output_as K.held K.faults out.old) (output_as K.held K.faults out.new)
         (reply_text reply.now) (reply_status reply.now) result }
 {
     match reply {
-        Reply::NoBundle(text) => say(out, text, Status::BadInput),
+        Reply::NoBundle { line } => refuse_bundle(out, *line),
         Reply::Line(line) => write_line(out, line),
     }
 }
 
+/// Writes with which line of the input no bundle begins, and ends so, or with a write fault.
+fn refuse_bundle<K: Sink>(out: &mut K, line: u64) -> Status
+    ensures counts { K.faults out.old ≤ K.faults out.new }
+    ensures says { Says (output_as K.held K.faults out.old) (output_as K.held K.faults out.new)
+        (bundle_refused_text line) Status.BadInput result }
+{
+    let mut pieces = Pieces::make();
+    pieces.put(out, b"refused bundle ");
+    pieces.put_number(out, line);
+    pieces.put(out, b"\n");
+    let written = pieces.end(out);
+    ended(written, Status::BadInput)
+}
+
 /// Writes what became of the query line, which is line 1, and ends so, or with a write fault.
-fn write_line<K: Sink>(out: &mut K, line: &Line) -> Status
+fn write_line<K: Sink>(out: &mut K, line: &LineOutcome) -> Status
     requires { IsOutcome line.now.query line.now.outcome }
     ensures counts { K.faults out.old ≤ K.faults out.new }
-    ensures says { Says (K.held out.old) (K.held out.new) (K.faults out.old) (K.faults out.new)
+    ensures says { Says (output_as K.held K.faults out.old) (output_as K.held K.faults out.new)
         (outcome_text 1 line.now.query line.now.count line.now.outcome)
         (outcome_status line.now.outcome) result }
 {
@@ -139,7 +140,7 @@ fn outcome_status(outcome: &Outcome) -> Status
 /// Writes the text and ends so, or with a write fault.
 fn say<K: Sink>(out: &mut K, text: &[u8], status: Status) -> Status
     ensures counts { K.faults out.old ≤ K.faults out.new }
-    ensures says { Says (K.held out.old) (K.held out.new) (K.faults out.old) (K.faults out.new)
+    ensures says { Says (output_as K.held K.faults out.old) (output_as K.held K.faults out.new)
         text.now status result }
 {
     let written = write_text(out, text);

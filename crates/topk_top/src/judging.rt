@@ -3,7 +3,7 @@
 ghost use Rattle.std.specs.Prelude.{◌≡◌, ◌≤◌, ℕ, List};
 ghost use Rattle.cert_judge.specs.Text.{told_text};
 ghost use Rattle.topk_top.specs.Shelves.{Shelf};
-ghost use Rattle.topk_top.specs.Calls.{Call};
+ghost use Rattle.topk_top.specs.Calls.{input_as, output_as, outside_of, call_at};
 ghost use Rattle.topk_top.specs.Ends.{EndsReading, Says};
 ghost use Rattle.topk_top.specs.Judge.{JudgeReplies, told_status};
 
@@ -18,19 +18,9 @@ use tk_io::{Intake, ReadError, Sink, read_text};
 pub(crate) fn judge<R: Intake, K: Sink>(alloc: Global, input: &mut R, out: &mut K) -> Status
     ensures reads { R.faults input.old ≤ R.faults input.new }
     ensures writes { K.faults out.old ≤ K.faults out.new }
-    ensures ends { (words : List (List ℕ)) (shelf : Shelf) → EndsReading JudgeReplies (record {
-      words = words;
-      before = record {
-        input = record { left = R.left input.old; faults = R.faults input.old };
-        output = record { held = K.held out.old; faults = K.faults out.old };
-        shelf = shelf;
-      };
-      after = record {
-        input = record { left = R.left input.new; faults = R.faults input.new };
-        output = record { held = K.held out.new; faults = K.faults out.new };
-        shelf = shelf;
-      };
-    }) result }
+    ensures ends { (words : List (List ℕ)) (shelf : Shelf) → EndsReading JudgeReplies (call_at words
+        (outside_of (input_as R.left R.faults input.old) (output_as K.held K.faults out.old) shelf)
+        (outside_of (input_as R.left R.faults input.new) (output_as K.held K.faults out.new) shelf)) result }
 {
     match read_text(alloc, input, MAX_INPUT) {
         Ok(text) => match judge_text(alloc, &text) {
@@ -46,7 +36,7 @@ pub(crate) fn judge<R: Intake, K: Sink>(alloc: Global, input: &mut R, out: &mut 
 /// Writes what is told, and ends so, or with a write fault.
 fn write_judged<K: Sink>(out: &mut K, told: &Told) -> Status
     ensures counts { K.faults out.old ≤ K.faults out.new }
-    ensures says { Says (K.held out.old) (K.held out.new) (K.faults out.old) (K.faults out.new)
+    ensures says { Says (output_as K.held K.faults out.old) (output_as K.held K.faults out.new)
         (told_text told.now) (told_status told.now) result }
 {
     let status = told_status(told);

@@ -1,6 +1,7 @@
 //! Laws of what the commands write.
 
 ghost use Rattle.topk_top.specs.Laws.{AnswersAreFixed, CountersAreBundles};
+ghost use Rattle.topk_top.specs.Limits.{AreStated};
 
 /// Each text that `one` writes of an answered query spells a certificate whose figures are right, and is fixed: `judge`
 /// replies `fixes` to it, and nothing else.
@@ -12,4 +13,9 @@ pub fn answers_are_fixed()
 /// objects of 32 bits, and one line of query text.
 pub fn counters_are_bundles()
     ensures { CountersAreBundles }
+{}
+
+/// The limits that the contracts cite are these numbers: at most 200,000 objects, grades up to 1,000,000, and so on.
+pub fn limits_are_stated()
+    ensures { AreStated }
 {}

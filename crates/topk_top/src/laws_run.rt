@@ -1,8 +1,10 @@
 //! Laws of what a run of query lines comes to.
 
-ghost use Rattle.topk_top.specs.RunLaws.{ToldRunsWriteTheOne, WrongCatalogsAreRefused};
+ghost use Rattle.topk_top.specs.RunLaws.{RepliesAreSparing, SettingsChangeNothing, ToldRunsWriteTheOne, WrongCatalogsAreRefused};
 
-use catalog_run::told_tables_give_the_one_outcome;
+use catalog_run::{
+    failures_refuse_few_lines, sources_give_what_is_asked, told_tables_give_the_one_outcome,
+};
 
 /// Where the shelf tells a text of the catalog's place that is no catalog, the run is refused and the text that it writes
 /// names the first record at fault, unless a call failed, whose count rose, or memory was wanting.
@@ -12,9 +14,26 @@ pub fn wrong_catalogs_are_refused()
 
 /// Where the catalog's text, the input and the lists of the sources that the lines want are told, these form a table for
 /// each line, and no call fails, a run writes the one text: that of the first refusal that holds of each line, or of the one
-/// answer of its query. It doesn't depend on how many queries take turns, on the rows of a page or on what is read ahead.
+/// answer of its query. The lines come to no other text over these lists, and to no other status.
 pub fn told_runs_write_the_one_text()
     ensures { ToldRunsWriteTheOne }
 {
     told_tables_give_the_one_outcome();
+}
+
+/// Two such runs of the same lines over the same lists write the same text and end with the same status, however many workers
+/// run the queries, whatever the rows of a page are and what is read ahead, and in whatever order the threads go on.
+pub fn settings_change_nothing()
+    ensures { SettingsChangeNothing }
+{
+    told_runs_write_the_one_text();
+}
+
+/// However many the lines of a run, no source gives a row beyond the reach of the greatest depth to which one of them asked, nor more
+/// grades than there are objects whose grades were asked for; and one failure isn't for ever: it refuses at most one line of each worker.
+pub fn replies_are_sparing()
+    ensures { RepliesAreSparing }
+{
+    sources_give_what_is_asked();
+    failures_refuse_few_lines();
 }

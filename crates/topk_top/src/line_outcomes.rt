@@ -3,6 +3,7 @@
 ghost use Rattle.std.specs.Prelude.{◌≡◌, ◌≤◌, All};
 ghost use Rattle.tk_io.specs.Pieces.{Puts};
 ghost use Rattle.catalog_run.specs.Runs.{CanBeWritten};
+ghost use Rattle.topk_top.specs.Calls.{output_as};
 ghost use Rattle.topk_top.specs.Ends.{Says};
 ghost use Rattle.topk_top.specs.Running.{is_answer, run_status, outcomes_text};
 
@@ -20,7 +21,7 @@ const FIRST_LINE: u64 = 1;
 pub(crate) fn write_outcomes<K: Sink>(out: &mut K, outcomes: &[LineOutcome]) -> Status
     requires { All CanBeWritten outcomes.now }
     ensures counts { K.faults out.old ≤ K.faults out.new }
-    ensures says { Says (K.held out.old) (K.held out.new) (K.faults out.old) (K.faults out.new)
+    ensures says { Says (output_as K.held K.faults out.old) (output_as K.held K.faults out.new)
         (outcomes_text 1 outcomes.now) (run_status outcomes.now) result }
 {
     let mut pieces = Pieces::make();

@@ -8,29 +8,20 @@ ghost use Rattle.topk_top.specs.Outcomes.{BecomesOf, IsLineOf, IsReply};
 
 use super::Memory;
 use super::bundled::{Bundled, told_lists};
+use catalog_run::LineOutcome;
 use cert_text::{Outcome, Refusal};
 use query_admission::{Admitted, admit};
 use query_core::{DriveFault, Ready, answer_over};
-use query_text::Query;
 use ranked_list::{Bundle, BundleFault, read_bundle};
 use std::alloc::Global;
 
 /// What is replied to an input.
 #[derive(Drop)]
 pub(crate) enum Reply {
-    /// It is no bundle, by this text.
-    NoBundle(Vec<u8>),
+    /// It is no bundle: with this line none begins.
+    NoBundle { line: u64 },
     /// It is a bundle, and this became of its query line.
-    Line(Line),
-}
-
-/// What became of a query line: the query, where the line spells one and that was read, and over lists
-/// of so many rows where it was answered.
-#[derive(Drop)]
-pub(crate) struct Line {
-    pub(crate) query: Option<Query>,
-    pub(crate) count: u32,
-    pub(crate) outcome: Outcome,
+    Line(LineOutcome),
 }
 
 /// The number of a bundle's query line.
@@ -42,24 +33,19 @@ pub(crate) fn reply_to(alloc: Global, bytes: &[u8]) -> Result<Reply, Memory>
 {
     match read_bundle(alloc, bytes) {
         Ok(bundle) => Ok(Reply::Line(line_of(alloc, &bundle)?)),
-        Err(BundleFault::BadBundle { line }) => {
-            let Ok(text) = format!(in alloc; "refused bundle {line}\n") else {
-                return Err(Memory);
-            };
-            Ok(Reply::NoBundle(text.into_bytes()))
-        }
+        Err(BundleFault::BadBundle { line }) => Ok(Reply::NoBundle { line }),
         Err(BundleFault::Memory) => Err(Memory),
     }
 }
 
 /// What becomes of a bundle's query line.
-fn line_of(alloc: Global, bundle: &Bundle) -> Result<Line, Memory>
+fn line_of(alloc: Global, bundle: &Bundle) -> Result<LineOutcome, Memory>
     requires { IsBundle (content bundle.now) }
     ensures { IfOk result (IsLineOf (content bundle.now)) }
 {
     match admit(alloc, &Bundled::of(bundle), QUERY_LINE, &bundle.query) {
         Ok(Admitted::Ready(ready)) => run_ready(alloc, bundle, ready),
-        Ok(Admitted::Refused { refusal, query }) => Ok(Line {
+        Ok(Admitted::Refused { refusal, query }) => Ok(LineOutcome {
             query,
             count: 0,
             outcome: Outcome::Refused(refusal),
@@ -69,13 +55,13 @@ fn line_of(alloc: Global, bundle: &Bundle) -> Result<Line, Memory>
 }
 
 /// What becomes of a query that is ready.
-fn run_ready(alloc: Global, bundle: &Bundle, ready: Ready) -> Result<Line, Memory>
+fn run_ready(alloc: Global, bundle: &Bundle, ready: Ready) -> Result<LineOutcome, Memory>
     requires bundle { IsBundle (content bundle.now) }
     requires admitted { IsAdmitted (bundle_line (content bundle.now)) ready }
     ensures { IfOk result (IsLineOf (content bundle.now)) }
 {
     match outcome_of(alloc, bundle, &ready) {
-        Ok(outcome) => Ok(Line {
+        Ok(outcome) => Ok(LineOutcome {
             query: Some(ready.query),
             count: ready.count,
             outcome,

@@ -7,11 +7,11 @@ ghost use Rattle.catalog_text.specs.Catalog.{IsCatalog};
 ghost use Rattle.command_words.specs.Running.{AreRunSettings};
 ghost use Rattle.catalog_run.specs.Runs.{CanBeWritten, IsRun};
 ghost use Rattle.topk_top.specs.Shelves.{TakesSources};
-ghost use Rattle.topk_top.specs.Calls.{Call};
+ghost use Rattle.topk_top.specs.Calls.{output_as, shelf_as, call_of};
 ghost use Rattle.topk_top.specs.Ends.{Says};
 ghost use Rattle.topk_top.specs.RunEnds.{RunsOver, EndsRunning};
 ghost use Rattle.topk_top.specs.Outcomes.{SaysFault};
-ghost use Rattle.topk_top.specs.Running.{run_by, catalog_refused_text};
+ghost use Rattle.topk_top.specs.Running.{run_by, settings_by, catalog_refused_text};
 
 use super::Memory;
 use super::call::ended;
@@ -24,10 +24,13 @@ use limits::MAX_INPUT;
 use line_text::first_line;
 use source_api::{Shelf, Trouble};
 use std::alloc::Global;
+use std::sync::Wait;
+use std::thread::Threads;
 use tk_io::{Intake, Pieces, ReadError, Sink, read_text};
 
 /// Answers the query lines that the input has, over the lists of the catalog that the options name.
-pub(crate) fn run<H: Shelf, R: Intake, K: Sink>(
+pub(crate) fn run<W: Threads + Wait + Sync, H: Shelf, R: Intake, K: Sink>(
+    rt: &W,
     alloc: Global,
     options: &RunOptions,
     shelf: &mut H,
@@ -37,22 +40,11 @@ pub(crate) fn run<H: Shelf, R: Intake, K: Sink>(
     requires { AreRunSettings options.now.settings }
     ensures reads { R.faults input.old ≤ R.faults input.new }
     ensures writes { K.faults out.old ≤ K.faults out.new }
-    ensures ends { (words : List (List ℕ)) → EndsRunning options.now (record {
-      words = words;
-      before = record {
-        input = record { left = R.left input.old; faults = R.faults input.old };
-        output = record { held = K.held out.old; faults = K.faults out.old };
-        shelf = record { texts = H.texts shelf.old; lists = H.lists shelf.old; at = H.at shelf.old };
-      };
-      after = record {
-        input = record { left = R.left input.new; faults = R.faults input.new };
-        output = record { held = K.held out.new; faults = K.faults out.new };
-        shelf = record { texts = H.texts shelf.new; lists = H.lists shelf.new; at = H.at shelf.new };
-      };
-    }) result }
+    ensures ends { (words : List (List ℕ)) → EndsRunning options.now (call_of R.left R.faults K.held K.faults H.texts H.lists H.at words
+        (input.old, out.old, shelf.old) (input.new, out.new, shelf.new)) result }
 {
     match shelf.text(alloc, options.catalog.as_str()) {
-        Ok(text) => run_over(alloc, &text, options.settings, shelf, input, out),
+        Ok(text) => run_over(rt, alloc, &text, options.settings, shelf, input, out),
         Err(Trouble::Memory) => Status::Memory,
         Err(Trouble::Failed) => Status::OpenFault,
         Err(Trouble::Garbled) => Status::OpenFault,
@@ -60,7 +52,8 @@ pub(crate) fn run<H: Shelf, R: Intake, K: Sink>(
 }
 
 /// Answers the query lines of the input over the lists of a catalog, by the catalog's text.
-fn run_over<H: Shelf, R: Intake, K: Sink>(
+fn run_over<W: Threads + Wait + Sync, H: Shelf, R: Intake, K: Sink>(
+    rt: &W,
     alloc: Global,
     text: &[u8],
     settings: RunSettings,
@@ -71,22 +64,11 @@ fn run_over<H: Shelf, R: Intake, K: Sink>(
     requires { AreRunSettings settings }
     ensures reads { R.faults input.old ≤ R.faults input.new }
     ensures writes { K.faults out.old ≤ K.faults out.new }
-    ensures ends { (words : List (List ℕ)) → RunsOver settings text.now (record {
-      words = words;
-      before = record {
-        input = record { left = R.left input.old; faults = R.faults input.old };
-        output = record { held = K.held out.old; faults = K.faults out.old };
-        shelf = record { texts = H.texts shelf.old; lists = H.lists shelf.old; at = H.at shelf.old };
-      };
-      after = record {
-        input = record { left = R.left input.new; faults = R.faults input.new };
-        output = record { held = K.held out.new; faults = K.faults out.new };
-        shelf = record { texts = H.texts shelf.new; lists = H.lists shelf.new; at = H.at shelf.new };
-      };
-    }) result }
+    ensures ends { (words : List (List ℕ)) → RunsOver settings text.now (call_of R.left R.faults K.held K.faults H.texts H.lists H.at words
+        (input.old, out.old, shelf.old) (input.new, out.new, shelf.new)) result }
 {
     match read_catalog(alloc, text) {
-        Ok(catalog) => run_input(alloc, &catalog, settings, shelf, input, out),
+        Ok(catalog) => run_input(rt, alloc, &catalog, settings, shelf, input, out),
         Err(fault) => refuse(out, fault),
     }
 }
@@ -94,7 +76,7 @@ fn run_over<H: Shelf, R: Intake, K: Sink>(
 /// Ends for this fault of a text that should be a catalog: it is written, unless memory was wanting.
 fn refuse<K: Sink>(out: &mut K, fault: CatalogFault) -> Status
     ensures counts { K.faults out.old ≤ K.faults out.new }
-    ensures says { SaysFault (K.held out.old) (K.held out.new) (K.faults out.old) (K.faults out.new) fault result }
+    ensures says { SaysFault (output_as K.held K.faults out.old) (output_as K.held K.faults out.new) fault result }
 {
     match fault {
         CatalogFault::CatalogLine { line } => refuse_catalog(out, b"CatalogLine", line),
@@ -107,7 +89,7 @@ fn refuse<K: Sink>(out: &mut K, fault: CatalogFault) -> Status
 /// a write fault.
 fn refuse_catalog<K: Sink>(out: &mut K, fault: &[u8], record_number: u64) -> Status
     ensures counts { K.faults out.old ≤ K.faults out.new }
-    ensures says { Says (K.held out.old) (K.held out.new) (K.faults out.old) (K.faults out.new)
+    ensures says { Says (output_as K.held K.faults out.old) (output_as K.held K.faults out.new)
         (catalog_refused_text fault.now record_number) Status.BadCatalog result }
 {
     let mut pieces = Pieces::make();
@@ -121,7 +103,8 @@ fn refuse_catalog<K: Sink>(out: &mut K, fault: &[u8], record_number: u64) -> Sta
 }
 
 /// Answers the query lines of the input over the lists of a catalog.
-fn run_input<H: Shelf, R: Intake, K: Sink>(
+fn run_input<W: Threads + Wait + Sync, H: Shelf, R: Intake, K: Sink>(
+    rt: &W,
     alloc: Global,
     catalog: &Catalog,
     settings: RunSettings,
@@ -132,22 +115,11 @@ fn run_input<H: Shelf, R: Intake, K: Sink>(
     requires { AreRunSettings settings }
     ensures reads { R.faults input.old ≤ R.faults input.new }
     ensures writes { K.faults out.old ≤ K.faults out.new }
-    ensures ends { (words : List (List ℕ)) (text : List ℕ) → IsCatalog (records_of text) catalog.now → RunsOver settings text (record {
-      words = words;
-      before = record {
-        input = record { left = R.left input.old; faults = R.faults input.old };
-        output = record { held = K.held out.old; faults = K.faults out.old };
-        shelf = record { texts = H.texts shelf.old; lists = H.lists shelf.old; at = H.at shelf.old };
-      };
-      after = record {
-        input = record { left = R.left input.new; faults = R.faults input.new };
-        output = record { held = K.held out.new; faults = K.faults out.new };
-        shelf = record { texts = H.texts shelf.new; lists = H.lists shelf.new; at = H.at shelf.new };
-      };
-    }) result }
+    ensures ends { (words : List (List ℕ)) (text : List ℕ) → IsCatalog (records_of text) catalog.now → RunsOver settings text (call_of R.left R.faults K.held K.faults H.texts H.lists H.at words
+        (input.old, out.old, shelf.old) (input.new, out.new, shelf.new)) result }
 {
     match read_text(alloc, input, MAX_INPUT) {
-        Ok(text) => match run_text(alloc, catalog, settings, shelf, &text) {
+        Ok(text) => match run_text(rt, alloc, catalog, settings, shelf, &text) {
             Ok(outcomes) => write_outcomes(out, &outcomes),
             Err(_) => Status::Memory,
         },
@@ -158,7 +130,8 @@ fn run_input<H: Shelf, R: Intake, K: Sink>(
 }
 
 /// The outcomes of the lines of a text.
-fn run_text<H: Shelf>(
+fn run_text<W: Threads + Wait + Sync, H: Shelf>(
+    rt: &W,
     alloc: Global,
     catalog: &Catalog,
     settings: RunSettings,
@@ -166,22 +139,26 @@ fn run_text<H: Shelf>(
     text: &[u8],
 ) -> Result<Vec<LineOutcome>, Memory>
     requires { AreRunSettings settings }
-    ensures takes { TakesSources catalog.now (lines text.now) (record { texts = H.texts shelf.old; lists = H.lists shelf.old; at = H.at shelf.old })
-        (record { texts = H.texts shelf.new; lists = H.lists shelf.new; at = H.at shelf.new }) }
+    ensures takes { TakesSources catalog.now (lines text.now) (shelf_as H.texts H.lists H.at shelf.old) (shelf_as H.texts H.lists H.at shelf.new) }
     ensures run { IfOk result (λ outcomes. IsRun (run_by settings catalog.now (lines text.now)
-        (record { texts = H.texts shelf.old; lists = H.lists shelf.old; at = H.at shelf.old })
-        (record { texts = H.texts shelf.new; lists = H.lists shelf.new; at = H.at shelf.new })) outcomes.items) }
+        (shelf_as H.texts H.lists H.at shelf.old) (shelf_as H.texts H.lists H.at shelf.new)) outcomes.items) }
     ensures writable { IfOk result (λ outcomes. All CanBeWritten outcomes.items) }
 {
     let lines = lines_of(alloc, text)?;
-    let settings = Settings {
+    match run_lines(rt, alloc, shelf, catalog, &lines, settings_of(settings)) {
+        Ok(outcomes) => Ok(outcomes),
+        Err(_) => Err(Memory),
+    }
+}
+
+/// The settings that the words ask for, as a run takes them.
+pub(crate) fn settings_of(settings: RunSettings) -> Settings
+    ensures { result ≡ settings_by settings }
+{
+    Settings {
         workers: settings.workers,
         page: settings.page,
         ahead: settings.ahead,
-    };
-    match run_lines(alloc, shelf, catalog, &lines, settings) {
-        Ok(outcomes) => Ok(outcomes),
-        Err(_) => Err(Memory),
     }
 }
 

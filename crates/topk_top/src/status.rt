@@ -12,13 +12,13 @@ pub enum Status {
     Partial = 1,
     /// The words are no command.
     BadWords = 2,
-    /// The catalog's text is none. It doesn't come yet.
+    /// The catalog's text is none.
     BadCatalog = 3,
     /// A read of the input failed.
     ReadFault = 4,
     /// A write failed.
     WriteFault = 5,
-    /// A file couldn't be read. It doesn't come yet.
+    /// The catalog couldn't be read.
     OpenFault = 6,
     /// A port failed. It doesn't come yet.
     PortFault = 7,

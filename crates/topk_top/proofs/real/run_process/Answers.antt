@@ -1,10 +1,10 @@
 use Rattle.std.proofs.Common.{[], refl}
 use Rattle.std.proofs.KnownBytes.{Keeps-refl}
 use Rattle.command_words.specs.Commands.{command_of}
-use Rattle.topk_top.specs.Calls.{Outside}
+use Rattle.topk_top.specs.Calls.{Outside, call_at}
 use Rattle.topk_top.specs.Shelves.{Shelf}
 use Rattle.topk_top.specs.declared.status.Status.TheVariants.{Memory}
-use Rattle.topk_top.proofs.Ending.{call_at, outside_at, shelf_at, ends_without_memory}
+use Rattle.topk_top.proofs.Ending.{outside_at, shelf_at, ends_without_memory}
 use Rattle.topk_top.proofs.real.run_process.Goals as goal
 
 -- nothing was read or written, so the call ends as one without words does

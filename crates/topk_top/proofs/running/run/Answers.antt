@@ -1,9 +1,9 @@
 use Rattle.std.proofs.Common.{inl, refl, subst, arith}
 use Rattle.std.proofs.KnownBytes.{Keeps-refl}
-use Rattle.topk_top.specs.Calls.{Call}
+use Rattle.topk_top.specs.Calls.{Call, call_at}
 use Rattle.topk_top.specs.Shelves.{Shelf, GivesText}
 use Rattle.topk_top.specs.RunEnds.{RunsOver, from_shelf}
-use Rattle.topk_top.proofs.Ending.{call_at, outside_at, shelf_at}
+use Rattle.topk_top.proofs.Ending.{outside_at, shelf_at}
 use Rattle.topk_top.proofs.RunEnding.{asks_text, gives_text, text_failed, ends_run}
 use Rattle.topk_top.proofs.running.run.Goals as goal
 

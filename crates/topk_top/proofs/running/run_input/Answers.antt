@@ -1,11 +1,11 @@
 use Rattle.std.proofs.Common.{refl, subst}
 use Rattle.line_text.specs.Lines.{lines}
 use Rattle.catalog_run.specs.Runs.{IsRun}
-use Rattle.topk_top.specs.Calls.{Call}
+use Rattle.topk_top.specs.Calls.{Call, output_as, call_at}
 use Rattle.topk_top.specs.Ends.{Says}
 use Rattle.topk_top.specs.Shelves.{Shelf, TakesSources}
 use Rattle.topk_top.specs.Running.{outcomes_text, run_by, run_status}
-use Rattle.topk_top.proofs.Ending.{call_at, outside_at, shelf_at}
+use Rattle.topk_top.proofs.Ending.{outside_at, shelf_at}
 use Rattle.topk_top.proofs.RunEnding.{ends_lines}
 use Rattle.topk_top.proofs.running.run_input.Goals as goal
 
@@ -31,4 +31,4 @@ returns-in-Ok-run_text-clause-ends g c = λ words text is.
         said_is = refl;
       };
     })
-    (subst (λ os. Says (g.K.Sink.held c.args.out.now) (g.K.Sink.held c.write_outcomes.new.out) (g.K.Sink.faults c.args.out.now) (g.K.Sink.faults c.write_outcomes.new.out) (outcomes_text 1 os) (run_status os) c.write_outcomes.result) c.deref-in-Ok-run_text.ensures.value c.write_outcomes.ensures.says)
+    (subst (λ os. Says (output_as g.K.Sink.held g.K.Sink.faults c.args.out.now) (output_as g.K.Sink.held g.K.Sink.faults c.write_outcomes.new.out) (outcomes_text 1 os) (run_status os) c.write_outcomes.result) c.deref-in-Ok-run_text.ensures.value c.write_outcomes.ensures.says)

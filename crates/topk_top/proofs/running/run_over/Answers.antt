@@ -1,8 +1,8 @@
 use Rattle.std.proofs.Common.{refl}
 use Rattle.std.proofs.KnownBytes.{Keeps-refl}
-use Rattle.topk_top.specs.Calls.{Call}
+use Rattle.topk_top.specs.Calls.{Call, call_at}
 use Rattle.topk_top.specs.Shelves.{Shelf}
-use Rattle.topk_top.proofs.Ending.{call_at, outside_at, shelf_at}
+use Rattle.topk_top.proofs.Ending.{outside_at, shelf_at}
 use Rattle.topk_top.proofs.RunEnding.{ends_at_fault}
 use Rattle.topk_top.proofs.running.run_over.Goals as goal
 

@@ -1,0 +1,22 @@
+-- The limits that the definitions cite, as numbers.
+use Rattle.std.specs.Prelude.{◌≡◌, ◌-◌, ◌^◌}
+use Rattle.limits.specs.declared.TheConstants.{MAX_OBJECTS, TOP_GRADE, MAX_BUNDLE_LISTS, MAX_INPUT, MAX_LIST_TEXT, MAX_LISTS, MAX_NODES, MAX_DEPTH}
+use Rattle.limits.specs.declared.TheConstants.{MAX_VALUE, MAX_WEIGHT, MAX_LINE, MAX_NUMBER, MAX_START, MAX_SOURCES, MAX_QUERIES}
+
+-- each limit is this number
+pub record AreStated : Type 0 where
+  pub objects : MAX_OBJECTS ≡ 200000
+  pub grade : TOP_GRADE ≡ 1000000
+  pub bundle_lists : MAX_BUNDLE_LISTS ≡ 64
+  pub input : MAX_INPUT ≡ 134217728
+  pub list_text : MAX_LIST_TEXT ≡ 16777216
+  pub lists : MAX_LISTS ≡ 8
+  pub nodes : MAX_NODES ≡ 64
+  pub depth : MAX_DEPTH ≡ 8
+  pub value : MAX_VALUE ≡ 2 ^ 63 - 1
+  pub weight : MAX_WEIGHT ≡ 2 ^ 63 - 1
+  pub line : MAX_LINE ≡ 4096
+  pub number : MAX_NUMBER ≡ 1000000
+  pub start : MAX_START ≡ 2 ^ 63 - 1
+  pub sources : MAX_SOURCES ≡ 64
+  pub queries : MAX_QUERIES ≡ 64
