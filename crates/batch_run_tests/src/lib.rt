@@ -2,8 +2,10 @@
 #![tactic(auto)]
 
 #[cfg(test)]
-mod made;
+mod cases;
 #[cfg(test)]
-mod outcomes;
+mod faults;
 #[cfg(test)]
-mod rows;
+mod grades;
+#[cfg(test)]
+mod tables;

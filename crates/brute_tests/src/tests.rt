@@ -7,7 +7,9 @@ use super::answers::{answers_of, check_accesses, check_answers};
 use super::tables::{NAMES, Table, table_of};
 use std::alloc::Global;
 use std::process::Abort;
+use std::sync::Wait;
 use std::test::Fail;
+use std::thread::Threads;
 use test_support::Numbers;
 use top_support::end_of;
 use topk_top::Status;
@@ -38,14 +40,14 @@ fn query_of(
 }
 
 /// What `one` writes of a query over a table.
-fn certificate_of(
-    rt: &impl Abort,
+fn certificate_of<W: Abort + Threads + Wait + Sync>(
+    rt: &W,
     alloc: Global,
     table: &Table,
     query: &str,
 ) -> Result<String, Fail> {
     let input = format!(in alloc; "{}query {query}\n", table.sections)?;
-    let (status, out) = end_of(alloc, &["one"], input.as_bytes(), 4_000_000)?;
+    let (status, out) = end_of(rt, alloc, &["one"], input.as_bytes(), 4_000_000)?;
     assert_eq!(rt; status, Status::Done, "{query}");
     Ok(String::from_utf8(out.taken().to_vec(alloc)?)?)
 }
@@ -66,8 +68,8 @@ fn aggregates_of(
 }
 
 /// Compares the answer of one query with the aggregates of all objects.
-fn compare(
-    rt: &impl Abort,
+fn compare<W: Abort + Threads + Wait + Sync>(
+    rt: &W,
     alloc: Global,
     table: &Table,
     count: u32,
@@ -86,8 +88,8 @@ fn compare(
 }
 
 /// Each aggregate over a table of so many objects and lists.
-fn compare_each(
-    rt: &impl Abort,
+fn compare_each<W: Abort + Threads + Wait + Sync>(
+    rt: &W,
     alloc: Global,
     table: &Table,
     count: u32,
@@ -107,7 +109,12 @@ fn compare_each(
 }
 
 /// Tables of so many objects in one, four and eight lists, the first two with ties everywhere.
-fn compare_tables(rt: &impl Abort, alloc: Global, count: u32, algorithm: &str) -> Result<(), Fail> {
+fn compare_tables<W: Abort + Threads + Wait + Sync>(
+    rt: &W,
+    alloc: Global,
+    count: u32,
+    algorithm: &str,
+) -> Result<(), Fail> {
     let mut numbers = Numbers::from_start(1);
     for (lists, step) in [(1, 3), (4, 2), (8, 500)] {
         let table = table_of(alloc, &mut numbers, lists, count, step)?;

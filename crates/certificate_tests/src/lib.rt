@@ -1,9 +1,5 @@
-//! Tests of certificates: the first example both ways, and the line at fault.
+//! Tests of certificates that are read: the first example, and the line at fault.
 #![tactic(auto)]
 
 #[cfg(test)]
-mod example;
-#[cfg(test)]
 mod reading;
-#[cfg(test)]
-mod writing;

@@ -1,12 +1,12 @@
 //! Texts that are read: the first example, and texts with the line at fault.
 
-use super::example::{ACCESSES, ITEM, QUERY, TEXT};
 use access_log::Items;
 use cert_text::{Accesses, CertFault, Certificate, read_certificate};
 use query_text::{Query, print};
 use std::alloc::Global;
 use std::process::Abort;
 use std::test::Fail;
+use test_support::{FIRST_ACCESSES, FIRST_ITEM, FIRST_QUERY, FIRST_TEXT};
 
 /// Whether a query has this text.
 fn is_printed(alloc: Global, query: &Query, expected: &[u8]) -> Result<bool, Fail> {
@@ -32,7 +32,7 @@ fn has_numbers(rt: &impl Abort, certificate: &Certificate) {
 /// Whether an answer is that of the first example.
 fn has_item(items: Items) -> bool {
     let items = items.into_vec();
-    let is_so = items.as_slice() == [ITEM].as_slice();
+    let is_so = items.as_slice() == [FIRST_ITEM].as_slice();
     drop(items);
     is_so
 }
@@ -40,7 +40,7 @@ fn has_item(items: Items) -> bool {
 /// Whether accesses are those of the first example.
 fn has_accesses(made: Accesses) -> bool {
     let made = made.into_vec();
-    let are_so = made.as_slice() == ACCESSES.as_slice();
+    let are_so = made.as_slice() == FIRST_ACCESSES.as_slice();
     drop(made);
     are_so
 }
@@ -49,7 +49,7 @@ fn has_accesses(made: Accesses) -> bool {
 fn is_first_example(rt: &impl Abort, alloc: Global, text: &[u8]) -> Result<(), Fail> {
     let certificate = read_certificate(alloc, text)?;
     has_numbers(rt, &certificate);
-    let printed = is_printed(alloc, &certificate.query, QUERY);
+    let printed = is_printed(alloc, &certificate.query, FIRST_QUERY);
     let Certificate {
         query,
         items,
@@ -64,12 +64,12 @@ fn is_first_example(rt: &impl Abort, alloc: Global, text: &[u8]) -> Result<(), F
 
 #[test]
 fn reads_the_first_example(rt: HostRuntime) -> Result<(), Fail> {
-    is_first_example(&rt, rt.alloc(), TEXT.as_bytes())
+    is_first_example(&rt, rt.alloc(), FIRST_TEXT.as_bytes())
 }
 
 #[test]
 fn reads_lines_that_end_by_two_bytes(rt: HostRuntime) -> Result<(), Fail> {
-    let text = TEXT.replace(rt.alloc(), "\n", "\r\n")?;
+    let text = FIRST_TEXT.replace(rt.alloc(), "\n", "\r\n")?;
     let outcome = is_first_example(&rt, rt.alloc(), text.as_bytes());
     drop(text);
     outcome
@@ -87,112 +87,116 @@ fn line_at_fault(alloc: Global, text: &str) -> Result<Option<u64>, Fail> {
     }
 }
 
-/// This line of a text is at fault, or None, and it is read.
-fn is_at_fault(
-    rt: &impl Abort,
-    alloc: Global,
-    text: &str,
-    expected: Option<u64>,
-    name: &str,
-) -> Result<(), Fail> {
-    let line = line_at_fault(alloc, text)?;
-    assert_eq!(rt; line, expected, "{name}");
-    Ok(())
-}
-
-/// The same of the first example with one text in place of another.
-fn is_other_at_fault(
-    rt: &impl Abort,
-    alloc: Global,
-    old: &str,
-    new: &str,
-    expected: Option<u64>,
-) -> Result<(), Fail> {
-    let text = TEXT.replace(alloc, old, new)?;
-    let outcome = is_at_fault(rt, alloc, &text, expected, new);
+/// The line at fault of the first example with one text in place of another, or None where it is read.
+fn other_at_fault(alloc: Global, old: &str, new: &str) -> Result<Option<u64>, Fail> {
+    let text = FIRST_TEXT.replace(alloc, old, new)?;
+    let line = line_at_fault(alloc, &text);
     drop(text);
-    outcome
+    line
 }
 
-/// A text of the first example, another in its place, and the line at fault.
-const AT_FAULT: [(&str, &str, u64); 32] = [
-    ("certificate 1", "certificate 01", 1),
-    ("certificate 1", "certificate 0", 1),
-    ("certificate 1", "certificate 9223372036854775808", 1),
-    ("certificate 1\n", "certificate\n", 1),
-    ("query top 1", "query top 0", 2),
-    ("query top 1", "query  top 1", 2),
-    ("sum(A,B)", "foo(A,B)", 2),
-    ("using ta", "using tb", 2),
-    ("count 3", "count 0", 3),
-    ("count 3", "count 03", 3),
-    ("count 3", "count 200001", 3),
-    ("count 3\n", "count 3\r\r\n", 3),
-    ("answer 2", "answer 02", 4),
-    ("answer 2", "answer 4294967296", 4),
-    ("1500 1500", "1500", 4),
-    ("1500\n", "1500 \n", 4),
-    ("1500\n", "18446744073709551616\n", 4),
-    ("stop", "end\nstop", 5),
-    ("sorted 4", "sorted 04", 5),
-    ("cost 7", "cost 18446744073709551616", 5),
-    (" cost 7", "", 5),
-    ("s A 1 900", "answer 1 1400 1400\ns A 1 900", 6),
-    ("s A 1 900", "s C 1 900", 6),
-    ("s A 1 900", "s A 01 900", 6),
-    ("s A 1 900", "t A 1 900", 6),
-    ("r A 3 100", "r A 4294967296 100", 12),
-    ("r A 3 100", "r A 3 4294967296", 12),
-    ("r A 3 100", "r A 3", 12),
-    ("end", "end ", 13),
-    ("end\n", "end\r", 13),
-    ("end\n", "end\n\n", 14),
-    ("end\n", "end\nend\n", 14),
+/// A text of the first example, another in its place, and the line at fault, or None where it is read.
+type Row = (&'static str, &'static str, Option<u64>);
+
+/// The number of the first row that comes to something else.
+fn first_wrong(alloc: Global, rows: &[Row]) -> Result<Option<usize>, Fail> {
+    for (number, (old, new, line)) in rows.iter().enumerate() {
+        if other_at_fault(alloc, old, new)? != *line {
+            return Ok(Some(number));
+        }
+    }
+    Ok(None)
+}
+
+/// Each kind of fault, on each kind of line.
+const AT_FAULT: [Row; 32] = [
+    ("certificate 1", "certificate 01", Some(1)),
+    ("certificate 1", "certificate 0", Some(1)),
+    ("certificate 1", "certificate 9223372036854775808", Some(1)),
+    ("certificate 1\n", "certificate\n", Some(1)),
+    ("query top 1", "query top 0", Some(2)),
+    ("query top 1", "query  top 1", Some(2)),
+    ("sum(A,B)", "foo(A,B)", Some(2)),
+    ("using ta", "using tb", Some(2)),
+    ("count 3", "count 0", Some(3)),
+    ("count 3", "count 03", Some(3)),
+    ("count 3", "count 200001", Some(3)),
+    ("count 3\n", "count 3\r\r\n", Some(3)),
+    ("answer 2", "answer 02", Some(4)),
+    ("answer 2", "answer 4294967296", Some(4)),
+    ("1500 1500", "1500", Some(4)),
+    ("1500\n", "1500 \n", Some(4)),
+    ("1500\n", "18446744073709551616\n", Some(4)),
+    ("stop", "end\nstop", Some(5)),
+    ("sorted 4", "sorted 04", Some(5)),
+    ("cost 7", "cost 18446744073709551616", Some(5)),
+    (" cost 7", "", Some(5)),
+    ("s A 1 900", "answer 1 1400 1400\ns A 1 900", Some(6)),
+    ("s A 1 900", "s C 1 900", Some(6)),
+    ("s A 1 900", "s A 01 900", Some(6)),
+    ("s A 1 900", "t A 1 900", Some(6)),
+    ("r A 3 100", "r A 4294967296 100", Some(12)),
+    ("r A 3 100", "r A 3 4294967296", Some(12)),
+    ("r A 3 100", "r A 3", Some(12)),
+    ("end", "end ", Some(13)),
+    ("end\n", "end\r", Some(13)),
+    ("end\n", "end\n\n", Some(14)),
+    ("end\n", "end\nend\n", Some(14)),
 ];
 
 #[test]
 fn names_the_first_line_at_fault(rt: HostRuntime) -> Result<(), Fail> {
-    for (old, new, line) in AT_FAULT {
-        is_other_at_fault(&rt, rt.alloc(), old, new, Some(line))?;
-    }
+    assert_eq!(rt; first_wrong(rt.alloc(), &AT_FAULT)?, None);
     Ok(())
 }
 
-/// A text of the first example, and another in its place, with each number at the end of its range.
-const READ: [(&str, &str); 14] = [
-    ("certificate 1", "certificate 9223372036854775807"),
-    ("using ta", "using nra"),
-    ("using ta", "using ca"),
-    ("count 3", "count 200000"),
-    ("answer 2", "answer 4294967295"),
-    ("1500 1500", "18446744073709551615 18446744073709551615"),
-    ("answer 2 1500 1500\n", ""),
-    ("depth 2", "depth 18446744073709551615"),
-    ("sorted 4", "sorted 18446744073709551615"),
-    ("random 3", "random 18446744073709551615"),
-    ("cost 7", "cost 18446744073709551615"),
-    ("s A 1 900", "s A 4294967295 4294967295"),
-    ("s A 1 900\n", ""),
-    ("end\n", "end"),
+/// Each number at the end of its range, and lines that a certificate need not have.
+const READ: [Row; 14] = [
+    ("certificate 1", "certificate 9223372036854775807", None),
+    ("using ta", "using nra", None),
+    ("using ta", "using ca", None),
+    ("count 3", "count 200000", None),
+    ("answer 2", "answer 4294967295", None),
+    (
+        "1500 1500",
+        "18446744073709551615 18446744073709551615",
+        None,
+    ),
+    ("answer 2 1500 1500\n", "", None),
+    ("depth 2", "depth 18446744073709551615", None),
+    ("sorted 4", "sorted 18446744073709551615", None),
+    ("random 3", "random 18446744073709551615", None),
+    ("cost 7", "cost 18446744073709551615", None),
+    ("s A 1 900", "s A 4294967295 4294967295", None),
+    ("s A 1 900\n", "", None),
+    ("end\n", "end", None),
 ];
 
 #[test]
 fn reads_what_is_no_answer(rt: HostRuntime) -> Result<(), Fail> {
-    for (old, new) in READ {
-        is_other_at_fault(&rt, rt.alloc(), old, new, None)?;
-    }
+    assert_eq!(rt; first_wrong(rt.alloc(), &READ)?, None);
     Ok(())
 }
 
-/// The first example, cut before each of its lines.
-#[test]
-fn names_the_missing_line(rt: HostRuntime) -> Result<(), Fail> {
+/// The first line of the first example that isn't named where the text ends before it.
+fn first_unnamed(alloc: Global) -> Result<Option<u64>, Fail> {
     let mut end: usize = 0;
-    for (line, own) in (1..).zip(TEXT.lines()) {
-        let front = TEXT.get(..end).ok_or("a front")?;
-        is_at_fault(&rt, rt.alloc(), front, Some(line), own)?;
+    for (line, own) in (1..).zip(FIRST_TEXT.lines()) {
+        let front = FIRST_TEXT.get(..end).ok_or("a front")?;
+        if line_at_fault(alloc, front)? != Some(line) {
+            return Ok(Some(line));
+        }
         end = end.saturating_add(own.len()).saturating_add(1);
     }
-    assert!(rt; end == TEXT.len());
+    if end == FIRST_TEXT.len() {
+        Ok(None)
+    } else {
+        Err("the whole text".into())
+    }
+}
+
+#[test]
+fn names_the_missing_line(rt: HostRuntime) -> Result<(), Fail> {
+    assert_eq!(rt; first_unnamed(rt.alloc())?, None);
     Ok(())
 }

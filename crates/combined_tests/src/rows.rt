@@ -2,7 +2,9 @@
 //! third line on.
 
 use std::alloc::Global;
+use std::sync::Wait;
 use std::test::Fail;
+use std::thread::Threads;
 use top_support::end_of;
 use topk_top::Status;
 
@@ -21,10 +23,16 @@ const JOINED: &str = "list A\n1,10\n2,6\n3,2\nlist B\n1,8\n3,5\n2,4\n";
 const TURNED: &str = "list A\n2,10\n1,9\nlist B\n1,8\n2,1\n";
 
 /// Whether `one` answers a query over these lists by this certificate.
-fn answers_by(alloc: Global, lists: &str, query: &str, rest: &str) -> Result<bool, Fail> {
+fn answers_by<W: Threads + Wait + Sync>(
+    rt: &W,
+    alloc: Global,
+    lists: &str,
+    query: &str,
+    rest: &str,
+) -> Result<bool, Fail> {
     let input = format!(in alloc; "{lists}query {query}\n")?;
     let text = format!(in alloc; "certificate 1\nquery {query}\n{rest}")?;
-    let (status, out) = end_of(alloc, &["one"], input.as_bytes(), 1000)?;
+    let (status, out) = end_of(rt, alloc, &["one"], input.as_bytes(), 1000)?;
     Ok(status == Status::Done && out.taken() == text.as_bytes())
 }
 
@@ -70,7 +78,7 @@ fn chooses_an_object(rt: HostRuntime) -> Result<(), Fail> {
         ),
     ];
     for (lists, query, rest) in rows {
-        let is_right = answers_by(rt.alloc(), lists, query, rest)?;
+        let is_right = answers_by(&rt, rt.alloc(), lists, query, rest)?;
         assert!(rt; is_right, "{query}");
     }
     Ok(())
@@ -106,7 +114,7 @@ fn finishes_an_answer(rt: HostRuntime) -> Result<(), Fail> {
         ),
     ];
     for (lists, query, rest) in rows {
-        let is_right = answers_by(rt.alloc(), lists, query, rest)?;
+        let is_right = answers_by(&rt, rt.alloc(), lists, query, rest)?;
         assert!(rt; is_right, "{query}");
     }
     Ok(())

@@ -2,6 +2,4 @@
 #![tactic(auto)]
 
 #[cfg(test)]
-mod texts;
-#[cfg(test)]
 mod verdicts;

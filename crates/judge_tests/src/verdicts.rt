@@ -1,70 +1,111 @@
 //! Verdicts worked out by hand.
 
+ghost use Rattle.std.specs.Prelude.{◌≡◌};
+ghost use Rattle.monotone_fn.specs.Shape.{list_count};
+
 use access_log::{Access, Transcript};
 use judge_core::{JudgeFault, Verdict, counter_table, judge};
+use monotone_fn::Expr;
 use query_text::read;
 use ranked_list::{MemList, is_table};
 use std::alloc::Global;
-use std::process::Abort;
 use std::test::Fail;
-use test_support::{random, sorted};
+use test_support::{random_row, sorted_row};
 
-/// The expression of a query over so many lists of so many objects, and a transcript.
+/// The expression of a query over so many lists of so many objects, a transcript, and an answer of k objects.
 #[derive(Clone, Copy)]
-struct Question<'a> {
-    query: &'a [u8],
+struct Question {
+    query: &'static [u8],
     lists: u8,
     count: u32,
-    accesses: &'a [Access],
-}
-
-/// The accesses of the question.
-fn transcript(rt: &impl Abort, alloc: Global, question: &Question<'_>) -> Result<Transcript, Fail> {
-    let lists = question.lists;
-    let count = question.count;
-    assert!(rt; 0 < lists && lists < 5);
-    assert!(rt; 0 < count && count < 10);
-    let mut log = Transcript::make(alloc, lists, count)?;
-    for access in question.accesses {
-        log.push(*access)?;
-    }
-    Ok(log)
+    accesses: &'static [Access],
+    k: u32,
+    answer: &'static [u32],
 }
 
 /// What is told of an answer.
-fn told(
-    rt: &impl Abort,
-    alloc: Global,
-    question: &Question<'_>,
-    k: u32,
-    answer: &[u32],
-) -> Result<Result<Verdict, JudgeFault>, Fail> {
-    let query = read(alloc, question.query)?;
-    let log = transcript(rt, alloc, question)?;
-    assert_eq!(rt; query.expr.lists(), log.lists());
-    assert!(rt; answer.len() < 10);
-    Ok(judge(alloc, &log, &query.expr, k, answer))
+type Told = Result<Verdict, JudgeFault>;
+
+/// The text of a query, and how many lists it names.
+type Asked = (&'static [u8], u8);
+
+/// How many objects there are, the accesses, k, the answer, and what is told of it.
+type Row = (u32, &'static [Access], u32, &'static [u32], Told);
+
+/// How many objects there are, the accesses, and the sums of objects in the table that beats the answer.
+type Countered = (u32, &'static [Access], &'static [(u32, u64)]);
+
+/// What is told of an answer, and the lists of the table that beats it, or none.
+#[derive(Drop)]
+struct Judged {
+    told: Told,
+    against: Vec<MemList>,
 }
 
-/// The table against the object inside, where an answer is beaten.
-fn countered(
-    rt: &impl Abort,
-    alloc: Global,
-    question: &Question<'_>,
-    k: u32,
-    answer: &[u32],
-) -> Result<Vec<MemList>, Fail> {
-    let query = read(alloc, question.query)?;
-    let log = transcript(rt, alloc, question)?;
-    assert_eq!(rt; query.expr.lists(), log.lists());
-    assert!(rt; answer.len() < 10);
-    match judge(alloc, &log, &query.expr, k, answer) {
-        Ok(Verdict::Beaten { inside, .. }) => {
-            assert!(rt; log.is_seen(inside));
-            Ok(counter_table(alloc, &log, inside)?)
-        }
-        _ => Err(Fail::new("a beaten answer")),
+/// Takes accesses.
+fn push_all(log: &mut Transcript, accesses: &[Access]) -> Result<(), Fail> {
+    for access in accesses {
+        log.push(*access)?;
     }
+    Ok(())
+}
+
+/// The accesses of a question.
+fn transcript_of(alloc: Global, question: &Question) -> Result<Transcript, Fail> {
+    let (lists, count) = (question.lists, question.count);
+    if lists == 0 || lists >= 5 || count == 0 || count >= 10 {
+        return Err("a few small lists".into());
+    }
+    let mut log = Transcript::make(alloc, lists, count)?;
+    match push_all(&mut log, question.accesses) {
+        Ok(()) => Ok(log),
+        Err(fail) => {
+            drop(log);
+            Err(fail)
+        }
+    }
+}
+
+/// What is told of a question's answer over a transcript.
+fn verdict_over(
+    alloc: Global,
+    log: &Transcript,
+    expr: &Expr,
+    question: &Question,
+) -> Result<Judged, Fail>
+    requires { list_count expr.now ≡ log.now.lists }
+{
+    if question.answer.len() >= 10 {
+        return Err("a small answer".into());
+    }
+    let told = judge(alloc, log, expr, question.k, question.answer);
+    let against = match told {
+        Ok(Verdict::Beaten { inside, .. }) if log.is_seen(inside) => {
+            counter_table(alloc, log, inside)?
+        }
+        _ => Vec::new(alloc),
+    };
+    Ok(Judged { told, against })
+}
+
+/// What is told of a question's answer by its expression.
+fn verdict_by(alloc: Global, expr: &Expr, question: &Question) -> Result<Judged, Fail> {
+    let log = transcript_of(alloc, question)?;
+    let judged = if expr.lists() == log.lists() {
+        verdict_over(alloc, &log, expr, question)
+    } else {
+        Err("as many lists as the query names".into())
+    };
+    drop(log);
+    judged
+}
+
+/// What is told of a question's answer.
+fn verdict_of(alloc: Global, question: &Question) -> Result<Judged, Fail> {
+    let query = read(alloc, question.query)?;
+    let judged = verdict_by(alloc, &query.expr, question);
+    drop(query);
+    judged
 }
 
 /// The sum of an object's grades.
@@ -80,172 +121,266 @@ fn sum_of(lists: &[MemList], object: u32) -> u64 {
     sum
 }
 
+/// Whether lists are a table that gives objects these sums.
+fn has_sums(alloc: Global, lists: &[MemList], sums: &[(u32, u64)]) -> Result<bool, Fail> {
+    let are_right = sums
+        .iter()
+        .all(|(object, sum)| sum_of(lists, *object) == *sum);
+    Ok(are_right && is_table(alloc, lists)?)
+}
+
+/// Whether this is told of a row's answer.
+fn is_so(alloc: Global, asked: Asked, row: &Row) -> Result<bool, Fail> {
+    let (query, lists) = asked;
+    let (count, accesses, k, answer, told) = *row;
+    let question = Question {
+        query,
+        lists,
+        count,
+        accesses,
+        k,
+        answer,
+    };
+    let judged = verdict_of(alloc, &question)?;
+    let is_so = judged.told == told;
+    drop(judged);
+    Ok(is_so)
+}
+
+/// The number of the first row of whose answer something else is told.
+fn first_wrong(alloc: Global, asked: Asked, rows: &[Row]) -> Result<Option<usize>, Fail> {
+    for (number, row) in rows.iter().enumerate() {
+        if !is_so(alloc, asked, row)? {
+            return Ok(Some(number));
+        }
+    }
+    Ok(None)
+}
+
+/// Two lists by sum.
+const SUM: Asked = (b"top 1 by sum(A,B) using ta", 2);
+
+/// A whole run of the threshold algorithm.
+const RUN: [Access; 7] = [
+    sorted_row!(0, 1, 900),
+    sorted_row!(1, 2, 700),
+    random_row!(1, 1, 500),
+    random_row!(0, 2, 800),
+    sorted_row!(0, 2, 800),
+    sorted_row!(1, 3, 600),
+    random_row!(0, 3, 100),
+];
+
+/// Its first depth.
+const FIRST: [Access; 4] = [
+    sorted_row!(0, 1, 900),
+    sorted_row!(1, 2, 700),
+    random_row!(1, 1, 500),
+    random_row!(0, 2, 800),
+];
+
+/// The rows of its first depth.
+const ROWS: [Access; 2] = [sorted_row!(0, 1, 900), sorted_row!(1, 2, 700)];
+
+/// The run, and the same without its last accesses: beaten by an unseen object, fixed where there is none, and beaten by an object
+/// that was seen.
+const RUNS: [Row; 4] = [
+    (3, &RUN, 1, &[2], Ok(Verdict::Fixes)),
+    (
+        3,
+        &FIRST,
+        1,
+        &[2],
+        Ok(Verdict::Beaten {
+            inside: 2,
+            outside: 0,
+            low: 1500,
+            high: 1600,
+        }),
+    ),
+    (2, &FIRST, 1, &[2], Ok(Verdict::Fixes)),
+    (
+        2,
+        &ROWS,
+        1,
+        &[2],
+        Ok(Verdict::Beaten {
+            inside: 2,
+            outside: 1,
+            low: 700,
+            high: 1600,
+        }),
+    ),
+];
+
+#[test]
+fn judges_a_run(rt: HostRuntime) -> Result<(), Fail> {
+    assert_eq!(rt; first_wrong(rt.alloc(), SUM, &RUNS)?, None);
+    Ok(())
+}
+
+/// The two of these that are beaten.
+const COUNTERED: [Countered; 2] = [
+    (3, &FIRST, &[(2, 1500), (0, 1600), (1, 1400)]),
+    (2, &ROWS, &[(2, 700), (1, 1600)]),
+];
+
+/// Whether what beats object 2 is a table that gives objects these sums.
+fn is_countered(alloc: Global, row: &Countered) -> Result<bool, Fail> {
+    let (query, lists) = SUM;
+    let (count, accesses, sums) = *row;
+    let question = Question {
+        query,
+        lists,
+        count,
+        accesses,
+        k: 1,
+        answer: &[2],
+    };
+    let judged = verdict_of(alloc, &question)?;
+    let is_so = has_sums(alloc, &judged.against, sums);
+    drop(judged);
+    is_so
+}
+
 /// What beats an answer is a table. The object inside has its low there, and each other object its high.
 #[test]
 fn counters_an_answer(rt: HostRuntime) -> Result<(), Fail> {
-    let accesses = [
-        sorted(0, 1, 900),
-        sorted(1, 2, 700),
-        random(1, 1, 500),
-        random(0, 2, 800),
+    let are_so = [
+        is_countered(rt.alloc(), &COUNTERED[0])?,
+        is_countered(rt.alloc(), &COUNTERED[1])?,
     ];
-    let cases: [(u32, &[Access], &[(u32, u64)]); 2] = [
-        (3, &accesses, &[(2, 1500), (0, 1600), (1, 1400)]),
-        (2, &accesses[..2], &[(2, 700), (1, 1600)]),
-    ];
-    for (count, accesses, sums) in cases {
-        let question = Question {
-            query: b"top 1 by sum(A,B) using ta",
-            lists: 2,
-            count,
-            accesses,
-        };
-        let lists = countered(&rt, rt.alloc(), &question, 1, &[2])?;
-        assert!(rt; is_table(rt.alloc(), &lists)?);
-        let are_right = sums
-            .iter()
-            .all(|(object, sum)| sum_of(&lists, *object) == *sum);
-        assert!(rt; are_right, "{count}");
-    }
+    assert_eq!(rt; are_so, [true, true]);
     Ok(())
 }
 
-/// A whole run of the threshold algorithm, and the same without its last accesses.
-#[test]
-fn judges_a_run(rt: HostRuntime) -> Result<(), Fail> {
-    let beaten = Verdict::Beaten {
-        inside: 2,
-        outside: 0,
-        low: 1500,
-        high: 1600,
-    };
-    let run = [
-        sorted(0, 1, 900),
-        sorted(1, 2, 700),
-        random(1, 1, 500),
-        random(0, 2, 800),
-        sorted(0, 2, 800),
-        sorted(1, 3, 600),
-        random(0, 3, 100),
-    ];
-    // beaten by an object that was seen, and by an unseen one of a smaller id
-    let early = Verdict::Beaten {
-        inside: 2,
-        outside: 1,
-        low: 700,
-        high: 1600,
-    };
-    let cases: [(u32, &[Access], Result<Verdict, JudgeFault>); 4] = [
-        (3, &run, Ok(Verdict::Fixes)),
-        (3, &run[..4], Ok(beaten)),
-        (2, &run[..4], Ok(Verdict::Fixes)),
-        (2, &run[..2], Ok(early)),
-    ];
-    for (count, accesses, expected) in cases {
-        let question = Question {
-            query: b"top 1 by sum(A,B) using ta",
-            lists: 2,
-            count,
-            accesses,
-        };
-        assert_eq!(rt;
-            told(&rt, rt.alloc(), &question, 1, &[2])?,
-            expected,
-            "{count}"
-        );
-    }
-    Ok(())
-}
+/// Three objects of one grade in the first of two lists.
+const NINES: &[Access] = &[
+    sorted_row!(0, 5, 9),
+    sorted_row!(0, 4, 9),
+    sorted_row!(0, 3, 9),
+];
 
-/// Ties: of equal lows inside, and of equal highs outside, the smallest id is named.
-#[test]
-fn names_the_smallest_of_ties(rt: HostRuntime) -> Result<(), Fail> {
-    let accesses = [sorted(0, 5, 9), sorted(0, 4, 9), sorted(0, 3, 9)];
-    let cases: [(u32, &[u32], u32, u32); 4] = [
-        (4, &[5], 5, 0),
-        (4, &[5, 4], 4, 0),
-        (3, &[5], 5, 3),
-        (3, &[3], 3, 4),
-    ];
-    for (count, answer, inside, outside) in cases {
-        let question = Question {
-            query: b"top 1 by sum(A,B) using nra",
-            lists: 2,
-            count,
-            accesses: &accesses,
-        };
-        let beaten = Verdict::Beaten {
-            inside,
-            outside,
+/// An object with one grade of 9 is beaten by another one.
+macro_rules! beaten {
+    ($inside:expr, $outside:expr) => {
+        Ok(Verdict::Beaten {
+            inside: $inside,
+            outside: $outside,
             low: 9,
             high: 1_000_009,
-        };
-        let k = answer.len().min(9) as u32;
-        assert_eq!(rt; told(&rt, rt.alloc(), &question, k, answer)?, Ok(beaten));
-    }
+        })
+    };
+}
+
+/// Of equal lows inside, and of equal highs outside, the object of the smallest id is named.
+const SMALLEST: [Row; 4] = [
+    (4, NINES, 1, &[5], beaten!(5, 0)),
+    (4, NINES, 2, &[5, 4], beaten!(4, 0)),
+    (3, NINES, 1, &[5], beaten!(5, 3)),
+    (3, NINES, 1, &[3], beaten!(3, 4)),
+];
+
+#[test]
+fn names_the_smallest_of_ties(rt: HostRuntime) -> Result<(), Fail> {
+    assert_eq!(rt; first_wrong(rt.alloc(), SUM, &SMALLEST)?, None);
     Ok(())
 }
 
+/// One list.
+const ONE: Asked = (b"top 1 by A using ta", 1);
+
+const TAME: &[Access] = &[sorted_row!(0, 9, 0)];
+
+const WILD: &[Access] = &[sorted_row!(0, 9, 0), random_row!(0, 8, 0)];
+
+const WILD_AT_ONCE: &[Access] = &[random_row!(0, 9, 0), sorted_row!(0, 9, 0)];
+
 /// Each fault, and the first of two.
+const FAULTS: [Row; 12] = [
+    (1, TAME, 1, &[9], Ok(Verdict::Fixes)),
+    (1, &[], 1, &[9], Err(JudgeFault::UnseenAnswer { object: 9 })),
+    (
+        1,
+        TAME,
+        1,
+        &[9, 9],
+        Err(JudgeFault::WrongSize { given: 2, k: 1 }),
+    ),
+    (
+        1,
+        TAME,
+        2,
+        &[9, 9],
+        Err(JudgeFault::WrongSize { given: 2, k: 2 }),
+    ),
+    (
+        2,
+        &[],
+        2,
+        &[7, 7],
+        Err(JudgeFault::WrongSize { given: 2, k: 2 }),
+    ),
+    (
+        1,
+        TAME,
+        2,
+        &[9],
+        Err(JudgeFault::WrongSize { given: 1, k: 2 }),
+    ),
+    (
+        1,
+        TAME,
+        2,
+        &[9, 3],
+        Err(JudgeFault::UnseenAnswer { object: 3 }),
+    ),
+    (
+        3,
+        TAME,
+        3,
+        &[4, 9, 3],
+        Err(JudgeFault::UnseenAnswer { object: 4 }),
+    ),
+    (3, WILD, 3, &[4, 4, 9], Err(JudgeFault::WildGuess { at: 2 })),
+    (
+        3,
+        WILD_AT_ONCE,
+        1,
+        &[9],
+        Err(JudgeFault::WildGuess { at: 1 }),
+    ),
+    (3, TAME, 0, &[], Ok(Verdict::Fixes)),
+    (3, TAME, 1, &[9], Ok(Verdict::Fixes)),
+];
+
 #[test]
 fn refuses_in_order(rt: HostRuntime) -> Result<(), Fail> {
-    let guess = JudgeFault::WildGuess { at: 2 };
-    let unseen = |object| JudgeFault::UnseenAnswer { object };
-    let size = |given, k| JudgeFault::WrongSize { given, k };
-    let tame = [sorted(0, 9, 0)];
-    let wild = [sorted(0, 9, 0), random(0, 8, 0)];
-    let cases: [(u32, &[Access], u32, &[u32], Result<Verdict, JudgeFault>); 12] = [
-        (1, &tame, 1, &[9], Ok(Verdict::Fixes)),
-        (1, &[], 1, &[9], Err(unseen(9))),
-        (1, &tame, 1, &[9, 9], Err(size(2, 1))),
-        (1, &tame, 2, &[9, 9], Err(size(2, 2))),
-        (2, &[], 2, &[7, 7], Err(size(2, 2))),
-        (1, &tame, 2, &[9], Err(size(1, 2))),
-        (1, &tame, 2, &[9, 3], Err(unseen(3))),
-        (3, &tame, 3, &[4, 9, 3], Err(unseen(4))),
-        (3, &wild, 3, &[4, 4, 9], Err(guess)),
-        (
-            3,
-            &[random(0, 9, 0), sorted(0, 9, 0)],
-            1,
-            &[9],
-            Err(JudgeFault::WildGuess { at: 1 }),
-        ),
-        (3, &tame, 0, &[], Ok(Verdict::Fixes)),
-        (3, &tame, 1, &[9], Ok(Verdict::Fixes)),
-    ];
-    for (count, accesses, k, answer, expected) in cases {
-        let question = Question {
-            query: b"top 1 by A using ta",
-            lists: 1,
-            count,
-            accesses,
-        };
-        assert_eq!(rt;
-            told(&rt, rt.alloc(), &question, k, answer)?,
-            expected,
-            "{k} {answer:?}"
-        );
-    }
+    assert_eq!(rt; first_wrong(rt.alloc(), ONE, &FAULTS)?, None);
     Ok(())
 }
 
 /// The greatest aggregates of 64 bits.
-#[test]
-fn judges_the_greatest(rt: HostRuntime) -> Result<(), Fail> {
-    let accesses = [sorted(0, 1, 1_000_000), sorted(1, 2, 1_000_000)];
-    let question = Question {
-        query: b"top 1 by sum(wsum(4611686018427*A),wsum(4611686018427*B)) using ta",
-        lists: 2,
-        count: 2,
-        accesses: &accesses,
-    };
-    let beaten = Verdict::Beaten {
+const GREATEST: Asked = (
+    b"top 1 by sum(wsum(4611686018427*A),wsum(4611686018427*B)) using ta",
+    2,
+);
+
+const ABOVE_ALL: [Row; 1] = [(
+    2,
+    &[sorted_row!(0, 1, 1_000_000), sorted_row!(1, 2, 1_000_000)],
+    1,
+    &[1],
+    Ok(Verdict::Beaten {
         inside: 1,
         outside: 2,
         low: 4_611_686_018_427_000_000,
         high: 9_223_372_036_854_000_000,
-    };
-    assert_eq!(rt; told(&rt, rt.alloc(), &question, 1, &[1])?, Ok(beaten));
+    }),
+)];
+
+#[test]
+fn judges_the_greatest(rt: HostRuntime) -> Result<(), Fail> {
+    assert_eq!(rt; first_wrong(rt.alloc(), GREATEST, &ABOVE_ALL)?, None);
     Ok(())
 }

@@ -2,7 +2,7 @@
 
 use file_source::FileShelf;
 use source_api::{Shelf, Trouble};
-use source_steps::{Step, first_wrong};
+use source_support::{Step, first_wrong};
 use std::alloc::Global;
 use std::fs;
 use std::rt::Files;

@@ -2,7 +2,7 @@
 
 use file_source::FileSource;
 use source_api::{Counts, Memory, Trouble};
-use source_steps::{Step, first_wrong};
+use source_support::{Step, first_wrong};
 use std::alloc::Global;
 use std::test::Fail;
 

@@ -2,7 +2,9 @@
 
 use source_api::MemShelf;
 use std::alloc::Global;
+use std::sync::Wait;
 use std::test::Fail;
+use std::thread::Threads;
 use test_support::words_of;
 use tk_io::{MemIntake, MemSink, Sink};
 use top_support::end_of;
@@ -19,7 +21,11 @@ const CERTIFICATE: &str =
 
 /// How `make` ends for that table where its input can't be read and the calls of `fails` can't write,
 /// and what it writes.
-fn made(alloc: Global, fails: &[u64]) -> Result<(Status, MemSink), Fail> {
+fn made<W: Threads + Wait + Sync>(
+    rt: &W,
+    alloc: Global,
+    fails: &[u64],
+) -> Result<(Status, MemSink), Fail> {
     let words = words_of(
         alloc,
         &["make", "--start", "7", "--count", "4", "--lists", "2"],
@@ -27,23 +33,28 @@ fn made(alloc: Global, fails: &[u64]) -> Result<(Status, MemSink), Fail> {
     let mut input = MemIntake::make(alloc, &[], 50, &[1])?;
     let mut out = MemSink::make(alloc, 1000, fails)?;
     let mut shelf = MemShelf::make(alloc);
-    let status = top(alloc, &words, &mut shelf, &mut input, &mut out);
+    let status = top(rt, alloc, &words, &mut shelf, &mut input, &mut out);
     Ok((status, out))
 }
 
 /// How `one` ends on an input of two parts, and what it writes.
-fn answered(alloc: Global, lists: &[u8], query: &str) -> Result<(Status, MemSink), Fail> {
+fn answered<W: Threads + Wait + Sync>(
+    rt: &W,
+    alloc: Global,
+    lists: &[u8],
+    query: &str,
+) -> Result<(Status, MemSink), Fail> {
     let mut text = Vec::from_slice(alloc, lists)?;
     text.extend_from_slice(query.as_bytes())?;
-    Ok(end_of(alloc, &["one"], &text, 1000)?)
+    Ok(end_of(rt, alloc, &["one"], &text, 1000)?)
 }
 
 #[test]
 fn writes_what_one_reads(rt: HostRuntime) -> Result<(), Fail> {
-    let (status, out) = made(rt.alloc(), &[])?;
+    let (status, out) = made(&rt, rt.alloc(), &[])?;
     assert_eq!(rt; status, Status::Done);
     assert_eq!(rt; out.taken(), MADE.as_bytes());
-    let (status, certificate) = answered(rt.alloc(), out.taken(), QUERY)?;
+    let (status, certificate) = answered(&rt, rt.alloc(), out.taken(), QUERY)?;
     assert_eq!(rt; status, Status::Done);
     assert_eq!(rt; certificate.taken(), CERTIFICATE.as_bytes());
     Ok(())
@@ -51,7 +62,7 @@ fn writes_what_one_reads(rt: HostRuntime) -> Result<(), Fail> {
 
 #[test]
 fn ends_where_no_byte_is_taken(rt: HostRuntime) -> Result<(), Fail> {
-    let (status, out) = made(rt.alloc(), &[1])?;
+    let (status, out) = made(&rt, rt.alloc(), &[1])?;
     assert_eq!(rt; status, Status::WriteFault);
     assert!(rt; out.taken().is_empty(), "a byte was taken");
     Ok(())

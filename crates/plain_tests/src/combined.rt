@@ -1,13 +1,10 @@
 //! The combined algorithm.
 
-use super::tables::{Case, THREE, check_posed};
-use plain_run::{ca_answer, ca_depth, ca_run};
-use query_text::{Query, read};
-use ranked_list::MemList;
-use std::alloc::Global;
-use std::process::Abort;
+use super::outcomes::{Case, first_wrong};
+use super::tables::THREE;
 use std::test::Fail;
-use test_support::{Lists, item, random, sorted, table_of};
+use test_support::{Lists, item_row, random_row, sorted_row};
+use topk_theory::Access;
 
 /// Each list has another object at its top, all with one grade.
 const TOPS: Lists<'static> = &[
@@ -19,97 +16,99 @@ const TOPS: Lists<'static> = &[
 /// The object with the greater low has the greater number and the smaller aggregate.
 const TURNED: Lists<'static> = &[&[(7, 9), (3, 8)], &[(3, 4), (7, 1)]];
 
-fn does(
-    rt: &impl Abort,
-    alloc: Global,
-    query: &Query,
-    table: &[MemList],
-    case: Case<'_>,
-) -> Result<(), Fail> {
-    let (text, _, depth, accesses, items) = case;
-    let (expr, k, costs) = (&query.expr, query.k, query.costs_in_force());
-    check_posed(rt, alloc, table, expr)?;
-    assert!(rt; 1 <= costs.sorted, "a cost");
-    assert_eq!(rt; ca_depth(alloc, table, expr, k, costs)?, depth, "{text}");
-    assert_eq!(rt;
-        ca_run(alloc, table, expr, k, costs)?.as_slice(),
-        accesses,
-        "{text}"
-    );
-    assert_eq!(rt;
-        ca_answer(alloc, table, expr, k, costs)?.as_slice(),
-        items,
-        "{text}"
-    );
-    Ok(())
-}
+const NONE_ASKED: [Access; 4] = [
+    sorted_row!(0, 1, 900),
+    sorted_row!(1, 2, 700),
+    sorted_row!(0, 2, 800),
+    sorted_row!(1, 3, 600),
+];
+
+const ONE_ASKED: [Access; 5] = [
+    sorted_row!(0, 1, 900),
+    sorted_row!(1, 2, 700),
+    random_row!(1, 1, 500),
+    sorted_row!(0, 2, 800),
+    sorted_row!(1, 3, 600),
+];
+
+const ALL_ASKED: [Access; 6] = [
+    sorted_row!(0, 1, 900),
+    sorted_row!(1, 2, 700),
+    sorted_row!(0, 2, 800),
+    sorted_row!(1, 3, 600),
+    random_row!(1, 1, 500),
+    random_row!(0, 3, 100),
+];
+
+const TOPS_DEPTHS: [Access; 12] = [
+    sorted_row!(0, 5, 9),
+    sorted_row!(1, 4, 9),
+    sorted_row!(2, 6, 9),
+    random_row!(0, 4, 7),
+    random_row!(2, 4, 8),
+    sorted_row!(0, 6, 8),
+    sorted_row!(1, 5, 8),
+    sorted_row!(2, 4, 8),
+    random_row!(2, 5, 7),
+    sorted_row!(0, 4, 7),
+    sorted_row!(1, 6, 7),
+    sorted_row!(2, 5, 7),
+];
+
+const TURNED_DEPTH: [Access; 4] = [
+    sorted_row!(0, 7, 9),
+    sorted_row!(1, 3, 4),
+    random_row!(1, 7, 1),
+    random_row!(0, 3, 8),
+];
 
 /// At depth 2 nobody may be asked, or the smaller of two objects was asked at depth 1; all three are completed
 /// in their order; of three equal highs the smallest object comes first; a finish and an answer in different
 /// orders.
+const CASES: [Case; 5] = [
+    Case {
+        text: "top 1 by sum(A,B) using ca cost 1 2",
+        lists: THREE,
+        depth: 2,
+        accesses: &NONE_ASKED,
+        items: &[item_row!(2, 1500, 1500)],
+    },
+    Case {
+        text: "top 1 by sum(A,B) using ca",
+        lists: THREE,
+        depth: 2,
+        accesses: &ONE_ASKED,
+        items: &[item_row!(2, 1500, 1500)],
+    },
+    Case {
+        text: "top 3 by sum(A,B) using ca cost 1 9",
+        lists: THREE,
+        depth: 2,
+        accesses: &ALL_ASKED,
+        items: &[
+            item_row!(2, 1500, 1500),
+            item_row!(1, 1400, 1400),
+            item_row!(3, 700, 700),
+        ],
+    },
+    Case {
+        text: "top 1 by sum(A,B,C) using ca",
+        lists: TOPS,
+        depth: 3,
+        accesses: &TOPS_DEPTHS,
+        items: &[item_row!(4, 24, 24)],
+    },
+    Case {
+        text: "top 2 by sum(A,B) using ca cost 1 9",
+        lists: TURNED,
+        depth: 1,
+        accesses: &TURNED_DEPTH,
+        items: &[item_row!(3, 12, 12), item_row!(7, 10, 10)],
+    },
+];
+
 #[test]
 fn by_hand(rt: HostRuntime) -> Result<(), Fail> {
-    let rows = [
-        sorted(0, 1, 900),
-        sorted(1, 2, 700),
-        sorted(0, 2, 800),
-        sorted(1, 3, 600),
-        random(1, 1, 500),
-        random(0, 3, 100),
-    ];
-    let asked = [
-        sorted(0, 1, 900),
-        sorted(1, 2, 700),
-        random(1, 1, 500),
-        sorted(0, 2, 800),
-        sorted(1, 3, 600),
-    ];
-    let tops = [
-        sorted(0, 5, 9),
-        sorted(1, 4, 9),
-        sorted(2, 6, 9),
-        random(0, 4, 7),
-        random(2, 4, 8),
-        sorted(0, 6, 8),
-        sorted(1, 5, 8),
-        sorted(2, 4, 8),
-        random(2, 5, 7),
-        sorted(0, 4, 7),
-        sorted(1, 6, 7),
-        sorted(2, 5, 7),
-    ];
-    let turned = [
-        sorted(0, 7, 9),
-        sorted(1, 3, 4),
-        random(1, 7, 1),
-        random(0, 3, 8),
-    ];
-    let all = [item(2, 1500, 1500), item(1, 1400, 1400), item(3, 700, 700)];
-    let tied = [item(4, 24, 24)];
-    let both = [item(3, 12, 12), item(7, 10, 10)];
-    let cases: [Case<'_>; 5] = [
-        (
-            "top 1 by sum(A,B) using ca cost 1 2",
-            THREE,
-            2,
-            &rows[..4],
-            &all[..1],
-        ),
-        ("top 1 by sum(A,B) using ca", THREE, 2, &asked, &all[..1]),
-        ("top 3 by sum(A,B) using ca cost 1 9", THREE, 2, &rows, &all),
-        ("top 1 by sum(A,B,C) using ca", TOPS, 3, &tops, &tied),
-        (
-            "top 2 by sum(A,B) using ca cost 1 9",
-            TURNED,
-            1,
-            &turned,
-            &both,
-        ),
-    ];
-    for case in cases {
-        let query = read(rt.alloc(), case.0.as_bytes())?;
-        let table = table_of(rt.alloc(), case.1)?;
-        does(&rt, rt.alloc(), &query, &table, case)?;
-    }
+    assert_eq!(rt; first_wrong(rt.alloc(), &CASES)?, None);
     Ok(())
 }

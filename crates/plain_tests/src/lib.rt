@@ -9,6 +9,8 @@ mod combined;
 #[cfg(test)]
 mod no_random;
 #[cfg(test)]
+mod outcomes;
+#[cfg(test)]
 mod tables;
 #[cfg(test)]
 mod threshold;

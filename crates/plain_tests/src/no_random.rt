@@ -1,13 +1,10 @@
 //! The algorithm without random access.
 
-use super::tables::{Case, THREE, check_posed};
-use plain_run::{nra_answer, nra_depth, nra_run};
-use query_text::{Query, read};
-use ranked_list::MemList;
-use std::alloc::Global;
-use std::process::Abort;
+use super::outcomes::{Case, first_wrong};
+use super::tables::THREE;
 use std::test::Fail;
-use test_support::{Lists, item, sorted, table_of};
+use test_support::{Lists, item_row, sorted_row};
+use topk_theory::Access;
 
 /// The best object by sum is known before its aggregate is.
 const OPEN: Lists<'static> = &[
@@ -18,65 +15,66 @@ const OPEN: Lists<'static> = &[
 /// Two lists in opposite orders.
 const CROSSED: Lists<'static> = &[&[(1, 10), (2, 8), (3, 0)], &[(3, 10), (2, 8), (1, 0)]];
 
-fn does(
-    rt: &impl Abort,
-    alloc: Global,
-    query: &Query,
-    table: &[MemList],
-    case: Case<'_>,
-) -> Result<(), Fail> {
-    let (text, _, depth, accesses, items) = case;
-    let (expr, k) = (&query.expr, query.k);
-    check_posed(rt, alloc, table, expr)?;
-    assert_eq!(rt; nra_depth(alloc, table, expr, k)?, depth, "{text}");
-    assert_eq!(rt;
-        nra_run(alloc, table, expr, k)?.as_slice(),
-        accesses,
-        "{text}"
-    );
-    assert_eq!(rt;
-        nra_answer(alloc, table, expr, k)?.as_slice(),
-        items,
-        "{text}"
-    );
-    Ok(())
-}
+const THREE_DEPTHS: [Access; 4] = [
+    sorted_row!(0, 1, 900),
+    sorted_row!(1, 2, 700),
+    sorted_row!(0, 2, 800),
+    sorted_row!(1, 3, 600),
+];
+
+const OPEN_DEPTHS: [Access; 4] = [
+    sorted_row!(0, 1, 900),
+    sorted_row!(1, 2, 300),
+    sorted_row!(0, 2, 100),
+    sorted_row!(1, 3, 200),
+];
+
+const CROSSED_DEPTHS: [Access; 4] = [
+    sorted_row!(0, 1, 10),
+    sorted_row!(1, 3, 10),
+    sorted_row!(0, 2, 8),
+    sorted_row!(1, 2, 8),
+];
 
 /// Object 1, outside, has a high of 1500, no more than the best's low; all three are the answer once they
 /// were seen; a best object with an open grade; the one in the middle of two orders, by the lesser grade.
+const CASES: [Case; 4] = [
+    Case {
+        text: "top 1 by sum(A,B) using nra",
+        lists: THREE,
+        depth: 2,
+        accesses: &THREE_DEPTHS,
+        items: &[item_row!(2, 1500, 1500)],
+    },
+    Case {
+        text: "top 3 by sum(A,B) using nra",
+        lists: THREE,
+        depth: 2,
+        accesses: &THREE_DEPTHS,
+        items: &[
+            item_row!(2, 1500, 1500),
+            item_row!(1, 900, 1500),
+            item_row!(3, 600, 1400),
+        ],
+    },
+    Case {
+        text: "top 1 by sum(A,B) using nra",
+        lists: OPEN,
+        depth: 2,
+        accesses: &OPEN_DEPTHS,
+        items: &[item_row!(1, 900, 1100)],
+    },
+    Case {
+        text: "top 1 by min(A,B) using nra",
+        lists: CROSSED,
+        depth: 2,
+        accesses: &CROSSED_DEPTHS,
+        items: &[item_row!(2, 8, 8)],
+    },
+];
+
 #[test]
 fn by_hand(rt: HostRuntime) -> Result<(), Fail> {
-    let three = [
-        sorted(0, 1, 900),
-        sorted(1, 2, 700),
-        sorted(0, 2, 800),
-        sorted(1, 3, 600),
-    ];
-    let open = [
-        sorted(0, 1, 900),
-        sorted(1, 2, 300),
-        sorted(0, 2, 100),
-        sorted(1, 3, 200),
-    ];
-    let crossed = [
-        sorted(0, 1, 10),
-        sorted(1, 3, 10),
-        sorted(0, 2, 8),
-        sorted(1, 2, 8),
-    ];
-    let all = [item(2, 1500, 1500), item(1, 900, 1500), item(3, 600, 1400)];
-    let ahead = [item(1, 900, 1100)];
-    let middle = [item(2, 8, 8)];
-    let cases: [Case<'_>; 4] = [
-        ("top 1 by sum(A,B) using nra", THREE, 2, &three, &all[..1]),
-        ("top 3 by sum(A,B) using nra", THREE, 2, &three, &all),
-        ("top 1 by sum(A,B) using nra", OPEN, 2, &open, &ahead),
-        ("top 1 by min(A,B) using nra", CROSSED, 2, &crossed, &middle),
-    ];
-    for case in cases {
-        let query = read(rt.alloc(), case.0.as_bytes())?;
-        let table = table_of(rt.alloc(), case.1)?;
-        does(&rt, rt.alloc(), &query, &table, case)?;
-    }
+    assert_eq!(rt; first_wrong(rt.alloc(), &CASES)?, None);
     Ok(())
 }

@@ -1,38 +1,12 @@
-//! Sources in memory and queries that are ready, from rows and texts.
+//! Queries over two sources that are ready, from their texts.
 
 ghost use Rattle.std.specs.Prelude.{◌≡◌, ◌<◌, ◌∷◌, [], true, All, length, slice_index_or, IfSome};
 ghost use Rattle.query_world.specs.Made.{IsReadyFor};
 ghost use Rattle.query_core.specs.Ready.{IsReady};
 
-use pool_tests::make_source;
 use query_core::Ready;
 use query_text::read;
-use source_api::MemSource;
 use std::alloc::Global;
-
-/// A source: its objects with their grades, and the numbers of the calls for a page that fail and that garble.
-#[derive(Clone, Copy)]
-pub struct Held {
-    pub rows: &'static [(u32, u32)],
-    pub fails: Option<u64>,
-    pub garbles: Option<u64>,
-}
-
-/// A source in memory. None without memory.
-pub fn source_of(alloc: Global, held: &Held) -> Option<MemSource> {
-    let mut source = make_source(alloc, held.rows)?;
-    if let Some(call) = held.fails {
-        if source.fail_pages.push(call).is_err() {
-            return None;
-        }
-    }
-    if let Some(call) = held.garbles {
-        if source.garble_pages.push(call).is_err() {
-            return None;
-        }
-    }
-    Some(source)
-}
 
 /// Whether there is such a source of so many objects, of two that have `count` each.
 fn is_source(count: u32, source: u32) -> bool

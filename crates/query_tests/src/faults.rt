@@ -144,7 +144,7 @@ const READ: [&[u8]; 11] = [
 
 #[test]
 fn reads_and_prints(rt: HostRuntime) -> Result<(), Fail> {
-    for line in READ {
+    for line in &READ {
         comes_to(&rt, rt.alloc(), line, None)?;
     }
     Ok(())

@@ -173,7 +173,9 @@ fn is_line(
 ) -> Result<(), Fail> {
     assert!(rt; is_of_query(query, refusal));
     let mut out = MemSink::make(alloc, 40, &[])?;
-    let wrote = write_outcome(&mut out, 9, Some(query), 3, &Outcome::Refused(refusal));
+    let outcome = Outcome::Refused(refusal);
+    let wrote = write_outcome(&mut out, 9, Some(query), 3, &outcome);
+    drop(outcome);
     assert_eq!(rt; out.taken(), line.as_bytes());
     drop(out);
     Ok(wrote?)
@@ -212,10 +214,11 @@ fn writes_each_refusal_of_a_source(rt: HostRuntime) -> Result<(), Fail> {
 
 #[test]
 fn writes_a_refusal_without_a_query(rt: HostRuntime) -> Result<(), Fail> {
-    let refusal = Refusal::Syntax { at: 0 };
     let mut out = MemSink::make(rt.alloc(), 40, &[])?;
-    let wrote = write_outcome(&mut out, 1, None, 0, &Outcome::Refused(refusal));
-    assert_eq!(rt; out.taken(), b"refused 1 Syntax 0\n".as_slice());
+    let outcome = Outcome::Refused(Refusal::Syntax { at: 0 });
+    let wrote = write_outcome(&mut out, 1, None, 0, &outcome);
+    drop(outcome);
+    assert!(rt; out.taken() == b"refused 1 Syntax 0\n".as_slice());
     drop(out);
     Ok(wrote?)
 }

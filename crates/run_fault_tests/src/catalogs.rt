@@ -2,7 +2,9 @@
 
 use run_support::{Case, run_of};
 use std::alloc::Global;
+use std::sync::Wait;
 use std::test::Fail;
+use std::thread::Threads;
 use test_support::Unmade;
 use top_support::end_of;
 use topk_top::Status;
@@ -26,7 +28,8 @@ const NO_CATALOGS: &[(&str, &str)] = &[
 ];
 
 /// The first text after which a run ends otherwise or writes something else.
-fn first_other(
+fn first_other<W: Threads + Wait + Sync>(
+    rt: &W,
     alloc: Global,
     rows: &[(&'static str, &'static str)],
 ) -> Result<Option<&'static str>, Unmade> {
@@ -37,7 +40,7 @@ fn first_other(
             sources: &[],
             lines: "top 1 by A using ta\n",
         };
-        let (status, out) = run_of(alloc, &case)?;
+        let (status, out) = run_of(rt, alloc, &case)?;
         if status != Status::BadCatalog || out.taken() != text.as_bytes() {
             return Ok(Some(*catalog));
         }
@@ -47,13 +50,13 @@ fn first_other(
 
 #[test]
 fn refuses_what_is_no_catalog(rt: HostRuntime) -> Result<(), Fail> {
-    assert_eq!(rt; first_other(rt.alloc(), NO_CATALOGS)?, None);
+    assert_eq!(rt; first_other(&rt, rt.alloc(), NO_CATALOGS)?, None);
     Ok(())
 }
 
 #[test]
 fn refuses_words_without_a_catalog(rt: HostRuntime) -> Result<(), Fail> {
-    let (status, out) = end_of(rt.alloc(), &["run"], b"", 100)?;
+    let (status, out) = end_of(&rt, rt.alloc(), &["run"], b"", 100)?;
     assert_eq!(rt; status, Status::BadWords);
     assert_eq!(rt; out.taken(), b"refused words\n".as_slice());
     Ok(())

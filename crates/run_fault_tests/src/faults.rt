@@ -3,7 +3,9 @@
 use run_support::{CATALOG, Held, Kind, shelf_of};
 use source_api::MemShelf;
 use std::alloc::Global;
+use std::sync::Wait;
 use std::test::Fail;
+use std::thread::Threads;
 use test_support::{Unmade, words_of};
 use tk_io::{MemIntake, MemSink};
 use topk_top::{Status, top};
@@ -32,7 +34,8 @@ fn shelf_with(alloc: Global, catalog: Option<&str>) -> Result<MemShelf, Unmade> 
 }
 
 /// How a run over a shelf ends where these calls of the input fail and there is room for so many bytes, and what it writes.
-fn end_at(
+fn end_at<W: Threads + Wait + Sync>(
+    rt: &W,
     alloc: Global,
     shelf: &mut MemShelf,
     failing: &[u64],
@@ -41,7 +44,7 @@ fn end_at(
     let words = words_of(alloc, &["run", CATALOG])?;
     let mut input = MemIntake::make(alloc, LINE, 10, failing)?;
     let mut out = MemSink::make(alloc, room, &[])?;
-    let status = top(alloc, &words, shelf, &mut input, &mut out);
+    let status = top(rt, alloc, &words, shelf, &mut input, &mut out);
     Ok((status, out))
 }
 
@@ -49,11 +52,11 @@ fn end_at(
 #[test]
 fn asks_for_the_catalog_first(rt: HostRuntime) -> Result<(), Fail> {
     let mut shelf = shelf_with(rt.alloc(), None)?;
-    let (status, out) = end_at(rt.alloc(), &mut shelf, &[1], 1000)?;
+    let (status, out) = end_at(&rt, rt.alloc(), &mut shelf, &[1], 1000)?;
     assert_eq!(rt; status, Status::OpenFault);
     assert!(rt; out.taken().is_empty());
     let mut shelf = shelf_with(rt.alloc(), Some("name,place\n"))?;
-    let (status, out) = end_at(rt.alloc(), &mut shelf, &[1], 1000)?;
+    let (status, out) = end_at(&rt, rt.alloc(), &mut shelf, &[1], 1000)?;
     assert_eq!(rt; status, Status::BadCatalog);
     assert_eq!(rt; out.taken(), b"refused catalog CatalogLine 1\n".as_slice());
     Ok(())
@@ -64,10 +67,10 @@ fn asks_for_the_catalog_first(rt: HostRuntime) -> Result<(), Fail> {
 fn opens_again_after_a_fault(rt: HostRuntime) -> Result<(), Fail> {
     let mut shelf = shelf_with(rt.alloc(), Some("name,place,random\nA,a,yes\n"))?;
     shelf.fail_texts.push(1)?;
-    let (status, out) = end_at(rt.alloc(), &mut shelf, &[], 1000)?;
+    let (status, out) = end_at(&rt, rt.alloc(), &mut shelf, &[], 1000)?;
     assert_eq!(rt; status, Status::OpenFault);
     assert!(rt; out.taken().is_empty());
-    let (status, out) = end_at(rt.alloc(), &mut shelf, &[], 1000)?;
+    let (status, out) = end_at(&rt, rt.alloc(), &mut shelf, &[], 1000)?;
     assert_eq!(rt; status, Status::Done);
     assert_eq!(rt; out.taken(), TEXT);
     assert_eq!(rt; shelf.rows_given_at("a"), 2);
@@ -77,11 +80,11 @@ fn opens_again_after_a_fault(rt: HostRuntime) -> Result<(), Fail> {
 #[test]
 fn ends_at_faults_of_the_streams(rt: HostRuntime) -> Result<(), Fail> {
     let mut shelf = shelf_with(rt.alloc(), Some("name,place,random\nA,a,yes\n"))?;
-    let (status, out) = end_at(rt.alloc(), &mut shelf, &[2], 1000)?;
+    let (status, out) = end_at(&rt, rt.alloc(), &mut shelf, &[2], 1000)?;
     assert_eq!(rt; status, Status::ReadFault);
     assert!(rt; out.taken().is_empty());
     assert_eq!(rt; shelf.rows_given_at("a"), 0);
-    let (status, out) = end_at(rt.alloc(), &mut shelf, &[], 20)?;
+    let (status, out) = end_at(&rt, rt.alloc(), &mut shelf, &[], 20)?;
     assert_eq!(rt; status, Status::WriteFault);
     assert_eq!(rt; out.taken(), &TEXT[..20]);
     Ok(())

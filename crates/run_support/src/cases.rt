@@ -1,7 +1,10 @@
 //! One drive of `run`, and rows of drives with what they are to come to.
 
-use super::shelves::{Held, shelf_of};
+use super::shelves::shelf_of;
+use source_support::Held;
 use std::alloc::Global;
+use std::sync::Wait;
+use std::thread::Threads;
 use test_support::Unmade;
 use tk_io::MemSink;
 use top_support::end_over;
@@ -31,25 +34,33 @@ pub struct Row {
 }
 
 /// How a run ends, and what it writes.
-pub fn run_of(alloc: Global, case: &Case) -> Result<(Status, MemSink), Unmade> {
+pub fn run_of<W: Threads + Wait + Sync>(
+    rt: &W,
+    alloc: Global,
+    case: &Case,
+) -> Result<(Status, MemSink), Unmade> {
     let mut shelf = shelf_of(alloc, case.sources)?;
     if shelf.add_text(CATALOG, case.catalog.as_bytes()).is_err() {
         return Err(Unmade::Memory);
     }
     let words = [&["run", CATALOG], case.options].concat(alloc)?;
-    end_over(alloc, &words, &mut shelf, case.lines.as_bytes(), ROOM)
+    end_over(rt, alloc, &words, &mut shelf, case.lines.as_bytes(), ROOM)
 }
 
 /// Whether a run ends so and writes this.
-fn is_right(alloc: Global, row: &Row) -> Result<bool, Unmade> {
-    let (status, out) = run_of(alloc, &row.case)?;
+fn is_right<W: Threads + Wait + Sync>(rt: &W, alloc: Global, row: &Row) -> Result<bool, Unmade> {
+    let (status, out) = run_of(rt, alloc, &row.case)?;
     Ok(status == row.status && out.taken() == row.text.as_bytes())
 }
 
 /// The place of the first row that comes to something else.
-pub fn first_wrong(alloc: Global, rows: &[Row]) -> Result<Option<usize>, Unmade> {
+pub fn first_wrong<W: Threads + Wait + Sync>(
+    rt: &W,
+    alloc: Global,
+    rows: &[Row],
+) -> Result<Option<usize>, Unmade> {
     for (place, row) in rows.iter().enumerate() {
-        if !is_right(alloc, row)? {
+        if !is_right(rt, alloc, row)? {
             return Ok(Some(place));
         }
     }

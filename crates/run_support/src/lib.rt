@@ -5,4 +5,5 @@ mod cases;
 mod shelves;
 
 pub use cases::{CATALOG, Case, Row, first_wrong, run_of};
-pub use shelves::{Held, Kind, shelf_of};
+pub use shelves::shelf_of;
+pub use source_support::{Held, Kind};

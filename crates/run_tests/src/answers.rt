@@ -50,6 +50,28 @@ const FAILING: &[Held] = &[
     },
 ];
 
+/// The second row of the first list is at fault, and the second query alone comes to it, whatever was read before.
+const RISING: Case = Case {
+    options: &[],
+    catalog: "name,place,random\nA,a,yes\nB,b,yes\n",
+    sources: &[
+        Held {
+            place: "a",
+            rows: &[(1, 500), (2, 600)],
+            kind: Kind::Honest,
+        },
+        Held {
+            place: "b",
+            rows: &[(1, 400), (2, 300)],
+            kind: Kind::Honest,
+        },
+    ],
+    lines: "top 1 by sum(A,B) using ta\ntop 2 by sum(A,B) using ta\n",
+};
+
+const RISING_TEXT: &str =
+    "certificate 1\nquery top 1 by sum(A,B) using ta\ncount 2\nanswer 1 900 900\nstop depth 1 sorted 2 random 0 cost 2\ns A 1 500\ns B 1 400\nend\nrefused 2 OutOfOrder A 2 500 600\n";
+
 const ANSWERED: &[Row] = &[
     Row {
         case: Case {
@@ -94,23 +116,18 @@ const ANSWERED: &[Row] = &[
     Row {
         case: Case {
             options: &["--workers", "2"],
-            catalog: "name,place,random\nA,a,yes\nB,b,yes\n",
-            sources: &[
-                Held {
-                    place: "a",
-                    rows: &[(1, 500), (2, 600)],
-                    kind: Kind::Honest,
-                },
-                Held {
-                    place: "b",
-                    rows: &[(1, 400), (2, 300)],
-                    kind: Kind::Honest,
-                },
-            ],
-            lines: "top 1 by sum(A,B) using ta\ntop 2 by sum(A,B) using ta\n",
+            ..RISING
         },
         status: Status::Partial,
-        text: "certificate 1\nquery top 1 by sum(A,B) using ta\ncount 2\nanswer 1 900 900\nstop depth 1 sorted 2 random 0 cost 2\ns A 1 500\ns B 1 400\nend\nrefused 2 OutOfOrder A 2 500 600\n",
+        text: RISING_TEXT,
+    },
+    Row {
+        case: Case {
+            options: &["--page", "1", "--ahead", "0"],
+            ..RISING
+        },
+        status: Status::Partial,
+        text: RISING_TEXT,
     },
     Row {
         case: Case {
@@ -126,6 +143,6 @@ const ANSWERED: &[Row] = &[
 
 #[test]
 fn answers_lines_in_their_order(rt: HostRuntime) -> Result<(), Fail> {
-    assert_eq!(rt; first_wrong(rt.alloc(), ANSWERED)?, None);
+    assert_eq!(rt; first_wrong(&rt, rt.alloc(), ANSWERED)?, None);
     Ok(())
 }

@@ -161,22 +161,39 @@ const BY_GRADES: &[Row] = &[
         status: Status::Partial,
         text: "refused 1 ShortList A 5 3\n",
     },
+    Row {
+        case: Case {
+            options: &[],
+            catalog: TWO,
+            sources: &[
+                Held {
+                    place: "a",
+                    rows: A,
+                    kind: Kind::States(200_001),
+                },
+                SECOND,
+            ],
+            lines: "top 1 by A using nra\ntop 1 by B using nra\n",
+        },
+        status: Status::Partial,
+        text: "refused 1 TooLarge A 200001\ncertificate 2\nquery top 1 by B using nra\ncount 3\nanswer 2 700 700\nstop depth 1 sorted 1 random 0 cost 1\ns B 2 700\nend\n",
+    },
 ];
 
 #[test]
 fn refuses_by_text_and_catalog(rt: HostRuntime) -> Result<(), Fail> {
-    assert_eq!(rt; first_wrong(rt.alloc(), BY_TEXT)?, None);
+    assert_eq!(rt; first_wrong(&rt, rt.alloc(), BY_TEXT)?, None);
     Ok(())
 }
 
 #[test]
 fn refuses_by_rows(rt: HostRuntime) -> Result<(), Fail> {
-    assert_eq!(rt; first_wrong(rt.alloc(), BY_ROWS)?, None);
+    assert_eq!(rt; first_wrong(&rt, rt.alloc(), BY_ROWS)?, None);
     Ok(())
 }
 
 #[test]
 fn refuses_by_grades(rt: HostRuntime) -> Result<(), Fail> {
-    assert_eq!(rt; first_wrong(rt.alloc(), BY_GRADES)?, None);
+    assert_eq!(rt; first_wrong(&rt, rt.alloc(), BY_GRADES)?, None);
     Ok(())
 }

@@ -4,7 +4,7 @@ ghost use Rattle.std.specs.Prelude.{◌≤◌};
 
 use ranked_list::Row;
 use source_api::{MemShelf, MemSource, Memory, Shelf, Source, Trouble};
-use source_steps::{Step, first_wrong};
+use source_support::{Step, first_wrong};
 use std::alloc::Global;
 use std::test::Fail;
 

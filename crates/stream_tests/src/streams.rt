@@ -47,9 +47,9 @@ const READS: [(u32, &[u64], u64, Option<ReadError>); 7] = [
 
 #[test]
 fn reads_whole_texts(rt: HostRuntime) -> Result<(), Fail> {
-    for (piece, fails, limit, expected) in READS {
-        let fault = fault_of(&rt, rt.alloc(), piece, fails, limit)?;
-        assert_eq!(rt; fault, expected, "in pieces of {piece}, {fails:?}");
+    for (piece, fails, limit, expected) in &READS {
+        let fault = fault_of(&rt, rt.alloc(), *piece, fails, *limit)?;
+        assert_eq!(rt; fault, *expected, "in pieces of {piece}, {fails:?}");
     }
     Ok(())
 }

@@ -8,7 +8,9 @@ use query_text::{Algorithm, Costs, Query, read};
 use ranked_list::{Item, MemList, is_table, read_bundle};
 use std::alloc::Global;
 use std::process::Abort;
+use std::sync::Wait;
 use std::test::Fail;
+use std::thread::Threads;
 use test_support::{Numbers, shuffled};
 use top_support::end_of;
 use topk_theory::Access;
@@ -165,8 +167,8 @@ fn expected(
 }
 
 /// Compares what `one` writes of a random table with what the plain program computes.
-fn try_table(
-    rt: &impl Abort,
+fn try_table<W: Abort + Threads + Wait + Sync>(
+    rt: &W,
     alloc: Global,
     numbers: &mut Numbers,
     lists: usize,
@@ -175,14 +177,18 @@ fn try_table(
 ) -> Result<(), Fail> {
     let input = bundle_of(alloc, numbers, lists, count, text)?;
     let wanted = expected(rt, alloc, &input, text, count)?;
-    let (status, out) = end_of(alloc, &["one"], input.as_bytes(), 2000)?;
+    let (status, out) = end_of(rt, alloc, &["one"], input.as_bytes(), 2000)?;
     assert_eq!(rt; status, Status::Done, "{input}");
     assert_eq!(rt; out.taken(), wanted.as_bytes(), "{input}");
     Ok(())
 }
 
 /// Each expression, with each number of objects and of answers up to four, on random tables.
-fn try_tables(rt: &impl Abort, alloc: Global, algorithm: &str) -> Result<(), Fail> {
+fn try_tables<W: Abort + Threads + Wait + Sync>(
+    rt: &W,
+    alloc: Global,
+    algorithm: &str,
+) -> Result<(), Fail> {
     let mut numbers = Numbers::from_start(1);
     for (lists, expression) in EXPRESSIONS {
         for count in 1..5 {

@@ -5,7 +5,9 @@ use std::alloc::Global;
 use std::env::{Env, FillError};
 use std::io;
 use std::rt::Files;
+use std::sync::Wait;
 use std::test::Fail;
+use std::thread::Threads;
 use test_support::words_of;
 use tk_io::{Failed, MemIntake, MemSink, Sink, StdIntake, StdSink, read_text};
 use top_support::end_of;
@@ -21,8 +23,12 @@ const CERTIFICATE: &str =
     "certificate 1\nquery top 1 by sum(A,B) using ta\ncount 3\nanswer 2 1500 1500\nstop depth 2 sorted 4 random 3 cost 7\ns A 1 900\ns B 2 700\nr B 1 500\nr A 2 800\ns A 2 800\ns B 3 600\nr A 3 100\nend\n";
 
 /// How `one` ends on an input, and what it writes. Its options end by `--`, and it has none.
-fn outcome_of(alloc: Global, input: &str) -> Result<(Status, MemSink), Fail> {
-    Ok(end_of(alloc, &["one", "--"], input.as_bytes(), 1000)?)
+fn outcome_of<W: Threads + Wait + Sync>(
+    rt: &W,
+    alloc: Global,
+    input: &str,
+) -> Result<(Status, MemSink), Fail> {
+    Ok(end_of(rt, alloc, &["one", "--"], input.as_bytes(), 1000)?)
 }
 
 #[test]
@@ -82,7 +88,7 @@ fn answers_queries(rt: HostRuntime) -> Result<(), Fail> {
     for (lists, query, rest) in rows {
         let input = format!(in rt.alloc(); "{lists}query {query}\n")?;
         let text = format!(in rt.alloc(); "certificate 1\nquery {query}\n{rest}")?;
-        let (status, out) = outcome_of(rt.alloc(), &input)?;
+        let (status, out) = outcome_of(&rt, rt.alloc(), &input)?;
         assert_eq!(rt; status, Status::Done, "{query}");
         assert_eq!(rt; out.taken(), text.as_bytes(), "{query}");
     }
@@ -111,7 +117,7 @@ fn answers_without_random_access(rt: HostRuntime) -> Result<(), Fail> {
     for (lists, query, rest) in rows {
         let input = format!(in rt.alloc(); "{lists}query {query}\n")?;
         let text = format!(in rt.alloc(); "certificate 1\nquery {query}\ncount 3\n{rest}")?;
-        let (status, out) = outcome_of(rt.alloc(), &input)?;
+        let (status, out) = outcome_of(&rt, rt.alloc(), &input)?;
         assert_eq!(rt; status, Status::Done, "{query}");
         assert_eq!(rt; out.taken(), text.as_bytes(), "{query}");
     }
@@ -147,7 +153,7 @@ fn refuses_inputs(rt: HostRuntime) -> Result<(), Fail> {
     for (rest, why) in rows {
         let input = format!(in rt.alloc(); "{LISTS}{rest}")?;
         let text = format!(in rt.alloc(); "refused {why}\n")?;
-        let (status, out) = outcome_of(rt.alloc(), &input)?;
+        let (status, out) = outcome_of(&rt, rt.alloc(), &input)?;
         let is_bundle = matches!(why.as_bytes(), [b'1', ..]);
         let wanted = if is_bundle {
             Status::Partial
@@ -172,7 +178,7 @@ fn refuses_bundles(rt: HostRuntime) -> Result<(), Fail> {
     ];
     for (input, line) in rows {
         let text = format!(in rt.alloc(); "refused bundle {line}\n")?;
-        let (status, out) = outcome_of(rt.alloc(), input)?;
+        let (status, out) = outcome_of(&rt, rt.alloc(), input)?;
         assert_eq!(rt; status, Status::BadInput);
         assert_eq!(rt; out.taken(), text.as_bytes());
     }
@@ -191,7 +197,7 @@ fn refuses_words(rt: HostRuntime) -> Result<(), Fail> {
         &["judge", "x"],
     ];
     for command in commands {
-        let (status, out) = end_of(rt.alloc(), command, b"x", 200)?;
+        let (status, out) = end_of(&rt, rt.alloc(), command, b"x", 200)?;
         assert_eq!(rt; status, Status::BadWords);
         assert_eq!(rt; out.taken(), b"refused words\n".as_slice());
     }
@@ -226,12 +232,15 @@ impl Env for Given {
 }
 
 /// The exit status of a process without input, and what it writes.
-fn process_end<R: Files + AllocGlobal>(rt: &R, given: &Given) -> Result<(u8, Vec<u8>), Fail> {
+fn process_end<R: Files + AllocGlobal + Threads + Wait + Sync>(
+    rt: &R,
+    given: &Given,
+) -> Result<(u8, Vec<u8>), Fail> {
     let (reader, writer) = io::pipe(rt)?;
     let mut input = StdIntake::make(io::empty());
     let mut out = StdSink::make(writer);
     let mut shelf = MemShelf::make(rt.alloc());
-    let code = run_process(given, rt.alloc(), &mut shelf, &mut input, &mut out);
+    let code = run_process(rt, given, rt.alloc(), &mut shelf, &mut input, &mut out);
     drop(out);
     let text = read_text(rt.alloc(), &mut StdIntake::make(reader), 100)?;
     Ok((code, text))
@@ -264,7 +273,7 @@ fn ends_at_each_fault(rt: HostRuntime) -> Result<(), Fail> {
         let mut input = MemIntake::make(rt.alloc(), bytes.as_bytes(), 60, &[call])?;
         let mut out = MemSink::make(rt.alloc(), 200, &[])?;
         assert_eq!(rt;
-            top(rt.alloc(), &words, &mut shelf, &mut input, &mut out),
+            top(&rt, rt.alloc(), &words, &mut shelf, &mut input, &mut out),
             Status::ReadFault
         );
         assert!(rt; out.taken().is_empty());
@@ -273,7 +282,7 @@ fn ends_at_each_fault(rt: HostRuntime) -> Result<(), Fail> {
         let mut input = MemIntake::make(rt.alloc(), bytes.as_bytes(), 60, &[])?;
         let mut out = MemSink::make(rt.alloc(), room, &[])?;
         assert_eq!(rt;
-            top(rt.alloc(), &words, &mut shelf, &mut input, &mut out),
+            top(&rt, rt.alloc(), &words, &mut shelf, &mut input, &mut out),
             Status::WriteFault
         );
         assert!(rt; CERTIFICATE.as_bytes().starts_with(out.taken()));
@@ -283,7 +292,7 @@ fn ends_at_each_fault(rt: HostRuntime) -> Result<(), Fail> {
         let mut input = MemIntake::make(rt.alloc(), bytes.as_bytes(), 60, &[])?;
         let sink = MemSink::make(rt.alloc(), 186, &[call])?;
         let mut out = ByteSink { sink };
-        let status = top(rt.alloc(), &words, &mut shelf, &mut input, &mut out);
+        let status = top(&rt, rt.alloc(), &words, &mut shelf, &mut input, &mut out);
         let is_whole = call == 187;
         assert_eq!(rt; status == Status::Done, is_whole, "at call {call}");
         assert_eq!(rt; status == Status::WriteFault, !is_whole, "at call {call}");

@@ -7,49 +7,49 @@ use access_log::{Access, PushFault, Transcript};
 use monotone_fn::{Costs, Expr};
 use query_text::read;
 use std::alloc::Global;
-use std::process::Abort;
 use std::test::Fail;
 use test_support::{random, random_row, sorted, sorted_row};
 
-/// Two accesses of two lists of `count` objects are taken, and the third is refused as this kind,
-/// or taken where it is 0.
-fn ends(
-    rt: &impl Abort,
-    alloc: Global,
-    count: u32,
-    accesses: &[Access; 3],
-    kind: u8,
-) -> Result<(), Fail> {
-    assert!(rt; 0 < count && count < 10, "a few objects");
+/// How many objects there are, three accesses of two lists, and the kind of the third's refusal, or 0 where it is taken.
+type Row = (u32, [Access; 3], u8);
+
+/// Whether the first two accesses of a row are taken, and the third is as it says.
+fn ends_so(log: &mut Transcript, row: &Row) -> Result<bool, Fail> {
+    let (_, accesses, kind) = *row;
+    log.push(accesses[0])?;
+    log.push(accesses[1])?;
+    let (expected, length) = if kind == 0 {
+        (Ok(()), 3)
+    } else {
+        (Err(PushFault::Inconsistent { at: 3, kind }), 2)
+    };
+    Ok(log.push(accesses[2]) == expected && log.len() == length)
+}
+
+/// The same of a new transcript of two lists.
+fn is_so(alloc: Global, row: &Row) -> Result<bool, Fail> {
+    let count = row.0;
+    if count == 0 || count >= 10 {
+        return Err("a few objects".into());
+    }
     let mut log = Transcript::make(alloc, 2, count)?;
-    let outcome = ends_so(rt, &mut log, accesses, kind);
+    let outcome = ends_so(&mut log, row);
     drop(log);
     outcome
 }
 
-/// The same of a transcript without an access.
-fn ends_so(
-    rt: &impl Abort,
-    log: &mut Transcript,
-    accesses: &[Access; 3],
-    kind: u8,
-) -> Result<(), Fail> {
-    log.push(accesses[0])?;
-    log.push(accesses[1])?;
-    let expected = if kind == 0 {
-        Ok(())
-    } else {
-        Err(PushFault::Inconsistent { at: 3, kind })
-    };
-    assert_eq!(rt; log.push(accesses[2]), expected, "{accesses:?}");
-    let length = if kind == 0 { 3 } else { 2 };
-    assert_eq!(rt; log.len(), length, "{accesses:?}");
-    Ok(())
+/// The number of the first row that ends otherwise.
+fn first_wrong(alloc: Global, rows: &[Row]) -> Result<Option<usize>, Fail> {
+    for (number, row) in rows.iter().enumerate() {
+        if !is_so(alloc, row)? {
+            return Ok(Some(number));
+        }
+    }
+    Ok(None)
 }
 
-/// How many objects there are, three accesses, and the kind of the third's refusal, or 0 where it is taken. Each kind stands with
-/// each sort of access, and with a later kind, before which it is given.
-const KINDS: [(u32, [Access; 3], u8); 23] = [
+/// Each kind with each sort of access, and with a later kind, before which it is given.
+const KINDS: [Row; 23] = [
     // taken: the grade stays, another list, a known grade again
     (
         2,
@@ -270,46 +270,36 @@ const KINDS: [(u32, [Access; 3], u8); 23] = [
 
 #[test]
 fn gives_the_first_kind(rt: HostRuntime) -> Result<(), Fail> {
-    for (count, accesses, kind) in &KINDS {
-        ends(&rt, rt.alloc(), *count, accesses, *kind)?;
-    }
+    assert_eq!(rt; first_wrong(rt.alloc(), &KINDS)?, None);
     Ok(())
+}
+
+/// Whether the access of this number is refused as this kind.
+fn is_refused(log: &mut Transcript, access: Access, at: u64, kind: u8) -> bool {
+    log.push(access) == Err(PushFault::Inconsistent { at, kind })
+}
+
+/// Whether what no table of one list of two objects gives is refused.
+fn refuses_of_two(log: &mut Transcript) -> Result<bool, Fail> {
+    log.push(sorted(0, 5, 9))?;
+    let is_above = is_refused(log, random(0, 6, 10), 2, 8);
+    log.push(sorted(0, 6, 8))?;
+    Ok(
+        is_above
+            && is_refused(log, sorted(0, 7, 7), 3, 3)
+            && is_refused(log, sorted(0, 5, 8), 3, 5)
+            && is_refused(log, random(0, 6, 9), 3, 6)
+            && log.len() == 2,
+    )
 }
 
 #[test]
 fn refuses_what_no_table_gives(rt: HostRuntime) -> Result<(), Fail> {
     let mut log = Transcript::make(rt.alloc(), 1, 2)?;
-    let outcome = refuses_of_two(&rt, &mut log);
+    let outcome = refuses_of_two(&mut log);
     drop(log);
-    outcome
-}
-
-/// One list of two objects.
-fn refuses_of_two(rt: &impl Abort, log: &mut Transcript) -> Result<(), Fail> {
-    log.push(sorted(0, 5, 9))?;
-    let fault = PushFault::Inconsistent { at: 2, kind: 8 };
-    assert_eq!(rt; log.push(random(0, 6, 10)), Err(fault));
-    log.push(sorted(0, 6, 8))?;
-    let refused = [
-        (sorted(0, 7, 7), 3),
-        (sorted(0, 5, 8), 5),
-        (random(0, 6, 9), 6),
-    ];
-    for (access, kind) in refused {
-        let fault = PushFault::Inconsistent { at: 3, kind };
-        assert_eq!(rt; log.push(access), Err(fault));
-    }
-    assert_eq!(rt; log.len(), 2);
+    assert!(rt; outcome?);
     Ok(())
-}
-
-/// The sum of the grades in two lists.
-fn sum_of_two(rt: &impl Abort, alloc: Global) -> Result<Expr, Fail>
-    ensures { IfOk result (λ expr. list_count expr ≡ 2) }
-{
-    let query = read(alloc, b"top 1 by sum(A,B) using ta")?;
-    assert_eq!(rt; query.expr.lists(), 2);
-    Ok(query.expr)
 }
 
 /// Five accesses of two lists of three objects.
@@ -338,64 +328,95 @@ fn push_five(log: &mut Transcript) -> Result<(), Fail>
     Ok(())
 }
 
-#[test]
-fn reads_what_came(rt: HostRuntime) -> Result<(), Fail> {
-    let log = five_accesses(rt.alloc())?;
-    has_readings(&rt, &log);
-    drop(log);
-    Ok(())
-}
-
-/// Compares what the readers say with the five accesses.
-fn has_readings(rt: &impl Abort, log: &Transcript)
+/// Whether the readers tell the figures of the five accesses.
+fn has_figures(log: &Transcript) -> bool
     requires lists { log.now.lists ≡ 2 }
     requires five { length log.now.accesses ≡ 5 }
 {
-    assert!(rt; !log.is_empty());
-    assert_eq!(rt; (log.lists(), log.count(), log.len()), (2, 3, 5));
-    let ends = [log.depth(0), log.depth(1), log.bottom(0), log.bottom(1)];
-    assert_eq!(rt; ends, [2, 1, 7, 8]);
-    let seen = (log.seen(), log.is_seen(6), log.is_seen(7));
-    assert_eq!(rt; seen, (2, true, false));
     let costs = Costs {
         sorted: 3,
         random: 10,
     };
-    let figures = [log.sorted(), log.random(), log.cost(&costs)];
-    assert_eq!(rt; figures, [3, 2, 29]);
-    assert_eq!(rt; log.get(2), Some(random(1, 5, 4)));
-    assert_eq!(rt; log.get(5), None);
+    let accesses = [log.len(), log.sorted(), log.random(), log.cost(&costs)];
+    let ends = [log.depth(0), log.depth(1), log.bottom(0), log.bottom(1)];
+    accesses == [5, 3, 2, 29] && ends == [2, 1, 7, 8]
+}
+
+/// Whether the readers tell the objects of the five accesses.
+fn has_objects(log: &Transcript) -> bool {
+    let are_seen = [log.is_seen(6), log.is_seen(7), log.is_empty()];
+    let accesses = [log.get(2), log.get(5)];
+    let counts = [u32::from(log.lists()), log.count(), log.seen()];
+    are_seen == [true, false, false]
+        && accesses == [Some(random(1, 5, 4)), None]
+        && counts == [2, 3, 2]
+}
+
+#[test]
+fn reads_what_came(rt: HostRuntime) -> Result<(), Fail> {
+    let log = five_accesses(rt.alloc())?;
+    let are_so = has_figures(&log) && has_objects(&log);
+    drop(log);
+    assert!(rt; are_so);
+    Ok(())
+}
+
+/// The first object of a transcript with other bounds.
+fn first_unbounded(log: &Transcript, sum: &Expr, expected: &[(u32, u64, u64)]) -> Option<u32>
+    requires { list_count sum.now ≡ log.now.lists }
+{
+    for (object, low, high) in expected {
+        if log.low(sum, *object) != *low || log.high(sum, *object) != *high {
+            return Some(*object);
+        }
+    }
+    None
+}
+
+/// The same of a transcript without an access, of as many lists as the expression has.
+fn first_unbounded_before(
+    alloc: Global,
+    sum: &Expr,
+    expected: &[(u32, u64, u64)],
+) -> Result<Option<u32>, Fail> {
+    let lists = sum.lists();
+    if lists == 0 || lists > 8 {
+        return Err("lists".into());
+    }
+    let log = Transcript::make(alloc, lists, 3)?;
+    let wrong = first_unbounded(&log, sum, expected);
+    drop(log);
+    Ok(wrong)
+}
+
+/// The same of the five accesses.
+fn first_unbounded_after(
+    alloc: Global,
+    sum: &Expr,
+    expected: &[(u32, u64, u64)],
+) -> Result<Option<u32>, Fail> {
+    let log = five_accesses(alloc)?;
+    let wrong = if sum.lists() == log.lists() {
+        first_unbounded(&log, sum, expected)
+    } else {
+        Some(0)
+    };
+    drop(log);
+    Ok(wrong)
+}
+
+/// The bounds of a sum before any access, and after the five.
+fn bounds_of_sum(alloc: Global, sum: &Expr) -> Result<[Option<u32>; 2], Fail> {
+    let before = first_unbounded_before(alloc, sum, &[(5, 0, 2_000_000)])?;
+    let expected = [(5, 13, 13), (6, 15, 15), (7, 1, 8), (8, 0, 15)];
+    Ok([before, first_unbounded_after(alloc, sum, &expected)?])
 }
 
 #[test]
 fn bounds_aggregates(rt: HostRuntime) -> Result<(), Fail> {
-    let sum = sum_of_two(&rt, rt.alloc())?;
-    let outcome = bounds_of_sum(&rt, rt.alloc(), &sum);
-    drop(sum);
-    outcome
-}
-
-/// The bounds of a sum before any access, and after the five.
-fn bounds_of_sum(rt: &impl Abort, alloc: Global, sum: &Expr) -> Result<(), Fail>
-    requires { list_count sum.now ≡ 2 }
-{
-    let empty = Transcript::make(alloc, 2, 3)?;
-    has_bounds(rt, &empty, sum, &[(5, 0, 2_000_000)]);
-    drop(empty);
-    let log = five_accesses(alloc)?;
-    let expected = [(5, 13, 13), (6, 15, 15), (7, 1, 8), (8, 0, 15)];
-    has_bounds(rt, &log, sum, &expected);
-    drop(log);
+    let query = read(rt.alloc(), b"top 1 by sum(A,B) using ta")?;
+    let wrong = bounds_of_sum(rt.alloc(), &query.expr);
+    drop(query);
+    assert_eq!(rt; wrong?, [None, None]);
     Ok(())
-}
-
-/// Compares the bounds of objects.
-fn has_bounds(rt: &impl Abort, log: &Transcript, sum: &Expr, expected: &[(u32, u64, u64)])
-    requires lists { log.now.lists ≡ 2 }
-    requires sum { list_count sum.now ≡ 2 }
-{
-    for (object, low, high) in expected {
-        let bounds = (log.low(sum, *object), log.high(sum, *object));
-        assert_eq!(rt; bounds, (*low, *high), "{object}");
-    }
 }

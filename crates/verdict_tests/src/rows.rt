@@ -1,7 +1,9 @@
 //! Certificates and what is told of them.
 
 use std::alloc::Global;
+use std::sync::Wait;
 use std::test::Fail;
+use std::thread::Threads;
 use top_support::end_of;
 use topk_top::Status;
 
@@ -20,13 +22,14 @@ const NINE: &str = "certificate 1\nquery top 1 by A using ta\ncount 1\nanswer 9 
 const NINE_READ: &str = "stop depth 1 sorted 1 random 0 cost 1\ns A 9 0\nend\n";
 
 /// Whether a command ends so on an input, and writes this text.
-fn ends_with(
+fn ends_with<W: Threads + Wait + Sync>(
+    rt: &W,
     alloc: Global,
     command: &str,
     input: &str,
     expected: (Status, &str),
 ) -> Result<bool, Fail> {
-    let (status, out) = end_of(alloc, &[command], input.as_bytes(), 1000)?;
+    let (status, out) = end_of(rt, alloc, &[command], input.as_bytes(), 1000)?;
     let (wanted, text) = expected;
     Ok(status == wanted && out.taken() == text.as_bytes())
 }
@@ -82,7 +85,7 @@ fn refuses_certificates(rt: HostRuntime) -> Result<(), Fail> {
     ];
     for (parts, text) in rows {
         let input = parts.concat(rt.alloc())?;
-        let is_right = ends_with(rt.alloc(), "judge", &input, (Status::Partial, text))?;
+        let is_right = ends_with(&rt, rt.alloc(), "judge", &input, (Status::Partial, text))?;
         assert!(rt; is_right, "{text}");
     }
     Ok(())
@@ -114,7 +117,7 @@ fn judges_what_one_writes(rt: HostRuntime) -> Result<(), Fail> {
         ("judge", answer, Status::Done, "fixes\n"),
     ];
     for (command, input, status, text) in rows {
-        let is_right = ends_with(rt.alloc(), command, input, (status, text))?;
+        let is_right = ends_with(&rt, rt.alloc(), command, input, (status, text))?;
         assert!(rt; is_right, "{command} {text}");
     }
     Ok(())

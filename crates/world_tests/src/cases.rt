@@ -1,16 +1,16 @@
 //! Worlds that are worked out by hand.
 
-ghost use Rattle.std.specs.Prelude.{◌≡◌, ◌<◌, ◌≤◌, ◌^◌, true, All, length, IfOk};
+ghost use Rattle.std.specs.Prelude.{◌<◌, ◌≤◌, ◌^◌, All, length};
 ghost use Rattle.query_world.specs.Made.{IsReadyFor};
 
-use super::acts::{Act, Sources, take_act};
-use super::outcomes::{Asked, Expected, are_ended_so, ends_of, world_of};
-use super::readies::add_ready;
 use limits::MAX_OBJECTS;
 use query_core::Ready;
 use query_world::{Endings, World};
 use std::alloc::Global;
 use std::test::Fail;
+use world_support::{
+    Act, Asked, Expected, Sources, are_ended_so, are_small, ends_of, readies_of, take_act, world_of,
+};
 
 /// Sources with how many objects they state, queries, steps that are taken first where they are lawful, how many turns a round
 /// has then, and how the queries end.
@@ -22,24 +22,6 @@ pub struct Case {
     pub acts: &'static [Act],
     pub workers: u32,
     pub ends: &'static [Expected],
-}
-
-/// The queries of a world, all ready.
-pub fn readies_of(alloc: Global, counts: &[u32], asked: &[Asked]) -> Result<Vec<Ready>, Fail>
-    ensures { IfOk result (λ readies. All (IsReadyFor counts.now) readies.items) }
-{
-    let mut readies = Vec::new(alloc);
-    for one in asked {
-        add_ready(alloc, &mut readies, counts, one.0, one.1)?;
-    }
-    Ok(readies)
-}
-
-/// Whether the counts are within the limits.
-pub fn are_small(counts: &[u32]) -> bool
-    ensures { result ≡ true → All (λ count. count ≤ MAX_OBJECTS) counts.now }
-{
-    counts.iter().all(|count| *count <= 200_000)
 }
 
 /// Steps that are taken where they are lawful.
@@ -74,7 +56,9 @@ fn ends_so(alloc: Global, case: &Case) -> Result<bool, Fail> {
         drop(readies);
         return Err("a few small sources".into());
     }
-    let endings = endings_of(alloc, case, &readies)?;
+    let endings = endings_of(alloc, case, &readies);
+    drop(readies);
+    let endings = endings?;
     let so = are_ended_so(&endings, case.ends);
     drop(endings);
     Ok(so)

@@ -1,11 +1,9 @@
 //! Calls that fail.
 
-use super::acts::{Act, Sources};
 use super::cases::{Case, first_wrong};
-use super::outcomes::Expected;
-use super::three::{FIRST, FIRST_ENDS, THREE};
 use source_state::LookFault;
 use std::test::Fail;
+use world_support::{Act, Expected, FIRST, FIRST_ENDS, Sources, THREE};
 
 const CASES: [Case; 5] = [
     // the second page fails: one query waited for it, the other looks later

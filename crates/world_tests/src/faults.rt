@@ -1,12 +1,10 @@
 //! Lists that are no table.
 
-use super::acts::Sources;
 use super::cases::{Case, first_wrong};
-use super::outcomes::{Expected, Figures};
-use super::three::{FIRST, THREE};
 use access_log::CoreFault;
 use source_state::{LookFault, SourceFault};
 use std::test::Fail;
+use world_support::{Expected, FIRST, Figures, Sources, THREE};
 
 const CASES: [Case; 6] = [
     // a row out of order, which one query doesn't reach, whatever is read ahead

@@ -1,11 +1,9 @@
 //! Grades that do not go with the rows.
 
-use super::acts::{Act, Sources};
 use super::cases::{Case, first_wrong};
-use super::outcomes::Expected;
-use super::three::{FIRST, FIRST_ENDS, THREE};
 use source_state::{LookFault, SourceFault};
 use std::test::Fail;
+use world_support::{Act, Expected, FIRST, FIRST_ENDS, Sources, THREE};
 
 /// The first row of either source, and the grade of object 1; the query asks for that of object 2, whose row comes before it.
 const GRADE_AFTER: &[Act] = &[

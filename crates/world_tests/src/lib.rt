@@ -1,8 +1,6 @@
-//! Tests of worlds: rows that were worked out by hand, and the one answer after every order of steps.
+//! Tests of worlds: rows that were worked out by hand.
 #![tactic(auto)]
 
-#[cfg(test)]
-mod acts;
 #[cfg(test)]
 mod cases;
 #[cfg(test)]
@@ -12,14 +10,4 @@ mod faults;
 #[cfg(test)]
 mod grades;
 #[cfg(test)]
-mod orders;
-#[cfg(test)]
-mod outcomes;
-#[cfg(test)]
-mod readies;
-#[cfg(test)]
 mod tables;
-#[cfg(test)]
-mod three;
-#[cfg(test)]
-mod trials;

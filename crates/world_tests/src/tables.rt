@@ -1,11 +1,9 @@
 //! Lists that are a table.
 
-use super::acts::Act;
 use super::cases::{Case, first_wrong};
-use super::outcomes::{Expected, Figures};
-use super::three::{FIRST, FIRST_ENDS, SORTED, SORTED_ENDS, THREE};
 use access_log::CoreFault;
 use std::test::Fail;
+use world_support::{Act, Expected, FIRST, FIRST_ENDS, Figures, SORTED, SORTED_ENDS, THREE};
 
 const CASES: [Case; 4] = [
     // the table, by both algorithms at once

@@ -1,0 +1,5 @@
+//! Tests of answers that are written as certificates.
+#![tactic(auto)]
+
+#[cfg(test)]
+mod tests;

@@ -1,0 +1,74 @@
+//! Queries beside queries.
+
+use super::gated::Gate;
+use super::runs::{A, B, Case, GATE, goes_so};
+use batch_run::Settings;
+use source_support::Held;
+use std::test::*;
+use world_support::{Expected, Figures};
+
+/// A row a page, nothing read ahead.
+const TWO_WORKERS: Settings = Settings {
+    workers: 2,
+    page: 1,
+    ahead: 0,
+};
+
+/// The figures of a query that reads one row.
+const ONE_ROW: Figures = Figures {
+    depth: 1,
+    sorted: 1,
+    random: 0,
+    cost: 1,
+};
+
+const A_ENDS: Expected = Expected::Answered(&[(1, 900, 900)], ONE_ROW);
+
+const B_ENDS: Expected = Expected::Answered(&[(2, 700, 700)], ONE_ROW);
+
+/// A third list.
+const C: Held = Held {
+    rows: &[(3, 300), (1, 200), (2, 100)],
+    ..A
+};
+
+const C_ENDS: Expected = Expected::Answered(&[(3, 300, 300)], ONE_ROW);
+
+/// Each of two queries needs a call that waits for the call that the other one needs.
+const BOTH: Case = Case {
+    waiters: &[(A, Some(Gate { source: 1, ..GATE })), (B, Some(GATE))],
+    counts: &[3, 3],
+    asked: &[
+        ("top 1 by A using nra", &[0]),
+        ("top 1 by B using nra", &[1]),
+    ],
+    settings: TWO_WORKERS,
+    ends: &[A_ENDS, B_ENDS],
+};
+
+#[test]
+fn runs_queries_beside_queries(rt: HostRuntime) -> Result<(), Fail> {
+    assert_eq!(rt; goes_so(&rt, rt.alloc(), &BOTH)?, true);
+    Ok(())
+}
+
+/// The first query ends after the second one: it needs a call that waits for the call that the fourth one needs, which the worker
+/// of the second one runs.
+const LATE: Case = Case {
+    waiters: &[(A, Some(Gate { source: 2, ..GATE })), (B, None), (C, None)],
+    counts: &[3, 3, 3],
+    asked: &[
+        ("top 1 by A using nra", &[0]),
+        ("top 1 by B using nra", &[1]),
+        ("top 1 by B using ta", &[1]),
+        ("top 1 by C using nra", &[2]),
+    ],
+    settings: TWO_WORKERS,
+    ends: &[A_ENDS, B_ENDS, B_ENDS, C_ENDS],
+};
+
+#[test]
+fn keeps_the_order_of_the_queries(rt: HostRuntime) -> Result<(), Fail> {
+    assert_eq!(rt; goes_so(&rt, rt.alloc(), &LATE)?, true);
+    Ok(())
+}

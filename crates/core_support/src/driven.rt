@@ -1,0 +1,172 @@
+//! The machines of all algorithms under one set of calls.
+
+ghost use Rattle.std.specs.Prelude.{◌≡◌, ◌≤◌, None, [], IfOk, OnOk};
+ghost use Rattle.access_log.specs.Log.{IsWithinLimits};
+ghost use Rattle.access_log.specs.Machine.{MachineState, MayBeNextRow, MayBeNextGrade, IsOneMore, IsOfSeen, row_access, grade_access};
+
+use access_log::{Answer, CoreFault};
+use ca_core::Ca;
+use limits::MAX_OBJECTS;
+use monotone_fn::{Costs, Expr};
+use nra_core::Nra;
+use ranked_list::{Need, Row};
+use std::alloc::Global;
+use std::test::Fail;
+use ta_core::Ta;
+
+/// How many objects are asked for, how many there are and may be kept, and what an access costs.
+#[derive(Clone, Copy)]
+pub struct Terms {
+    /// How many objects are asked for.
+    pub k: u32,
+    /// How many objects there are.
+    pub count: u32,
+    /// How many objects may be kept.
+    pub room: u32,
+    /// What an access of each sort costs.
+    pub costs: Costs,
+}
+
+/// A machine that is driven.
+pub trait Driven: Sized {
+    ghost state: { Self → MachineState };
+
+    /// The machine of an expression, before any access.
+    fn begin(alloc: Global, expr: Expr, terms: Terms) -> Result<Self, Fail>
+        requires asked { 1 ≤ terms.k }
+        requires fits { terms.k ≤ terms.count }
+        requires few { terms.count ≤ MAX_OBJECTS }
+        requires roomy { 1 ≤ terms.room }
+        requires paid { 1 ≤ terms.costs.sorted }
+        ensures { IfOk result (λ machine. (state machine).log.accesses ≡ []) };
+
+    /// What is needed next.
+    fn needed(&self) -> Need
+        ensures need { result ≡ (state self.now).need }
+        ensures tame { IsOfSeen (state self.now).log result };
+
+    /// How many lists there are.
+    fn lists(&self) -> u8
+        ensures lists { result ≡ (state self.now).log.lists }
+        ensures limits { IsWithinLimits result (state self.now).log.count };
+
+    /// Takes the row that is needed, or says why not.
+    fn take_row(&mut self, row: Row) -> Option<CoreFault>
+        requires { MayBeNextRow (state self.old).log (state self.old).need row }
+        ensures { result ≡ None
+            → IsOneMore (row_access (state self.old).need row) (state self.old).log (state self.new).log };
+
+    /// Takes the grade that is needed.
+    fn take_grade(&mut self, grade: u32) -> Result<(), Fail>
+        requires { MayBeNextGrade (state self.old).log (state self.old).need grade }
+        ensures { OnOk result
+            (IsOneMore (grade_access (state self.old).need grade) (state self.old).log (state self.new).log) };
+
+    /// The answer, or None where no memory is left.
+    fn finish(self) -> Option<Answer>
+        requires { (state self).need ≡ Need.Done };
+}
+
+impl Driven for Ta {
+    ghost state = { λ t. t };
+
+    fn begin(alloc: Global, expr: Expr, terms: Terms) -> Result<Ta, Fail> {
+        let Terms {
+            k,
+            count,
+            room,
+            costs,
+        } = terms;
+        Ok(Ta::make(alloc, expr, k, count, room, costs)?)
+    }
+
+    fn needed(&self) -> Need {
+        self.need()
+    }
+
+    fn lists(&self) -> u8 {
+        self.transcript().lists()
+    }
+
+    fn take_row(&mut self, row: Row) -> Option<CoreFault> {
+        self.feed_row(row).err()
+    }
+
+    fn take_grade(&mut self, grade: u32) -> Result<(), Fail> {
+        self.feed_grade(grade);
+        Ok(())
+    }
+
+    fn finish(self) -> Option<Answer> {
+        self.answer().ok()
+    }
+}
+
+impl Driven for Nra {
+    ghost state = { λ t. t };
+
+    fn begin(alloc: Global, expr: Expr, terms: Terms) -> Result<Nra, Fail> {
+        let Terms {
+            k,
+            count,
+            room,
+            costs,
+        } = terms;
+        Ok(Nra::make(alloc, expr, k, count, room, costs)?)
+    }
+
+    fn needed(&self) -> Need {
+        self.need()
+    }
+
+    fn lists(&self) -> u8 {
+        self.transcript().lists()
+    }
+
+    fn take_row(&mut self, row: Row) -> Option<CoreFault> {
+        self.feed_row(row).err()
+    }
+
+    fn take_grade(&mut self, _grade: u32) -> Result<(), Fail> {
+        Err("a row or the end".into())
+    }
+
+    fn finish(self) -> Option<Answer> {
+        self.answer().ok()
+    }
+}
+
+impl Driven for Ca {
+    ghost state = { λ t. t };
+
+    fn begin(alloc: Global, expr: Expr, terms: Terms) -> Result<Ca, Fail> {
+        let Terms {
+            k,
+            count,
+            room,
+            costs,
+        } = terms;
+        Ok(Ca::make(alloc, expr, k, count, room, costs)?)
+    }
+
+    fn needed(&self) -> Need {
+        self.need()
+    }
+
+    fn lists(&self) -> u8 {
+        self.transcript().lists()
+    }
+
+    fn take_row(&mut self, row: Row) -> Option<CoreFault> {
+        self.feed_row(row).err()
+    }
+
+    fn take_grade(&mut self, grade: u32) -> Result<(), Fail> {
+        self.feed_grade(grade);
+        Ok(())
+    }
+
+    fn finish(self) -> Option<Answer> {
+        self.answer().ok()
+    }
+}

@@ -1,0 +1,5 @@
+//! Tests of the judge on certificates' texts.
+#![tactic(auto)]
+
+#[cfg(test)]
+mod texts;

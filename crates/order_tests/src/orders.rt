@@ -1,0 +1,242 @@
+//! How queries end after every list of lawful steps.
+
+ghost use Rattle.std.specs.Prelude.{◌<◌, ◌≤◌, ◌^◌, All, length};
+ghost use Rattle.query_world.specs.Made.{IsReadyFor};
+
+use super::trials::{FAILS, MISSING, OUT_OF_ORDER, PAGES, SHARED, Trial};
+use limits::MAX_OBJECTS;
+use query_core::Ready;
+use query_world::{Ended, Endings, World};
+use source_state::LookFault;
+use std::alloc::Global;
+use std::test::Fail;
+use world_support::{Act, are_ended_so, are_small, ends_of, readies_of, take_act, world_of};
+
+/// What comes of an order, which has for each step the place of its act among those of the trial.
+enum Outcome {
+    /// The queries end as they are to.
+    Alike,
+    /// They don't.
+    Otherwise,
+    /// From the place of one of its steps on, no act is lawful.
+    Unlawful,
+    /// It is behind the last order.
+    Past,
+}
+
+/// Whether a source has all rows of a page.
+fn is_whole(world: &World, act: Act) -> bool {
+    match act {
+        Act::Page(source, count) if source < world.sources() => {
+            let state = world.state(source);
+            count <= state.count().saturating_sub(state.rows())
+        }
+        _ => true,
+    }
+}
+
+/// Takes the first lawful step from a place on, and tells its place.
+fn take_next(
+    alloc: Global,
+    world: &mut World,
+    trial: &Trial,
+    from: u8,
+) -> Result<Option<u8>, Fail> {
+    let mut place: u8 = 0;
+    for act in trial.acts {
+        if place >= from && is_whole(world, *act) && take_act(alloc, world, &trial.sources, *act)? {
+            return Ok(Some(place));
+        }
+        place = place.saturating_add(1);
+    }
+    Ok(None)
+}
+
+/// Takes the steps of an order, for each the first lawful one from its place on, and tells how many there are.
+fn follow(
+    alloc: Global,
+    world: &mut World,
+    trial: &Trial,
+    order: &mut [u8],
+) -> Result<usize, Fail> {
+    let mut taken: usize = 0;
+    for place in order.iter_mut() {
+        let Some(next) = take_next(alloc, world, trial, *place)? else {
+            return Ok(taken);
+        };
+        *place = next;
+        taken = taken.saturating_add(1);
+    }
+    Ok(taken)
+}
+
+/// The order after one that took so many steps: the last of them is another one.
+fn advance(order: &mut [u8], taken: usize) {
+    let mut step: usize = 0;
+    for place in order.iter_mut() {
+        step = step.saturating_add(1);
+        if step == taken {
+            *place = place.saturating_add(1);
+        }
+        if step > taken {
+            *place = 0;
+        }
+    }
+}
+
+/// Whether a call for a source failed after a turn.
+fn failed_after_turn(trial: &Trial, order: &[u8], source: u8) -> bool {
+    let mut turned = false;
+    for place in order {
+        match trial.acts.get(usize::from(*place)) {
+            Some(Act::Turn(_)) => turned = true,
+            Some(Act::Fail(failed)) if turned && *failed == u32::from(source) => return true,
+            _ => {}
+        }
+    }
+    false
+}
+
+/// Whether the first query is refused because a call failed, which did after one of its turns.
+fn is_refused_late(trial: &Trial, order: &[u8], endings: &Endings) -> bool {
+    match endings.get(0) {
+        Some(
+            Ended::Look {
+                list,
+                fault: LookFault::Failed,
+            },
+        ) => failed_after_turn(trial, order, *list),
+        _ => false,
+    }
+}
+
+/// What comes of an order that took so many steps of a world.
+fn outcome_of(
+    alloc: Global,
+    world: World,
+    trial: &Trial,
+    order: &[u8],
+    taken: usize,
+) -> Result<Outcome, Fail> {
+    if taken == 0 || order.get(taken).is_some_and(|place| *place > 0) {
+        drop(world);
+        return Ok(if taken == 0 {
+            Outcome::Past
+        } else {
+            Outcome::Unlawful
+        });
+    }
+    let endings = ends_of(alloc, world, &trial.sources, 1)?;
+    let alike = are_ended_so(&endings, trial.ends) || is_refused_late(trial, order, &endings);
+    drop(endings);
+    Ok(if alike {
+        Outcome::Alike
+    } else {
+        Outcome::Otherwise
+    })
+}
+
+/// Tries an order, and makes the next one of it.
+fn try_order(
+    alloc: Global,
+    trial: &Trial,
+    readies: &[Ready],
+    order: &mut [u8],
+) -> Result<Outcome, Fail>
+    requires sources { length trial.now.counts.now < 2 ^ 32 }
+    requires counts { All (λ count. count ≤ MAX_OBJECTS) trial.now.counts.now }
+    requires queries { length readies.now < 2 ^ 32 }
+    requires ready { All (IsReadyFor trial.now.counts.now) readies.now }
+{
+    let mut world = world_of(alloc, trial.counts, readies)?;
+    match follow(alloc, &mut world, trial, order) {
+        Ok(taken) => {
+            let outcome = outcome_of(alloc, world, trial, order, taken)?;
+            advance(order, taken);
+            Ok(outcome)
+        }
+        Err(fault) => {
+            drop(world);
+            Err(fault)
+        }
+    }
+}
+
+/// How many orders of so many lawful steps there are, or None where the queries end otherwise after one of them.
+fn try_orders(
+    alloc: Global,
+    trial: &Trial,
+    readies: &[Ready],
+    order: &mut [u8],
+) -> Result<Option<u32>, Fail>
+    requires sources { length trial.now.counts.now < 2 ^ 32 }
+    requires counts { All (λ count. count ≤ MAX_OBJECTS) trial.now.counts.now }
+    requires queries { length readies.now < 2 ^ 32 }
+    requires ready { All (IsReadyFor trial.now.counts.now) readies.now }
+{
+    let mut orders: u32 = 0;
+    for _ in 0..100_000 {
+        match try_order(alloc, trial, readies, order)? {
+            Outcome::Alike => orders = orders.saturating_add(1),
+            Outcome::Otherwise => return Ok(None),
+            Outcome::Unlawful => {}
+            Outcome::Past => return Ok(Some(orders)),
+        }
+    }
+    Err("fewer orders".into())
+}
+
+/// How many orders a trial has, from the first one on, if the queries end as they are to after each.
+fn count_alike(alloc: Global, trial: &Trial, order: &mut [u8]) -> Result<Option<u32>, Fail> {
+    let readies = readies_of(alloc, trial.counts, trial.asked)?;
+    if !are_small(trial.counts) || trial.counts.len() > 100 || readies.len() > 100 {
+        drop(readies);
+        return Err("a few small sources".into());
+    }
+    let counted = try_orders(alloc, trial, &readies, order);
+    drop(readies);
+    counted
+}
+
+/// All lists of seven lawful steps.
+#[test]
+fn pages_in_every_order(rt: HostRuntime) -> Result<(), Fail> {
+    let mut order: [u8; 7] = [0; 7];
+    assert_eq!(rt; count_alike(rt.alloc(), &PAGES, &mut order)?, Some(6_889));
+    Ok(())
+}
+
+/// All lists of six lawful steps.
+#[test]
+fn queries_in_every_order(rt: HostRuntime) -> Result<(), Fail> {
+    let mut order: [u8; 6] = [0; 6];
+    assert_eq!(rt; count_alike(rt.alloc(), &SHARED, &mut order)?, Some(3_791));
+    Ok(())
+}
+
+/// All lists of five lawful steps.
+#[test]
+fn fails_in_every_order(rt: HostRuntime) -> Result<(), Fail> {
+    let mut order: [u8; 5] = [0; 5];
+    assert_eq!(rt; count_alike(rt.alloc(), &FAILS, &mut order)?, Some(3_065));
+    Ok(())
+}
+
+/// All lists of six lawful steps.
+#[test]
+fn row_fault_in_every_order(rt: HostRuntime) -> Result<(), Fail> {
+    let mut order: [u8; 6] = [0; 6];
+    assert_eq!(rt;
+        count_alike(rt.alloc(), &OUT_OF_ORDER, &mut order)?,
+        Some(5_350)
+    );
+    Ok(())
+}
+
+/// All lists of eight lawful steps.
+#[test]
+fn miss_in_every_order(rt: HostRuntime) -> Result<(), Fail> {
+    let mut order: [u8; 8] = [0; 8];
+    assert_eq!(rt; count_alike(rt.alloc(), &MISSING, &mut order)?, Some(1_682));
+    Ok(())
+}

@@ -1,0 +1,8 @@
+//! Sources in memory from plain data, and calls on a source with what they are to answer, for the tests of several crates.
+#![tactic(auto)]
+
+mod held;
+mod steps;
+
+pub use held::{Held, Kind, shelf_of, source_of};
+pub use steps::{Step, first_wrong};
