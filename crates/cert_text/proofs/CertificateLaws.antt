@@ -5,7 +5,7 @@ use Rattle.cert_text.specs.declared.certificate.Certificate.{Certificate}
 use Rattle.cert_text.specs.declared.fault.CertFault.{CertFault}
 use Rattle.cert_text.specs.declared.fault.CertFault.TheVariants.{BadLine, Memory}
 use Rattle.cert_text.specs.Judging.{Leads, Finds, IsFault}
-use Rattle.cert_text.specs.Reading.{Spells, Begins, IsFirstFault, IsReadAs, IsCause}
+use Rattle.cert_text.specs.Reading.{Spells, BeginsCertificate, IsFirstFault, IsReadAs, IsCause}
 
 pub finds_found : (ls : List (List ℕ)) (r : Result Certificate CertFault) → Finds Spells (λ c. c) 1 ls r → IfOk r (Spells ls)
 finds_found ls (Ok c) found = found.0
@@ -16,10 +16,10 @@ finds_reads ls (Ok read) found c spelled = sym (found.1 c spelled)
 finds_reads ls (Err (BadLine line)) found c spelled = let judged = found.2 in judged.1 c spelled
 finds_reads ls (Err Memory) found c spelled = tt
 
-begins_from : (ls : List (List ℕ)) → Leads Spells ls → Begins ls
+begins_from : (ls : List (List ℕ)) → Leads Spells ls → BeginsCertificate ls
 begins_from ls leads = (leads.0, leads.1.0, leads.1.1)
 
-leads_from : (ls : List (List ℕ)) → Begins ls → Leads Spells ls
+leads_from : (ls : List (List ℕ)) → BeginsCertificate ls → Leads Spells ls
 leads_from ls begins = (begins.0, (begins.1, begins.2))
 
 -- the first line at fault, counted from 1
@@ -30,8 +30,8 @@ first_fault ls before line is fault =
     record {
       counted = omega arith;
       within = omega (arith, fault.within);
-      begins = subst (λ n. Begins (take n ls)) (sym last) (begins_from (take before ls) fault.leads);
-      ends = λ inside begins. fault.ends (omega arith) (leads_from (take (suc before) ls) (subst (λ n. Begins (take n ls)) next begins));
+      begins = subst (λ n. BeginsCertificate (take n ls)) (sym last) (begins_from (take before ls) fault.leads);
+      ends = λ inside begins. fault.ends (omega arith) (leads_from (take (suc before) ls) (subst (λ n. BeginsCertificate (take n ls)) next begins));
     }
 
 pub finds_fault_line : (ls : List (List ℕ)) (r : Result Certificate CertFault) → Finds Spells (λ c. c) 1 ls r → IfErr r (IsCause ls)

@@ -13,16 +13,16 @@ pub record Spells (ls : List (List ℕ)) (c : Certificate) : Type 0 where
   pub spelled : ls ≡ certificate_lines c
 
 -- the lines are the front of the lines of some certificate
-abbrev pub Begins : List (List ℕ) → Type 0
-Begins ls = (rest : List (List ℕ)) × (c : Certificate) × Spells (ls ++ rest) c
+abbrev pub BeginsCertificate : List (List ℕ) → Type 0
+BeginsCertificate ls = (rest : List (List ℕ)) × (c : Certificate) × Spells (ls ++ rest) c
 
 -- the line, counted from 1, is the first such that no certificate's lines begin with the lines up to and including it,
 -- or the number of lines plus one where all of them are the front of some certificate's
 pub record IsFirstFault (ls : List (List ℕ)) (line : ℕ) : Type 0 where
   pub counted : 1 ≤ line
   pub within : line ≤ length ls + 1
-  pub begins : Begins (take (line - 1) ls)
-  pub ends : line ≤ length ls → Begins (take line ls) → ⊥
+  pub begins : BeginsCertificate (take (line - 1) ls)
+  pub ends : line ≤ length ls → BeginsCertificate (take line ls) → ⊥
 
 -- the reading of lines that spell this certificate: it is what was read, or memory was refused
 abbrev pub IsReadAs : Certificate → Result Certificate CertFault → Type 0

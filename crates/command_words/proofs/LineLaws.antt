@@ -7,7 +7,7 @@ use Rattle.std.proofs.lemmas.Bool.{false≢true, eqb-true, or_parts}
 use Rattle.std.proofs.lemmas.Slice.Eq.{bytes_eq-Decides}
 use Rattle.clap.specs.Lexer.{long_of, long_of_rest, short_of, short_of_rest, strip_byte}
 use Rattle.clap.specs.Walk.{Text}
-use Rattle.command_words.specs.Line.{OptionRule, Takes, Part, Line, Given, GivenByLine, IsLine, AreParts, IsPlain, IsOptionName, AreOptionNames, Fresh, is_given, is_option, needed, line_given, line_words, line_places, part_words, behind_words, parts_given, places_given}
+use Rattle.command_words.specs.Line.{OptionRule, Takes, Part, CommandLine, Given, GivenByLine, IsLine, AreParts, IsPlain, IsOptionName, AreOptionNames, Fresh, is_given, is_option, needed, line_given, line_words, line_places, part_words, behind_words, parts_given, places_given}
 use Rattle.command_words.specs.Line.Part.{placed, joined, apart}
 use Rattle.command_words.specs.Taking.{Taken, Next, Kind, kind_of, kind_by, long_kind, give, give_once, option_in, kind_in, value_in, end_in, taken_from, taken}
 use Rattle.command_words.proofs.SetRules.{same_text}
@@ -250,7 +250,7 @@ complete t (apart name value ∷ parts) behind given left names are few fresh al
     ∙ ap Some (append_one given one rest)
 
 -- the words of a command line give what it gives
-pub line_taken : (t : Takes) (line : Line) → AreOptionNames t.options → IsLine t line → taken t (line_words line) ≡ Some (line_given t line)
+pub line_taken : (t : Takes) (line : CommandLine) → AreOptionNames t.options → IsLine t line → taken t (line_words line) ≡ Some (line_given t line)
 line_taken t line names is = complete t line.parts line.behind [] t.places names is.parts is.few is.once is.all
 
 -- ---- what words give is given by a command line

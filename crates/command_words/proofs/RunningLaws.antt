@@ -10,7 +10,8 @@ use Rattle.command_words.specs.Taking.{given_text}
 use Rattle.command_words.proofs.SetRules.{shown}
 use Rattle.command_words.proofs.OptionLaws.{Asks, found_text}
 
-pub same_settings : (given : List Given) → settings_in (shown given) ≡ settings_of (text_by workers_rule given) (text_by page_rule given) (text_by ahead_rule given)
+pub same_settings : (given : List Given)
+    → settings_in (shown given) ≡ settings_of (text_by workers_rule given) (text_by page_rule given) (text_by ahead_rule given)
 same_settings given =
     ap (λ text. settings_of text (first_of page_rule.name (shown given)) (first_of ahead_rule.name (shown given))) (found_text workers_rule.name given)
     ∙ ap (λ text. settings_of (text_by workers_rule given) text (first_of ahead_rule.name (shown given))) (found_text page_rule.name given)

@@ -37,7 +37,7 @@ pub data Part : Type 0 where
   apart : Text → Text → Part
 
 -- a command line: its parts, and the words at places behind the word `--`, where that stands there
-pub record Line : Type 0 where
+pub record CommandLine : Type 0 where
   pub parts : List Part
   pub behind : Option (List Text)
 
@@ -51,7 +51,7 @@ abbrev pub behind_words : Option (List Text) → List Text
 behind_words None = []
 behind_words (Some words) = (45 ∷ 45 ∷ []) ∷ words
 
-abbrev pub line_words : Line → List Text
+abbrev pub line_words : CommandLine → List Text
 line_words line = flat_map part_words line.parts ++ behind_words line.behind
 
 -- its words at places
@@ -86,7 +86,7 @@ abbrev pub parts_given : List Part → Option (List Text) → List Text → List
 parts_given [] behind left = places_given left (behind_places behind)
 parts_given (part ∷ parts) behind left = part_given part left (parts_given parts behind)
 
-abbrev pub line_given : Takes → Line → List Given
+abbrev pub line_given : Takes → CommandLine → List Given
 line_given takes line = parts_given line.parts line.behind takes.places
 
 -- a word that may stand before `--` and is no option: it doesn't begin with a hyphen, but it may be one
@@ -111,7 +111,7 @@ Fresh before [] = Unit {0}
 Fresh before (one ∷ given) = (is_given one.0 before ≡ false) × Fresh (before ++ one ∷ []) given
 
 -- a command line of the command: each part is one of it, there are no more words at places than places, nothing is given twice, and what has to be given is
-pub record IsLine (takes : Takes) (line : Line) : Type 0 where
+pub record IsLine (takes : Takes) (line : CommandLine) : Type 0 where
   pub parts : AreParts takes line.parts
   pub few : length (line_places line.parts line.behind) ≤ length takes.places
   pub once : Fresh [] (line_given takes line)
@@ -128,7 +128,7 @@ AreOptionNames (rule ∷ rules) = IsOptionName rule.name × AreOptionNames rules
 
 -- the words are a command line that gives this
 pub record GivenByLine (takes : Takes) (words : List Text) (given : List Given) : Type 0 where
-  pub line : Line
+  pub line : CommandLine
   pub lawful : IsLine takes line
   pub spelled : line_words line ≡ words
   pub are : line_given takes line ≡ given

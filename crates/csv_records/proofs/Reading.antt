@@ -6,7 +6,7 @@ use Rattle.csv.specs.declared.parser.State.TheVariants as st
 use Rattle.csv.specs.declared.reader.Reader.{Reader}
 use Rattle.csv.specs.declared.reader.Trim.TheVariants as trim
 use Rattle.csv.proofs.ReadFacts.{rows-end, rows-more}
-use Rattle.csv_records.specs.Records.{Begins, records_from_start}
+use Rattle.csv_records.specs.Records.{IsAtStart, records_from_start}
 use Rattle.csv_records.proofs.AllRecords.{are_all}
 
 -- the bytes that a reader of bytes has left
@@ -24,7 +24,7 @@ pub record IsReading (Took : List (List (List ℕ)) → Type 0) (r : Reader (Bor
   pub reached : Reached default_config st.StartRecord text done r.state rest
   pub took : Took done
 
-pub begin : (took : List (List (List ℕ)) → Type 0) (r : Reader (Bor (List ℕ))) (text : List ℕ) → Begins r text → took [] → IsReading took r text
+pub begin : (took : List (List (List ℕ)) → Type 0) (r : Reader (Bor (List ℕ))) (text : List ℕ) → IsAtStart r text → took [] → IsReading took r text
 unfolding Reached
 begin took r text b t = record {
   trim = b.trim;

@@ -15,7 +15,7 @@ abbrev pub records_of : List ℕ → List (List (List ℕ))
 records_of text = records_from_start (strip_bom text)
 
 -- a reader of bytes that trims nothing, takes no header apart, and is about to read this text
-pub record Begins (r : Reader (Bor (List ℕ))) (text : List ℕ) : Type 0 where
+pub record IsAtStart (r : Reader (Bor (List ℕ))) (text : List ℕ) : Type 0 where
   pub trim : r.trim ≡ trim.None
   pub ready : Ready r
   pub config : r.config ≡ default_config

@@ -3,7 +3,7 @@
 ghost use Rattle.std.specs.Prelude.{◌≡◌, ◌∷◌, ◌++◌, [], ℕ, List, OnOk};
 ghost use Rattle.csv.specs.Records.{fields_of};
 ghost use Rattle.csv.specs.Reading.{default_config};
-ghost use Rattle.csv_records.specs.Records.{Begins, records_from_start, records_of};
+ghost use Rattle.csv_records.specs.Records.{IsAtStart, records_from_start, records_of};
 
 use super::Memory;
 use csv::{ByteRecord, Reader, ReaderBuilder};
@@ -39,7 +39,7 @@ fn read_all<T: TakesRecords>(
     reader: &mut Reader<&[u8]>,
     into: &mut T,
 ) -> Result<(), Memory>
-    ensures { OnOk result ((text : List ℕ) → Begins reader.old text → T.Took into.old [] → T.Took into.new (records_from_start text)) }
+    ensures { OnOk result ((text : List ℕ) → IsAtStart reader.old text → T.Took into.old [] → T.Took into.new (records_from_start text)) }
 {
     let mut row = ByteRecord::new(alloc);
     for _ in 0..u64::MAX {

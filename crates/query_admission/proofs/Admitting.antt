@@ -17,7 +17,7 @@ use Rattle.cert_text.specs.Refusal.{refused_lists}
 use Rattle.query_core.specs.declared.ready.Ready.{Ready}
 use Rattle.query_core.proofs.ListCount.{lists_counted}
 use Rattle.query_admission.specs.View.{View, AreListed}
-use Rattle.query_admission.specs.Causes.{most_queries, Line, Cause, admission_causes, text_refusal, Over, ListsGive, Gives, NoneOf}
+use Rattle.query_admission.specs.Causes.{most_queries, QueryLine, Cause, admission_causes, text_refusal, Over, ListsGive, Gives, NoneOf}
 use Rattle.query_admission.specs.Admission.{IsRefused, IsAdmitted}
 use Rattle.query_admission.specs.Screening.{list_causes, Screens, Weighs}
 use Rattle.query_admission.specs.declared.admission.Weighed.TheVariants.{Ready as Fits, Refused as NotReady}
@@ -54,12 +54,12 @@ pub listed_many : (view : View) (q : Query) (lists : List Listed) → AreListed 
 listed_many view q lists listed = sym (length-map q.names view.listed) ∙ ap length listed ∙ length-map lists Some
 
 -- the query of a line and its lists
-pub record IsHere (x : Line) (q : Query) (lists : List Listed) : Type 0 where
+pub record IsHere (x : QueryLine) (q : Query) (lists : List Listed) : Type 0 where
   pub few : x.number ≤ most_queries
   pub reads : Reads x.bytes (Ok q)
   pub listed : AreListed x.view q lists
 
-over_here : (x : Line) (q : Query) (lists : List Listed) (P : Query → List Listed → Type 0) → IsHere x q lists → Over x P → P q lists
+over_here : (x : QueryLine) (q : Query) (lists : List Listed) (P : Query → List Listed → Type 0) → IsHere x q lists → Over x P → P q lists
 over_here x q lists P here over =
     let same : over.query ≡ q = read_once x.bytes over.query q over.reads here.reads in
     let listed : map Some over.lists ≡ map Some lists = sym over.listed ∙ ap (λ p. map x.view.listed p.names) same ∙ here.listed in
@@ -77,7 +77,7 @@ IsOfLists cause = ⊥
 of_lists : (cause : Cause) → Contains list_causes cause → IsOfLists cause
 of_lists cause h = member_of_all IsOfLists list_causes cause (All-from_recursion IsOfLists list_causes (tt, (tt, (tt, (tt, (tt, tt)))))) h
 
-gives_here : (x : Line) (q : Query) (lists : List Listed) (cause : Cause) (refusal : Refusal) → IsHere x q lists → ListsGive q lists cause refusal
+gives_here : (x : QueryLine) (q : Query) (lists : List Listed) (cause : Cause) (refusal : Refusal) → IsHere x q lists → ListsGive q lists cause refusal
     → Gives x cause refusal
 gives_here x q lists Cause.many_queries refusal here h = absurd h
 gives_here x q lists Cause.text refusal here h = absurd h
@@ -89,7 +89,7 @@ gives_here x q lists Cause.counts_differ refusal here h = record { query = q; li
 gives_here x q lists Cause.k_above_count refusal here h = record { query = q; lists = lists; reads = here.reads; listed = here.listed; holds = h }
 gives_here x q lists Cause.no_random refusal here h = record { query = q; lists = lists; reads = here.reads; listed = here.listed; holds = h }
 
-gives_back : (x : Line) (q : Query) (lists : List Listed) (cause : Cause) (refusal : Refusal) → IsHere x q lists → IsOfLists cause → Gives x cause refusal
+gives_back : (x : QueryLine) (q : Query) (lists : List Listed) (cause : Cause) (refusal : Refusal) → IsHere x q lists → IsOfLists cause → Gives x cause refusal
     → ListsGive q lists cause refusal
 gives_back x q lists Cause.many_queries refusal here of h = absurd of
 gives_back x q lists Cause.text refusal here of h = absurd of
@@ -102,13 +102,13 @@ gives_back x q lists Cause.k_above_count refusal here of h = over_here x q lists
 gives_back x q lists Cause.no_random refusal here of h = over_here x q lists (λ p ls. ListsGive p ls Cause.no_random refusal) here h
 
 -- the causes before those of the lists don't hold
-abbrev Never : Line → Cause → Type 0
+abbrev Never : QueryLine → Cause → Type 0
 Never x cause = (refusal : Refusal) → ¬ Gives x cause refusal
 
-not_many : (x : Line) → x.number ≤ most_queries → Never x Cause.many_queries
+not_many : (x : QueryLine) → x.number ≤ most_queries → Never x Cause.many_queries
 not_many x few = λ refusal h. absurd (omega (arith, h.1))
 
-not_text : (x : Line) (q : Query) → Reads x.bytes (Ok q) → Never x Cause.text
+not_text : (x : QueryLine) (q : Query) → Reads x.bytes (Ok q) → Never x Cause.text
 not_text x q reads = λ refusal h. read_faultless x.bytes q h.0 refusal reads h.1 h.2
 
 known_somewhere : (lists : List Listed) (place : ℕ) → place < length (map Some lists) → is_none (slice_index_or (map Some lists) place None) ≡ false
@@ -123,7 +123,7 @@ none_unknown lists place e =
     let here : is_none (slice_index_or (map Some lists) place None) ≡ true = found.1 in
     absurd cc
 
-not_unknown : (x : Line) (q : Query) (lists : List Listed) → IsHere x q lists → Never x Cause.unknown_list
+not_unknown : (x : QueryLine) (q : Query) (lists : List Listed) → IsHere x q lists → Never x Cause.unknown_list
 not_unknown x q lists here = λ refusal h.
     let same : h.query ≡ q = read_once x.bytes h.query q h.reads here.reads in
     none_unknown lists h.holds.0 (subst (λ ks. position is_none ks ≡ Some h.holds.0) (ap (λ p. map x.view.listed p.names) same ∙ here.listed) h.holds.2)
@@ -132,7 +132,7 @@ all_cons : (P : Cause → Type 0) (cause : Cause) (causes : List Cause) → P ca
 all_cons P cause causes here rest =
     all_from_members P (cause ∷ causes) (λ other h. elim (contains_cases cause causes other h) [ inl same ↦ subst P same here | inr later ↦ member_of_all P causes other rest later ])
 
-none_before : (x : Line) (q : Query) (lists : List Listed) (earlier : List Cause) → IsHere x q lists
+none_before : (x : QueryLine) (q : Query) (lists : List Listed) (earlier : List Cause) → IsHere x q lists
     → ((cause : Cause) → Contains earlier cause → IsOfLists cause) → NoneOf (ListsGive q lists) earlier
     → NoneOf (Gives x) (Cause.many_queries ∷ Cause.text ∷ Cause.unknown_list ∷ earlier)
 none_before x q lists earlier here of none =
@@ -143,7 +143,7 @@ none_before x q lists earlier here of none =
     (all_cons (Never x) Cause.unknown_list earlier (not_unknown x q lists here) rest))
 
 -- a line too many, a fault of the text, and a name without a list
-pub refused_many : (x : Line) → most_queries < x.number → IsRefused admission_causes x (ManyQueries most_queries) None
+pub refused_many : (x : QueryLine) → most_queries < x.number → IsRefused admission_causes x (ManyQueries most_queries) None
 refused_many x many = record {
   first = record {
     cause = Cause.many_queries;
@@ -170,7 +170,7 @@ faults_name_none Memory = tt
 text_names_none : (fault : QueryFault) (refusal : Refusal) → text_refusal fault ≡ Some refusal → refused_lists refusal ≡ []
 text_names_none fault refusal e = subst (λ o. IfSome o (λ r. refused_lists r ≡ [])) e (faults_name_none fault)
 
-pub refused_text : (x : Line) (fault : QueryFault) (refusal : Refusal) → x.number ≤ most_queries → text_refusal fault ≡ Some refusal
+pub refused_text : (x : QueryLine) (fault : QueryFault) (refusal : Refusal) → x.number ≤ most_queries → text_refusal fault ≡ Some refusal
     → Reads x.bytes (Err fault) → IsRefused admission_causes x refusal None
 refused_text x fault refusal few e reads = record {
   first = record {
@@ -185,7 +185,7 @@ refused_text x fault refusal few e reads = record {
   named = subst (All (λ list. list < 0)) (sym (text_names_none fault refusal e)) (All-from_recursion (λ list. list < 0) [] tt);
 }
 
-pub refused_unknown : (x : Line) (q : Query) (refusal : Refusal) (list : ℕ) → x.number ≤ most_queries → Reads x.bytes (Ok q) → refusal ≡ UnknownList list
+pub refused_unknown : (x : QueryLine) (q : Query) (refusal : Refusal) (list : ℕ) → x.number ≤ most_queries → Reads x.bytes (Ok q) → refusal ≡ UnknownList list
     → position is_none (map x.view.listed q.names) ≡ Some list → IsRefused admission_causes x refusal (Some q)
 refused_unknown x q refusal list few reads is unknown =
     let within : list < length (map x.view.listed q.names) = (position-Some is_none (map x.view.listed q.names) list None unknown).0 in
@@ -204,7 +204,7 @@ refused_unknown x q refusal list few reads is unknown =
     }
 
 -- a cause that lies in the lists
-pub refused_lists_why : (x : Line) (q : Query) (lists : List Listed) (refusal : Refusal) → IsHere x q lists → Screens q lists (Err refusal)
+pub refused_lists_why : (x : QueryLine) (q : Query) (lists : List Listed) (refusal : Refusal) → IsHere x q lists → Screens q lists (Err refusal)
     → IsRefused admission_causes x refusal (Some q)
 refused_lists_why x q lists refusal here why =
     let f = why.0 in
@@ -223,7 +223,7 @@ refused_lists_why x q lists refusal here why =
     }
 
 -- a query is ready
-pub ready_admitted : (x : Line) (ready : Ready) (lists : List Listed) → IsHere x ready.query lists → Screens ready.query lists (Ok ready.count)
+pub ready_admitted : (x : QueryLine) (ready : Ready) (lists : List Listed) → IsHere x ready.query lists → Screens ready.query lists (Ok ready.count)
     → map (λ list. list.source) lists ≡ ready.sources.items → IsAdmitted x ready
 ready_admitted x ready lists here screens sources =
     let many = listed_many x.view ready.query lists here.listed in
@@ -248,11 +248,11 @@ ready_admitted x ready lists here screens sources =
     }
 
 -- a query that was weighed over the lists of the line's view
-pub ready_weighed : (x : Line) (ready : Ready) → x.number ≤ most_queries → Reads x.bytes (Ok ready.query)
+pub ready_weighed : (x : QueryLine) (ready : Ready) → x.number ≤ most_queries → Reads x.bytes (Ok ready.query)
     → Weighs x.view ready.query (Fits ready.count ready.sources) → IsAdmitted x ready
 ready_weighed x ready few reads weighed = ready_admitted x ready weighed.0 (record { few = few; reads = reads; listed = weighed.1 }) weighed.2 weighed.3
 
-pub query_weighed : (x : Line) (q : Query) (refusal : Refusal) → x.number ≤ most_queries → Reads x.bytes (Ok q) → Weighs x.view q (NotReady refusal)
+pub query_weighed : (x : QueryLine) (q : Query) (refusal : Refusal) → x.number ≤ most_queries → Reads x.bytes (Ok q) → Weighs x.view q (NotReady refusal)
     → IsRefused admission_causes x refusal (Some q)
 query_weighed x q refusal few reads weighed =
     elim weighed [

@@ -17,13 +17,13 @@ use Rattle.query_core.specs.Driving.{AnswersOver}
 use Rattle.query_core.specs.Ready.{IsReady}
 use Rattle.query_core.proofs.Answering.{answered_short}
 use Rattle.query_admission.specs.View.{AreTold, count_of}
-use Rattle.query_admission.specs.Causes.{Line, Cause, admission_causes, Gives}
+use Rattle.query_admission.specs.Causes.{QueryLine, Cause, admission_causes, Gives}
 use Rattle.query_admission.specs.Admission.{IsRefused, IsAdmitted}
 use Rattle.query_admission.specs.Becomes.{Becomes}
 use Rattle.query_admission.proofs.Admitting.{read_once, lists_once}
 
 -- what admission refuses is refused
-pub refused_line : (x : Line) (refusal : Refusal) (query : Option Query) (count : ℕ) → IsRefused admission_causes x refusal query
+pub refused_line : (x : QueryLine) (refusal : Refusal) (query : Option Query) (count : ℕ) → IsRefused admission_causes x refusal query
     → Becomes x query count (Refused refusal)
 refused_line x refusal query count refused =
     let f = refused.first in
@@ -40,7 +40,7 @@ refused_line x refusal query count refused =
       named = refused.named;
     }
 
-pub refused_writable : (query : Option Query) (x : Line) (causes : List Cause) (refusal : Refusal) → IsRefused causes x refusal query
+pub refused_writable : (query : Option Query) (x : QueryLine) (causes : List Cause) (refusal : Refusal) → IsRefused causes x refusal query
     → IsOutcome query (Refused refusal)
 refused_writable None x causes refusal refused = refused.named
 refused_writable (Some q) x causes refusal refused = refused.named
@@ -56,7 +56,7 @@ told_once (rows ∷ D) (others ∷ E) e =
     ap (λ r. r ∷ D) here ∙ ap (λ ds. others ∷ ds) (told_once D E rest)
 
 -- a query that is ready is refused for its room
-pub full_line : (x : Line) (ready : Ready) (D : List (List Row)) (room count : ℕ) → IsAdmitted x ready → AreTold x.view ready.query D
+pub full_line : (x : QueryLine) (ready : Ready) (D : List (List Row)) (room count : ℕ) → IsAdmitted x ready → AreTold x.view ready.query D
     → IsOverRoom ready.query ready.count D room → Becomes x (Some ready.query) count (Refused (RoomFull room))
 full_line x ready D room count admitted told over = record {
   first = record {
@@ -78,7 +78,7 @@ full_line x ready D room count admitted told over = record {
 }
 
 -- a query that is ready and fits its room isn't refused
-fits_room : (x : Line) (ready : Ready) (D : List (List Row)) → IsAdmitted x ready → AreTold x.view ready.query D
+fits_room : (x : QueryLine) (ready : Ready) (D : List (List Row)) → IsAdmitted x ready → AreTold x.view ready.query D
     → ((room : ℕ) → ¬ IsOverRoom ready.query ready.count D room) → (refusal : Refusal) → ¬ Gives x Cause.room_full refusal
 fits_room x ready D admitted told fits refusal over =
     let q = ready.query in
@@ -96,7 +96,7 @@ one_more_cause : (P : Cause → Type 0) (causes : List Cause) (cause : Cause) �
 one_more_cause P causes cause all here = All-push P causes cause all here
 
 -- a query that is ready is answered
-pub answered_line : (x : Line) (ready : Ready) (D : List (List Row)) (answer : Answer) → IsAdmitted x ready → AreTold x.view ready.query D
+pub answered_line : (x : QueryLine) (ready : Ready) (D : List (List Row)) (answer : Answer) → IsAdmitted x ready → AreTold x.view ready.query D
     → AnswersOver ready D answer → Becomes x (Some ready.query) ready.count (Answered answer)
 answered_line x ready D answer admitted told over = record {
   unrefused = one_more_cause (λ cause. (refusal : Refusal) → ¬ Gives x cause refusal) admission_causes Cause.room_full admitted.unrefused (fits_room x ready D admitted told over.roomy);

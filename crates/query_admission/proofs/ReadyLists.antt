@@ -8,11 +8,11 @@ use Rattle.cert_text.specs.declared.refusal.Refusal.TheVariants.{NotOpened, Coun
 use Rattle.query_core.specs.declared.ready.Ready.{Ready}
 use Rattle.query_core.specs.Algorithms.{asks_grades}
 use Rattle.query_admission.specs.View.{size_passes, is_closed, differs, lacks_random, size_at}
-use Rattle.query_admission.specs.Causes.{Line, Cause, admission_causes, Gives}
+use Rattle.query_admission.specs.Causes.{QueryLine, Cause, admission_causes, Gives}
 use Rattle.query_admission.specs.Admission.{IsAdmitted}
 use Rattle.query_admission.proofs.Positions.{nothing, none_at, found_within, size_there}
 
-never : (x : Line) (ready : Ready) (cause : Cause) (place : ℕ) (refusal : Refusal) → IsAdmitted x ready → place < length admission_causes
+never : (x : QueryLine) (ready : Ready) (cause : Cause) (place : ℕ) (refusal : Refusal) → IsAdmitted x ready → place < length admission_causes
     → slice_index_or admission_causes place cause ≡ cause → ¬ Gives x cause refusal
 never x ready cause place refusal admitted l is = member_of_all (λ c. (any : Refusal) → ¬ Gives x c any) admission_causes cause admitted.unrefused (place, l, is) refusal
 
@@ -21,7 +21,7 @@ no_place : (found : Option ℕ) → ((place : ℕ) → found ≡ Some place → 
 no_place None none = refl
 no_place (Some place) none = absurd (none place refl)
 
-all_opened : (x : Line) (ready : Ready) (admitted : IsAdmitted x ready) → position is_closed admitted.lists ≡ None
+all_opened : (x : QueryLine) (ready : Ready) (admitted : IsAdmitted x ready) → position is_closed admitted.lists ≡ None
 all_opened x ready admitted = no_place (position is_closed admitted.lists) (λ place e.
     never x ready Cause.not_opened 3 (NotOpened place) admitted (omega arith) refl
     (record { query = ready.query; lists = admitted.lists; reads = admitted.reads; listed = admitted.listed; holds = (place, refl, e) }))
@@ -31,7 +31,7 @@ stated_size None e = absurd cc
 stated_size (Some n) e = (n, refl)
 
 -- each list was opened and states the count of the query
-all_same : (x : Line) (ready : Ready) (admitted : IsAdmitted x ready) → position (differs ready.count) admitted.lists ≡ None
+all_same : (x : QueryLine) (ready : Ready) (admitted : IsAdmitted x ready) → position (differs ready.count) admitted.lists ≡ None
 all_same x ready admitted = no_place (position (differs ready.count) admitted.lists) (λ place e.
     let lists = admitted.lists in
     let within = found_within (differs ready.count) lists place e in
@@ -44,7 +44,7 @@ all_same x ready admitted = no_place (position (differs ready.count) admitted.li
 same_number : (m n : ℕ) → not (m == n) ≡ false → m ≡ n
 same_number m n e = eqb-true m n (not-false (m == n) e)
 
-pub admitted_states : (x : Line) (ready : Ready) (admitted : IsAdmitted x ready) (place : ℕ) → place < length admitted.lists
+pub admitted_states : (x : QueryLine) (ready : Ready) (admitted : IsAdmitted x ready) (place : ℕ) → place < length admitted.lists
     → (slice_index_or admitted.lists place nothing).size ≡ Some ready.count
 admitted_states x ready admitted place within =
     let lists = admitted.lists in
@@ -55,7 +55,7 @@ admitted_states x ready admitted place within =
     stated.1 ∙ ap Some number
 
 -- where the algorithm asks for grades each list offers random access
-pub admitted_offers : (x : Line) (ready : Ready) (admitted : IsAdmitted x ready) → IsTrue (asks_grades ready.query.algorithm) → (place : ℕ)
+pub admitted_offers : (x : QueryLine) (ready : Ready) (admitted : IsAdmitted x ready) → IsTrue (asks_grades ready.query.algorithm) → (place : ℕ)
     → place < length admitted.lists → (slice_index_or admitted.lists place nothing).random ≡ true
 admitted_offers x ready admitted asks place within =
     let offered : position lacks_random admitted.lists ≡ None = no_place (position lacks_random admitted.lists) (λ at e.

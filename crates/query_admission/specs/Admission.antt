@@ -8,19 +8,19 @@ use Rattle.cert_text.specs.Outcome.{names_of}
 use Rattle.query_core.specs.declared.ready.Ready.{Ready}
 use Rattle.query_core.specs.Ready.{IsReady}
 use Rattle.query_admission.specs.View.{AreListed, count_of}
-use Rattle.query_admission.specs.Causes.{Line, Cause, admission_causes, Gives, NoneOf, IsFirstOf}
+use Rattle.query_admission.specs.Causes.{QueryLine, Cause, admission_causes, Gives, NoneOf, IsFirstOf}
 use Rattle.query_admission.specs.declared.lists.Listed.{Listed}
 use Rattle.query_admission.specs.declared.admitted.Admitted.{Admitted}
 use Rattle.query_admission.specs.declared.admitted.Admitted.TheVariants.{Ready as IsReadyNow, Refused}
 
 -- the line is refused for the first of the causes that holds; the query beside is the line's, and has the lists that the refusal names
-pub record IsRefused (causes : List Cause) (x : Line) (refusal : Refusal) (query : Option Query) : Type 0 where
+pub record IsRefused (causes : List Cause) (x : QueryLine) (refusal : Refusal) (query : Option Query) : Type 0 where
   pub first : IsFirstOf (Gives x) causes refusal
   pub reads : IfSome query (λ q. Reads x.bytes (Ok q))
   pub named : All (λ list. list < length (names_of query)) (refused_lists refusal)
 
 -- nothing refuses the line before it runs; it is ready with its query, with the count of that, and with the sources of its lists
-pub record IsAdmitted (x : Line) (ready : Ready) : Type 0 where
+pub record IsAdmitted (x : QueryLine) (ready : Ready) : Type 0 where
   pub unrefused : NoneOf (Gives x) admission_causes
   pub sound : IsReady ready
   pub reads : Reads x.bytes (Ok ready.query)
@@ -30,6 +30,6 @@ pub record IsAdmitted (x : Line) (ready : Ready) : Type 0 where
   pub sources : map (λ list. list.source) lists ≡ ready.sources.items
 
 -- what admission answers
-abbrev pub Admits : Line → Admitted → Type 0
+abbrev pub Admits : QueryLine → Admitted → Type 0
 Admits x (IsReadyNow ready) = IsAdmitted x ready
 Admits x (Refused refusal query) = IsRefused admission_causes x refusal query

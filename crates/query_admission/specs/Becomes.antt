@@ -9,12 +9,12 @@ use Rattle.cert_text.specs.declared.outcome.Outcome.{Outcome}
 use Rattle.cert_text.specs.declared.outcome.Outcome.TheVariants.{Answered, Refused}
 use Rattle.query_core.specs.OneAnswer.{IsAnswered}
 use Rattle.query_admission.specs.View.{AreListed, AreTold, count_of}
-use Rattle.query_admission.specs.Causes.{Line, line_causes, Gives, NoneOf}
+use Rattle.query_admission.specs.Causes.{QueryLine, line_causes, Gives, NoneOf}
 use Rattle.query_admission.specs.Admission.{IsRefused}
 use Rattle.query_admission.specs.declared.lists.Listed.{Listed}
 
 -- nothing refuses the line, and its query is answered over lists of so many objects: the answer is right, and where the rows of its lists are told they agree with its transcript
-pub record AnswersLine (x : Line) (q : Query) (count : ℕ) (answer : Answer) : Type 0 where
+pub record AnswersLine (x : QueryLine) (q : Query) (count : ℕ) (answer : Answer) : Type 0 where
   pub unrefused : NoneOf (Gives x) line_causes
   pub reads : Reads x.bytes (Ok q)
   pub lists : List Listed
@@ -24,7 +24,7 @@ pub record AnswersLine (x : Line) (q : Query) (count : ℕ) (answer : Answer) : 
   pub agrees : (D : List (List Row)) → AreTold x.view q D → AgreesWith D answer.transcript
 
 -- what becomes of a line: the query that it spells, where it was read; the count of its lists, where it's answered; and the outcome
-abbrev pub Becomes : Line → Option Query → ℕ → Outcome → Type 0
+abbrev pub Becomes : QueryLine → Option Query → ℕ → Outcome → Type 0
 Becomes x query count (Refused refusal) = IsRefused line_causes x refusal query
 Becomes x (Some q) count (Answered answer) = AnswersLine x q count answer
 Becomes x None count (Answered answer) = ⊥

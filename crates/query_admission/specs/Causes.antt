@@ -15,7 +15,7 @@ use Rattle.query_admission.specs.declared.lists.Listed.{Listed}
 use Rattle.limits.specs.declared.TheConstants.{MAX_QUERIES}
 
 -- a query line: the lists that it may name, its number in the input, from 1, and its bytes
-pub record Line : Type 0 where
+pub record QueryLine : Type 0 where
   pub view : View
   pub number : ℕ
   pub bytes : List ℕ
@@ -56,12 +56,12 @@ text_refusal (Big node) = Some (TooBig node)
 text_refusal Memory = None
 
 -- the line spells a query of which this holds; and a query over lists that are all there
-pub record Spelled (x : Line) (P : Query → Type 0) : Type 0 where
+pub record Spelled (x : QueryLine) (P : Query → Type 0) : Type 0 where
   pub query : Query
   pub reads : Reads x.bytes (Ok query)
   pub holds : P query
 
-pub record Over (x : Line) (P : Query → List Listed → Type 0) : Type 0 where
+pub record Over (x : QueryLine) (P : Query → List Listed → Type 0) : Type 0 where
   pub query : Query
   pub lists : List Listed
   pub reads : Reads x.bytes (Ok query)
@@ -82,7 +82,7 @@ ListsGive q lists Cause.no_random refusal =
 ListsGive q lists other refusal = ⊥
 
 -- the cause holds of the line, and gives this refusal
-abbrev pub Gives : Line → Cause → Refusal → Type 0
+abbrev pub Gives : QueryLine → Cause → Refusal → Type 0
 Gives x Cause.many_queries refusal = (refusal ≡ ManyQueries most_queries) × (most_queries < x.number)
 Gives x Cause.text refusal = (fault : QueryFault) × (text_refusal fault ≡ Some refusal) × Reads x.bytes (Err fault)
 Gives x Cause.unknown_list refusal = Spelled x (λ q. (list : ℕ) × (refusal ≡ UnknownList list) × (position is_none (map x.view.listed q.names) ≡ Some list))

@@ -136,7 +136,7 @@ room_ranges None h = tt
 room_ranges (Some r) h = (tt, (range_of 1 MAX_NUMBER r (count_small r h) h.0 h.1, tt))
 
 -- the syntax tree of a lawful query is one, its numbers are within their ranges, and its lists are the query's
-lawful_shape : (q : Query) → IsLawful q → IsShape (shape_of q)
+pub lawful_shape : (q : Query) → IsLawful q → IsShape (shape_of q)
 lawful_shape q h = record {
   k = number_is q.k (count_small q.k h.k);
   expr = written_fine q.expr q.names (Each-from IsName q.names h.names) (Each-from (λ l. l < length q.names) (lists_of q.expr) h.listed) h.weights;
@@ -272,10 +272,10 @@ range_at : (before : List Piece) (p : Piece) (after : List Piece) → AreInRange
 range_at [] p after h = h.0
 range_at (q ∷ before) p after h = range_at before p after h.1
 
-no_number_fault : (q : Query) (at : ℕ) → IsLawful q → IsNumberFault (pieces_of (shape_of q)) at → ⊥
+pub no_number_fault : (q : Query) (at : ℕ) → IsLawful q → IsNumberFault (pieces_of (shape_of q)) at → ⊥
 no_number_fault q at h f = f.outside (range_at f.before (Piece.number f.least f.most f.digits) f.after (subst AreInRange f.parts (lawful_ranges q h)))
 
-no_name_fault : (q : Query) (at : ℕ) → IsLawful q → IsNameFault (pieces_of (shape_of q)) at → ⊥
+pub no_name_fault : (q : Query) (at : ℕ) → IsLawful q → IsNameFault (pieces_of (shape_of q)) at → ⊥
 no_name_fault q at h f =
     let front = f.before ++ Piece.name f.text ∷ [] in
     let split : pieces_of (shape_of q) ≡ front ++ f.after = f.parts ∙ sym (append_assoc f.before (Piece.name f.text ∷ []) f.after) in

@@ -12,7 +12,7 @@ use Rattle.line_text.specs.Numbers.{is_empty, is_number}
 use Rattle.line_text.specs.Names.{is_name, is_name_byte}
 use Rattle.query_text.specs.Written.{Written, Arguments, IsNumber, IsWeight, IsWritten, AreArguments}
 use Rattle.query_text.specs.Pieces.{Piece, piece_text, text_of}
-use Rattle.query_text.specs.Shape.{Shape, IsShape, spelled, opening, algorithm_word, weight_pieces, expr_pieces, argument_pieces, further_pieces, algorithm_pieces, cost_pieces, room_pieces}
+use Rattle.query_text.specs.Shape.{SyntaxTree, IsShape, spelled, opening, algorithm_word, weight_pieces, expr_pieces, argument_pieces, further_pieces, algorithm_pieces, cost_pieces, room_pieces}
 use Rattle.query_text.specs.Words.{Class, opened_by, begins, is_whole}
 use Rattle.query_text.specs.Front.{Argument, Frame, Head, Front, class_of, reads, begun, opened, arguments_from, operand_read, is_weighted, shape_from, IsCost, IsRoom}
 use Rattle.query_text.specs.declared.algorithm.Algorithm.{Algorithm}
@@ -298,7 +298,7 @@ room_fine None h = tt
 room_fine (Some r) h = h
 
 -- each text of the shape is read as its syntax tree
-pub complete : (s : Shape) → IsShape s → reads Front.at_top [] (spelled s) ≡ Some s
+pub complete : (s : SyntaxTree) → IsShape s → reads Front.at_top [] (spelled s) ≡ Some s
 complete s sound =
     let options = cost_pieces s.cost ++ room_pieces s.room in
     let end = algorithm_pieces s.algorithm ++ options in
@@ -314,5 +314,5 @@ complete s sound =
     ∙ options_read (record { k = s.k; expr = s.expr; algorithm = s.algorithm }) s.cost s.room (cost_fine s.cost sound.cost) (room_fine s.room sound.room)))))))
 
 -- a text has one syntax tree
-pub one_shape : (s t : Shape) → IsShape s → IsShape t → spelled s ≡ spelled t → s ≡ t
+pub one_shape : (s t : SyntaxTree) → IsShape s → IsShape t → spelled s ≡ spelled t → s ≡ t
 one_shape s t a b e = same_Some _ _ (sym (complete s a) ∙ (ap (reads Front.at_top []) e ∙ complete t b))

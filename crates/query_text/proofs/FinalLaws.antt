@@ -16,7 +16,7 @@ use Rattle.monotone_fn.specs.Shown.{tree_of}
 use Rattle.monotone_fn.specs.declared.costs.Costs.{Costs}
 use Rattle.query_text.specs.Written.{Written, Arguments, IsWritten, AreArguments}
 use Rattle.query_text.specs.Pieces.{Piece, text_of, IsInRange, AreInRange, names_in, lists_in, with_member, each_once_after, each_once, AreFine}
-use Rattle.query_text.specs.Shape.{Shape, IsShape, spelled, count_piece, weight_pieces, expr_pieces, argument_pieces, further_pieces, algorithm_pieces, cost_pieces, room_pieces, pieces_of}
+use Rattle.query_text.specs.Shape.{SyntaxTree, IsShape, spelled, count_piece, weight_pieces, expr_pieces, argument_pieces, further_pieces, algorithm_pieces, cost_pieces, room_pieces, pieces_of}
 use Rattle.query_text.specs.Query.{written, arguments, weighted, name_of, cost_digits, shape_of, printed, lists_of, lists_among, lists_under, names_given, IsPlain, IsCount, IsLawful}
 use Rattle.query_text.specs.Front.{Front, stage_of, shape_at, shape_from}
 use Rattle.query_text.specs.Draft.{names_of, head_in, unset, priced, front_of}
@@ -34,10 +34,10 @@ use Rattle.query_text.proofs.StateLaws.{names_in-append}
 use Rattle.limits.specs.declared.TheConstants.{MAX_LISTS}
 
 -- the syntax tree that a draft shows
-shape_in : List (List ℕ) → Draft → Shape
+shape_in : List (List ℕ) → Draft → SyntaxTree
 shape_in names d = shape_from (head_in names d) (option_map cost_digits d.cost) (option_map decimal d.room)
 
-shape_shown : (names : List (List ℕ)) (s : Stage) (d : Draft) (shape : Shape) → may_end s ≡ true → shape_at (front_of names s d) ≡ Some shape
+shape_shown : (names : List (List ℕ)) (s : Stage) (d : Draft) (shape : SyntaxTree) → may_end s ≡ true → shape_at (front_of names s d) ≡ Some shape
     → shape ≡ shape_in names d
 unfolding shape_in
 shape_shown names stages.Top d shape may h = absurd (false≢true may)
@@ -104,7 +104,7 @@ names_in-room : (r : Option (List ℕ)) → names_in (room_pieces r) ≡ []
 names_in-room None = refl
 names_in-room (Some r) = refl
 
-pub names_in-shape : (s : Shape) → names_in (pieces_of s) ≡ names_in (expr_pieces s.expr)
+pub names_in-shape : (s : SyntaxTree) → names_in (pieces_of s) ≡ names_in (expr_pieces s.expr)
 names_in-shape s =
     names_in-append (expr_pieces s.expr) (algorithm_pieces s.algorithm ++ (cost_pieces s.cost ++ room_pieces s.room))
     ∙ (ap (λ z. names_in (expr_pieces s.expr) ++ z) (names_in-append (cost_pieces s.cost) (room_pieces s.room) ∙ (λ i. names_in-cost s.cost i ++ names_in-room s.room i))
@@ -208,7 +208,7 @@ listed_from names [] h = tt
 listed_from names (l ∷ ls) h = (within_names names l h.0, listed_from names ls h.1)
 
 -- what a draft of a whole line shows
-record IsShown (d : Draft) (s : Shape) : Type 0 where
+record IsShown (d : Draft) (s : SyntaxTree) : Type 0 where
   shape : s ≡ shape_of (query_in d)
   sound : IsShape (shape_of (query_in d))
   fine : AreFine (pieces_of (shape_of (query_in d)))

@@ -8,7 +8,7 @@ use Rattle.std.proofs.lemmas.Grind.{flat_map-append}
 use Rattle.line_text.specs.Names.{is_name}
 use Rattle.query_text.specs.Written.{Written, IsNumber, HasNoWeight, IsWeight, IsWritten, AreArguments, HasArgument}
 use Rattle.query_text.specs.Pieces.{Piece, piece_text, text_of}
-use Rattle.query_text.specs.Shape.{Shape, opening, algorithm_word, algorithms, weight_pieces, expr_pieces, argument_pieces, further_pieces, front_pieces, algorithm_pieces, cost_pieces, pieces_of, IsShape}
+use Rattle.query_text.specs.Shape.{SyntaxTree, opening, algorithm_word, algorithms, weight_pieces, expr_pieces, argument_pieces, further_pieces, front_pieces, algorithm_pieces, cost_pieces, pieces_of, IsShape}
 use Rattle.query_text.specs.Words.{opened_by, is_whole}
 use Rattle.query_text.specs.Front.{Argument, Frame, Front, stage_of, class_of, done_pieces, frame_pieces, open_pieces, pieces_before, next, shape_at, begun, opened, all_done, arguments_from, operand_read, argument_read, operand_piece, piece_at, is_weighted, AreDone, AreOpen, IsCost, IsRoom, IsFine, head_pieces}
 use Rattle.query_text.specs.declared.algorithm.Algorithm.{Algorithm}
@@ -279,11 +279,11 @@ fine-next (Front.at_room head c) w fine h = (fine.0.k, fine.0.expr, fine.1, h)
 fine-next (Front.at_end s) w fine h = absurd (false≢true h)
 
 -- the syntax tree of a front that is a whole text
-pub record IsWhole (f : Front) (s : Shape) : Type 0 where
+pub record IsWhole (f : Front) (s : SyntaxTree) : Type 0 where
   pub sound : IsShape s
   pub same : pieces_of s ≡ pieces_before f
 
-pub whole_at : (f : Front) (s : Shape) → IsFine f → shape_at f ≡ Some s → IsWhole f s
+pub whole_at : (f : Front) (s : SyntaxTree) → IsFine f → shape_at f ≡ Some s → IsWhole f s
 whole_at Front.at_top s fine h = absurd cc
 whole_at Front.at_count s fine h = absurd cc
 whole_at (Front.at_by k) s fine h = absurd cc

@@ -2,7 +2,7 @@
 use Rattle.std.proofs.Common.{◌≡◌, ℕ, suc, ◌+◌, ◌<◌, true, false, List, [], ◌∷◌, ◌++◌, length, take, Option, Some, None, is_some, refl, sym, ap, ◌∙◌, subst, arith, append_assoc}
 use Rattle.std.proofs.lemmas.Bool.{cond-false, false≢true, true≢false}
 use Rattle.std.proofs.lemmas.List.{append-nil, length-append}
-use Rattle.query_text.specs.Shape.{Shape, IsText, Begins, IsSyntaxFault}
+use Rattle.query_text.specs.Shape.{SyntaxTree, IsText, BeginsQuery, IsSyntaxFault}
 use Rattle.query_text.specs.Words.{Class, begins, is_whole}
 use Rattle.query_text.specs.Front.{Front, stage_of, class_of, next, shape_at, reads, IsFine}
 use Rattle.query_text.specs.Reached.{may_end, front_text, Follows}
@@ -56,7 +56,7 @@ short : (f : Front) (w : List ℕ) → Fits (class_of f) w → is_whole (class_o
     → Follows f (w ++ []) → reads Front.at_top [] (front_text f ++ w) ≡ None
 short f [] fits part goes h = ap (reads Front.at_top []) (append-nil (front_text f)) ∙ (h ∙ none (shape_at f) (ends_at f ∙ goes refl))
   where
-    none : (o : Option Shape) → is_some o ≡ false → o ≡ None
+    none : (o : Option SyntaxTree) → is_some o ≡ false → o ≡ None
     none None e = refl
     none (Some s) e = absurd (true≢false e)
 short f (y ∷ w) fits part goes h = h w ∙ reads-short f y w fits part
@@ -69,7 +69,7 @@ pub take-more : (a : List ℕ) (x : ℕ) (b : List ℕ) → take (suc (length a)
 take-more [] x b = refl
 take-more (y ∷ a) x b = ap (λ z. y ∷ z) (take-more a x b)
 
-some_none : (s : Shape) → Some s ≡ None → ⊥
+some_none : (s : SyntaxTree) → Some s ≡ None → ⊥
 some_none s e = absurd cc
 
 -- a line is refused where its longest word ends that isn't whole
@@ -79,12 +79,12 @@ refused f w t line at fine fits part stops goes h e place =
     subst (λ z. IsSyntaxFault z at) (sym (e ∙ sym (append_assoc (front_text f) w t))) (subst (IsSyntaxFault ((front_text f ++ w) ++ t)) (sym (place ∙ sym (length-append (front_text f) w))) (record {
       refused = not_text t stops goes h;
       within = omega (arith, length-append (front_text f ++ w) t);
-      begins = subst Begins (sym (take-front (front_text f ++ w) t)) (begun w fits);
+      begins = subst BeginsQuery (sym (take-front (front_text f ++ w) t)) (begun w fits);
       longest = no_longer t stops h;
     }))
   where
-    begun : (w : List ℕ) → Fits (class_of f) w → Begins (front_text f ++ w)
-    begun [] fits = subst Begins (sym (append-nil (front_text f))) (viable f fine)
+    begun : (w : List ℕ) → Fits (class_of f) w → BeginsQuery (front_text f ++ w)
+    begun [] fits = subst BeginsQuery (sym (append-nil (front_text f))) (viable f fine)
     begun (y ∷ w) fits = viable_within f (y ∷ w) fine fits
 
     not_text : (t : List ℕ) → Stops (class_of f) w t → (w ++ t ≡ [] → may_end (stage_of f) ≡ false) → Follows f (w ++ t) → IsText ((front_text f ++ w) ++ t) → ⊥
@@ -94,7 +94,7 @@ refused f w t line at fine fits part stops goes h e place =
         some_none is.shape (sym (complete is.shape is.sound) ∙ (ap (reads Front.at_top []) (is.same ∙ append_assoc (front_text f) w (x ∷ t)) ∙ stuck f w x t fits part stops h t))
 
     no_longer : (t : List ℕ) → Stops (class_of f) w t → Follows f (w ++ t) → length (front_text f ++ w) < length ((front_text f ++ w) ++ t)
-        → Begins (take (length (front_text f ++ w) + 1) ((front_text f ++ w) ++ t)) → ⊥
+        → BeginsQuery (take (length (front_text f ++ w) + 1) ((front_text f ++ w) ++ t)) → ⊥
     no_longer [] stops h l is = absurd (omega (arith, length-append (front_text f ++ w) []))
     no_longer (x ∷ t) stops h l is =
         let n = length (front_text f ++ w) in

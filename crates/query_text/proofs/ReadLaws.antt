@@ -4,7 +4,7 @@ use Rattle.std.specs.Str.{bytes_eq}
 use Rattle.std.proofs.lemmas.Bool.{false≢true}
 use Rattle.std.proofs.lemmas.List.{append-nil, length-append, take-append-drop, length-take, length-drop}
 use Rattle.query_text.specs.Pieces.{Piece, text_of, IsNumberFault, IsNameFault}
-use Rattle.query_text.specs.Shape.{Shape, IsSyntaxFault}
+use Rattle.query_text.specs.Shape.{SyntaxTree, IsSyntaxFault}
 use Rattle.query_text.specs.Words.{Class, opened_by, begins, is_whole, class_at, IsLongest}
 use Rattle.query_text.specs.Front.{Front, Frame, stage_of, frames_of, is_inside, class_of, next, shape_at, pieces_before, is_weighted, operand_read, argument_read, begun, opened, all_done, IsFine}
 use Rattle.query_text.specs.Course.{course_view, standing_of, is_open, at, argument_stage, behind_word, behind_operand, standing_next}
@@ -183,7 +183,7 @@ reach_start line course draft standing names frames plain = record {
     shown : (xs : List _) → xs ≡ [] → unopened xs Front.at_top ≡ Front.at_top
     shown xs e = ap (λ z. unopened z Front.at_top) e
 
-shape_some : (o : Option Shape) → is_some o ≡ true → (s : Shape) × (o ≡ Some s)
+shape_some : (o : Option SyntaxTree) → is_some o ≡ true → (s : SyntaxTree) × (o ≡ Some s)
 shape_some None e = absurd (false≢true e)
 shape_some (Some s) e = (s, refl)
 
@@ -201,7 +201,7 @@ whole_line line place course draft before r over =
 
 ended_at : (line : List ℕ) (place : ℕ) (course : Course) (draft : Draft) (before : Option QueryFault) → (r : Reached line place course draft before)
     → may_end course.stage ≡ true
-    → (s : Shape) × (shape_at r.front ≡ Some s)
+    → (s : SyntaxTree) × (shape_at r.front ≡ Some s)
 ended_at line place course draft before r may = shape_some (shape_at r.front) (ends_at r.front ∙ (ap may_end (sym (ap (λ s. s.stage) r.standing)) ∙ may))
 
 pub reach_draft : (line : List ℕ) (place : ℕ) (course : Course) (draft : Draft) → Reached line place course draft None → length line ≤ place

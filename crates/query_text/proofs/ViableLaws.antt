@@ -5,14 +5,14 @@ use Rattle.std.proofs.lemmas.Bool.{and_parts, or_cases, false≢true, or_left, o
 use Rattle.std.proofs.lemmas.List.{append-nil}
 use Rattle.query_text.specs.Written.{Written}
 use Rattle.query_text.specs.Pieces.{text_of}
-use Rattle.query_text.specs.Shape.{Shape, Begins}
+use Rattle.query_text.specs.Shape.{SyntaxTree, BeginsQuery}
 use Rattle.query_text.specs.Words.{Class, is_front, begins, is_whole}
 use Rattle.query_text.specs.Front.{Frame, Head, Front, class_of, pieces_before, next, shape_at, all_done, arguments_from, IsFine}
 use Rattle.query_text.proofs.WordLaws.{bytes_same}
 use Rattle.query_text.proofs.FrontLaws.{text-next, fine-next, whole_at}
 
 -- a front of a front begins what the longer one begins
-begins_shorter : (a w u v : List ℕ) → u ++ v ≡ w → Begins (a ++ w) → Begins (a ++ u)
+begins_shorter : (a w u v : List ℕ) → u ++ v ≡ w → BeginsQuery (a ++ w) → BeginsQuery (a ++ u)
 begins_shorter a w u v e h = record {
   shape = h.shape;
   sound = h.sound;
@@ -21,60 +21,60 @@ begins_shorter a w u v e h = record {
 }
 
 -- a front with a part of a word begins what the front with the whole word begins
-back : (f : Front) (w u v : List ℕ) → IsFine f → is_whole (class_of f) w ≡ true → u ++ v ≡ w → Begins (text_of (pieces_before (next f w)))
-    → Begins (text_of (pieces_before f) ++ u)
-back f w u v fine whole e h = begins_shorter (text_of (pieces_before f)) w u v e (subst Begins (text-next f w fine whole) h)
+back : (f : Front) (w u v : List ℕ) → IsFine f → is_whole (class_of f) w ≡ true → u ++ v ≡ w → BeginsQuery (text_of (pieces_before (next f w)))
+    → BeginsQuery (text_of (pieces_before f) ++ u)
+back f w u v fine whole e h = begins_shorter (text_of (pieces_before f)) w u v e (subst BeginsQuery (text-next f w fine whole) h)
 
 -- a front goes on by a word
-by : (f : Front) (w : List ℕ) → IsFine f → is_whole (class_of f) w ≡ true → (IsFine (next f w) → Begins (text_of (pieces_before (next f w))))
-    → Begins (text_of (pieces_before f))
+by : (f : Front) (w : List ℕ) → IsFine f → is_whole (class_of f) w ≡ true → (IsFine (next f w) → BeginsQuery (text_of (pieces_before (next f w))))
+    → BeginsQuery (text_of (pieces_before f))
 by f w fine whole later =
-    subst Begins (append-nil (text_of (pieces_before f))) (back f w [] w fine whole refl (later (fine-next f w fine whole)))
+    subst BeginsQuery (append-nil (text_of (pieces_before f))) (back f w [] w fine whole refl (later (fine-next f w fine whole)))
 
 -- a front that is a whole text
-ended : (f : Front) (s : Shape) → shape_at f ≡ Some s → IsFine f → Begins (text_of (pieces_before f))
+ended : (f : Front) (s : SyntaxTree) → shape_at f ≡ Some s → IsFine f → BeginsQuery (text_of (pieces_before f))
 ended f s is fine =
     let w = whole_at f s fine is in
     record { shape = s; sound = w.sound; rest = []; same = ap text_of w.same ∙ sym (append-nil (text_of (pieces_before f))) }
 
-viable_random : (h : Head) (d : List ℕ) → IsFine (Front.at_random h d) → Begins (text_of (pieces_before (Front.at_random h d)))
+viable_random : (h : Head) (d : List ℕ) → IsFine (Front.at_random h d) → BeginsQuery (text_of (pieces_before (Front.at_random h d)))
 viable_random h d fine = by (Front.at_random h d) (codes "1") fine refl (ended (Front.at_priced h (d, codes "1")) _ refl)
 
-viable_between : (h : Head) (d : List ℕ) → IsFine (Front.at_between h d) → Begins (text_of (pieces_before (Front.at_between h d)))
+viable_between : (h : Head) (d : List ℕ) → IsFine (Front.at_between h d) → BeginsQuery (text_of (pieces_before (Front.at_between h d)))
 viable_between h d fine = by (Front.at_between h d) (codes " ") fine refl (viable_random h d)
 
-viable_sorted : (h : Head) → IsFine (Front.at_sorted h) → Begins (text_of (pieces_before (Front.at_sorted h)))
+viable_sorted : (h : Head) → IsFine (Front.at_sorted h) → BeginsQuery (text_of (pieces_before (Front.at_sorted h)))
 viable_sorted h fine = by (Front.at_sorted h) (codes "1") fine refl (viable_between h (codes "1"))
 
-viable_room : (h : Head) (c : Option (List ℕ × List ℕ)) → IsFine (Front.at_room h c) → Begins (text_of (pieces_before (Front.at_room h c)))
+viable_room : (h : Head) (c : Option (List ℕ × List ℕ)) → IsFine (Front.at_room h c) → BeginsQuery (text_of (pieces_before (Front.at_room h c)))
 viable_room h c fine = by (Front.at_room h c) (codes "1") fine refl (ended (next (Front.at_room h c) (codes "1")) _ refl)
 
-viable_algorithm : (k : List ℕ) (e : Written) → IsFine (Front.at_algorithm k e) → Begins (text_of (pieces_before (Front.at_algorithm k e)))
+viable_algorithm : (k : List ℕ) (e : Written) → IsFine (Front.at_algorithm k e) → BeginsQuery (text_of (pieces_before (Front.at_algorithm k e)))
 viable_algorithm k e fine = by (Front.at_algorithm k e) (codes "ta") fine refl (ended (next (Front.at_algorithm k e) (codes "ta")) _ refl)
 
-viable_behind : (fs : List Frame) (k : List ℕ) (e : Written) → IsFine (Front.at_behind k fs e) → Begins (text_of (pieces_before (Front.at_behind k fs e)))
+viable_behind : (fs : List Frame) (k : List ℕ) (e : Written) → IsFine (Front.at_behind k fs e) → BeginsQuery (text_of (pieces_before (Front.at_behind k fs e)))
 viable_behind [] k e fine = by (Front.at_behind k [] e) (codes " using ") fine refl (viable_algorithm k e)
 viable_behind (f ∷ fs) k e fine =
     by (Front.at_behind k (f ∷ fs) e) (codes ")") fine refl (viable_behind fs k (Written.call f.operator (arguments_from (all_done f e))))
 
-viable_operand : (k : List ℕ) (fs : List Frame) → IsFine (Front.at_operand k fs) → Begins (text_of (pieces_before (Front.at_operand k fs)))
+viable_operand : (k : List ℕ) (fs : List Frame) → IsFine (Front.at_operand k fs) → BeginsQuery (text_of (pieces_before (Front.at_operand k fs)))
 viable_operand k fs fine = by (Front.at_operand k fs) (codes "A") fine refl (viable_behind fs k (Written.name (codes "A")))
 
-viable_times : (k : List ℕ) (fs : List Frame) (d : List ℕ) → IsFine (Front.at_times k fs d) → Begins (text_of (pieces_before (Front.at_times k fs d)))
+viable_times : (k : List ℕ) (fs : List Frame) (d : List ℕ) → IsFine (Front.at_times k fs d) → BeginsQuery (text_of (pieces_before (Front.at_times k fs d)))
 viable_times k [] d fine = elim fine.1 [ ]
 viable_times k (f ∷ fs) d fine = by (Front.at_times k (f ∷ fs) d) (codes "*") fine refl (viable_operand k (record f { weight = Some d } ∷ fs))
 
-viable_weight : (k : List ℕ) (fs : List Frame) → IsFine (Front.at_weight k fs) → Begins (text_of (pieces_before (Front.at_weight k fs)))
+viable_weight : (k : List ℕ) (fs : List Frame) → IsFine (Front.at_weight k fs) → BeginsQuery (text_of (pieces_before (Front.at_weight k fs)))
 viable_weight k fs fine = by (Front.at_weight k fs) (codes "1") fine refl (viable_times k fs (codes "1"))
 
-viable_by : (k : List ℕ) → IsFine (Front.at_by k) → Begins (text_of (pieces_before (Front.at_by k)))
+viable_by : (k : List ℕ) → IsFine (Front.at_by k) → BeginsQuery (text_of (pieces_before (Front.at_by k)))
 viable_by k fine = by (Front.at_by k) (codes " by ") fine refl (viable_operand k [])
 
-viable_count : Begins (text_of (pieces_before Front.at_count))
+viable_count : BeginsQuery (text_of (pieces_before Front.at_count))
 viable_count = by Front.at_count (codes "1") tt refl (viable_by (codes "1"))
 
 -- each well-formed front begins some text of the shape
-pub viable : (f : Front) → IsFine f → Begins (text_of (pieces_before f))
+pub viable : (f : Front) → IsFine f → BeginsQuery (text_of (pieces_before f))
 viable Front.at_top fine = by Front.at_top (codes "top ") tt refl (λ _. viable_count)
 viable Front.at_count fine = viable_count
 viable (Front.at_by k) fine = viable_by k fine
@@ -125,7 +125,7 @@ completes Class.operand [] h = record { word = codes "A"; rest = codes "A"; whol
 completes Class.operand (x ∷ u) h = itself Class.operand (x ∷ u) h
 
 -- a front and what begins its next word begin some text of the shape
-pub viable_within : (f : Front) (u : List ℕ) → IsFine f → begins (class_of f) u ≡ true → Begins (text_of (pieces_before f) ++ u)
+pub viable_within : (f : Front) (u : List ℕ) → IsFine f → begins (class_of f) u ≡ true → BeginsQuery (text_of (pieces_before f) ++ u)
 viable_within f u fine h =
     let c = completes (class_of f) u h in
     back f c.word u c.rest fine c.whole c.same (viable (next f c.word) (fine-next f c.word fine c.whole))

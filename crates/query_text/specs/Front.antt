@@ -5,7 +5,7 @@ use Rattle.std.specs.Str.{bytes_eq}
 use Rattle.line_text.specs.Numbers.{is_empty}
 use Rattle.query_text.specs.Written.{Written, Arguments, IsNumber, IsWeight, IsWritten}
 use Rattle.query_text.specs.Pieces.{Piece}
-use Rattle.query_text.specs.Shape.{Shape, algorithm_word, algorithms, opening, count_piece, weight_pieces, expr_pieces, front_pieces, algorithm_pieces, cost_pieces, pieces_of}
+use Rattle.query_text.specs.Shape.{SyntaxTree, algorithm_word, algorithms, opening, count_piece, weight_pieces, expr_pieces, front_pieces, algorithm_pieces, cost_pieces, pieces_of}
 use Rattle.query_text.specs.Words.{Class, opened_by, begins, is_whole, class_at}
 use Rattle.query_text.specs.declared.algorithm.Algorithm.{Algorithm}
 use Rattle.query_text.specs.declared.algorithm.Algorithm.TheVariants.{Ta}
@@ -47,10 +47,10 @@ pub data Front : Type 0 where
   at_random : Head → List ℕ → Front
   at_priced : Head → List ℕ × List ℕ → Front
   at_room : Head → Option (List ℕ × List ℕ) → Front
-  at_end : Shape → Front
+  at_end : SyntaxTree → Front
 
 -- a head with its options
-abbrev pub shape_from : Head → Option (List ℕ × List ℕ) → Option (List ℕ) → Shape
+abbrev pub shape_from : Head → Option (List ℕ × List ℕ) → Option (List ℕ) → SyntaxTree
 shape_from head cost room = record { k = head.k; expr = head.expr; algorithm = head.algorithm; cost = cost; room = room }
 
 -- which piece comes next
@@ -213,7 +213,7 @@ next (Front.at_room head cost) word = Front.at_end (shape_from head cost (Some w
 next (Front.at_end shape) word = Front.at_end shape
 
 -- the syntax tree of a front that is a whole text
-abbrev pub shape_at : Front → Option Shape
+abbrev pub shape_at : Front → Option SyntaxTree
 shape_at Front.at_top = None
 shape_at Front.at_count = None
 shape_at (Front.at_by k) = None
@@ -231,7 +231,7 @@ shape_at (Front.at_room head cost) = None
 shape_at (Front.at_end shape) = Some shape
 
 -- what is read byte by byte behind a front and a part of its next word: each word is as long as it can be
-abbrev pub reads : Front → List ℕ → List ℕ → Option Shape
+abbrev pub reads : Front → List ℕ → List ℕ → Option SyntaxTree
 reads front word [] = if is_empty word then shape_at front else (if is_whole (class_of front) word then shape_at (next front word) else None)
 reads front word (byte ∷ text) =
     if begins (class_of front) (word ++ byte ∷ []) then reads front (word ++ byte ∷ []) text

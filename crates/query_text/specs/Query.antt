@@ -7,7 +7,7 @@ use Rattle.monotone_fn.specs.Tree.{Tree, Trees, Terms}
 use Rattle.monotone_fn.specs.declared.costs.Costs.{Costs}
 use Rattle.query_text.specs.Written.{Written, Arguments}
 use Rattle.query_text.specs.Pieces.{each_once}
-use Rattle.query_text.specs.Shape.{Shape, spelled}
+use Rattle.query_text.specs.Shape.{SyntaxTree, spelled}
 use Rattle.query_text.specs.declared.query.Query.{Query}
 use Rattle.query_text.specs.declared.operator.Operator.TheVariants.{Min, Max, Sum, Median, Wsum}
 use Rattle.limits.specs.declared.TheConstants.{MAX_LISTS, MAX_NUMBER, MAX_WEIGHT}
@@ -39,7 +39,7 @@ abbrev pub cost_digits : Costs → List ℕ × List ℕ
 cost_digits costs = (decimal costs.sorted, decimal costs.random)
 
 -- the syntax tree of a query
-abbrev pub shape_of : Query → Shape
+abbrev pub shape_of : Query → SyntaxTree
 shape_of query = record {
   k = decimal query.k;
   expr = written query.names query.expr;

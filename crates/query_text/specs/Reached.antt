@@ -1,7 +1,7 @@
 -- Where a reader of a query line stands, and what it knows.
 use Rattle.std.specs.Prelude.{◌≡◌, ℕ, ◌≤◌, Bool, true, false, List, [], ◌∷◌, ◌++◌, length, take, drop, ◌+◌, Option, Some, None, Result, Ok, Err}
 use Rattle.query_text.specs.Pieces.{Piece, text_of, lists_in, AreFine, IsNumberFault, IsNameFault}
-use Rattle.query_text.specs.Shape.{Shape, IsShape, IsSyntaxFault, spelled, pieces_of}
+use Rattle.query_text.specs.Shape.{SyntaxTree, IsShape, IsSyntaxFault, spelled, pieces_of}
 use Rattle.query_text.specs.Words.{class_at, is_whole, IsLongest}
 use Rattle.query_text.specs.Front.{Front, stage_of, shape_at, reads, pieces_before, IsFine}
 use Rattle.query_text.specs.Course.{course_view, standing_of, is_open}
@@ -73,7 +73,7 @@ pub record Reached (line : List ℕ) (at : ℕ) (course : Course) (draft : Draft
 -- a draft is what the whole line means
 pub record IsDraftOf (line : List ℕ) (draft : Draft) : Type 0 where
   pub front : Front
-  pub shape : Shape
+  pub shape : SyntaxTree
   pub fine : IsFine front
   pub ended : shape_at front ≡ Some shape
   pub text : front_text front ≡ line
@@ -81,7 +81,7 @@ pub record IsDraftOf (line : List ℕ) (draft : Draft) : Type 0 where
 
 -- the line is of the shape and its pieces have a fault
 pub record IsPieceFault (line : List ℕ) (IsFault : List Piece → Type 0) : Type 0 where
-  pub shape : Shape
+  pub shape : SyntaxTree
   pub sound : IsShape shape
   pub text : spelled shape ≡ line
   pub fault : IsFault (pieces_of shape)

@@ -3,7 +3,7 @@ use Rattle.std.specs.Prelude.{◌≡◌, ◌⊎◌, ◌<◌, ◌≤◌, ℕ, Lis
 use Rattle.monotone_fn.specs.Limits.{IsExpr, Makes}
 use Rattle.monotone_fn.specs.declared.fault.ExprFault.TheVariants.{TooManyNodes as ManyNodes, TooDeep as Deep, TooBig as Big}
 use Rattle.query_text.specs.Pieces.{Piece, IsNumberFault, IsNameFault}
-use Rattle.query_text.specs.Shape.{Shape, IsShape, pieces_of, spelled, IsSyntaxFault}
+use Rattle.query_text.specs.Shape.{SyntaxTree, IsShape, pieces_of, spelled, IsSyntaxFault}
 use Rattle.query_text.specs.Query.{printed, IsLawful}
 use Rattle.query_text.specs.declared.query.Query.{Query}
 use Rattle.query_text.specs.declared.fault.QueryFault.{QueryFault}
@@ -19,7 +19,7 @@ pub record Spells (line : List ℕ) (query : Query) : Type 0 where
 -- the line is of the shape, and its pieces have this fault
 pub record HasFault (line : List ℕ) (IsFault : List Piece → Type 0) : Type 0 where
   pub short : length line ≤ MAX_LINE
-  pub shape : Shape
+  pub shape : SyntaxTree
   pub sound : IsShape shape
   pub text : spelled shape ≡ line
   pub fault : IsFault (pieces_of shape)

@@ -54,7 +54,7 @@ abbrev mutual
   further_pieces (Arguments.argument_then weight next rest) = Piece.fixed (codes ",") ∷ (weight_pieces weight ++ (expr_pieces next ++ further_pieces rest))
 
 -- a query text as a syntax tree: numbers by their digits
-pub record Shape : Type 0 where
+pub record SyntaxTree : Type 0 where
   pub k : List ℕ
   pub expr : Written
   pub algorithm : Algorithm
@@ -78,15 +78,15 @@ abbrev pub algorithm_pieces : Algorithm → List Piece
 algorithm_pieces algorithm = Piece.fixed (codes " using ") ∷ Piece.fixed (algorithm_word algorithm) ∷ []
 
 -- the pieces of a query text
-abbrev pub pieces_of : Shape → List Piece
+abbrev pub pieces_of : SyntaxTree → List Piece
 pieces_of shape = front_pieces shape.k ++ (expr_pieces shape.expr ++ (algorithm_pieces shape.algorithm ++ (cost_pieces shape.cost ++ room_pieces shape.room)))
 
 -- the text that a syntax tree spells
-abbrev pub spelled : Shape → List ℕ
+abbrev pub spelled : SyntaxTree → List ℕ
 spelled shape = text_of (pieces_of shape)
 
 -- the syntax tree is one: its numbers are numbers, of any length, and its expression is well formed
-pub record IsShape (shape : Shape) : Type 0 where
+pub record IsShape (shape : SyntaxTree) : Type 0 where
   pub k : IsNumber shape.k
   pub expr : IsWritten shape.expr
   pub cost : IfSome shape.cost (λ cost. IsNumber cost.0 × IsNumber cost.1)
@@ -94,13 +94,13 @@ pub record IsShape (shape : Shape) : Type 0 where
 
 -- the text is of the shape of query text
 pub record IsText (text : List ℕ) : Type 0 where
-  pub shape : Shape
+  pub shape : SyntaxTree
   pub sound : IsShape shape
   pub same : spelled shape ≡ text
 
 -- some text of the shape begins so
-pub record Begins (front : List ℕ) : Type 0 where
-  pub shape : Shape
+pub record BeginsQuery (front : List ℕ) : Type 0 where
+  pub shape : SyntaxTree
   pub sound : IsShape shape
   pub rest : List ℕ
   pub same : spelled shape ≡ front ++ rest
@@ -109,5 +109,5 @@ pub record Begins (front : List ℕ) : Type 0 where
 pub record IsSyntaxFault (text : List ℕ) (at : ℕ) : Type 0 where
   pub refused : IsText text → ⊥
   pub within : at ≤ length text
-  pub begins : Begins (take at text)
-  pub longest : at < length text → Begins (take (at + 1) text) → ⊥
+  pub begins : BeginsQuery (take at text)
+  pub longest : at < length text → BeginsQuery (take (at + 1) text) → ⊥

@@ -21,7 +21,7 @@ use Rattle.machine_base.specs.declared.base.Base.{Base}
 use Rattle.machine_base.specs.Base.{shown}
 use Rattle.machine_base.proofs.Held.{held_asked}
 use Rattle.machine_base.proofs.Makes.{answer_by}
-use Rattle.ta_core.specs.Reading.{Reading, first_or_zero, need_at}
+use Rattle.ta_core.specs.Reading.{RowProgress, first_or_zero, need_at}
 use Rattle.ta_core.specs.OnTable.{OnBoard}
 use Rattle.ta_core.specs.Kept.{Keeps}
 use Rattle.ta_core.specs.Machine.{IsAnswer}
@@ -29,7 +29,7 @@ use Rattle.ta_core.proofs.BoardSteps.{board_first}
 use Rattle.ta_core.proofs.Runs.{need_in_row, need_after_row}
 use Rattle.ta_core.proofs.Steps.{made_of_reading}
 
-done_from_need : (m : ℕ) (r : Reading) → need_at m r ≡ Done → r.done ≡ true
+done_from_need : (m : ℕ) (r : RowProgress) → need_at m r ≡ Done → r.done ≡ true
 done_from_need m r e =
     elim (cases_Bool r.done) [
       | inl done ↦ done
@@ -45,7 +45,7 @@ done_from_need m r e =
     not_grade : (l o : ℕ) → Grade l o ≡ Done → ⊥
     not_grade l o e = cc
 
-pub answers : (base : Base) (board : Held) (r : Reading) (items : List Item) → Keeps base board r → need_at base.transcript.lists r ≡ Done
+pub answers : (base : Base) (board : Held) (r : RowProgress) (items : List Item) → Keeps base board r → need_at base.transcript.lists r ≡ Done
     → ((others : List Item) → IsFirstK board.k board.items others → others ≡ items) → IsAnswer (shown base (need_at base.transcript.lists r)) items
 answers base board r items kept done only =
     let V = value base.expr in

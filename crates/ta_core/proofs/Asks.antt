@@ -22,7 +22,7 @@ use Rattle.ranked_list.proofs.RankLaws.{no_row}
 use Rattle.topk_theory.proofs.ThresholdTables.{place_in-lt, object-at_place}
 use Rattle.topk_theory.proofs.ThresholdDepth.{list_holds, table_holds}
 use Rattle.topk_theory.proofs.ThresholdRun.{row_object, random_block_lower}
-use Rattle.ta_core.specs.Reading.{Reading, grades_in_row, filled, filled_first, first_or_zero, with_new, row_added, grade_added, row_begun}
+use Rattle.ta_core.specs.Reading.{RowProgress, grades_in_row, filled, filled_first, first_or_zero, with_new, row_added, grade_added, row_begun}
 use Rattle.ta_core.specs.OnTable.{objects_at, bottoms_at, OnRow, asks, AreFirstGrades, OnAsks}
 use Rattle.machine_base.proofs.Depths.{next_reached}
 use Rattle.machine_base.proofs.Rows.{read_none}
@@ -69,7 +69,7 @@ first_grades n D depth [] t positive within = tt
 first_grades n D depth (object ∷ waiting) t positive within = row_grades n D D depth object t (λ rows h. h) positive within
 
 -- the last row of a depth
-pub row_is_last : (V : List ℕ → ℕ) (k n : ℕ) (D : List (List Row)) (A : List Access) (r : Reading) (row : Row) (is_new : Bool) → OnRow V k n D A r
+pub row_is_last : (V : List ℕ → ℕ) (k n : ℕ) (D : List (List Row)) (A : List Access) (r : RowProgress) (row : Row) (is_new : Bool) → OnRow V k n D A r
     → Agrees (length D) n D (A ++ Sorted (length r.objects) row.object row.grade ∷ []) → (is_new ≡ true → ¬ Contains (seen_objects A) row.object)
     → (is_new ≡ false → Contains (seen_objects A) row.object) → suc (length r.objects) ≡ length D
     → OnAsks V k n D (A ++ Sorted (length r.objects) row.object row.grade ∷ []) (row_added (length D) r row is_new)
@@ -127,7 +127,7 @@ stands_lower n D rows depth object t h positive o new other =
     ]
 
 -- one more grade of the first object that waits
-pub grade_goes_on : (V : List ℕ → ℕ) (k n : ℕ) (D : List (List Row)) (A : List Access) (r : Reading) (object : ℕ) (waiting : List ℕ) (grade : ℕ)
+pub grade_goes_on : (V : List ℕ → ℕ) (k n : ℕ) (D : List (List Row)) (A : List Access) (r : RowProgress) (object : ℕ) (waiting : List ℕ) (grade : ℕ)
     → OnAsks V k n D A r → r.waiting ≡ object ∷ waiting → length r.grades < length D → slice_index r.objects (length r.grades) ≢ object
     → Agrees (length D) n D (A ++ Random (length r.grades) object grade ∷ [])
     → OnAsks V k n D (A ++ Random (length r.grades) object grade ∷ []) (grade_added r grade)
@@ -198,13 +198,13 @@ grade_goes_on V k n D A r object waiting grade on is short other agrees =
     contains_dropped (y ∷ xs) (suc k) x h = contains_there y xs x (contains_dropped xs k x h)
 
 -- an object whose grades are all there
-pub all_grades : (V : List ℕ → ℕ) (k n : ℕ) (D : List (List Row)) (A : List Access) (r : Reading) (object : ℕ) (waiting : List ℕ) → OnAsks V k n D A r
+pub all_grades : (V : List ℕ → ℕ) (k n : ℕ) (D : List (List Row)) (A : List Access) (r : RowProgress) (object : ℕ) (waiting : List ℕ) → OnAsks V k n D A r
     → r.waiting ≡ object ∷ waiting → length r.grades ≡ length D → V r.grades ≡ aggregate V D object
 all_grades V k n D A r object waiting on is whole =
     let known : r.grades ≡ take (length r.grades) (grades_of D object) = subst (λ ws. AreFirstGrades D ws r.grades) is on.grades_are in
     ap V (known ∙ take_all (length r.grades) (grades_of D object) (omega (arith, whole, length-map (λ (rows : List Row). grade_in rows object) D)))
 
-pub object_settles : (V : List ℕ → ℕ) (k n : ℕ) (D : List (List Row)) (A : List Access) (r : Reading) (object : ℕ) (waiting : List ℕ) → OnAsks V k n D A r
+pub object_settles : (V : List ℕ → ℕ) (k n : ℕ) (D : List (List Row)) (A : List Access) (r : RowProgress) (object : ℕ) (waiting : List ℕ) → OnAsks V k n D A r
     → r.waiting ≡ object ∷ waiting → length r.grades ≡ length D → OnAsks V k n D A (record r { waiting = waiting; grades = [] })
 object_settles V k n D A r object waiting on is whole = record {
   at = on.at;
@@ -229,11 +229,11 @@ object_settles V k n D A r object waiting on is whole = record {
     asks_anew (o ∷ ws) = refl
 
 -- a whole row of which nothing waits
-pub row_is_made : (V : List ℕ → ℕ) (k n : ℕ) (D : List (List Row)) (A : List Access) (r : Reading) → OnAsks V k n D A r → r.waiting ≡ []
+pub row_is_made : (V : List ℕ → ℕ) (k n : ℕ) (D : List (List Row)) (A : List Access) (r : RowProgress) → OnAsks V k n D A r → r.waiting ≡ []
     → A ≡ ta_run_to D r.depth
 row_is_made V k n D A r on is = sym (append-nil A) ∙ ap (λ ws. A ++ asks D r.depth ws r.grades) (sym is) ∙ on.ahead
 
-pub row_follows : (V : List ℕ → ℕ) (k n : ℕ) (D : List (List Row)) (A : List Access) (r : Reading) → IsMonotone V → IsAsked k n D → OnAsks V k n D A r
+pub row_follows : (V : List ℕ → ℕ) (k n : ℕ) (D : List (List Row)) (A : List Access) (r : RowProgress) → IsMonotone V → IsAsked k n D → OnAsks V k n D A r
     → r.waiting ≡ [] → ta_stop V k D r.depth ≡ false → OnRow V k n D A (row_begun (r.depth + 1))
 row_follows V k n D A r monotone asked on is goes = record {
   at = next_reached (ta_stop V k D) n (ta_depth V k D) r.depth (own V k n D monotone asked) on.at goes;

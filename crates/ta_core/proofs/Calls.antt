@@ -21,7 +21,7 @@ use Rattle.machine_base.specs.declared.base.Base.{Base}
 use Rattle.machine_base.specs.Base.{shown, IsHeld, Holds, IsReserved, IsTold, CanTake, TellsNew}
 use Rattle.machine_base.proofs.Held.{carried, some_before, takes}
 use Rattle.machine_base.proofs.Reserve.{row_can}
-use Rattle.ta_core.specs.Reading.{Reading, first_or_zero, with_new, row_added, grade_added, row_begun, need_at}
+use Rattle.ta_core.specs.Reading.{RowProgress, first_or_zero, with_new, row_added, grade_added, row_begun, need_at}
 use Rattle.ta_core.specs.Kept.{IsKept, Keeps, Stands}
 use Rattle.ta_core.proofs.BoardSteps.{waits_from, place_filled, place_left}
 use Rattle.ta_core.proofs.Runs.{need_in_row, need_after_row, need_when_done, kept_depth, first_is_member, first_seen}
@@ -30,20 +30,20 @@ use Rattle.ta_core.proofs.Feeds.{board_then, reading_then, kept_start, kept_row,
 use Rattle.ta_core.proofs.Unasked.{waiting_unasked}
 
 -- at the beginning
-pub stands_start : (e : Tree) (k n room : ℕ) (costs : Costs) (base : Base) (board : Held) (r : Reading) → IsBegun e k n room costs (shown base Done)
+pub stands_start : (e : Tree) (k n room : ℕ) (costs : Costs) (base : Base) (board : Held) (r : RowProgress) → IsBegun e k n room costs (shown base Done)
     → Holds base → IsReserved base → board.k ≡ k → board.room ≡ min room n → board.items ≡ [] → r ≡ row_begun 1 → Stands base board r
 stands_start e k n room costs base board r begun held reserved same_k same_room empty is =
     let m : ℕ = base.transcript.lists in
     let count : ℕ = base.transcript.count in
     record {
       kept = subst (λ A. IsKept base.expr base.k base.room m count A board r) (sym begun.none)
-          (subst (λ (s : Reading). IsKept base.expr base.k base.room m count [] board s) (sym is)
+          (subst (λ (s : RowProgress). IsKept base.expr base.k base.room m count [] board s) (sym is)
           (kept_start base.expr base.k base.room m count board (subst (IsHeld base.expr base.k base.room m count) begun.none held) (same_k ∙ sym begun.asked) (same_room ∙ sym begun.in_force) empty));
       reserved = reserved;
     }
 
 -- a row that may be next
-pub next_row_is : (log : Log) (r : Reading) (row : Row) → MayBeNextRow log (need_at log.lists r) row
+pub next_row_is : (log : Log) (r : RowProgress) (row : Row) → MayBeNextRow log (need_at log.lists r) row
     → (r.done ≡ false) × (length r.objects < log.lists) × (row.grade ≤ 1000000)
 next_row_is log r row may =
     elim (cases_Bool r.done) [
@@ -60,7 +60,7 @@ next_row_is log r row may =
     another e = cc
 
 -- a grade that may be next
-pub next_grade_is : (log : Log) (r : Reading) (grade : ℕ) → MayBeNextGrade log (need_at log.lists r) grade
+pub next_grade_is : (log : Log) (r : RowProgress) (grade : ℕ) → MayBeNextGrade log (need_at log.lists r) grade
     → (r.done ≡ false) × (log.lists ≤ length r.objects) × (grade ≤ 1000000)
 next_grade_is log r grade may =
     elim (cases_Bool r.done) [
@@ -74,7 +74,7 @@ next_grade_is log r grade may =
     ]
 
 -- what is on the board is seen and doesn't wait
-kept_board : (base : Base) (board : Held) (r : Reading) → Keeps base board r → (item : Item) → Contains board.items item
+kept_board : (base : Base) (board : Held) (r : RowProgress) → Keeps base board r → (item : Item) → Contains board.items item
     → Contains (seen_objects base.transcript.accesses) item.object × (¬ Contains r.waiting item.object)
 kept_board base board r kept item h =
     let some = kept.base.agreeing in
@@ -82,7 +82,7 @@ kept_board base board r kept item h =
     (on.0, on.1)
 
 -- an object that waits has a place on the board: it was seen and isn't there
-place_waiting : (base : Base) (board : Held) (r : Reading) (object : ℕ) → Keeps base board r → Contains r.waiting object → length board.items < board.room
+place_waiting : (base : Base) (board : Held) (r : RowProgress) (object : ℕ) → Keeps base board r → Contains r.waiting object → length board.items < board.room
 place_waiting base board r object kept waits =
     let seen : List ℕ = seen_objects base.transcript.accesses in
     let some = kept.base.agreeing in
@@ -93,7 +93,7 @@ place_waiting base board r object kept waits =
     omega (arith, kept.same_room, kept.base.roomy)
 
 -- an object that is scored has a place on the board: the new one has room, and one that waited was seen
-place_row : (base : Base) (board : Held) (r : Reading) (object : ℕ) (is_new : Bool) → Keeps base board r → TellsNew base.transcript.accesses object is_new
+place_row : (base : Base) (board : Held) (r : RowProgress) (object : ℕ) (is_new : Bool) → Keeps base board r → TellsNew base.transcript.accesses object is_new
     → HasRoomFor (shown base Done) object → 0 < length (with_new r.waiting object is_new) → length board.items < board.room
 place_row base board r object is_new kept new follows waits =
     let seen : List ℕ = seen_objects base.transcript.accesses in
@@ -113,11 +113,11 @@ pub first-at : (ws : List ℕ) → first_or_zero ws ≡ get_or ws 0 0
 first-at [] = refl
 first-at (w ∷ ws) = refl
 
-pub waits_first : (r : Reading) (waiting : List ℕ) → waiting ≡ r.waiting → get_or waiting 0 0 ≡ first_or_zero r.waiting
+pub waits_first : (r : RowProgress) (waiting : List ℕ) → waiting ≡ r.waiting → get_or waiting 0 0 ≡ first_or_zero r.waiting
 waits_first r waiting is = ap (λ ws. get_or ws 0 0) is ∙ sym (first-at r.waiting)
 
 -- what the transcript and the board need of a reading of m lists before an access is told
-pub record IsReady (m : ℕ) (board : Held) (r : Reading) : Type 0 where
+pub record IsReady (m : ℕ) (board : Held) (r : RowProgress) : Type 0 where
   pub grades : AreGrades r.grades
   pub bottoms : AreGrades r.bottoms
   pub same : length r.bottoms ≡ length r.objects
@@ -125,7 +125,7 @@ pub record IsReady (m : ℕ) (board : Held) (r : Reading) : Type 0 where
   pub room : length r.grades ≡ m → length board.items < board.room
   pub deep : r.depth ≤ 200000
 
-pub ready_row : (base : Base) (board : Held) (r told : Reading) (row : Row) (is_new : Bool) → Keeps base board r
+pub ready_row : (base : Base) (board : Held) (r told : RowProgress) (row : Row) (is_new : Bool) → Keeps base board r
     → MayBeNextRow base.transcript (need_at base.transcript.lists r) row → TellsNew base.transcript.accesses row.object is_new
     → HasRoomFor (shown base Done) row.object → told ≡ row_added base.transcript.lists r row is_new → IsReady base.transcript.lists board told
 ready_row base board r told row is_new kept may new follows is =
@@ -142,7 +142,7 @@ ready_row base board r told row is_new kept may new follows is =
       deep = omega (arith, kept_depth base board r kept next.0, kept.base.counted);
     })
 
-pub ready_grade : (base : Base) (board : Held) (r told : Reading) (grade : ℕ) → Keeps base board r
+pub ready_grade : (base : Base) (board : Held) (r told : RowProgress) (grade : ℕ) → Keeps base board r
     → MayBeNextGrade base.transcript (need_at base.transcript.lists r) grade → told ≡ grade_added r grade → IsReady base.transcript.lists board told
 ready_grade base board r told grade kept may is =
     let m : ℕ = base.transcript.lists in
@@ -159,17 +159,18 @@ ready_grade base board r told grade kept may is =
     })
 
 -- an access is told, and the reading has it: what comes then can be had, and is what is kept
-pub record IsFed (before after : Base) (board : Held) (told : Reading) (a : Access) : Type 0 where
+pub record IsFed (before after : Base) (board : Held) (told : RowProgress) (a : Access) : Type 0 where
   pub tells : IsTold a before after
   pub ready : IsReady before.transcript.lists board told
   pub kept : IsKept before.expr before.k before.room before.transcript.lists before.transcript.count (before.transcript.accesses ++ a ∷ [])
       (board_then before.expr before.transcript.lists board told)
       (reading_then before.expr before.transcript.lists (board_then before.expr before.transcript.lists board told) told)
 
-pub fed_ready : (before after : Base) (board : Held) (told : Reading) (a : Access) → IsFed before after board told a → IsReady after.transcript.lists board told
+pub fed_ready : (before after : Base) (board : Held) (told : RowProgress) (a : Access) → IsFed before after board told a
+    → IsReady after.transcript.lists board told
 fed_ready before after board told a fed = subst (λ m. IsReady m board told) (sym fed.tells.log.lists) fed.ready
 
-pub fed_kept : (before after : Base) (board board' : Held) (told then : Reading) (a : Access) → IsFed before after board told a
+pub fed_kept : (before after : Base) (board board' : Held) (told then : RowProgress) (a : Access) → IsFed before after board told a
     → board' ≡ board_then after.expr after.transcript.lists board told → then ≡ reading_then after.expr after.transcript.lists board' told
     → Keeps after board' then
 fed_kept before after board board' told then a fed is_board is_then =
@@ -183,7 +184,7 @@ fed_kept before after board board' told then a fed is_board is_then =
     (subst (IsKept before.expr before.k before.room m before.transcript.count A board') (sym then_is)
     (subst (λ (b : Held). IsKept before.expr before.k before.room m before.transcript.count A b (reading_then before.expr m b told)) (sym board_is) fed.kept))
 
-pub row_fed : (before after : Base) (board : Held) (r told : Reading) (row : Row) (list : ℕ) (is_new : Bool) → Keeps before board r
+pub row_fed : (before after : Base) (board : Held) (r told : RowProgress) (row : Row) (list : ℕ) (is_new : Bool) → Keeps before board r
     → MayBeNextRow before.transcript (need_at before.transcript.lists r) row → TellsNew before.transcript.accesses row.object is_new
     → HasRoomFor (shown before Done) row.object → list ≡ length r.objects → IsTold (Sorted list row.object row.grade) before after
     → SomeAgrees after.transcript.lists after.transcript.count after.transcript.accesses → told ≡ row_added after.transcript.lists r row is_new → IsFed before after board told (Sorted (length r.objects) row.object row.grade)
@@ -200,7 +201,7 @@ row_fed before after board r told row list is_new kept may new follows is_list t
           (kept_row before.expr before.k before.room m before.transcript.count before.transcript.accesses board r row is_new kept next.0 next.1 next.2 new follows (some_before a before after tells' some));
     }
 
-pub grade_fed : (before after : Base) (board : Held) (r told : Reading) (grade list object : ℕ) → Keeps before board r
+pub grade_fed : (before after : Base) (board : Held) (r told : RowProgress) (grade list object : ℕ) → Keeps before board r
     → MayBeNextGrade before.transcript (need_at before.transcript.lists r) grade → list ≡ length r.grades → object ≡ first_or_zero r.waiting
     → IsTold (Random list object grade) before after
     → SomeAgrees after.transcript.lists after.transcript.count after.transcript.accesses → told ≡ grade_added r grade → IsFed before after board told (Random (length r.grades) (first_or_zero r.waiting) grade)
@@ -217,7 +218,7 @@ grade_fed before after board r told grade list object kept may is_list is_object
     }
 
 -- the row and the grade that are needed can be told
-pub can_row : (base : Base) (board : Held) (r : Reading) (row : Row) (list : ℕ) → Keeps base board r
+pub can_row : (base : Base) (board : Held) (r : RowProgress) (row : Row) (list : ℕ) → Keeps base board r
     → MayBeNextRow base.transcript (need_at base.transcript.lists r) row → HasRoomFor (shown base Done) row.object → list ≡ length r.objects
     → CanTake base (Sorted list row.object row.grade)
 can_row base board r row list kept may fits is_list =
@@ -225,7 +226,7 @@ can_row base board r row list kept may fits is_list =
     let only : MayBeNextRow base.transcript (RowAt (length r.objects) r.depth) row = subst (λ need. MayBeNextRow base.transcript need row) (need_in_row base.transcript.lists r next.0 next.1) may in
     subst (λ l. CanTake base (Sorted l row.object row.grade)) (sym is_list) (row_can base (length r.objects) row.object row.grade kept.base only fits)
 
-pub can_grade : (base : Base) (board : Held) (r : Reading) (grade list object : ℕ) → Keeps base board r
+pub can_grade : (base : Base) (board : Held) (r : RowProgress) (grade list object : ℕ) → Keeps base board r
     → MayBeNextGrade base.transcript (need_at base.transcript.lists r) grade → list ≡ length r.grades → object ≡ first_or_zero r.waiting
     → CanTake base (Random list object grade)
 can_grade base board r grade list object kept may is_list is_object =
@@ -240,7 +241,7 @@ can_grade base board r grade list object kept may is_list is_object =
     }))
 
 -- what is told of a row and of a grade
-pub row_taken : (before after : Base) (r : Reading) (need : Need) (row : Row) (list : ℕ) (t : MachineState)
+pub row_taken : (before after : Base) (r : RowProgress) (need : Need) (row : Row) (list : ℕ) (t : MachineState)
     → shown before (need_at before.transcript.lists r) ≡ t → MayBeNextRow before.transcript (need_at before.transcript.lists r) row
     → HasRoomFor (shown before (need_at before.transcript.lists r)) row.object → list ≡ length r.objects
     → IsTold (Sorted list row.object row.grade) before after → HasRoomFor t row.object × Takes (row_access t.need row) t (shown after need)
@@ -251,7 +252,7 @@ row_taken before after r need row list t is may room_for is_list tells =
     subst (λ (s : MachineState). HasRoomFor s row.object × Takes (row_access s.need row) s (shown after need)) is
     (room_for, takes (row_access now row) before after now need (subst (λ a. IsTold a before after) (sym access) tells))
 
-pub grade_taken : (before after : Base) (r : Reading) (need : Need) (grade list object : ℕ) (t : MachineState)
+pub grade_taken : (before after : Base) (r : RowProgress) (need : Need) (grade list object : ℕ) (t : MachineState)
     → shown before (need_at before.transcript.lists r) ≡ t → MayBeNextGrade before.transcript (need_at before.transcript.lists r) grade
     → list ≡ length r.grades → object ≡ first_or_zero r.waiting → IsTold (Random list object grade) before after
     → Takes (grade_access t.need grade) t (shown after need)

@@ -19,7 +19,7 @@ use Rattle.topk_theory.specs.Consistent.{SomeAgrees}
 use Rattle.machine_base.specs.Base.{IsHeld, TellsNew}
 use Rattle.machine_base.proofs.Held.{held_asked, held_more}
 use Rattle.machine_base.proofs.Depths.{first_reached}
-use Rattle.ta_core.specs.Reading.{Reading, first_or_zero, with_new, row_added, grade_added, items_after, row_begun, followed}
+use Rattle.ta_core.specs.Reading.{RowProgress, first_or_zero, with_new, row_added, grade_added, items_after, row_begun, followed}
 use Rattle.ta_core.specs.OnTable.{OnRow, OnAsks, OnBoard, OnTable}
 use Rattle.ta_core.specs.Kept.{IsSound, IsAtRest, IsKept}
 use Rattle.ta_core.proofs.Rows.{row_goes_on}
@@ -66,7 +66,7 @@ kept_start e k room m n board held same_k same_room empty = record {
 }
 
 -- on a table that agrees, one more row
-table_row : (V : List ℕ → ℕ) (k n : ℕ) (D : List (List Row)) (A : List Access) (r : Reading) (items : List Item) (row : Row) (is_new : Bool) → IsMonotone V
+table_row : (V : List ℕ → ℕ) (k n : ℕ) (D : List (List Row)) (A : List Access) (r : RowProgress) (items : List Item) (row : Row) (is_new : Bool) → IsMonotone V
     → IsAsked k n D → r.done ≡ false → length r.objects < length D → length r.grades ≡ 0 → length r.bottoms ≡ length r.objects
     → ((o : ℕ) → Contains (with_new r.waiting row.object is_new) o → Contains (seen_objects (A ++ Sorted (length r.objects) row.object row.grade ∷ [])) o)
     → OnTable V k n D A r items → Agrees (length D) n D (A ++ Sorted (length r.objects) row.object row.grade ∷ [])
@@ -76,7 +76,7 @@ table_row : (V : List ℕ → ℕ) (k n : ℕ) (D : List (List Row)) (A : List A
     (items_after V (length D) items (row_added (length D) r row is_new))
 table_row V k n D A r items row is_new up asked open' short none same sees on agrees unseen seen =
     let a : Access = Sorted (length r.objects) row.object row.grade in
-    let r' : Reading = row_added (length D) r row is_new in
+    let r' : RowProgress = row_added (length D) r row is_new in
     let on_it : OnRow V k n D A r = row_of_reading V k n D A r open' short on.reading in
     let board : OnBoard V D (A ++ a ∷ []) r'.waiting items = board_after_row V D A r.waiting items (length r.objects) row.object row.grade is_new on.board unseen seen in
     let long : length r'.objects ≡ length r.objects + 1 = length-append r.objects (row.object ∷ []) in
@@ -87,7 +87,8 @@ table_row V k n D A r items row is_new up asked open' short none same sees on ag
     ]
 
 -- and one more grade
-table_grade : (V : List ℕ → ℕ) (k n : ℕ) (D : List (List Row)) (A : List Access) (r : Reading) (items : List Item) (grade : ℕ) → IsMonotone V → IsAsked k n D
+table_grade : (V : List ℕ → ℕ) (k n : ℕ) (D : List (List Row)) (A : List Access) (r : RowProgress) (items : List Item) (grade : ℕ) → IsMonotone V
+    → IsAsked k n D
     → r.done ≡ false → length r.objects ≡ length D → length r.bottoms ≡ length r.objects → 0 < length r.waiting → length r.grades < length D
     → slice_index r.objects (length r.grades) ≢ first_or_zero r.waiting
     → ((o : ℕ) → Contains r.waiting o → Contains (seen_objects (A ++ Random (length r.grades) (first_or_zero r.waiting) grade ∷ [])) o)
@@ -107,14 +108,14 @@ table_grade V k n D A r items grade up asked open' whole same waits short other 
     (board_after_grade V D A r.waiting items (length r.grades) (first_or_zero r.waiting) grade on.board)
 
 -- the board with the items after an access, and what follows of the reading told
-abbrev pub board_then : Tree → ℕ → Held → Reading → Held
+abbrev pub board_then : Tree → ℕ → Held → RowProgress → Held
 board_then e m board told = record board { items = items_after (value e) m board.items told }
 
-abbrev pub reading_then : Tree → ℕ → Held → Reading → Reading
+abbrev pub reading_then : Tree → ℕ → Held → RowProgress → RowProgress
 reading_then e m board told = followed (value e) board.k m board.items told
 
 -- what is kept after one more access, where it is sound whatever the table, and on each table that agrees
-kept_with : (e : Tree) (k room m n : ℕ) (A : List Access) (a : Access) (board : Held) (told : Reading) → board.k ≡ k → board.room ≡ room
+kept_with : (e : Tree) (k room m n : ℕ) (A : List Access) (a : Access) (board : Held) (told : RowProgress) → board.k ≡ k → board.room ≡ room
     → IsHeld e k room m n (A ++ a ∷ [])
     → (let items : List Item = items_after (value e) m board.items told in IsSound m (A ++ a ∷ []) (followed (value e) k m items told) × IsAtRest m (followed (value e) k m items told))
     → ((D : List (List Row)) → Agrees m n D (A ++ a ∷ []) → OnTable (value e) k n D (A ++ a ∷ []) (followed (value e) k (length D) (items_after (value e) (length D) board.items told) told) (items_after (value e) (length D) board.items told))
@@ -134,14 +135,14 @@ kept_with e k room m n A a board told same_k same_room held sound on_table =
     })
 
 -- a machine that is fed a row
-pub kept_row : (e : Tree) (k room m n : ℕ) (A : List Access) (board : Held) (r : Reading) (row : Row) (is_new : Bool) → IsKept e k room m n A board r
+pub kept_row : (e : Tree) (k room m n : ℕ) (A : List Access) (board : Held) (r : RowProgress) (row : Row) (is_new : Bool) → IsKept e k room m n A board r
     → r.done ≡ false → length r.objects < m → row.grade ≤ 1000000 → TellsNew A row.object is_new
     → Contains (seen_objects A) row.object ⊎ (length (seen_objects A) < room) → SomeAgrees m n (A ++ Sorted (length r.objects) row.object row.grade ∷ [])
     → IsKept e k room m n (A ++ Sorted (length r.objects) row.object row.grade ∷ []) (board_then e m board (row_added m r row is_new)) (reading_then e m (board_then e m board (row_added m r row is_new)) (row_added m r row is_new))
 kept_row e k room m n A board r row is_new kept open' short capped new follows some =
     let V = value e in
     let a : Access = Sorted (length r.objects) row.object row.grade in
-    let r' : Reading = row_added m r row is_new in
+    let r' : RowProgress = row_added m r row is_new in
     let none : length r.grades ≡ 0 = kept.rest.in_row short in
     let sound : IsSound m (A ++ a ∷ []) r' = sound_row m A r row is_new kept.sound short none capped new.unseen in
     let fed : IsFed m r' = fed_row m r row is_new kept.base.some_list short kept.sound.same_length in
@@ -155,13 +156,13 @@ kept_row e k room m n A board r row is_new kept open' short capped new follows s
     subst (λ c. OnTable V k n D (A ++ a ∷ []) (followed V k (length D) (items_after V (length D) board.items (row_added c r row is_new)) (row_added c r row is_new)) (items_after V (length D) board.items (row_added c r row is_new))) wide then)
 
 -- a machine that is fed a grade
-pub kept_grade : (e : Tree) (k room m n : ℕ) (A : List Access) (board : Held) (r : Reading) (grade : ℕ) → IsKept e k room m n A board r → r.done ≡ false
+pub kept_grade : (e : Tree) (k room m n : ℕ) (A : List Access) (board : Held) (r : RowProgress) (grade : ℕ) → IsKept e k room m n A board r → r.done ≡ false
     → m ≤ length r.objects → grade ≤ 1000000 → SomeAgrees m n (A ++ Random (length r.grades) (first_or_zero r.waiting) grade ∷ [])
     → IsKept e k room m n (A ++ Random (length r.grades) (first_or_zero r.waiting) grade ∷ []) (board_then e m board (grade_added r grade)) (reading_then e m (board_then e m board (grade_added r grade)) (grade_added r grade))
 kept_grade e k room m n A board r grade kept open' whole capped some =
     let V = value e in
     let a : Access = Random (length r.grades) (first_or_zero r.waiting) grade in
-    let r' : Reading = grade_added r grade in
+    let r' : RowProgress = grade_added r grade in
     let rest = kept.rest.after_row open' whole in
     let long : length r.objects ≡ m = omega (arith, kept.sound.within) in
     let sound : IsSound m (A ++ a ∷ []) r' = sound_grade m A r grade kept.sound rest.0 capped in

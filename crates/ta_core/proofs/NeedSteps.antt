@@ -16,12 +16,12 @@ use Rattle.topk_theory.proofs.AgreementRows.{list_at_contains}
 use Rattle.topk_theory.proofs.ThresholdRun.{random_block_lower}
 use Rattle.machine_base.proofs.Depths.{at_on_path}
 use Rattle.machine_base.proofs.Rows.{row_needed}
-use Rattle.ta_core.specs.Reading.{Reading}
+use Rattle.ta_core.specs.Reading.{RowProgress}
 use Rattle.ta_core.specs.OnTable.{OnRow, asks, OnAsks}
 use Rattle.ta_core.proofs.Rows.{reads_rows, own}
 use Rattle.ta_core.proofs.Asks.{run_at, stands_lower, map_at}
 
-pub row_next : (V : List ℕ → ℕ) (k n : ℕ) (D : List (List Row)) (A : List Access) (r : Reading) → IsMonotone V → IsAsked k n D → OnRow V k n D A r
+pub row_next : (V : List ℕ → ℕ) (k n : ℕ) (D : List (List Row)) (A : List Access) (r : RowProgress) → IsMonotone V → IsAsked k n D → OnRow V k n D A r
     → IsAt (ta_run V k D) A (RowAt (length r.objects) r.depth) × CanServe D (RowAt (length r.objects) r.depth)
 row_next V k n D A r monotone asked on =
     let d : ℕ = r.depth in
@@ -30,7 +30,7 @@ row_next V k n D A r monotone asked on =
     (append_assoc (ta_run_to D (d - 1)) (sorted_block 0 d D) later ∙ sym (run_at D d on.at.positive))
 
 -- the run goes on with the random access of the first object that waits in the next list
-pub grade_ahead : (V : List ℕ → ℕ) (k n : ℕ) (D : List (List Row)) (A : List Access) (r : Reading) (object : ℕ) (waiting : List ℕ) → IsTable n D
+pub grade_ahead : (V : List ℕ → ℕ) (k n : ℕ) (D : List (List Row)) (A : List Access) (r : RowProgress) (object : ℕ) (waiting : List ℕ) → IsTable n D
     → OnAsks V k n D A r → r.waiting ≡ object ∷ waiting → length r.grades < length D → slice_index r.objects (length r.grades) ≢ object
     → A ++ Random (length r.grades) object (grade_in (list_at D (length r.grades)) object) ∷ (random_block (length r.grades + 1) r.depth object (drop (suc (length r.grades)) D) ++ flat_map (λ o. random_block 0 r.depth o D) waiting) ≡ ta_run_to D r.depth
 grade_ahead V k n D A r object waiting table on is short other =
@@ -46,7 +46,7 @@ grade_ahead V k n D A r object waiting table on is short other =
     ∙ ap (λ ws. A ++ asks D d ws r.grades) (sym is)
     ∙ on.ahead
 
-pub grade_needed : (V : List ℕ → ℕ) (k n : ℕ) (D : List (List Row)) (A : List Access) (r : Reading) (object : ℕ) (waiting : List ℕ) → IsMonotone V
+pub grade_needed : (V : List ℕ → ℕ) (k n : ℕ) (D : List (List Row)) (A : List Access) (r : RowProgress) (object : ℕ) (waiting : List ℕ) → IsMonotone V
     → IsAsked k n D → OnAsks V k n D A r → r.waiting ≡ object ∷ waiting → length r.grades < length D → slice_index r.objects (length r.grades) ≢ object
     → IsAt (ta_run V k D) A (Grade (length r.grades) object) × CanServe D (Grade (length r.grades) object)
 grade_needed V k n D A r object waiting monotone asked on is short other =

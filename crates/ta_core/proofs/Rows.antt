@@ -24,7 +24,7 @@ use Rattle.topk_theory.proofs.ThresholdRun.{list_number, run_rows, sorted_member
 use Rattle.machine_base.specs.Depths.{read_to}
 use Rattle.machine_base.proofs.Depths.{IsOwn}
 use Rattle.machine_base.proofs.Rows.{ReadsRows, given_next, read_more}
-use Rattle.ta_core.specs.Reading.{Reading, with_new, row_added}
+use Rattle.ta_core.specs.Reading.{RowProgress, with_new, row_added}
 use Rattle.ta_core.specs.OnTable.{objects_at, bottoms_at, OnRow}
 
 -- one more list
@@ -97,13 +97,13 @@ new_with_unseen p xs x n t =
     ∙ ap (λ ys. filter p (each_once xs) ++ ys) (filter_here p x [] t)
 
 -- what a row adds, whatever is left of it
-pub record Added (n : ℕ) (D : List (List Row)) (A : List Access) (r : Reading) (row : Row) (is_new : Bool) : Type 0 where
+pub record Added (n : ℕ) (D : List (List Row)) (A : List Access) (r : RowProgress) (row : Row) (is_new : Bool) : Type 0 where
   pub objects_are : r.objects ++ row.object ∷ [] ≡ objects_at r.depth (take (suc (length r.objects)) D)
   pub bottoms_are : r.bottoms ++ row.grade ∷ [] ≡ bottoms_at r.depth (take (suc (length r.objects)) D)
   pub waiting_are : with_new r.waiting row.object is_new ≡ filter (λ object. not (stands D (r.depth - 1) object)) (each_once (r.objects ++ row.object ∷ []))
   pub made : A ++ Sorted (length r.objects) row.object row.grade ∷ [] ≡ read_to (ta_run_to D) D r.depth (suc (length r.objects))
 
-pub added : (V : List ℕ → ℕ) (k n : ℕ) (D : List (List Row)) (A : List Access) (r : Reading) (row : Row) (is_new : Bool) → OnRow V k n D A r
+pub added : (V : List ℕ → ℕ) (k n : ℕ) (D : List (List Row)) (A : List Access) (r : RowProgress) (row : Row) (is_new : Bool) → OnRow V k n D A r
     → Agrees (length D) n D (A ++ Sorted (length r.objects) row.object row.grade ∷ []) → (is_new ≡ true → ¬ Contains (seen_objects A) row.object)
     → (is_new ≡ false → Contains (seen_objects A) row.object) → Added n D A r row is_new
 added V k n D A r row is_new on agrees unseen seen =
@@ -152,7 +152,7 @@ added V k n D A r row is_new on agrees unseen seen =
     }
 
 -- a row of which lists are left
-pub row_goes_on : (V : List ℕ → ℕ) (k n : ℕ) (D : List (List Row)) (A : List Access) (r : Reading) (row : Row) (is_new : Bool) → OnRow V k n D A r
+pub row_goes_on : (V : List ℕ → ℕ) (k n : ℕ) (D : List (List Row)) (A : List Access) (r : RowProgress) (row : Row) (is_new : Bool) → OnRow V k n D A r
     → Agrees (length D) n D (A ++ Sorted (length r.objects) row.object row.grade ∷ []) → (is_new ≡ true → ¬ Contains (seen_objects A) row.object)
     → (is_new ≡ false → Contains (seen_objects A) row.object) → suc (length r.objects) < length D
     → OnRow V k n D (A ++ Sorted (length r.objects) row.object row.grade ∷ []) (row_added (length D) r row is_new)

@@ -17,24 +17,24 @@ use Rattle.machine_base.specs.declared.base.Base.{Base}
 use Rattle.machine_base.specs.Base.{shown}
 use Rattle.machine_base.proofs.Held.{held_asked}
 use Rattle.machine_base.proofs.Makes.{makes_run, at_end}
-use Rattle.ta_core.specs.Reading.{Reading, first_or_zero, need_at}
+use Rattle.ta_core.specs.Reading.{RowProgress, first_or_zero, need_at}
 use Rattle.ta_core.specs.Kept.{Keeps}
 use Rattle.ta_core.specs.Machine.{MakesItsRun}
 use Rattle.ta_core.proofs.NeedSteps.{row_next, grade_needed}
 use Rattle.ta_core.proofs.Steps.{row_of_reading, asks_of_reading, made_of_reading}
 
 -- what is needed, by where the reading is
-pub need_in_row : (m : ℕ) (r : Reading) → r.done ≡ false → length r.objects < m → need_at m r ≡ RowAt (length r.objects) r.depth
+pub need_in_row : (m : ℕ) (r : RowProgress) → r.done ≡ false → length r.objects < m → need_at m r ≡ RowAt (length r.objects) r.depth
 need_in_row m r open' l =
     ap (λ b. cond b Done (cond (nat_lt (length r.objects) m) (RowAt (length r.objects) r.depth) (Grade (length r.grades) (first_or_zero r.waiting)))) open'
     ∙ ap (λ b. cond b (RowAt (length r.objects) r.depth) (Grade (length r.grades) (first_or_zero r.waiting))) (lt-ltb (length r.objects) m l)
 
-pub need_after_row : (m : ℕ) (r : Reading) → r.done ≡ false → m ≤ length r.objects → need_at m r ≡ Grade (length r.grades) (first_or_zero r.waiting)
+pub need_after_row : (m : ℕ) (r : RowProgress) → r.done ≡ false → m ≤ length r.objects → need_at m r ≡ Grade (length r.grades) (first_or_zero r.waiting)
 need_after_row m r open' l =
     ap (λ b. cond b Done (cond (nat_lt (length r.objects) m) (RowAt (length r.objects) r.depth) (Grade (length r.grades) (first_or_zero r.waiting)))) open'
     ∙ ap (λ b. cond b (RowAt (length r.objects) r.depth) (Grade (length r.grades) (first_or_zero r.waiting))) (le-ltb (length r.objects) m l)
 
-pub need_when_done : (m : ℕ) (r : Reading) → r.done ≡ true → need_at m r ≡ Done
+pub need_when_done : (m : ℕ) (r : RowProgress) → r.done ≡ true → need_at m r ≡ Done
 need_when_done m r done =
     ap (λ b. cond b Done (cond (nat_lt (length r.objects) m) (RowAt (length r.objects) r.depth) (Grade (length r.grades) (first_or_zero r.waiting)))) done
 
@@ -42,7 +42,7 @@ pub first_member : (xs : List ℕ) → 0 < length xs → (x : ℕ) × (rest : Li
 first_member [] l = absurd (omega arith)
 first_member (x ∷ rest) l = (x, rest, refl)
 
-needed : (base : Base) (board : Held) (r : Reading) (D : List (List Row)) → Keeps base board r → AgreesWith D base.transcript
+needed : (base : Base) (board : Held) (r : RowProgress) (D : List (List Row)) → Keeps base board r → AgreesWith D base.transcript
     → IsAt (ta_run (value base.expr) base.k D) base.transcript.accesses (need_at base.transcript.lists r) × CanServe D (need_at base.transcript.lists r)
 needed base board r D kept agrees =
     let V = value base.expr in
@@ -75,11 +75,11 @@ pub first_is_member : (ws : List ℕ) → 0 < length ws → Contains ws (first_o
 first_is_member [] l = absurd (omega arith)
 first_is_member (w ∷ ws) l = contains_here w ws
 
-pub first_seen : (base : Base) (board : Held) (r : Reading) → Keeps base board r → 0 < length r.waiting
+pub first_seen : (base : Base) (board : Held) (r : RowProgress) → Keeps base board r → 0 < length r.waiting
     → Contains (seen_objects base.transcript.accesses) (first_or_zero r.waiting)
 first_seen base board r kept waits = member_of_all (Contains (seen_objects base.transcript.accesses)) r.waiting (first_or_zero r.waiting) kept.sound.waiting_seen (first_is_member r.waiting waits)
 
-tame_need : (base : Base) (board : Held) (r : Reading) → Keeps base board r → IsOfSeen base.transcript (need_at base.transcript.lists r)
+tame_need : (base : Base) (board : Held) (r : RowProgress) → Keeps base board r → IsOfSeen base.transcript (need_at base.transcript.lists r)
 tame_need base board r kept =
     let m : ℕ = base.transcript.lists in
     elim (cases_Bool r.done) [
@@ -90,11 +90,11 @@ tame_need base board r kept =
       ]
     ]
 
-pub kept_makes : (base : Base) (board : Held) (r : Reading) → Keeps base board r → MakesItsRun (shown base (need_at base.transcript.lists r))
+pub kept_makes : (base : Base) (board : Held) (r : RowProgress) → Keeps base board r → MakesItsRun (shown base (need_at base.transcript.lists r))
 kept_makes base board r kept = makes_run threshold_run base (need_at base.transcript.lists r) kept.base (λ D agrees. needed base board r D kept agrees) (tame_need base board r kept)
 
 -- the depth is one of the tables', so it is small
-pub kept_depth : (base : Base) (board : Held) (r : Reading) → Keeps base board r → r.done ≡ false → r.depth ≤ base.transcript.count
+pub kept_depth : (base : Base) (board : Held) (r : RowProgress) → Keeps base board r → r.done ≡ false → r.depth ≤ base.transcript.count
 kept_depth base board r kept open' =
     let V = value base.expr in
     let m : ℕ = base.transcript.lists in

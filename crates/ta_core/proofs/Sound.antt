@@ -10,7 +10,7 @@ use Rattle.topk_theory.specs.declared.access.Access.TheVariants.{Sorted, Random}
 use Rattle.topk_theory.specs.Transcript.{seen_objects}
 use Rattle.topk_theory.proofs.AgreementLists.{contains_nil, contains_here, contains_there, all_from_members, member_of_all}
 use Rattle.topk_theory.proofs.ThresholdRun.{seen_from_access, seen_more}
-use Rattle.ta_core.specs.Reading.{Reading, grades_in_row, filled, filled_first, first_or_zero, with_new, row_added, grade_added, moved, enough, followed}
+use Rattle.ta_core.specs.Reading.{RowProgress, grades_in_row, filled, filled_first, first_or_zero, with_new, row_added, grade_added, moved, enough, followed}
 use Rattle.ta_core.specs.Kept.{IsSound, IsAtRest}
 use Rattle.ta_core.proofs.Fills.{length-grades_in_row, grades_in_row_end}
 use Rattle.ta_core.proofs.BoardSteps.{waits_from}
@@ -54,7 +54,7 @@ later_still (o ∷ os) (w ∷ ws) object true few later fresh x h =
 later_still (o ∷ os) (w ∷ ws) object false few later fresh x h = later x h
 
 -- after one more row
-pub sound_row : (m : ℕ) (A : List Access) (r : Reading) (row : Row) (is_new : Bool) → IsSound m A r → length r.objects < m → length r.grades ≡ 0
+pub sound_row : (m : ℕ) (A : List Access) (r : RowProgress) (row : Row) (is_new : Bool) → IsSound m A r → length r.objects < m → length r.grades ≡ 0
     → row.grade ≤ 1000000 → (is_new ≡ true → ¬ Contains (seen_objects A) row.object)
     → IsSound m (A ++ Sorted (length r.objects) row.object row.grade ∷ []) (row_added m r row is_new)
 sound_row m A r row is_new s short none capped fresh =
@@ -88,7 +88,7 @@ sound_row m A r row is_new s short none capped fresh =
     }
 
 -- after one more grade
-pub sound_grade : (m : ℕ) (A : List Access) (r : Reading) (grade : ℕ) → IsSound m A r → 0 < length r.waiting → grade ≤ 1000000
+pub sound_grade : (m : ℕ) (A : List Access) (r : RowProgress) (grade : ℕ) → IsSound m A r → 0 < length r.waiting → grade ≤ 1000000
     → IsSound m (A ++ Random (length r.grades) (first_or_zero r.waiting) grade ∷ []) (grade_added r grade)
 sound_grade m A r grade s waits capped =
     let a : Access = Random (length r.grades) (first_or_zero r.waiting) grade in
@@ -105,13 +105,13 @@ sound_grade m A r grade s waits capped =
     }
 
 -- once an access is told, before what follows
-pub record IsFed (m : ℕ) (r : Reading) : Type 0 where
+pub record IsFed (m : ℕ) (r : RowProgress) : Type 0 where
   pub in_row : length r.objects < m → length r.grades ≡ 0
   pub enough_waits : length r.grades ≡ m → 0 < length r.waiting
   pub within : length r.grades ≤ m
   pub after_row : m ≤ length r.objects → 0 < length r.waiting → length r.grades < m → slice_index r.objects (length r.grades) ≢ first_or_zero r.waiting
 
-pub fed_row : (m : ℕ) (r : Reading) (row : Row) (is_new : Bool) → 1 ≤ m → length r.objects < m → length r.bottoms ≡ length r.objects
+pub fed_row : (m : ℕ) (r : RowProgress) (row : Row) (is_new : Bool) → 1 ≤ m → length r.objects < m → length r.bottoms ≡ length r.objects
     → IsFed m (row_added m r row is_new)
 fed_row m r row is_new positive short same =
     let os : List ℕ = r.objects ++ row.object ∷ [] in
@@ -149,7 +149,7 @@ fed_row m r row is_new positive short same =
     first_fed os bs [] e = ((λ a b. absurd (omega arith)), omega arith, (λ w. absurd (omega arith)))
     first_fed os bs (object ∷ ws) e = ((λ a b. omega arith), length-grades_in_row object os bs, (λ w h. grades_in_row_end object os bs e h))
 
-pub fed_grade : (m : ℕ) (r : Reading) (grade : ℕ) → length r.objects ≡ m → length r.bottoms ≡ length r.objects → 0 < length r.waiting → length r.grades < m
+pub fed_grade : (m : ℕ) (r : RowProgress) (grade : ℕ) → length r.objects ≡ m → length r.bottoms ≡ length r.objects → 0 < length r.waiting → length r.grades < m
     → IsFed m (grade_added r grade)
 fed_grade m r grade whole same waits short =
     let object : ℕ = first_or_zero r.waiting in
@@ -189,7 +189,7 @@ first_later [] l = absurd (omega arith)
 first_later (w ∷ []) l = absurd (omega arith)
 first_later (w ∷ v ∷ ws) l = contains_here v ws
 
-sound_moved : (m : ℕ) (A : List Access) (stops : Bool) (r : Reading) → IsSound m A r → 1 ≤ m → r.done ≡ false → (length r.objects < m → length r.grades ≡ 0)
+sound_moved : (m : ℕ) (A : List Access) (stops : Bool) (r : RowProgress) → IsSound m A r → 1 ≤ m → r.done ≡ false → (length r.objects < m → length r.grades ≡ 0)
     → (m ≤ length r.objects → 0 < length r.waiting → (length r.grades < m) × (slice_index r.objects (length r.grades) ≢ first_or_zero r.waiting))
     → IsSound m A (moved m stops r) × IsAtRest m (moved m stops r)
 sound_moved m A stops r s positive open' in_row after_row =
@@ -233,7 +233,7 @@ sound_moved m A stops r s positive open' in_row after_row =
           record { in_row = λ l. refl; after_row = λ o l. absurd (omega arith) },
         )
 
-pub sound_followed : (V : List ℕ → ℕ) (k m : ℕ) (A : List Access) (items : List Item) (r : Reading) → 1 ≤ m → r.done ≡ false → IsSound m A r → IsFed m r
+pub sound_followed : (V : List ℕ → ℕ) (k m : ℕ) (A : List Access) (items : List Item) (r : RowProgress) → 1 ≤ m → r.done ≡ false → IsSound m A r → IsFed m r
     → IsSound m A (followed V k m items r) × IsAtRest m (followed V k m items r)
 sound_followed V k m A items r positive open' s fed =
     let stops : Bool = enough k (V r.bottoms) items in
@@ -242,7 +242,7 @@ sound_followed V k m A items r positive open' s fed =
           subst (λ z. IsSound m A (moved m stops z) × IsAtRest m (moved m stops z)) (sym (settled_not m r n))
           (sound_moved m A stops r s positive open' fed.in_row (λ l w. let short = under fed.within n in (short, fed.after_row l w short)))
       | inl e ↦
-          let t : Reading = record r { waiting = drop 1 r.waiting; grades = [] } in
+          let t : RowProgress = record r { waiting = drop 1 r.waiting; grades = [] } in
           let whole : m ≤ length r.objects = out_of_row fed.in_row e in
           let sound : IsSound m A t = record {
             waiting_seen = All-drop (Contains (seen_objects A)) 1 r.waiting s.waiting_seen;

@@ -11,7 +11,7 @@ use Rattle.topk_theory.specs.Transcript.{seen_objects}
 use Rattle.topk_theory.specs.Threshold.{IsAsked, ta_stop, ta_run, ta_run_to, ta_depth, scored, row_at}
 use Rattle.topk_theory.proofs.AgreementLists.{contains_here}
 use Rattle.topk_theory.proofs.ThresholdLists.{length-map}
-use Rattle.ta_core.specs.Reading.{Reading, first_or_zero, items_after, settled, is_whole, row_begun, moved, enough, followed}
+use Rattle.ta_core.specs.Reading.{RowProgress, first_or_zero, items_after, settled, is_whole, row_begun, moved, enough, followed}
 use Rattle.ta_core.specs.OnTable.{OnRow, OnAsks, IsMade, OnReading, OnBoard, OnTable}
 use Rattle.ta_core.proofs.Asks.{all_grades, object_settles, row_is_made, row_follows}
 use Rattle.ta_core.proofs.BoardSteps.{board_after_put, board_tells_stop}
@@ -19,60 +19,61 @@ use Rattle.machine_base.proofs.Depths.{is_own}
 use Rattle.ta_core.proofs.Rows.{own}
 
 -- where a reading is, by its length
-pub on_row : (V : List ℕ → ℕ) (k n : ℕ) (D : List (List Row)) (A : List Access) (r : Reading) → r.done ≡ false → OnRow V k n D A r → OnReading V k n D A r
+pub on_row : (V : List ℕ → ℕ) (k n : ℕ) (D : List (List Row)) (A : List Access) (r : RowProgress) → r.done ≡ false → OnRow V k n D A r → OnReading V k n D A r
 on_row V k n D A r open' on =
     subst (λ b. MatchBool b (IsMade V k D A r) (MatchBool (nat_lt (length r.objects) (length D)) (OnRow V k n D A r) (OnAsks V k n D A r))) (sym open')
     (subst (λ b. MatchBool b (OnRow V k n D A r) (OnAsks V k n D A r)) (sym (lt-ltb (length r.objects) (length D) on.unread)) on)
 
-on_asks : (V : List ℕ → ℕ) (k n : ℕ) (D : List (List Row)) (A : List Access) (r : Reading) → r.done ≡ false → length D ≤ length r.objects → OnAsks V k n D A r
+on_asks : (V : List ℕ → ℕ) (k n : ℕ) (D : List (List Row)) (A : List Access) (r : RowProgress) → r.done ≡ false → length D ≤ length r.objects
+    → OnAsks V k n D A r
     → OnReading V k n D A r
 on_asks V k n D A r open' whole on =
     subst (λ b. MatchBool b (IsMade V k D A r) (MatchBool (nat_lt (length r.objects) (length D)) (OnRow V k n D A r) (OnAsks V k n D A r))) (sym open')
     (subst (λ b. MatchBool b (OnRow V k n D A r) (OnAsks V k n D A r)) (sym (le-ltb (length r.objects) (length D) whole)) on)
 
-made : (V : List ℕ → ℕ) (k n : ℕ) (D : List (List Row)) (A : List Access) (r : Reading) → r.done ≡ true → IsMade V k D A r → OnReading V k n D A r
+made : (V : List ℕ → ℕ) (k n : ℕ) (D : List (List Row)) (A : List Access) (r : RowProgress) → r.done ≡ true → IsMade V k D A r → OnReading V k n D A r
 made V k n D A r done on =
     subst (λ b. MatchBool b (IsMade V k D A r) (MatchBool (nat_lt (length r.objects) (length D)) (OnRow V k n D A r) (OnAsks V k n D A r))) (sym done) on
 
-pub row_of_reading : (V : List ℕ → ℕ) (k n : ℕ) (D : List (List Row)) (A : List Access) (r : Reading) → r.done ≡ false → length r.objects < length D
+pub row_of_reading : (V : List ℕ → ℕ) (k n : ℕ) (D : List (List Row)) (A : List Access) (r : RowProgress) → r.done ≡ false → length r.objects < length D
     → OnReading V k n D A r → OnRow V k n D A r
 row_of_reading V k n D A r open' short on =
     subst (λ b. MatchBool b (OnRow V k n D A r) (OnAsks V k n D A r)) (lt-ltb (length r.objects) (length D) short)
     (subst (λ b. MatchBool b (IsMade V k D A r) (MatchBool (nat_lt (length r.objects) (length D)) (OnRow V k n D A r) (OnAsks V k n D A r))) open' on)
 
-pub asks_of_reading : (V : List ℕ → ℕ) (k n : ℕ) (D : List (List Row)) (A : List Access) (r : Reading) → r.done ≡ false → length D ≤ length r.objects
+pub asks_of_reading : (V : List ℕ → ℕ) (k n : ℕ) (D : List (List Row)) (A : List Access) (r : RowProgress) → r.done ≡ false → length D ≤ length r.objects
     → OnReading V k n D A r → OnAsks V k n D A r
 asks_of_reading V k n D A r open' whole on =
     subst (λ b. MatchBool b (OnRow V k n D A r) (OnAsks V k n D A r)) (le-ltb (length r.objects) (length D) whole)
     (subst (λ b. MatchBool b (IsMade V k D A r) (MatchBool (nat_lt (length r.objects) (length D)) (OnRow V k n D A r) (OnAsks V k n D A r))) open' on)
 
-pub made_of_reading : (V : List ℕ → ℕ) (k n : ℕ) (D : List (List Row)) (A : List Access) (r : Reading) → r.done ≡ true → OnReading V k n D A r
+pub made_of_reading : (V : List ℕ → ℕ) (k n : ℕ) (D : List (List Row)) (A : List Access) (r : RowProgress) → r.done ≡ true → OnReading V k n D A r
     → IsMade V k D A r
 made_of_reading V k n D A r done on =
     subst (λ b. MatchBool b (IsMade V k D A r) (MatchBool (nat_lt (length r.objects) (length D)) (OnRow V k n D A r) (OnAsks V k n D A r))) done on
 
 -- the tests of what follows
-pub settled_not : (m : ℕ) (r : Reading) → length r.grades ≢ m → settled m r ≡ r
+pub settled_not : (m : ℕ) (r : RowProgress) → length r.grades ≢ m → settled m r ≡ r
 settled_not m r n = ap (λ b. cond b (record r { waiting = drop 1 r.waiting; grades = [] }) r) (ne_eqb (length r.grades) m n)
 
-pub settled_scored : (m : ℕ) (r : Reading) → length r.grades ≡ m → settled m r ≡ record r { waiting = drop 1 r.waiting; grades = [] }
+pub settled_scored : (m : ℕ) (r : RowProgress) → length r.grades ≡ m → settled m r ≡ record r { waiting = drop 1 r.waiting; grades = [] }
 settled_scored m r e = ap (λ b. cond b (record r { waiting = drop 1 r.waiting; grades = [] }) r) (eq-eqb (length r.grades) m e)
 
-pub moved_on : (m : ℕ) (stops : Bool) (r : Reading) → (length r.objects ≢ m) ⊎ (0 < length r.waiting) → moved m stops r ≡ r
+pub moved_on : (m : ℕ) (stops : Bool) (r : RowProgress) → (length r.objects ≢ m) ⊎ (0 < length r.waiting) → moved m stops r ≡ r
 moved_on m stops r h = ap (λ b. cond b (cond stops (record r { done = true }) (row_begun (r.depth + 1))) r) (open_row h)
   where
     open_row : (length r.objects ≢ m) ⊎ (0 < length r.waiting) → is_whole m r ≡ false
     open_row (inl n) = ap (λ b. b && (length r.waiting == 0)) (ne_eqb (length r.objects) m n)
     open_row (inr w) = and_right (length r.objects == m) (length r.waiting == 0) (ne_eqb (length r.waiting) 0 (λ e. absurd (omega arith)))
 
-pub moved_down : (m : ℕ) (stops : Bool) (r : Reading) → length r.objects ≡ m → length r.waiting ≡ 0
+pub moved_down : (m : ℕ) (stops : Bool) (r : RowProgress) → length r.objects ≡ m → length r.waiting ≡ 0
     → moved m stops r ≡ cond stops (record r { done = true }) (row_begun (r.depth + 1))
 moved_down m stops r e w =
     ap (λ b. cond b (cond stops (record r { done = true }) (row_begun (r.depth + 1))) r)
     (ap (λ b. b && (length r.waiting == 0)) (eq-eqb (length r.objects) m e) ∙ eq-eqb (length r.waiting) 0 w)
 
 -- in a row nothing else follows
-pub row_follows_on : (V : List ℕ → ℕ) (k n : ℕ) (D : List (List Row)) (A : List Access) (r : Reading) (items : List Item) → 0 < length D → r.done ≡ false
+pub row_follows_on : (V : List ℕ → ℕ) (k n : ℕ) (D : List (List Row)) (A : List Access) (r : RowProgress) (items : List Item) → 0 < length D → r.done ≡ false
     → length r.grades ≡ 0 → OnRow V k n D A r → OnBoard V D A r.waiting items
     → OnTable V k n D A (followed V k (length D) (items_after V (length D) items r) r) (items_after V (length D) items r)
 row_follows_on V k n D A r items l open' none on board =
@@ -86,7 +87,7 @@ row_follows_on V k n D A r items l open' none on board =
     (subst (λ xs. OnTable V k n D A r xs) (sym same_items) (record { reading = on_row V k n D A r open' on; board = board }))
 
 -- a whole row goes on with what waits, ends the run or makes room for the next row
-row_moves : (V : List ℕ → ℕ) (k n : ℕ) (D : List (List Row)) (A : List Access) (r : Reading) (items : List Item) → IsMonotone V → IsAsked k n D
+row_moves : (V : List ℕ → ℕ) (k n : ℕ) (D : List (List Row)) (A : List Access) (r : RowProgress) (items : List Item) → IsMonotone V → IsAsked k n D
     → r.done ≡ false → OnAsks V k n D A r → OnBoard V D A r.waiting items → OnTable V k n D A (moved (length D) (enough k (V r.bottoms) items) r) items
 row_moves V k n D A r items monotone asked open' on board =
     let m : ℕ = length D in
@@ -128,7 +129,7 @@ row_moves V k n D A r items monotone asked open' on board =
     empty_list [] e = refl
     empty_list (x ∷ xs) e = absurd (omega arith)
 
-pub asks_follow_on : (V : List ℕ → ℕ) (k n : ℕ) (D : List (List Row)) (A : List Access) (r : Reading) (items : List Item) → IsMonotone V → IsAsked k n D
+pub asks_follow_on : (V : List ℕ → ℕ) (k n : ℕ) (D : List (List Row)) (A : List Access) (r : RowProgress) (items : List Item) → IsMonotone V → IsAsked k n D
     → r.done ≡ false → (length r.grades ≡ length D → 0 < length r.waiting) → ((object : ℕ) → Contains r.waiting object → Contains (seen_objects A) object)
     → OnAsks V k n D A r → OnBoard V D A r.waiting items
     → OnTable V k n D A (followed V k (length D) (items_after V (length D) items r) r) (items_after V (length D) items r)
@@ -153,7 +154,7 @@ asks_follow_on V k n D A r items monotone asked open' filled seen on board =
         ap (λ b. cond b (put_item (record { object = first_or_zero r.waiting; low = V r.grades; high = V r.grades }) items) items) (eq-eqb (length r.grades) m whole)
         ∙ ap (λ ws. put_item (record { object = first_or_zero ws; low = V r.grades; high = V r.grades }) items) is
         ∙ ap (λ v. put_item (record { object = object; low = v; high = v }) items) value in
-        let s : Reading = record r { waiting = waiting; grades = [] } in
+        let s : RowProgress = record r { waiting = waiting; grades = [] } in
         let same : settled m r ≡ s = settled_scored m r whole ∙ ap (λ ws. record r { waiting = drop 1 ws; grades = [] }) is in
         let apart : AllPairs (λ (one : ℕ) (other : ℕ). one ≢ other) (object ∷ waiting) = subst (AllPairs (λ (one : ℕ) (other : ℕ). one ≢ other)) is on.distinct in
         let board' : OnBoard V D A waiting (put_item (scored V D object) items) =

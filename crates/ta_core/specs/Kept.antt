@@ -9,11 +9,11 @@ use Rattle.topk_theory.specs.declared.access.Access.{Access}
 use Rattle.topk_theory.specs.Transcript.{Agrees, seen_objects}
 use Rattle.machine_base.specs.declared.base.Base.{Base}
 use Rattle.machine_base.specs.Base.{IsHeld, IsReserved}
-use Rattle.ta_core.specs.Reading.{Reading, first_or_zero}
+use Rattle.ta_core.specs.Reading.{RowProgress, first_or_zero}
 use Rattle.ta_core.specs.OnTable.{OnTable}
 
 -- what a reading of m lists is, whatever the table
-pub record IsSound (m : ℕ) (A : List Access) (r : Reading) : Type 0 where
+pub record IsSound (m : ℕ) (A : List Access) (r : RowProgress) : Type 0 where
   pub waiting_seen : All (Contains (seen_objects A)) r.waiting
   pub objects_seen : All (Contains (seen_objects A)) r.objects
   pub same_length : length r.bottoms ≡ length r.objects
@@ -24,13 +24,13 @@ pub record IsSound (m : ℕ) (A : List Access) (r : Reading) : Type 0 where
   pub later : (object : ℕ) → Contains (drop 1 r.waiting) object → slice_index r.objects 0 ≢ object
 
 -- between accesses: in a row no grades are there, and after it the first object that waits misses one
-pub record IsAtRest (m : ℕ) (r : Reading) : Type 0 where
+pub record IsAtRest (m : ℕ) (r : RowProgress) : Type 0 where
   pub in_row : length r.objects < m → length r.grades ≡ 0
   pub after_row : r.done ≡ false → m ≤ length r.objects
       → (0 < length r.waiting) × (length r.grades < m) × (slice_index r.objects (length r.grades) ≢ first_or_zero r.waiting)
 
 -- what is kept over m lists of n objects after the accesses A
-pub record IsKept (e : Tree) (k room m n : ℕ) (A : List Access) (board : Held) (r : Reading) : Type 0 where
+pub record IsKept (e : Tree) (k room m n : ℕ) (A : List Access) (board : Held) (r : RowProgress) : Type 0 where
   pub base : IsHeld e k room m n A
   pub same_k : board.k ≡ k
   pub same_room : board.room ≡ room
@@ -38,10 +38,10 @@ pub record IsKept (e : Tree) (k room m n : ℕ) (A : List Access) (board : Held)
   pub rest : IsAtRest m r
   pub on_table : (D : List (List Row)) → Agrees m n D A → OnTable (value e) k n D A r board.items
 
-abbrev pub Keeps : Base → Held → Reading → Type 0
+abbrev pub Keeps : Base → Held → RowProgress → Type 0
 Keeps base board r = IsKept base.expr base.k base.room base.transcript.lists base.transcript.count base.transcript.accesses board r
 
 -- and room is reserved for the accesses to come
-pub record Stands (base : Base) (board : Held) (r : Reading) : Type 0 where
+pub record Stands (base : Base) (board : Held) (r : RowProgress) : Type 0 where
   pub kept : Keeps base board r
   pub reserved : IsReserved base

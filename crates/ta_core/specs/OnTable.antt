@@ -9,7 +9,7 @@ use Rattle.topk_theory.specs.Aggregate.{objects_of, grades_of}
 use Rattle.topk_theory.specs.Transcript.{each_once, seen_objects}
 use Rattle.topk_theory.specs.Threshold.{row_at, stands, random_block, ta_stop, ta_run_to, ta_run, scored}
 use Rattle.machine_base.specs.Depths.{IsReached, read_to}
-use Rattle.ta_core.specs.Reading.{Reading}
+use Rattle.ta_core.specs.Reading.{RowProgress}
 
 -- the objects and the grades of lists at a depth
 abbrev pub objects_at : ℕ → List (List Row) → List ℕ
@@ -19,7 +19,7 @@ abbrev pub bottoms_at : ℕ → List (List Row) → List ℕ
 bottoms_at depth lists = map (λ rows. (row_at rows depth).grade) lists
 
 -- in a row: its first lists are read, and those of its objects that are new wait
-pub record OnRow (V : List ℕ → ℕ) (k n : ℕ) (D : List (List Row)) (A : List Access) (r : Reading) : Type 0 where
+pub record OnRow (V : List ℕ → ℕ) (k n : ℕ) (D : List (List Row)) (A : List Access) (r : RowProgress) : Type 0 where
   pub at : IsReached (ta_stop V k D) n r.depth
   pub unread : length r.objects < length D
   pub objects_are : r.objects ≡ objects_at r.depth (take (length r.objects) D)
@@ -39,7 +39,7 @@ AreFirstGrades D [] grades = Unit {0}
 AreFirstGrades D (object ∷ waiting) grades = grades ≡ take (length grades) (grades_of D object)
 
 -- the row is read, and what is missing of the grades of its new objects is to come
-pub record OnAsks (V : List ℕ → ℕ) (k n : ℕ) (D : List (List Row)) (A : List Access) (r : Reading) : Type 0 where
+pub record OnAsks (V : List ℕ → ℕ) (k n : ℕ) (D : List (List Row)) (A : List Access) (r : RowProgress) : Type 0 where
   pub at : IsReached (ta_stop V k D) n r.depth
   pub objects_are : r.objects ≡ objects_at r.depth D
   pub bottoms_are : r.bottoms ≡ bottoms_at r.depth D
@@ -49,11 +49,11 @@ pub record OnAsks (V : List ℕ → ℕ) (k n : ℕ) (D : List (List Row)) (A : 
   pub ahead : A ++ asks D r.depth r.waiting r.grades ≡ ta_run_to D r.depth
 
 -- the run is made
-pub record IsMade (V : List ℕ → ℕ) (k : ℕ) (D : List (List Row)) (A : List Access) (r : Reading) : Type 0 where
+pub record IsMade (V : List ℕ → ℕ) (k : ℕ) (D : List (List Row)) (A : List Access) (r : RowProgress) : Type 0 where
   pub run : A ≡ ta_run V k D
   pub none : r.waiting ≡ []
 
-abbrev pub OnReading : (List ℕ → ℕ) → ℕ → ℕ → List (List Row) → List Access → Reading → Type 0
+abbrev pub OnReading : (List ℕ → ℕ) → ℕ → ℕ → List (List Row) → List Access → RowProgress → Type 0
 OnReading V k n D A r = MatchBool r.done (IsMade V k D A r) (MatchBool (nat_lt (length r.objects) (length D)) (OnRow V k n D A r) (OnAsks V k n D A r))
 
 -- the board has the seen objects that don't wait, each once, with their aggregates
@@ -63,6 +63,6 @@ pub record OnBoard (V : List ℕ → ℕ) (D : List (List Row)) (A : List Access
   pub only : (item : Item) → Contains items item → Contains (seen_objects A) item.object × (¬ Contains waiting item.object) × (scored V D item.object ≡ item)
 
 -- the machine is on the run of the table
-pub record OnTable (V : List ℕ → ℕ) (k n : ℕ) (D : List (List Row)) (A : List Access) (r : Reading) (items : List Item) : Type 0 where
+pub record OnTable (V : List ℕ → ℕ) (k n : ℕ) (D : List (List Row)) (A : List Access) (r : RowProgress) (items : List Item) : Type 0 where
   pub reading : OnReading V k n D A r
   pub board : OnBoard V D A r.waiting items

@@ -9,7 +9,7 @@ use Rattle.best_k.specs.Held.{put_item}
 
 -- the depth of the row, its objects and grades so far, its new objects whose grades are not all there yet,
 -- the grades of the first of these in the lists from the first on, and whether the answer is known
-pub record Reading : Type 0 where
+pub record RowProgress : Type 0 where
   pub depth : ℕ
   pub objects : List ℕ
   pub bottoms : List ℕ
@@ -41,7 +41,7 @@ abbrev pub with_new : List ℕ → ℕ → Bool → List ℕ
 with_new waiting object is_new = if is_new then waiting ++ object ∷ [] else waiting
 
 -- after one more row of m
-abbrev pub row_added : ℕ → Reading → Row → Bool → Reading
+abbrev pub row_added : ℕ → RowProgress → Row → Bool → RowProgress
 row_added m r row is_new = record r {
   objects = r.objects ++ row.object ∷ [];
   bottoms = r.bottoms ++ row.grade ∷ [];
@@ -50,30 +50,30 @@ row_added m r row is_new = record r {
 }
 
 -- after one more grade of the first object that waits
-abbrev pub grade_added : Reading → ℕ → Reading
+abbrev pub grade_added : RowProgress → ℕ → RowProgress
 grade_added r grade = record r { grades = filled r.objects r.bottoms (first_or_zero r.waiting) (r.grades ++ grade ∷ []) }
 
 -- whether all grades of the first object that waits are there
-abbrev pub is_scored : ℕ → Reading → Bool
+abbrev pub is_scored : ℕ → RowProgress → Bool
 is_scored m r = length r.grades == m
 
 -- the first object that waits goes on the board once its grades are there
-abbrev pub items_after : (List ℕ → ℕ) → ℕ → List Item → Reading → List Item
+abbrev pub items_after : (List ℕ → ℕ) → ℕ → List Item → RowProgress → List Item
 items_after V m items r = if is_scored m r then put_item (record { object = first_or_zero r.waiting; low = V r.grades; high = V r.grades }) items else items
 
-abbrev pub settled : ℕ → Reading → Reading
+abbrev pub settled : ℕ → RowProgress → RowProgress
 settled m r = if is_scored m r then record r { waiting = drop 1 r.waiting; grades = [] } else r
 
 -- whether the row is whole, and no object waits
-abbrev pub is_whole : ℕ → Reading → Bool
+abbrev pub is_whole : ℕ → RowProgress → Bool
 is_whole m r = (length r.objects == m) && (length r.waiting == 0)
 
 -- the beginning of a row
-abbrev pub row_begun : ℕ → Reading
+abbrev pub row_begun : ℕ → RowProgress
 row_begun depth = record { depth = depth; objects = []; bottoms = []; waiting = []; grades = []; done = false }
 
 -- after a whole row: done where the algorithm stops
-abbrev pub moved : ℕ → Bool → Reading → Reading
+abbrev pub moved : ℕ → Bool → RowProgress → RowProgress
 moved m stops r = if is_whole m r then (if stops then record r { done = true } else row_begun (r.depth + 1)) else r
 
 -- at least k of the items have a low of at least the bound
@@ -81,10 +81,10 @@ abbrev pub enough : ℕ → ℕ → List Item → Bool
 enough k bound items = nat_le k (count_by (nat_le bound) (lows items))
 
 -- what follows once an access is told: its object is settled, and a whole row is the last one or makes room for the next
-abbrev pub followed : (List ℕ → ℕ) → ℕ → ℕ → List Item → Reading → Reading
+abbrev pub followed : (List ℕ → ℕ) → ℕ → ℕ → List Item → RowProgress → RowProgress
 followed V k m items r = moved m (enough k (V r.bottoms) items) (settled m r)
 
 -- what is next
-abbrev pub need_at : ℕ → Reading → Need
+abbrev pub need_at : ℕ → RowProgress → Need
 need_at m r =
     if r.done then Done else (if nat_lt (length r.objects) m then RowAt (length r.objects) r.depth else Grade (length r.grades) (first_or_zero r.waiting))

@@ -1,10 +1,10 @@
 -- A reading as the code keeps it.
 use Rattle.std.specs.Prelude.{ℕ, List, [], ◌∷◌}
 use Rattle.ta_core.specs.declared.progress.Progress.{Progress}
-use Rattle.ta_core.specs.Reading.{Reading, filled}
+use Rattle.ta_core.specs.Reading.{RowProgress, filled}
 
 -- the reading of a progress
-abbrev pub reading_of : Progress → Reading
+abbrev pub reading_of : Progress → RowProgress
 reading_of p =
     record { depth = p.depth; objects = p.objects.items; bottoms = p.bottoms.items; waiting = p.waiting.items; grades = p.grades.items; done = p.done }
 
