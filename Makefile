@@ -1,9 +1,9 @@
 # topk: `make try` answers the query lines of crates/hotels without proving anything, `make run` proves the program first,
-# `make test` passes all proofs and tests, and `make bench` tells how long queries take.
+# `make test` passes all proofs and tests, `make bench` tells how long queries take, and `make threads` that workers change no answer.
 
 HOTELS = crates/hotels/data
 
-.PHONY: topk try run test bench
+.PHONY: topk try run test bench threads
 
 # The proved program, at ./topk. `rt run` proves it, builds it and runs it once.
 topk:
@@ -26,3 +26,7 @@ test:
 # Queries over made tables, each algorithm and size: some minutes, and no other work beside it.
 bench: topk
 	bench/bench.py
+
+# `bulk` with one worker and with more writes the same bytes, over and over, and how long it takes: some minutes.
+threads: topk
+	bench/threads.py

@@ -6,10 +6,12 @@ Use, at the top of the repository:  bench/gate.py [--every 0.2] [--] [COMMAND ..
 COMMAND is `rt ci --anew` if none is given, which proves all from nothing and takes hours; `rt check`, `rt test` and `rt must-fail NAME`
 in a crate's folder serve to look at one crate. While it runs, each prover below it is looked at every so many seconds, so the time of a
 process is short by at most that much. A crate's check, its tests and its edits are told apart by the prover's words and by the folder
-that it runs in. The memory is that of the greatest process. It needs Linux (`/proc`).
+that it runs in. The memory is that of the greatest process. Beside these stand the lines of code of the crate (its `.rt` files) and the
+seconds for 100 of them, all kinds together. It needs Linux (`/proc`).
 """
 
 import argparse
+import glob
 import os
 import subprocess
 import sys
@@ -131,33 +133,62 @@ def watch(command, every):
     return child.returncode, seen.values()
 
 
-def names_in_order():
+def top_folder():
+    """The folder at or above this one that has crates.txt, or this one."""
+    folder = os.getcwd()
+    while not os.path.exists(os.path.join(folder, "crates.txt")):
+        above = os.path.dirname(folder)
+        if above == folder:
+            return os.getcwd()
+        folder = above
+    return folder
+
+
+def names_in_order(top):
     """The crates of crates.txt, lowest first."""
     try:
-        with open("crates.txt", encoding="utf-8") as file:
+        with open(os.path.join(top, "crates.txt"), encoding="utf-8") as file:
             lines = [line.split("#")[0].strip() for line in file]
     except OSError:
         return []
     return [line.split(":")[0].split()[0] for line in lines if line]
 
 
+def lines_of(top, name):
+    """How many lines of code a crate has."""
+    lines = 0
+    for path in glob.glob(os.path.join(top, "crates", name, "src", "**", "*.rt"), recursive=True):
+        with open(path, encoding="utf-8") as file:
+            lines += sum(1 for _ in file)
+    return lines
+
+
+def row(name, crate, lines):
+    """A row of the table."""
+    figures = [f"{crate.seconds[kind]:.0f}" for kind in KINDS]
+    rate = f"{sum(crate.seconds.values()) * 100 / lines:.0f}" if lines else ""
+    return f"| {name} | {' | '.join(figures)} | {crate.runs['edits']} | {crate.megabytes} | {lines} | {rate} |"
+
+
 def table(crates, wall):
     """The table of what each crate took."""
-    order = names_in_order()
+    top = top_folder()
+    order = names_in_order(top)
     place = {name: at for at, name in enumerate(order)}
-    print("| crate | check, s | tests, s | edits, s | runs for edits | MB at most |")
-    print("|---|---|---|---|---|---|")
+    print("| crate | check, s | tests, s | edits, s | runs for edits | MB at most | lines of code | s for 100 lines |")
+    print("|---|---|---|---|---|---|---|---|")
     total = Crate()
+    all_lines = 0
     for name in sorted(crates, key=lambda name: (place.get(name, len(order)), name)):
         crate = crates[name]
-        figures = [f"{crate.seconds[kind]:.0f}" for kind in KINDS]
-        print(f"| {name} | {' | '.join(figures)} | {crate.runs['edits']} | {crate.megabytes} |")
+        lines = lines_of(top, name)
+        print(row(name, crate, lines))
         for kind in KINDS:
             total.seconds[kind] += crate.seconds[kind]
             total.runs[kind] += crate.runs[kind]
         total.megabytes = max(total.megabytes, crate.megabytes)
-    figures = [f"{total.seconds[kind]:.0f}" for kind in KINDS]
-    print(f"| all | {' | '.join(figures)} | {total.runs['edits']} | {total.megabytes} |")
+        all_lines += lines
+    print(row("all", total, all_lines))
     whole = sum(total.seconds.values()) / 60
     print(f"\n{whole:.0f} minutes of processor time in {wall / 60:.0f} minutes, on {os.cpu_count()} processors.")
 
