@@ -7,6 +7,7 @@ use Rattle.std.proofs.lemmas.List.{length-set, length-replicate, ext_get_or}
 use Rattle.std.proofs.lemmas.List.Sums.{sum_by-cons}
 use Rattle.std.proofs.lemmas.Option.{none-some}
 use Rattle.indexed_heap.specs.Ranks.{rank_at}
+use Rattle.indexed_heap.proofs.Within.{none_ranked}
 use Rattle.best_k.specs.declared.rank.Rank.{Rank}
 use Rattle.best_k.specs.Halves.{either, joined, IsHalved, IsHalvedBut}
 use Rattle.best_k.proofs.Halving.{at_same, at_other, within_at, count_none, one}
@@ -172,11 +173,6 @@ same_halved_but changed k top others rest left e e' halved =
     subst (λ (t : List (Option Rank)). IsHalvedBut changed k t rest) (sym e) (subst (λ (r : List (Option (Reverse Rank))). IsHalvedBut changed k others r) (sym e') halved)
 
 -- ---- where nobody has a rank
-none_ranked : {T : Type 0} (room place : ℕ) → rank_at {T = T} (replicate room None) place ≡ None
-none_ranked zero place = refl
-none_ranked (suc room) zero = refl
-none_ranked {T = T} (suc room) (suc place) = none_ranked {T = T} room place
-
 pub halved_none : (k room : ℕ) (top : List (Option Rank)) (rest : List (Option (Reverse Rank))) → 1 ≤ k → top ≡ replicate room None
     → rest ≡ replicate room None → IsHalved k top rest
 halved_none k room top rest positive top_is rest_is =

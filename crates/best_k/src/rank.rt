@@ -37,7 +37,8 @@ impl Ord for Rank {
 }
 
 impl PartialOrd for Rank {
-    ghost partial_cmp = { as_partial_cmp (then_cmp (then_cmp (flip_args (on (λ r. r.low) nat_cmp)) (flip_args (on (λ r. r.high) nat_cmp))) (on (λ r. r.object) nat_cmp)) };
+    ghost partial_cmp = { as_partial_cmp
+        (then_cmp (then_cmp (flip_args (on (λ r. r.low) nat_cmp)) (flip_args (on (λ r. r.high) nat_cmp))) (on (λ r. r.object) nat_cmp)) };
 
     ghost laws = { partial_order_from_own_ties (Prim.search (comparing, rules)) (Prim.search (comparing, rules)) };
 

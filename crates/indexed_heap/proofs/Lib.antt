@@ -1,5 +1,5 @@
-pub mod TreeLaws
-pub mod Greatest
-pub mod Keeping
-pub mod Widening
+pub mod Getting
+pub mod HeapLaws
+pub mod Placing
+pub mod Putting
 pub mod Within

@@ -1,13 +1,14 @@
 -- The ranks of the keys below a room, of which those past a list have none.
-use Rattle.std.proofs.Common.{◌≡◌, inl, inr, ℕ, zero, suc, ◌+◌, ◌-◌, ◌<◌, ◌≤◌, ◌++◌, List, Option, Some, None, length, set, replicate, get_or, is_some, refl, sym, ap, ◌∙◌, subst, arith, length-append}
+use Rattle.std.proofs.Common.{◌≡◌, inl, inr, ℕ, zero, suc, ◌+◌, ◌-◌, ◌<◌, ◌≤◌, ◌++◌, List, Option, Some, None, length, set, replicate, is_some, refl, sym, ap, ◌∙◌, subst, arith, length-append}
 use Rattle.std.specs.declared.cmp.Ordering.{Ordering}
 use Rattle.std.specs.List.{count_by}
 use Rattle.std.specs.Prelude.{IfNone, IfSome}
 use Rattle.std.proofs.lemmas.Bool.{cases_lt}
-use Rattle.std.proofs.lemmas.List.{append_assoc, length-replicate, replicate-append-replicate, get_or-replicate, get_or_past, get_or_append_left, get_or-append_right, set-append_left, set-get_or, length-set}
+use Rattle.std.proofs.lemmas.List.{append_assoc, length-replicate, replicate-append-replicate, get_or_past, get_or_append_left, get_or-append_right, set-append_left, length-set}
 use Rattle.std.proofs.lemmas.List.Sums.{sum_by-append, sum_by-cons}
 use Rattle.indexed_heap.specs.declared.tree.Ranked.{Ranked}
 use Rattle.indexed_heap.specs.Ranks.{rank_at, ranks_within, HasNone, IsGreatest, one_if}
+use Rattle.indexed_heap.proofs.Getting.{get_replicate}
 
 -- as many keys as the room
 pub length-within : {T : Type 0} (room : ℕ) (ranks : List (Option T)) → length ranks ≤ room → length (ranks_within room ranks) ≡ room
@@ -17,12 +18,8 @@ length-within {T = T} room ranks few =
     omega arith
 
 -- no rank in a list of none
-none_at : {T : Type 0} (n place : ℕ) → rank_at {T = T} (replicate n None) place ≡ None
-none_at {T = T} n place =
-    elim (cases_lt place n) as (λ _. rank_at {T = T} (replicate n None) place ≡ None) [
-      | inl within ↦ get_or-replicate n place None None within
-      | inr past ↦ get_or_past (replicate n None) place None (rw length-replicate past)
-    ]
+pub none_ranked : {T : Type 0} (room place : ℕ) → rank_at {T = T} (replicate room None) place ≡ None
+none_ranked {T = T} room place = get_replicate {X = Option T} None room place
 
 -- each key has the rank that it has in the list
 pub rank_within : {T : Type 0} (room : ℕ) (ranks : List (Option T)) (key : ℕ) → rank_at (ranks_within room ranks) key ≡ rank_at ranks key
@@ -31,10 +28,10 @@ rank_within {T = T} room ranks key =
       | inl here ↦ get_or_append_left ranks (replicate (room - length ranks) None) None key here
       | inr past ↦
           get_or-append_right ranks (replicate (room - length ranks) None) (length ranks) key None refl past
-          ∙ none_at (room - length ranks) (key - length ranks) ∙ sym (get_or_past ranks key None past)
+          ∙ none_ranked (room - length ranks) (key - length ranks) ∙ sym (get_or_past ranks key None past)
     ]
 
-count_of_none : (T : Type 0) (n : ℕ) → count_by {X = Option T} is_some (replicate n None) ≡ 0
+pub count_of_none : (T : Type 0) (n : ℕ) → count_by {X = Option T} is_some (replicate n None) ≡ 0
 count_of_none T zero = refl
 count_of_none T (suc n) = let more = count_of_none T n in omega (arith, sum_by-cons {X = Option T})
 
@@ -45,28 +42,22 @@ count_within {T = T} room ranks =
     let none = count_of_none T (room - length ranks) in
     omega arith
 
--- a rank that is written in the list, and one that is taken away past it
+-- a rank that is written in the list
 pub set_within : {T : Type 0} (room : ℕ) (ranks : List (Option T)) (key : ℕ) (rank : Option T) → key < length ranks
     → ranks_within room (set ranks key rank) ≡ set (ranks_within room ranks) key rank
 set_within {T = T} room ranks key rank here =
     ap (λ n. set ranks key rank ++ replicate (room - n) None) (length-set ranks key rank)
     ∙ sym (set-append_left ranks (replicate (room - length ranks) None) key rank here)
 
-pub unset_past : {T : Type 0} (room : ℕ) (ranks : List (Option T)) (key : ℕ) → length ranks ≤ key
-    → ranks_within room ranks ≡ set (ranks_within room ranks) key None
-unset_past {T = T} room ranks key past =
-    let had : get_or (ranks_within room ranks) key None ≡ None = rank_within room ranks key ∙ get_or_past ranks key None past in
-    sym (ap (set (ranks_within room ranks) key) (sym had) ∙ set-get_or (ranks_within room ranks) key None)
-
 -- a list that goes on with none is within a room what it was
-pub within_within : {T : Type 0} (room wide : ℕ) (ranks : List (Option T)) → length ranks ≤ wide → wide ≤ room
-    → ranks_within room (ranks_within wide ranks) ≡ ranks_within room ranks
-within_within {T = T} room wide ranks few fits =
-    let size = length-within wide ranks few in
-    let rest : wide - length ranks + (room - wide) ≡ room - length ranks = omega arith in
-    ap (λ n. ranks_within wide ranks ++ replicate (room - n) None) size
-    ∙ append_assoc ranks (replicate (wide - length ranks) None) (replicate (room - wide) None)
-    ∙ ap (λ t. ranks ++ t) (replicate-append-replicate (wide - length ranks) (room - wide) None ∙ ap (λ n. replicate n None) rest)
+pub within_more : {T : Type 0} (room n : ℕ) (ranks : List (Option T)) → length ranks + n ≤ room
+    → ranks_within room (ranks ++ replicate n None) ≡ ranks_within room ranks
+within_more {T = T} room n ranks fits =
+    let size = length-append ranks (replicate n None) in
+    let more = length-replicate {A = Option T} n None in
+    let rest : n + (room - length (ranks ++ replicate n None)) ≡ room - length ranks = omega arith in
+    append_assoc ranks (replicate n None) (replicate (room - length (ranks ++ replicate n None)) None)
+    ∙ ap (λ t. ranks ++ t) (replicate-append-replicate n (room - length (ranks ++ replicate n None)) None ∙ ap (λ i. replicate i None) rest)
 
 -- and a wider room has more of none
 pub wider_within : {T : Type 0} (room wide : ℕ) (ranks : List (Option T)) → length ranks ≤ room → room ≤ wide

@@ -1,6 +1,5 @@
 -- A finite map from keys to ranks: a list with a place for each key, and there its rank, or None where it has none.
-use Rattle.std.specs.Prelude.{◌≡◌, ◌≢◌, ◌≤◌, ◌-◌, ◌++◌, ℕ, Bool, Option, Some, None, List, length, replicate, slice_index_or, if◌then◌else◌}
-use Rattle.limits.specs.declared.TheConstants.{MAX_OBJECTS}
+use Rattle.std.specs.Prelude.{◌≡◌, ◌≢◌, ◌-◌, ◌++◌, ℕ, Bool, Option, Some, None, List, length, replicate, slice_index_or, if◌then◌else◌}
 use Rattle.std.specs.declared.cmp.Ordering.{Ordering}
 use Rattle.std.specs.declared.cmp.Ordering.TheVariants.{Greater}
 
@@ -20,18 +19,6 @@ pub record IsGreatest {T : Type 0} (cmp : T → T → Ordering) (ranks : List (O
 -- the ranks of the keys below a room, of which those past the list have none
 abbrev pub ranks_within : {T : Type 0} → ℕ → List (Option T) → List (Option T)
 ranks_within room ranks = ranks ++ replicate (room - length ranks) None
-
--- what is seen of a heap inside: the ranks of the keys below its width, and how wide it may become without memory
-pub record Held (T : Type 0) : Type 0 where
-  pub ranks : List (Option T)
-  pub most : ℕ
-
--- the heap is no wider than the room, which is within its limit, and both may become as wide as it
-pub record FitsRoom {T : Type 0} (room : ℕ) (filled other : Held T) : Type 0 where
-  pub small : room ≤ MAX_OBJECTS
-  pub within : length filled.ranks ≤ room
-  pub held : room ≤ filled.most
-  pub spare : room ≤ other.most
 
 -- one where the test holds
 abbrev pub one_if : Bool → ℕ

@@ -1,69 +1,39 @@
 //! The heap.
 
-ghost use Rattle.std.specs.Prelude.{◌≡◌, ◌+◌, ◌-◌, ◌<◌, ◌≤◌, ◌++◌, length, replicate, count_by, is_some, slice_set, IfOk, OnErr, OnOk, IfNone, IfSome};
-ghost use Rattle.indexed_heap.specs.Ranks.{rank_at, ranks_within, IsGreatest, HasNone, FitsRoom};
+ghost use Rattle.std.specs.Prelude.{◌≡◌, ◌-◌, ◌<◌, ◌≤◌, ◌++◌, length, replicate, count_by, is_some, slice_set, IfOk, OnErr, OnOk, IfNone, IfSome, Some, None};
+ghost use Rattle.indexed_heap.specs.Ranks.{rank_at, IsGreatest, HasNone};
 
 use super::Memory;
-use super::filled::Filled;
+use super::changes::{add, change, place_of, reach, take_out};
 use super::tree::Ranked;
 use limits::MAX_OBJECTS;
 use std::alloc::Global;
 use std::marker::Model;
-use std::mem::swap;
 
 /// A finite map from keys to ranks whose greatest rank is at hand. Contracts see it as a list with a place for
 /// each key below the room: the key's rank, or None where it has none.
 ///
-/// The leaves are written as keys come: the tree is only as wide as the greatest key wants that ever had a rank, and where a
-/// greater one comes it is copied at four times the width, for which memory is held from the beginning.
+/// Memory for the whole room is held from the beginning, and is written only as keys come: as many nodes as keys have a rank, and
+/// places up to the greatest key that ever had one.
 #[derive(Drop)]
 pub struct IndexedHeap<T: Ord + Copy> {
     room: u32,
-    /// The ranks of the keys below its width. No other key has one.
-    filled: Filled<T>,
-    /// Where the ranks are copied, once a wider tree is wanted.
-    other: Filled<T>,
+    /// The keys that have a rank, as a tree.
+    nodes: Vec<Ranked<T>>,
+    /// The place of each key's node.
+    places: Vec<Option<u32>>,
 }
 
 impl<T: Ord + Copy> Model for IndexedHeap<T> {
-    ghost use Rattle.std.specs.Prelude.{List, Option};
-    ghost use Rattle.indexed_heap.specs.Ranks.{ranks_within, FitsRoom};
+    ghost use Rattle.std.specs.Prelude.{List, Option, vec_capacity};
+    ghost use Rattle.indexed_heap.specs.Ranks.{ranks_within};
+    ghost use Rattle.indexed_heap.specs.Tree.{ranks_of, IsFilled};
 
     ghost Value = { List (Option T) };
 
-    ghost view = { λ a. ranks_within a.room a.filled.ranks };
+    ghost view = { λ a. ranks_within a.room (ranks_of a.nodes.items a.places.items) };
 
-    ghost invariant = { λ a. FitsRoom a.room a.filled a.other };
-}
-
-/// Makes a heap wider, if it is too narrow for a key below the room: at least four times as wide, within the room.
-fn reach<T: Ord + Copy>(filled: &mut Filled<T>, other: &mut Filled<T>, room: u32, key: u32)
-    requires fits { FitsRoom room filled.old other.old }
-    requires within { key < room }
-    ensures fits { FitsRoom room filled.new other.new }
-    ensures wide { key < length filled.new.ranks }
-    ensures ranks { ranks_within room filled.new.ranks ≡ ranks_within room filled.old.ranks }
-{
-    if key < filled.room() {
-        return;
-    }
-    let wide = (4 * filled.room()).max(key + 1).min(room);
-    copy(filled, other, wide);
-    swap(filled, other);
-}
-
-/// Copies a heap's ranks into another one, which gets this width.
-fn copy<T: Ord + Copy>(filled: &Filled<T>, other: &mut Filled<T>, wide: u32)
-    requires held { wide ≤ other.old.most }
-    requires wide { length filled.now.ranks ≤ wide }
-    ensures ranks { other.new ≡ record other.old { ranks = ranks_within wide filled.now.ranks } }
-{
-    other.clear_to(wide);
-    for key in 0..filled.room() {
-        if let Some(rank) = filled.get(key) {
-            other.put(key, rank);
-        }
-    }
+    ghost invariant = { λ a. IsFilled T.cmp a.room a.nodes.items a.places.items (vec_capacity a.nodes) (vec_capacity a.places) };
 }
 
 impl<T: Ord + Copy> IndexedHeap<T> {
@@ -72,14 +42,16 @@ impl<T: Ord + Copy> IndexedHeap<T> {
         requires { room ≤ MAX_OBJECTS }
         ensures { IfOk result (λ heap. heap ≡ replicate room None) }
     {
-        let mut filled = Filled::make(alloc);
-        filled.hold(room)?;
-        let mut other = Filled::make(alloc);
-        other.hold(room)?;
+        let Ok(nodes) = Vec::with_capacity(alloc, room as usize) else {
+            return Err(Memory);
+        };
+        let Ok(places) = Vec::with_capacity(alloc, room as usize) else {
+            return Err(Memory);
+        };
         Ok(IndexedHeap {
             room,
-            filled,
-            other,
+            nodes,
+            places,
         })
     }
 
@@ -94,14 +66,15 @@ impl<T: Ord + Copy> IndexedHeap<T> {
     pub fn len(&self) -> u32
         ensures { result ≡ count_by is_some self.now }
     {
-        self.filled.len()
+        self.nodes.len() as u32
     }
 
     /// The rank of a key, None where it has none.
     pub fn get(&self, key: u32) -> Option<T>
         ensures { result ≡ rank_at self.now key }
     {
-        self.filled.get(key)
+        let place = place_of(&self.places, key)?;
+        Some(self.nodes[place as usize].rank)
     }
 
     /// Whether a key has a rank.
@@ -116,7 +89,7 @@ impl<T: Ord + Copy> IndexedHeap<T> {
         ensures none { IfNone result (HasNone self.now) }
         ensures greatest { IfSome result (λ top. IsGreatest T.cmp self.now top.key top.rank) }
     {
-        self.filled.greatest()
+        self.nodes.first().copied()
     }
 
     /// Gives a key a rank, in place of the one that it had. Takes no memory.
@@ -124,8 +97,12 @@ impl<T: Ord + Copy> IndexedHeap<T> {
         requires { key < length self.old }
         ensures { self.new ≡ slice_set self.old key (Some rank) }
     {
-        reach(&mut self.filled, &mut self.other, self.room, key);
-        self.filled.put(key, rank);
+        reach(&mut self.places, key);
+        let node = Ranked { key, rank };
+        match place_of(&self.places, key) {
+            Some(place) => change(&mut self.nodes, &mut self.places, place, node),
+            None => add(&mut self.nodes, &mut self.places, node),
+        }
     }
 
     /// Takes the rank of a key away. Where it has none nothing changes.
@@ -133,10 +110,9 @@ impl<T: Ord + Copy> IndexedHeap<T> {
         requires { key < length self.old }
         ensures { self.new ≡ slice_set self.old key None }
     {
-        if key >= self.filled.room() {
-            return;
+        if let Some(place) = place_of(&self.places, key) {
+            take_out(&mut self.nodes, &mut self.places, place, key);
         }
-        self.filled.remove(key);
     }
 
     /// Makes the room at least `room`, at most 200,000; the ranks stay. Where memory is refused nothing has changed.
@@ -148,8 +124,12 @@ impl<T: Ord + Copy> IndexedHeap<T> {
         if room <= self.room {
             return Ok(());
         }
-        self.filled.hold(room)?;
-        self.other.hold(room)?;
+        let Ok(()) = self.nodes.reserve(room as usize - self.nodes.len()) else {
+            return Err(Memory);
+        };
+        let Ok(()) = self.places.reserve(room as usize - self.places.len()) else {
+            return Err(Memory);
+        };
         self.room = room;
         Ok(())
     }

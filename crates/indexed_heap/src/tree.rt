@@ -1,8 +1,11 @@
-//! The tree of choices under a heap: a list of twice the room. The leaf of a key stands at the room plus the key;
-//! the node at a place below the room has the greater of those at twice the place and behind it. Place 0 is unused.
+//! The tree under a heap: a list of keys with ranks, of which none has a greater rank than the one above it. Under the node at
+//! a place stand those at twice the place and one, and at the next. Beside the list, the place of each key's node.
 
-ghost use Rattle.std.specs.Prelude.{◌≡◌, ◌<◌, drop, length, slice_set, IsTrue};
-ghost use Rattle.indexed_heap.specs.Tree.{IsTree, IsAlmostTree, IsAtKey, node_at, greater, SameOther};
+ghost use Rattle.std.specs.Prelude.{◌≡◌, ◌+◌, ◌*◌, ◌<◌, ◌≤◌, length, MatchOption};
+ghost use Rattle.std.specs.Ordering.{is_lt};
+ghost use Rattle.indexed_heap.specs.Tree.{above, node_at, node_cmp, IsUpTo, IsHeap, IsLoose, IsRising, IsSinking, IsUnderNoGreater, CoversUnder, IsGreatestUnder, IsGreaterUnder, IsExchanged, IsPlaced, IsMoved};
+
+use limits::MAX_OBJECTS;
 
 /// A key that has a rank.
 #[derive(Clone, Copy, Debug, PartialEq, Eq)]
@@ -11,81 +14,125 @@ pub struct Ranked<T> {
     pub rank: T,
 }
 
-/// Writes the leaf of a key, and chooses anew above it.
-pub(crate) fn set_leaf<T: Ord + Copy>(
-    nodes: &mut [Option<Ranked<T>>],
-    room: u32,
-    key: u32,
-    leaf: Option<Ranked<T>>,
+/// Exchanges two nodes.
+pub(crate) fn exchange<T: Ord + Copy>(
+    nodes: &mut [Ranked<T>],
+    places: &mut [Option<u32>],
+    one: usize,
+    other: usize,
 )
-    requires tree { IsTree T.cmp room nodes.old }
-    requires within { key < room }
-    requires own { IsAtKey key leaf }
-    ensures tree { IsTree T.cmp room nodes.new }
-    ensures leaves { drop room nodes.new ≡ slice_set (drop room nodes.old) key leaf }
+    requires placed { IsPlaced nodes.old places.old }
+    requires one { one < length nodes.old }
+    requires other { other < length nodes.old }
+    ensures exchanged { IsExchanged one other nodes.old nodes.new }
+    ensures moved { IsMoved nodes.old nodes.new places.old places.new }
 {
-    let place = room as usize + key as usize;
-    write(nodes, place, leaf);
-    choose_above(nodes, room, key, place);
+    let first = nodes[one];
+    let second = nodes[other];
+    nodes[one] = second;
+    nodes[other] = first;
+    places[second.key as usize] = Some(one as u32);
+    places[first.key as usize] = Some(other as u32);
 }
 
-/// Chooses anew at each place above one whose node has changed, up to the first that stays as it was.
-fn choose_above<T: Ord + Copy>(nodes: &mut [Option<Ranked<T>>], room: u32, key: u32, changed: usize)
-    requires { IsAlmostTree T.cmp room key changed nodes.old }
-    ensures tree { IsTree T.cmp room nodes.new }
-    ensures leaves { drop room nodes.new ≡ drop room nodes.old }
+/// Whether the node at the first place is less than the one at the second.
+fn is_less<T: Ord + Copy>(nodes: &[Ranked<T>], first: usize, second: usize) -> bool
+    requires first { first < length nodes.now }
+    requires second { second < length nodes.now }
+    ensures { result ≡ is_lt (node_cmp T.cmp (node_at nodes.now first) (node_at nodes.now second)) }
 {
-    let mut place = changed;
-    while place > 1 {
-        let parent = place / 2;
-        let chosen = greater_of(nodes[2 * parent], nodes[2 * parent + 1]);
-        if is_same(nodes[parent], chosen, key) {
-            return;
-        }
-        write(nodes, parent, chosen);
-        place = parent;
+    nodes[first].rank < nodes[second].rank
+}
+
+/// The place above, where the node there is less.
+fn less_above<T: Ord + Copy>(nodes: &[Ranked<T>], place: usize) -> Option<usize>
+    requires { place < length nodes.now }
+    ensures { MatchOption result (1 ≤ place → IsUpTo T.cmp nodes.now place (above place)) (IsUnderNoGreater T.cmp nodes.now place) }
+{
+    if place == 0 {
+        return None;
+    }
+    let above = (place - 1) / 2;
+    if is_less(nodes, above, place) {
+        Some(above)
+    } else {
+        None
     }
 }
 
-/// The node at the first place, which is above all others, None where there is no place.
-pub(crate) fn first_node<T: Ord + Copy>(nodes: &[Option<Ranked<T>>]) -> Option<Ranked<T>>
-    ensures { result ≡ node_at nodes.now 1 }
+/// The place of the greatest node under one, None where none is.
+fn greatest_under<T: Ord + Copy>(nodes: &[Ranked<T>], place: usize) -> Option<usize>
+    requires within { place < length nodes.now }
+    requires few { length nodes.now ≤ MAX_OBJECTS }
+    ensures { MatchOption result (length nodes.now ≤ 2 * place + 1) (IsGreatestUnder T.cmp nodes.now place) }
 {
-    match nodes.get(1) {
-        Some(first) => *first,
-        None => None,
+    let first = 2 * place + 1;
+    let second = 2 * place + 2;
+    if second < nodes.len() && is_less(nodes, first, second) {
+        return Some(second);
+    }
+    if first < nodes.len() {
+        Some(first)
+    } else {
+        None
     }
 }
 
-/// Writes one node.
-fn write<T: Ord + Copy>(nodes: &mut [Option<Ranked<T>>], place: usize, node: Option<Ranked<T>>)
-    requires { place < length nodes.old }
-    ensures { nodes.new ≡ slice_set nodes.old place node }
+/// The place of the greatest node under one, where it is greater than the one there.
+fn greater_under<T: Ord + Copy>(nodes: &[Ranked<T>], place: usize) -> Option<usize>
+    requires within { place < length nodes.now }
+    requires few { length nodes.now ≤ MAX_OBJECTS }
+    ensures { MatchOption result (CoversUnder T.cmp nodes.now place place) (IsGreaterUnder T.cmp nodes.now place) }
 {
-    nodes[place] = node;
-}
-
-/// The greater of two nodes, the first where neither is.
-fn greater_of<T: Ord + Copy>(
-    first: Option<Ranked<T>>,
-    second: Option<Ranked<T>>,
-) -> Option<Ranked<T>>
-    ensures { result ≡ greater T.cmp first second }
-{
-    match (first, second) {
-        (None, _) => second,
-        (_, None) => first,
-        (Some(a), Some(b)) => if a.rank < b.rank { second } else { first },
+    let under = greatest_under(nodes, place)?;
+    if is_less(nodes, place, under) {
+        Some(under)
+    } else {
+        None
     }
 }
 
-/// Whether two nodes have one key, another than this one, or neither has one.
-fn is_same<T: Ord + Copy>(old: Option<Ranked<T>>, new: Option<Ranked<T>>, key: u32) -> bool
-    ensures { IsTrue result → SameOther key old new }
+/// Lets the node at a place rise above each that is less.
+fn rise<T: Ord + Copy>(nodes: &mut [Ranked<T>], places: &mut [Option<u32>], from: usize)
+    requires placed { IsPlaced nodes.old places.old }
+    requires rising { IsRising T.cmp from nodes.old }
+    ensures heap { IsHeap T.cmp nodes.new }
+    ensures moved { IsMoved nodes.old nodes.new places.old places.new }
 {
-    match (old, new) {
-        (None, None) => true,
-        (Some(a), Some(b)) => a.key == b.key && a.key != key,
-        _ => false,
+    let mut place = from;
+    while let Some(above) = less_above(nodes, place) {
+        exchange(nodes, places, above, place);
+        place = above;
+    }
+}
+
+/// Lets the node at a place sink below each that is greater.
+fn sink<T: Ord + Copy>(nodes: &mut [Ranked<T>], places: &mut [Option<u32>], from: usize)
+    requires placed { IsPlaced nodes.old places.old }
+    requires sinking { IsSinking T.cmp from nodes.old }
+    ensures heap { IsHeap T.cmp nodes.new }
+    ensures moved { IsMoved nodes.old nodes.new places.old places.new }
+{
+    let mut place = from;
+    while let Some(under) = greater_under(nodes, place) {
+        exchange(nodes, places, place, under);
+        place = under;
+    }
+}
+
+/// Lets the node at a place, which may have any rank, go where it belongs.
+pub(crate) fn settle<T: Ord + Copy>(
+    nodes: &mut [Ranked<T>],
+    places: &mut [Option<u32>],
+    place: usize,
+)
+    requires placed { IsPlaced nodes.old places.old }
+    requires loose { IsLoose T.cmp place nodes.old }
+    ensures heap { IsHeap T.cmp nodes.new }
+    ensures moved { IsMoved nodes.old nodes.new places.old places.new }
+{
+    match less_above(nodes, place) {
+        Some(_) => rise(nodes, places, place),
+        None => sink(nodes, places, place),
     }
 }

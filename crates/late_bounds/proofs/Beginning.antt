@@ -1,8 +1,8 @@
 -- Before any access.
-use Rattle.std.proofs.Common.{◌≡◌, ◌≤◌, ℕ, zero, suc, Bool, true, false, min, List, [], Option, Some, None, length, replicate, slice_get, refl, sym, ap, ◌∙◌, subst, arith}
+use Rattle.std.proofs.Common.{◌≡◌, ◌≤◌, ℕ, true, false, min, List, [], Option, Some, None, length, replicate, slice_get, refl, sym, ◌∙◌, subst, arith}
 use Rattle.std.proofs.lemmas.List.{length-replicate}
 use Rattle.std.proofs.lemmas.Option.{none-some, slice_get_past}
-use Rattle.indexed_heap.specs.Ranks.{rank_at}
+use Rattle.indexed_heap.proofs.Within.{none_ranked}
 use Rattle.ranked_slots.specs.declared.slots.Entry.{Entry}
 use Rattle.ranked_slots.specs.Slots.{Slots}
 use Rattle.topk_theory.specs.Bounds.{low, high}
@@ -11,12 +11,6 @@ use Rattle.nra_theory.specs.Late.{Keeps}
 use Rattle.monotone_fn.specs.Tree.{Tree}
 use Rattle.monotone_fn.specs.Value.{value}
 use Rattle.late_bounds.specs.Late.{IsLate, IsLateAfter, is_first, is_candidate}
-
--- no key of a new heap has a rank
-none_ranked : {T : Type 0} (room place : ℕ) → rank_at {T = T} (replicate room None) place ≡ None
-none_ranked zero place = refl
-none_ranked (suc room) zero = refl
-none_ranked {T = T} (suc room) (suc place) = none_ranked {T = T} room place
 
 least_of_none : (k : ℕ) → 0 ≡ min k 0
 least_of_none k = omega arith

@@ -16,7 +16,7 @@ use Rattle.access_log.proofs.RecordKept.{placed}
 use Rattle.indexed_heap.specs.Ranks.{rank_at}
 use Rattle.ranked_slots.specs.declared.slots.Entry.{Entry}
 use Rattle.ranked_slots.specs.Slots.{Slots, HasNone, IsLeast, AreDistinctKeys}
-use Rattle.ranked_slots.proofs.Changes.{get_last, get_before, get_set_same, get_set_other}
+use Rattle.indexed_heap.proofs.Getting.{get_last, get_before, get_set_same, get_set_other}
 use Rattle.nra_theory.specs.Late.{AreApart, AreNextBounds, Keeps, with_one, exchanged}
 use Rattle.nra_theory.proofs.Candidates.{NamesOutside, keeps_of_member, keeps_of_few, keeps_of_outside, keeps_of_known, keeps_of_exchange, keeps_same}
 use Rattle.nra_theory.proofs.Members.{all_in}

@@ -13,7 +13,7 @@ use Rattle.access_log.proofs.RecordKept.{placed, not_placed, place_of_absent}
 use Rattle.indexed_heap.specs.Ranks.{rank_at}
 use Rattle.ranked_slots.specs.declared.slots.Entry.{Entry}
 use Rattle.ranked_slots.specs.Slots.{HasNone, AreDistinctKeys}
-use Rattle.ranked_slots.proofs.Changes.{get_last, get_before, get_set_same, get_set_other}
+use Rattle.indexed_heap.proofs.Getting.{get_last, get_before, get_set_same, get_set_other}
 use Rattle.nra_theory.specs.Late.{AreApart, with_one, without, exchanged}
 use Rattle.nra_theory.proofs.Counts.{with_itself, with_other, without_itself, without_other}
 use Rattle.nra_theory.proofs.Members.{in_exchanged}

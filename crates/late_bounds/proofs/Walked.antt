@@ -12,7 +12,7 @@ use Rattle.access_log.proofs.RecordKept.{placed}
 use Rattle.indexed_heap.specs.Ranks.{rank_at}
 use Rattle.ranked_slots.specs.declared.slots.Entry.{Entry}
 use Rattle.ranked_slots.specs.Slots.{Slots, HasNone, AreDistinctKeys}
-use Rattle.ranked_slots.proofs.Changes.{get_set_same, get_set_other}
+use Rattle.indexed_heap.proofs.Getting.{get_set_same, get_set_other}
 use Rattle.nra_theory.specs.Late.{IsLeastLow, AreOthersWithin, without, exchanged}
 use Rattle.nra_theory.proofs.Members.{exchange_least}
 use Rattle.nra_theory.proofs.Candidates.{keeps_of_giving_up, keeps_of_tie, within_candidates, not_within_with_witness, keeps_same, least_same}

@@ -50,7 +50,8 @@ fn next_to_leave(
     requires places { AreSeen transcript.now.accesses first.now.entries }
     ensures small { IfSome result (λ slot. slot < MAX_OBJECTS) }
     ensures found { IfSome result (GivesPlace (value expr.now) transcript.now.lists transcript.now.accesses bound first.now.entries from) }
-    ensures none { IfNone result (AreOpenFrom (value expr.now) transcript.now.lists transcript.now.accesses bound first.now.entries from (length first.now.entries)) }
+    ensures none { IfNone result (AreOpenFrom (value expr.now) transcript.now.lists transcript.now.accesses bound first.now.entries from
+        (length first.now.entries)) }
 {
     for slot in from..first.len() {
         let entry = first.get(slot);
@@ -75,7 +76,10 @@ fn are_others_within(
     requires kept { IsLate (value expr.now) first.old.most transcript.now.lists transcript.now.accesses first.old candidates.old }
     requires enough { first.old.most ≤ length (seen_objects transcript.now.accesses) }
     requires bound { IsLeastLow (low (value expr.now) transcript.now.lists transcript.now.accesses) (is_first transcript.now.accesses first.old.entries) bound }
-    ensures within { IsTrue result ↔ AreOthersWithin (low (value expr.now) transcript.now.lists transcript.now.accesses) (high (value expr.now) transcript.now.lists transcript.now.accesses) (seen_objects transcript.now.accesses) (is_first transcript.now.accesses first.old.entries) bound }
+    ensures within { IsTrue result
+        ↔ AreOthersWithin (low (value expr.now) transcript.now.lists transcript.now.accesses)
+        (high (value expr.now) transcript.now.lists transcript.now.accesses)
+        (seen_objects transcript.now.accesses) (is_first transcript.now.accesses first.old.entries) bound }
     ensures room { first.new.room ≡ first.old.room }
     ensures kept { IsLate (value expr.now) first.old.most transcript.now.lists transcript.now.accesses first.new candidates.new }
 {

@@ -7,35 +7,14 @@ use Rattle.std.specs.Cmp.{nat_cmp_is}
 use Rattle.std.specs.declared.cmp.Ordering.TheVariants.{Greater}
 use Rattle.std.specs.declared.cmp.Reverse.{Reverse}
 use Rattle.std.proofs.lemmas.Bool.{cases_eq, cases_lt}
-use Rattle.std.proofs.lemmas.List.{length-set, get_or-set_same, get_or-set_other, length_push, get_or_push}
-use Rattle.std.proofs.lemmas.Option.{none-some, same_Some, slice_get_past, slice_get_within, slice_get-get_or}
+use Rattle.std.proofs.lemmas.List.{length-set, get_or-set_same, get_or-set_other}
+use Rattle.std.proofs.lemmas.Option.{none-some, same_Some, slice_get_within, slice_get-get_or}
 use Rattle.indexed_heap.specs.Ranks.{rank_at}
+use Rattle.indexed_heap.proofs.Getting.{get_set_same, get_set_other, get_last, get_before}
 use Rattle.ranked_slots.specs.declared.slots.Entry.{Entry}
 use Rattle.ranked_slots.specs.Slots.{HasNone, IsAt, IsLeast, reversed, Keeps}
 
 -- ---- reading after a write
-pub get_set_same : {X : Type 0} (xs : List X) (i : ℕ) (x : X) → i < length xs → slice_get (set xs i x) i ≡ Some x
-get_set_same xs i x lt =
-    let within : i < length (set xs i x) = omega (arith, length-set xs i x) in
-    slice_get-get_or (set xs i x) i x within ∙ ap (λ y. Some y) (get_or-set_same xs i x x lt)
-
-pub get_set_other : {X : Type 0} (xs : List X) (i j : ℕ) (x : X) → j ≢ i → slice_get (set xs i x) j ≡ slice_get xs j
-get_set_other xs i j x apart =
-    let same : length (set xs i x) ≡ length xs = length-set xs i x in
-    elim (cases_lt j (length xs)) [
-      | inl lt ↦ slice_get-get_or (set xs i x) j x (omega arith) ∙ ap (λ y. Some y) (get_or-set_other xs i j x x apart) ∙ sym (slice_get-get_or xs j x lt)
-      | inr past ↦ slice_get_past (set xs i x) j (omega arith) ∙ sym (slice_get_past xs j past)
-    ]
-
-pub get_last : {X : Type 0} (xs : List X) (x : X) → slice_get (xs ++ x ∷ []) (length xs) ≡ Some x
-get_last xs x = slice_get-get_or (xs ++ x ∷ []) (length xs) x (omega (arith, length_push xs x)) ∙ ap (λ y. Some y) (get_or_push xs x x (length xs) refl)
-
-pub get_before : {X : Type 0} (xs : List X) (x : X) (i : ℕ) → i ≢ length xs → slice_get (xs ++ x ∷ []) i ≡ slice_get xs i
-get_before [] x zero apart = absurd (apart refl)
-get_before [] x (suc i) apart = refl
-get_before (y ∷ xs) x zero apart = refl
-get_before (y ∷ xs) x (suc i) apart = get_before xs x i (λ e. apart (ap (λ n. suc n) e))
-
 rank_same : (ranks : List (Option (Reverse ℕ))) (i : ℕ) (rank : Option (Reverse ℕ)) → i < length ranks → rank_at (set ranks i rank) i ≡ rank
 rank_same ranks i rank lt = get_or-set_same ranks i rank None lt
 

@@ -1,5 +1,10 @@
-use Rattle.indexed_heap.proofs.Within.{greatest_within}
+use Rattle.std.proofs.Common.{◌∙◌, ap}
+use Rattle.indexed_heap.specs.Tree.{node_at}
+use Rattle.indexed_heap.proofs.Putting.{shown_greatest}
 use Rattle.indexed_heap.proofs.heap.IndexedHeap.greatest.Goals as goal
 
 pub returns-clause-greatest : goal.returns-clause-greatest
-returns-clause-greatest g c = greatest_within g.T.Ord.cmp c.self.inside.room c.self.inside.filled.ranks c.args.self.now c.greatest.result c.self.view_is c.greatest.ensures.greatest
+returns-clause-greatest g c =
+    let i = c.self.inside in
+    shown_greatest g.T.Ord.cmp g.met.T.Ord.total i.room i.nodes.items i.places.items c.args.self.now c.copied.result c.self.invariant.keeps c.self.view_is
+    (c.copied.ensures ∙ c.first.ensures.value ∙ ap (λ ns. node_at ns 0) c.deref.ensures.value)
