@@ -20,7 +20,6 @@ use source_pool::{Feeder, Pool};
 use source_state::{Event, FailKind, Plan};
 use std::alloc::Global;
 use std::sync::Wait;
-use std::thread;
 
 /// What is to be fetched next, read in one turn.
 fn read_plan(rt: &impl Wait, pool: &Pool, feeder: &mut Feeder, page: u32, ahead: u32) -> Plan
@@ -40,7 +39,7 @@ fn read_plan(rt: &impl Wait, pool: &Pool, feeder: &mut Feeder, page: u32, ahead:
     next
 }
 
-/// Applies an event in one turn.
+/// Applies an event in one turn, and wakes who sleeps until something is told.
 fn tell(rt: &impl Wait, pool: &Pool, feeder: &mut Feeder, event: Event)
     requires own { IsIdleOf pool.now feeder.old }
     requires source { IsOfSource event }
@@ -54,6 +53,7 @@ fn tell(rt: &impl Wait, pool: &Pool, feeder: &mut Feeder, event: Event)
     let _ = state.count();
     state.apply(event);
     pool.give(feeder, state);
+    pool.wake_lookers(feeder);
 }
 
 /// Applies the rows of a page.
@@ -247,14 +247,17 @@ fn counted(fetched: Fetched, turned: Turned) -> Fetched
     }
 }
 
-/// Gives the processor up where nothing was to be fetched.
-fn give_way(turned: Turned) {
+/// Sleeps until something is wanted, where nothing was to be fetched.
+fn rest(rt: &impl Wait, pool: &Pool, feeder: &Feeder, turned: Turned, wanted: u64)
+    requires { IsIdleOf pool.now feeder.now }
+{
     if turned == Turned::Idle {
-        thread::yield_now();
+        pool.sleep_till_wanted(rt, feeder, wanted);
     }
 }
 
-/// Takes turns until `stop` is set, and tells how much the source gave.
+/// Takes turns until `stop` is set, and tells how much the source gave. Where nothing is to be fetched it sleeps until something is wanted
+/// or `stop` is set.
 pub fn fetch_loop<S: Source>(
     rt: &impl Wait,
     alloc: Global,
@@ -278,12 +281,13 @@ pub fn fetch_loop<S: Source>(
 {
     let mut fetched = Fetched { rows: 0, grades: 0 };
     for _ in rt.forever() {
+        let wanted = pool.wanted(feeder);
         if stop.is_set() {
             return fetched;
         }
         let turned = fetch_turn(rt, alloc, pool, feeder, source, page, ahead);
         fetched = counted(fetched, turned);
-        give_way(turned);
+        rest(rt, pool, feeder, turned, wanted);
     }
     unreachable!()
 }

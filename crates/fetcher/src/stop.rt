@@ -1,5 +1,6 @@
 //! A sign to stop.
 
+use source_pool::Pool;
 use std::sync::atomic::{AtomicBool, Ordering};
 
 /// A sign that fetchers look at between two turns.
@@ -16,9 +17,10 @@ impl Stop {
         }
     }
 
-    /// Sets the sign, for good.
-    pub fn set(&self) {
+    /// Sets the sign, for good, and wakes the feeders of a pool, which look at it.
+    pub fn set(&self, pool: &Pool) {
         self.flag.store(true, Ordering::SeqCst);
+        pool.wake_feeders();
     }
 
     /// Whether it is set.

@@ -17,14 +17,14 @@ use Rattle.source_state.specs.declared.look.Look.{Look}
 use Rattle.source_state.specs.declared.look.Look.TheVariants as look
 use Rattle.source_state.specs.declared.look.LookFault.{LookFault}
 use Rattle.source_state.specs.declared.look.LookFault.TheVariants as why
-use Rattle.source_state.specs.State.{State, IsSound}
+use Rattle.source_state.specs.State.{State, IsSound, state_at}
 use Rattle.source_state.specs.Looking.{decided, is_full, Ends, Refuses}
 use Rattle.source_pool.specs.declared.hold.Hold.{Hold}
 use Rattle.source_pool.specs.Passes.{hold_at, OthersStay}
 use Rattle.source_pool.specs.Looks.{IsTurn}
 use Rattle.query_core.specs.Machines.{state_of}
 use Rattle.query_world.specs.declared.inquiry.Inquiry.{Inquiry}
-use Rattle.query_world.specs.Worlds.{state_at, told_to}
+use Rattle.query_world.specs.Worlds.{told_to}
 use Rattle.query_world.proofs.Serving.{state_set, state_other, fault_ends}
 use Rattle.query_run.specs.Seen.{state_seen}
 use Rattle.query_run.specs.Looking.{FeedsFrom}

@@ -5,11 +5,11 @@ use Rattle.turn_lock.specs.Facts.{Begins}
 use Rattle.topk_theory.specs.Transcript as transcript
 use Rattle.topk_theory.specs.Transcript.{Grows, list_at}
 use Rattle.source_state.specs.Log.{rows_in}
-use Rattle.source_state.specs.State.{State}
+use Rattle.source_state.specs.State.{State, state_at}
 use Rattle.source_state.specs.Drawing.{told_by}
 use Rattle.source_pool.specs.declared.hold.Hold.{Hold}
 use Rattle.source_pool.specs.Passes.{hold_at}
-use Rattle.query_world.specs.Worlds.{state_at, logs_of}
+use Rattle.query_world.specs.Worlds.{logs_of}
 use Rattle.query_world.proofs.Causes.{rows_begin, known_more}
 use Rattle.query_world.proofs.Serving.{rows_told, known_told}
 use Rattle.query_run.specs.Seen.{state_seen, states_seen}

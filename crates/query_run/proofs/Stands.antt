@@ -17,15 +17,15 @@ use Rattle.source_state.specs.declared.look.Look.TheVariants as look
 use Rattle.source_state.specs.declared.look.LookFault.{LookFault}
 use Rattle.source_state.specs.declared.look.LookFault.TheVariants as why
 use Rattle.source_state.specs.Looking.{waits_for, is_same, newer, told, Refuses}
-use Rattle.source_state.specs.State.{State}
+use Rattle.source_state.specs.State.{State, state_at}
 use Rattle.source_state.proofs.Lists.{none_not_some, eqb_same}
 use Rattle.source_pool.specs.declared.hold.Hold.{Hold}
 use Rattle.source_pool.specs.Passes.{hold_at, OthersStay}
-use Rattle.source_pool.specs.Looks.{KeepsMarks, shown_fault, Ends, GoesOn, BeginsToWait}
+use Rattle.source_pool.specs.Looks.{KeepsMarks, shown_fault, Ends, BeginsToWait}
 use Rattle.query_core.specs.Machines.{state_of, MakesItsRun}
 use Rattle.query_world.specs.declared.ended.Refusal.TheVariants as refusal
 use Rattle.query_world.specs.declared.inquiry.Inquiry.{Inquiry}
-use Rattle.query_world.specs.Worlds.{state_at, told_to, needed, list_needed, source_of, source_needed, is_done}
+use Rattle.query_world.specs.Worlds.{told_to, needed, list_needed, source_of, source_needed, is_done}
 use Rattle.query_world.specs.Causes.{IsOfList, CanNotBeHad, IsCause}
 use Rattle.query_world.specs.Kept.{IsServed}
 use Rattle.query_world.proofs.Causes.{refusal_cause}
@@ -33,14 +33,14 @@ use Rattle.query_run.specs.Seen.{state_seen, states_seen}
 use Rattle.query_run.specs.Advancing.{WaitsForNothing, IsSourceIn}
 use Rattle.query_run.specs.Asking.{Wanted}
 use Rattle.query_run.specs.Ran.{shown_to}
-use Rattle.query_run.specs.Looking.{FeedsFrom, IsReading, WantsOf, WaitsAt, IsOpen, with_waiting, HasStopped}
+use Rattle.query_run.specs.Looking.{FeedsFrom, IsReading, WantsOf, WaitsAt, IsOnItsWay, with_waiting, HasStopped}
 use Rattle.query_run.proofs.SeenLaws.{state_is, seen_long, told_goes}
 use Rattle.query_run.proofs.AskingLaws.{AsksMore, WasGiven, same_asks, wanted_more}
 use Rattle.query_run.proofs.Wants.{marks_same, wanted_kept, wants_given, wants_still, wants_begun}
 use Rattle.query_run.proofs.Steps.{Place}
 
 -- a source where nothing is waited for, as long as the query is unrefused
-pub waits_elsewhere : (before now : List Hold) (q : Inquiry) (source : ℕ) → IsOpen before now q → source ≢ source_needed q
+pub waits_elsewhere : (before now : List Hold) (q : Inquiry) (source : ℕ) → IsOnItsWay before now q → source ≢ source_needed q
     → (hold_at now source).waiting.need ≡ None
 waits_elsewhere before now q source h apart = elim (option_cases (hold_at now source).waiting.need) [
   | inl none ↦ none
@@ -57,7 +57,7 @@ pub over_of : (now after : Hold) → Ends now after → Over now after
 over_of now after h = record { none = ap (λ (w : Waiting). w.need) h.over; noted = ap (λ (w : Waiting). w.noted) h.over; marks = h.marks }
 
 -- at every source: nothing is waited for after such a look, and the marks stay
-all_rest : (before now after : List Hold) (q : Inquiry) → IsOpen before now q → OthersStay (source_needed q) now after
+all_rest : (before now after : List Hold) (q : Inquiry) → IsOnItsWay before now q → OthersStay (source_needed q) now after
     → Over (hold_at now (source_needed q)) (hold_at after (source_needed q)) → WaitsForNothing after
 all_rest before now after q h others over = record {
   rests = λ source. elim (eqb_tells source (source_needed q)) [
@@ -81,9 +81,9 @@ all_shown before now after source other others same h = elim (eqb_tells other so
 ]
 
 -- a query that was given what it needs
-pub open_given : (before now after : List Hold) (q r : Inquiry) → IsOpen before now q → OthersStay (source_needed q) now after
+pub open_given : (before now after : List Hold) (q r : Inquiry) → IsOnItsWay before now q → OthersStay (source_needed q) now after
     → Over (hold_at now (source_needed q)) (hold_at after (source_needed q))
-    → (hold_at after (source_needed q)).shown ≡ (hold_at now (source_needed q)).shown → WasGiven q r → IsOpen before after r
+    → (hold_at after (source_needed q)).shown ≡ (hold_at now (source_needed q)).shown → WasGiven q r → IsOnItsWay before after r
 open_given before now after q r h others over shown given = record {
   waits = λ source n e. absurd (none_not_some (sym ((all_rest before now after q h others over).rests source) ∙ e));
   shown = λ source. all_shown before now after (source_needed q) source others shown (h.shown source);
@@ -110,7 +110,7 @@ need_same (need.Grade list object) going = eqb_same object
 need_same need.Done going = absurd (cc)
 
 -- what begins to be waited for wasn't waited for before
-not_yet : (before now : List Hold) (q : Inquiry) → IsOpen before now q → waits_for (hold_at now (source_needed q)).waiting.need (needed q) ≡ false
+not_yet : (before now : List Hold) (q : Inquiry) → IsOnItsWay before now q → waits_for (hold_at now (source_needed q)).waiting.need (needed q) ≡ false
     → (hold_at now (source_needed q)).waiting.need ≡ None
 not_yet before now q h unwaited = elim (option_cases (hold_at now (source_needed q)).waiting.need) [
   | inl none ↦ none
@@ -136,11 +136,11 @@ begun_waits before now after q r n sources same going most begins e =
       noted = subst (AtMost (hold_at before (source_needed q)).pass.1.tally) (sym (ap (λ (w : Waiting). w.noted) begins.notes)) most;
     }
 
-pub open_waits : (before now after : List Hold) (q r : Inquiry) → Place now q → IsOpen before now q → OthersStay (source_needed q) now after
+pub open_waits : (before now after : List Hold) (q r : Inquiry) → Place now q → IsOnItsWay before now q → OthersStay (source_needed q) now after
     → (hold_at after (source_needed q)).shown ≡ (hold_at now (source_needed q)).shown
     → r.sources.items ≡ q.sources.items → state_of r.machine ≡ state_of q.machine → is_done (needed q) ≡ false
     → AtMost (hold_at before (source_needed q)).pass.1.tally (hold_at after (source_needed q)).pass.1.tally
-    → Rattle.source_pool.specs.Looks.Waits (needed q) (hold_at now (source_needed q)) (hold_at after (source_needed q)) look.NotYet → IsOpen before after r
+    → Rattle.source_pool.specs.Looks.Waits (needed q) (hold_at now (source_needed q)) (hold_at after (source_needed q)) look.NotYet → IsOnItsWay before after r
 open_waits before now after q r place h others shown sources same going most waits = record {
   waits = λ source n e. elim (eqb_tells source (source_needed q)) [
     | inl t ↦ subst (λ s. WaitsAt r s n (hold_at before s) (hold_at after s)) (sym t.1)
@@ -200,7 +200,7 @@ stop_served after r last states many each run feeds none cause = record {
 }
 
 -- what a query wanted of every source after a look that ended the waiting
-pub all_wanted : (before now after : List Hold) (q r : Inquiry) (source : ℕ) → IsOpen before now q → OthersStay (source_needed q) now after
+pub all_wanted : (before now after : List Hold) (q r : Inquiry) (source : ℕ) → IsOnItsWay before now q → OthersStay (source_needed q) now after
     → KeepsMarks (hold_at now (source_needed q)).pass.1 (hold_at after (source_needed q)).pass.1 → AsksMore q r
     → Wanted r source (hold_at before source).pass.1 (hold_at after source).pass.1
 all_wanted before now after q r source h others marks more =
@@ -212,7 +212,7 @@ abbrev rest_at : Tally → Waiting
 rest_at noted = record { need = None; noted = noted }
 
 -- a query that is refused for its room
-pub core_stops : (before now after : List Hold) (q r : Inquiry) (states : List State) (fault : CoreFault) → IsOpen before now q
+pub core_stops : (before now after : List Hold) (q r : Inquiry) (states : List State) (fault : CoreFault) → IsOnItsWay before now q
     → OthersStay (source_needed q) now after
     → Over (hold_at now (source_needed q)) (hold_at after (source_needed q))
     → (hold_at after (source_needed q)).shown ≡ (hold_at now (source_needed q)).shown
@@ -261,7 +261,7 @@ told_waits waiting n now what e = elim (option_cases waiting.need) [
 ]
 
 -- what was noted is no less than what the pass knew at first
-noted_since : (before now : List Hold) (q : Inquiry) (u : State) (left : Waiting) (fault : LookFault) → IsOpen before now q
+noted_since : (before now : List Hold) (q : Inquiry) (u : State) (left : Waiting) (fault : LookFault) → IsOnItsWay before now q
     → Refuses (needed q) u u (hold_at now (source_needed q)).waiting left fault
     → AtMost (hold_at before (source_needed q)).pass.1.tally (noted_of fault (hold_at now (source_needed q)).waiting.noted (hold_at before (source_needed q)).pass.1.tally)
 noted_since before now q u left (why.Source fault) h refuses = at_most_same (hold_at before (source_needed q)).pass.1.tally
@@ -277,7 +277,7 @@ own_list (need.Grade list object) going = refl
 own_list need.Done going = absurd (cc)
 
 -- a fail is shown at the source of its list
-fault_shown : (before now after : List Hold) (q r : Inquiry) (source : ℕ) (fault : LookFault) → IsOpen before now q → OthersStay (source_needed q) now after
+fault_shown : (before now after : List Hold) (q r : Inquiry) (source : ℕ) (fault : LookFault) → IsOnItsWay before now q → OthersStay (source_needed q) now after
     → (hold_at after (source_needed q)).shown ≡ shown_fault fault (hold_at now (source_needed q)).shown → r.sources.items ≡ q.sources.items
     → (hold_at after source).shown ≡ shown_to r (Some (refusal.Look (list_needed (needed q)) fault)) source (hold_at before source).shown
 fault_shown before now after q r source fault h others shown sources =
@@ -295,7 +295,7 @@ fault_shown before now after q r source fault h others shown sources =
     ]
 
 -- a query whose need can't be had
-pub fault_stops : (before now after : List Hold) (q r : Inquiry) (states : List State) (fault : LookFault) → IsOpen before now q
+pub fault_stops : (before now after : List Hold) (q r : Inquiry) (states : List State) (fault : LookFault) → IsOnItsWay before now q
     → OthersStay (source_needed q) now after
     → Over (hold_at now (source_needed q)) (hold_at after (source_needed q))
     → (hold_at after (source_needed q)).shown ≡ shown_fault fault (hold_at now (source_needed q)).shown
@@ -332,7 +332,7 @@ fault_stops before now after q r states fault h others over shown sources same r
     }
 
 -- a query that needs nothing more
-pub done_stops : (before now : List Hold) (r : Inquiry) → IsReading now r → IsOpen before now r → r.refusal ≡ None → is_done (needed r) ≡ true
+pub done_stops : (before now : List Hold) (r : Inquiry) → IsReading now r → IsOnItsWay before now r → r.refusal ≡ None → is_done (needed r) ≡ true
     → HasStopped before now r
 done_stops before now r reading h unrefused done =
     let last = rest_at (hold_at before (source_needed r)).pass.1.tally in

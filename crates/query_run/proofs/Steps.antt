@@ -12,7 +12,7 @@ use Rattle.source_state.specs.declared.look.Waiting.{Waiting}
 use Rattle.source_state.specs.declared.look.Look.{Look}
 use Rattle.source_state.specs.declared.look.Look.TheVariants as look
 use Rattle.source_state.specs.Looking.{decided, IsDecided}
-use Rattle.source_state.specs.State.{State, IsSound}
+use Rattle.source_state.specs.State.{State, IsSound, state_at}
 use Rattle.source_state.proofs.Lists.{none_not_some}
 use Rattle.source_pool.specs.declared.hold.Hold.{Hold}
 use Rattle.source_pool.specs.Passes.{hold_at, OthersStay}
@@ -20,7 +20,7 @@ use Rattle.source_pool.specs.Looks.{MayLookFor, shown_by, IsTurn, IsWithin, Took
 use Rattle.query_core.specs.Algorithms.{run_by}
 use Rattle.query_core.specs.Machines.{algorithm_of, state_of, MakesItsRun}
 use Rattle.query_world.specs.declared.inquiry.Inquiry.{Inquiry}
-use Rattle.query_world.specs.Worlds.{state_at, needed, list_needed, source_needed, is_done, is_ended}
+use Rattle.query_world.specs.Worlds.{needed, list_needed, source_needed, is_done, is_ended}
 use Rattle.query_world.specs.Kept.{IsServed}
 use Rattle.query_world.specs.Causes.{IsCause}
 use Rattle.query_world.specs.Steps.{MayFeed, Answers}

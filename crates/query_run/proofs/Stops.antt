@@ -9,14 +9,13 @@ use Rattle.turn_lock.proofs.Growth.{begins_same, begins_nothing, begins_on, at_m
 use Rattle.topk_theory.specs.Transcript.{IsDrawn, seen_objects}
 use Rattle.topk_theory.proofs.Agreement.{drawn_none}
 use Rattle.topk_theory.proofs.AgreementLists.{all_from_members, contains_at, contains_map_from}
-use Rattle.access_log.specs.Machine.{MachineState}
 use Rattle.access_log.specs.declared.core_fault.CoreFault.{CoreFault}
 use Rattle.access_log.specs.declared.core_fault.CoreFault.TheVariants.{Strangers, RoomFull}
 use Rattle.source_state.specs.declared.look.Waiting.{Waiting}
 use Rattle.source_state.specs.declared.look.Look.{Look}
 use Rattle.source_state.specs.declared.look.Look.TheVariants as look
 use Rattle.source_state.specs.declared.look.LookFault.{LookFault}
-use Rattle.source_state.specs.State.{State, opened, IsSound}
+use Rattle.source_state.specs.State.{State, opened, IsSound, state_at}
 use Rattle.source_state.specs.Drawing.{told_by}
 use Rattle.source_state.proofs.Lists.{none_not_some}
 use Rattle.source_pool.specs.declared.hold.Hold.{Hold}
@@ -32,7 +31,7 @@ use Rattle.query_world.specs.declared.ended.Ended.TheVariants as ended
 use Rattle.query_world.specs.declared.ended.Refusal.{Refusal}
 use Rattle.query_world.specs.declared.ended.Refusal.TheVariants as refusal
 use Rattle.query_world.specs.declared.inquiry.Inquiry.{Inquiry}
-use Rattle.query_world.specs.Worlds.{state_at, logs_of, told_to, needed, list_needed, source_needed, is_done, is_ended}
+use Rattle.query_world.specs.Worlds.{logs_of, told_to, needed, list_needed, source_needed, is_done, is_ended}
 use Rattle.query_world.specs.Causes.{LacksRoom, IsCause}
 use Rattle.query_world.specs.Endings.{EndsAs, IsRight}
 use Rattle.query_world.specs.Made.{IsFresh}
@@ -43,7 +42,7 @@ use Rattle.query_world.proofs.Stepping.{opened_sound}
 use Rattle.query_run.specs.Seen.{state_seen, states_seen}
 use Rattle.query_run.specs.Advancing.{WaitsForNothing, IsSourceIn, HasSourcesIn, KnowsMore, Advances}
 use Rattle.query_run.specs.Ran.{Ran}
-use Rattle.query_run.specs.Looking.{FeedsFrom, IsReading, LooksOnce, IsOpen, with_waiting, HasStopped, Stands, HasLooked, wants_memory}
+use Rattle.query_run.specs.Looking.{FeedsFrom, IsReading, LooksOnce, IsOnItsWay, with_waiting, HasStopped, Stands, HasLooked, wants_memory}
 use Rattle.query_run.proofs.SeenLaws.{state_is}
 use Rattle.query_run.proofs.AskingLaws.{row_meets, grade_meets}
 use Rattle.query_run.proofs.Looked.{row_seen, grade_seen, fault_seen, SeesOn, name_on, feeds_still}
@@ -87,7 +86,7 @@ same_goes : (q r : Inquiry) → state_of r.machine ≡ state_of q.machine → Co
 same_goes q r same = subst (Continues (state_of q.machine)) (sym same) (continues_same (state_of q.machine))
 
 -- after a row
-row_stands : (before now after : List Hold) (q r : Inquiry) (row : Row) (states : List State) (refused : Option Refusal) → IsOpen before now q → IsReading now q
+row_stands : (before now after : List Hold) (q r : Inquiry) (row : Row) (states : List State) (refused : Option Refusal) → IsOnItsWay before now q → IsReading now q
     → is_done (needed q) ≡ false → SeesOn (source_needed q) now after → (l : LooksOnce now after q r) → l.answer ≡ look.Row row
     → state_at states (source_needed q) ≡ state_seen (hold_at after (source_needed q)).pass.1
     → FeedsFrom after r states → Went states q r → r.refusal ≡ refused → RowTaken row q r refused → Stands before after r refused
@@ -117,7 +116,7 @@ row_stands before now after q r row states (Some (refusal.Core fault)) h reading
     stays (RoomFull room) taken = taken.3
 row_stands before now after q r row states (Some (refusal.Look list fault)) h reading going on l is seen feeds w e taken = absurd taken
 
-step_row : (before now after : List Hold) (q r : Inquiry) (row : Row) → IsOpen before now q → IsReading now q → is_ended q ≡ false
+step_row : (before now after : List Hold) (q r : Inquiry) (row : Row) → IsOnItsWay before now q → IsReading now q → is_ended q ≡ false
     → SeesOn (source_needed q) now after → (l : LooksOnce now after q r) → l.answer ≡ look.Row row → Stepped before after q r
 step_row before now after q r row h reading ending on l is =
     let s = source_needed q in
@@ -139,7 +138,7 @@ step_row before now after q r row h reading ending on l is =
     }
 
 -- after a grade
-step_grade : (before now after : List Hold) (q r : Inquiry) (grade : ℕ) → IsOpen before now q → IsReading now q → is_ended q ≡ false
+step_grade : (before now after : List Hold) (q r : Inquiry) (grade : ℕ) → IsOnItsWay before now q → IsReading now q → is_ended q ≡ false
     → SeesOn (source_needed q) now after → (l : LooksOnce now after q r) → l.answer ≡ look.Grade grade → Stepped before after q r
 step_grade before now after q r grade h reading ending on l is =
     let s = source_needed q in
@@ -169,7 +168,7 @@ tally_more : (sources : List ℕ) (before now after : List Hold) (q : Inquiry) �
 tally_more sources before now after q h on = at_most_on (h.knows (source_needed q)).follows.tally on.follows.tally
 
 -- where it isn't there yet
-step_waits : (sources : List ℕ) (before now after : List Hold) (q r : Inquiry) → Advances sources before now → IsOpen before now q → IsReading now q
+step_waits : (sources : List ℕ) (before now after : List Hold) (q r : Inquiry) → Advances sources before now → IsOnItsWay before now q → IsReading now q
     → is_ended q ≡ false → SeesOn (source_needed q) now after → (l : LooksOnce now after q r) → l.answer ≡ look.NotYet → Stepped before after q r
 step_waits sources before now after q r advances h reading ending on l is =
     let s = source_needed q in
@@ -191,7 +190,7 @@ step_waits sources before now after q r advances h reading ending on l is =
     }
 
 -- where it can't be had
-step_fault : (before now after : List Hold) (q r : Inquiry) (fault : LookFault) → IsOpen before now q → IsReading now q → is_ended q ≡ false
+step_fault : (before now after : List Hold) (q r : Inquiry) (fault : LookFault) → IsOnItsWay before now q → IsReading now q → is_ended q ≡ false
     → SeesOn (source_needed q) now after → (l : LooksOnce now after q r) → l.answer ≡ look.Fault fault → Stepped before after q r
 step_fault before now after q r fault h reading ending on l is =
     let s = source_needed q in
@@ -213,7 +212,7 @@ step_fault before now after q r fault h reading ending on l is =
           (fault_seen (needed q) (hold_at now s) (hold_at after s) fault turn));
     }
 
-step_by : (sources : List ℕ) (before now after : List Hold) (q r : Inquiry) (answer : Look) → Advances sources before now → IsOpen before now q
+step_by : (sources : List ℕ) (before now after : List Hold) (q r : Inquiry) (answer : Look) → Advances sources before now → IsOnItsWay before now q
     → IsReading now q
     → is_ended q ≡ false → SeesOn (source_needed q) now after → (l : LooksOnce now after q r) → l.answer ≡ answer → Stepped before after q r
 step_by sources before now after q r (look.Row row) advances h reading ending on l is = step_row before now after q r row h reading ending on l is
@@ -270,7 +269,7 @@ looked_on before now after first q r long h ending l =
     let reading = h.reading in
     let place = place_of now q reading ending in
     let on = sees_on (source_needed q) now after long l.others l.took in
-    let stands : IsOpen before now q = subst (Stands before now q) parts.0 h.stands in
+    let stands : IsOnItsWay before now q = subst (Stands before now q) parts.0 h.stands in
     let step = step_by first.sources.items before now after q r l.answer h.advances stands reading ending on l refl in
     let among : Contains first.sources.items (source_needed q) = subst (λ xs. Contains xs (source_needed q)) h.sources (contains_at q.sources.items (list_needed (needed q)) 0 place.listed) in
     record {

@@ -6,7 +6,7 @@ use Rattle.source_state.specs.declared.look.Look.{Look}
 use Rattle.source_state.specs.declared.look.LookFault.{LookFault}
 use Rattle.source_state.specs.declared.look.LookFault.TheVariants as why
 use Rattle.source_state.specs.declared.look.Waiting.{Waiting}
-use Rattle.source_state.specs.State.{State, IsSound}
+use Rattle.source_state.specs.State.{State, IsSound, state_at}
 use Rattle.source_pool.specs.declared.hold.Hold.{Hold}
 use Rattle.source_pool.specs.Passes.{hold_at, OthersStay}
 use Rattle.source_pool.specs.Looks.{shown_by, IsTurn, IsWithin, TookTurn, Waits}
@@ -15,7 +15,7 @@ use Rattle.query_core.specs.Machines.{algorithm_of, state_of, MakesItsRun}
 use Rattle.query_world.specs.declared.ended.Refusal.{Refusal}
 use Rattle.query_world.specs.declared.ended.Refusal.TheVariants.{Core, Look as LookedFor}
 use Rattle.query_world.specs.declared.inquiry.Inquiry.{Inquiry}
-use Rattle.query_world.specs.Worlds.{state_at, told_to, needed, source_needed, is_done}
+use Rattle.query_world.specs.Worlds.{told_to, needed, source_needed, is_done}
 use Rattle.query_world.specs.Kept.{IsServed}
 use Rattle.query_world.specs.Steps.{Answers}
 use Rattle.query_run.specs.Seen.{states_seen}
@@ -72,7 +72,7 @@ pub record WaitsAt (q : Inquiry) (source : ℕ) (need : Need) (before now : Hold
   pub noted : AtMost before.pass.1.tally now.waiting.noted
 
 -- a query that isn't refused: nothing but its need is waited for, and no fail was shown
-pub record IsOpen (before now : List Hold) (q : Inquiry) : Type 0 where
+pub record IsOnItsWay (before now : List Hold) (q : Inquiry) : Type 0 where
   pub waits : (source : ℕ) (need : Need) → (hold_at now source).waiting.need ≡ Some need
       → WaitsAt q source need (hold_at before source) (hold_at now source)
   pub shown : (source : ℕ) → (hold_at now source).shown ≡ (hold_at before source).shown
@@ -90,7 +90,7 @@ pub record HasStopped (before now : List Hold) (q : Inquiry) : Type 0 where
   pub rests : WaitsForNothing now
 
 abbrev pub Stands : List Hold → List Hold → Inquiry → Option Refusal → Type 0
-Stands before now q None = IsOpen before now q
+Stands before now q None = IsOnItsWay before now q
 Stands before now q (Some refusal) = HasStopped before now q
 
 -- what the looks of a query did so far, from a first pass and query to these

@@ -1,6 +1,6 @@
 //! Running a query over a pool.
 
-ghost use Rattle.std.specs.Prelude.{◌≡◌, true, false, None, IfOk};
+ghost use Rattle.std.specs.Prelude.{◌≡◌, ◌<◌, true, false, None, IfOk, length};
 ghost use Rattle.source_pool.specs.Passes.{IsPassOf};
 ghost use Rattle.query_core.specs.Ready.{IsReady};
 ghost use Rattle.query_world.specs.Worlds.{is_ended};
@@ -15,16 +15,18 @@ use source_pool::{Pool, PoolPass};
 use source_state::{Look, LookFault};
 use std::alloc::Global;
 use std::sync::Wait;
-use std::thread;
 
-/// Gives the processor up where what is needed isn't there yet.
-fn give_way(look: Look) {
+/// Sleeps until the feeder of a source tells something, where what is needed isn't there yet.
+fn rest(rt: &impl Wait, pool: &Pool, source: u32, look: Look, told: u64)
+    requires { source < length pool.now }
+{
     if look == Look::NotYet {
-        thread::yield_now();
+        pool.sleep_till_told(rt, source, told);
     }
 }
 
-/// One look at the source of what a query needs, and what the query makes of the answer.
+/// One look at the source of what a query needs, and what the query makes of the answer. Where it isn't there yet, this sleeps until the
+/// source's feeder told something since the look began.
 fn look_once(rt: &impl Wait, pool: &Pool, pass: &mut PoolPass, query: &mut Inquiry)
     requires own { IsPassOf pool.now pass.old }
     requires reading { IsReading pass.old query.old }
@@ -35,9 +37,10 @@ fn look_once(rt: &impl Wait, pool: &Pool, pass: &mut PoolPass, query: &mut Inqui
     let need = query.machine.need();
     let list = list_needed(need);
     let source = query.sources[usize::from(list)];
+    let told = pool.told(source);
     let look = pool.look(rt, pass, source, need);
     query.answer(list, look);
-    give_way(look);
+    rest(rt, pool, source, look, told);
 }
 
 /// Looks for what a query needs until it has ended.

@@ -1,18 +1,13 @@
 -- How a pool closes.
 use Rattle.std.specs.Prelude.{◌≡◌, ◌<◌, ◌≤◌, ◌+◌, ◌-◌, ◌⊎◌, ℕ, max, List, length, Contains}
-use Rattle.std.specs.List.{slice_index_or}
 use Rattle.atomic_table.specs.Seated.{TableId}
 use Rattle.turn_lock.specs.declared.known.Known.{Known}
 use Rattle.turn_lock.specs.Facts.{Begins, AtMost}
 use Rattle.turn_lock.specs.Known.{all_parts}
 use Rattle.source_state.specs.declared.entry.LogEntry.{LogEntry}
-use Rattle.source_state.specs.State.{State, opened, IsSound}
+use Rattle.source_state.specs.State.{State, state_at, IsSound}
 use Rattle.source_pool.specs.declared.hold.Hold.{Hold}
 use Rattle.source_pool.specs.Passes.{Feed, hold_at, feed_at}
-
--- the closing state of a source; one that isn't there has no objects
-abbrev pub state_at : List State → ℕ → State
-state_at states source = slice_index_or states source (opened 0 0)
 
 -- the pass and the feeders have all parts of every source between them
 pub record HaveAll (pool : List TableId) (holds : List Hold) (feeds : List Feed) : Type 0 where

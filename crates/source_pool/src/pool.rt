@@ -69,7 +69,8 @@ impl Pool {
     }
 
     /// Looks for what a query needs of a source, by its number, in one turn of the source's lock, for which it may wait. The row at a
-    /// depth or the grade of an object is there, or it can't be had and the fault says why, or the pass waits for it.
+    /// depth or the grade of an object is there, or it can't be had and the fault says why, or the pass waits for it, and the source's
+    /// feeder is woken.
     pub fn look(&self, rt: &impl Wait, pass: &mut PoolPass, source: u32, need: Need) -> Look
         requires own { IsPassOf self.now pass.old }
         requires source { source < length self.now }
@@ -84,7 +85,56 @@ impl Pool {
         ensures within { IsWithin (hold_at pass.old source) → IsWithin (hold_at pass.new source) }
     {
         let lock = &self.locks[source as usize];
-        look_once(rt, lock, &mut pass.holds[source as usize], need)
+        let answer = look_once(rt, lock, &mut pass.holds[source as usize], need);
+        if answer == Look::NotYet {
+            lock.wanted().ring();
+        }
+        answer
+    }
+
+    /// How often the feeder of a source told something. Who is to sleep after a look reads it before that look.
+    pub fn told(&self, source: u32) -> u64
+        requires source { source < length self.now }
+    {
+        self.locks[source as usize].told().rings()
+    }
+
+    /// Sleeps until the feeder of a source told something since it had told so often. May also return for no reason: who sleeps looks
+    /// again.
+    pub fn sleep_till_told(&self, rt: &impl Wait, source: u32, told: u64)
+        requires source { source < length self.now }
+    {
+        self.locks[source as usize].told().sleep(rt, told);
+    }
+
+    /// How often something was wanted of a feeder. Who is to sleep after a turn reads it before that turn.
+    pub fn wanted(&self, feeder: &Feeder) -> u64
+        requires own { IsIdleOf self.now feeder.now }
+    {
+        self.locks[feeder.source as usize].wanted().rings()
+    }
+
+    /// Wakes all that sleep until a feeder told something.
+    pub fn wake_lookers(&self, feeder: &Feeder)
+        requires own { IsIdleOf self.now feeder.now }
+    {
+        self.locks[feeder.source as usize].told().ring();
+    }
+
+    /// Sleeps until something was wanted of a feeder since it had been wanted so often. May also return for no reason.
+    pub fn sleep_till_wanted(&self, rt: &impl Wait, feeder: &Feeder, wanted: u64)
+        requires own { IsIdleOf self.now feeder.now }
+    {
+        self.locks[feeder.source as usize]
+            .wanted()
+            .sleep(rt, wanted);
+    }
+
+    /// Wakes all feeders that sleep.
+    pub fn wake_feeders(&self) {
+        for lock in self.locks.iter() {
+            lock.wanted().ring();
+        }
     }
 
     /// Splits a pass off, which gets one part of each source. It knows as much, did nothing yet, and waits for nothing.

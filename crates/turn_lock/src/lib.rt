@@ -1,6 +1,7 @@
 //! A lock that remembers: who takes a turn learns that the log of the value has only grown since the last turn.
 #![tactic(auto)]
 
+mod bell;
 mod facts;
 mod known;
 mod laws;
@@ -11,6 +12,7 @@ mod rule;
 mod seat;
 mod view;
 
+pub use bell::Bell;
 pub use facts::{Facts, Tally};
 pub use known::{Known, Sight};
 pub use laws::{

@@ -2,6 +2,7 @@ ghost use Rattle.std.specs.Prelude.{◌≡◌, ◌<◌, false, None, IfOk, IfErr
 ghost use Rattle.turn_lock.specs.Facts.{Grows, IsKept};
 ghost use Rattle.turn_lock.specs.Known.{all_parts, Agrees, Follows, opened, holding, after_turn, without, split_off, joined};
 
+use crate::bell::Bell;
 use crate::logged::Logged;
 use crate::pass::Pass;
 use crate::rule::Turns;
@@ -21,6 +22,10 @@ use std::sync::Wait;
 #[derive(Drop)]
 pub struct TurnLock<V: Logged + Drop> {
     table: Table<Option<V>, View<V::Entry>, Snapshot<V>, Turns, Global>,
+    /// The writer rings it, and the others sleep at it.
+    told: Bell,
+    /// The others ring it, and the writer sleeps at it.
+    wanted: Bell,
 }
 
 impl<V: Logged + Drop> Model for TurnLock<V> {
@@ -48,7 +53,14 @@ impl<V: Logged + Send + Drop> TurnLock<V> {
             return Err(value.unwrap());
         }
         match Table::new(alloc, &words, slots, &opening) {
-            Ok((table, seat)) => Ok((TurnLock { table }, Pass { seat })),
+            Ok((table, seat)) => {
+                let lock = TurnLock {
+                    table,
+                    told: Bell::make(),
+                    wanted: Bell::make(),
+                };
+                Ok((lock, Pass { seat }))
+            }
             Err(Refused { mut slots }) => Err(slots.pop().unwrap().unwrap()),
         }
     }
@@ -72,6 +84,17 @@ impl<V: Logged + Send + Drop> TurnLock<V> {
         ensures { IfSome pass.old.1.held (λ f. pass.new ≡ (self.now, after_turn f (V.facts value) pass.old.1)) }
     {
         seat::leave(&self.table.shared, &mut pass.seat, value);
+    }
+
+    /// The bell that the writer rings when a turn of its brought something, and that the others sleep at. Who looked in a turn, and found
+    /// that what it needs isn't there, sleeps from the count of rings before that turn.
+    pub fn told(&self) -> &Bell {
+        &self.told
+    }
+
+    /// The bell that the others ring when a turn of theirs left something to do, and that the writer sleeps at.
+    pub fn wanted(&self) -> &Bell {
+        &self.wanted
     }
 
     /// Splits a pass off, which gets so many of the parts. It knows as much, did nothing yet, and is no writer.
@@ -106,7 +129,7 @@ impl<V: Logged + Send + Drop> TurnLock<V> {
         requires whole { pass.1.parts ≡ all_parts }
         ensures { Agrees (V.facts result) pass.1 }
     {
-        let TurnLock { table } = self;
+        let TurnLock { table, .. } = self;
         let Pass { seat } = pass;
         let mut closed = table.close_with(seat);
         let slot = closed.take(0);

@@ -1,0 +1,36 @@
+use std::sync::Wait;
+use std::sync::atomic::{AtomicU64, Ordering};
+
+/// The counts of rings that a sleeper tells apart.
+const HEARD: u64 = 4_294_967_296;
+
+/// A bell that some ring and others sleep at. No clause depends on it: who wakes looks again.
+#[derive(Drop)]
+pub struct Bell {
+    rings: AtomicU64,
+}
+
+impl Bell {
+    /// A bell that wasn't rung. Takes no memory.
+    pub fn make() -> Bell {
+        Bell {
+            rings: AtomicU64::new(0),
+        }
+    }
+
+    /// How often it was rung, modulo 2^64.
+    pub fn rings(&self) -> u64 {
+        self.rings.load(Ordering::SeqCst)
+    }
+
+    /// Rings it, and wakes all who sleep at it.
+    pub fn ring(&self) {
+        self.rings.fetch_add(1, Ordering::SeqCst);
+        self.rings.wake_all();
+    }
+
+    /// Sleeps until it was rung since it had been rung so often. It may also return for no reason.
+    pub fn sleep(&self, rt: &impl Wait, heard: u64) {
+        self.rings.park(rt, (heard % HEARD) as u32);
+    }
+}
