@@ -15,7 +15,7 @@ run_app =
     with_rule (with_rule (with_rule (with_rule bare_app (needed_place (codes "catalog"))) (free_option (codes "workers"))) (free_option (codes "page")))
     (free_option (codes "ahead"))
 
--- how many queries take turns at once, how many rows a page has, and how many pages are read ahead
+-- how many queries run at the same time, how many rows a page has, and how many pages are read ahead
 abbrev pub workers_rule : OptionRule
 workers_rule = record { name = codes "workers"; least = 1; most = 32; required = false }
 

@@ -72,9 +72,7 @@ kind_in takes plain word t next = placed_in t.left word t next
 -- a word where an option waits: only a plain one is its value
 abbrev pub value_in : Text → Kind → Text → Taken → Next → Option (List Given)
 value_in name plain word t next = give_once name word t next
-value_in name ender word t next = None
-value_in name (option other value) word t next = None
-value_in name hyphened word t next = None
+value_in _ _ _ _ _ = None
 
 abbrev pub waiting_in : Takes → Option Text → Kind → Text → Taken → Next → Option (List Given)
 waiting_in takes None kind word t next = kind_in takes kind word t next

@@ -17,7 +17,7 @@ use clap::{Arg, ArgMatches};
 use std::alloc::{AllocError, Global};
 use std::marker::Model;
 
-/// The most queries that take turns at once.
+/// The most queries that run at the same time.
 const MAX_WORKERS: u64 = 32;
 
 /// The most rows of a page.
@@ -76,7 +76,7 @@ impl Place {
 /// How queries are run.
 #[derive(Clone, Copy, Debug, PartialEq, Eq)]
 pub struct RunSettings {
-    /// How many queries take turns at once, 1 to 32.
+    /// How many queries run at the same time, each on a thread of its own, 1 to 32.
     pub workers: u32,
     /// How many rows a page has at most, 1 to 10,000.
     pub page: u32,

@@ -24,10 +24,8 @@ row_of_numbers (Some object) (Some grade) = Some (record { object = object; grad
 
 -- the two fields of a record that has exactly two
 abbrev pub pair_in : List (List ℕ) → Option (List ℕ × List ℕ)
-pair_in [] = None
-pair_in (first ∷ []) = None
 pair_in (first ∷ second ∷ []) = Some (first, second)
-pair_in (first ∷ second ∷ third ∷ more) = None
+pair_in _ = None
 
 -- the row that two fields are: an object's number and a grade
 abbrev pub row_of_pair : Option (List ℕ × List ℕ) → Option Row

@@ -22,7 +22,8 @@ shown base need = record { expr = base.expr; k = base.k; room = base.room; costs
 abbrev pub asked_of_list : ℕ → List Access → List ℕ
 asked_of_list list A = objects (random_rows list A)
 
--- what is held over m lists of n objects after the accesses A: the query fits the lists, which are few; each object that A names was seen, and no more were than there is room for; no random access came twice; some table agrees with A
+-- what is held over m lists of n objects after the accesses A: the query fits the lists, which are few; each object that A names
+-- was seen, and no more were than there is room for; no random access came twice; some table agrees with A
 pub record IsHeld (e : Tree) (k room m n : ℕ) (A : List Access) : Type 0 where
   pub posed : IsPosed e k room m n
   pub some_list : 1 ≤ m
@@ -44,7 +45,8 @@ pub record IsTold (access : Access) (before after : Base) : Type 0 where
   pub costs : after.costs ≡ before.costs
   pub log : IsOneMore access before.transcript after.transcript
 
--- the access may follow A where so many objects may be seen: a row's object was seen or there is room for it; a random access names an object that was seen, and comes for the first time
+-- the access may follow A where so many objects may be seen: a row's object was seen or there is room for it;
+-- a random access names an object that was seen, and comes for the first time
 abbrev pub MayFollow : ℕ → List Access → Access → Type 0
 MayFollow room A (Sorted list object grade) = Contains (seen_objects A) object ⊎ (length (seen_objects A) < room)
 MayFollow room A (Random list object grade) = Contains (seen_objects A) object × (¬ Contains (asked_of_list list A) object)

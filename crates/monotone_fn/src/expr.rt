@@ -1,5 +1,10 @@
 //! Expressions within the limits.
 
+ghost use Rattle.std.specs.Prelude.{◌≡◌, None, Err, IfSome};
+ghost use Rattle.monotone_fn.specs.Shape.{NumbersLists};
+ghost use Rattle.monotone_fn.specs.Limits.{IsExpr, Makes};
+ghost use Rattle.monotone_fn.specs.Shown.{tree_of};
+
 use super::Memory;
 use super::copies::copy_node;
 use super::fault::ExprFault;
@@ -36,6 +41,27 @@ impl Model for Expr {
     ghost invariant = { λ a. IsExpr (tree_of a.root) × (a.lists ≡ list_count (tree_of a.root)) };
 }
 
+/// Why a tree is refused, if it is.
+fn fault_of(root: &Node) -> Option<ExprFault>
+    requires { NumbersLists (tree_of root.now) }
+    ensures faults { IfSome result (λ fault. Makes (tree_of root.now) (Err fault)) }
+    ensures within { result ≡ None → IsExpr (tree_of root.now) }
+{
+    let nodes = count_nodes(root);
+    if nodes > MAX_NODES as u64 {
+        return Some(ExprFault::TooManyNodes { nodes });
+    }
+    let depth = depth_of(root);
+    if depth > MAX_DEPTH as u64 {
+        return Some(ExprFault::TooDeep { depth });
+    }
+    let mut ended = 0;
+    if value_at(root, &[TOP_GRADE; MAX_LISTS], &mut ended).is_none() {
+        return Some(ExprFault::TooBig { node: ended });
+    }
+    None
+}
+
 impl Expr {
     ghost use Rattle.std.specs.Prelude.{◌≡◌, ℕ, ◌≤◌, List, length, IfOk};
     ghost use Rattle.monotone_fn.specs.Shape.{list_count, NumbersLists};
@@ -49,20 +75,16 @@ impl Expr {
         requires { NumbersLists (tree_of root) }
         ensures { Makes (tree_of root) result }
     {
-        let nodes = count_nodes(&root);
-        if nodes > MAX_NODES as u64 {
-            return Err(ExprFault::TooManyNodes { nodes });
+        match fault_of(&root) {
+            Some(fault) => {
+                drop(root);
+                Err(fault)
+            }
+            None => {
+                let lists = count_lists(&root) as u8;
+                Ok(Expr { root, lists })
+            }
         }
-        let depth = depth_of(&root);
-        if depth > MAX_DEPTH as u64 {
-            return Err(ExprFault::TooDeep { depth });
-        }
-        let mut ended = 0;
-        if value_at(&root, &[TOP_GRADE; MAX_LISTS], &mut ended).is_none() {
-            return Err(ExprFault::TooBig { node: ended });
-        }
-        let lists = count_lists(&root) as u8;
-        Ok(Expr { root, lists })
     }
 
     /// An equal expression.

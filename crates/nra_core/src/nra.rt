@@ -161,7 +161,8 @@ fn follow(base: &Base, late: &mut LateBounds, place: Place) -> Place
     ensures late { KeepsLate base.now.expr base.now.transcript late.new }
     ensures asked { late.new.k ≡ base.now.k }
     ensures room { late.new.first.room ≡ late.old.first.room }
-    ensures place { result ≡ place_after base.now.transcript.lists (is_quiet_seen (value base.now.expr) base.now.k base.now.transcript.lists base.now.transcript.count base.now.transcript.accesses) place }
+    ensures place { result ≡ place_after base.now.transcript.lists
+        (is_quiet_seen (value base.now.expr) base.now.k base.now.transcript.lists base.now.transcript.count base.now.transcript.accesses) place }
 {
     if place.list + 1 < base.transcript.lists() {
         return Place {

@@ -56,7 +56,8 @@ without is_in object other = is_in other && not (object == other)
 abbrev pub exchanged : (ℕ → Bool) → ℕ → ℕ → ℕ → Bool
 exchanged is_in leaves joins other = with_one (without is_in leaves) joins other
 
--- a candidate stands against the stop: its high is above the bound, and its low is below it, or is the bound with each of the first of that low having a high above it too
+-- a candidate stands against the stop: its high is above the bound, and its low is below it,
+-- or is the bound with each of the first of that low having a high above it too
 pub record IsWitness (low high : ℕ → ℕ) (is_top : ℕ → Bool) (bound object : ℕ) : Type 0 where
   pub above : bound < high object
   pub no_place : (low object < bound) ⊎ ((low object ≡ bound) × ((inside : ℕ) → is_top inside ≡ true → low inside ≡ bound → bound < high inside))

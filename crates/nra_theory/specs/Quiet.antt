@@ -12,7 +12,8 @@ use Rattle.topk_theory.specs.NoRandom.{seen_items, exceeds}
 abbrev pub is_idle : (List ℕ → ℕ) → ℕ → ℕ → List Access → ℕ → Bool
 is_idle V k m A high = not (exceeds (kth_low k (seen_items V m A)) high)
 
--- at least k objects were seen, and neither the high of a seen object outside the first k nor, where unseen ones of n are left, the threshold is above the k-th largest low
+-- at least k objects were seen, and neither the high of a seen object outside the first k nor,
+-- where unseen ones of n are left, the threshold is above the k-th largest low
 abbrev pub is_quiet_seen : (List ℕ → ℕ) → ℕ → ℕ → ℕ → List Access → Bool
 is_quiet_seen V k m n A =
     nat_le k (length (seen_objects A))

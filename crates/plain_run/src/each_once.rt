@@ -7,7 +7,8 @@ use super::Memory;
 
 /// Adds an object, unless it is there.
 pub fn add_object(objects: &mut Vec<u32>, object: u32) -> Result<(), Memory>
-    ensures { OnOk result (objects.new.items ≡ (if list_any (λ other. other == object) objects.old.items then objects.old.items else objects.old.items ++ object ∷ [])) }
+    ensures { OnOk result (objects.new.items
+        ≡ (if list_any (λ other. other == object) objects.old.items then objects.old.items else objects.old.items ++ object ∷ [])) }
 {
     if objects.contains(&object) {
         return Ok(());

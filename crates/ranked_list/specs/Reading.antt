@@ -133,14 +133,12 @@ at_end c line (next ∷ ls) = Err line
 abbrev pub takes_part : InsideList → Part → Bool
 takes_part front (list_part name) = takes_list front name
 takes_part front (row_part row) = takes_row front row
-takes_part front (query_part text) = false
-takes_part front no_part = false
+takes_part _ _ = false
 
 abbrev pub with_part : InsideList → Part → InsideList
 with_part front (list_part name) = with_list front name
 with_part front (row_part row) = with_row front row
-with_part front (query_part text) = front
-with_part front no_part = front
+with_part front _ = front
 
 -- one line more, which is line number `line`
 abbrev pub read_part : InsideList → ℕ → List (List ℕ) → (InsideList → Result Content ℕ) → Part → Result Content ℕ

@@ -7,7 +7,7 @@ use Rattle.topk_theory.specs.Bounds.{grade_among}
 use Rattle.source_state.specs.declared.ask.Ask.{Ask}
 use Rattle.source_state.specs.declared.entry.LogEntry.{LogEntry}
 use Rattle.source_state.specs.declared.entry.Settling.{Settling}
-use Rattle.source_state.specs.declared.entry.Settling.TheVariants.{Graded, Bad, Missed}
+use Rattle.source_state.specs.declared.entry.Settling.TheVariants.{Graded}
 use Rattle.source_state.specs.Log.{rows_in, settling_in}
 
 -- how the ask of an object stands after a log: what it settled as, if it did, and whether the rows hold it
@@ -20,10 +20,8 @@ ask_of asks object = find (λ ask. object == ask.object) asks
 
 -- the grade of a settling, where it is good
 abbrev pub good_grade : Option Settling → Option ℕ
-good_grade None = None
 good_grade (Some (Graded grade)) = Some grade
-good_grade (Some (Bad fault)) = None
-good_grade (Some Missed) = None
+good_grade _ = None
 
 -- the good grade of an ask that the rows don't hold
 abbrev pub open_grade : Ask → Option ℕ

@@ -57,18 +57,15 @@ fails_told E = filter_map kind_failed E
 
 abbrev pub is_failed : FailKind → Bool
 is_failed Failed = true
-is_failed Garbled = false
-is_failed Memory = false
+is_failed _ = false
 
 abbrev pub is_garbled : FailKind → Bool
-is_garbled Failed = false
 is_garbled Garbled = true
-is_garbled Memory = false
+is_garbled _ = false
 
 abbrev pub is_memory : FailKind → Bool
-is_memory Failed = false
-is_memory Garbled = false
 is_memory Memory = true
+is_memory _ = false
 
 abbrev pub tally_told : List Event → Tally
 tally_told E = record {

@@ -26,11 +26,7 @@ use Rattle.source_state.specs.Events.{wanted, with_ask}
 abbrev pub is_same : Need → Need → Bool
 is_same (need.Row list depth) (need.Row other another) = depth == another
 is_same (need.Grade list object) (need.Grade other another) = object == another
-is_same (need.Row list depth) (need.Grade other another) = false
-is_same (need.Row list depth) need.Done = false
-is_same (need.Grade list object) (need.Row other another) = false
-is_same (need.Grade list object) need.Done = false
-is_same need.Done other = false
+is_same _ _ = false
 
 -- whether this is what is waited for
 abbrev pub waits_for : Option Need → Need → Bool
@@ -82,9 +78,8 @@ refusal_of kind.Memory = why.Memory
 
 -- no room is left for the ask of this need
 abbrev pub is_full : State → Need → Bool
-is_full s (need.Row list depth) = false
 is_full s (need.Grade list object) = is_none (asked_in s object) && length s.asks == s.count
-is_full s need.Done = false
+is_full _ _ = false
 
 -- the state after the want or the ask of a need
 abbrev pub called : State → Need → State

@@ -1,5 +1,6 @@
 -- What contracts see of the state of a source, what its readers tell of it, and which row may not follow.
 use Rattle.std.specs.Prelude.{◌≡◌, ◌≢◌, ◌≤◌, ◌==◌, ◌+◌, ◌-◌, ◌^◌, ℕ, min, Bool, true, false, Option, Some, None, List, [], length, map, is_some, nat_lt, All, AllPairs, Contains, if◌then◌else◌}
+use Rattle.std.specs.List.{slice_index_or}
 use Rattle.std.specs.Option.{option_map}
 use Rattle.ranked_list.specs.declared.row.Row.{Row}
 use Rattle.ranked_list.specs.Table.{IsRanked, top_grade}
@@ -44,6 +45,10 @@ opened list count = record {
   last_fail = None;
   paused = false;
 }
+
+-- the state of the source with this number; one that isn't there has no objects and no events
+abbrev pub state_at : List State → ℕ → State
+state_at states source = slice_index_or states source (opened 0 0)
 
 -- the asks as they stand
 abbrev pub asks_of : State → List Ask

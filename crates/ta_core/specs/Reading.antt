@@ -46,7 +46,9 @@ row_added m r row is_new = record r {
   objects = r.objects ++ row.object ∷ [];
   bottoms = r.bottoms ++ row.grade ∷ [];
   waiting = with_new r.waiting row.object is_new;
-  grades = if length (r.objects ++ row.object ∷ []) == m then filled_first (r.objects ++ row.object ∷ []) (r.bottoms ++ row.grade ∷ []) (with_new r.waiting row.object is_new) else [];
+  grades = if length (r.objects ++ row.object ∷ []) == m
+      then filled_first (r.objects ++ row.object ∷ []) (r.bottoms ++ row.grade ∷ []) (with_new r.waiting row.object is_new)
+      else [];
 }
 
 -- after one more grade of the first object that waits

@@ -14,7 +14,7 @@ pub record Stops (held held_now : Option (List ℕ)) (faults faults_now : ℕ) (
   pub later : faults ≤ faults_now
   pub rose : Rose faults faults_now
 
--- a text is put behind the bytes that wait: the stream takes some of both and the rest waits, or a write fails, after which nothing waits and nothing is written
+-- a text is put behind the bytes that wait: the stream takes some of both and the rest waits, or a write fails: then nothing waits and nothing is written
 unfoldable pub Puts : Option (List ℕ) → Option (List ℕ) → ℕ → ℕ → Option (List ℕ) → Option (List ℕ) → List ℕ → Type 0
 Puts held held_now faults faults_now None now text = (now ≡ None) × (held_now ≡ held) × (faults_now ≡ faults)
 Puts held held_now faults faults_now (Some waiting) (Some rest) text = Passes held held_now (waiting ++ text) rest × (faults_now ≡ faults)

@@ -37,7 +37,8 @@ pub record IsChoice (V : List ℕ → ℕ) (k m : ℕ) (A : List Access) (object
   pub may : MayBeAsked V k m A object
   pub greatest : (other : ℕ) → MayBeAsked V k m A other → (high V m A other < high V m A object) ⊎ ((high V m A other ≡ high V m A object) × (object ≤ other))
 
--- what follows the row of a depth, A being all the accesses up to it: where the depth is a multiple of the phase length the unknown grades of the choice, if there is one, and else nothing
+-- what follows the row of a depth, A being all the accesses up to it: where the depth is a multiple of the phase length
+-- the unknown grades of the choice, if there is one, and else nothing
 pub record IsPhase (V : List ℕ → ℕ) (k phase depth : ℕ) (D : List (List Row)) (A following : List Access) : Type 0 where
   pub chosen : (object : ℕ) → depth % phase ≡ 0 → IsChoice V k (length D) A object → following ≡ missing_grades D A object
   pub nobody : depth % phase ≡ 0 → ((object : ℕ) → ¬ MayBeAsked V k (length D) A object) → following ≡ []

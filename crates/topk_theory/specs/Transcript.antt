@@ -87,7 +87,8 @@ each_once_after before (x ∷ xs) = if list_any (λ y. y == x) before then each_
 abbrev pub each_once : List ℕ → List ℕ
 each_once xs = each_once_after [] xs
 
--- the objects that the accesses of A name, each once in the order in which they are first named; the seen ones, which sorted accesses gave, each once in the order of first sight
+-- the objects that the accesses of A name, each once in the order in which they are first named;
+-- the seen ones, which sorted accesses gave, each once in the order of first sight
 abbrev pub named_objects : List Access → List ℕ
 named_objects A = each_once (map object_of A)
 

@@ -1,4 +1,4 @@
-use Rattle.std.proofs.Common.{◌≡◌, ◌++◌, ◌∷◌, [], List, ℕ, sym, subst, MatchOption}
+use Rattle.std.proofs.Common.{◌≡◌, ◌++◌, ◌∷◌, [], sym, subst, MatchOption}
 use Rattle.monotone_fn.specs.Shape.{IsGreatest}
 use Rattle.monotone_fn.proofs.Summaries.{greatest_more}
 use Rattle.monotone_fn.proofs.summary.greatest_with.Goals as goal

@@ -1,4 +1,4 @@
-use Rattle.std.proofs.Common.{◌≡◌, ◌++◌, ◌∷◌, [], List, ℕ, sym, subst, MatchOption}
+use Rattle.std.proofs.Common.{◌≡◌, ◌++◌, ◌∷◌, [], sym, subst, MatchOption}
 use Rattle.monotone_fn.specs.Value.{IsLeast}
 use Rattle.monotone_fn.proofs.Summaries.{least_more}
 use Rattle.monotone_fn.proofs.summary.least_with.Goals as goal

@@ -1,0 +1,12 @@
+use Rattle.std.proofs.Common.{not, ap, ◌∙◌, arith}
+use Rattle.monotone_fn.specs.Shown.{tree_of}
+use Rattle.monotone_fn.proofs.Walks.{Passes-small}
+use Rattle.monotone_fn.proofs.expr.fault_of.Goals as goal
+
+pub returns-clause-within : goal.returns-clause-within
+returns-clause-within c = λ is. record {
+  lists = c.requires;
+  few_nodes = omega (arith, c.count_nodes-nodes.ensures);
+  shallow = omega (arith, c.depth_of-depth.ensures);
+  small = Passes-small (tree_of c.args.root.now) c.value_at.new.ended c.value_at.result c.value_at.ensures.passes (c.is_none.ensures ∙ ap not c.if-is_none.false);
+}
