@@ -21,6 +21,7 @@ use Rattle.ranked_list.proofs.OptionLaws.{option_cases}
 use Rattle.access_log.specs.declared.record.Record.{Record}
 use Rattle.access_log.specs.declared.objects.Objects.{Objects}
 use Rattle.indexed_heap.specs.Ranks.{rank_at}
+use Rattle.indexed_heap.proofs.Getting.{get_last, get_replicate}
 use Rattle.access_log.specs.Kept.{IsRecordOf, AreRecords, AreAhead, AreObjects, AreWider, IsGreatestAhead, HasRoom, IsNoted, FitsAccess, IsPlaced, heap_at, is_read, grade_ahead}
 use Rattle.access_log.proofs.RecordKept.{record_other, unnamed_unread, placed, not_placed, place_of_absent}
 use Rattle.access_log.proofs.AheadKept.{ahead_wider, apart, at_any}
@@ -40,18 +41,7 @@ get_pushed xs y place x e =
           inr (last, sym (get_or-append_seam xs y [] x) ∙ sym (ap (λ k. slice_index_or (xs ++ y ∷ []) k x) last) ∙ read)
     ]
 
-pub get_last : (xs : List ℕ) (y : ℕ) → slice_get (xs ++ y ∷ []) (length xs) ≡ Some y
-get_last xs y =
-    let size : length (xs ++ y ∷ []) ≡ length xs + 1 = length_push xs y in
-    let within : length xs < length (xs ++ y ∷ []) = omega arith in
-    slice_get-get_or (xs ++ y ∷ []) (length xs) y within ∙ ap Some (get_or-append_seam xs y [] y)
-
 -- an object that no access names has the empty record
-pub none_at : {X : Type 0} → (d : X) (n i : ℕ) → slice_index_or (replicate n d) i d ≡ d
-none_at d zero i = refl
-none_at d (suc n) zero = refl
-none_at d (suc n) (suc i) = none_at d n i
-
 abbrev pub unnamed : Record
 unnamed = record { known = replicate MAX_LISTS None; read = replicate MAX_LISTS false; sight = None }
 
@@ -59,8 +49,8 @@ pub unnamed_record : (m : ℕ) (A : List Access) (object : ℕ) (kept : Record) 
     → kept.sight ≡ None → (¬ Contains (named_objects A) object) → IsRecordOf m A object kept
 unnamed_record m A object kept e f g n = record {
   sized = (ap (length {A = Option ℕ}) e, ap (length {A = Bool}) f);
-  known = λ list l. ap (λ xs. slice_index_or xs list None) e ∙ none_at None MAX_LISTS list ∙ sym (unnamed_unknown A object list n);
-  read = λ list l. ap (λ xs. slice_index_or xs list false) f ∙ none_at false MAX_LISTS list ∙ sym (unnamed_unread A object list n);
+  known = λ list l. ap (λ xs. slice_index_or xs list None) e ∙ get_replicate None MAX_LISTS list ∙ sym (unnamed_unknown A object list n);
+  read = λ list l. ap (λ xs. slice_index_or xs list false) f ∙ get_replicate false MAX_LISTS list ∙ sym (unnamed_unread A object list n);
   sight = g ∙ sym (place_of_absent object (seen_objects A) (λ c. n (seen_is_named A object c)));
 }
 

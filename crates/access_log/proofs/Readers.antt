@@ -22,13 +22,14 @@ use Rattle.topk_theory.proofs.ConsistentTable.{IsCoherent, agrees_coherent, give
 use Rattle.monotone_fn.specs.Tree.{Tree}
 use Rattle.monotone_fn.specs.Value as expression
 use Rattle.monotone_fn.specs.Limits.{AreGrades, AreGradesWhereKnown}
+use Rattle.indexed_heap.proofs.Getting.{get_replicate}
 use Rattle.access_log.specs.Log.{Log}
 use Rattle.access_log.specs.declared.record.Record.{Record}
 use Rattle.access_log.specs.declared.objects.Objects.{Objects}
 use Rattle.access_log.specs.declared.ends.Ends.{Ends}
 use Rattle.access_log.specs.Kept.{IsRecordOf, AreEndsOf, AreObjects, HasRoom}
 use Rattle.access_log.proofs.RecordKept.{placed, not_placed, place_of_absent}
-use Rattle.access_log.proofs.ObjectsKept.{seen_below_named, none_at}
+use Rattle.access_log.proofs.ObjectsKept.{seen_below_named}
 use Rattle.limits.specs.declared.TheConstants.{MAX_LISTS}
 
 -- a list by its places
@@ -48,7 +49,7 @@ known_taken m A object kept few h = taken (λ list. known_grade A object list) k
 
 pub none_taken : (m : ℕ) (A : List Access) (object : ℕ) (xs : List (Option ℕ)) → m ≤ MAX_LISTS → xs ≡ replicate MAX_LISTS None
     → (¬ Contains (named_objects A) object) → take m xs ≡ map (λ list. known_grade A object list) (list_numbers m)
-none_taken m A object xs few e n = taken (λ list. known_grade A object list) xs m MAX_LISTS None (ap (length {A = Option ℕ}) e) few (λ k l. ap (λ ys. slice_index_or ys k None) e ∙ none_at None MAX_LISTS k ∙ sym (unnamed_unknown A object k n))
+none_taken m A object xs few e n = taken (λ list. known_grade A object list) xs m MAX_LISTS None (ap (length {A = Option ℕ}) e) few (λ k l. ap (λ ys. slice_index_or ys k None) e ∙ get_replicate None MAX_LISTS k ∙ sym (unnamed_unknown A object k n))
 
 -- as the view shows it
 pub in_view : (log : Log) (lists count so sa : ℕ) (A : List Access) {X : Type 0} (f : List Access → ℕ → X) (xs : List X)

@@ -47,7 +47,8 @@ pub record IsOneMore (access : Access) (before after : Log) : Type 0 where
   pub count : after.count ≡ before.count
   pub accesses : after.accesses ≡ before.accesses ++ access ∷ []
 
--- what never changes of a machine over m lists of n objects: it is asked for one object at least and for no more than there are, over the lists of its expression, and may see one at least and no more than there are
+-- what never changes of a machine over m lists of n objects: it is asked for at least one object and for no more than there are,
+-- over the lists of its expression, and may see at least one and no more than there are
 pub record IsPosed (expr : Tree) (k room m n : ℕ) : Type 0 where
   pub positive : 1 ≤ k
   pub fits : k ≤ n
@@ -102,14 +103,12 @@ pub record MakesRun (run : Run) (t : MachineState) : Type 0 where
 abbrev pub MayBeNextRow : Log → Need → Row → Type 0
 MayBeNextRow log (RowAt list depth) row =
     (kind : Kind) → IsOfKind log.lists log.count log.accesses (Sorted list row.object row.grade) kind → kind ≡ too_many_objects
-MayBeNextRow log (Grade list object) row = ⊥
-MayBeNextRow log Done row = ⊥
+MayBeNextRow _ _ _ = ⊥
 
 -- the need is a grade, and this one can be it
 abbrev pub MayBeNextGrade : Log → Need → ℕ → Type 0
-MayBeNextGrade log (RowAt list depth) grade = ⊥
 MayBeNextGrade log (Grade list object) grade = (kind : Kind) → ¬ IsOfKind log.lists log.count log.accesses (Random list object grade) kind
-MayBeNextGrade log Done grade = ⊥
+MayBeNextGrade _ _ _ = ⊥
 
 -- the access that a row or a grade makes of the need; for another need nothing is fed, and the access has no meaning
 abbrev pub row_access : Need → Row → Access

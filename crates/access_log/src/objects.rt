@@ -158,7 +158,8 @@ impl Objects {
         ensures room { HasRoom self.new }
         ensures same_room { self.new.room ≡ self.old.room }
         ensures names { self.new.names.keys ≡ self.old.names.keys ++ object ∷ [] }
-        ensures records { (m : ℕ) (A : List Made) → m ≤ MAX_LISTS → AreRecords m A self.old.names.keys self.old.records.items → ¬ Contains (named_objects A) object → AreRecords m A self.new.names.keys self.new.records.items }
+        ensures records { (m : ℕ) (A : List Made) → m ≤ MAX_LISTS → AreRecords m A self.old.names.keys self.old.records.items
+            → ¬ Contains (named_objects A) object → AreRecords m A self.new.names.keys self.new.records.items }
         ensures sights { self.new.sights ≡ self.old.sights }
         ensures ahead { self.new.ahead ≡ self.old.ahead }
     {

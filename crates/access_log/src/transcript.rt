@@ -11,6 +11,7 @@ use limits::{MAX_NUMBER, MAX_OBJECTS};
 use monotone_fn::{Costs, Expr};
 use std::alloc::Global;
 use std::marker::Model;
+use std::slice::Iter;
 use topk_theory::Access;
 
 /// The accesses that a query made, in their order, with the grades that they gave. Some table of
@@ -37,7 +38,13 @@ impl Model for Transcript {
 
     ghost use Rattle.access_log.specs.Kept.{IsKept};
 
-    ghost view = { λ a. record { lists = a.lists; count = a.count; accesses = a.accesses.items; spare_objects = a.spare_objects; spare_accesses = a.spare_accesses } };
+    ghost view = { λ a. record {
+      lists = a.lists;
+      count = a.count;
+      accesses = a.accesses.items;
+      spare_objects = a.spare_objects;
+      spare_accesses = a.spare_accesses;
+    } };
 
     ghost invariant = { λ a. IsKept a.lists a.count a.accesses.items (vec_capacity a.accesses) a.objects a.ends a.spare_objects a.spare_accesses };
 }
@@ -45,6 +52,9 @@ impl Model for Transcript {
 impl Transcript {
     ghost use Rattle.std.specs.Prelude.{◌≡◌, ◌==◌, ◌+◌, ◌*◌, ◌<◌, ◌≤◌, ◌^◌, ◌↔◌, [], map, max, length, nat_eq, position, slice_get, Contains, Some, IsTrue, IfOk, OnOk, OnErr, IfErr};
     ghost use Rattle.topk_theory.specs.Transcript.{list_numbers, depth_of, bottom_of, named_objects, seen_objects, sorted_count, random_count, cost};
+    ghost use Rattle.std.specs.Slice.Iter.{iter_rest};
+    ghost use Rattle.std.specs.Iterator.Adapters.{IterYieldsInOrder};
+    ghost use Rattle.topk_theory.specs.declared.access.Access.{Access};
     ghost use Rattle.topk_theory.specs.Bounds.{known_grade, low, high};
     ghost use Rattle.monotone_fn.specs.Shape.{list_count};
     ghost use Rattle.monotone_fn.specs.Value.{value};
@@ -227,10 +237,11 @@ impl Transcript {
         self.sorted() * u64::from(costs.sorted) + self.random() * u64::from(costs.random)
     }
 
-    /// How many lists there are.
+    /// How many lists there are. With the accesses some table of so many lists agrees.
     pub fn lists(&self) -> u8
         ensures lists { result ≡ self.now.lists }
         ensures limits { IsWithinLimits self.now.lists self.now.count }
+        ensures agrees { IsConsistent self.now }
     {
         self.lists
     }
@@ -263,5 +274,15 @@ impl Transcript {
         ensures { result ≡ slice_get self.now.accesses place }
     {
         self.accesses.get(place as usize).copied()
+    }
+
+    /// The accesses, in their order. With each of them some table agrees.
+    pub fn iter(&self) -> Iter<'_, Access>
+        ensures rest { iter_rest result ≡ self.now.accesses }
+        ensures few { length (iter_rest result) < 2 ^ 64 }
+        ensures runs { IterYieldsInOrder Access }
+        ensures agrees { IsConsistent self.now }
+    {
+        self.accesses.iter()
     }
 }

@@ -5,7 +5,7 @@ use Rattle.query_text.specs.declared.query.Query.{Query}
 use Rattle.query_core.specs.declared.ready.Ready.{Ready as ReadyQuery}
 use Rattle.query_admission.specs.View.{View}
 use Rattle.query_admission.specs.Causes.{admission_causes}
-use Rattle.query_admission.specs.Admission.{Admits, IsRefused, IsAdmitted}
+use Rattle.query_admission.specs.Admission.{Admits, RefusesLine, IsAdmitted}
 use Rattle.query_admission.specs.declared.admitted.Admitted.{Admitted}
 use Rattle.query_admission.specs.declared.admitted.Admitted.TheVariants as admitted
 use Rattle.catalog_open.specs.declared.admissions.Stage.{Stage}
@@ -19,16 +19,16 @@ step first line lines = omega arith
 -- the next line is refused
 pub refused_next : (view : View) (first : ℕ) (lines : List (List ℕ)) (stages : List Stage) (readies : List ReadyQuery) (bytes : List ℕ) (refusal : Refusal)
     (query : Option Query)
-    → AreAdmitted view first lines stages readies → IsRefused admission_causes (line_over view (first + length lines) bytes) refusal query
+    → AreAdmitted view first lines stages readies → RefusesLine admission_causes (line_over view (first + length lines) bytes) refusal query
     → AreAdmitted view first (lines ++ bytes ∷ []) (stages ++ Refused refusal query ∷ []) readies
-refused_next view first [] [] readies bytes refusal query are is = (subst (λ n. IsRefused admission_causes (line_over view n bytes) refusal query) (let e : first + 0 ≡ first = omega arith in e) is, are)
+refused_next view first [] [] readies bytes refusal query are is = (subst (λ n. RefusesLine admission_causes (line_over view n bytes) refusal query) (let e : first + 0 ≡ first = omega arith in e) is, are)
 refused_next view first [] (stage ∷ stages) readies bytes refusal query are is = absurd are
 refused_next view first (line ∷ lines) [] readies bytes refusal query are is = absurd are
 refused_next view first (line ∷ lines) (Refused r q ∷ stages) readies bytes refusal query are is =
-    (are.0, refused_next view (first + 1) lines stages readies bytes refusal query are.1 (subst (λ n. IsRefused admission_causes (line_over view n bytes) refusal query) (step first line lines) is))
+    (are.0, refused_next view (first + 1) lines stages readies bytes refusal query are.1 (subst (λ n. RefusesLine admission_causes (line_over view n bytes) refusal query) (step first line lines) is))
 refused_next view first (line ∷ lines) (Ready ∷ stages) [] bytes refusal query are is = absurd are
 refused_next view first (line ∷ lines) (Ready ∷ stages) (ready ∷ readies) bytes refusal query are is =
-    (are.0, refused_next view (first + 1) lines stages readies bytes refusal query are.1 (subst (λ n. IsRefused admission_causes (line_over view n bytes) refusal query) (step first line lines) is))
+    (are.0, refused_next view (first + 1) lines stages readies bytes refusal query are.1 (subst (λ n. RefusesLine admission_causes (line_over view n bytes) refusal query) (step first line lines) is))
 
 -- the query of the next line is ready
 pub ready_next : (view : View) (first : ℕ) (lines : List (List ℕ)) (stages : List Stage) (readies : List ReadyQuery) (bytes : List ℕ) (ready : ReadyQuery)
@@ -56,10 +56,10 @@ pub refused_more : (view : View) (number : ℕ) (before : List (List ℕ)) (byte
     → AreAdmitted view 1 (before ++ bytes ∷ []) now same
 refused_more view number before bytes stages now readies same a refusal query is are admits at put =
     let e : number ≡ 1 + length before = omega (arith, is) in
-    let refused : IsRefused admission_causes (line_over view number bytes) refusal query = subst (Admits (line_over view number bytes)) at admits in
+    let refused : RefusesLine admission_causes (line_over view number bytes) refusal query = subst (Admits (line_over view number bytes)) at admits in
     subst (λ rs. AreAdmitted view 1 (before ++ bytes ∷ []) now rs) (sym put.1)
     (subst (λ ss. AreAdmitted view 1 (before ++ bytes ∷ []) ss readies) (sym put.0)
-    (refused_next view 1 before stages readies bytes refusal query are (subst (λ n. IsRefused admission_causes (line_over view n bytes) refusal query) e refused)))
+    (refused_next view 1 before stages readies bytes refusal query are (subst (λ n. RefusesLine admission_causes (line_over view n bytes) refusal query) e refused)))
 
 pub ready_more : (view : View) (number : ℕ) (before : List (List ℕ)) (bytes : List ℕ) (stages now : List Stage) (readies more : List ReadyQuery) (a : Admitted)
     (ready : ReadyQuery)

@@ -9,7 +9,7 @@ use Rattle.source_api.specs.Places.{SameElsewhere}
 use Rattle.catalog_text.specs.Catalog.{Listed as Entry}
 use Rattle.catalog_open.specs.declared.opened.Opening.{Opening}
 use Rattle.catalog_open.specs.declared.opened.Opening.TheVariants.{Closed, Open}
-use Rattle.catalog_open.specs.Views.{no_entry, entry_at, opening_at, told_of}
+use Rattle.catalog_open.specs.Views.{no_entry, entry_at, opening_at, entry_told}
 use Rattle.catalog_open.specs.Openings.{Counted, Used, Moves, MovesAt, KeepsOthers, TroubleAt, Sources, run_count, IsToldAs, IsSource, IsOpening, IsNumbered, AreOpened, IsKnownAt}
 use Rattle.catalog_open.proofs.Moving.{at_place, moves_none, moves_then, moves_here, moves_at, trouble_on, trouble_from, keeps_then, keeps_here}
 use Rattle.limits.specs.declared.TheConstants.{MAX_OBJECTS}
@@ -105,7 +105,7 @@ source_on lists catalog s told next count place size source many_told many_count
   within = omega (arith, is.within, length-append s.places (next ∷ []));
   stands = get_or_append_left s.places (next ∷ []) 0 source is.within ∙ is.stands;
   counted = get_or_append_left s.counts (count ∷ []) 0 source (omega (arith, is.within, many_counts)) ∙ is.counted;
-  told = subst (λ t. IsToldAs (told_of lists catalog place) t size) (sym (get_or_append_left s.told (told ∷ []) None source (omega (arith, is.within, many_told)))) is.told;
+  told = subst (λ t. IsToldAs (entry_told lists catalog place) t size) (sym (get_or_append_left s.told (told ∷ []) None source (omega (arith, is.within, many_told)))) is.told;
 }
 
 still_opening : (lists : List ℕ → Option (List Row)) (catalog : List Entry) (s : Sources) (told : Option (List Row)) (next count : ℕ) (Wanted : ℕ
@@ -125,7 +125,7 @@ run_count_small size = small (nat_le size MAX_OBJECTS) (leb-true size MAX_OBJECT
 -- the next source is open
 pub opened_open : (lists : List ℕ → Option (List Row)) (catalog : List Entry) (Wanted : ℕ
     → Type 0) (before now : Counted) (openings : List Opening) (s : Sources) (next size : ℕ) (told : Option (List Row))
-    → AreOpened lists catalog Wanted before now openings s → length openings ≡ next → next < length catalog → Wanted next → IsToldAs (told_of lists catalog next) told size
+    → AreOpened lists catalog Wanted before now openings s → length openings ≡ next → next < length catalog → Wanted next → IsToldAs (entry_told lists catalog next) told size
     → AreOpened lists catalog Wanted before now (openings ++ Open size (length s.places) ∷ []) (more_sources s told next (run_count size))
 opened_open lists catalog Wanted before now openings s next size told are long inside wanted is_told =
     let o = Open size (length s.places) in
@@ -144,8 +144,8 @@ opened_open lists catalog Wanted before now openings s next size told are long i
                     within = omega (arith, length-append s.places (next ∷ []));
                     stands = get_or_push s.places next 0 (length s.places) refl ∙ same;
                     counted = get_or_push s.counts (run_count size) 0 (length s.places) are.many_counts;
-                    told = subst (λ p. IsToldAs (told_of lists catalog p) (slice_index_or (s.told ++ told ∷ []) (length s.places) None) size) same
-                        (subst (λ t. IsToldAs (told_of lists catalog next) t size) (sym (get_or_push s.told told None (length s.places) are.many_told)) is_told);
+                    told = subst (λ p. IsToldAs (entry_told lists catalog p) (slice_index_or (s.told ++ told ∷ []) (length s.places) None) size) same
+                        (subst (λ t. IsToldAs (entry_told lists catalog next) t size) (sym (get_or_push s.told told None (length s.places) are.many_told)) is_told);
                   },
                 )
           ];
@@ -223,7 +223,7 @@ pub opened_some : (lists : List ℕ → Option (List Row)) (catalog : List Entry
     → AreOpened lists catalog Wanted before mid os (sources_of told places counts) → AreOpened lists catalog Wanted before now os_now (sources_of told_now places_now counts_now)
 opened_some lists catalog Wanted before mid now place size number text os os_now told told_now one places places_now counts counts_now wanted inside long many at elsewhere moves is_told o t p c are =
     let tried = opened_tried lists catalog Wanted before mid now place text os (sources_of told places counts) wanted at elsewhere moves are in
-    let told_here : IsToldAs (told_of lists catalog place) one size = subst (λ x. IsToldAs (lists x) one size) (sym at) is_told in
+    let told_here : IsToldAs (entry_told lists catalog place) one size = subst (λ x. IsToldAs (lists x) one size) (sym at) is_told in
     let now_open = opened_open lists catalog Wanted before now os (sources_of told places counts) place size one tried long inside wanted told_here in
     opened_as lists catalog Wanted before now (os ++ Open size (length places) ∷ []) os_now (told ++ one ∷ []) told_now (places ++ place ∷ []) places_now (counts ++ run_count size ∷ []) counts_now
     (o ∙ ap (λ n. os ++ Open size n ∷ []) many) t p c now_open

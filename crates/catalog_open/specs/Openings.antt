@@ -9,7 +9,7 @@ use Rattle.source_api.specs.Counting.{added, raised}
 use Rattle.catalog_text.specs.Catalog.{Listed as Entry}
 use Rattle.catalog_open.specs.declared.opened.Opening.{Opening}
 use Rattle.catalog_open.specs.declared.opened.Opening.TheVariants.{Closed, Open}
-use Rattle.catalog_open.specs.Views.{entry_at, opening_at, told_of}
+use Rattle.catalog_open.specs.Views.{entry_at, opening_at, entry_told}
 use Rattle.limits.specs.declared.TheConstants.{MAX_OBJECTS}
 
 -- what a shelf has counted, by place
@@ -98,7 +98,7 @@ pub record IsSource (lists : List ℕ → Option (List Row)) (catalog : List Ent
   pub within : source < length s.places
   pub stands : slice_index_or s.places source 0 ≡ place
   pub counted : slice_index_or s.counts source 0 ≡ run_count size
-  pub told : IsToldAs (told_of lists catalog place) (slice_index_or s.told source None) size
+  pub told : IsToldAs (entry_told lists catalog place) (slice_index_or s.told source None) size
 
 -- what became of the source at a place: it is wanted and open, or it isn't open, and had trouble where it is wanted
 abbrev pub IsOpening : (lists : List ℕ → Option (List Row)) (catalog : List Entry) (s : Sources) (Wanted : ℕ → Type 0) (before now : Counted) (place : ℕ)
@@ -113,7 +113,8 @@ pub record IsNumbered (catalog : List Entry) (openings : List Opening) (place so
   pub open_as : opening_at openings place ≡ Open size source
 
 -- the sources of the first entries of a catalog were opened, those that are wanted: what became of each, and what the shelf has counted
-pub record AreOpened (lists : List ℕ → Option (List Row)) (catalog : List Entry) (Wanted : ℕ → Type 0) (before now : Counted) (openings : List Opening) (s : Sources) : Type 0 where
+pub record AreOpened (lists : List ℕ → Option (List Row)) (catalog : List Entry) (Wanted : ℕ → Type 0) (before now : Counted)
+    (openings : List Opening) (s : Sources) : Type 0 where
   pub each : (place : ℕ) → place < length openings → IsOpening lists catalog s Wanted before now place (opening_at openings place)
   pub numbered : (source : ℕ) → source < length s.places → IsNumbered catalog openings (slice_index_or s.places source 0) source
   pub many_told : length s.told ≡ length s.places

@@ -35,18 +35,19 @@ abbrev pub listed_at : List Entry → List Opening → ℕ → Listed
 listed_at catalog openings place = said_of (entry_at catalog place).random (opening_at openings place)
 
 -- what is told of the list at a place of the catalog, by what is told of the lists at the places of a shelf
-abbrev pub told_of : (List ℕ → Option (List Row)) → List Entry → ℕ → Option (List Row)
-told_of lists catalog place = lists (entry_at catalog place).place
+abbrev pub entry_told : (List ℕ → Option (List Row)) → List Entry → ℕ → Option (List Row)
+entry_told lists catalog place = lists (entry_at catalog place).place
 
 -- no list is told
 abbrev pub nothing_told : List ℕ → Option (List Row)
 nothing_told place = None
 
--- what is known of the lists of a catalog by their names: what they say of themselves, by what became of their sources; and their rows, where the shelf tells them
+-- what is known of the lists of a catalog by their names: what they say of themselves, by what became of their sources;
+-- and their rows, where the shelf tells them
 abbrev pub view_over : List Entry → List Opening → (List ℕ → Option (List Row)) → View
 view_over catalog openings lists = record {
   listed = λ name. option_map (listed_at catalog openings) (place_of catalog name);
-  told = λ name. option_and_then (told_of lists catalog) (place_of catalog name);
+  told = λ name. option_and_then (entry_told lists catalog) (place_of catalog name);
 }
 
 -- the query line of a number over such lists

@@ -6,7 +6,8 @@ use Rattle.query_admission.specs.Causes.{most_queries}
 use Rattle.catalog_text.specs.Catalog.{Listed as Entry}
 use Rattle.catalog_open.specs.Views.{place_of}
 
--- a line of this number wants the source at a place of the catalog: it is one of the first lines, it spells a query all of whose lists are in the catalog, and one of them is there
+-- a line of this number wants the source at a place of the catalog: it is one of the first lines,
+-- it spells a query all of whose lists are in the catalog, and one of them is there
 pub record Wants (catalog : List Entry) (number : ℕ) (bytes : List ℕ) (place : ℕ) : Type 0 where
   pub few : number ≤ most_queries
   pub query : Query

@@ -14,7 +14,7 @@ use query_text::Query;
 use std::alloc::Global;
 
 /// What a query line comes to before it runs.
-#[derive(Debug, Drop)]
+#[derive(Drop)]
 pub enum Stage {
     /// It is refused. Its query stands beside where the line spells one and that was read.
     Refused {
@@ -26,7 +26,7 @@ pub enum Stage {
 }
 
 /// What query lines come to before they run, in their order, and the queries that are ready, in the order of their lines.
-#[derive(Debug, Drop)]
+#[derive(Drop)]
 pub struct Admissions {
     pub stages: Vec<Stage>,
     pub readies: Vec<Ready>,
@@ -38,7 +38,8 @@ pub fn admit_all(
     lists: &Catalogued<'_>,
     lines: &[&[u8]],
 ) -> Result<Admissions, Memory>
-    ensures { IfOk result (λ a. AreAdmitted (view_over lists.now.catalog.now lists.now.openings.now nothing_told) 1 (map (λ line. line.now) lines.now) a.stages.items a.readies.items) }
+    ensures { IfOk result (λ a. AreAdmitted (view_over lists.now.catalog.now lists.now.openings.now nothing_told) 1
+        (map (λ line. line.now) lines.now) a.stages.items a.readies.items) }
 {
     let mut admissions = Admissions {
         stages: Vec::new(alloc),
@@ -62,7 +63,8 @@ fn admit_next(
 ) -> Result<(), Memory>
     ensures { (before : List (List ℕ)) → number ≡ length before + 1
         → AreAdmitted (view_over lists.now.catalog.now lists.now.openings.now nothing_told) 1 before admissions.old.stages.items admissions.old.readies.items
-        → IfOk result (λ _. AreAdmitted (view_over lists.now.catalog.now lists.now.openings.now nothing_told) 1 (before ++ bytes.now ∷ []) admissions.new.stages.items admissions.new.readies.items) }
+        → IfOk result (λ _. AreAdmitted (view_over lists.now.catalog.now lists.now.openings.now nothing_told) 1 (before ++ bytes.now ∷ [])
+        admissions.new.stages.items admissions.new.readies.items) }
 {
     let Ok(admitted) = admit(alloc, lists, number, bytes) else {
         return Err(Memory);
@@ -78,7 +80,8 @@ fn admit_next(
 
 /// Puts a query that is ready behind the others.
 fn put_ready(admissions: &mut Admissions, ready: Ready) -> Result<(), Memory>
-    ensures { OnOk result ((admissions.new.stages.items ≡ admissions.old.stages.items ++ Stage.Ready ∷ []) × (admissions.new.readies.items ≡ admissions.old.readies.items ++ ready ∷ [])) }
+    ensures { OnOk result ((admissions.new.stages.items ≡ admissions.old.stages.items ++ Stage.Ready ∷ [])
+        × (admissions.new.readies.items ≡ admissions.old.readies.items ++ ready ∷ [])) }
 {
     let Ok(()) = admissions.readies.push(ready) else {
         return Err(Memory);
@@ -88,7 +91,8 @@ fn put_ready(admissions: &mut Admissions, ready: Ready) -> Result<(), Memory>
 
 /// Puts what a line comes to behind the others.
 fn put_stage(admissions: &mut Admissions, stage: Stage) -> Result<(), Memory>
-    ensures { OnOk result ((admissions.new.stages.items ≡ admissions.old.stages.items ++ stage ∷ []) × (admissions.new.readies.items ≡ admissions.old.readies.items)) }
+    ensures { OnOk result ((admissions.new.stages.items ≡ admissions.old.stages.items ++ stage ∷ [])
+        × (admissions.new.readies.items ≡ admissions.old.readies.items)) }
 {
     match admissions.stages.push(stage) {
         Ok(()) => Ok(()),

@@ -158,12 +158,15 @@ fn open_next<H: Shelf>(
     ensures next { OnOk result (length opened.new.openings.items ≡ place + 1) }
     ensures many { length sources.new.items ≡ length opened.new.places.items }
     ensures few { length sources.new.items ≤ place + 1 }
-    ensures known { All (IsKnownAt catalog.now (H.knows shelf.old)) opened.old.places.items → All (IsKnownAt catalog.now (H.knows shelf.new)) opened.new.places.items }
+    ensures known { All (IsKnownAt catalog.now (H.knows shelf.old)) opened.old.places.items
+        → All (IsKnownAt catalog.now (H.knows shelf.new)) opened.new.places.items }
     ensures unread { ReadsNothing (H.at shelf.old) (H.at shelf.new) (map H.Item.counts sources.old.items) (map H.Item.counts sources.new.items) }
     ensures opened { (lists : List ℕ → Option (List Row)) (marks : List Bool) (before : Counted) → SameAtEach lists (H.lists shelf.old)
         → is_marked marks place ≡ true
-        → AreOpened lists catalog.now (IsMarked marks) before (H.at shelf.old) opened.old.openings.items (record { told = map H.Item.list sources.old.items; places = opened.old.places.items; counts = opened.old.counts.items })
-        → AreOpened lists catalog.now (IsMarked marks) before (H.at shelf.new) opened.new.openings.items (record { told = map H.Item.list sources.new.items; places = opened.new.places.items; counts = opened.new.counts.items }) }
+        → AreOpened lists catalog.now (IsMarked marks) before (H.at shelf.old) opened.old.openings.items
+        (record { told = map H.Item.list sources.old.items; places = opened.old.places.items; counts = opened.old.counts.items })
+        → AreOpened lists catalog.now (IsMarked marks) before (H.at shelf.new) opened.new.openings.items
+        (record { told = map H.Item.list sources.new.items; places = opened.new.places.items; counts = opened.new.counts.items }) }
 {
     let Some(entry) = catalog.get(place) else {
         unreachable!();
@@ -213,12 +216,15 @@ fn visit_next<H: Shelf>(
     ensures next { OnOk result (length opened.new.openings.items ≡ place + 1) }
     ensures many { length sources.new.items ≡ length opened.new.places.items }
     ensures few { length sources.new.items ≤ place + 1 }
-    ensures known { All (IsKnownAt catalog.now (H.knows shelf.old)) opened.old.places.items → All (IsKnownAt catalog.now (H.knows shelf.new)) opened.new.places.items }
+    ensures known { All (IsKnownAt catalog.now (H.knows shelf.old)) opened.old.places.items
+        → All (IsKnownAt catalog.now (H.knows shelf.new)) opened.new.places.items }
     ensures unread { ReadsNothing (H.at shelf.old) (H.at shelf.new) (map H.Item.counts sources.old.items) (map H.Item.counts sources.new.items) }
     ensures opened { (lists : List ℕ → Option (List Row)) (marks : List Bool) (before : Counted) → SameAtEach lists (H.lists shelf.old)
         → is_marked marks place ≡ wanted
-        → AreOpened lists catalog.now (IsMarked marks) before (H.at shelf.old) opened.old.openings.items (record { told = map H.Item.list sources.old.items; places = opened.old.places.items; counts = opened.old.counts.items })
-        → AreOpened lists catalog.now (IsMarked marks) before (H.at shelf.new) opened.new.openings.items (record { told = map H.Item.list sources.new.items; places = opened.new.places.items; counts = opened.new.counts.items }) }
+        → AreOpened lists catalog.now (IsMarked marks) before (H.at shelf.old) opened.old.openings.items
+        (record { told = map H.Item.list sources.old.items; places = opened.old.places.items; counts = opened.old.counts.items })
+        → AreOpened lists catalog.now (IsMarked marks) before (H.at shelf.new) opened.new.openings.items
+        (record { told = map H.Item.list sources.new.items; places = opened.new.places.items; counts = opened.new.counts.items }) }
 {
     if wanted {
         return open_next(alloc, shelf, catalog, place, opened, sources);
@@ -249,7 +255,8 @@ pub fn open_wanted<H: Shelf>(
     ensures back { (place : List ℕ) → GivesNothing (H.at shelf.old place) (H.at shelf.new place) }
     ensures few { length sources.new.items ≤ length catalog.now }
     ensures unread { All IsUnread (map H.Item.counts sources.new.items) }
-    ensures opened { AreOpened (H.lists shelf.old) catalog.now (IsMarked marks.now) (H.at shelf.old) (H.at shelf.new) opened.new.openings.items (record { told = map H.Item.list sources.new.items; places = opened.new.places.items; counts = opened.new.counts.items }) }
+    ensures opened { AreOpened (H.lists shelf.old) catalog.now (IsMarked marks.now) (H.at shelf.old) (H.at shelf.new) opened.new.openings.items
+        (record { told = map H.Item.list sources.new.items; places = opened.new.places.items; counts = opened.new.counts.items }) }
 {
     for place in 0..catalog.len() {
         let wanted = marks[place as usize];

@@ -61,10 +61,7 @@ fn places_of(alloc: Global, catalog: &Catalog, names: &Names) -> Result<Option<V
         (λ places. map (place_of catalog.now) names.now ≡ map Some places.items)) }
 {
     let mut places = Vec::new(alloc);
-    for list in 0..names.len() {
-        let Some(name) = names.get(list) else {
-            unreachable!();
-        };
+    for name in names.iter() {
         let Some(place) = catalog.find(name) else {
             return Ok(None);
         };

@@ -23,7 +23,7 @@ use Rattle.cert_judge.specs.declared.Memory.{Memory}
 use Rattle.cert_judge.specs.declared.told.Told.{Told}
 use Rattle.cert_judge.specs.declared.told.Told.TheVariants.{BadLine, Inconsistent, WildGuess, WrongSize, UnseenAnswer, Figure, Fixes, Beaten}
 use Rattle.cert_judge.specs.Transcripts.{log_of}
-use Rattle.cert_judge.specs.Judging.{IsJudged, TellsOf, TellsOfIts, Tells}
+use Rattle.cert_judge.specs.Judging.{IsJudged, TellsOfCertificate, TellsOfIts, Tells}
 
 -- one name more
 pub copied_more : (copied after : List (Vec ℕ)) (bytes : Vec ℕ) (names : List (List ℕ)) (i : ℕ) (name : List ℕ) → bytes_of copied ≡ take i names
@@ -84,11 +84,11 @@ few_accesses bytes c spells =
     omega (arith, lines_short bytes, ap length spells.spelled, rest, accesses)
 
 -- what is told of the certificate that the lines spell is told of the lines
-tells_from : (ls : List (List ℕ)) (c : Certificate) (told : Told) → Spells ls c → ((d : Certificate) → Spells ls d → d ≡ c) → TellsOf c told
+tells_from : (ls : List (List ℕ)) (c : Certificate) (told : Told) → Spells ls c → ((d : Certificate) → Spells ls d → d ≡ c) → TellsOfCertificate c told
     → TellsOfIts ls told
-tells_from ls c told spells same h = record { some = (c, spells); each = λ d s. subst (λ e. TellsOf e told) (sym (same d s)) h }
+tells_from ls c told spells same h = record { some = (c, spells); each = λ d s. subst (λ e. TellsOfCertificate e told) (sym (same d s)) h }
 
-tells_lines : (ls : List (List ℕ)) (c : Certificate) (told : Told) → Spells ls c → ((d : Certificate) → Spells ls d → d ≡ c) → TellsOf c told → Tells ls told
+tells_lines : (ls : List (List ℕ)) (c : Certificate) (told : Told) → Spells ls c → ((d : Certificate) → Spells ls d → d ≡ c) → TellsOfCertificate c told → Tells ls told
 tells_lines ls c (BadLine line) spells same h = absurd h
 tells_lines ls c (Inconsistent at kind) spells same h = tells_from ls c (Inconsistent at kind) spells same h
 tells_lines ls c (WildGuess at) spells same h = tells_from ls c (WildGuess at) spells same h
@@ -99,6 +99,6 @@ tells_lines ls c Fixes spells same h = tells_from ls c Fixes spells same h
 tells_lines ls c (Beaten inside outside low high counter) spells same h = tells_from ls c (Beaten inside outside low high counter) spells same h
 
 pub told_result : (ls : List (List ℕ)) (c : Certificate) (r : Result Told Memory) → Spells ls c → ((d : Certificate) → Spells ls d → d ≡ c)
-    → IfOk r (TellsOf c) → IfOk r (Tells ls)
+    → IfOk r (TellsOfCertificate c) → IfOk r (Tells ls)
 told_result ls c (Ok told) spells same h = tells_lines ls c told spells same h
 told_result ls c (Err memory) spells same h = tt

@@ -32,20 +32,21 @@ pub record IsCounterOf (c : Certificate) (inside : ℕ) (counter : Bundle) : Typ
   pub query : (content counter).query ≡ printed c.query
 
 -- what is told of a certificate: the first fault of its accesses, of its answer, of its figures, or the verdict
-abbrev pub TellsOf : Certificate → Told → Type 0
-TellsOf c (BadLine line) = ⊥
-TellsOf c (Inconsistent at kind) = IsFirstInconsistent (list_count c.query.expr) c.count c.accesses at kind
-TellsOf c (WildGuess at) = IsJudged c (Err (fault.WildGuess at))
-TellsOf c (WrongSize given k) = IsJudged c (Err (fault.WrongSize given k))
-TellsOf c (UnseenAnswer object) = IsJudged c (Err (fault.UnseenAnswer object))
-TellsOf c (Figure line) = IsConsistent (log_of c) × IsFair c.query.k c.accesses (item_objects c.items) × IsFirstFigure c line
-TellsOf c Fixes = IsJudged c (Ok verdict.Fixes) × HasItsFigures c
-TellsOf c (Beaten inside outside low high counter) = IsJudged c (Ok (verdict.Beaten inside outside low high)) × HasItsFigures c × IsCounterOf c inside counter
+abbrev pub TellsOfCertificate : Certificate → Told → Type 0
+TellsOfCertificate c (BadLine line) = ⊥
+TellsOfCertificate c (Inconsistent at kind) = IsFirstInconsistent (list_count c.query.expr) c.count c.accesses at kind
+TellsOfCertificate c (WildGuess at) = IsJudged c (Err (fault.WildGuess at))
+TellsOfCertificate c (WrongSize given k) = IsJudged c (Err (fault.WrongSize given k))
+TellsOfCertificate c (UnseenAnswer object) = IsJudged c (Err (fault.UnseenAnswer object))
+TellsOfCertificate c (Figure line) = IsConsistent (log_of c) × IsFair c.query.k c.accesses (item_objects c.items) × IsFirstFigure c line
+TellsOfCertificate c Fixes = IsJudged c (Ok verdict.Fixes) × HasItsFigures c
+TellsOfCertificate c (Beaten inside outside low high counter) =
+    IsJudged c (Ok (verdict.Beaten inside outside low high)) × HasItsFigures c × IsCounterOf c inside counter
 
 -- the lines are a certificate's, and this is told of the certificate that they spell
 pub record TellsOfIts (ls : List (List ℕ)) (told : Told) : Type 0 where
   pub some : (c : Certificate) × Spells ls c
-  pub each : (c : Certificate) → Spells ls c → TellsOf c told
+  pub each : (c : Certificate) → Spells ls c → TellsOfCertificate c told
 
 -- the lines are no certificate's, and the line told is the first at fault; or this is told of their certificate
 abbrev pub Tells : List (List ℕ) → Told → Type 0

@@ -29,10 +29,7 @@ fn copied_names(alloc: Global, names: &Names) -> Result<Vec<Vec<u8>>, Memory>
     ensures { IfOk result (λ copied. bytes_of copied.items ≡ names.now) }
 {
     let mut copied = Vec::new(alloc);
-    for list in 0..names.len() {
-        let Some(name) = names.get(list) else {
-            unreachable!();
-        };
+    for name in names.iter() {
         let Ok(bytes) = copied_name(alloc, name) else {
             return Err(Memory);
         };

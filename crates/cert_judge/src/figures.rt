@@ -34,12 +34,9 @@ fn first_item(transcript: &Transcript, expr: &Expr, items: &Items) -> Option<u32
     ensures { FirstOf (map item_figures items.now)
         (map item_figures (map (bounded (value expr.now) transcript.now.lists transcript.now.accesses) (item_objects items.now))) result }
 {
-    for place in 0..items.len() {
-        let Some(item) = items.get(place) else {
-            unreachable!();
-        };
+    for (place, item) in items.iter().enumerate() {
         if !has_bounds(transcript, expr, item) {
-            return Some(place);
+            return Some(place as u32);
         }
     }
     None

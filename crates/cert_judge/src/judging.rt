@@ -6,7 +6,7 @@ ghost use Rattle.topk_theory.specs.Threshold.{item_objects};
 ghost use Rattle.access_log.specs.Log.{IsConsistent};
 ghost use Rattle.cert_text.specs.Certificate.{IsCertificate};
 ghost use Rattle.cert_judge.specs.Transcripts.{log_of};
-ghost use Rattle.cert_judge.specs.Judging.{IsJudged, TellsOf, Tells};
+ghost use Rattle.cert_judge.specs.Judging.{IsJudged, TellsOfCertificate, Tells};
 
 use super::Memory;
 use super::counter::counter_of;
@@ -25,10 +25,7 @@ fn objects_of(alloc: Global, items: &Items) -> Result<Vec<u32>, Memory>
     ensures few { IfOk result (λ objects. length objects.items < 2 ^ 32) }
 {
     let mut objects = Vec::new(alloc);
-    for place in 0..items.len() {
-        let Some(item) = items.get(place) else {
-            unreachable!();
-        };
+    for item in items.iter() {
         let Ok(()) = objects.push(item.object) else {
             return Err(Memory);
         };
@@ -47,7 +44,7 @@ fn told_fair(
     requires few { length certificate.now.accesses < 2 ^ 40 }
     requires made { transcript.now ≡ log_of certificate.now }
     requires judged { IsJudged certificate.now (Ok verdict) }
-    ensures { IfOk result (TellsOf certificate.now) }
+    ensures { IfOk result (TellsOfCertificate certificate.now) }
 {
     if let Some(line) = first_figure(certificate, transcript) {
         return Ok(Told::Figure { line });
@@ -82,7 +79,7 @@ fn told_over(
     requires few { length certificate.now.accesses < 2 ^ 40 }
     requires made { transcript.now ≡ log_of certificate.now }
     requires agrees { IsConsistent transcript.now }
-    ensures { IfOk result (TellsOf certificate.now) }
+    ensures { IfOk result (TellsOfCertificate certificate.now) }
 {
     let Ok(answer) = objects_of(alloc, &certificate.items) else {
         return Err(Memory);
@@ -101,7 +98,7 @@ fn told_over(
 fn told_of(alloc: Global, certificate: &Certificate) -> Result<Told, Memory>
     requires certificate { IsCertificate certificate.now }
     requires few { length certificate.now.accesses < 2 ^ 40 }
-    ensures { IfOk result (TellsOf certificate.now) }
+    ensures { IfOk result (TellsOfCertificate certificate.now) }
 {
     match transcript_of(alloc, certificate) {
         Ok(transcript) => told_over(alloc, certificate, &transcript),

@@ -85,7 +85,8 @@ item_in-some line item h =
       high ← number_up_to top_64 low.1
       Some (record { object = object.0.0; low = low.0; high = high })) item object.2 in
     let high = bind_some (number_up_to top_64 low.0.1) (λ high. Some (record { object = object.0.0; low = low.0.0; high = high })) item low.2 in
-    let is : record { object = object.0.0; low = low.0.0; high = high.0 } ≡ item = same_Some _ _ high.2 in
+    let read : Item = record { object = object.0.0; low = low.0.0; high = high.0 } in
+    let is : read ≡ item = same_Some read item high.2 in
     let first = before-some top_32 word.0 object.0 (omega arith) object.1 in
     let second = before-some top_64 object.0.1 low.0 (omega arith) low.1 in
     let third = up_to-some top_64 high.0 low.0.1 high.1 in
@@ -109,68 +110,116 @@ pub record IsStopLine (line : List ℕ) (f : Figures) : Type 0 where
   pub line_is : line ≡ stop_line f.depth f.sorted f.random f.cost
   pub figures : AreFigures f
 
+-- a word, a number and a space, where what follows them is read on
+record Worded {X : Type 0} (word line : List ℕ) (next : ℕ → List ℕ → Option X) (x : X) : Type 0 where
+  n : ℕ
+  rest : List ℕ
+  text : line ≡ word ++ (decimal n ++ 32 ∷ rest)
+  high : n ≤ top_64
+  goes : next n rest ≡ Some x
+
+worded : {X : Type 0} (word line : List ℕ) (next : ℕ → List ℕ → Option X) (x : X)
+    → (rest_after word line >>= λ text. number_before top_64 text >>= λ number. next number.0 number.1) ≡ Some x → Worded word line next x
+worded word line next x h =
+    let taken = bind_some (rest_after word line) (λ text. number_before top_64 text >>= λ number. next number.0 number.1) x h in
+    let number = bind_some (number_before top_64 taken.0) (λ number. next number.0 number.1) x taken.2 in
+    let says = before-some top_64 taken.0 number.0 (omega arith) number.1 in
+    record {
+      n = number.0.0;
+      rest = number.0.1;
+      text = rest_after-some word line taken.0 taken.1 ∙ ap (λ t. word ++ t) says.text_is;
+      high = says.high;
+      goes = number.2;
+    }
+
+-- the figures that the rest of a line gives, behind the depth, behind the sorted accesses, and behind the random ones
+abbrev from_cost : ℕ → ℕ → ℕ → List ℕ → Option Figures
+from_cost depth sorted random rest = do
+  text ← rest_after (codes "cost ") rest
+  cost ← number_up_to top_64 text
+  Some (record { depth = depth; sorted = sorted; random = random; cost = cost })
+
+abbrev from_random : ℕ → ℕ → List ℕ → Option Figures
+from_random depth sorted rest = do
+  text ← rest_after (codes "random ") rest
+  random ← number_before top_64 text
+  from_cost depth sorted random.0 random.1
+
+abbrev from_sorted : ℕ → List ℕ → Option Figures
+from_sorted depth rest = do
+  text ← rest_after (codes "sorted ") rest
+  sorted ← number_before top_64 text
+  from_random depth sorted.0 sorted.1
+
+record CostText (depth sorted random : ℕ) (rest : List ℕ) (f : Figures) : Type 0 where
+  depth_is : depth ≡ f.depth
+  sorted_is : sorted ≡ f.sorted
+  random_is : random ≡ f.random
+  text : rest ≡ codes "cost " ++ decimal f.cost
+  high : f.cost ≤ top_64
+
+cost_text : (depth sorted random : ℕ) (rest : List ℕ) (f : Figures) → from_cost depth sorted random rest ≡ Some f → CostText depth sorted random rest f
+cost_text depth sorted random rest f h =
+    let taken = bind_some (rest_after (codes "cost ") rest) (λ text. number_up_to top_64 text >>= λ cost. Some (record { depth = depth; sorted = sorted; random = random; cost = cost })) f h in
+    let cost = bind_some (number_up_to top_64 taken.0) (λ cost. Some (record { depth = depth; sorted = sorted; random = random; cost = cost })) f taken.2 in
+    let read : Figures = record { depth = depth; sorted = sorted; random = random; cost = cost.0 } in
+    let is : read ≡ f = same_Some read f cost.2 in
+    let says = up_to-some top_64 cost.0 taken.0 cost.1 in
+    subst (CostText depth sorted random rest) is record {
+      depth_is = refl;
+      sorted_is = refl;
+      random_is = refl;
+      text = rest_after-some (codes "cost ") rest taken.0 taken.1 ∙ ap (λ t. codes "cost " ++ t) (decimal-up_to top_64 cost.0 taken.0 (omega arith) cost.1);
+      high = says.1;
+    }
+
+record RandomText (depth sorted : ℕ) (rest : List ℕ) (f : Figures) : Type 0 where
+  depth_is : depth ≡ f.depth
+  sorted_is : sorted ≡ f.sorted
+  text : rest ≡ codes "random " ++ (decimal f.random ++ 32 ∷ (codes "cost " ++ decimal f.cost))
+  random : f.random ≤ top_64
+  cost : f.cost ≤ top_64
+
+random_text : (depth sorted : ℕ) (rest : List ℕ) (f : Figures) → from_random depth sorted rest ≡ Some f → RandomText depth sorted rest f
+random_text depth sorted rest f h =
+    let here : Worded (codes "random ") rest (from_cost depth sorted) f = worded (codes "random ") rest (from_cost depth sorted) f h in
+    let more : CostText depth sorted here.n here.rest f = cost_text depth sorted here.n here.rest f here.goes in
+    record {
+      depth_is = more.depth_is;
+      sorted_is = more.sorted_is;
+      text = here.text ∙ ap (λ n. codes "random " ++ (decimal n ++ 32 ∷ here.rest)) more.random_is ∙ ap (λ t. codes "random " ++ (decimal f.random ++ 32 ∷ t)) more.text;
+      random = subst (λ n. n ≤ top_64) more.random_is here.high;
+      cost = more.high;
+    }
+
+record SortedText (depth : ℕ) (rest : List ℕ) (f : Figures) : Type 0 where
+  depth_is : depth ≡ f.depth
+  text : rest ≡ codes "sorted " ++ (decimal f.sorted ++ 32 ∷ (codes "random " ++ (decimal f.random ++ 32 ∷ (codes "cost " ++ decimal f.cost))))
+  sorted : f.sorted ≤ top_64
+  random : f.random ≤ top_64
+  cost : f.cost ≤ top_64
+
+sorted_text : (depth : ℕ) (rest : List ℕ) (f : Figures) → from_sorted depth rest ≡ Some f → SortedText depth rest f
+sorted_text depth rest f h =
+    let here : Worded (codes "sorted ") rest (from_random depth) f = worded (codes "sorted ") rest (from_random depth) f h in
+    let more : RandomText depth here.n here.rest f = random_text depth here.n here.rest f here.goes in
+    record {
+      depth_is = more.depth_is;
+      text = here.text ∙ ap (λ n. codes "sorted " ++ (decimal n ++ 32 ∷ here.rest)) more.sorted_is ∙ ap (λ t. codes "sorted " ++ (decimal f.sorted ++ 32 ∷ t)) more.text;
+      sorted = subst (λ n. n ≤ top_64) more.sorted_is here.high;
+      random = more.random;
+      cost = more.cost;
+    }
+
 pub figures_in-some : (line : List ℕ) (f : Figures) → figures_in line ≡ Some f → IsStopLine line f
 unfolding figures_in
 figures_in-some line f h =
-    let a = bind_some (rest_after (codes "stop depth ") line) (λ text. do
-      depth ← number_before top_64 text
-      text ← rest_after (codes "sorted ") depth.1
-      sorted ← number_before top_64 text
-      text ← rest_after (codes "random ") sorted.1
-      random ← number_before top_64 text
-      text ← rest_after (codes "cost ") random.1
-      cost ← number_up_to top_64 text
-      Some (record { depth = depth.0; sorted = sorted.0; random = random.0; cost = cost })) f h in
-    let depth = bind_some (number_before top_64 a.0) (λ depth. do
-      text ← rest_after (codes "sorted ") depth.1
-      sorted ← number_before top_64 text
-      text ← rest_after (codes "random ") sorted.1
-      random ← number_before top_64 text
-      text ← rest_after (codes "cost ") random.1
-      cost ← number_up_to top_64 text
-      Some (record { depth = depth.0; sorted = sorted.0; random = random.0; cost = cost })) f a.2 in
-    let b = bind_some (rest_after (codes "sorted ") depth.0.1) (λ text. do
-      sorted ← number_before top_64 text
-      text ← rest_after (codes "random ") sorted.1
-      random ← number_before top_64 text
-      text ← rest_after (codes "cost ") random.1
-      cost ← number_up_to top_64 text
-      Some (record { depth = depth.0.0; sorted = sorted.0; random = random.0; cost = cost })) f depth.2 in
-    let sorted = bind_some (number_before top_64 b.0) (λ sorted. do
-      text ← rest_after (codes "random ") sorted.1
-      random ← number_before top_64 text
-      text ← rest_after (codes "cost ") random.1
-      cost ← number_up_to top_64 text
-      Some (record { depth = depth.0.0; sorted = sorted.0; random = random.0; cost = cost })) f b.2 in
-    let c = bind_some (rest_after (codes "random ") sorted.0.1) (λ text. do
-      random ← number_before top_64 text
-      text ← rest_after (codes "cost ") random.1
-      cost ← number_up_to top_64 text
-      Some (record { depth = depth.0.0; sorted = sorted.0.0; random = random.0; cost = cost })) f sorted.2 in
-    let random = bind_some (number_before top_64 c.0) (λ random. do
-      text ← rest_after (codes "cost ") random.1
-      cost ← number_up_to top_64 text
-      Some (record { depth = depth.0.0; sorted = sorted.0.0; random = random.0; cost = cost })) f c.2 in
-    let d = bind_some (rest_after (codes "cost ") random.0.1) (λ text. do
-      cost ← number_up_to top_64 text
-      Some (record { depth = depth.0.0; sorted = sorted.0.0; random = random.0.0; cost = cost })) f random.2 in
-    let cost = bind_some (number_up_to top_64 d.0) (λ cost. Some (record { depth = depth.0.0; sorted = sorted.0.0; random = random.0.0; cost = cost })) f d.2 in
-    let is : record { depth = depth.0.0; sorted = sorted.0.0; random = random.0.0; cost = cost.0 } ≡ f = same_Some _ _ cost.2 in
-    let first = before-some top_64 a.0 depth.0 (omega arith) depth.1 in
-    let second = before-some top_64 b.0 sorted.0 (omega arith) sorted.1 in
-    let third = before-some top_64 c.0 random.0 (omega arith) random.1 in
-    let fourth = up_to-some top_64 cost.0 d.0 cost.1 in
-    let after_random : random.0.1 ≡ codes "cost " ++ decimal cost.0 =
-    rest_after-some (codes "cost ") random.0.1 d.0 d.1 ∙ ap (λ t. codes "cost " ++ t) (decimal-up_to top_64 cost.0 d.0 (omega arith) cost.1) in
-    let after_sorted : sorted.0.1 ≡ codes "random " ++ (decimal random.0.0 ++ 32 ∷ random.0.1) =
-    rest_after-some (codes "random ") sorted.0.1 c.0 c.1 ∙ ap (λ t. codes "random " ++ t) third.text_is in
-    let after_depth : depth.0.1 ≡ codes "sorted " ++ (decimal sorted.0.0 ++ 32 ∷ sorted.0.1) =
-    rest_after-some (codes "sorted ") depth.0.1 b.0 b.1 ∙ ap (λ t. codes "sorted " ++ t) second.text_is in
-    subst (IsStopLine line) is record {
-      line_is = rest_after-some (codes "stop depth ") line a.0 a.1
-          ∙ ap (λ t. codes "stop depth " ++ t) (first.text_is ∙ ap (λ t. decimal depth.0.0 ++ 32 ∷ t) (after_depth
-          ∙ ap (λ t. codes "sorted " ++ (decimal sorted.0.0 ++ 32 ∷ t)) (after_sorted ∙ ap (λ t. codes "random " ++ (decimal random.0.0 ++ 32 ∷ t)) after_random)));
-      figures = record { depth = omega (arith, first.high); sorted = omega (arith, second.high); random = omega (arith, third.high); cost = omega (arith, fourth.1) };
+    let here : Worded (codes "stop depth ") line from_sorted f = worded (codes "stop depth ") line from_sorted f h in
+    let more : SortedText here.n here.rest f = sorted_text here.n here.rest f here.goes in
+    let depth : f.depth ≤ top_64 = subst (λ n. n ≤ top_64) more.depth_is here.high in
+    record {
+      line_is = here.text ∙ ap (λ n. codes "stop depth " ++ (decimal n ++ 32 ∷ here.rest)) more.depth_is ∙ ap (λ t. codes "stop depth " ++ (decimal f.depth ++ 32 ∷ t)) more.text;
+      figures = record { depth = omega (arith, depth); sorted = omega (arith, more.sorted); random = omega (arith, more.random); cost = omega (arith, more.cost) };
     }
 
 -- a list by its name, an object and a grade

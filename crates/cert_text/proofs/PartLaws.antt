@@ -1,5 +1,5 @@
 -- What the reading of one line means.
-use Rattle.std.proofs.Common.{◌≡◌, ◌≢◌, ℕ, ◌<◌, ◌≤◌, ◌^◌, Bool, true, false, cond, List, [], ◌∷◌, ◌++◌, length, Option, Some, None, refl, sym, ap, subst, ◌∙◌, arith, le-leb, lt-ltb, le-ltb, ◌&&◌, nat_lt, nat_le}
+use Rattle.std.proofs.Common.{◌≡◌, ◌≢◌, ℕ, ◌<◌, ◌≤◌, ◌^◌, Bool, true, false, cond, List, [], ◌∷◌, ◌++◌, length, Option, Some, None, refl, sym, ap, subst, ◌∙◌, arith, le-leb, lt-ltb, ◌&&◌, nat_lt, nat_le}
 use Rattle.std.specs.List.{All, list_all}
 use Rattle.std.specs.Str.{bytes_eq}
 use Rattle.std.specs.Char.{is_ascii_alphabetic}
@@ -97,13 +97,6 @@ pub list_named_at : (names : List (List ℕ)) (i : ℕ) (name : List ℕ) → i 
 list_named_at names i name within before here =
     let e = position_or_len_is (λ other. bytes_eq other name) names i [] (omega arith) before (λ _. here) in
     rw (e, lt-ltb i (length names) within) refl
-
--- no list has the name
-pub list_named_none : (names : List (List ℕ)) (name : List ℕ) → ((k : ℕ) → k < length names → bytes_eq (name_of names k) name ≡ false)
-    → list_named names name ≡ None
-list_named_none names name none =
-    let e = position_or_len_is (λ other. bytes_eq other name) names (length names) [] (omega arith) none (λ h. absurd (omega arith)) in
-    rw (e, le-ltb (length names) (length names) (omega arith)) refl
 
 bytes_eq-apart : (xs ys : List ℕ) → xs ≢ ys → bytes_eq xs ys ≡ false
 bytes_eq-apart xs ys ne = by_test (bytes_eq xs ys) refl

@@ -78,7 +78,8 @@ pub record SpellsFound (names : List (List ℕ)) (ls : List (List ℕ)) (found :
   pub items : All IsItem found.items
   pub figures : AreFigures found.figures
   pub accesses : All (IsAccess (length names)) found.accesses
-  pub spelled : ls ≡ map answer_line found.items ++ stop_line found.figures.depth found.figures.sorted found.figures.random found.figures.cost ∷ access_lines names found.accesses
+  pub spelled : ls ≡ map answer_line found.items
+      ++ stop_line found.figures.depth found.figures.sorted found.figures.random found.figures.cost ∷ access_lines names found.accesses
 
 -- the lines spell this answer under the number of objects of each list
 pub record SpellsCounted (names : List (List ℕ)) (ls : List (List ℕ)) (counted : ℕ × Found) : Type 0 where

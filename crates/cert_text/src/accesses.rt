@@ -1,6 +1,7 @@
 //! Accesses in order.
 
 use std::marker::Model;
+use std::slice::Iter;
 use topk_theory::Access;
 
 /// Accesses in order, which contracts see as their list.
@@ -19,8 +20,11 @@ impl Model for Accesses {
 }
 
 impl Accesses {
-    ghost use Rattle.std.specs.Prelude.{◌≡◌, ◌==◌, length, slice_get};
+    ghost use Rattle.std.specs.Prelude.{◌≡◌, ◌==◌, ◌<◌, ◌^◌, length, slice_get};
     ghost use Rattle.std.specs.Option.{option_copied};
+    ghost use Rattle.std.specs.Slice.Iter.{iter_rest};
+    ghost use Rattle.std.specs.Iterator.Adapters.{IterYieldsInOrder};
+    ghost use Rattle.topk_theory.specs.declared.access.Access.{Access};
 
     /// The accesses of a vector, in its order. Takes no memory.
     pub fn from_vec(items: Vec<Access>) -> Accesses
@@ -56,5 +60,14 @@ impl Accesses {
         ensures { option_copied result ≡ slice_get self.now place }
     {
         self.items.get(place as usize)
+    }
+
+    /// The accesses, in their order.
+    pub fn iter(&self) -> Iter<'_, Access>
+        ensures rest { iter_rest result ≡ self.now }
+        ensures few { length (iter_rest result) < 2 ^ 64 }
+        ensures runs { IterYieldsInOrder Access }
+    {
+        self.items.iter()
     }
 }

@@ -17,6 +17,7 @@
 mod accesses;
 mod certificate;
 mod fault;
+mod fields;
 mod outcome;
 mod parts;
 mod reader;

@@ -1,9 +1,7 @@
 //! What one line of a certificate says.
 
-ghost use Rattle.std.specs.Prelude.{◌≡◌, ◌≤◌, ◌<◌, length, IfSome};
+ghost use Rattle.std.specs.Prelude.{◌≡◌, ◌≤◌, length, IfSome};
 ghost use Rattle.std.specs.Option.{option_map};
-ghost use Rattle.std.specs.Str.{bytes_eq};
-ghost use Rattle.query_text.specs.Query.{name_of};
 ghost use Rattle.limits.specs.declared.TheConstants.{MAX_LISTS};
 ghost use Rattle.cert_text.specs.Parts.{number_within, number_before, number_in, count_in, item_in, figures_in, list_named, row_in, access_in};
 
@@ -94,28 +92,13 @@ pub(crate) fn figures_of(line: &[u8]) -> Option<Figures>
     })
 }
 
-/// Whether the list with this number has this name.
-fn is_named(names: &Names, list: u32, name: &[u8]) -> bool
-    requires { list < length names.now }
-    ensures { result ≡ bytes_eq (name_of names.now list) name.now }
-{
-    match names.get(list) {
-        Some(other) => other == name,
-        None => unreachable!(),
-    }
-}
-
 /// The number of the list with a name.
 fn list_named(names: &Names, name: &[u8]) -> Option<u8>
     requires { length names.now ≤ MAX_LISTS }
     ensures { result ≡ list_named names.now name.now }
 {
-    for list in 0..names.len() {
-        if is_named(names, list, name) {
-            return Some(list as u8);
-        }
-    }
-    None
+    let list = names.iter().position(|other| other.as_slice() == name)?;
+    Some(list as u8)
 }
 
 /// A row as an access gave it: the number of the list, the object and the grade.

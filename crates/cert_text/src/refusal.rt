@@ -1,21 +1,20 @@
 //! Why a query line is refused.
 
 ghost use Rattle.std.specs.Prelude.{◌≡◌, ◌++◌, ◌∷◌, [], map};
-ghost use Rattle.std.specs.Fmt.{decimal};
 ghost use Rattle.std.specs.Option.{option_copied};
 ghost use Rattle.tk_io.specs.Pieces.{Puts};
-ghost use Rattle.query_text.specs.Query.{name_of};
 ghost use Rattle.cert_text.specs.Outcome.{names_of, refused_line};
 ghost use Rattle.cert_text.specs.Refusal.{field_word, refusal_row};
-ghost use Rattle.cert_text.specs.Writing.{further, word_text};
+ghost use Rattle.cert_text.specs.Writing.{further, word_text, shown_field};
 
-use super::words::{Word, end_line, put_further, put_words};
+use super::fields::{FieldValue, fields_of};
+use super::words::{Word, put_further, put_words};
 use super::writing::name_of;
 use query_text::Query;
 use tk_io::{Pieces, Sink};
 
 /// Why a query line isn't answered.
-#[derive(Clone, Copy, Debug, PartialEq, Eq)]
+#[derive(Clone, Copy)]
 pub enum Refusal {
     /// The input has more query lines than `limit`, and this is one past them.
     ManyQueries {
@@ -150,23 +149,6 @@ pub enum Refusal {
     },
 }
 
-/// The name of a list of a query by its number.
-fn listed<'t>(query: Option<&'t Query>, list: u8) -> Word<'t>
-    ensures { word_text result ≡ name_of (names_of (option_copied query.entry)) list }
-{
-    match query {
-        Some(query) => Word::Text(name_of(&query.names, list)),
-        None => Word::Text(b""),
-    }
-}
-
-/// A field of 32 bits.
-fn number(field: u32) -> Word<'static>
-    ensures { word_text result ≡ decimal field }
-{
-    Word::Number(u64::from(field))
-}
-
 /// The name of a refusal.
 fn refusal_name(refusal: Refusal) -> &'static [u8]
     ensures { result.now ≡ (refusal_row refusal).0 }
@@ -201,106 +183,32 @@ fn refusal_name(refusal: Refusal) -> &'static [u8]
     }
 }
 
-/// Puts a space and a number for each number behind the bytes that wait.
-fn put_numbers<K: Sink>(out: &mut K, pieces: &mut Pieces, numbers: &[u32])
-    ensures { Puts (K.held out.old) (K.held out.new) (K.faults out.old) (K.faults out.new) pieces.old pieces.new (further (map decimal numbers.now)) }
+/// The word of a field: a number in decimal, or the name of a list of the query.
+fn word_of<'t>(query: Option<&'t Query>, field: FieldValue) -> Word<'t>
+    ensures { word_text result ≡ field_word (names_of (option_copied query.entry)) (shown_field field) }
 {
-    for field in numbers {
-        put_further(out, pieces, number(*field));
+    match field {
+        FieldValue::Number(number) => Word::Number(u64::from(number)),
+        FieldValue::Wide(number) => Word::Number(number),
+        FieldValue::List(list) => match query {
+            Some(query) => Word::Text(name_of(&query.names, list)),
+            None => Word::Text(b""),
+        },
     }
 }
 
-/// Puts the name of a list and numbers, each after a space, and the end of the line behind the bytes
-/// that wait.
-fn end_listed<K: Sink>(
+/// Puts a space and a word for each field behind the bytes that wait.
+fn put_fields<K: Sink>(
     out: &mut K,
     pieces: &mut Pieces,
     query: Option<&Query>,
-    list: u8,
-    numbers: &[u32],
+    fields: &[FieldValue],
 )
     ensures { Puts (K.held out.old) (K.held out.new) (K.faults out.old) (K.faults out.new) pieces.old pieces.new
-        (further (name_of (names_of (option_copied query.entry)) list ∷ map decimal numbers.now) ++ 10 ∷ []) }
+        (further (map (field_word (names_of (option_copied query.entry))) (map shown_field fields.now))) }
 {
-    put_further(out, pieces, listed(query, list));
-    put_numbers(out, pieces, numbers);
-    pieces.put(out, b"\n");
-}
-
-/// Puts the fields of a refusal, each after a space, and the end of the line behind the bytes that wait.
-fn put_fields<K: Sink>(out: &mut K, pieces: &mut Pieces, query: Option<&Query>, refusal: Refusal)
-    ensures { Puts (K.held out.old) (K.held out.new) (K.faults out.old) (K.faults out.new) pieces.old pieces.new
-        (further (map (field_word (names_of (option_copied query.entry))) (refusal_row refusal).1) ++ 10 ∷ []) }
-{
-    match refusal {
-        Refusal::ManyQueries { limit } => end_line(out, pieces, &[number(limit)]),
-        Refusal::LongLine { limit } => end_line(out, pieces, &[number(limit)]),
-        Refusal::Syntax { at } => end_line(out, pieces, &[number(at)]),
-        Refusal::Number { at } => end_line(out, pieces, &[number(at)]),
-        Refusal::TooManyLists { at } => end_line(out, pieces, &[number(at)]),
-        Refusal::TooManyNodes { nodes } => end_line(out, pieces, &[Word::Number(nodes)]),
-        Refusal::TooDeep { depth } => end_line(out, pieces, &[Word::Number(depth)]),
-        Refusal::TooBig { node } => end_line(out, pieces, &[number(node)]),
-        Refusal::UnknownList { list } => end_line(out, pieces, &[listed(query, list)]),
-        Refusal::NotOpened { list } => end_line(out, pieces, &[listed(query, list)]),
-        Refusal::TooLarge { list, count } => end_line(
-            out,
-            pieces,
-            &[listed(query, list), Word::Number(count)],
-        ),
-        Refusal::CountsDiffer { list, n, other, m } => {
-            end_line(
-                out,
-                pieces,
-                &[
-                    listed(query, list),
-                    number(n),
-                    listed(query, other),
-                    number(m),
-                ],
-            )
-        }
-        Refusal::KAboveCount { k, n } => end_line(out, pieces, &[number(k), number(n)]),
-        Refusal::NoRandom { list } => end_line(out, pieces, &[listed(query, list)]),
-        Refusal::Strangers { object, count } => end_line(
-            out,
-            pieces,
-            &[number(object), number(count)],
-        ),
-        Refusal::RoomFull { room } => end_line(out, pieces, &[number(room)]),
-        Refusal::OutOfOrder {
-            list,
-            place,
-            before,
-            after,
-        } => end_listed(out, pieces, query, list, &[place, before, after]),
-        Refusal::TooHigh { list, place, grade } => {
-            end_listed(out, pieces, query, list, &[place, grade])
-        }
-        Refusal::Repeated {
-            list,
-            object,
-            place,
-        } => end_listed(out, pieces, query, list, &[object, place]),
-        Refusal::Clash {
-            list,
-            object,
-            sorted,
-            random,
-        } => end_listed(out, pieces, query, list, &[object, sorted, random]),
-        Refusal::Above {
-            list,
-            object,
-            grade,
-            bottom,
-        } => end_listed(out, pieces, query, list, &[object, grade, bottom]),
-        Refusal::Missing { list, object } => end_listed(out, pieces, query, list, &[object]),
-        Refusal::ShortList { list, stated, got } => {
-            end_listed(out, pieces, query, list, &[stated, got])
-        }
-        Refusal::AsksFull { list, kept } => end_listed(out, pieces, query, list, &[kept]),
-        Refusal::Failed { list } => end_listed(out, pieces, query, list, &[]),
-        Refusal::Garbled { list } => end_listed(out, pieces, query, list, &[]),
+    for field in fields {
+        put_further(out, pieces, word_of(query, *field));
     }
 }
 
@@ -319,5 +227,7 @@ pub(crate) fn put_refusal<K: Sink>(
     pieces.put(out, b"refused");
     let name = Word::Text(refusal_name(refusal));
     put_words(out, pieces, &[Word::Number(line), name]);
-    put_fields(out, pieces, query, refusal);
+    let fields = fields_of(refusal);
+    put_fields(out, pieces, query, fields.as_slice());
+    pieces.put(out, b"\n");
 }

@@ -36,7 +36,8 @@ pub(crate) fn put_further<K: Sink>(out: &mut K, pieces: &mut Pieces, word: Word)
 
 /// Puts a space and a word for each word behind the bytes that wait.
 pub(crate) fn put_words<K: Sink>(out: &mut K, pieces: &mut Pieces, words: &[Word])
-    ensures { Puts (K.held out.old) (K.held out.new) (K.faults out.old) (K.faults out.new) pieces.old pieces.new (further (map word_text words.now)) }
+    ensures { Puts (K.held out.old) (K.held out.new) (K.faults out.old) (K.faults out.new) pieces.old pieces.new
+        (further (map word_text words.now)) }
 {
     for word in words {
         put_further(out, pieces, *word);
@@ -45,7 +46,8 @@ pub(crate) fn put_words<K: Sink>(out: &mut K, pieces: &mut Pieces, words: &[Word
 
 /// Puts the words after the first of a line and its end behind the bytes that wait.
 pub(crate) fn end_line<K: Sink>(out: &mut K, pieces: &mut Pieces, words: &[Word])
-    ensures { Puts (K.held out.old) (K.held out.new) (K.faults out.old) (K.faults out.new) pieces.old pieces.new (further (map word_text words.now) ++ 10 ∷ []) }
+    ensures { Puts (K.held out.old) (K.held out.new) (K.faults out.old) (K.faults out.new) pieces.old pieces.new
+        (further (map word_text words.now) ++ 10 ∷ []) }
 {
     put_words(out, pieces, words);
     pieces.put(out, b"\n");
@@ -53,7 +55,8 @@ pub(crate) fn end_line<K: Sink>(out: &mut K, pieces: &mut Pieces, words: &[Word]
 
 /// Puts the line of a first word and further words behind the bytes that wait.
 pub(crate) fn put_line<K: Sink>(out: &mut K, pieces: &mut Pieces, first: &[u8], words: &[Word])
-    ensures { Puts (K.held out.old) (K.held out.new) (K.faults out.old) (K.faults out.new) pieces.old pieces.new (spaced (first.now ∷ map word_text words.now) ++ 10 ∷ []) }
+    ensures { Puts (K.held out.old) (K.held out.new) (K.faults out.old) (K.faults out.new) pieces.old pieces.new
+        (spaced (first.now ∷ map word_text words.now) ++ 10 ∷ []) }
 {
     pieces.put(out, first);
     end_line(out, pieces, words);

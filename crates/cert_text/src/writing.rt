@@ -61,10 +61,7 @@ fn put_items<K: Sink>(out: &mut K, pieces: &mut Pieces, items: &Items)
     ensures { Puts (K.held out.old) (K.held out.new) (K.faults out.old) (K.faults out.new) pieces.old pieces.new
         (unlines (map answer_line items.now)) }
 {
-    for place in 0..items.len() {
-        let Some(item) = items.get(place) else {
-            unreachable!();
-        };
+    for item in items.iter() {
         put_item(out, pieces, item);
     }
 }
@@ -133,11 +130,8 @@ fn put_accesses<K: Sink>(out: &mut K, pieces: &mut Pieces, names: &Names, transc
     ensures { Puts (K.held out.old) (K.held out.new) (K.faults out.old) (K.faults out.new) pieces.old pieces.new
         (unlines (map (access_line names.now) transcript.now.accesses)) }
 {
-    for place in 0..transcript.len() {
-        let Some(access) = transcript.get(place) else {
-            unreachable!();
-        };
-        put_access(out, pieces, names, access);
+    for access in transcript.iter() {
+        put_access(out, pieces, names, *access);
     }
 }
 

@@ -4,7 +4,7 @@ use Rattle.topk_theory.specs.declared.access.Access.{Access}
 use Rattle.topk_theory.specs.Transcript.{IsTame, seen_objects}
 use Rattle.judge_core.specs.Judging.{IsSized}
 use Rattle.judge_core.specs.declared.verdict.JudgeFault.{JudgeFault}
-use Rattle.judge_core.specs.declared.verdict.JudgeFault.TheVariants.{WildGuess, WrongSize, UnseenAnswer, Memory}
+use Rattle.judge_core.specs.declared.verdict.JudgeFault.TheVariants.{WrongSize, Memory}
 
 -- how many objects are seen after an access, by its object's place in the order of first sight; None where it is a wild guess
 abbrev pub seen_after : Option ℕ → ℕ → Bool → Option ℕ
@@ -20,7 +20,6 @@ pub record HasWalked (A : List Access) (place seen : ℕ) : Type 0 where
 -- the objects of an answer of k distinct ones, or its fault
 abbrev pub HasSize : ℕ → List ℕ → Result (List ℕ) JudgeFault → Type 0
 HasSize k Y (Ok objects) = (objects ≡ Y) × IsSized k Y
-HasSize k Y (Err (WildGuess at)) = ⊥
 HasSize k Y (Err (WrongSize given asked)) = (given ≡ length Y) × (asked ≡ k) × (¬ IsSized k Y)
-HasSize k Y (Err (UnseenAnswer object)) = ⊥
 HasSize k Y (Err Memory) = Unit {0}
+HasSize _ _ _ = ⊥

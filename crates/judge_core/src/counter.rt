@@ -72,20 +72,16 @@ fn add_read(rows: &mut MemList, list: u8, access: Access) -> Result<(), Memory>
     Ok(())
 }
 
-/// The rows that sorted accesses gave from a list. There are so many accesses.
-fn read_rows(alloc: Global, transcript: &Transcript, made: u64, list: u8) -> Result<MemList, Memory>
+/// The rows that sorted accesses gave from a list.
+fn read_rows(alloc: Global, transcript: &Transcript, list: u8) -> Result<MemList, Memory>
     requires list { list < transcript.now.lists }
     requires limits { IsWithinLimits transcript.now.lists transcript.now.count }
     requires agrees { IsConsistent transcript.now }
-    requires made { made ≡ length transcript.now.accesses }
     ensures { IfOk result (λ rows. rows ≡ sorted_rows list transcript.now.accesses) }
 {
     let mut rows = MemList::make(alloc);
-    for place in 0..made {
-        let Some(access) = transcript.get(place) else {
-            unreachable!();
-        };
-        add_read(&mut rows, list, access)?;
+    for access in transcript.iter() {
+        add_read(&mut rows, list, *access)?;
     }
     Ok(rows)
 }
@@ -95,10 +91,7 @@ fn objects_read(alloc: Global, rows: &MemList) -> Result<Objects, Memory>
     ensures { IfOk result (λ read. (object : ℕ) → has object read ≡ has object (objects rows.now)) }
 {
     let mut read = Objects::make(alloc);
-    for place in 0..rows.len() {
-        let Some(row) = rows.get(place) else {
-            unreachable!();
-        };
+    for row in rows.iter() {
         read.add(row.object)?;
     }
     Ok(read)
@@ -201,11 +194,10 @@ fn rest_rows(
 }
 
 /// A list of the table against an object: the rows that were read from it, and below them the other objects by
-/// grade falling, then by id rising. There are so many accesses.
+/// grade falling, then by id rising.
 fn completed_list(
     alloc: Global,
     transcript: &Transcript,
-    made: u64,
     list: u8,
     inside: u32,
     objects: &[u32],
@@ -213,12 +205,11 @@ fn completed_list(
     requires list { list < transcript.now.lists }
     requires limits { IsWithinLimits transcript.now.lists transcript.now.count }
     requires agrees { IsConsistent transcript.now }
-    requires made { made ≡ length transcript.now.accesses }
     requires objects { IsObjectSet transcript.now.count objects.now }
     ensures { IfOk result (λ rows. rows ≡ filled (chosen (against inside transcript.now.accesses) transcript.now.accesses list)
         objects.now (sorted_rows list transcript.now.accesses)) }
 {
-    let mut rows = read_rows(alloc, transcript, made, list)?;
+    let mut rows = read_rows(alloc, transcript, list)?;
     let rest = rest_rows(alloc, transcript, list, inside, objects, &rows)?;
     add_rows(&mut rows, &rest)?;
     Ok(rows)
@@ -238,11 +229,10 @@ pub fn counter_table(
     requires seen { Contains (seen_objects transcript.now.accesses) inside }
     ensures { IfOk result (λ lists. IsCounterTable transcript.now inside lists.items) }
 {
-    let made = transcript.len();
     let objects = objects_of(alloc, transcript)?;
     let mut lists = Vec::new(alloc);
     for list in 0..transcript.lists() {
-        let rows = completed_list(alloc, transcript, made, list, inside, &objects)?;
+        let rows = completed_list(alloc, transcript, list, inside, &objects)?;
         lists.push(rows)?;
     }
     Ok(lists)

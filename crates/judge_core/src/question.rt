@@ -4,7 +4,7 @@ ghost use Rattle.std.specs.Prelude.{◌≡◌, ◌≢◌, ◌+◌, ◌<◌, ◌^
 ghost use Rattle.topk_theory.specs.Transcript.{IsTame, seen_objects};
 ghost use Rattle.access_log.specs.Log.{IsConsistent};
 ghost use Rattle.judge_core.specs.Judging.{IsFirstWildGuess, IsSized, IsFirstUnseen};
-ghost use Rattle.judge_core.specs.Question.{seen_after, HasWalked, HasSize};
+ghost use Rattle.judge_core.specs.Question.{seen_after, HasSize};
 
 use super::Memory;
 use super::objects::Objects;
@@ -28,29 +28,16 @@ fn seen_after(sight: Option<u32>, seen: u64, is_sorted: bool) -> Option<u64>
     if is_sorted { Some(seen + 1) } else { None }
 }
 
-/// How many objects are seen after the access at a place, from 0, None where it is a wild guess.
-fn seen_with(transcript: &Transcript, place: u64, seen: u64) -> Option<u64>
-    requires within { place < length transcript.now.accesses }
-    requires small { place + 1 < 2 ^ 64 }
-    requires tame { HasWalked transcript.now.accesses place seen }
-    ensures { MatchOption result (IsFirstWildGuess transcript.now.accesses (place + 1)) (HasWalked transcript.now.accesses (place + 1)) }
-{
-    let Some(access) = transcript.get(place) else {
-        unreachable!();
-    };
-    let sight = transcript.place_of(access.object());
-    seen_after(sight, seen, access.is_sorted())
-}
-
 /// The number, from 1, of the first wild guess, None where the transcript is tame.
 pub(crate) fn first_wild_guess(transcript: &Transcript) -> Option<u64>
     ensures guess { MatchOption result (IsTame transcript.now.accesses) (IsFirstWildGuess transcript.now.accesses) }
     ensures agrees { IsConsistent transcript.now }
 {
     let mut seen = 0;
-    for place in 0..transcript.len() {
-        let Some(after) = seen_with(transcript, place, seen) else {
-            return Some(place + 1);
+    for (place, access) in transcript.iter().enumerate() {
+        let sight = transcript.place_of(access.object());
+        let Some(after) = seen_after(sight, seen, access.is_sorted()) else {
+            return Some(place as u64 + 1);
         };
         seen = after;
     }

@@ -18,7 +18,7 @@ use Rattle.query_core.specs.declared.ready.Ready.{Ready}
 use Rattle.query_core.proofs.ListCount.{lists_counted}
 use Rattle.query_admission.specs.View.{View, AreListed}
 use Rattle.query_admission.specs.Causes.{most_queries, QueryLine, Cause, admission_causes, text_refusal, Over, ListsGive, Gives, NoneOf}
-use Rattle.query_admission.specs.Admission.{IsRefused, IsAdmitted}
+use Rattle.query_admission.specs.Admission.{RefusesLine, IsAdmitted}
 use Rattle.query_admission.specs.Screening.{list_causes, Screens, Weighs}
 use Rattle.query_admission.specs.declared.admission.Weighed.TheVariants.{Ready as Fits, Refused as NotReady}
 use Rattle.query_admission.specs.declared.lists.Listed.{Listed}
@@ -143,7 +143,7 @@ none_before x q lists earlier here of none =
     (all_cons (Never x) Cause.unknown_list earlier (not_unknown x q lists here) rest))
 
 -- a line too many, a fault of the text, and a name without a list
-pub refused_many : (x : QueryLine) → most_queries < x.number → IsRefused admission_causes x (ManyQueries most_queries) None
+pub refused_many : (x : QueryLine) → most_queries < x.number → RefusesLine admission_causes x (ManyQueries most_queries) None
 refused_many x many = record {
   first = record {
     cause = Cause.many_queries;
@@ -171,7 +171,7 @@ text_names_none : (fault : QueryFault) (refusal : Refusal) → text_refusal faul
 text_names_none fault refusal e = subst (λ o. IfSome o (λ r. refused_lists r ≡ [])) e (faults_name_none fault)
 
 pub refused_text : (x : QueryLine) (fault : QueryFault) (refusal : Refusal) → x.number ≤ most_queries → text_refusal fault ≡ Some refusal
-    → Reads x.bytes (Err fault) → IsRefused admission_causes x refusal None
+    → Reads x.bytes (Err fault) → RefusesLine admission_causes x refusal None
 refused_text x fault refusal few e reads = record {
   first = record {
     cause = Cause.text;
@@ -186,7 +186,7 @@ refused_text x fault refusal few e reads = record {
 }
 
 pub refused_unknown : (x : QueryLine) (q : Query) (refusal : Refusal) (list : ℕ) → x.number ≤ most_queries → Reads x.bytes (Ok q) → refusal ≡ UnknownList list
-    → position is_none (map x.view.listed q.names) ≡ Some list → IsRefused admission_causes x refusal (Some q)
+    → position is_none (map x.view.listed q.names) ≡ Some list → RefusesLine admission_causes x refusal (Some q)
 refused_unknown x q refusal list few reads is unknown =
     let within : list < length (map x.view.listed q.names) = (position-Some is_none (map x.view.listed q.names) list None unknown).0 in
     let below : list < length q.names = omega (arith, within, length-map q.names x.view.listed) in
@@ -205,7 +205,7 @@ refused_unknown x q refusal list few reads is unknown =
 
 -- a cause that lies in the lists
 pub refused_lists_why : (x : QueryLine) (q : Query) (lists : List Listed) (refusal : Refusal) → IsHere x q lists → Screens q lists (Err refusal)
-    → IsRefused admission_causes x refusal (Some q)
+    → RefusesLine admission_causes x refusal (Some q)
 refused_lists_why x q lists refusal here why =
     let f = why.0 in
     let before : (cause : Cause) → Contains f.earlier cause → IsOfLists cause = λ cause h. of_lists cause (subst (λ cs. Contains cs cause) (sym f.order) (Contains-append_left f.earlier (f.cause ∷ f.later) cause h)) in
@@ -253,7 +253,7 @@ pub ready_weighed : (x : QueryLine) (ready : Ready) → x.number ≤ most_querie
 ready_weighed x ready few reads weighed = ready_admitted x ready weighed.0 (record { few = few; reads = reads; listed = weighed.1 }) weighed.2 weighed.3
 
 pub query_weighed : (x : QueryLine) (q : Query) (refusal : Refusal) → x.number ≤ most_queries → Reads x.bytes (Ok q) → Weighs x.view q (NotReady refusal)
-    → IsRefused admission_causes x refusal (Some q)
+    → RefusesLine admission_causes x refusal (Some q)
 query_weighed x q refusal few reads weighed =
     elim weighed [
       | inl unknown ↦ refused_unknown x q refusal unknown.0 few reads unknown.1 unknown.2

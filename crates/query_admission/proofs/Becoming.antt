@@ -18,12 +18,12 @@ use Rattle.query_core.specs.Ready.{IsReady}
 use Rattle.query_core.proofs.Answering.{answered_short}
 use Rattle.query_admission.specs.View.{AreTold, count_of}
 use Rattle.query_admission.specs.Causes.{QueryLine, Cause, admission_causes, Gives}
-use Rattle.query_admission.specs.Admission.{IsRefused, IsAdmitted}
+use Rattle.query_admission.specs.Admission.{RefusesLine, IsAdmitted}
 use Rattle.query_admission.specs.Becomes.{Becomes}
 use Rattle.query_admission.proofs.Admitting.{read_once, lists_once}
 
 -- what admission refuses is refused
-pub refused_line : (x : QueryLine) (refusal : Refusal) (query : Option Query) (count : ℕ) → IsRefused admission_causes x refusal query
+pub refused_line : (x : QueryLine) (refusal : Refusal) (query : Option Query) (count : ℕ) → RefusesLine admission_causes x refusal query
     → Becomes x query count (Refused refusal)
 refused_line x refusal query count refused =
     let f = refused.first in
@@ -40,7 +40,7 @@ refused_line x refusal query count refused =
       named = refused.named;
     }
 
-pub refused_writable : (query : Option Query) (x : QueryLine) (causes : List Cause) (refusal : Refusal) → IsRefused causes x refusal query
+pub refused_writable : (query : Option Query) (x : QueryLine) (causes : List Cause) (refusal : Refusal) → RefusesLine causes x refusal query
     → IsOutcome query (Refused refusal)
 refused_writable None x causes refusal refused = refused.named
 refused_writable (Some q) x causes refusal refused = refused.named

@@ -4,7 +4,7 @@ use Rattle.std.specs.List.{position, position_or_len}
 use Rattle.std.proofs.lemmas.List.Quantifiers.{position-Some}
 use Rattle.std.proofs.lemmas.Bool.{ltb-false}
 use Rattle.query_text.proofs.ListLaws.{none_is}
-use Rattle.query_admission.specs.View.{most_objects, size_passes, is_closed, is_large, size_at, count_of}
+use Rattle.query_admission.specs.View.{most_objects, size_passes, is_closed, is_large, size_stated, count_of}
 use Rattle.query_admission.specs.declared.lists.Listed.{Listed}
 
 -- a list of which nothing is known
@@ -51,7 +51,7 @@ small_size lists place size e l stated =
     ltb-false most_objects size (subst (λ s. size_passes (nat_lt most_objects) s ≡ false) stated passes)
 
 -- the size at a place within the lists
-pub size_there : (lists : List Listed) (place : ℕ) → place < length lists → size_at lists place ≡ (slice_index_or lists place nothing).size
+pub size_there : (lists : List Listed) (place : ℕ) → place < length lists → size_stated lists place ≡ (slice_index_or lists place nothing).size
 size_there [] place l = absurd (omega arith)
 size_there (list ∷ lists) zero l = refl
 size_there (list ∷ lists) (suc place) l = size_there lists place (omega arith)

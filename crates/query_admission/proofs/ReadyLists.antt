@@ -7,7 +7,7 @@ use Rattle.cert_text.specs.declared.refusal.Refusal.{Refusal}
 use Rattle.cert_text.specs.declared.refusal.Refusal.TheVariants.{NotOpened, CountsDiffer, NoRandom}
 use Rattle.query_core.specs.declared.ready.Ready.{Ready}
 use Rattle.query_core.specs.Algorithms.{asks_grades}
-use Rattle.query_admission.specs.View.{size_passes, is_closed, differs, lacks_random, size_at}
+use Rattle.query_admission.specs.View.{size_passes, is_closed, differs, lacks_random, size_stated}
 use Rattle.query_admission.specs.Causes.{QueryLine, Cause, admission_causes, Gives}
 use Rattle.query_admission.specs.Admission.{IsAdmitted}
 use Rattle.query_admission.proofs.Positions.{nothing, none_at, found_within, size_there}
@@ -37,7 +37,7 @@ all_same x ready admitted = no_place (position (differs ready.count) admitted.li
     let within = found_within (differs ready.count) lists place e in
     let opened : is_none (slice_index_or lists place nothing).size ≡ false = none_at is_closed lists place (all_opened x ready admitted) within in
     let stated = stated_size (slice_index_or lists place nothing).size opened in
-    let size : size_at lists place ≡ Some stated.0 = subst (λ s. s ≡ Some stated.0) (sym (size_there lists place within)) stated.1 in
+    let size : size_stated lists place ≡ Some stated.0 = subst (λ s. s ≡ Some stated.0) (sym (size_there lists place within)) stated.1 in
     never x ready Cause.counts_differ 5 (CountsDiffer 0 ready.count place stated.0) admitted (omega arith) refl
     (record { query = ready.query; lists = lists; reads = admitted.reads; listed = admitted.listed; holds = (ready.count, place, stated.0, refl, admitted.count, e, size) }))
 

@@ -2,6 +2,7 @@
 use Rattle.std.proofs.Common.{◌≡◌, ℕ, zero, suc, ◌+◌, ◌<◌, not, nat_lt, cond, List, [], ◌∷◌, ◌++◌, length, map, take, Option, Some, None, is_none, slice_get, sym, ap, ◌∙◌, subst, arith}
 use Rattle.std.specs.List.{position, position_or_len}
 use Rattle.std.proofs.lemmas.Bool.{lt-ltb}
+use Rattle.std.proofs.lemmas.List.{length-map, length-take-le}
 use Rattle.query_admission.specs.declared.lists.Listed.{Listed}
 
 -- the first names are known, and the next one isn't: it is the first that has no list
@@ -29,6 +30,13 @@ first_unknown known_by names known place name so_far at none =
     let p = first_unknown_from known_by names known place name so_far (sym at) (sym none) in
     subst (λ n. cond (nat_lt n (length (map known_by names))) (Some n) None ≡ Some place) (sym p.0)
     (ap (λ b. cond b (Some place) None) (lt-ltb place (length (map known_by names)) p.1))
+
+-- the known lists are as many as the names so far
+pub as_many_known : (known_by : List ℕ → Option Listed) (names : List (List ℕ)) (known : List Listed) (place : ℕ) → place < length names
+    → map known_by (take place names) ≡ map Some known → length known ≡ place
+as_many_known known_by names known place within so_far =
+    let each : length (map known_by (take place names)) ≡ length (map Some known) = ap length so_far in
+    omega (arith, each, length-map (take place names) known_by, length-map known (λ list. Some list), length-take-le place names (omega arith))
 
 -- one more name is known
 pub known_more : (known_by : List ℕ → Option Listed) (names : List (List ℕ)) (known : List Listed) (place : ℕ) (name : List ℕ) (list : Listed)

@@ -14,7 +14,7 @@ use Rattle.query_admission.specs.declared.admitted.Admitted.{Admitted}
 use Rattle.query_admission.specs.declared.admitted.Admitted.TheVariants.{Ready as IsReadyNow, Refused}
 
 -- the line is refused for the first of the causes that holds; the query beside is the line's, and has the lists that the refusal names
-pub record IsRefused (causes : List Cause) (x : QueryLine) (refusal : Refusal) (query : Option Query) : Type 0 where
+pub record RefusesLine (causes : List Cause) (x : QueryLine) (refusal : Refusal) (query : Option Query) : Type 0 where
   pub first : IsFirstOf (Gives x) causes refusal
   pub reads : IfSome query (λ q. Reads x.bytes (Ok q))
   pub named : All (λ list. list < length (names_of query)) (refused_lists refusal)
@@ -32,4 +32,4 @@ pub record IsAdmitted (x : QueryLine) (ready : Ready) : Type 0 where
 -- what admission answers
 abbrev pub Admits : QueryLine → Admitted → Type 0
 Admits x (IsReadyNow ready) = IsAdmitted x ready
-Admits x (Refused refusal query) = IsRefused admission_causes x refusal query
+Admits x (Refused refusal query) = RefusesLine admission_causes x refusal query

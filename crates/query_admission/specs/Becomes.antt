@@ -10,10 +10,11 @@ use Rattle.cert_text.specs.declared.outcome.Outcome.TheVariants.{Answered, Refus
 use Rattle.query_core.specs.OneAnswer.{IsAnswered}
 use Rattle.query_admission.specs.View.{AreListed, AreTold, count_of}
 use Rattle.query_admission.specs.Causes.{QueryLine, line_causes, Gives, NoneOf}
-use Rattle.query_admission.specs.Admission.{IsRefused}
+use Rattle.query_admission.specs.Admission.{RefusesLine}
 use Rattle.query_admission.specs.declared.lists.Listed.{Listed}
 
--- nothing refuses the line, and its query is answered over lists of so many objects: the answer is right, and where the rows of its lists are told they agree with its transcript
+-- nothing refuses the line, and its query is answered over lists of so many objects: the answer is right,
+-- and where the rows of its lists are told they agree with its transcript
 pub record AnswersLine (x : QueryLine) (q : Query) (count : ℕ) (answer : Answer) : Type 0 where
   pub unrefused : NoneOf (Gives x) line_causes
   pub reads : Reads x.bytes (Ok q)
@@ -25,6 +26,6 @@ pub record AnswersLine (x : QueryLine) (q : Query) (count : ℕ) (answer : Answe
 
 -- what becomes of a line: the query that it spells, where it was read; the count of its lists, where it's answered; and the outcome
 abbrev pub Becomes : QueryLine → Option Query → ℕ → Outcome → Type 0
-Becomes x query count (Refused refusal) = IsRefused line_causes x refusal query
+Becomes x query count (Refused refusal) = RefusesLine line_causes x refusal query
 Becomes x (Some q) count (Answered answer) = AnswersLine x q count answer
 Becomes x None count (Answered answer) = ⊥

@@ -4,13 +4,15 @@ use Rattle.std.specs.List.{position}
 use Rattle.ranked_list.specs.declared.row.Row.{Row}
 use Rattle.query_text.specs.declared.query.Query.{Query}
 use Rattle.query_text.specs.declared.fault.QueryFault.{QueryFault}
-use Rattle.query_text.specs.declared.fault.QueryFault.TheVariants.{LongLine as Long, Syntax as BadSyntax, Number as BadNumber, TooManyLists as ManyLists, TooManyNodes as ManyNodes, TooDeep as Deep, TooBig as Big, Memory}
+use Rattle.query_text.specs.declared.fault.QueryFault.TheVariants.{LongLine as Long, Syntax as BadSyntax, Number as BadNumber, Memory}
+use Rattle.query_text.specs.declared.fault.QueryFault.TheVariants.{TooManyLists as ManyLists, TooManyNodes as ManyNodes, TooDeep as Deep, TooBig as Big}
 use Rattle.query_text.specs.Reading.{Reads}
 use Rattle.cert_text.specs.declared.refusal.Refusal.{Refusal}
-use Rattle.cert_text.specs.declared.refusal.Refusal.TheVariants.{ManyQueries, LongLine, Syntax, Number, TooManyLists, TooManyNodes, TooDeep, TooBig, UnknownList, NotOpened, TooLarge, CountsDiffer, KAboveCount, NoRandom, RoomFull}
+use Rattle.cert_text.specs.declared.refusal.Refusal.TheVariants.{ManyQueries, LongLine, Syntax, Number, TooManyLists, TooManyNodes, TooDeep, TooBig}
+use Rattle.cert_text.specs.declared.refusal.Refusal.TheVariants.{UnknownList, NotOpened, TooLarge, CountsDiffer, KAboveCount, NoRandom, RoomFull}
 use Rattle.query_core.specs.Algorithms.{asks_grades}
 use Rattle.query_core.specs.OneAnswer.{IsOverRoom}
-use Rattle.query_admission.specs.View.{View, AreListed, AreTold, is_closed, is_large, differs, lacks_random, size_at, count_of}
+use Rattle.query_admission.specs.View.{View, AreListed, AreTold, is_closed, is_large, differs, lacks_random, size_stated, count_of}
 use Rattle.query_admission.specs.declared.lists.Listed.{Listed}
 use Rattle.limits.specs.declared.TheConstants.{MAX_QUERIES}
 
@@ -72,10 +74,10 @@ pub record Over (x : QueryLine) (P : Query → List Listed → Type 0) : Type 0 
 abbrev pub ListsGive : Query → List Listed → Cause → Refusal → Type 0
 ListsGive q lists Cause.not_opened refusal = (list : ℕ) × (refusal ≡ NotOpened list) × (position is_closed lists ≡ Some list)
 ListsGive q lists Cause.too_large refusal =
-    (list count : ℕ) × (refusal ≡ TooLarge list count) × (position is_large lists ≡ Some list) × (size_at lists list ≡ Some count)
+    (list count : ℕ) × (refusal ≡ TooLarge list count) × (position is_large lists ≡ Some list) × (size_stated lists list ≡ Some count)
 ListsGive q lists Cause.counts_differ refusal =
     (n other m : ℕ) × (refusal ≡ CountsDiffer 0 n other m) × (count_of lists ≡ Some n) × (position (differs n) lists ≡ Some other)
-    × (size_at lists other ≡ Some m)
+    × (size_stated lists other ≡ Some m)
 ListsGive q lists Cause.k_above_count refusal = (n : ℕ) × (refusal ≡ KAboveCount q.k n) × (count_of lists ≡ Some n) × (n < q.k)
 ListsGive q lists Cause.no_random refusal =
     (list : ℕ) × (refusal ≡ NoRandom list) × IsTrue (asks_grades q.algorithm) × (position lacks_random lists ≡ Some list)

@@ -40,8 +40,8 @@ abbrev pub lacks_random : Listed → Bool
 lacks_random list = not list.random
 
 -- the size that the list with this number states; the count of a query is that of its first list
-abbrev pub size_at : List Listed → ℕ → Option ℕ
-size_at lists list = option_and_then (λ l. l.size) (slice_get lists list)
+abbrev pub size_stated : List Listed → ℕ → Option ℕ
+size_stated lists list = option_and_then (λ l. l.size) (slice_get lists list)
 
 abbrev pub count_of : List Listed → Option ℕ
-count_of lists = size_at lists 0
+count_of lists = size_stated lists 0

@@ -18,7 +18,7 @@ use query_text::{Query, QueryFault, read};
 use std::alloc::Global;
 
 /// What a query comes to over lists: ready with its count and the numbers of its sources, or refused.
-#[derive(Debug, Drop)]
+#[derive(Drop)]
 pub(crate) enum Weighed {
     Ready { count: u32, sources: Vec<u32> },
     Refused(Refusal),

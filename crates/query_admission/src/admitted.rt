@@ -5,7 +5,7 @@ use query_core::Ready;
 use query_text::Query;
 
 /// What a query line comes to before it runs.
-#[derive(Debug, Drop)]
+#[derive(Drop)]
 pub enum Admitted {
     /// The query of the line, ready to run.
     Ready(Ready),

@@ -10,7 +10,7 @@ use query_text::Names;
 use std::alloc::Global;
 
 /// What is found of the lists of a query.
-#[derive(Debug, Drop)]
+#[derive(Drop)]
 pub(crate) enum Sought {
     /// What each of them says of itself, in their order.
     Known(Vec<Listed>),
@@ -24,12 +24,10 @@ pub(crate) fn seek<L: Lists>(alloc: Global, lists: &L, names: &Names) -> Result<
     ensures { IfOk result (IsSought (L.view lists.now) names.now) }
 {
     let mut known = Vec::new(alloc);
-    for list in 0..names.len() {
-        let Some(name) = names.get(list) else {
-            unreachable!();
-        };
+    for name in names.iter() {
         let Some(found) = lists.find(name) else {
-            return Ok(Sought::Unknown { list: list as u8 });
+            let list = known.len() as u8;
+            return Ok(Sought::Unknown { list });
         };
         let Ok(()) = known.push(found) else {
             return Err(Memory);

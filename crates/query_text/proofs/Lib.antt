@@ -15,3 +15,4 @@ pub mod AnswerLaws
 pub mod PutLaws
 pub mod LengthLaws
 pub mod BackLaws
+pub mod NamesPassed

@@ -141,23 +141,14 @@ IsOutside (Piece.name text) = ⊥
 
 -- why a draft doesn't take a word
 abbrev pub Misses : Stage → Draft → List ℕ → ℕ → QueryFault → Type 0
-Misses stage draft word at (faults.LongLine limit) = ⊥
-Misses stage draft word at (faults.Syntax place) = ⊥
 Misses stage draft word at (faults.Number place) = (place ≡ at) × IsOutside (piece_at stage word)
 Misses stage draft word at (faults.TooManyLists place) =
     (place ≡ at) × (MAX_LISTS < length (each_once_after bytes_eq (names_of draft) (names_in (piece_at stage word ∷ []))))
-Misses stage draft word at (faults.TooManyNodes nodes) = ⊥
-Misses stage draft word at (faults.TooDeep depth) = ⊥
-Misses stage draft word at (faults.TooBig node) = ⊥
 Misses stage draft word at faults.Memory = Unit {0}
+Misses _ _ _ _ _ = ⊥
 
 -- why a name isn't taken as that of a list
 abbrev pub IsListMissed : List (List ℕ) → List ℕ → ℕ → QueryFault → Type 0
-IsListMissed names word at (faults.LongLine limit) = ⊥
-IsListMissed names word at (faults.Syntax place) = ⊥
-IsListMissed names word at (faults.Number place) = ⊥
 IsListMissed names word at (faults.TooManyLists place) = (place ≡ at) × (MAX_LISTS < length (with_member bytes_eq names word))
-IsListMissed names word at (faults.TooManyNodes nodes) = ⊥
-IsListMissed names word at (faults.TooDeep depth) = ⊥
-IsListMissed names word at (faults.TooBig node) = ⊥
 IsListMissed names word at faults.Memory = Unit {0}
+IsListMissed _ _ _ _ = ⊥

@@ -16,14 +16,11 @@ query_in draft = record { k = draft.k; names = names_of draft; expr = tree_of dr
 -- what becomes of a draft
 abbrev pub Finishes : Draft → Result Query QueryFault → Type 0
 Finishes draft (Ok query) = (query ≡ query_in draft) × IsExpr query.expr
-Finishes draft (Err (faults.LongLine limit)) = ⊥
-Finishes draft (Err (faults.Syntax at)) = ⊥
-Finishes draft (Err (faults.Number at)) = ⊥
-Finishes draft (Err (faults.TooManyLists at)) = ⊥
 Finishes draft (Err (faults.TooManyNodes nodes)) = Makes (tree_of draft.operand) (Err (ManyNodes nodes))
 Finishes draft (Err (faults.TooDeep depth)) = Makes (tree_of draft.operand) (Err (Deep depth))
 Finishes draft (Err (faults.TooBig node)) = Makes (tree_of draft.operand) (Err (Big node))
 Finishes draft (Err faults.Memory) = Unit {0}
+Finishes _ _ = ⊥
 
 -- the numbers of a draft are small
 pub record IsSmall (draft : Draft) : Type 0 where

@@ -10,7 +10,7 @@ use Rattle.query_text.specs.Words.{Class, opened_by, begins, is_whole, class_at}
 use Rattle.query_text.specs.declared.algorithm.Algorithm.{Algorithm}
 use Rattle.query_text.specs.declared.algorithm.Algorithm.TheVariants.{Ta}
 use Rattle.query_text.specs.declared.operator.Operator.{Operator}
-use Rattle.query_text.specs.declared.operator.Operator.TheVariants.{Min, Max, Sum, Median, Wsum}
+use Rattle.query_text.specs.declared.operator.Operator.TheVariants.{Wsum}
 use Rattle.query_text.specs.declared.stage.Stage.{Stage}
 use Rattle.query_text.specs.declared.stage.Stage.TheVariants as stages
 use Rattle.limits.specs.declared.TheConstants.{MAX_NUMBER, MAX_WEIGHT}
@@ -73,21 +73,11 @@ stage_of (Front.at_end shape) = stages.Done
 
 -- the open operators
 abbrev pub frames_of : Front → List Frame
-frames_of Front.at_top = []
-frames_of Front.at_count = []
-frames_of (Front.at_by k) = []
 frames_of (Front.at_operand k frames) = frames
 frames_of (Front.at_behind k frames expr) = frames
 frames_of (Front.at_weight k frames) = frames
 frames_of (Front.at_times k frames weight) = frames
-frames_of (Front.at_algorithm k expr) = []
-frames_of (Front.at_options head) = []
-frames_of (Front.at_sorted head) = []
-frames_of (Front.at_between head sorted) = []
-frames_of (Front.at_random head sorted) = []
-frames_of (Front.at_priced head cost) = []
-frames_of (Front.at_room head cost) = []
-frames_of (Front.at_end shape) = []
+frames_of _ = []
 
 abbrev pub is_inside : List Frame → Bool
 is_inside [] = false
@@ -137,29 +127,18 @@ operand_piece word (Some operator) = Piece.fixed word
 
 -- the piece that a word is
 abbrev pub piece_at : Stage → List ℕ → Piece
-piece_at stages.Top word = Piece.fixed word
 piece_at stages.Count word = Piece.number 1 MAX_NUMBER word
-piece_at stages.By word = Piece.fixed word
 piece_at stages.Operand word = operand_piece word (opened_by word)
-piece_at stages.Behind word = Piece.fixed word
 piece_at stages.Weight word = Piece.number 0 MAX_WEIGHT word
-piece_at stages.Times word = Piece.fixed word
-piece_at stages.Algorithm word = Piece.fixed word
-piece_at stages.Options word = Piece.fixed word
 piece_at stages.Sorted word = Piece.number 1 MAX_NUMBER word
-piece_at stages.Between word = Piece.fixed word
 piece_at stages.Random word = Piece.number 1 MAX_NUMBER word
-piece_at stages.Priced word = Piece.fixed word
 piece_at stages.Room word = Piece.number 1 MAX_NUMBER word
-piece_at stages.Done word = Piece.fixed word
+piece_at _ word = Piece.fixed word
 
 -- whether an operator has weights
 abbrev pub is_weighted : Operator → Bool
-is_weighted Min = false
-is_weighted Max = false
-is_weighted Sum = false
-is_weighted Median = false
 is_weighted Wsum = true
+is_weighted _ = false
 
 -- an argument of the innermost operator begins: its weight comes first, if the operator has weights
 abbrev pub begun : List ℕ → Frame → List Frame → Front
@@ -214,21 +193,10 @@ next (Front.at_end shape) word = Front.at_end shape
 
 -- the syntax tree of a front that is a whole text
 abbrev pub shape_at : Front → Option SyntaxTree
-shape_at Front.at_top = None
-shape_at Front.at_count = None
-shape_at (Front.at_by k) = None
-shape_at (Front.at_operand k frames) = None
-shape_at (Front.at_behind k frames expr) = None
-shape_at (Front.at_weight k frames) = None
-shape_at (Front.at_times k frames weight) = None
-shape_at (Front.at_algorithm k expr) = None
 shape_at (Front.at_options head) = Some (shape_from head None None)
-shape_at (Front.at_sorted head) = None
-shape_at (Front.at_between head sorted) = None
-shape_at (Front.at_random head sorted) = None
 shape_at (Front.at_priced head cost) = Some (shape_from head (Some cost) None)
-shape_at (Front.at_room head cost) = None
 shape_at (Front.at_end shape) = Some shape
+shape_at _ = None
 
 -- what is read byte by byte behind a front and a part of its next word: each word is as long as it can be
 abbrev pub reads : Front → List ℕ → List ℕ → Option SyntaxTree

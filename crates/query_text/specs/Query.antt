@@ -105,7 +105,8 @@ IsCount n = (1 ≤ n) × (n ≤ MAX_NUMBER)
 abbrev pub names_given : List (List ℕ) → Tree → List (List ℕ)
 names_given names tree = map (name_of names) (lists_of tree)
 
--- the query is lawful: its names are names and differ, each list of its expression has one of them, each of them is that of a list, and the lists are numbered in the order in which the expression names them first; the numbers are within their ranges
+-- the query is lawful: its names are names and differ, each list of its expression has one of them, each of them is that of a list,
+-- and the lists are numbered in the order in which the expression names them first; the numbers are within their ranges
 pub record IsLawful (query : Query) : Type 0 where
   pub k : IsCount query.k
   pub names : All IsName query.names

@@ -15,21 +15,10 @@ use Rattle.query_text.specs.declared.fault.QueryFault.TheVariants as faults
 
 -- whether a text may end before what comes next
 abbrev pub may_end : Stage → Bool
-may_end stages.Top = false
-may_end stages.Count = false
-may_end stages.By = false
-may_end stages.Operand = false
-may_end stages.Behind = false
-may_end stages.Weight = false
-may_end stages.Times = false
-may_end stages.Algorithm = false
 may_end stages.Options = true
-may_end stages.Sorted = false
-may_end stages.Between = false
-may_end stages.Random = false
 may_end stages.Priced = true
-may_end stages.Room = false
 may_end stages.Done = true
+may_end _ = false
 
 -- the text of a front
 abbrev pub front_text : Front → List ℕ
@@ -50,14 +39,9 @@ pub record Drafts (draft : Draft) (front : Front) : Type 0 where
 -- the front has a fault, or the draft is what it means
 abbrev pub IsState : Option QueryFault → Draft → Front → Type 0
 IsState None draft front = Drafts draft front
-IsState (Some (faults.LongLine limit)) draft front = ⊥
-IsState (Some (faults.Syntax at)) draft front = ⊥
 IsState (Some (faults.Number at)) draft front = IsNumberFault (pieces_before front) at
 IsState (Some (faults.TooManyLists at)) draft front = IsNameFault (pieces_before front) at
-IsState (Some (faults.TooManyNodes nodes)) draft front = ⊥
-IsState (Some (faults.TooDeep depth)) draft front = ⊥
-IsState (Some (faults.TooBig node)) draft front = ⊥
-IsState (Some faults.Memory) draft front = ⊥
+IsState _ _ _ = ⊥
 
 -- a reader has read the line up to a place
 pub record Reached (line : List ℕ) (at : ℕ) (course : Course) (draft : Draft) (fault : Option QueryFault) : Type 0 where
@@ -104,11 +88,8 @@ StepTakes stage old new None word at (Some fault) = Misses stage old word at fau
 -- what reading the words of a line answers
 abbrev pub WordsRead : List ℕ → Result Draft QueryFault → Type 0
 WordsRead line (Ok draft) = IsDraftOf line draft
-WordsRead line (Err (faults.LongLine limit)) = ⊥
 WordsRead line (Err (faults.Syntax at)) = IsSyntaxFault line at
 WordsRead line (Err (faults.Number at)) = IsPieceFault line (λ pieces. IsNumberFault pieces at)
 WordsRead line (Err (faults.TooManyLists at)) = IsPieceFault line (λ pieces. IsNameFault pieces at)
-WordsRead line (Err (faults.TooManyNodes nodes)) = ⊥
-WordsRead line (Err (faults.TooDeep depth)) = ⊥
-WordsRead line (Err (faults.TooBig node)) = ⊥
 WordsRead line (Err faults.Memory) = Unit {0}
+WordsRead _ _ = ⊥

@@ -30,7 +30,8 @@ pub record IsTreeRefused (line : List ℕ) (why : Query → Type 0) : Type 0 whe
   pub spells : Spells line query
   pub refused : why query
 
--- what a line is read as, and why it is refused: of several reasons the first of these, but that of a number out of its range and a list too many the first in the line counts
+-- what a line is read as, and why it is refused: of several reasons the first of these,
+-- but that of a number out of its range and a list too many the first in the line counts
 abbrev pub Reads : List ℕ → Result Query QueryFault → Type 0
 Reads line (Ok query) = Spells line query × IsExpr query.expr
 Reads line (Err (LongLine limit)) = (MAX_LINE < length line) × (limit ≡ MAX_LINE)

@@ -3,7 +3,7 @@ use Rattle.std.specs.Prelude.{ℕ, List, Option, Some, None, IsTrue}
 use Rattle.line_text.specs.Numbers.{is_number}
 use Rattle.line_text.specs.Names.{IsName}
 use Rattle.query_text.specs.declared.operator.Operator.{Operator}
-use Rattle.query_text.specs.declared.operator.Operator.TheVariants.{Min, Max, Sum, Median, Wsum}
+use Rattle.query_text.specs.declared.operator.Operator.TheVariants.{Wsum}
 
 mutual
   -- the name of a list, or an operator over arguments
@@ -29,10 +29,7 @@ HasNoWeight (Some digits) = ⊥
 abbrev pub IsWeight : Operator → Option (List ℕ) → Type 0
 IsWeight Wsum None = ⊥
 IsWeight Wsum (Some digits) = IsNumber digits
-IsWeight Min weight = HasNoWeight weight
-IsWeight Max weight = HasNoWeight weight
-IsWeight Sum weight = HasNoWeight weight
-IsWeight Median weight = HasNoWeight weight
+IsWeight _ weight = HasNoWeight weight
 
 -- there is one argument or more
 abbrev pub HasArgument : Arguments → Type 0

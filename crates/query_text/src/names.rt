@@ -1,6 +1,7 @@
 //! The names of a query's lists.
 
 use std::marker::Model;
+use std::slice::Iter;
 
 /// The names of the lists of a query, in order. Contracts see the list of the names' bytes.
 #[derive(Debug, Drop)]
@@ -22,8 +23,11 @@ impl Model for Names {
 }
 
 impl Names {
-    ghost use Rattle.std.specs.Prelude.{◌≡◌, ◌==◌, ◌^◌, ◌<◌, length, slice_get, vec_len};
+    ghost use Rattle.std.specs.Prelude.{◌≡◌, ◌==◌, ◌^◌, ◌<◌, ℕ, length, slice_get, vec_len};
     ghost use Rattle.std.specs.Option.{option_map};
+    ghost use Rattle.std.specs.Slice.Iter.{iter_rest};
+    ghost use Rattle.std.specs.Iterator.Adapters.{IterYieldsInOrder};
+    ghost use Rattle.std.specs.Global.{Vec};
     ghost use Rattle.query_text.specs.Bytes.{bytes_of};
 
     /// The names of a vector, in its order. Takes no memory.
@@ -61,5 +65,14 @@ impl Names {
         ensures { option_map (λ name. name.now) result ≡ slice_get self.now list }
     {
         Some(self.items.get(list as usize)?.as_slice())
+    }
+
+    /// The names, in the order of the lists.
+    pub fn iter(&self) -> Iter<'_, Vec<u8>>
+        ensures rest { bytes_of (iter_rest result) ≡ self.now }
+        ensures few { length (iter_rest result) < 2 ^ 32 }
+        ensures runs { IterYieldsInOrder (Vec ℕ) }
+    {
+        self.items.iter()
     }
 }

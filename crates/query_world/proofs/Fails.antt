@@ -1,6 +1,5 @@
 -- A fail that refuses a query came after its own want or ask.
-use Rattle.std.proofs.Common.{◌≡◌, ◌≢◌, ◌<◌, ◌⊎◌, inl, inr, ℕ, zero, suc, true, false, cond, Option, Some, None, List, [], ◌∷◌, ◌++◌, length, slice_get, slice_index_or, Contains, refl, sym, ap, subst, ◌∙◌, arith, append_assoc, append-nil}
-use Rattle.std.specs.List.{slice_set}
+use Rattle.std.proofs.Common.{◌≡◌, ◌<◌, ◌⊎◌, inl, inr, ℕ, true, false, cond, Option, Some, None, List, [], ◌∷◌, ◌++◌, length, slice_get, slice_index_or, Contains, refl, sym, ap, subst, ◌∙◌, arith, append_assoc, append-nil}
 use Rattle.std.proofs.lemmas.Bool.{cases_Bool}
 use Rattle.std.proofs.lemmas.Bool.Decides.{eqb_tells}
 use Rattle.std.proofs.lemmas.List.Elements.{Contains-append_left, Contains-append_right}
@@ -10,6 +9,7 @@ use Rattle.ranked_list.specs.declared.need.Need.{Need}
 use Rattle.ranked_list.specs.declared.need.Need.TheVariants as need
 use Rattle.turn_lock.specs.declared.facts.Tally.{Tally}
 use Rattle.topk_theory.proofs.AgreementLists.{member_of_all, contains_here, slice_get_contains, slice_get_in_range}
+use Rattle.indexed_heap.proofs.Getting.{get_set_same, get_set_other}
 use Rattle.access_log.specs.Machine.{MachineState}
 use Rattle.source_state.specs.declared.entry.FailKind.{FailKind}
 use Rattle.source_state.specs.declared.entry.FailKind.TheVariants as kind
@@ -22,7 +22,7 @@ use Rattle.source_state.specs.declared.look.LookFault.{LookFault}
 use Rattle.source_state.specs.declared.entry.LogEntry.TheVariants as entry
 use Rattle.source_state.specs.declared.entry.SourceFault.{SourceFault}
 use Rattle.source_state.specs.Log.{rows_in}
-use Rattle.source_state.specs.State.{State, asks_of, row_fault}
+use Rattle.source_state.specs.State.{State, asks_of, row_fault, state_at}
 use Rattle.source_state.specs.Events.{logged, with_rows, row_or, after}
 use Rattle.source_state.specs.Looking.{waits_for, newer, told, refusal_of, called, Refuses, IsTold, Looks}
 use Rattle.source_state.proofs.Lists.{none_not_some}
@@ -31,7 +31,7 @@ use Rattle.query_world.specs.declared.ended.Refusal.TheVariants as refusal
 use Rattle.query_world.specs.declared.inquiry.Inquiry.{Inquiry}
 use Rattle.query_world.specs.declared.step.Step.{Step}
 use Rattle.query_world.specs.declared.step.Step.TheVariants.{Page, Grade, Miss, Fail, Turn}
-use Rattle.query_world.specs.Worlds.{WorldState, state_at, needed, list_needed, source_of, source_needed}
+use Rattle.query_world.specs.Worlds.{WorldState, needed, list_needed, source_of, source_needed}
 use Rattle.query_world.specs.Causes.{HasFailed}
 use Rattle.query_world.specs.Steps.{with_event, MayStep, RowTaken, Answers, TakesTurn, Steps}
 use Rattle.query_world.specs.Kept.{IsServed, IsWorld}
@@ -39,7 +39,7 @@ use Rattle.query_world.specs.Made.{IsFresh, IsMade}
 use Rattle.query_world.specs.Runs.{Runs}
 use Rattle.query_world.specs.Fails.{BeginsToWait, IsToldOfFail}
 use Rattle.query_world.proofs.Causes.{told_failed}
-use Rattle.query_world.proofs.Serving.{state_set, state_other, source_there, open_parts, fault_ends, stays_state}
+use Rattle.query_world.proofs.Serving.{state_set, state_other, open_parts, fault_ends, stays_state}
 use Rattle.query_world.proofs.Stepping.{stepped, turn_of, zip_member, open_query}
 
 -- one more step of a run
@@ -181,10 +181,10 @@ look_tally n s t waiting left look.NotYet h = elim h.waits [
 look_tally n s t waiting left (look.Fault fault) h = ap (λ (u : State). u.tally) (fault_ends n s t waiting left fault h).same
 
 -- a fail that is told
-told_of : (n : Need) (s t : State) (waiting left : Waiting) (what : FailKind) → Refuses n s t waiting left (refusal_of what) → IsTold n s t waiting left what
-told_of n s t waiting left kind.Failed h = h
-told_of n s t waiting left kind.Garbled h = h
-told_of n s t waiting left kind.Memory h = h
+refusal_told : (n : Need) (s t : State) (waiting left : Waiting) (what : FailKind) → Refuses n s t waiting left (refusal_of what) → IsTold n s t waiting left what
+refusal_told n s t waiting left kind.Failed h = h
+refusal_told n s t waiting left kind.Garbled h = h
+refusal_told n s t waiting left kind.Memory h = h
 
 waited : (o : Option Need) (n : Need) → waits_for o n ≡ true → (m : Need) × (o ≡ Some m)
 waited None n e = absurd (cc)
@@ -298,7 +298,7 @@ turn_refused first steps w v query t list what e =
     let s = state_at w.states (source_needed q) in
     let is = refusal_is q t.turn.r t.turn.turns.answer list what t.turn.turns.answers e in
     let looks : Looks (needed q) s t.turn.turns.state q.waiting t.turn.r.waiting (look.Fault (refusal_of what)) = subst (Looks (needed q) s t.turn.turns.state q.waiting t.turn.r.waiting) is t.turn.turns.looks in
-    let tells = (told_of (needed q) s t.turn.turns.state q.waiting t.turn.r.waiting what looks).tells in
+    let tells = (refusal_told (needed q) s t.turn.turns.state q.waiting t.turn.r.waiting what looks).tells in
     let failed = told_failed q.waiting (needed q) s.tally what tells in
     let waits = waited q.waiting.need (needed q) (told_waits q.waiting (needed q) s.tally what tells) in
     let same : waits.0 ≡ needed q = t.served.waits waits.0 waits.1 in
@@ -326,19 +326,6 @@ turn_refused first steps w v query t list what e =
         fails = elim (h.since what) [ inl none ↦ absurd (none failed) | inr c ↦ c ];
       };
     }
-
--- members of a list with one changed
-get_set_same : {X : Type 0} (xs : List X) (i : ℕ) (y : X) → i < length xs → slice_get (slice_set xs i y) i ≡ Some y
-get_set_same [] i y l = absurd (omega (arith, l))
-get_set_same (x ∷ xs) zero y l = refl
-get_set_same (x ∷ xs) (suc i) y l = get_set_same xs i y (omega (arith, l))
-
-get_set_other : {X : Type 0} (xs : List X) (i j : ℕ) (y : X) → j ≢ i → slice_get (slice_set xs i y) j ≡ slice_get xs j
-get_set_other [] i j y apart = refl
-get_set_other (x ∷ xs) zero zero y apart = absurd (apart refl)
-get_set_other (x ∷ xs) zero (suc j) y apart = refl
-get_set_other (x ∷ xs) (suc i) zero y apart = refl
-get_set_other (x ∷ xs) (suc i) (suc j) y apart = get_set_other xs i j y (λ e. apart (ap suc e))
 
 -- a turn
 turn_known : (first : WorldState) (steps : List Step) (w v : WorldState) (query : ℕ) → Runs first steps w → IsWorld w → MayStep w (Turn query)

@@ -25,7 +25,7 @@ use Rattle.source_state.specs.declared.event.Event.TheVariants as event
 use Rattle.source_state.specs.declared.look.LookFault.{LookFault}
 use Rattle.source_state.specs.declared.look.LookFault.TheVariants as why
 use Rattle.source_state.specs.Log.{rows_in, graded_in}
-use Rattle.source_state.specs.State.{State, opened, IsSound}
+use Rattle.source_state.specs.State.{State, opened, IsSound, state_at}
 use Rattle.source_state.specs.Events.{after}
 use Rattle.source_state.proofs.Lists.{none_not_some}
 use Rattle.source_state.proofs.LogLaws.{graded_settling}
@@ -38,7 +38,7 @@ use Rattle.query_world.specs.declared.ended.Refusal.TheVariants as refusal
 use Rattle.query_world.specs.declared.inquiry.Inquiry.{Inquiry}
 use Rattle.query_world.specs.declared.step.Step.{Step}
 use Rattle.query_world.specs.declared.step.Step.TheVariants.{Page, Grade, Miss, Fail, Turn}
-use Rattle.query_world.specs.Worlds.{WorldState, state_at, told_to, needed, list_needed, source_of, source_needed, is_done, is_ended}
+use Rattle.query_world.specs.Worlds.{WorldState, told_to, needed, list_needed, source_of, source_needed, is_done, is_ended}
 use Rattle.query_world.specs.Causes.{RowLacksRoom, IsAtFault, IsMissed, AreAsksFull, IsCause, CanNotBeHad}
 use Rattle.query_world.specs.Steps.{with_event, MayComeTo, IsOpen, MayStep, TakesTurn, Steps}
 use Rattle.query_world.specs.Kept.{IsSourceOf, IsServed, IsWorld}

@@ -11,7 +11,7 @@ use Rattle.access_log.specs.Machine.{MachineState, Takes}
 use Rattle.access_log.specs.declared.core_fault.CoreFault.TheVariants.{Strangers, RoomFull}
 use Rattle.source_state.specs.declared.look.Look.{Look}
 use Rattle.source_state.specs.declared.look.Look.TheVariants as look
-use Rattle.source_state.specs.State.{State}
+use Rattle.source_state.specs.State.{State, state_at}
 use Rattle.query_core.specs.Driving.{Continues}
 use Rattle.query_core.specs.Machines.{algorithm_of, state_of}
 use Rattle.query_core.proofs.Feeding.{continues_same, continues_on}
@@ -19,7 +19,7 @@ use Rattle.query_world.specs.declared.ended.Refusal.{Refusal}
 use Rattle.query_world.specs.declared.ended.Refusal.TheVariants as refusal
 use Rattle.query_world.specs.declared.inquiry.Inquiry.{Inquiry}
 use Rattle.query_world.specs.Histories.{GoesOn}
-use Rattle.query_world.specs.Worlds.{WorldState, state_at, is_ended}
+use Rattle.query_world.specs.Worlds.{WorldState, is_ended}
 use Rattle.query_world.specs.Steps.{RowTaken, Answers}
 use Rattle.query_world.specs.Kept.{ReadsOn, IsAfter}
 use Rattle.query_world.proofs.Causes.{fault_more}

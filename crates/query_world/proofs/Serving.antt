@@ -9,7 +9,7 @@ use Rattle.ranked_list.specs.declared.need.Need.{Need}
 use Rattle.ranked_list.specs.declared.need.Need.TheVariants as need
 use Rattle.ranked_list.proofs.OptionLaws.{none_unless_some}
 use Rattle.topk_theory.specs.declared.access.Access.TheVariants.{Sorted, Random}
-use Rattle.topk_theory.specs.Transcript.{Told, Grows, Gives, list_at, depth_of, named_objects, seen_objects}
+use Rattle.topk_theory.specs.Transcript.{Grows, Gives, list_at, depth_of, seen_objects}
 use Rattle.topk_theory.specs.Consistent.{IsOfKind, too_many_objects}
 use Rattle.topk_theory.proofs.Agreement.{drawn_more, seen_is_named}
 use Rattle.topk_theory.proofs.AgreementLists.{all_from_members, contains_map_from, member_of_all, contains_at}
@@ -23,7 +23,7 @@ use Rattle.source_state.specs.declared.look.Look.TheVariants as look
 use Rattle.source_state.specs.declared.look.LookFault.{LookFault}
 use Rattle.source_state.specs.declared.look.LookFault.TheVariants as why
 use Rattle.source_state.specs.Log.{rows_in, graded_in}
-use Rattle.source_state.specs.State.{State, IsSound}
+use Rattle.source_state.specs.State.{State, IsSound, state_at}
 use Rattle.source_state.specs.Drawing.{told_by, IsSomeSound}
 use Rattle.source_state.specs.Looking.{Ends, Looks, Refuses, MayLook}
 use Rattle.source_state.proofs.Drawing.{next_consistent}
@@ -36,7 +36,7 @@ use Rattle.query_world.specs.declared.ended.Refusal.{Refusal}
 use Rattle.query_world.specs.declared.ended.Refusal.TheVariants as refusal
 use Rattle.query_world.specs.declared.inquiry.Inquiry.{Inquiry}
 use Rattle.query_world.specs.Histories.{HasHistory}
-use Rattle.query_world.specs.Worlds.{state_at, logs_of, told_to, needed, list_needed, source_of, source_needed, is_done, is_ended}
+use Rattle.query_world.specs.Worlds.{logs_of, told_to, needed, list_needed, source_of, source_needed, is_done, is_ended}
 use Rattle.query_world.specs.Causes.{RowLacksRoom, LacksRoom, IsOfList, IsCause, HasCause, CanNotBeHad}
 use Rattle.query_world.specs.Steps.{MayFeed, RowTaken, Answers, Turns}
 use Rattle.query_world.specs.Kept.{IsSourceOf, HasSources, IsServed}

@@ -8,7 +8,7 @@ use Rattle.topk_theory.proofs.AgreementLists.{all_from_members, member_of_all, s
 use Rattle.topk_theory.proofs.Agreement.{drawn_none}
 use Rattle.source_state.specs.declared.event.Event.{Event}
 use Rattle.source_state.specs.declared.event.Event.TheVariants as event
-use Rattle.source_state.specs.State.{State, opened, IsSound}
+use Rattle.source_state.specs.State.{State, opened, IsSound, state_at}
 use Rattle.source_state.specs.Events.{after}
 use Rattle.source_state.proofs.Lists.{none_not_some}
 use Rattle.query_core.specs.declared.ready.Ready.{Ready}
@@ -21,7 +21,7 @@ use Rattle.query_world.specs.declared.inquiry.Inquiry.{Inquiry}
 use Rattle.query_world.specs.declared.step.Step.{Step}
 use Rattle.query_world.specs.declared.step.Step.TheVariants.{Page, Grade, Miss, Fail, Turn}
 use Rattle.query_world.specs.Histories.{HasHistory}
-use Rattle.query_world.specs.Worlds.{WorldState, state_at, told_to, source_needed, is_ended}
+use Rattle.query_world.specs.Worlds.{WorldState, told_to, source_needed, is_ended}
 use Rattle.query_world.specs.Causes.{IsCause}
 use Rattle.query_world.specs.Steps.{with_event, MayComeTo, IsOpen, MayStep, TakesTurn, Steps}
 use Rattle.query_world.specs.Kept.{IsSourceOf, IsServed, IsWorld, ReadsOn, IsAfter}

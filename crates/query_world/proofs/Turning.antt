@@ -1,22 +1,21 @@
 -- From what the calls of a turn promise to the turn.
-use Rattle.std.proofs.Common.{◌≡◌, ◌<◌, ℕ, false, Option, Some, None, List, length, slice_get, slice_index_or, All, refl, sym, ap, subst, ◌∙◌, arith}
+use Rattle.std.proofs.Common.{◌≡◌, ◌<◌, ℕ, false, Option, Some, None, List, length, slice_get, slice_index_or, All, refl, sym, ap, subst, ◌∙◌}
 use Rattle.std.specs.List.{slice_set}
 use Rattle.std.proofs.lemmas.List.{get_or_read}
 use Rattle.ranked_list.specs.declared.row.Row.{Row}
 use Rattle.ranked_list.specs.declared.need.Need.{Need}
 use Rattle.topk_theory.proofs.AgreementLists.{slice_get_reads}
-use Rattle.access_log.specs.Machine.{MachineState}
 use Rattle.source_state.specs.declared.look.Waiting.{Waiting}
 use Rattle.source_state.specs.declared.look.Look.{Look}
 use Rattle.source_state.specs.declared.look.Look.TheVariants as look
-use Rattle.source_state.specs.State.{State, opened, IsSound}
+use Rattle.source_state.specs.State.{State, opened, IsSound, state_at}
 use Rattle.source_state.specs.Looking.{Looks}
 use Rattle.query_core.specs.declared.machine.Machine.{Machine}
 use Rattle.query_core.specs.Machines.{algorithm_of, state_of, MakesItsRun}
 use Rattle.query_world.specs.declared.ended.Refusal.{Refusal}
 use Rattle.query_world.specs.declared.ended.Refusal.TheVariants as refusal
 use Rattle.query_world.specs.declared.inquiry.Inquiry.{Inquiry}
-use Rattle.query_world.specs.Worlds.{world_of, state_at, needed, list_needed, source_needed, is_ended}
+use Rattle.query_world.specs.Worlds.{world_of, needed, list_needed, source_needed, is_ended}
 use Rattle.query_world.specs.Steps.{IsOpen, MayFeed, RowTaken, Answers, Turns, TakesTurn}
 use Rattle.query_world.specs.Kept.{IsServed}
 use Rattle.query_world.proofs.Serving.{listed, source_there, open_parts, may_feed}

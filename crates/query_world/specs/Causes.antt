@@ -14,18 +14,17 @@ use Rattle.source_state.specs.declared.entry.Settling.TheVariants.{Bad, Missed}
 use Rattle.source_state.specs.declared.look.LookFault.{LookFault}
 use Rattle.source_state.specs.declared.look.LookFault.TheVariants as why
 use Rattle.source_state.specs.Log.{rows_in, settling_in, fault_in}
-use Rattle.source_state.specs.State.{State}
+use Rattle.source_state.specs.State.{State, state_at}
 use Rattle.query_core.specs.Machines.{state_of}
 use Rattle.query_world.specs.declared.ended.Refusal.{Refusal}
 use Rattle.query_world.specs.declared.ended.Refusal.TheVariants.{Core, Look}
 use Rattle.query_world.specs.declared.inquiry.Inquiry.{Inquiry}
-use Rattle.query_world.specs.Worlds.{state_at, source_needed}
+use Rattle.query_world.specs.Worlds.{source_needed}
 
 -- the row that is needed is kept, and the machine has no room for its object
 abbrev pub RowLacksRoom : State → MachineState → Need → ℕ → Type 0
 RowLacksRoom s t (RowAt list depth) object = (row : Row) × (slice_get (rows_in s.log) (depth - 1) ≡ Some row) × (row.object ≡ object) × (¬ HasRoomFor t object)
-RowLacksRoom s t (Grade list named) object = ⊥
-RowLacksRoom s t Done object = ⊥
+RowLacksRoom _ _ _ _ = ⊥
 
 -- the machine's room is the count, and the row has one object more; or it is less, and is full
 abbrev pub LacksRoom : State → MachineState → CoreFault → Type 0
@@ -40,9 +39,8 @@ IsAtFault s Done fault = ⊥
 
 -- the source hasn't the needed object
 abbrev pub IsMissed : State → Need → ℕ → Type 0
-IsMissed s (RowAt list depth) object = ⊥
 IsMissed s (Grade list named) object = (named ≡ object) × (settling_in s.log object ≡ Some Missed)
-IsMissed s Done object = ⊥
+IsMissed _ _ _ = ⊥
 
 -- as many objects were asked as there are, and the needed one isn't among them
 pub record IsUnasked (s : State) (object kept : ℕ) : Type 0 where
@@ -51,9 +49,8 @@ pub record IsUnasked (s : State) (object kept : ℕ) : Type 0 where
   pub absent : ¬ Contains s.asks object
 
 abbrev pub AreAsksFull : State → Need → ℕ → Type 0
-AreAsksFull s (RowAt list depth) kept = ⊥
 AreAsksFull s (Grade list object) kept = IsUnasked s object kept
-AreAsksFull s Done kept = ⊥
+AreAsksFull _ _ _ = ⊥
 
 -- more fails of a kind came than were noted when the waiting began
 abbrev pub HasFailed : FailKind → Tally → Tally → Type 0

@@ -15,10 +15,10 @@ use Rattle.query_world.specs.declared.inquiry.Inquiry.{Inquiry}
 use Rattle.query_world.specs.Worlds.{needed}
 
 -- an ending is that of a refused query
-abbrev pub IsRefused : Refusal → Ended → Type 0
-IsRefused refused (ended.Answered answer) = ⊥
-IsRefused refused (ended.Core fault) = refused ≡ refusal.Core fault
-IsRefused refused (ended.Look list fault) = refused ≡ refusal.Look list fault
+abbrev pub IsRefusedEnding : Refusal → Ended → Type 0
+IsRefusedEnding refused (ended.Answered answer) = ⊥
+IsRefusedEnding refused (ended.Core fault) = refused ≡ refusal.Core fault
+IsRefusedEnding refused (ended.Look list fault) = refused ≡ refusal.Look list fault
 
 -- how a query ended: with the answer of its machine and its transcript, where nothing was needed any more; or as it was refused
 pub record IsAnswerOf (q : Inquiry) (answer : Answer) : Type 0 where

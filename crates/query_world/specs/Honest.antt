@@ -10,7 +10,7 @@ use Rattle.source_state.specs.declared.entry.Settling.{Settling}
 use Rattle.source_state.specs.declared.entry.Settling.TheVariants.{Graded}
 use Rattle.source_state.specs.declared.look.LookFault.TheVariants as why
 use Rattle.source_state.specs.Log.{rows_in, settling_in, fault_in}
-use Rattle.source_state.specs.State.{State}
+use Rattle.source_state.specs.State.{State, state_at}
 use Rattle.query_core.specs.Algorithms.{run_by}
 use Rattle.query_core.specs.Driving.{run_sees}
 use Rattle.query_core.specs.Machines.{algorithm_of, state_of}
@@ -19,7 +19,7 @@ use Rattle.query_world.specs.declared.ended.Refusal.TheVariants.{Core, Look}
 use Rattle.query_world.specs.declared.inquiry.Inquiry.{Inquiry}
 use Rattle.query_world.specs.declared.step.Step.{Step}
 use Rattle.query_world.specs.declared.step.Step.TheVariants.{Page, Grade, Miss, Fail, Turn}
-use Rattle.query_world.specs.Worlds.{WorldState, state_at}
+use Rattle.query_world.specs.Worlds.{WorldState}
 
 -- a page is the next rows of a list, one at least
 pub record IsNextOf (list : List Row) (kept rows : List Row) : Type 0 where

@@ -3,11 +3,11 @@ use Rattle.std.specs.Prelude.{◌≡◌, ◌<◌, ℕ, true, Some, List, All, le
 use Rattle.std.specs.List.{AllZip}
 use Rattle.ranked_list.specs.declared.need.Need.{Need}
 use Rattle.topk_theory.specs.Transcript.{Begins}
-use Rattle.source_state.specs.State.{State, IsSound}
+use Rattle.source_state.specs.State.{State, IsSound, state_at}
 use Rattle.query_core.specs.Driving.{Continues, IsFedFrom}
 use Rattle.query_core.specs.Machines.{algorithm_of, state_of, MakesItsRun}
 use Rattle.query_world.specs.declared.inquiry.Inquiry.{Inquiry}
-use Rattle.query_world.specs.Worlds.{WorldState, state_at, told_to, needed, is_ended}
+use Rattle.query_world.specs.Worlds.{WorldState, told_to, needed, is_ended}
 use Rattle.query_world.specs.Causes.{HasCause}
 use Rattle.query_world.specs.Histories.{HasHistory, GoesOn}
 

@@ -7,7 +7,7 @@ use Rattle.source_state.specs.declared.event.Event.{Event}
 use Rattle.source_state.specs.declared.event.Event.TheVariants as event
 use Rattle.source_state.specs.declared.look.Look.{Look}
 use Rattle.source_state.specs.declared.look.Look.TheVariants as look
-use Rattle.source_state.specs.State.{State}
+use Rattle.source_state.specs.State.{State, state_at}
 use Rattle.source_state.specs.Events.{after, MayCome}
 use Rattle.source_state.specs.Looking.{Looks}
 use Rattle.query_core.specs.Machines.{algorithm_of, state_of, MakesItsRun}
@@ -16,7 +16,7 @@ use Rattle.query_world.specs.declared.ended.Refusal.TheVariants as refusal
 use Rattle.query_world.specs.declared.inquiry.Inquiry.{Inquiry}
 use Rattle.query_world.specs.declared.step.Step.{Step}
 use Rattle.query_world.specs.declared.step.Step.TheVariants.{Page, Grade, Miss, Fail, Turn}
-use Rattle.query_world.specs.Worlds.{WorldState, state_at, needed, list_needed, source_needed, is_ended}
+use Rattle.query_world.specs.Worlds.{WorldState, needed, list_needed, source_needed, is_ended}
 
 -- the states after an event of a source
 abbrev pub with_event : List State → ℕ → Event → List State

@@ -5,7 +5,7 @@ use Rattle.ranked_list.specs.declared.need.Need.{Need}
 use Rattle.ranked_list.specs.declared.need.Need.TheVariants.{Row as RowAt, Grade, Done}
 use Rattle.topk_theory.specs.Transcript.{Told}
 use Rattle.source_state.specs.declared.entry.LogEntry.{LogEntry}
-use Rattle.source_state.specs.State.{State, opened}
+use Rattle.source_state.specs.State.{State, state_at}
 use Rattle.source_state.specs.Drawing.{told_by}
 use Rattle.query_core.specs.Machines.{state_of}
 use Rattle.query_world.specs.declared.inquiry.Inquiry.{Inquiry}
@@ -17,10 +17,6 @@ pub record WorldState : Type 0 where
 
 abbrev pub world_of : List State → List Inquiry → WorldState
 world_of states queries = record { states = states; queries = queries }
-
--- the state of a source; one that isn't there has no objects and no events
-abbrev pub state_at : List State → ℕ → State
-state_at states source = slice_index_or states source (opened 0 0)
 
 -- the logs of some sources, in their order
 abbrev pub logs_of : List State → List ℕ → List (List LogEntry)
@@ -47,9 +43,8 @@ source_needed q = source_of q (list_needed (needed q))
 
 -- nothing is needed
 abbrev pub is_done : Need → Bool
-is_done (RowAt list depth) = false
-is_done (Grade list object) = false
 is_done Done = true
+is_done _ = false
 
 -- a query has ended where it is refused or needs nothing more
 abbrev pub is_ended : Inquiry → Bool

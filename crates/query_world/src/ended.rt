@@ -2,13 +2,17 @@
 
 ghost use Rattle.std.specs.Prelude.{◌≡◌, ◌==◌, ◌<◌, ◌^◌, length, slice_get, vec_len};
 ghost use Rattle.std.specs.Option.{option_map};
+ghost use Rattle.std.specs.Slice.Iter.{iter_rest};
+ghost use Rattle.std.specs.Iterator.Adapters.{IterYieldsInOrder};
+ghost use Rattle.query_world.specs.declared.ended.Ended.{Ended};
 
 use access_log::{Answer, CoreFault};
 use source_state::LookFault;
 use std::marker::Model;
+use std::slice::Iter;
 
 /// Why a query is refused.
-#[derive(Clone, Copy, Debug, PartialEq, Eq)]
+#[derive(Clone, Copy)]
 pub enum Refusal {
     /// A row has an object for which the query has no room.
     Core { fault: CoreFault },
@@ -80,5 +84,14 @@ impl Endings {
         ensures { option_map (λ ending. ending.now) result ≡ slice_get self.now place }
     {
         self.endings.get(place as usize)
+    }
+
+    /// How the queries ended, in their order.
+    pub fn iter(&self) -> Iter<'_, Ended>
+        ensures rest { iter_rest result ≡ self.now }
+        ensures few { length (iter_rest result) < 2 ^ 32 }
+        ensures runs { IterYieldsInOrder Ended }
+    {
+        self.endings.iter()
     }
 }

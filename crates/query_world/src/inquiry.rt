@@ -8,7 +8,7 @@ ghost use Rattle.query_world.specs.Worlds.{needed, list_needed, is_done, is_ende
 ghost use Rattle.query_world.specs.Steps.{MayFeed, Answers, Turns};
 ghost use Rattle.query_world.specs.Kept.{IsServed};
 ghost use Rattle.query_world.specs.Made.{IsFresh};
-ghost use Rattle.query_world.specs.Endings.{IsRefused, EndsAs};
+ghost use Rattle.query_world.specs.Endings.{IsRefusedEnding, EndsAs};
 
 use super::Memory;
 use super::ended::{Ended, Refusal};
@@ -63,7 +63,7 @@ fn no_waiting() -> Waiting
 
 /// The ending of a query that is refused.
 fn refused(refusal: Refusal) -> Ended
-    ensures { IsRefused refusal result }
+    ensures { IsRefusedEnding refusal result }
 {
     match refusal {
         Refusal::Core { fault } => Ended::Core { fault },

@@ -3,9 +3,8 @@
 ghost use Rattle.std.specs.Prelude.{◌≡◌, ◌<◌, Some, length, slice_get};
 ghost use Rattle.source_state.specs.declared.entry.Asked.TheVariants.{Pending};
 ghost use Rattle.source_state.specs.declared.event.Event.TheVariants.{Page};
-ghost use Rattle.source_state.specs.State.{asked_in};
+ghost use Rattle.source_state.specs.State.{asked_in, state_at};
 ghost use Rattle.source_state.specs.Events.{MayPage};
-ghost use Rattle.query_world.specs.Worlds.{state_at};
 ghost use Rattle.query_world.specs.Steps.{IsTestOf, MayComeTo, IsOpen};
 
 use super::inquiry::Inquiry;

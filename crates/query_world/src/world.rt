@@ -4,11 +4,11 @@ ghost use Rattle.std.specs.Prelude.{◌≡◌, ◌<◌, ◌≤◌, ◌^◌, ◌�
 ghost use Rattle.std.specs.List.{AllZip};
 ghost use Rattle.std.specs.Option.{option_map};
 ghost use Rattle.ranked_list.specs.declared.row.Row.{Row};
-ghost use Rattle.source_state.specs.State.{opened};
+ghost use Rattle.source_state.specs.State.{opened, state_at};
 ghost use Rattle.source_state.specs.Events.{after, MayCome};
 ghost use Rattle.query_core.specs.declared.ready.Ready.{Ready as AnyReady};
 ghost use Rattle.query_core.specs.Ready.{IsReady};
-ghost use Rattle.query_world.specs.Worlds.{world_of, state_at, is_ended};
+ghost use Rattle.query_world.specs.Worlds.{world_of, is_ended};
 ghost use Rattle.query_world.specs.Steps.{IsTestOf, MayStep, MayComeTo, Steps, with_event};
 ghost use Rattle.query_world.specs.Kept.{IsWorld, IsAfter};
 ghost use Rattle.query_world.specs.Made.{IsReadyFor, IsFresh, IsMade, AreOf, opened_from};
@@ -63,7 +63,10 @@ fn open_next(alloc: Global, states: &mut Vec<SourceState>, count: u32) -> Result
     };
     match states.push(state) {
         Ok(()) => Ok(()),
-        Err(_) => Err(Memory),
+        Err(refused) => {
+            drop(refused);
+            Err(Memory)
+        }
     }
 }
 
@@ -87,10 +90,13 @@ fn make_next(alloc: Global, queries: &mut Vec<Inquiry>, ready: &Ready) -> Result
         → AllZip IsFresh (readies ++ ready.now ∷ []) queries.new.items) }
 {
     let query = Inquiry::make(alloc, ready)?;
-    let Ok(()) = queries.push(query) else {
-        return Err(Memory);
-    };
-    Ok(())
+    match queries.push(query) {
+        Ok(()) => Ok(()),
+        Err(refused) => {
+            drop(refused);
+            Err(Memory)
+        }
+    }
 }
 
 /// The queries, before any access.

@@ -1,10 +1,15 @@
-use Rattle.cert_text.proofs.PartLaws.{list_named_at, list_named_none}
-use Rattle.std.proofs.Common.{sym, ◌∙◌, arith}
+use Rattle.std.proofs.Common.{sym, ◌∙◌, rules, tests}
+use Rattle.std.specs.Str.{bytes_eq}
+use Rattle.std.proofs.lemmas.Iterator.Search.{position_from_yields_List}
+use Rattle.query_text.proofs.NamesPassed.{names_given}
 use Rattle.cert_text.proofs.parts.list_named.Goals as goal
 
-pub returns-then-is_named : goal.returns-then-is_named
-returns-then-is_named c =
-    sym (list_named_at c.args.names.now c.loop-list.list c.args.name.now (omega (arith, c.len-list-end.ensures)) c.loop-list.invariant (sym c.is_named.ensures ∙ c.if-is_named.true))
+pub returns-in_err-list : goal.returns-in_err-list
+returns-in_err-list c =
+    let found = position_from_yields_List (λ other. bytes_eq other c.args.name.now) _ _ c.position.result c.position.ensures.ran (names_given c.args.names.now c.iter.ensures.rest) (λ x b q k. search (rules, tests)) in
+    c.from_residual.ensures ∙ sym c.in_err-list.was ∙ found
 
 pub returns : goal.returns
-returns c = sym (list_named_none c.args.names.now c.args.name.now (λ k within. c.loop-list.invariant k (omega (arith, c.len-list-end.ensures))))
+returns c =
+    let found = position_from_yields_List (λ other. bytes_eq other c.args.name.now) _ _ c.position.result c.position.ensures.ran (names_given c.args.names.now c.iter.ensures.rest) (λ x b q k. search (rules, tests)) in
+    sym c.in_ok-list.was ∙ found

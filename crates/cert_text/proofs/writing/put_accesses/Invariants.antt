@@ -1,10 +1,11 @@
-use Rattle.std.proofs.Common.{map, take}
+use Rattle.std.proofs.Common.{length, map, take}
 use Rattle.line_text.specs.Lines.{unlines}
 use Rattle.tk_io.specs.Pieces.{Puts}
 use Rattle.cert_text.specs.Certificate.{access_line}
 use Rattle.cert_text.proofs.writing.put_accesses.Given as goal
 
 -- the lines of the accesses so far were put
-abbrev pub invariant-loop-place : goal.invariant-loop-place
-invariant-loop-place g l =
-    Puts (g.K.Sink.held l.fn.out) (g.K.Sink.held l.out) (g.K.Sink.faults l.fn.out) (g.K.Sink.faults l.out) l.fn.pieces l.pieces (unlines (map (access_line l.names) (take l.place l.transcript.accesses)))
+abbrev pub invariant-loop-access : goal.invariant-loop-access
+invariant-loop-access g l =
+    Puts (g.K.Sink.held l.fn.out) (g.K.Sink.held l.out) (g.K.Sink.faults l.fn.out) (g.K.Sink.faults l.out) l.fn.pieces l.pieces
+    (unlines (map (access_line l.names) (take (length l.yielded) l.transcript.accesses)))

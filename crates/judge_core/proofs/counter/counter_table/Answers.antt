@@ -11,7 +11,7 @@ pub completed_list-requires-clause-objects : goal.completed_list-requires-clause
 completed_list-requires-clause-objects c =
     let log = c.args.transcript.now in
     subst (IsObjectSet log.count) (sym c.deref.ensures.value)
-    (set_is log c.in_ok-objects.objects.items c.requires.tame c.lists-list-end.ensures.limits.some_lists c.len-made.ensures.agrees c.in_ok-objects.ensures)
+    (set_is log c.in_ok-objects.objects.items c.requires.tame c.lists-list-end.ensures.limits.some_lists c.lists-list-end.ensures.agrees c.in_ok-objects.ensures)
 
 pub loop-list-preserved : goal.loop-list-preserved
 loop-list-preserved c =
@@ -26,5 +26,5 @@ pub returns : goal.returns
 returns c =
     let log = c.args.transcript.now in
     let end : c.loop-list.list ≡ log.lists = omega (arith, c.lists-list-end.ensures.lists, c.loop-list.auto.list-end, c.loop-list-test.false) in
-    counter_is log c.args.inside c.in_ok-objects.objects.items c.loop-list.lists.items c.requires.tame c.requires.seen c.lists-list-end.ensures.limits.some_lists c.len-made.ensures.agrees c.in_ok-objects.ensures
+    counter_is log c.args.inside c.in_ok-objects.objects.items c.loop-list.lists.items c.requires.tame c.requires.seen c.lists-list-end.ensures.limits.some_lists c.lists-list-end.ensures.agrees c.in_ok-objects.ensures
     (subst (λ m. c.loop-list.lists.items ≡ map (λ list. filled (chosen (against c.args.inside log.accesses) log.accesses list) c.in_ok-objects.objects.items (sorted_rows list log.accesses)) (list_numbers m)) end c.loop-list.invariant)

@@ -1,5 +1,9 @@
+use Rattle.std.proofs.Common.{◌≡◌, length}
 use Rattle.judge_core.specs.Question.{HasWalked}
 use Rattle.judge_core.proofs.question.first_wild_guess.Given as goal
 
 abbrev pub invariant-loop-place : goal.invariant-loop-place
-invariant-loop-place l = HasWalked l.transcript.accesses l.place l.seen
+invariant-loop-place l = record {
+  place : l.place ≡ length l.yielded;
+  walked : HasWalked l.transcript.accesses l.place l.seen;
+}

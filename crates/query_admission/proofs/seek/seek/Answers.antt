@@ -1,15 +1,44 @@
-use Rattle.std.proofs.Common.{◌≡◌, ◌+◌, map, take, Some, suc, sym, ◌∙◌, ap, arith}
-use Rattle.query_admission.proofs.Seeking.{first_unknown, known_more}
+use Rattle.std.proofs.Common.{◌≡◌, ◌+◌, length, get_or, map, take, Some, None, suc, slice_get, sym, ◌∙◌, ap, subst, arith}
+use Rattle.std.specs.List.{position}
+use Rattle.std.specs.Option.{is_none}
+use Rattle.std.specs.Slice.Iter.{iter_rest}
+use Rattle.std.proofs.lemmas.Iterator.Consumers.{YieldsList-turn, YieldsList-end}
+use Rattle.std.proofs.lemmas.List.{length_push, take_all}
+use Rattle.std.proofs.lemmas.Option.{slice_get-get_or}
+use Rattle.query_text.specs.Bytes.{bytes_of}
+use Rattle.query_text.proofs.NamesPassed.{names_given}
+use Rattle.query_admission.proofs.Seeking.{first_unknown, known_more, as_many_known}
 use Rattle.query_admission.proofs.seek.seek.Goals as goal
 
-pub returns-in_default-find : goal.returns-in_default-find
-returns-in_default-find g c =
-    first_unknown (g.L.Lists.view c.args.lists.now).listed c.args.names.now c.loop-list.known.items c.loop-list.list c.in-Some.name.now c.loop-list.invariant c.in-Some.ensures (sym c.in_default-find.is ∙ c.find.ensures)
-
-pub loop-list-preserved : goal.loop-list-preserved
-loop-list-preserved g c =
+pub returns-in_default : goal.returns-in_default
+returns-in_default g c =
+    let names = c.args.names.now in
     let known_by = (g.L.Lists.view c.args.lists.now).listed in
-    let next : c.loop-list.list + 1 ≡ suc c.loop-list.list = omega arith in
-    ap (λ n. map known_by (take n c.args.names.now)) next
-    ∙ (known_more known_by c.args.names.now c.loop-list.known.items c.loop-list.list c.in-Some.name.now c.in-Some-find.found c.loop-list.invariant c.in-Some.ensures (sym c.in-Some-find.is ∙ c.find.ensures)
-    ∙ ap (map Some) (sym c.in-Ok.ensures.items))
+    let place = length c.loop-name.yielded in
+    let t = YieldsList-turn (names_given names (ap (λ i. bytes_of (iter_rest i)) c.into_iter-name-iterator.ensures.into_iter_gives ∙ c.iter-name-items.ensures.rest)) c.loop-name.yielded _ c.loop-name.yielded_by _ _ c.in-Some.name c.in-Some.is c.next.ensures.steps in
+    let at : Some c.in-Some.name.now.items ≡ slice_get names place = ap Some t.1 ∙ sym (slice_get-get_or names place c.in-Some.name.now.items t.0) in
+    let first = first_unknown known_by names c.loop-name.known.items place c.in-Some.name.now.items c.loop-name.invariant at
+    (sym c.in_default.is ∙ c.find.ensures ∙ ap known_by c.deref.ensures.value) in
+    let counted : c.len-list.result ≡ length c.loop-name.known.items = omega (arith, c.len-list.ensures, c.loop-name.known.ok.0) in
+    subst (λ n. position is_none (map known_by names) ≡ Some n) (sym (counted ∙ as_many_known known_by names c.loop-name.known.items place t.0 c.loop-name.invariant)) first
+
+pub loop-name-preserved : goal.loop-name-preserved
+loop-name-preserved g c =
+    let names = c.args.names.now in
+    let known_by = (g.L.Lists.view c.args.lists.now).listed in
+    let place = length c.loop-name.yielded in
+    let t = YieldsList-turn (names_given names (ap (λ i. bytes_of (iter_rest i)) c.into_iter-name-iterator.ensures.into_iter_gives ∙ c.iter-name-items.ensures.rest)) c.loop-name.yielded _ c.loop-name.yielded_by _ _ c.in-Some.name c.in-Some.is c.next.ensures.steps in
+    let at : Some c.in-Some.name.now.items ≡ slice_get names place = ap Some t.1 ∙ sym (slice_get-get_or names place c.in-Some.name.now.items t.0) in
+    let next : place + 1 ≡ suc place = omega arith in
+    rw (length_push c.loop-name.yielded c.in-Some.name)
+    (ap (λ n. map known_by (take n names)) next
+    ∙ (known_more known_by names c.loop-name.known.items place c.in-Some.name.now.items c.in-Some-find.found c.loop-name.invariant at
+    (sym c.in-Some-find.is ∙ c.find.ensures ∙ ap known_by c.deref.ensures.value)
+    ∙ ap (map Some) (sym c.in-Ok.ensures.items)))
+
+pub returns : goal.returns
+returns g c =
+    let names = c.args.names.now in
+    let known_by = (g.L.Lists.view c.args.lists.now).listed in
+    let t = YieldsList-end (names_given names (ap (λ i. bytes_of (iter_rest i)) c.into_iter-name-iterator.ensures.into_iter_gives ∙ c.iter-name-items.ensures.rest)) c.loop-name.yielded _ c.loop-name.yielded_by _ _ c.in-None.is c.next.ensures.steps in
+    ap (map known_by) (sym (take_all (length c.loop-name.yielded) names (omega (arith, t.1)))) ∙ c.loop-name.invariant

@@ -17,3 +17,6 @@ returns-in-Ok-answer-clause-near c =
 
 pub returns-in-Ok-answer-2-clause-bounds : goal.returns-in-Ok-answer-2-clause-bounds
 returns-in-Ok-answer-2-clause-bounds c = machine_true c.args.self Ca c.in-Ca.machine c.in-Ok-answer-2.answer (ap state_of c.in-Ca.is) c.answer-in-Ca.ensures.run c.in-Ok-answer-2.ensures.items c.in-Ok-answer-2.ensures.transcript
+
+pub returns-in-Ok-answer-clause-bounds : goal.returns-in-Ok-answer-clause-bounds
+returns-in-Ok-answer-clause-bounds c = machine_true c.args.self Nra c.in-Nra.machine c.in-Ok-answer.answer (ap state_of c.in-Nra.is) c.answer-in-Nra.ensures.run c.in-Ok-answer.ensures.items c.in-Ok-answer.ensures.transcript
