@@ -15,13 +15,13 @@ use Rattle.source_state.specs.declared.entry.FailKind.{FailKind}
 use Rattle.source_state.specs.declared.entry.FailKind.TheVariants as kind
 use Rattle.source_state.specs.declared.look.LookFault.{LookFault}
 use Rattle.source_state.specs.declared.look.LookFault.TheVariants as why
-use Rattle.source_state.specs.State.{State}
+use Rattle.source_state.specs.State.{State, state_at}
 use Rattle.query_core.specs.declared.ready.Ready.{Ready}
 use Rattle.query_core.specs.Machines.{state_of}
 use Rattle.query_world.specs.declared.ended.Ended.{Ended}
 use Rattle.query_world.specs.declared.ended.Refusal.TheVariants as refusal
 use Rattle.query_world.specs.declared.inquiry.Inquiry.{Inquiry}
-use Rattle.query_world.specs.Worlds.{state_at, needed, list_needed, source_of, source_needed}
+use Rattle.query_world.specs.Worlds.{needed, list_needed, source_of, source_needed}
 use Rattle.query_world.specs.Causes.{IsOfList, IsCause}
 use Rattle.query_world.specs.Endings.{EndsAs}
 use Rattle.query_world.specs.Honest.{lists_of, HasTable, IsOnItsRun}
@@ -30,7 +30,7 @@ use Rattle.query_world.specs.Made.{IsOf}
 use Rattle.query_world.proofs.Serving.{of_some_list, source_there}
 use Rattle.query_world.proofs.Stepping.{zip_member}
 use Rattle.batch_run.specs.Using.{is_refused_for, refuses_for, is_fail, IsFewFor}
-use Rattle.batch_run.specs.Batches.{BatchState, Run, IsSpared, IsBatch}
+use Rattle.batch_run.specs.Batches.{BatchState, BatchRun, IsSpared, IsBatch}
 use Rattle.batch_run.specs.Tables.{lists_for, TellsTables, EndsOver}
 use Rattle.batch_run.proofs.RunOverLists.{ends_over}
 use Rattle.batch_run.proofs.TableLaws.{on_their_runs}
@@ -77,7 +77,7 @@ zip_through R S T (x ∷ xs) (y ∷ ys) [] f r s = absurd s
 zip_through R S T (x ∷ xs) (y ∷ ys) (z ∷ zs) f r s =
     (f x y z (contains_here y ys) r.0 s.0, zip_through R S T xs ys zs (λ a b c m. f a b c (contains_there y ys b m)) r.1 s.1)
 
-module _ (run : Run) (batch : BatchState) (lists : List (List Row)) (ran : IsBatch run batch) (tells : TellsTables run lists) where
+module _ (run : BatchRun) (batch : BatchState) (lists : List (List Row)) (ran : IsBatch run batch) (tells : TellsTables run lists) where
   -- the lists of a query are those of what it was made of
   same_lists : (ready : Ready) (q : Inquiry) → IsOf ready q → lists_for lists ready ≡ lists_of lists q
   same_lists ready q of = ap (map (list_at lists)) (sym of.sources)

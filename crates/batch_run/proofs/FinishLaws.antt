@@ -15,9 +15,8 @@ use Rattle.source_state.specs.declared.entry.LogEntry.{LogEntry}
 use Rattle.source_state.specs.declared.entry.FailKind.{FailKind}
 use Rattle.source_state.specs.declared.entry.FailKind.TheVariants as kind
 use Rattle.source_state.specs.Log.{settled_in}
-use Rattle.source_state.specs.State.{State, IsSound, last_count}
+use Rattle.source_state.specs.State.{State, IsSound, last_count, state_at}
 use Rattle.source_state.specs.Looking.{reach_of}
-use Rattle.source_state.proofs.Lists.{none_not_some}
 use Rattle.source_pool.specs.declared.hold.Hold.{Hold}
 use Rattle.source_pool.specs.Passes.{Feed, lock_at, hold_at, feed_at}
 use Rattle.source_pool.specs.Sharing.{first_feed}
@@ -25,7 +24,6 @@ use Rattle.source_pool.specs.Closed.{HaveAll, IsClosed, AreClosed}
 use Rattle.query_core.specs.declared.ready.Ready.{Ready}
 use Rattle.query_world.specs.declared.ended.Ended.{Ended}
 use Rattle.query_world.specs.declared.inquiry.Inquiry.{Inquiry}
-use Rattle.query_world.specs.Worlds.{state_at}
 use Rattle.query_world.specs.Kept.{IsServed}
 use Rattle.query_world.specs.Made.{IsOf}
 use Rattle.query_world.specs.Endings.{EndsAs, IsRight}

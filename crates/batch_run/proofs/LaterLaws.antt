@@ -5,11 +5,10 @@ use Rattle.turn_lock.specs.declared.known.Known.{Known}
 use Rattle.turn_lock.specs.Facts.{Begins, AtMost}
 use Rattle.turn_lock.specs.Known.{Follows}
 use Rattle.source_state.specs.declared.entry.LogEntry.{LogEntry}
-use Rattle.source_state.specs.State.{State, IsSound}
+use Rattle.source_state.specs.State.{State, IsSound, state_at}
 use Rattle.source_pool.specs.declared.hold.Hold.{Hold}
 use Rattle.source_pool.specs.Passes.{hold_at}
 use Rattle.query_world.specs.declared.inquiry.Inquiry.{Inquiry}
-use Rattle.query_world.specs.Worlds.{state_at}
 use Rattle.query_world.specs.Kept.{IsServed}
 use Rattle.query_world.proofs.Causes.{IsLater}
 use Rattle.query_world.proofs.Serving.{AreLater, served_stays}

@@ -13,7 +13,7 @@ use Rattle.batch_run.specs.declared.settings.Settings.{Settings}
 use Rattle.query_core.specs.declared.ready.Ready.{Ready}
 use Rattle.batch_run.specs.declared.work.Worker.{Worker}
 use Rattle.batch_run.specs.Slots.{SlotState, states_of, slot_at}
-use Rattle.batch_run.specs.Batches.{Run, run_of}
+use Rattle.batch_run.specs.Batches.{BatchRun, run_of}
 use Rattle.batch_run.specs.declared.hire.Crew.{Crew}
 use Rattle.batch_run.specs.Crews.{slots_run, HasLeft, HasRun}
 use Rattle.batch_run.proofs.Places.{stands_at, map_at}
@@ -36,7 +36,7 @@ module _ {S : Type 0} (list : S → Option (List Row)) (counts : S → Counts) w
       ∙ (ap (λ before. run settings sizes readies (map (λ (s : SlotState). s.told) (states_of list counts old)) before (map (λ (slot : Slot S). counts slot.source) new)) (counts_twice old)
       ∙ ap (λ now. run settings sizes readies (map (λ (s : SlotState). s.told) (states_of list counts old)) (map (λ (s : SlotState). s.counts) (states_of list counts old)) now) (counts_twice new))
     where
-      run : Settings → List ℕ → List Ready → List (Option (List Row)) → List Counts → List Counts → Run
+      run : Settings → List ℕ → List Ready → List (Option (List Row)) → List Counts → List Counts → BatchRun
       run settings sizes readies told before now = record { settings = settings; sizes = sizes; readies = readies; told = told; before = before; now = now }
 
   -- the lists stay, and no count falls, where that is so of each slot

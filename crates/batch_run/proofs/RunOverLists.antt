@@ -8,7 +8,7 @@ use Rattle.access_log.specs.declared.answer.Answer.{Answer}
 use Rattle.access_log.specs.declared.core_fault.CoreFault.TheVariants as core
 use Rattle.access_log.specs.Machine.{MachineState, IsBegun}
 use Rattle.source_state.specs.declared.look.LookFault.TheVariants as why
-use Rattle.source_state.specs.State.{State}
+use Rattle.source_state.specs.State.{State, state_at}
 use Rattle.query_text.specs.declared.algorithm.Algorithm.{Algorithm}
 use Rattle.query_text.specs.declared.algorithm.Algorithm.TheVariants.{Ta, Nra, Ca}
 use Rattle.query_text.specs.Costs.{costs_in_force}
@@ -25,7 +25,7 @@ use Rattle.query_world.specs.declared.ended.Ended.{Ended}
 use Rattle.query_world.specs.declared.ended.Ended.TheVariants as ended
 use Rattle.query_world.specs.declared.ended.Refusal.TheVariants as refusal
 use Rattle.query_world.specs.declared.inquiry.Inquiry.{Inquiry}
-use Rattle.query_world.specs.Worlds.{state_at, source_needed}
+use Rattle.query_world.specs.Worlds.{source_needed}
 use Rattle.query_world.specs.Causes.{IsCause}
 use Rattle.query_world.specs.Endings.{EndsAs}
 use Rattle.query_world.specs.Honest.{lists_of, MayRefuse, IsOnItsRun}

@@ -1,5 +1,5 @@
 -- Where sources tell lists that form a table for each query, each query of a batch is on its run over them.
-use Rattle.std.proofs.Common.{◌≡◌, ◌≤◌, ◌<◌, inl, inr, ℕ, Some, None, List, [], ◌∷◌, ◌++◌, length, map, slice_index_or, All, Contains, IfSome, refl, sym, ap, subst, ◌∙◌, arith}
+use Rattle.std.proofs.Common.{◌≡◌, ◌≤◌, ◌<◌, inl, inr, ℕ, Some, None, List, [], ◌++◌, length, map, All, Contains, IfSome, sym, ap, subst, ◌∙◌, arith}
 use Rattle.std.proofs.lemmas.Bool.{cases_lt}
 use Rattle.std.proofs.lemmas.List.{length-map, get_or_past}
 use Rattle.std.proofs.lemmas.List.Elements.{Contains-append_left, Contains-append_cases}
@@ -9,20 +9,19 @@ use Rattle.ranked_list.specs.declared.need.Need.TheVariants as need
 use Rattle.ranked_list.specs.Table.{IsRanked, objects}
 use Rattle.topk_theory.specs.declared.access.Access.{Access}
 use Rattle.topk_theory.specs.declared.access.Access.TheVariants.{Sorted, Random}
-use Rattle.topk_theory.specs.Transcript.{Begins, Gives, Grows, IsDrawn, whole, list_at, list_of, object_of}
+use Rattle.topk_theory.specs.Transcript.{Begins, Grows, IsDrawn, whole, list_at, list_of, object_of}
 use Rattle.topk_theory.specs.Machine.{CanServe}
-use Rattle.topk_theory.proofs.Agreement.{drawn_gives, drawn_in_range, drawn_more}
+use Rattle.topk_theory.proofs.Agreement.{drawn_gives, drawn_more}
 use Rattle.topk_theory.proofs.AgreementLists.{all_from_members, member_of_all, contains_nil, contains_cases, contains_map, contains_at, contains_splits, begins_splits}
 use Rattle.topk_theory.proofs.AgreementRows.{objects_in_each}
 use Rattle.access_log.specs.Log.{AgreesWith}
-use Rattle.access_log.specs.Machine.{MachineState}
 use Rattle.source_state.specs.declared.entry.Settling.TheVariants.{Graded}
 use Rattle.source_state.specs.Log.{rows_in, graded_in}
-use Rattle.source_state.specs.State.{State, opened, IsSound}
+use Rattle.source_state.specs.State.{State, opened, IsSound, state_at}
 use Rattle.source_state.proofs.LogLaws.{graded_settling}
 use Rattle.query_core.specs.Machines.{state_of}
 use Rattle.query_world.specs.declared.inquiry.Inquiry.{Inquiry}
-use Rattle.query_world.specs.Worlds.{state_at, told_to, needed, source_of}
+use Rattle.query_world.specs.Worlds.{told_to, needed, source_of}
 use Rattle.query_world.specs.Kept.{IsSourceOf, IsServed}
 use Rattle.query_world.specs.Honest.{lists_of, HasTable, IsTrueOf, IsTrueFor, IsOnItsRun}
 use Rattle.query_world.proofs.Serving.{sound_at, rows_told, known_told, source_at}
@@ -30,7 +29,7 @@ use Rattle.query_world.proofs.Honest.{list_is, on_its_run}
 use Rattle.query_run.specs.Asking.{access_of, AsksGradeOf}
 use Rattle.fetcher.specs.Telling.{TellsOf}
 use Rattle.batch_run.specs.Numbered.{told_at}
-use Rattle.batch_run.specs.Batches.{BatchState, Run, IsHonestFor, IsBatch}
+use Rattle.batch_run.specs.Batches.{BatchState, BatchRun, IsHonestFor, IsBatch}
 use Rattle.batch_run.proofs.Places.{map_at, same_at}
 
 -- where each log of a query's sources tells of the source's list alone, the query's transcript agrees with its lists
@@ -119,12 +118,16 @@ record IsReadOf (lists : List (List Row)) (states : List State) (source : ℕ) :
   tells : TellsOf (list_at lists source) (state_at states source).log
   honest : IsHonestFor (list_at lists source) (state_at states source)
 
-module _ (run : Run) (batch : BatchState) (ran : IsBatch run batch) (lists : List (List Row)) (told : run.told ≡ map Some lists)
+-- the closing states of a batch are sound
+pub states_sound : (run : BatchRun) (batch : BatchState) (ran : IsBatch run batch) → All IsSound ran.states
+states_sound run batch ran k d l =
+    let many = ran.many in
+    subst IsSound (same_at ran.states k (opened 0 0) d l) (ran.closing k (omega (arith, l, many))).sound
+
+module _ (run : BatchRun) (batch : BatchState) (ran : IsBatch run batch) (lists : List (List Row)) (told : run.told ≡ map Some lists)
     (tables : All (HasTable lists) ran.queries) where
   all_sound : All IsSound ran.states
-  all_sound k d l =
-      let many = ran.many in
-      subst IsSound (same_at ran.states k (opened 0 0) d l) (ran.closing k (omega (arith, l, many))).sound
+  all_sound = states_sound run batch ran
 
   served : (q : Inquiry) → Contains ran.queries q → IsServed ran.states q
   served q c = member_of_all (IsServed ran.states) ran.queries q ran.served c

@@ -5,12 +5,11 @@ use Rattle.ranked_list.specs.declared.row.Row.{Row}
 use Rattle.ranked_list.specs.Table.{IsRanked, objects}
 use Rattle.source_api.specs.declared.counts.Counts.{Counts}
 use Rattle.source_state.specs.declared.look.LookFault.TheVariants as why
-use Rattle.source_state.specs.State.{State, IsSound}
+use Rattle.source_state.specs.State.{State, IsSound, state_at}
 use Rattle.query_core.specs.declared.ready.Ready.{Ready}
 use Rattle.query_world.specs.declared.ended.Ended.{Ended}
 use Rattle.query_world.specs.declared.ended.Refusal.TheVariants.{Look}
 use Rattle.query_world.specs.declared.inquiry.Inquiry.{Inquiry}
-use Rattle.query_world.specs.Worlds.{state_at}
 use Rattle.query_world.specs.Kept.{IsServed}
 use Rattle.query_world.specs.Made.{IsOf}
 use Rattle.query_world.specs.Honest.{IsTrueOf}
@@ -32,7 +31,7 @@ batch_of endings uses = record { endings = endings; uses = uses }
 
 -- what a batch was run on: the settings, how many objects each source has, the queries that were ready, the lists that the sources tell, and
 -- what the sources had counted before and count now
-pub record Run : Type 0 where
+pub record BatchRun : Type 0 where
   pub settings : Settings
   pub sizes : List ℕ
   pub readies : List Ready
@@ -41,7 +40,7 @@ pub record Run : Type 0 where
   pub now : List Counts
 
 -- the run of a batch on slots of sources, which stood so before and stand so now
-abbrev pub run_of : {S : Type 0} → (S → Option (List Row)) → (S → Counts) → Settings → List ℕ → List Ready → List (Slot S) → List (Slot S) → Run
+abbrev pub run_of : {S : Type 0} → (S → Option (List Row)) → (S → Counts) → Settings → List ℕ → List Ready → List (Slot S) → List (Slot S) → BatchRun
 run_of list counts settings sizes readies old new = record {
   settings = settings;
   sizes = sizes;
@@ -79,7 +78,7 @@ IsSpared q = (list : ℕ) → q.refusal ≢ Some (Look list why.Memory)
 --   agrees with it, and a refused one has its cause in the closing state of the source that it needed;
 --   each ended as it stood, with the answer of its run, which is right, or as it was refused, and none for want of memory;
 --   of each source no more was used than the queries asked for, and no query is refused for a call that failed but where such calls were counted
-pub record IsBatch (run : Run) (batch : BatchState) : Type 0 where
+pub record IsBatch (run : BatchRun) (batch : BatchState) : Type 0 where
   pub states : List State
   pub queries : List Inquiry
   pub many : length states ≡ length run.sizes

@@ -20,7 +20,7 @@ use Rattle.batch_run.specs.declared.batch.Use.{Use}
 use Rattle.batch_run.specs.declared.work.Worker.{Worker}
 use Rattle.batch_run.specs.declared.hire.Crew.{Crew}
 use Rattle.batch_run.specs.Shares.{share}
-use Rattle.batch_run.specs.Batches.{Run}
+use Rattle.batch_run.specs.Batches.{BatchRun}
 use Rattle.batch_run.specs.Working.{HasWorked}
 use Rattle.batch_run.specs.Slots.{SlotState, slot_at}
 
@@ -117,7 +117,7 @@ pub record UsedOf (s : State) (fetched : Fetched) (used : Use) : Type 0 where
   pub asks : used.asks ≡ length s.asks
 
 -- the run of a batch on slots that stood so before and stand so now
-abbrev pub slots_run : Settings → List ℕ → List Ready → List SlotState → List SlotState → Run
+abbrev pub slots_run : Settings → List ℕ → List Ready → List SlotState → List SlotState → BatchRun
 slots_run settings counts readies before after = record {
   settings = settings;
   sizes = counts;

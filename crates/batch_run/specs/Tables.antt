@@ -12,7 +12,7 @@ use Rattle.query_core.specs.OneAnswer.{IsOverRoom}
 use Rattle.query_world.specs.declared.ended.Ended.{Ended}
 use Rattle.query_world.specs.declared.ended.Ended.TheVariants as ended
 use Rattle.batch_run.specs.Numbered.{counts_at}
-use Rattle.batch_run.specs.Batches.{Run}
+use Rattle.batch_run.specs.Batches.{BatchRun}
 
 -- the lists of a ready query, by the numbers of their sources
 abbrev pub lists_for : List (List Row) → Ready → List (List Row)
@@ -24,7 +24,7 @@ pub record NoneFailed (before now : Counts) : Type 0 where
   pub garbles : ¬ Rose before.garbles now.garbles
 
 -- the sources of a run tell these lists, those of each query form a table, and no call failed
-pub record TellsTables (run : Run) (lists : List (List Row)) : Type 0 where
+pub record TellsTables (run : BatchRun) (lists : List (List Row)) : Type 0 where
   pub told : run.told ≡ map Some lists
   pub tables : All (λ ready. IsTable ready.count (lists_for lists ready)) run.readies
   pub untroubled : (source : ℕ) → source < length run.sizes → NoneFailed (counts_at run.before source) (counts_at run.now source)

@@ -78,13 +78,13 @@ pub record IsUsed (settings : Settings) (queries : List Inquiry) (source : ℕ) 
   pub settled : length (settled_in s.log) ≡ used.grades
   pub comes : HasGiven used.rows s.count s.log
 
--- so many lines, of which each worker has no more than the count rose
+-- so many lines, no more than the workers times some number of calls, by which the count rose, or it stands at its last value
 pub record IsFewFor (workers lines calls : ℕ) (before now : ℕ) : Type 0 where
   pub rose : RoseBy calls before now
   pub few : lines ≤ workers * calls
 
--- the fails that refused queries: the calls of a source that failed of either kind are counted, and each worker has no more queries that are refused
--- for it than there were such calls
+-- the fails that refused queries, of either kind: the calls of the source that failed so, by its closing state, are counted, and the queries that
+-- are refused for one are no more than the workers times these calls
 pub record HasCounted (workers : ℕ) (queries : List Inquiry) (source : ℕ) (s : State) (before now : Counts) : Type 0 where
   pub failed : IsFewFor workers (count_by (is_refused_for kind.Failed source) queries) s.tally.failed before.faults now.faults
   pub garbled : IsFewFor workers (count_by (is_refused_for kind.Garbled source) queries) s.tally.garbled before.garbles now.garbles

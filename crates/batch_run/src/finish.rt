@@ -2,7 +2,7 @@
 
 ghost use Rattle.std.specs.Prelude.{◌≡◌, ◌≤◌, ◌<◌, [], ◌∷◌, ◌++◌, ℕ, List, All, length, map, vec_len, vec_capacity};
 ghost use Rattle.source_pool.specs.Passes.{IsPassOf};
-ghost use Rattle.source_pool.specs.Closed.{state_at};
+ghost use Rattle.source_state.specs.State.{state_at};
 ghost use Rattle.query_core.specs.declared.ready.Ready.{Ready};
 ghost use Rattle.query_world.specs.declared.ended.Ended.{Ended as EndedOf};
 ghost use Rattle.batch_run.specs.declared.settings.Settings.{Settings};

@@ -89,7 +89,7 @@ fn work_all<W: Threads + Wait + Sync>(
             requires { IsAtWork pool.now count queries.now worker.now }
         { work(rt, alloc, pool, worker, queries, count) },
     );
-    stop.set();
+    stop.set(pool);
 }
 
 /// Both sides at the same time. The fetchers end after the workers.

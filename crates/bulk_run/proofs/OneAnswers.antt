@@ -13,7 +13,7 @@ use Rattle.query_world.specs.declared.ended.Ended.TheVariants.{Answered, Core, L
 use Rattle.fetcher.specs.declared.slot.Slot.{Slot}
 use Rattle.batch_run.specs.declared.settings.Settings.{Settings}
 use Rattle.batch_run.specs.Numbered.{counts_at}
-use Rattle.batch_run.specs.Batches.{BatchState, Run, run_of, IsBatch}
+use Rattle.batch_run.specs.Batches.{BatchState, BatchRun, run_of, IsBatch}
 use Rattle.batch_run.specs.Tables.{lists_for, TellsTables, EndsOver}
 use Rattle.bulk_run.specs.declared.input.BulkInput.{BulkInput}
 use Rattle.bulk_run.specs.Held.{Held, fresh_slot, told_rows, counts_of}
@@ -77,7 +77,7 @@ all_in_one input (number ∷ numbers) (ready ∷ readies) (e ∷ endings) made e
 
 -- what `told_tables_give_the_one_ending` promises
 abbrev pub ToldTablesGiveTheOneEnding : Type 0
-ToldTablesGiveTheOneEnding = (run : Run) (batch : BatchState) (lists : List (List Row)) → IsBatch run batch → TellsTables run lists
+ToldTablesGiveTheOneEnding = (run : BatchRun) (batch : BatchState) (lists : List (List Row)) → IsBatch run batch → TellsTables run lists
     → AllZip (λ ready. EndsOver (lists_for lists ready) ready) run.readies batch.endings
 
 -- how a batch of made queries over the sources of their table ended

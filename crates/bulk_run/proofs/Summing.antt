@@ -18,7 +18,7 @@ use Rattle.query_world.specs.declared.ended.Ended.TheVariants.{Answered, Core, L
 use Rattle.bulk_run.specs.declared.input.BulkInput.{BulkInput}
 use Rattle.bulk_run.specs.declared.sums.BulkSums.{BulkSums}
 use Rattle.bulk_run.specs.Sums.{table_of, query_of, run_depth, run_sorted, run_random, answer_value, bulk_sums}
-use Rattle.bulk_run.specs.Endings.{EndsInOne, AllEndInOne, depth_of, sorted_of, random_of, low_of, figure_of, is_answered, sums_over, with_query, with_ending, IsSmall, HasRoom}
+use Rattle.bulk_run.specs.Endings.{EndsInOne, AllEndInOne, answer_depth, answer_sorted, answer_random, answer_lows, figure_of, is_answered, sums_over, with_query, with_ending, IsSmall, HasRoom}
 
 -- ---- the lower bounds of items
 
@@ -68,16 +68,16 @@ refused_more : (endings : List Ended) (i : ℕ) (e : Ended) → i < length endin
     → ((figure : Answer → ℕ) → figure_of figure e ≡ 0) → sums_over (take (i + 1) endings) ≡ with_query (sums_over (take i endings))
 refused_more endings i e l at unanswered none =
     same_sums _ _ _ _ _ _ _ _ _ _ _ _ (front_long endings i l) (front_refused (λ x. cond (is_answered x) 1 0) endings i e l at (ap (λ b. cond {A = ℕ} b 1 0) unanswered))
-    (front_refused (figure_of depth_of) endings i e l at (none depth_of)) (front_refused (figure_of sorted_of) endings i e l at (none sorted_of))
-    (front_refused (figure_of random_of) endings i e l at (none random_of)) (front_refused (figure_of low_of) endings i e l at (none low_of))
+    (front_refused (figure_of answer_depth) endings i e l at (none answer_depth)) (front_refused (figure_of answer_sorted) endings i e l at (none answer_sorted))
+    (front_refused (figure_of answer_random) endings i e l at (none answer_random)) (front_refused (figure_of answer_lows) endings i e l at (none answer_lows))
 
 pub sums_more : (endings : List Ended) (i : ℕ) (e : Ended) → i < length endings → slice_index_or endings i e ≡ e
     → sums_over (take (i + 1) endings) ≡ with_ending e (sums_over (take i endings))
 sums_more endings i (Answered answer) l at =
     let e : Ended = Answered answer in
     same_sums _ _ _ _ _ _ _ _ _ _ _ _ (front_long endings i l) (front_more (λ x. cond (is_answered x) 1 0) endings i e l at)
-    (front_more (figure_of depth_of) endings i e l at) (front_more (figure_of sorted_of) endings i e l at)
-    (front_more (figure_of random_of) endings i e l at) (front_more (figure_of low_of) endings i e l at)
+    (front_more (figure_of answer_depth) endings i e l at) (front_more (figure_of answer_sorted) endings i e l at)
+    (front_more (figure_of answer_random) endings i e l at) (front_more (figure_of answer_lows) endings i e l at)
 sums_more endings i (Core fault) l at = refused_more endings i (Core fault) l at refl (λ figure. refl)
 sums_more endings i (Look list fault) l at = refused_more endings i (Look list fault) l at refl (λ figure. refl)
 
@@ -91,10 +91,10 @@ has_room endings i l few small =
     record {
       queries = omega (arith, long, l, few);
       answered = count_by-le-length is_answered front;
-      depth = each (figure_of depth_of) (λ e s. s.depth);
-      sorted = each (figure_of sorted_of) (λ e s. s.sorted);
-      random = each (figure_of random_of) (λ e s. s.random);
-      values = each (figure_of low_of) (λ e s. s.values);
+      depth = each (figure_of answer_depth) (λ e s. s.depth);
+      sorted = each (figure_of answer_sorted) (λ e s. s.sorted);
+      random = each (figure_of answer_random) (λ e s. s.random);
+      values = each (figure_of answer_lows) (λ e s. s.values);
     }
 
 -- ---- over the one answers
@@ -129,23 +129,23 @@ module _ (input : BulkInput) where
   all_answered (number ∷ numbers) (Core fault ∷ endings) h = absurd h.0
   all_answered (number ∷ numbers) (Look list fault ∷ endings) h = absurd h.0
 
-  same_depth : (number : ℕ) (e : Ended) → EndsSo number e → figure_of depth_of e ≡ run_depth (query_of input number) (table_of input)
+  same_depth : (number : ℕ) (e : Ended) → EndsSo number e → figure_of answer_depth e ≡ run_depth (query_of input number) (table_of input)
   same_depth number (Answered answer) h =
       ap (λ m. depth m answer.transcript.accesses) (sym h.1.lists) ∙ ap (λ (A : List Access). depth (length (table_of input)) A) h.0.run
   same_depth number (Core fault) h = absurd h
   same_depth number (Look list fault) h = absurd h
 
-  same_sorted : (number : ℕ) (e : Ended) → EndsSo number e → figure_of sorted_of e ≡ run_sorted (query_of input number) (table_of input)
+  same_sorted : (number : ℕ) (e : Ended) → EndsSo number e → figure_of answer_sorted e ≡ run_sorted (query_of input number) (table_of input)
   same_sorted number (Answered answer) h = ap sorted_count h.0.run
   same_sorted number (Core fault) h = absurd h
   same_sorted number (Look list fault) h = absurd h
 
-  same_random : (number : ℕ) (e : Ended) → EndsSo number e → figure_of random_of e ≡ run_random (query_of input number) (table_of input)
+  same_random : (number : ℕ) (e : Ended) → EndsSo number e → figure_of answer_random e ≡ run_random (query_of input number) (table_of input)
   same_random number (Answered answer) h = ap random_count h.0.run
   same_random number (Core fault) h = absurd h
   same_random number (Look list fault) h = absurd h
 
-  same_low : (number : ℕ) (e : Ended) → EndsSo number e → figure_of low_of e ≡ answer_value (query_of input number) (table_of input)
+  same_low : (number : ℕ) (e : Ended) → EndsSo number e → figure_of answer_lows e ≡ answer_value (query_of input number) (table_of input)
   same_low number (Answered answer) h = ap (sum_by (λ (item : Item). item.low)) h.0.items
   same_low number (Core fault) h = absurd h
   same_low number (Look list fault) h = absurd h
@@ -157,5 +157,5 @@ module _ (input : BulkInput) where
   sums_are endings all =
       let numbers : List ℕ = range_with_len 0 input.queries in
       same_sums _ _ _ _ _ _ _ _ _ _ _ _ (endings_long endings all) (all_answered numbers endings all ∙ length-range_with_len 0 input.queries)
-      (figures_same (figure_of depth_of) run_depth same_depth numbers endings all) (figures_same (figure_of sorted_of) run_sorted same_sorted numbers endings all)
-      (figures_same (figure_of random_of) run_random same_random numbers endings all) (figures_same (figure_of low_of) answer_value same_low numbers endings all)
+      (figures_same (figure_of answer_depth) run_depth same_depth numbers endings all) (figures_same (figure_of answer_sorted) run_sorted same_sorted numbers endings all)
+      (figures_same (figure_of answer_random) run_random same_random numbers endings all) (figures_same (figure_of answer_lows) answer_value same_low numbers endings all)

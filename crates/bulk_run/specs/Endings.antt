@@ -37,17 +37,17 @@ abbrev pub AllEndInOne : BulkInput → List Ended → Type 0
 AllEndInOne input endings = AllZip (λ number. EndsInOne (query_of input number) (table_of input)) (range_with_len 0 input.queries) endings
 
 -- figures of an answer
-abbrev pub depth_of : Answer → ℕ
-depth_of answer = depth answer.transcript.lists answer.transcript.accesses
+abbrev pub answer_depth : Answer → ℕ
+answer_depth answer = depth answer.transcript.lists answer.transcript.accesses
 
-abbrev pub sorted_of : Answer → ℕ
-sorted_of answer = sorted_count answer.transcript.accesses
+abbrev pub answer_sorted : Answer → ℕ
+answer_sorted answer = sorted_count answer.transcript.accesses
 
-abbrev pub random_of : Answer → ℕ
-random_of answer = random_count answer.transcript.accesses
+abbrev pub answer_random : Answer → ℕ
+answer_random answer = random_count answer.transcript.accesses
 
-abbrev pub low_of : Answer → ℕ
-low_of answer = sum_by (λ item. item.low) answer.items
+abbrev pub answer_lows : Answer → ℕ
+answer_lows answer = sum_by (λ item. item.low) answer.items
 
 -- a figure of an ending; nothing where the query was refused
 abbrev pub figure_of : (Answer → ℕ) → Ended → ℕ
@@ -63,10 +63,10 @@ abbrev pub sums_over : List Ended → BulkSums
 sums_over endings = record {
   queries = length endings;
   answered = count_by is_answered endings;
-  depth = sum_by (figure_of depth_of) endings;
-  sorted = sum_by (figure_of sorted_of) endings;
-  random = sum_by (figure_of random_of) endings;
-  values = sum_by (figure_of low_of) endings;
+  depth = sum_by (figure_of answer_depth) endings;
+  sorted = sum_by (figure_of answer_sorted) endings;
+  random = sum_by (figure_of answer_random) endings;
+  values = sum_by (figure_of answer_lows) endings;
 }
 
 -- the sums with one more answer, and with one more ending
@@ -74,10 +74,10 @@ abbrev pub with_answer : Answer → BulkSums → BulkSums
 with_answer answer sums = record {
   queries = sums.queries;
   answered = sums.answered + 1;
-  depth = sums.depth + depth_of answer;
-  sorted = sums.sorted + sorted_of answer;
-  random = sums.random + random_of answer;
-  values = sums.values + low_of answer;
+  depth = sums.depth + answer_depth answer;
+  sorted = sums.sorted + answer_sorted answer;
+  random = sums.random + answer_random answer;
+  values = sums.values + answer_lows answer;
 }
 
 abbrev pub with_query : BulkSums → BulkSums
@@ -90,10 +90,10 @@ with_ending (Look list fault) sums = with_query sums
 
 -- no figure of an ending is so great that a sum over many of them passes 64 bits
 pub record IsSmall (ending : Ended) : Type 0 where
-  pub depth : figure_of depth_of ending ≤ 2 ^ 32
-  pub sorted : figure_of sorted_of ending ≤ 2 ^ 32
-  pub random : figure_of random_of ending ≤ 2 ^ 32
-  pub values : figure_of low_of ending ≤ 2 ^ 32
+  pub depth : figure_of answer_depth ending ≤ 2 ^ 32
+  pub sorted : figure_of answer_sorted ending ≤ 2 ^ 32
+  pub random : figure_of answer_random ending ≤ 2 ^ 32
+  pub values : figure_of answer_lows ending ≤ 2 ^ 32
 
 -- the sums may get one more
 pub record HasRoom (sums : BulkSums) : Type 0 where

@@ -13,9 +13,9 @@ use Rattle.cert_text.specs.declared.refusal.Refusal.TheVariants.{ManyQueries, Ro
 use Rattle.cert_text.specs.declared.outcome.Outcome.{Outcome}
 use Rattle.cert_text.specs.declared.outcome.Outcome.TheVariants.{Answered, Refused}
 use Rattle.query_core.specs.OneAnswer.{IsOverRoom}
-use Rattle.query_admission.specs.View.{View, AreTold, is_closed, is_large, differs, lacks_random, size_at, count_of}
+use Rattle.query_admission.specs.View.{View, AreTold, is_closed, is_large, differs, lacks_random, size_stated, count_of}
 use Rattle.query_admission.specs.Causes.{most_queries, Cause, admission_causes, Over, ListsGive, Gives, NoneOf, IsFirstOf}
-use Rattle.query_admission.specs.Admission.{IsRefused}
+use Rattle.query_admission.specs.Admission.{RefusesLine}
 use Rattle.query_admission.specs.Becomes.{Becomes}
 use Rattle.query_admission.specs.declared.lists.Listed.{Listed}
 use Rattle.catalog_open.specs.Views.{line_over}
@@ -49,13 +49,13 @@ tested_same : (test : Listed → Bool) (xs ys : List Listed) → ((l : Listed) �
     → position test xs ≡ position test ys
 tested_same test xs ys same e = position_same test test xs ys (sym (through_plain test xs same) ∙ ap (map test) e ∙ through_plain test ys same)
 
-size_plain : (xs : List Listed) (place : ℕ) → size_at (map plain xs) place ≡ size_at xs place
+size_plain : (xs : List Listed) (place : ℕ) → size_stated (map plain xs) place ≡ size_stated xs place
 size_plain [] place = refl
 size_plain (x ∷ xs) zero = refl
 size_plain (x ∷ xs) (suc place) = size_plain xs place
 
-size_same : (xs ys : List Listed) (place : ℕ) → map plain xs ≡ map plain ys → size_at xs place ≡ size_at ys place
-size_same xs ys place e = sym (size_plain xs place) ∙ ap (λ ls. size_at ls place) e ∙ size_plain ys place
+size_same : (xs ys : List Listed) (place : ℕ) → map plain xs ≡ map plain ys → size_stated xs place ≡ size_stated ys place
+size_same xs ys place e = sym (size_plain xs place) ∙ ap (λ ls. size_stated ls place) e ∙ size_plain ys place
 
 -- what lists give that say the same
 lists_give : (q : Query) (xs ys : List Listed) → map plain xs ≡ map plain ys → (c : Cause) (refusal : Refusal) → ListsGive q xs c refusal
@@ -141,7 +141,7 @@ unseen_rows V W c m =
 -- the first cause
 pub refused_alike : (V W : View) (number : ℕ) (bytes : List ℕ) → Alike bytes V.listed W.listed → Alike bytes W.listed V.listed → (causes : List Cause)
     → ((c : Cause) → Contains causes c → SameTold V W c) → ((c : Cause) → Contains causes c → SameTold W V c) → (refusal : Refusal) (query : Option Query)
-    → IsRefused causes (line_over V number bytes) refusal query → IsRefused causes (line_over W number bytes) refusal query
+    → RefusesLine causes (line_over V number bytes) refusal query → RefusesLine causes (line_over W number bytes) refusal query
 refused_alike V W number bytes to from causes told back refusal query refused =
     let f = refused.first in
     let in_front : (c : Cause) → Contains f.earlier c → Contains causes c =
@@ -178,7 +178,7 @@ first_is_many V number bytes refusal late f = go f.earlier f.cause f.later f.ord
         (subst (λ (d : Cause). Gives (line_over V number bytes) d (ManyQueries most_queries)) same (refl, late)))
 
 pub late_refused : (V W : View) (number : ℕ) (bytes : List ℕ) (refusal : Refusal) (query : Option Query) → most_queries < number
-    → IsRefused admission_causes (line_over V number bytes) refusal query → IsRefused admission_causes (line_over W number bytes) refusal query
+    → RefusesLine admission_causes (line_over V number bytes) refusal query → RefusesLine admission_causes (line_over W number bytes) refusal query
 late_refused V W number bytes refusal query late refused =
     let f = refused.first in
     let many : Gives (line_over V number bytes) Cause.many_queries refusal =

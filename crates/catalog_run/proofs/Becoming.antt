@@ -42,15 +42,15 @@ use Rattle.catalog_open.specs.Wanted.{IsWanted}
 use Rattle.catalog_open.proofs.Moving.{moves_at, trouble_from}
 use Rattle.catalog_run.specs.declared.outcome.LineOutcome.{LineOutcome}
 use Rattle.catalog_run.specs.Outcomes.{ended_outcome}
-use Rattle.catalog_run.specs.Runs.{Run, IsRun, IsLineRefused, IsLineRun, AreOutcomes}
-use Rattle.catalog_run.specs.Told.{view_told, TellsTables, AllBecome}
+use Rattle.catalog_run.specs.Runs.{CatalogRun, IsRun, IsLineRefused, IsLineRun, AreOutcomes}
+use Rattle.catalog_run.specs.Told.{view_told, ShelfTellsTables, AllBecome}
 use Rattle.catalog_run.proofs.Alike.{Alike, SameTold, becomes_alike, late_refused, none_alike, refused_alike, unseen_rows}
 use Rattle.catalog_run.proofs.Failing.{calls_behind, counted_back, refused_there, rose_faults, rose_garbles}
 use Rattle.catalog_run.proofs.Readies.{admitted_few}
 use Rattle.catalog_run.proofs.ToldLists.{HasLists, QueriesAreOnTheirRuns, from_told, has_lists, lists_told, on_their_runs, to_told}
 use Rattle.catalog_run.proofs.Whole.{open_wanted}
 
-module _ (r : Run) (outcomes : List LineOutcome) (run : IsRun r outcomes) where
+module _ (r : CatalogRun) (outcomes : List LineOutcome) (run : IsRun r outcomes) where
   -- the place on the shelf of the source of a query's list
   abbrev pub text_for : Inquiry → ℕ → List ℕ
   text_for q list = (entry_at r.catalog (slice_index_or run.sources.places (source_of q list) 0)).place
@@ -99,7 +99,7 @@ module _ (r : Run) (outcomes : List LineOutcome) (run : IsRun r outcomes) where
       let some = calls_behind kind.Garbled why.Garbled run.ran.ran.states run.ran.ran.queries q list r.settings.workers _ _ _ refl (served_all q c) c e counted.garbled in
       (within, rose_garbles _ run.mid r.after (text_for q list) _ run.back (counted_back r.catalog run.sources.places run.now source within inside) some)
 
-  module _ (law : QueriesAreOnTheirRuns) (tells : TellsTables r) where
+  module _ (law : QueriesAreOnTheirRuns) (tells : ShelfTellsTables r) where
     abbrev V : View
     V = view_over r.catalog run.openings nothing_told
 

@@ -15,11 +15,11 @@ use Rattle.source_api.specs.declared.counts.Counts.{Counts}
 use Rattle.source_api.specs.Counting.{added, raised}
 use Rattle.source_state.specs.declared.entry.FailKind.{FailKind}
 use Rattle.source_state.specs.declared.look.LookFault.{LookFault}
-use Rattle.source_state.specs.State.{State}
+use Rattle.source_state.specs.State.{State, state_at}
 use Rattle.query_core.specs.Machines.{state_of}
 use Rattle.query_world.specs.declared.ended.Refusal.TheVariants as refusal
 use Rattle.query_world.specs.declared.inquiry.Inquiry.{Inquiry}
-use Rattle.query_world.specs.Worlds.{state_at, needed, list_needed, source_needed, source_of}
+use Rattle.query_world.specs.Worlds.{needed, list_needed, source_needed, source_of}
 use Rattle.query_world.specs.Causes.{IsCause, IsOfList}
 use Rattle.query_world.specs.Kept.{IsServed}
 use Rattle.query_world.proofs.Serving.{listed, of_some_list}

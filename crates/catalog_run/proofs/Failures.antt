@@ -26,7 +26,7 @@ use Rattle.cert_text.specs.declared.refusal.Refusal.TheVariants.{NotOpened, Fail
 use Rattle.query_core.specs.declared.ready.Ready.{Ready as ReadyQuery}
 use Rattle.query_admission.specs.View.{View, is_closed}
 use Rattle.query_admission.specs.Causes.{most_queries, Cause, admission_causes, text_refusal, Over, ListsGive, Gives}
-use Rattle.query_admission.specs.Admission.{IsRefused, IsAdmitted}
+use Rattle.query_admission.specs.Admission.{RefusesLine, IsAdmitted}
 use Rattle.query_admission.specs.declared.lists.Listed.{Listed}
 use Rattle.query_admission.proofs.Admitting.{read_once}
 use Rattle.query_admission.proofs.Positions.{found_passes, found_within, nothing}
@@ -48,7 +48,7 @@ use Rattle.catalog_open.specs.Openings.{IsOpening, IsSource, TroubleAt}
 use Rattle.catalog_open.proofs.Marking.{places_within}
 use Rattle.catalog_run.specs.declared.outcome.LineOutcome.{LineOutcome}
 use Rattle.catalog_run.specs.Outcomes.{ended_outcome, source_refusal}
-use Rattle.catalog_run.specs.Runs.{Run, IsRun, IsLineRefused, IsLineRun, AreOutcomes}
+use Rattle.catalog_run.specs.Runs.{CatalogRun, IsRun, IsLineRefused, IsLineRun, AreOutcomes}
 use Rattle.catalog_run.specs.Failures.{place_at, failed_list, HasRisen, HasFailedAt, HasFailure}
 use Rattle.catalog_run.proofs.Alike.{first_is_many}
 use Rattle.catalog_run.proofs.Becoming.{failed_rose_at, garbled_rose_at, served_all, text_for}
@@ -129,7 +129,7 @@ some_query : (query : Option Query) (list : ℕ) → All (λ l. l < length (name
 some_query None list named = absurd (let l = named 0 0 (omega arith) in omega (arith, l))
 some_query (Some q) list named = (q, refl)
 
-module _ (r : Run) (outcomes : List LineOutcome) (run : IsRun r outcomes) where
+module _ (r : CatalogRun) (outcomes : List LineOutcome) (run : IsRun r outcomes) where
   abbrev says : ℕ → Listed
   says = listed_at r.catalog run.openings
 
@@ -151,7 +151,7 @@ module _ (r : Run) (outcomes : List LineOutcome) (run : IsRun r outcomes) where
 
   -- a line that is refused since a list wasn't opened
   not_opened : (at : ℕ) (bytes : List ℕ) (o : LineOutcome) (refusal : Refusal) (list : ℕ) → slice_get r.lines at ≡ Some bytes → at + 1 ≤ most_queries
-      → (is : IsRefused admission_causes (line_over U (at + 1) bytes) refusal o.query)
+      → (is : RefusesLine admission_causes (line_over U (at + 1) bytes) refusal o.query)
       → Over (line_over U (at + 1) bytes) (λ q lists. ListsGive q lists Cause.not_opened refusal) → failed_list refusal ≡ Some list → HasFailedAt r run.mid o refusal list
   not_opened at bytes o refusal list line few is g fails =
       let h = g.holds in
@@ -184,7 +184,7 @@ module _ (r : Run) (outcomes : List LineOutcome) (run : IsRun r outcomes) where
 
   -- the cause of a refusal of a list that comes before the line runs
   refused_why : (at : ℕ) (bytes : List ℕ) (o : LineOutcome) (refusal : Refusal) (list : ℕ) → slice_get r.lines at ≡ Some bytes
-      → (is : IsRefused admission_causes (line_over U (at + 1) bytes) refusal o.query) → failed_list refusal ≡ Some list
+      → (is : RefusesLine admission_causes (line_over U (at + 1) bytes) refusal o.query) → failed_list refusal ≡ Some list
       → (c : Cause) → c ≡ is.first.cause → Gives (line_over U (at + 1) bytes) c refusal → HasFailedAt r run.mid o refusal list
   refused_why at bytes o refusal list line is fails Cause.many_queries c g = absurd (not_listed refusal _ list g.0 refl fails)
   refused_why at bytes o refusal list line is fails Cause.text c g = absurd (not_of_text g.0 refusal list g.1 fails)
@@ -205,7 +205,7 @@ module _ (r : Run) (outcomes : List LineOutcome) (run : IsRun r outcomes) where
   line_refused : (at : ℕ) (bytes : List ℕ) (o : LineOutcome) → slice_get r.lines at ≡ Some bytes → IsLineRefused U (at + 1) bytes o → HasFailure r run.mid o
   line_refused at bytes o line is = λ refusal list e fails.
       let same : is.refusal ≡ refusal = refused_once (sym is.outcome ∙ e) in
-      let refused = subst (λ x. IsRefused admission_causes (line_over U (at + 1) bytes) x o.query) same is.refused in
+      let refused = subst (λ x. RefusesLine admission_causes (line_over U (at + 1) bytes) x o.query) same is.refused in
       refused_why at bytes o refusal list line refused fails refused.first.cause refl refused.first.gives
 
   -- the list of a query that ran

@@ -1,5 +1,5 @@
--- A failure refuses few lines: each worker has no more lines that are refused for calls of a source than there were such calls.
-use Rattle.std.proofs.Common.{◌≡◌, ◌⊎◌, ℕ, zero, suc, ◌+◌, ◌-◌, ◌*◌, ◌^◌, ◌<◌, ◌≤◌, min, Bool, true, false, ◌&&◌, ◌||◌, cond, List, [], ◌∷◌, ◌++◌, Contains, count_by, length, reverse, inl, inr, Option, None, Some, slice_get, slice_index_or, refl, sym, ap, ◌∙◌, subst, arith, le_trans}
+-- A failure refuses few lines: those that are refused for calls of a source are no more than the workers times such calls.
+use Rattle.std.proofs.Common.{◌≡◌, ◌⊎◌, ℕ, zero, suc, ◌+◌, ◌-◌, ◌*◌, ◌^◌, ◌<◌, ◌≤◌, min, Bool, true, false, ◌&&◌, ◌||◌, cond, List, [], ◌∷◌, ◌++◌, Contains, count_by, length, reverse, inl, inr, Option, None, Some, slice_index_or, refl, sym, ap, ◌∙◌, subst, arith, le_trans}
 use Rattle.std.specs.Prelude.{if◌then◌else◌}
 use Rattle.std.specs.Option.{option_and_then}
 use Rattle.std.specs.Str.{bytes_eq}
@@ -43,7 +43,7 @@ use Rattle.catalog_open.specs.Openings.{Used, used_at, put_back}
 use Rattle.catalog_open.proofs.Moving.{used_append}
 use Rattle.catalog_run.specs.declared.outcome.LineOutcome.{LineOutcome}
 use Rattle.catalog_run.specs.Outcomes.{ended_outcome}
-use Rattle.catalog_run.specs.Runs.{Run, IsRun, IsLineRefused, IsLineRun, AreOutcomes}
+use Rattle.catalog_run.specs.Runs.{CatalogRun, IsRun, IsLineRefused, IsLineRun, AreOutcomes}
 use Rattle.catalog_run.specs.Failures.{AreFew, RefusesFew, failed_list, is_place, is_refused_at, place_at, refused_at, says_failed, says_garbled}
 use Rattle.catalog_run.proofs.Becoming.{served_all, source_there, still_many, text_for}
 use Rattle.catalog_run.proofs.Failing.{faults_sum, garbles_sum, refused_there}
@@ -95,7 +95,7 @@ early catalog says what is place query x Cause.not_opened refused g =
 never : (b : Bool) → b ≡ false → b ≡ true → {A : Type 0} → A
 never b fails passes = absurd (false≢true (sym fails ∙ passes))
 
-module _ (r : Run) (outcomes : List LineOutcome) (run : IsRun r outcomes) (says : Refusal → Bool) (what : FailKind) (is : SaysOf says what) (place : List ℕ) where
+module _ (r : CatalogRun) (outcomes : List LineOutcome) (run : IsRun r outcomes) (says : Refusal → Bool) (what : FailKind) (is : SaysOf says what) (place : List ℕ) where
   abbrev X : View
   X = view_over r.catalog run.openings nothing_told
 
@@ -226,7 +226,7 @@ count_either p q (x ∷ xs) =
     either false true = omega arith
     either false false = omega arith
 
--- so many lines of each worker for each that was counted, unless the count stands at its last value
+-- so many lines are no more than the workers times what was counted, unless the count stands at its last value
 abbrev UpTo : ℕ → ℕ → ℕ → Type 0
 UpTo workers lines counted = (2 ^ 64 - 1 ≤ counted) ⊎ (lines ≤ workers * counted)
 
@@ -299,7 +299,7 @@ sum_turned f place (u ∷ used) =
     let joined = sum_by-append f (used_at place (u ∷ [])) (used_at place used) in
     omega (arith, rest, turned, split, front, joined)
 
-module _ (r : Run) (outcomes : List LineOutcome) (run : IsRun r outcomes) (says : Refusal → Bool) (what : FailKind) (is : SaysOf says what) (place : List ℕ) where
+module _ (r : CatalogRun) (outcomes : List LineOutcome) (run : IsRun r outcomes) (says : Refusal → Bool) (what : FailKind) (is : SaysOf says what) (place : List ℕ) where
   -- a query that is refused at a place is refused for one of its sources
   found : (q : Inquiry) (x : Option QueryRefusal) → Contains run.ran.ran.queries q → q.refusal ≡ x
       → fails_at what (text_of r outcomes run says what is place) place q x ≡ true → fails_of what r.catalog place run.sources.places 0 q ≡ true
@@ -345,7 +345,7 @@ few_for workers lines sum before mid after earlier up first second = elim (cases
   ]
 ]
 
-pub refuses_few : (r : Run) (outcomes : List LineOutcome) → IsRun r outcomes → (place : List ℕ) → RefusesFew r outcomes place
+pub refuses_few : (r : CatalogRun) (outcomes : List LineOutcome) → IsRun r outcomes → (place : List ℕ) → RefusesFew r outcomes place
 refuses_few r outcomes run place =
     let b = run.ran.ran in
     let back = reverse (put_back r.catalog run.sources.places run.now) in

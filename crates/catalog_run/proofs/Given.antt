@@ -1,25 +1,23 @@
 -- The open sources of a run gave no more than was asked of them.
-use Rattle.std.proofs.Common.{◌≡◌, ℕ, ◌+◌, ◌-◌, ◌^◌, ◌<◌, ◌≤◌, min, List, [], ◌∷◌, All, Contains, length, reverse, refl, sym, ap, ◌∙◌, subst, arith}
-use Rattle.std.specs.Prelude.{AllPairs}
+use Rattle.std.proofs.Common.{◌≡◌, ℕ, ◌+◌, ◌-◌, ◌^◌, ◌<◌, ◌≤◌, min, List, [], ◌∷◌, length, reverse, refl, ap, ◌∙◌, subst, arith}
 use Rattle.std.specs.List.{sum_by}
 use Rattle.std.proofs.lemmas.List.Sums.{sum_by-cons}
 use Rattle.topk_theory.proofs.AgreementLists.{all_from_members}
 use Rattle.source_api.specs.declared.counts.Counts.{Counts}
 use Rattle.source_api.specs.Counting.{added, no_counts, raised}
-use Rattle.source_state.specs.State.{State, IsSound}
+use Rattle.source_state.specs.State.{State, IsSound, state_at}
 use Rattle.source_state.specs.Looking.{reach_of}
 use Rattle.query_world.specs.declared.inquiry.Inquiry.{Inquiry}
-use Rattle.query_world.specs.Worlds.{state_at}
 use Rattle.fetcher.specs.Metering.{WentUp}
 use Rattle.fetcher.proofs.ReachLaws.{reach_within}
 use Rattle.batch_run.specs.declared.settings.Settings.{Settings}
-use Rattle.batch_run.specs.Numbered.{counts_at, told_at}
+use Rattle.batch_run.specs.Numbered.{counts_at}
 use Rattle.batch_run.specs.declared.batch.Use.{Use}
-use Rattle.batch_run.specs.Batches.{IsClosing, size_at, use_at}
+use Rattle.batch_run.specs.Batches.{size_at, use_at}
 use Rattle.batch_run.specs.Using.{IsNamedBy, IsUsed}
 use Rattle.catalog_open.specs.Openings.{IsUnread, added_all, put_back, used_at}
 use Rattle.catalog_run.specs.declared.outcome.LineOutcome.{LineOutcome}
-use Rattle.catalog_run.specs.Runs.{Run, IsRun}
+use Rattle.catalog_run.specs.Runs.{CatalogRun, IsRun}
 use Rattle.catalog_run.specs.Giving.{GaveWhatIsAsked, RoseByGiven}
 use Rattle.catalog_run.proofs.FewLines.{sum_turned}
 
@@ -51,7 +49,7 @@ gave_used settings queries source size s before now used unread count sound is =
           (omega (arith, fits, small));
     }
 
-pub gave_what_is_asked : (r : Run) (outcomes : List LineOutcome) (run : IsRun r outcomes) → (source : ℕ) → source < length run.sources.places
+pub gave_what_is_asked : (r : CatalogRun) (outcomes : List LineOutcome) (run : IsRun r outcomes) → (source : ℕ) → source < length run.sources.places
     → GaveWhatIsAsked r.settings run.ran.ran.queries source (size_at run.sources.counts source) (counts_at run.now source)
 gave_what_is_asked r outcomes run source within =
     let b = run.ran.ran in
@@ -85,7 +83,7 @@ grades_sum c (x ∷ xs) =
 went_up : (number before mid after : ℕ) → raised mid 0 ≡ raised before 0 → min after (2 ^ 64 - 1) ≡ min (mid + number) (2 ^ 64 - 1) → WentUp number before after
 went_up number before mid after idle up = omega (arith, idle, up)
 
-pub rose_by_given : (r : Run) (outcomes : List LineOutcome) (run : IsRun r outcomes) → (place : List ℕ)
+pub rose_by_given : (r : CatalogRun) (outcomes : List LineOutcome) (run : IsRun r outcomes) → (place : List ℕ)
     → RoseByGiven (r.before place) (r.after place) (used_at place (put_back r.catalog run.sources.places run.now))
 rose_by_given r outcomes run place =
     let used = put_back r.catalog run.sources.places run.now in

@@ -14,8 +14,7 @@ use Rattle.topk_theory.proofs.AgreementLists.{contains_at, contains_here, contai
 use Rattle.access_log.specs.Log.{AgreesWith}
 use Rattle.access_log.specs.declared.answer.Answer.{Answer}
 use Rattle.cert_text.specs.declared.outcome.Outcome.TheVariants.{Answered}
-use Rattle.query_text.specs.declared.query.Query.{Query}
-use Rattle.source_state.specs.State.{IsSound, opened}
+use Rattle.source_state.specs.State.{opened, state_at}
 use Rattle.query_core.specs.declared.ready.Ready.{Ready as ReadyQuery}
 use Rattle.query_core.specs.Machines.{state_of}
 use Rattle.query_core.specs.OneAnswer.{IsOneAnswer}
@@ -28,24 +27,22 @@ use Rattle.query_admission.proofs.ReadyLists.{admitted_states}
 use Rattle.query_world.specs.declared.ended.Ended.{Ended}
 use Rattle.query_world.specs.declared.ended.Ended.TheVariants as ended
 use Rattle.query_world.specs.declared.inquiry.Inquiry.{Inquiry}
-use Rattle.query_world.specs.Worlds.{state_at, source_of}
+use Rattle.query_world.specs.Worlds.{source_of}
 use Rattle.query_world.specs.Endings.{EndsAs, IsRight}
 use Rattle.query_world.specs.Honest.{HasTable as HasQueryTable, lists_of}
 use Rattle.query_world.specs.Kept.{IsServed, IsSourceOf}
 use Rattle.query_world.specs.Made.{IsOf}
 use Rattle.fetcher.specs.Telling.{TellsOf}
-use Rattle.batch_run.specs.Batches.{BatchState, IsBatch, Run as BatchRun}
-use Rattle.batch_run.proofs.Places.{same_at}
-use Rattle.batch_run.proofs.TableLaws.{told_agrees}
+use Rattle.batch_run.proofs.TableLaws.{states_sound, told_agrees}
 use Rattle.catalog_open.specs.declared.opened.Opening.{Opening}
 use Rattle.catalog_open.specs.declared.opened.Opening.TheVariants.{Closed, Open}
-use Rattle.catalog_open.specs.Views.{entry_at, opening_at, place_of, said_of, listed_at, told_of, view_over, nothing_told, line_over}
+use Rattle.catalog_open.specs.Views.{entry_at, opening_at, place_of, said_of, listed_at, entry_told, view_over, nothing_told, line_over}
 use Rattle.catalog_open.specs.Wanted.{IsWanted}
 use Rattle.catalog_open.specs.Openings.{IsOpening, IsSource, IsToldAs}
 use Rattle.catalog_run.specs.declared.outcome.LineOutcome.{LineOutcome}
 use Rattle.catalog_run.specs.Answers.{IsOneOverTold}
 use Rattle.catalog_run.specs.Outcomes.{ended_outcome, look_refusal}
-use Rattle.catalog_run.specs.Runs.{Run, IsRun, IsLineRefused, IsLineRun, AreOutcomes, batch_over}
+use Rattle.catalog_run.specs.Runs.{CatalogRun, IsRun, IsLineRefused, IsLineRun, AreOutcomes, batch_over}
 use Rattle.catalog_run.specs.Told.{view_told}
 use Rattle.catalog_run.proofs.Becoming.{served_all}
 use Rattle.catalog_run.proofs.Right.{never_answered, refused_answered, same_answer}
@@ -75,13 +72,7 @@ own_rows told (x ∷ ls) [] list tell l = absurd tell
 own_rows told (x ∷ ls) (d ∷ D) zero tell l = tell.0 ∙ ap Some (sym (rows_at_source told x.source d tell.0))
 own_rows told (x ∷ ls) (d ∷ D) (suc list) tell l = own_rows told ls D list tell.1 (omega (arith, l))
 
--- the closing states of a batch are sound
-states_sound : (b : BatchRun) (batch : BatchState) (ran : IsBatch b batch) → All IsSound ran.states
-states_sound b batch ran k d l =
-    let many = ran.many in
-    subst IsSound (same_at ran.states k (opened 0 0) d l) (ran.closing k (omega (arith, l, many))).sound
-
-module _ (r : Run) (outcomes : List LineOutcome) (run : IsRun r outcomes) where
+module _ (r : CatalogRun) (outcomes : List LineOutcome) (run : IsRun r outcomes) where
   abbrev Y : View
   Y = view_over r.catalog run.openings nothing_told
 
@@ -93,7 +84,7 @@ module _ (r : Run) (outcomes : List LineOutcome) (run : IsRun r outcomes) where
   lists = map rows_of run.sources.told
 
   -- the source of a place that tells rows tells them
-  tells_rows : (place n : ℕ) (rows : List Row) → told_of r.lists r.catalog place ≡ Some rows → (said place).size ≡ Some n
+  tells_rows : (place n : ℕ) (rows : List Row) → entry_told r.lists r.catalog place ≡ Some rows → (said place).size ≡ Some n
       → slice_index_or run.sources.told (said place).source None ≡ Some rows
   tells_rows place n rows told sized = by (opening_at run.openings place) refl sized
     where
@@ -124,10 +115,10 @@ module _ (r : Run) (outcomes : List LineOutcome) (run : IsRun r outcomes) where
   tell_rows (name ∷ names) (l ∷ ls) (d ∷ D) n known told sizes =
       let here : option_map said (place_of r.catalog name) ≡ Some l = cc in
       let rest : map (by_place r.catalog said) names ≡ map Some ls = cc in
-      let told_here : option_and_then (told_of r.lists r.catalog) (place_of r.catalog name) ≡ Some d = cc in
+      let told_here : option_and_then (entry_told r.lists r.catalog) (place_of r.catalog name) ≡ Some d = cc in
       let told_rest : map (view_told r.catalog r.lists).told names ≡ map Some D = cc in
       let one = some_place said (place_of r.catalog name) l here in
-      let rows : told_of r.lists r.catalog one.0 ≡ Some d = sym (ap (option_and_then (told_of r.lists r.catalog)) one.1) ∙ told_here in
+      let rows : entry_told r.lists r.catalog one.0 ≡ Some d = sym (ap (option_and_then (entry_told r.lists r.catalog)) one.1) ∙ told_here in
       let sized : (said one.0).size ≡ Some n = subst (λ (k : Listed). k.size ≡ Some n) one.2 (sizes 0 (omega arith)) in (
         subst (λ (k : Listed). slice_index_or run.sources.told k.source None ≡ Some d) (sym one.2) (tells_rows one.0 n d rows sized),
         tell_rows names ls D n rest told_rest (λ place h. sizes (suc place) (omega (arith, h))),

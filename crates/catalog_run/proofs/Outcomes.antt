@@ -7,7 +7,7 @@ use Rattle.query_text.specs.declared.query.Query.{Query}
 use Rattle.query_core.specs.declared.ready.Ready.{Ready as ReadyQuery}
 use Rattle.query_admission.specs.View.{View}
 use Rattle.query_admission.specs.Causes.{admission_causes}
-use Rattle.query_admission.specs.Admission.{IsRefused}
+use Rattle.query_admission.specs.Admission.{RefusesLine}
 use Rattle.query_world.specs.declared.ended.Ended.{Ended}
 use Rattle.query_world.specs.declared.inquiry.Inquiry.{Inquiry}
 use Rattle.query_world.specs.Made.{IsOf}
@@ -49,13 +49,13 @@ pub right_fit : (view : View) (number : ℕ) (lines : List (List ℕ)) (stages :
 right_fit view number lines stages readies endings are right = admitted_fit view number lines stages readies endings are (zip_long readies endings right)
 
 refused_here : (view : View) (number : ℕ) (bytes : List ℕ) (o : LineOutcome) (refusal : Refusal) (query : Option Query)
-    → IsRefused admission_causes (line_over view number bytes) refusal query
+    → RefusesLine admission_causes (line_over view number bytes) refusal query
     → o ≡ record { query = query; count = 0; outcome = IsRefusedNow refusal } → IsLineRefused view number bytes o
 refused_here view number bytes o refusal query is e = record {
   refusal = refusal;
   outcome = ap (λ (p : LineOutcome). p.outcome) e;
   count = ap (λ (p : LineOutcome). p.count) e;
-  refused = subst (IsRefused admission_causes (line_over view number bytes) refusal) (sym (ap (λ (p : LineOutcome). p.query) e)) is;
+  refused = subst (RefusesLine admission_causes (line_over view number bytes) refusal) (sym (ap (λ (p : LineOutcome). p.query) e)) is;
 }
 
 -- the outcomes of the lines

@@ -1,5 +1,5 @@
 -- The lists that the sources of a run tell, and that they form the tables of the queries.
-use Rattle.std.proofs.Common.{◌≡◌, ℕ, zero, suc, ◌+◌, ◌<◌, ◌≤◌, List, [], ◌∷◌, All, Contains, map, length, inl, inr, Option, None, Some, is_none, option_map, unwrap_or, slice_get, slice_index_or, refl, sym, ap, ◌∙◌, subst, arith}
+use Rattle.std.proofs.Common.{◌≡◌, ℕ, zero, suc, ◌+◌, ◌<◌, ◌≤◌, List, [], ◌∷◌, All, Contains, map, length, Option, None, Some, is_none, option_map, unwrap_or, slice_get, slice_index_or, refl, sym, ap, ◌∙◌, subst, arith}
 use Rattle.std.specs.Prelude.{Ok}
 use Rattle.std.specs.Option.{option_and_then}
 use Rattle.std.proofs.lemmas.Option.{same_Some}
@@ -10,7 +10,7 @@ use Rattle.topk_theory.proofs.AgreementLists.{contains_here, contains_there, all
 use Rattle.query_text.specs.declared.query.Query.{Query}
 use Rattle.query_text.specs.Reading.{Reads}
 use Rattle.query_core.specs.declared.ready.Ready.{Ready as ReadyQuery}
-use Rattle.query_admission.specs.View.{View, count_of}
+use Rattle.query_admission.specs.View.{count_of}
 use Rattle.query_admission.specs.Causes.{most_queries, admission_causes}
 use Rattle.query_admission.specs.Admission.{IsAdmitted}
 use Rattle.query_admission.specs.declared.lists.Listed.{Listed}
@@ -18,18 +18,18 @@ use Rattle.query_world.specs.declared.inquiry.Inquiry.{Inquiry}
 use Rattle.query_world.specs.Made.{IsOf}
 use Rattle.query_world.specs.Honest.{HasTable as HasQueryTable, IsOnItsRun}
 use Rattle.query_world.proofs.Stepping.{zip_member}
-use Rattle.batch_run.specs.Batches.{BatchState, IsBatch, Run as BatchRun}
+use Rattle.batch_run.specs.Batches.{BatchState, IsBatch, BatchRun}
 use Rattle.catalog_text.specs.Catalog.{Listed as Entry}
 use Rattle.catalog_open.specs.declared.opened.Opening.{Opening}
 use Rattle.catalog_open.specs.declared.opened.Opening.TheVariants.{Closed, Open}
-use Rattle.catalog_open.specs.Views.{entry_at, opening_at, place_of, said_of, listed_at, told_of, view_over, nothing_told, line_over}
+use Rattle.catalog_open.specs.Views.{entry_at, opening_at, place_of, said_of, listed_at, entry_told, view_over, nothing_told, line_over}
 use Rattle.catalog_open.specs.Wanted.{IsWanted}
 use Rattle.catalog_open.specs.Openings.{Sources, IsOpening, IsSource, IsToldAs, IsNumbered}
 use Rattle.catalog_open.proofs.Marking.{places_within}
 use Rattle.catalog_open.proofs.Moving.{moves_at, puts_moves, trouble_on}
 use Rattle.catalog_run.specs.declared.outcome.LineOutcome.{LineOutcome}
-use Rattle.catalog_run.specs.Runs.{Run, IsRun, IsReadyOf, batch_over}
-use Rattle.catalog_run.specs.Told.{told_listed, view_told, TellsTables}
+use Rattle.catalog_run.specs.Runs.{CatalogRun, IsRun, IsReadyOf, batch_over}
+use Rattle.catalog_run.specs.Told.{told_listed, view_told, ShelfTellsTables}
 use Rattle.catalog_run.proofs.Alike.{plain, Alike, none_alike, unseen_rows}
 pub use Rattle.catalog_run.proofs.Readies.{admitted_few}
 use Rattle.catalog_run.proofs.Whole.{open_wanted}
@@ -146,19 +146,19 @@ rows_at_source (o ∷ os) zero rows e = let is : o ≡ Some rows = e in ap rows_
 rows_at_source (o ∷ os) (suc source) rows e = rows_at_source os source rows e
 
 -- a source that tells the rows of a place and is open
-pub record IsToldOpen (r : Run) (openings : List Opening) (s : Sources) (place : ℕ) : Type 0 where
+pub record IsToldOpen (r : CatalogRun) (openings : List Opening) (s : Sources) (place : ℕ) : Type 0 where
   pub rows : List Row
-  pub told : told_of r.lists r.catalog place ≡ Some rows
+  pub told : entry_told r.lists r.catalog place ≡ Some rows
   pub source : ℕ
   pub opens : opening_at openings place ≡ Open (length rows) source
   pub tells : slice_index_or s.told source None ≡ Some rows
 
 -- the rows that are told of a place
-abbrev pub rows_at : Run → ℕ → List Row
-rows_at r place = rows_of (told_of r.lists r.catalog place)
+abbrev pub rows_at : CatalogRun → ℕ → List Row
+rows_at r place = rows_of (entry_told r.lists r.catalog place)
 
 -- the lists of a query that is ready, where they form a table
-pub record HasLists (r : Run) (lists : List (List Row)) (ready : ReadyQuery) : Type 0 where
+pub record HasLists (r : CatalogRun) (lists : List (List Row)) (ready : ReadyQuery) : Type 0 where
   pub D : List (List Row)
   pub told : map (view_told r.catalog r.lists).told ready.query.names ≡ map Some D
   pub is : D ≡ map (list_at lists) ready.sources.items
@@ -175,24 +175,24 @@ rows_counted says rows (p ∷ ps) n count sizes counted sized =
     sym long ∙ same_Some (length (rows p)) count (sym (sizes p (contains_here p ps)) ∙ here)
 
 told_once_at : (lists : List ℕ → Option (List Row)) (catalog : List Entry) (o : Option ℕ) (place : ℕ) (rows : List Row) → o ≡ Some place
-    → told_of lists catalog place ≡ Some rows → option_and_then (told_of lists catalog) o ≡ Some rows
-told_once_at lists catalog o place rows is told = ap (option_and_then (told_of lists catalog)) is ∙ told
+    → entry_told lists catalog place ≡ Some rows → option_and_then (entry_told lists catalog) o ≡ Some rows
+told_once_at lists catalog o place rows is told = ap (option_and_then (entry_told lists catalog)) is ∙ told
 
 pub names_told : (lists : List ℕ → Option (List Row)) (catalog : List Entry) (names : List (List ℕ)) (places : List ℕ)
     → map (place_of catalog) names ≡ map Some places
-    → ((place : ℕ) → Contains places place → told_of lists catalog place ≡ Some (rows_of (told_of lists catalog place)))
-    → map (view_told catalog lists).told names ≡ map Some (map (λ place. rows_of (told_of lists catalog place)) places)
+    → ((place : ℕ) → Contains places place → entry_told lists catalog place ≡ Some (rows_of (entry_told lists catalog place)))
+    → map (view_told catalog lists).told names ≡ map Some (map (λ place. rows_of (entry_told lists catalog place)) places)
 names_told lists catalog [] [] e told = refl
 names_told lists catalog [] (p ∷ ps) e told = absurd cc
 names_told lists catalog (n ∷ ns) [] e told = absurd cc
 names_told lists catalog (n ∷ ns) (p ∷ ps) e told =
     let here : place_of catalog n ≡ Some p = cc in
     let rest : map (place_of catalog) ns ≡ map Some ps = cc in
-    let rows = rows_of (told_of lists catalog p) in
+    let rows = rows_of (entry_told lists catalog p) in
     ap (λ o. o ∷ map (view_told catalog lists).told ns) (told_once_at lists catalog (place_of catalog n) p rows here (told p (contains_here p ps)))
     ∙ ap (λ os. Some rows ∷ os) (names_told lists catalog ns ps rest (λ q c. told q (contains_there p ps q c)))
 
-module _ (r : Run) (outcomes : List LineOutcome) (run : IsRun r outcomes) (tells : TellsTables r) where
+module _ (r : CatalogRun) (outcomes : List LineOutcome) (run : IsRun r outcomes) (tells : ShelfTellsTables r) where
   -- each source that the lines want is open and tells the rows of its place
   pub told_open : (place : ℕ) → IsWanted r.catalog r.lines place → IsToldOpen r run.openings run.sources place
   told_open place wanted =

@@ -9,7 +9,7 @@ use Rattle.cert_text.specs.declared.outcome.Outcome.{Outcome}
 use Rattle.cert_text.specs.declared.outcome.Outcome.TheVariants.{Answered, Refused}
 use Rattle.cert_text.specs.Outcome.{IsOutcome}
 use Rattle.query_core.specs.declared.ready.Ready.{Ready}
-use Rattle.source_state.specs.State.{State}
+use Rattle.source_state.specs.State.{State, state_at}
 use Rattle.source_state.specs.declared.look.LookFault.{LookFault}
 use Rattle.source_state.specs.declared.look.LookFault.TheVariants as look
 use Rattle.source_state.specs.declared.entry.SourceFault.{SourceFault}
@@ -26,7 +26,7 @@ use Rattle.query_world.specs.Causes.{IsCause, IsOfList}
 use Rattle.query_world.specs.Endings.{EndsAs, IsRight}
 use Rattle.query_world.specs.Kept.{IsServed}
 use Rattle.query_world.specs.Made.{IsOf}
-use Rattle.query_world.specs.Worlds.{state_at, needed, source_needed, list_needed}
+use Rattle.query_world.specs.Worlds.{needed, source_needed, list_needed}
 use Rattle.query_world.proofs.Serving.{listed, of_some_list}
 use Rattle.query_core.specs.Machines.{state_of}
 use Rattle.ranked_list.specs.declared.need.Need.{Need}

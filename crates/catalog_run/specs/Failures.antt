@@ -14,7 +14,7 @@ use Rattle.catalog_text.specs.Catalog.{Listed as Entry}
 use Rattle.catalog_open.specs.Views.{entry_at, place_of}
 use Rattle.catalog_open.specs.Openings.{Counted, TroubleAt}
 use Rattle.catalog_run.specs.declared.outcome.LineOutcome.{LineOutcome}
-use Rattle.catalog_run.specs.Runs.{Run}
+use Rattle.catalog_run.specs.Runs.{CatalogRun}
 
 -- the place on the shelf of a list of a query, by the entry of its name
 abbrev pub place_at : List Entry → Query → ℕ → Option (List ℕ)
@@ -37,7 +37,7 @@ HasRisen before mid after other = Unit {0}
 
 -- the outcome comes with the query that has this list, and in a run whose sources had been opened when so much was counted the count behind the
 -- refusal rose at the list's place
-pub record HasFailedAt (r : Run) (mid : Counted) (o : LineOutcome) (refusal : Refusal) (list : ℕ) : Type 0 where
+pub record HasFailedAt (r : CatalogRun) (mid : Counted) (o : LineOutcome) (refusal : Refusal) (list : ℕ) : Type 0 where
   pub query : Query
   pub query_is : o.query ≡ Some query
   pub place : List ℕ
@@ -45,7 +45,7 @@ pub record HasFailedAt (r : Run) (mid : Counted) (o : LineOutcome) (refusal : Re
   pub risen : HasRisen (r.before place) (mid place) (r.after place) refusal
 
 -- where a line is refused for a list that wasn't opened, failed or was garbled, the count behind that rose: in the opening, or in the running
-abbrev pub HasFailure : Run → Counted → LineOutcome → Type 0
+abbrev pub HasFailure : CatalogRun → Counted → LineOutcome → Type 0
 HasFailure r mid o =
     (refusal : Refusal) (list : ℕ) → o.outcome ≡ Refused refusal → failed_list refusal ≡ Some list → HasFailedAt r mid o refusal list
 
@@ -72,12 +72,13 @@ refused_at catalog says place query (Refused refusal) =
 abbrev pub is_refused_at : List Entry → (Refusal → Bool) → List ℕ → LineOutcome → Bool
 is_refused_at catalog says place o = refused_at catalog says place o.query o.outcome
 
--- of so many lines each worker has no more than a count rose, unless the count stands at its last value
+-- so many lines are no more than the workers times what a count rose by, unless the count stands at its last value
 abbrev pub AreFew : (workers lines before now : ℕ) → Type 0
 AreFew workers lines before now = (2 ^ 64 - 1 ≤ now) ⊎ (lines ≤ workers * (now - before))
 
--- a call of a source of this place that failed refuses one line of each worker at most, and so does one that was answered by garbled data
-pub record RefusesFew (r : Run) (outcomes : List LineOutcome) (place : List ℕ) : Type 0 where
+-- the lines that are refused because a call of a source of this place failed are no more than the workers times such calls, and so are those that are
+-- refused because one was answered by garbled data
+pub record RefusesFew (r : CatalogRun) (outcomes : List LineOutcome) (place : List ℕ) : Type 0 where
   pub failed : AreFew r.settings.workers (count_by (is_refused_at r.catalog says_failed place) outcomes)
       (r.before place).sources.faults (r.after place).sources.faults
   pub garbled : AreFew r.settings.workers (count_by (is_refused_at r.catalog says_garbled place) outcomes)

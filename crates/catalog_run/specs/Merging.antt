@@ -1,6 +1,6 @@
 -- The outcomes of lines, in order, from what refused them before they ran and from how the queries of the others ended.
 use Rattle.std.specs.Prelude.{◌≡◌, List, [], ◌∷◌, ◌++◌, Some}
-use Rattle.cert_text.specs.declared.outcome.Outcome.TheVariants.{Refused as IsRefused}
+use Rattle.cert_text.specs.declared.outcome.Outcome.TheVariants.{Refused as RefusedAs}
 use Rattle.query_core.specs.declared.ready.Ready.{Ready as ReadyQuery}
 use Rattle.query_world.specs.declared.ended.Ended.{Ended}
 use Rattle.catalog_open.specs.declared.admissions.Stage.{Stage}
@@ -26,13 +26,13 @@ abbrev pub Merges : List Stage → List ReadyQuery → List Ended → List LineO
 Merges [] [] [] outcomes = outcomes ≡ []
 Merges (stage ∷ stages) readies endings [] = ⊥
 Merges (Refused refusal query ∷ stages) readies endings (o ∷ outcomes) =
-    (o ≡ record { query = query; count = 0; outcome = IsRefused refusal }) × Merges stages readies endings outcomes
+    (o ≡ record { query = query; count = 0; outcome = RefusedAs refusal }) × Merges stages readies endings outcomes
 Merges (Ready ∷ stages) (ready ∷ readies) (ended ∷ endings) (o ∷ outcomes) = IsEndedAs ready ended o × Merges stages readies endings outcomes
 Merges _ _ _ _ = ⊥
 
 -- the outcome of a line that came to this before it ran; the queries that are ready and the endings stand in the opposite order
 abbrev pub Nexts : Stage → (before after : List ReadyQuery) → (endings others : List Ended) → LineOutcome → Type 0
 Nexts (Refused refusal query) before after endings others o =
-    (o ≡ record { query = query; count = 0; outcome = IsRefused refusal }) × (after ≡ before) × (others ≡ endings)
+    (o ≡ record { query = query; count = 0; outcome = RefusedAs refusal }) × (after ≡ before) × (others ≡ endings)
 Nexts Ready before after endings others o =
     (ready : ReadyQuery) × (ended : Ended) × (before ≡ after ++ ready ∷ []) × (endings ≡ others ++ ended ∷ []) × IsEndedAs ready ended o

@@ -10,13 +10,13 @@ use Rattle.cert_text.specs.Outcome.{IsOutcome}
 use Rattle.query_core.specs.declared.ready.Ready.{Ready}
 use Rattle.query_admission.specs.View.{View}
 use Rattle.query_admission.specs.Causes.{admission_causes}
-use Rattle.query_admission.specs.Admission.{IsRefused, IsAdmitted}
+use Rattle.query_admission.specs.Admission.{RefusesLine, IsAdmitted}
 use Rattle.query_world.specs.declared.ended.Ended.{Ended}
 use Rattle.query_world.specs.declared.inquiry.Inquiry.{Inquiry}
 use Rattle.query_world.specs.Made.{IsOf, IsReadyFor}
 use Rattle.query_world.specs.Endings.{EndsAs, IsRight}
 use Rattle.batch_run.specs.declared.settings.Settings.{Settings}
-use Rattle.batch_run.specs.Batches.{BatchState, IsBatch, Run as BatchRun}
+use Rattle.batch_run.specs.Batches.{BatchState, IsBatch, BatchRun}
 use Rattle.catalog_text.specs.Catalog.{Listed as Entry}
 use Rattle.catalog_open.specs.declared.opened.Opening.{Opening}
 use Rattle.catalog_open.specs.Views.{view_over, line_over, nothing_told}
@@ -30,7 +30,7 @@ pub record IsLineRefused (view : View) (number : ℕ) (bytes : List ℕ) (o : Li
   pub refusal : Refusal
   pub outcome : o.outcome ≡ Refused refusal
   pub count : o.count ≡ 0
-  pub refused : IsRefused admission_causes (line_over view number bytes) refusal o.query
+  pub refused : RefusesLine admission_causes (line_over view number bytes) refusal o.query
 
 -- the line is ready, this is its query as it stood at its end, and the outcome is how that ended: right where it is answered, and else refused as the query is
 pub record IsLineRun (view : View) (query : Inquiry) (number : ℕ) (bytes : List ℕ) (o : LineOutcome) : Type 0 where
@@ -64,7 +64,7 @@ pub record IsReadyOf (view : View) (lines : List (List ℕ)) (ready : Ready) : T
   pub admitted : IsAdmitted (line_over view (at + 1) bytes) ready
 
 -- a run of query lines over a catalog: the lists that are told at the places of the shelf, the settings, and what the shelf counted before and afterwards
-pub record Run : Type 0 where
+pub record CatalogRun : Type 0 where
   pub catalog : List Entry
   pub lines : List (List ℕ)
   pub lists : List ℕ → Option (List Row)
@@ -91,7 +91,7 @@ pub record RanOver (settings : Settings) (s : Sources) (begun now : List Counts)
 
 -- the sources that the lines want were opened, which reads nothing of them, and the lines ran over them; then the open sources were put back with what they
 -- had counted
-pub record IsRun (r : Run) (outcomes : List LineOutcome) : Type 0 where
+pub record IsRun (r : CatalogRun) (outcomes : List LineOutcome) : Type 0 where
   pub openings : List Opening
   pub sources : Sources
   pub mid : Counted

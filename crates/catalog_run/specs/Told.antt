@@ -10,25 +10,25 @@ use Rattle.query_admission.specs.Causes.{QueryLine, admission_causes, Gives, Non
 use Rattle.query_admission.specs.Becomes.{Becomes}
 use Rattle.query_admission.specs.declared.lists.Listed.{Listed}
 use Rattle.catalog_text.specs.Catalog.{Listed as Entry}
-use Rattle.catalog_open.specs.Views.{entry_at, place_of, told_of, line_over}
+use Rattle.catalog_open.specs.Views.{entry_at, place_of, entry_told, line_over}
 use Rattle.catalog_open.specs.Wanted.{IsWanted}
 use Rattle.catalog_open.specs.Openings.{TroubleAt}
 use Rattle.catalog_run.specs.declared.outcome.LineOutcome.{LineOutcome}
-use Rattle.catalog_run.specs.Runs.{Run}
+use Rattle.catalog_run.specs.Runs.{CatalogRun}
 
 -- what the list at a place of a catalog says of itself, by its rows: it has as many objects as rows
 abbrev pub told_listed : (List ℕ → Option (List Row)) → List Entry → ℕ → Listed
-told_listed lists catalog place = record { size = option_map length (told_of lists catalog place); random = (entry_at catalog place).random; source = place }
+told_listed lists catalog place = record { size = option_map length (entry_told lists catalog place); random = (entry_at catalog place).random; source = place }
 
 -- the lists of a catalog by name, where the shelf tells them
 abbrev pub view_told : List Entry → (List ℕ → Option (List Row)) → View
 view_told catalog lists = record {
   listed = λ name. option_map (told_listed lists catalog) (place_of catalog name);
-  told = λ name. option_and_then (told_of lists catalog) (place_of catalog name);
+  told = λ name. option_and_then (entry_told lists catalog) (place_of catalog name);
 }
 
 -- a line of a run, over the lists that are told
-abbrev pub told_line : Run → ℕ → List ℕ → QueryLine
+abbrev pub told_line : CatalogRun → ℕ → List ℕ → QueryLine
 told_line r number bytes = line_over (view_told r.catalog r.lists) number bytes
 
 -- if nothing refuses the line before it runs, the lists of its query form a table
@@ -38,8 +38,8 @@ LineHasTable x = (query : Query) (D : List (List Row)) → NoneOf (Gives x) admi
 
 -- the sources tell tables: each that the lines want tells its list, the lists of each line that nothing refuses before it runs form a
 -- table, and no call that takes one of these sources, and none of a source, failed or was answered by garbled data
-pub record TellsTables (r : Run) : Type 0 where
-  pub told : (place : ℕ) → IsWanted r.catalog r.lines place → (rows : List Row) × (told_of r.lists r.catalog place ≡ Some rows)
+pub record ShelfTellsTables (r : CatalogRun) : Type 0 where
+  pub told : (place : ℕ) → IsWanted r.catalog r.lines place → (rows : List Row) × (entry_told r.lists r.catalog place ≡ Some rows)
   pub tables : (at : ℕ) (bytes : List ℕ) → slice_get r.lines at ≡ Some bytes → LineHasTable (told_line r (at + 1) bytes)
   pub untroubled : (place : ℕ) → IsWanted r.catalog r.lines place
       → ¬ TroubleAt (r.before (entry_at r.catalog place).place) (r.after (entry_at r.catalog place).place)

@@ -17,7 +17,7 @@ use Rattle.topk_theory.proofs.AgreementRows.{list_at_length}
 use Rattle.query_core.specs.declared.ready.Ready.{Ready}
 use Rattle.query_core.proofs.ListCount.{lists_counted}
 use Rattle.query_admission.specs.View.{AreListed, AreTold, count_of}
-use Rattle.query_admission.specs.Admission.{IsAdmitted, IsRefused}
+use Rattle.query_admission.specs.Admission.{IsAdmitted, RefusesLine}
 use Rattle.query_admission.specs.declared.lists.Listed.{Listed}
 use Rattle.access_log.specs.declared.answer.Answer.{Answer}
 use Rattle.query_text.specs.declared.query.Query.{Query}
@@ -29,7 +29,7 @@ use Rattle.query_core.specs.Driving.{AnswersOver}
 use Rattle.query_admission.specs.Causes.{admission_causes}
 use Rattle.query_admission.proofs.Becoming.{answered_line, full_line, refused_line, answered_writable, refused_writable}
 use Rattle.topk_top.specs.Outcomes.{BecomesOf, IsLineOf}
-use Rattle.topk_top.specs.Bundled.{place_of, listed_at, bundle_view, bundle_line, lists_at}
+use Rattle.topk_top.specs.Bundled.{bundle_place, bundle_listed, bundle_view, bundle_line, lists_at}
 
 -- a name is looked up alike among the bytes of names
 looked_up_from : (names : List (Vec ℕ)) (name : List ℕ)
@@ -61,14 +61,14 @@ record IsPlaced (c : Content) (n : ℕ) (list : Listed) : Type 0 where
   size : list.size ≡ Some n
 
 placed : (c : Content) (n : ℕ) (name : List ℕ) (list : Listed) → IsBundle c → IsTable n c.lists → (bundle_view c).listed name ≡ Some list → IsPlaced c n list
-placed c n name list bundle table e = at_place (place_of c name) refl e
+placed c n name list bundle table e = at_place (bundle_place c name) refl e
   where
-    at_place : (p : Option ℕ) → place_of c name ≡ p → option_map (listed_at c) p ≡ Some list → IsPlaced c n list
+    at_place : (p : Option ℕ) → bundle_place c name ≡ p → option_map (bundle_listed c) p ≡ Some list → IsPlaced c n list
     at_place None is e = absurd cc
     at_place (Some place) is e =
         let named : place < length c.names = (position-Some (λ other. bytes_eq other name) c.names place [] is).0 in
         let within : place < length c.lists = omega (arith, named, bundle.each_named) in
-        let same : listed_at c place ≡ list = cc in
+        let same : bundle_listed c place ≡ list = cc in
         let long : length (list_at c.lists place) ≡ n = list_at_length n c.lists place table within in
         subst (IsPlaced c n) same (record { within = within; size = ap Some long })
 
@@ -83,10 +83,10 @@ all_placed c n (name ∷ names) (list ∷ lists) bundle table e =
     (placed c n name list bundle table here, all_placed c n names lists bundle table rest)
 
 -- the lists that are told are those at the places of what was found
-told_there : (c : Content) (p : Option ℕ) (list : Listed) → option_map (listed_at c) p ≡ Some list
+told_there : (c : Content) (p : Option ℕ) (list : Listed) → option_map (bundle_listed c) p ≡ Some list
     → option_map (list_at c.lists) p ≡ Some (list_at c.lists list.source)
 told_there c None list e = absurd cc
-told_there c (Some place) list e = let same : listed_at c place ≡ list = cc in ap (λ (l : Listed). Some (list_at c.lists l.source)) same
+told_there c (Some place) list e = let same : bundle_listed c place ≡ list = cc in ap (λ (l : Listed). Some (list_at c.lists l.source)) same
 
 all_told : (c : Content) (names : List (List ℕ)) (lists : List Listed) → map (bundle_view c).listed names ≡ map Some lists
     → map (bundle_view c).told names ≡ map Some (lists_at c (map (λ list. list.source) lists))
@@ -96,7 +96,7 @@ all_told c (name ∷ names) [] e = absurd cc
 all_told c (name ∷ names) (list ∷ lists) e =
     let here : (bundle_view c).listed name ≡ Some list = cc in
     let rest : map (bundle_view c).listed names ≡ map Some lists = cc in
-    ap (λ o. o ∷ map (bundle_view c).told names) (told_there c (place_of c name) list here) ∙ ap (λ os. Some (list_at c.lists list.source) ∷ os) (all_told c names lists rest)
+    ap (λ o. o ∷ map (bundle_view c).told names) (told_there c (bundle_place c name) list here) ∙ ap (λ os. Some (list_at c.lists list.source) ∷ os) (all_told c names lists rest)
 
 -- the count of lists that each state n is n
 count_same : (lists : List Listed) (n count : ℕ) → AllByRecursion (λ list. list.size ≡ Some n) lists → count_of lists ≡ Some count → count ≡ n
@@ -141,10 +141,10 @@ lists_many c ready admitted = length-map ready.sources.items (list_at c.lists) �
 
 -- a name is found where it stands in the bundle's content
 pub found_at : (bundle : Bundle) (name : List ℕ) (names : List (Vec ℕ)) (p : Option ℕ) → names ≡ bundle.names.items
-    → p ≡ position (λ other. bytes_eq other.items name) names → place_of (content bundle) name ≡ p
+    → p ≡ position (λ other. bytes_eq other.items name) names → bundle_place (content bundle) name ≡ p
 found_at bundle name names p same e = looked_up bundle.names.items name ∙ (ap (position (λ other. bytes_eq other.items name)) (sym same) ∙ sym e)
 
-pub listed_here : (c : Content) (name : List ℕ) (place size : ℕ) (rows : List Row) → IsBundle c → place_of c name ≡ Some place
+pub listed_here : (c : Content) (name : List ℕ) (place size : ℕ) (rows : List Row) → IsBundle c → bundle_place c name ≡ Some place
     → rows ≡ slice_index_or c.lists place rows → size ≡ length rows
     → Some (record { size = Some size; random = true; source = place }) ≡ (bundle_view c).listed name
 listed_here c name place size rows bundle found read long =
@@ -152,7 +152,7 @@ listed_here c name place size rows bundle found read long =
     let within : place < length c.lists = omega (arith, named, bundle.each_named) in
     let same : rows ≡ list_at c.lists place = get_or_read c.lists place rows within read [] in
     let stated : size ≡ length (list_at c.lists place) = long ∙ ap length same in
-    ap (λ n. Some (record { size = Some n; random = true; source = place })) stated ∙ ap (option_map (listed_at c)) (sym found)
+    ap (λ n. Some (record { size = Some n; random = true; source = place })) stated ∙ ap (option_map (bundle_listed c)) (sym found)
 
 -- what becomes of a query that is ready, over the lists at its places
 pub becomes_answered : (c : Content) (ready : Ready) (D : List (List Row)) (answer : Answer) → IsAdmitted (bundle_line c) ready
@@ -170,7 +170,7 @@ becomes_full c ready D room admitted same over = record {
 }
 
 -- what becomes of a line that admission refuses
-pub line_refused : (c : Content) (refusal : Refusal) (query : Option Query) → IsRefused admission_causes (bundle_line c) refusal query
+pub line_refused : (c : Content) (refusal : Refusal) (query : Option Query) → RefusesLine admission_causes (bundle_line c) refusal query
     → IsLineOf c (record { query = query; count = 0; outcome = Refused refusal })
 line_refused c refusal query refused = record {
   becomes = refused_line (bundle_line c) refusal query 0 refused;

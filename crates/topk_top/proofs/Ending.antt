@@ -1,5 +1,5 @@
 -- A call that comes to its text ends with it, or with a write fault.
-use Rattle.std.proofs.Common.{◌≡◌, ◌≤◌, ◌+◌, ℕ, List, [], length, arith, Option, Some, None, Result, Ok, Err, OnOk, OnErr, MatchResult, inl, inr, refl, sym, subst}
+use Rattle.std.proofs.Common.{◌≡◌, ℕ, List, [], arith, Option, Some, None, Result, Ok, Err, OnOk, OnErr, MatchResult, inl, inr, refl, sym, subst}
 use Rattle.std.specs.Io.KnownBytes.{Appends, Consumes, Keeps}
 use Rattle.std.proofs.KnownBytes.{Consumes-kept, Consumes-nil}
 use Rattle.tk_io.specs.declared.Failed.{Failed}
@@ -19,9 +19,9 @@ use Rattle.command_words.specs.declared.command.Command.{Command}
 use Rattle.command_words.specs.declared.command.Command.TheVariants.{One, Judge, Make, Run, Bulk}
 use Rattle.topk_top.specs.Judge.{JudgeReplies, told_status}
 use Rattle.topk_top.specs.Reply.{Replies, outcome_status, words_refused_text}
-use Rattle.topk_top.specs.Calls.{Call, Output, Outside, KeepsShelf, LeftAlone, ReadSome, ReadWhole, WroteNothing, WroteWhole, input_limit}
+use Rattle.topk_top.specs.Calls.{Call, Output, Outside, KeepsShelf, LeftAlone, ReadSome, ReadWhole, WroteNothing, WroteWhole}
 use Rattle.topk_top.specs.Shelves.{Shelf}
-use Rattle.topk_top.specs.Ends.{EndsAs, EndsReading, EndsRefused, Ends, Says}
+use Rattle.topk_top.specs.Ends.{CommandEnds, EndsReading, EndsRefused, CallEnds, Says}
 use Rattle.topk_top.specs.declared.status.Status.{Status}
 use Rattle.topk_top.specs.declared.status.Status.TheVariants.{Done, Partial, BadWords, WriteFault, Memory}
 use Rattle.topk_top.proofs.RunEnding.{asks_kept}
@@ -102,7 +102,7 @@ pub read_all : (c : Call) (bytes : List ℕ) → ReadWhole c bytes → ReadSome 
 read_all c bytes read = let within = read.given.within in record { given = (bytes, omega (arith, within), read.given.given); faults = read.faults }
 
 -- memory may be wanting before the words are known
-pub ends_without_memory : (command : Option Command) (c : Call) → KeepsShelf c → LeftAlone c → WroteNothing c → EndsAs command c Memory
+pub ends_without_memory : (command : Option Command) (c : Call) → KeepsShelf c → LeftAlone c → WroteNothing c → CommandEnds command c Memory
 ends_without_memory None c kept alone nothing = (kept, (alone, nothing))
 ends_without_memory (Some One) c kept alone nothing = (kept, (read_none c alone, nothing))
 ends_without_memory (Some Judge) c kept alone nothing = (kept, (read_none c alone, nothing))
@@ -111,8 +111,8 @@ ends_without_memory (Some (Bulk options)) c kept alone nothing = (kept, (alone, 
 ends_without_memory (Some (Run options)) c kept alone nothing = inl (asks_kept options.catalog c.before.shelf c.after.shelf kept, alone, nothing)
 
 -- a call ends as its command does
-pub ends_as : (command : Option Command) (c : Call) (status : Status) → command_of c.words ≡ command → EndsAs command c status → Ends c status
-ends_as command c status is ends = subst (λ o. EndsAs o c status) (sym is) ends
+pub ends_as : (command : Option Command) (c : Call) (status : Status) → command_of c.words ≡ command → CommandEnds command c status → CallEnds c status
+ends_as command c status is ends = subst (λ o. CommandEnds o c status) (sym is) ends
 
 -- a text that was written, or wasn't, is said
 abbrev pub out_at : Option (List ℕ) → ℕ → Output

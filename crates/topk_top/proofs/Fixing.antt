@@ -30,7 +30,7 @@ use Rattle.cert_judge.specs.declared.told.Told.{Told}
 use Rattle.cert_judge.specs.declared.told.Told.TheVariants.{BadLine, Inconsistent, WildGuess, WrongSize, UnseenAnswer, Figure, Fixes as IsFixed, Beaten}
 use Rattle.cert_judge.specs.Transcripts.{log_of, front}
 use Rattle.cert_judge.specs.Figures.{HasItsFigures, item_figures}
-use Rattle.cert_judge.specs.Judging.{TellsOf}
+use Rattle.cert_judge.specs.Judging.{TellsOfCertificate}
 use Rattle.topk_top.proofs.Honest.{tame_by, seen_by, bounded_by, IsRunOn}
 
 -- the certificate is of a transcript that fixes its answer, with its figures
@@ -56,7 +56,7 @@ front_consistent c place some = (
       (subst (λ A. Agrees (list_count c.query.expr) c.count some.0 A) (sym (take-append-drop place c.accesses)) some.1),
 )
 
-pub only_fixed : (c : Certificate) (told : Told) → IsFixedBy c → TellsOf c told → told ≡ IsFixed
+pub only_fixed : (c : Certificate) (told : Told) → IsFixedBy c → TellsOfCertificate c told → told ≡ IsFixed
 only_fixed c (BadLine line) is h = absurd h
 only_fixed c (Inconsistent at kind) is h = absurd (h.with_it (front_consistent c at is.consistent))
 only_fixed c (WildGuess at) is h = let guess = h.judged.guess in absurd (no_wild c.accesses (at - 1) guess.0 is.fair.tame guess.1 guess.2)

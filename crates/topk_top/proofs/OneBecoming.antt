@@ -1,5 +1,5 @@
 -- A line becomes one text over lists whose rows are told.
-use Rattle.std.proofs.Common.{◌≡◌, ℕ, suc, ◌+◌, ◌<◌, Bool, true, false, List, [], ◌∷◌, ◌++◌, map, length, All, Contains, Option, Some, None, IfSome, is_none, Ok, Err, inl, inr, refl, sym, ap, ◌∙◌, subst, arith}
+use Rattle.std.proofs.Common.{◌≡◌, ℕ, ◌+◌, ◌<◌, List, [], ◌∷◌, ◌++◌, map, length, All, Option, Some, None, IfSome, is_none, Ok, inl, inr, refl, sym, ap, ◌∙◌, subst, arith}
 use Rattle.std.specs.Prelude.{◌⊎◌}
 use Rattle.std.specs.List.{flat_map, position}
 use Rattle.std.specs.Fmt.{decimal}
@@ -29,14 +29,14 @@ use Rattle.cert_text.specs.Certificate.{certificate_lines}
 use Rattle.cert_text.specs.Refusal.{Field, refusal_row, field_word, lists_in, refused_lists}
 use Rattle.cert_text.specs.Outcome.{names_of, refused_words, refused_line, outcome_text}
 use Rattle.query_core.specs.OneAnswer.{IsOneAnswer, one_run, one_items}
-use Rattle.query_admission.specs.View.{AreListed, AreTold, differs, size_at, count_of}
+use Rattle.query_admission.specs.View.{AreListed, AreTold, differs, size_stated, count_of}
 use Rattle.query_admission.specs.Causes.{QueryLine, Cause, line_causes, text_refusal, Over, ListsGive, Gives, NoneOf, IsFirstOf}
-use Rattle.query_admission.specs.Admission.{IsRefused}
+use Rattle.query_admission.specs.Admission.{RefusesLine}
 use Rattle.query_admission.specs.Becomes.{AnswersLine, Becomes}
 use Rattle.query_admission.specs.declared.lists.Listed.{Listed}
 use Rattle.query_admission.proofs.Admitting.{read_once, lists_once}
 use Rattle.topk_top.specs.Running.{is_answer}
-use Rattle.topk_top.proofs.OneReading.{GoesOn, two_splits, fault_once}
+use Rattle.topk_top.proofs.OneReading.{two_splits, fault_once}
 
 -- what holds over the lists of a line's query holds over the same ones
 over_both : (x : QueryLine) (P Q : Query → List Listed → Type 0) → (h : Over x P) → Over x Q → Q h.query h.lists
@@ -50,12 +50,12 @@ lists_give_once : (q : Query) (lists : List Listed) (cause : Cause) (r s : Refus
 lists_give_once q lists Cause.not_opened r s (l, is, at) (m, same, place) = is ∙ ap (λ n. NotOpened n) (same_Some l m (sym at ∙ place)) ∙ sym same
 lists_give_once q lists Cause.too_large r s (l, n, is, at, size) (m, o, same, place, other) =
     let list : l ≡ m = same_Some l m (sym at ∙ place) in
-    let count : n ≡ o = same_Some n o (sym size ∙ ap (λ k. size_at lists k) list ∙ other) in
+    let count : n ≡ o = same_Some n o (sym size ∙ ap (λ k. size_stated lists k) list ∙ other) in
     is ∙ (λ i. TooLarge (list i) (count i)) ∙ sym same
 lists_give_once q lists Cause.counts_differ r s (n, l, m, is, count, at, size) (o, k, p, same, other, place, large) =
     let first : n ≡ o = same_Some n o (sym count ∙ other) in
     let list : l ≡ k = same_Some l k (sym at ∙ (ap (λ c. position (differs c) lists) first ∙ place)) in
-    let second : m ≡ p = same_Some m p (sym size ∙ ap (λ j. size_at lists j) list ∙ large) in
+    let second : m ≡ p = same_Some m p (sym size ∙ ap (λ j. size_stated lists j) list ∙ large) in
     is ∙ (λ i. CountsDiffer 0 (first i) (list i) (second i)) ∙ sym same
 lists_give_once q lists Cause.k_above_count r s (n, is, count, above) (m, same, other, more) =
     is ∙ ap (λ c. KAboveCount q.k c) (same_Some n m (sym count ∙ other)) ∙ sym same
@@ -136,7 +136,7 @@ unfolding outcome_text
 refused_text number None count r = refl
 refused_text number (Some query) count r = refl
 
-refused_once : (x : QueryLine) (causes : List Cause) (number : ℕ) (p q : Option Query) (c d : ℕ) (r s : Refusal) → IsRefused causes x r p → IsRefused causes x s q
+refused_once : (x : QueryLine) (causes : List Cause) (number : ℕ) (p q : Option Query) (c d : ℕ) (r s : Refusal) → RefusesLine causes x r p → RefusesLine causes x s q
     → outcome_text number p c (Refused r) ≡ outcome_text number q d (Refused s)
 refused_once x causes number p q c d r s one two =
     let same : s ≡ r = first_once x causes s r two.first one.first in

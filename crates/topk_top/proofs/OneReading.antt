@@ -1,5 +1,5 @@
 -- A line is refused for one fault of its text at most.
-use Rattle.std.proofs.Common.{◌≡◌, ℕ, suc, ◌+◌, ◌<◌, ◌≤◌, List, [], ◌∷◌, ◌++◌, length, take, drop, Some, Err, inl, inr, refl, sym, ap, ◌∙◌, subst, arith, append_assoc, length-append}
+use Rattle.std.proofs.Common.{◌≡◌, ℕ, ◌+◌, ◌<◌, ◌≤◌, List, [], ◌∷◌, ◌++◌, length, take, drop, Err, inl, inr, refl, sym, ap, ◌∙◌, subst, arith, append_assoc, length-append}
 use Rattle.std.specs.Prelude.{◌⊎◌}
 use Rattle.std.specs.Str.{bytes_eq}
 use Rattle.std.proofs.lemmas.Bool.{cases_lt}
@@ -7,19 +7,18 @@ use Rattle.std.proofs.lemmas.List.{take-append-drop, take-take}
 use Rattle.std.proofs.lemmas.Option.{same_Some}
 use Rattle.monotone_fn.specs.Tree.{Tree}
 use Rattle.monotone_fn.specs.Limits.{Makes}
-use Rattle.monotone_fn.specs.declared.fault.ExprFault.{ExprFault}
 use Rattle.monotone_fn.specs.declared.fault.ExprFault.TheVariants as trees
 use Rattle.query_text.specs.Pieces.{Piece, IsInRange, AreInRange, AreFine, names_in, each_once, lists_in, text_of, IsNumberFault, IsNameFault}
 use Rattle.query_text.specs.Shape.{SyntaxTree, IsShape, IsText, BeginsQuery, IsSyntaxFault, pieces_of, spelled}
 use Rattle.query_text.specs.Query.{printed, shape_of}
-use Rattle.query_text.specs.Reading.{Reads, Spells, HasFault, IsTreeRefused}
+use Rattle.query_text.specs.Reading.{Reads, Spells}
 use Rattle.query_text.specs.declared.query.Query.{Query}
 use Rattle.query_text.specs.declared.fault.QueryFault.{QueryFault}
 use Rattle.query_text.specs.declared.fault.QueryFault.TheVariants as faults
 use Rattle.query_text.proofs.StateLaws.{names_in-append, once-append, once-extends}
 use Rattle.query_text.proofs.CompleteLaws.{one_shape}
 use Rattle.query_text.proofs.BackLaws.{printed_same, lawful_shape, no_number_fault, no_name_fault}
-use Rattle.limits.specs.declared.TheConstants.{MAX_LINE, MAX_LISTS}
+use Rattle.limits.specs.declared.TheConstants.{MAX_LINE}
 
 -- a list that goes on behind a member
 pub record GoesOn {A : Type 0} (front : List A) (x : A) (whole : List A) : Type 0 where

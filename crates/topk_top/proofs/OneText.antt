@@ -1,20 +1,16 @@
 -- The lines of a run come to one text over lists that are told.
-use Rattle.std.proofs.Common.{◌≡◌, ℕ, suc, ◌+◌, Bool, true, false, List, [], ◌∷◌, ◌++◌, map, All, Contains, Option, Some, Ok, slice_get, refl, sym, ap, ◌∙◌, subst, arith}
+use Rattle.std.proofs.Common.{◌≡◌, ℕ, suc, ◌+◌, List, [], ◌∷◌, ◌++◌, map, Contains, Some, slice_get, refl, sym, ap, ◌∙◌, subst, arith}
 use Rattle.std.specs.List.{list_all}
 use Rattle.std.specs.Prelude.{◌&&◌, if◌then◌else◌}
 use Rattle.std.proofs.lemmas.List.Elements.{Contains-append_left}
-use Rattle.ranked_list.specs.declared.row.Row.{Row}
 use Rattle.topk_theory.proofs.AgreementLists.{all_from_members, member_of_all}
-use Rattle.query_text.specs.Reading.{Reads}
 use Rattle.cert_text.specs.declared.refusal.Refusal.{Refusal}
-use Rattle.cert_text.specs.Outcome.{outcome_text}
 use Rattle.query_admission.specs.View.{View}
 use Rattle.query_admission.specs.Causes.{QueryLine, Cause, admission_causes, line_causes, Gives, NoneOf}
-use Rattle.catalog_text.specs.Catalog.{Listed as Entry}
-use Rattle.catalog_open.specs.Views.{told_of, line_over}
+use Rattle.catalog_open.specs.Views.{entry_told, line_over}
 use Rattle.catalog_run.specs.declared.outcome.LineOutcome.{LineOutcome}
-use Rattle.catalog_run.specs.Runs.{Run}
-use Rattle.catalog_run.specs.Told.{AllBecome, TellsTables, told_listed, view_told}
+use Rattle.catalog_run.specs.Runs.{CatalogRun}
+use Rattle.catalog_run.specs.Told.{AllBecome, ShelfTellsTables, told_listed, view_told}
 use Rattle.catalog_run.proofs.ToldLists.{rows_of, known_places, named_wanted, admitted_few, names_told}
 use Rattle.topk_top.specs.Running.{is_answer, outcomes_text, run_status}
 use Rattle.topk_top.specs.RunLaws.{ComeTo}
@@ -54,7 +50,7 @@ texts_once view number (bytes ∷ lines) (o ∷ outcomes) (u ∷ others) rows on
     (λ i. here.0 i ++ rest.0 i, λ i. here.1 i && rest.1 i)
 
 -- the lines of a run whose sources tell tables have their rows
-module _ (r : Run) (tells : TellsTables r) where
+module _ (r : CatalogRun) (tells : ShelfTellsTables r) where
   has_rows : (at : ℕ) (bytes : List ℕ) → slice_get r.lines at ≡ Some bytes → HasRows (line_over (view_told r.catalog r.lists) (at + 1) bytes)
   has_rows at bytes line = record {
     rows = λ q lists none reads listed.
@@ -65,11 +61,11 @@ module _ (r : Run) (tells : TellsTables r) where
         (Contains-append_left admission_causes (Cause.room_full ∷ []) c m)) in
         let few = admitted_few view (at + 1) bytes admitted in
         let h = known_places r.catalog (told_listed r.lists r.catalog) q.names lists listed in
-        let told : (place : ℕ) → Contains h.places place → told_of r.lists r.catalog place ≡ Some (rows_of (told_of r.lists r.catalog place)) =
+        let told : (place : ℕ) → Contains h.places place → entry_told r.lists r.catalog place ≡ Some (rows_of (entry_told r.lists r.catalog place)) =
         λ place named.
         let its = tells.told place (named_wanted r.catalog r.lines at bytes q h.places line few reads h.known place named) in
         its.1 ∙ ap (λ o. Some (rows_of o)) (sym its.1) in
-        (map (λ place. rows_of (told_of r.lists r.catalog place)) h.places, names_told r.lists r.catalog q.names h.places h.known told);
+        (map (λ place. rows_of (entry_told r.lists r.catalog place)) h.places, names_told r.lists r.catalog q.names h.places h.known told);
   }
 
   -- what they come to is one

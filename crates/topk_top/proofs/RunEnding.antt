@@ -22,7 +22,7 @@ use Rattle.csv_records.specs.Records.{records_of}
 use Rattle.catalog_text.specs.Judging.{Judges}
 use Rattle.catalog_text.specs.declared.catalog.CatalogFault.{CatalogFault}
 use Rattle.catalog_text.specs.declared.catalog.CatalogFault.TheVariants.{CatalogLine, SameName, Memory as NoMemory}
-use Rattle.topk_top.specs.RunEnds.{CatalogRefused, LinesReplied, RunsOver, RunsOn, EndsRunning}
+use Rattle.topk_top.specs.RunEnds.{CatalogRefused, LinesReplied, RunsOverCatalog, RunsOn, EndsRunning}
 use Rattle.topk_top.specs.Ends.{Says}
 use Rattle.topk_top.specs.Outcomes.{SaysFault}
 use Rattle.topk_top.specs.declared.status.Status.{Status}
@@ -84,15 +84,15 @@ takes_none catalog lines s = record {
 
 -- what is said of a text that is no catalog ends so
 pub ends_no_catalog : (s : RunSettings) (text said : List ℕ) (c : Call) (result : Status) → CatalogRefused text c said
-    → Says c.before.output c.after.output said BadCatalog result → RunsOver s text c result
+    → Says c.before.output c.after.output said BadCatalog result → RunsOverCatalog s text c result
 ends_no_catalog s text said c result refused says = elim says [
-  | inl whole ↦ subst (RunsOver s text c) (sym whole.0) (said, refused, record { held = whole.1; faults = whole.2 })
-  | inr front ↦ subst (RunsOver s text c) (sym front.0) (said, inl refused, record { held = front.1; faults = front.2 })
+  | inl whole ↦ subst (RunsOverCatalog s text c) (sym whole.0) (said, refused, record { held = whole.1; faults = whole.2 })
+  | inr front ↦ subst (RunsOverCatalog s text c) (sym front.0) (said, inl refused, record { held = front.1; faults = front.2 })
 ]
 
 -- a text that should be a catalog ends so for its fault
 pub ends_at_fault : (s : RunSettings) (text : List ℕ) (c : Call) (fault : CatalogFault) (result : Status) → Judges (records_of text) (Err fault) → KeepsShelf c
-    → LeftAlone c → SaysFault c.before.output c.after.output fault result → RunsOver s text c result
+    → LeftAlone c → SaysFault c.before.output c.after.output fault result → RunsOverCatalog s text c result
 ends_at_fault s text c (CatalogLine line) result judged kept alone says =
     ends_no_catalog s text (catalog_refused_text (codes "CatalogLine") line) c result
     (record { refuses = inl (record { number = line; first = judged; said_is = refl }); shelf = kept; alone = alone }) says
@@ -100,23 +100,23 @@ ends_at_fault s text c (SameName line) result judged kept alone says =
     ends_no_catalog s text (catalog_refused_text (codes "SameName") line) c result
     (record { refuses = inr (record { number = line; first = judged; said_is = refl }); shelf = kept; alone = alone }) says
 ends_at_fault s text c NoMemory result judged kept alone says =
-    subst (RunsOver s text c) (sym says.0) (inl (kept, alone), record { held = says.1; faults = says.2 })
+    subst (RunsOverCatalog s text c) (sym says.0) (inl (kept, alone), record { held = says.1; faults = says.2 })
 
 -- a reply to lines that was written whole ends with its status
 ends_whole : (s : RunSettings) (text said : List ℕ) (c : Call) (outcomes : List LineOutcome) → LinesReplied s text c (run_status outcomes) said
-    → WroteWhole c said → RunsOver s text c (run_status outcomes)
+    → WroteWhole c said → RunsOverCatalog s text c (run_status outcomes)
 ends_whole s text said c outcomes replied wrote = elim (is_run_status outcomes) [
-  | inl done ↦ subst (RunsOver s text c) (sym done) (said, subst (λ status. LinesReplied s text c status said) done replied, wrote)
-  | inr partial ↦ subst (RunsOver s text c) (sym partial) (said, subst (λ status. LinesReplied s text c status said) partial replied, wrote)
+  | inl done ↦ subst (RunsOverCatalog s text c) (sym done) (said, subst (λ status. LinesReplied s text c status said) done replied, wrote)
+  | inr partial ↦ subst (RunsOverCatalog s text c) (sym partial) (said, subst (λ status. LinesReplied s text c status said) partial replied, wrote)
 ]
 
 -- what is said in reply to lines ends so
 pub ends_lines : (s : RunSettings) (text said : List ℕ) (c : Call) (outcomes : List LineOutcome) (result : Status)
     → LinesReplied s text c (run_status outcomes) said
-    → Says c.before.output c.after.output said (run_status outcomes) result → RunsOver s text c result
+    → Says c.before.output c.after.output said (run_status outcomes) result → RunsOverCatalog s text c result
 ends_lines s text said c outcomes result replied says = elim says [
-  | inl whole ↦ subst (RunsOver s text c) (sym whole.0) (ends_whole s text said c outcomes replied (record { held = whole.1; faults = whole.2 }))
-  | inr front ↦ subst (RunsOver s text c) (sym front.0) (said, inr (run_status outcomes, replied), record { held = front.1; faults = front.2 })
+  | inl whole ↦ subst (RunsOverCatalog s text c) (sym whole.0) (ends_whole s text said c outcomes replied (record { held = whole.1; faults = whole.2 }))
+  | inr front ↦ subst (RunsOverCatalog s text c) (sym front.0) (said, inr (run_status outcomes, replied), record { held = front.1; faults = front.2 })
 ]
 
 -- a run over the catalog's text ends as the run does

@@ -13,15 +13,15 @@ use Rattle.catalog_open.specs.Openings.{TroubleAt}
 use Rattle.catalog_open.specs.Views.{entry_at}
 use Rattle.command_words.specs.declared.running.RunOptions.{RunOptions}
 use Rattle.command_words.specs.declared.running.RunSettings.{RunSettings}
-use Rattle.catalog_run.specs.Told.{AllBecome, TellsTables, view_told}
+use Rattle.catalog_run.specs.Told.{AllBecome, ShelfTellsTables, view_told}
 use Rattle.catalog_run.specs.declared.outcome.LineOutcome.{LineOutcome}
-use Rattle.catalog_run.specs.Runs.{Run, IsRun}
+use Rattle.catalog_run.specs.Runs.{CatalogRun, IsRun}
 use Rattle.topk_top.specs.Calls.{Call, WroteWhole}
 use Rattle.topk_top.specs.Shelves.{Shelf, AsksText, GivesText}
-use Rattle.topk_top.specs.Running.{run_by}
+use Rattle.topk_top.specs.Running.{lines_run}
 use Rattle.topk_top.specs.RunEnds.{EndsRunning, LinesReplied, from_shelf}
 use Rattle.topk_top.specs.RunLaws.{TellsAll, ComeTo, WritesTheOne, ToldRunsWriteTheOne, TellTheSame, WroteTheSame, SettingsChangeNothing}
-use Rattle.topk_top.specs.Ends.{Ends, EndsAs}
+use Rattle.topk_top.specs.Ends.{CommandEnds}
 use Rattle.topk_top.specs.declared.status.Status.{Status}
 use Rattle.topk_top.specs.declared.status.Status.TheVariants.{Done, Partial, BadWords, BadCatalog, ReadFault, WriteFault, OpenFault, PortFault, Memory, LongInput, BadInput}
 use Rattle.topk_top.proofs.OneText.{come_to_one}
@@ -47,11 +47,11 @@ trouble_at catalog before mid now place asked trouble = go (bytes_eq place catal
 
 -- the tables that are told before the catalog's text was asked for are told after that
 tells_since : (s : RunSettings) (catalog : List Entry) (ls : List (List ℕ)) (place : List ℕ) (before given after : Shelf) → AsksText place before given
-    → TellsTables (run_by s catalog ls before after) → TellsTables (run_by s catalog ls given after)
+    → ShelfTellsTables (lines_run s catalog ls before after) → ShelfTellsTables (lines_run s catalog ls given after)
 tells_since s catalog ls place before given after asked tells =
     let lists : before.lists ≡ given.lists = sym (λ i at. asked.tells.lists at i) in
-    let moved : TellsTables (run_by s catalog ls (record before { lists = given.lists }) after) =
-    subst (λ l. TellsTables (run_by s catalog ls (record before { lists = l }) after)) lists tells in
+    let moved : ShelfTellsTables (lines_run s catalog ls (record before { lists = given.lists }) after) =
+    subst (λ l. ShelfTellsTables (lines_run s catalog ls (record before { lists = l }) after)) lists tells in
     record {
       told = moved.told;
       tables = moved.tables;
@@ -60,7 +60,7 @@ tells_since s catalog ls place before given after asked tells =
 
 -- what lines come to where all is told
 abbrev pub ComeToOne : Type 0
-ComeToOne = (r : Run) (outcomes : List LineOutcome) → IsRun r outcomes → TellsTables r → AllBecome (view_told r.catalog r.lists) 1 r.lines outcomes
+ComeToOne = (r : CatalogRun) (outcomes : List LineOutcome) → IsRun r outcomes → ShelfTellsTables r → AllBecome (view_told r.catalog r.lists) 1 r.lines outcomes
 
 -- the reply to lines where all is told
 replied : ComeToOne → (o : RunOptions) (c : Call) (status : Status) (catalog : List Entry) (bytes text : List ℕ) (given : Shelf) (said : List ℕ)
@@ -71,12 +71,12 @@ replied one o c status catalog bytes text given said all gives r wrote =
     let same_catalog : r.replies.catalog ≡ catalog =
     one_catalog (records_of all.text) r.replies.catalog catalog (subst (λ t. IsCatalog (records_of t) r.replies.catalog) same_text r.replies.is) all.is in
     let same_bytes : r.bytes ≡ bytes = gave_told _ bytes r.bytes c.before.input.left c.after.input.left all.input r.read.given in
-    let tables : TellsTables (run_by o.settings r.replies.catalog (lines r.bytes) given c.after.shelf) =
-    subst (λ k. TellsTables (run_by o.settings k (lines r.bytes) given c.after.shelf)) (sym same_catalog)
-    (subst (λ b. TellsTables (run_by o.settings catalog (lines b) given c.after.shelf)) (sym same_bytes)
+    let tables : ShelfTellsTables (lines_run o.settings r.replies.catalog (lines r.bytes) given c.after.shelf) =
+    subst (λ k. ShelfTellsTables (lines_run o.settings k (lines r.bytes) given c.after.shelf)) (sym same_catalog)
+    (subst (λ b. ShelfTellsTables (lines_run o.settings catalog (lines b) given c.after.shelf)) (sym same_bytes)
     (tells_since o.settings catalog (lines bytes) o.catalog c.before.shelf given c.after.shelf gives.asked all.tables)) in
     let become : AllBecome (view_told r.replies.catalog given.lists) 1 (lines r.bytes) r.replies.outcomes =
-    one (run_by o.settings r.replies.catalog (lines r.bytes) given c.after.shelf) r.replies.outcomes r.replies.run tables in
+    one (lines_run o.settings r.replies.catalog (lines r.bytes) given c.after.shelf) r.replies.outcomes r.replies.run tables in
     let lists : given.lists ≡ c.before.shelf.lists = λ i at. gives.asked.tells.lists at i in
     let comes : ComeTo catalog c.before.shelf.lists (lines bytes) status said = record {
       outcomes = r.replies.outcomes;
@@ -91,7 +91,7 @@ replied one o c status catalog bytes text given said all gives r wrote =
       text = said;
       wrote = wrote;
       comes = comes;
-      only = λ other text them. come_to_one (run_by o.settings catalog (lines bytes) c.before.shelf c.after.shelf) all.tables status other said text comes them;
+      only = λ other text them. come_to_one (lines_run o.settings catalog (lines bytes) c.before.shelf c.after.shelf) all.tables status other said text comes them;
     }
 
 told_run : ComeToOne → (o : RunOptions) (c : Call) (status : Status) (catalog : List Entry) (bytes : List ℕ) → TellsAll o c catalog bytes
@@ -113,7 +113,7 @@ told_run one o c PortFault catalog bytes all h = absurd h
 told_run one o c BadInput catalog bytes all h = absurd h
 
 pub told_runs : ComeToOne → ToldRunsWriteTheOne
-told_runs one o c status catalog bytes all ends = told_run one o c status catalog bytes all (subst (λ command. EndsAs command c status) all.tells.words ends)
+told_runs one o c status catalog bytes all ends = told_run one o c status catalog bytes all (subst (λ command. CommandEnds command c status) all.tells.words ends)
 
 -- two runs over the same lists
 wrote_same : (o p : RunOptions) (c d : Call) (status other : Status) (catalog : List Entry) (bytes : List ℕ) → TellTheSame o p c d catalog bytes

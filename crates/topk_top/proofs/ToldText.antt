@@ -11,7 +11,7 @@ use Rattle.topk_top.specs.Shelves.{Shelf, GivesText}
 use Rattle.topk_top.specs.Running.{RefusesCatalog}
 use Rattle.topk_top.specs.RunEnds.{EndsRunning}
 use Rattle.topk_top.specs.RunLaws.{TurnsAway, WrongCatalogsAreRefused}
-use Rattle.topk_top.specs.Ends.{EndsAs}
+use Rattle.topk_top.specs.Ends.{CommandEnds}
 use Rattle.topk_top.specs.declared.status.Status.{Status}
 use Rattle.topk_top.specs.declared.status.Status.TheVariants.{Done, Partial, BadWords, BadCatalog, ReadFault, WriteFault, OpenFault, PortFault, Memory, LongInput, BadInput}
 
@@ -100,4 +100,4 @@ turned o c PortFault text told none h = absurd h
 turned o c BadInput text told none h = absurd h
 
 pub wrong_refused : WrongCatalogsAreRefused
-wrong_refused o c status text tells none ends = turned o c status text tells.told none (subst (λ command. EndsAs command c status) tells.words ends)
+wrong_refused o c status text tells none ends = turned o c status text tells.told none (subst (λ command. CommandEnds command c status) tells.words ends)

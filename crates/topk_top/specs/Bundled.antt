@@ -10,18 +10,18 @@ use Rattle.query_admission.specs.Causes.{QueryLine}
 use Rattle.query_admission.specs.declared.lists.Listed.{Listed}
 
 -- where a name stands in a bundle
-abbrev pub place_of : Content → List ℕ → Option ℕ
-place_of c name = position (λ other. bytes_eq other name) c.names
+abbrev pub bundle_place : Content → List ℕ → Option ℕ
+bundle_place c name = position (λ other. bytes_eq other name) c.names
 
 -- what the list at a place says of itself: the number of its rows, and that it offers random access
-abbrev pub listed_at : Content → ℕ → Listed
-listed_at c place = record { size = Some (length (list_at c.lists place)); random = true; source = place }
+abbrev pub bundle_listed : Content → ℕ → Listed
+bundle_listed c place = record { size = Some (length (list_at c.lists place)); random = true; source = place }
 
 -- the lists of a bundle by name: all are told, and all offer random access
 abbrev pub bundle_view : Content → View
 bundle_view c = record {
-  listed = λ name. option_map (listed_at c) (place_of c name);
-  told = λ name. option_map (list_at c.lists) (place_of c name);
+  listed = λ name. option_map (bundle_listed c) (bundle_place c name);
+  told = λ name. option_map (list_at c.lists) (bundle_place c name);
 }
 
 -- the query line of a bundle, which is line 1

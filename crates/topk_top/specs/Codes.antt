@@ -1,7 +1,8 @@
 -- The program's exit status.
 use Rattle.std.specs.Prelude.{ℕ}
 use Rattle.topk_top.specs.declared.status.Status.{Status}
-use Rattle.topk_top.specs.declared.status.Status.TheVariants.{Done, Partial, BadWords, BadCatalog, ReadFault, WriteFault, OpenFault, PortFault, Memory, LongInput, BadInput}
+use Rattle.topk_top.specs.declared.status.Status.TheVariants.{Done, Partial, BadWords, BadCatalog, BadInput, LongInput, Memory}
+use Rattle.topk_top.specs.declared.status.Status.TheVariants.{ReadFault, WriteFault, OpenFault, PortFault}
 
 -- the exit status of each end
 abbrev pub exit_code : Status → ℕ

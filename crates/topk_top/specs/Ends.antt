@@ -14,7 +14,8 @@ use Rattle.topk_top.specs.Made.{made_text}
 use Rattle.topk_top.specs.Reply.{Replies, words_refused_text}
 use Rattle.topk_top.specs.Judge.{JudgeReplies}
 use Rattle.topk_top.specs.declared.status.Status.{Status}
-use Rattle.topk_top.specs.declared.status.Status.TheVariants.{Done, Partial, BadWords, BadCatalog, ReadFault, WriteFault, OpenFault, PortFault, Memory, LongInput, BadInput}
+use Rattle.topk_top.specs.declared.status.Status.TheVariants.{Done, Partial, BadWords, BadCatalog, BadInput, LongInput, Memory}
+use Rattle.topk_top.specs.declared.status.Status.TheVariants.{ReadFault, WriteFault, OpenFault, PortFault}
 
 -- how words end that are no command
 abbrev pub EndsRefused : Call → Status → Type 0
@@ -67,21 +68,21 @@ EndsWriting text c LongInput = ⊥
 EndsWriting text c BadInput = ⊥
 
 -- how each command ends, and words that are none
-abbrev pub EndsAs : Option Command → Call → Status → Type 0
-EndsAs None c status = KeepsShelf c × EndsRefused c status
-EndsAs (Some One) c status = KeepsShelf c × EndsReading Replies c status
-EndsAs (Some Judge) c status = KeepsShelf c × EndsReading JudgeReplies c status
-EndsAs (Some (Make options)) c status = KeepsShelf c × EndsWriting (made_text options) c status
-EndsAs (Some (Run options)) c status = EndsRunning options c status
-EndsAs (Some (Bulk options)) c status = KeepsShelf c × EndsWriting (bulk_text options) c status
+abbrev pub CommandEnds : Option Command → Call → Status → Type 0
+CommandEnds None c status = KeepsShelf c × EndsRefused c status
+CommandEnds (Some One) c status = KeepsShelf c × EndsReading Replies c status
+CommandEnds (Some Judge) c status = KeepsShelf c × EndsReading JudgeReplies c status
+CommandEnds (Some (Make options)) c status = KeepsShelf c × EndsWriting (made_text options) c status
+CommandEnds (Some (Run options)) c status = EndsRunning options c status
+CommandEnds (Some (Bulk options)) c status = KeepsShelf c × EndsWriting (bulk_text options) c status
 
 -- how a call ends
-abbrev pub Ends : Call → Status → Type 0
-Ends c status = EndsAs (command_of c.words) c status
+abbrev pub CallEnds : Call → Status → Type 0
+CallEnds c status = CommandEnds (command_of c.words) c status
 
 -- the exit status tells how the call ended
 abbrev pub ExitsBy : Call → ℕ → Type 0
-ExitsBy c code = (status : Status) × Ends c status × (code ≡ exit_code status)
+ExitsBy c code = (status : Status) × CallEnds c status × (code ≡ exit_code status)
 
 -- a text was written whole with its status, or a front of it with a write fault
 abbrev pub Says : Output → Output → List ℕ → Status → Status → Type 0

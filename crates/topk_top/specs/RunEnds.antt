@@ -1,5 +1,5 @@
 -- How a run of query lines over a catalog ends, by its status.
-use Rattle.std.specs.Prelude.{◌≡◌, ◌⊎◌, List, ℕ}
+use Rattle.std.specs.Prelude.{◌⊎◌, List, ℕ}
 use Rattle.line_text.specs.Lines.{lines}
 use Rattle.csv_records.specs.Records.{records_of}
 use Rattle.catalog_text.specs.Catalog.{Listed as Entry, IsCatalog}
@@ -9,7 +9,8 @@ use Rattle.topk_top.specs.Calls.{Call, LeftAlone, KeepsShelf, ReadSome, ReadWhol
 use Rattle.topk_top.specs.Shelves.{Shelf, AsksText, GivesText, TextFailed, TakesSources}
 use Rattle.topk_top.specs.Running.{RefusesCatalog, RepliesToLines}
 use Rattle.topk_top.specs.declared.status.Status.{Status}
-use Rattle.topk_top.specs.declared.status.Status.TheVariants.{Done, Partial, BadWords, BadCatalog, ReadFault, WriteFault, OpenFault, PortFault, Memory, LongInput, BadInput}
+use Rattle.topk_top.specs.declared.status.Status.TheVariants.{Done, Partial, BadWords, BadCatalog, BadInput, LongInput, Memory}
+use Rattle.topk_top.specs.declared.status.Status.TheVariants.{ReadFault, WriteFault, OpenFault, PortFault}
 
 -- the text is no catalog, and this is said; no source was taken, and the input wasn't read
 pub record CatalogRefused (text : List ℕ) (c : Call) (said : List ℕ) : Type 0 where
@@ -42,18 +43,19 @@ abbrev pub WantsMemory : List ℕ → Call → Type 0
 WantsMemory text c = (KeepsShelf c × LeftAlone c) ⊎ ((CatalogStands text c × ReadSome c) ⊎ LinesLeft text c)
 
 -- how query lines end over the catalog that is this text, once the shelf gave it
-abbrev pub RunsOver : RunSettings → List ℕ → Call → Status → Type 0
-RunsOver s text c Done = (said : List ℕ) × LinesReplied s text c Done said × WroteWhole c said
-RunsOver s text c Partial = (said : List ℕ) × LinesReplied s text c Partial said × WroteWhole c said
-RunsOver s text c BadCatalog = (said : List ℕ) × CatalogRefused text c said × WroteWhole c said
-RunsOver s text c WriteFault = (said : List ℕ) × (CatalogRefused text c said ⊎ ((status : Status) × LinesReplied s text c status said)) × WroteFront c said
-RunsOver s text c ReadFault = CatalogStands text c × ReadFailed c × WroteNothing c
-RunsOver s text c LongInput = CatalogStands text c × ReadLong c × WroteNothing c
-RunsOver s text c Memory = WantsMemory text c × WroteNothing c
-RunsOver s text c BadWords = ⊥
-RunsOver s text c OpenFault = ⊥
-RunsOver s text c PortFault = ⊥
-RunsOver s text c BadInput = ⊥
+abbrev pub RunsOverCatalog : RunSettings → List ℕ → Call → Status → Type 0
+RunsOverCatalog s text c Done = (said : List ℕ) × LinesReplied s text c Done said × WroteWhole c said
+RunsOverCatalog s text c Partial = (said : List ℕ) × LinesReplied s text c Partial said × WroteWhole c said
+RunsOverCatalog s text c BadCatalog = (said : List ℕ) × CatalogRefused text c said × WroteWhole c said
+RunsOverCatalog s text c WriteFault =
+    (said : List ℕ) × (CatalogRefused text c said ⊎ ((status : Status) × LinesReplied s text c status said)) × WroteFront c said
+RunsOverCatalog s text c ReadFault = CatalogStands text c × ReadFailed c × WroteNothing c
+RunsOverCatalog s text c LongInput = CatalogStands text c × ReadLong c × WroteNothing c
+RunsOverCatalog s text c Memory = WantsMemory text c × WroteNothing c
+RunsOverCatalog s text c BadWords = ⊥
+RunsOverCatalog s text c OpenFault = ⊥
+RunsOverCatalog s text c PortFault = ⊥
+RunsOverCatalog s text c BadInput = ⊥
 
 -- what is left of a call from the moment on at which the shelf stood so
 abbrev pub from_shelf : Shelf → Call → Call
@@ -61,7 +63,8 @@ from_shelf shelf c = record c { before = record c.before { shelf = shelf } }
 
 -- the shelf gave the catalog's text, and then a run over it ended so
 abbrev pub RunsOn : RunOptions → Call → Status → Type 0
-RunsOn o c status = (text : List ℕ) × (given : Shelf) × GivesText o.catalog c.before.shelf given text × RunsOver o.settings text (from_shelf given c) status
+RunsOn o c status =
+    (text : List ℕ) × (given : Shelf) × GivesText o.catalog c.before.shelf given text × RunsOverCatalog o.settings text (from_shelf given c) status
 
 -- how a run of query lines over a catalog ends
 abbrev pub EndsRunning : RunOptions → Call → Status → Type 0

@@ -14,15 +14,16 @@ use Rattle.batch_run.specs.Numbered.{counts_at}
 use Rattle.batch_run.specs.Batches.{size_at}
 use Rattle.catalog_open.specs.Openings.{used_at, put_back}
 use Rattle.catalog_run.specs.declared.outcome.LineOutcome.{LineOutcome}
-use Rattle.catalog_run.specs.Told.{AllBecome, TellsTables, view_told}
+use Rattle.catalog_run.specs.Told.{AllBecome, ShelfTellsTables, view_told}
 use Rattle.catalog_run.specs.Failures.{RefusesFew}
 use Rattle.catalog_run.specs.Giving.{GaveWhatIsAsked, RoseByGiven}
 use Rattle.topk_top.specs.Calls.{Call, WroteWhole, input_limit}
 use Rattle.topk_top.specs.Shelves.{Shelf, TextFailed}
-use Rattle.topk_top.specs.Running.{RefusesCatalog, RepliesToLines, outcomes_text, run_by, run_status, settings_by}
-use Rattle.topk_top.specs.Ends.{Ends}
+use Rattle.topk_top.specs.Running.{RefusesCatalog, RepliesToLines, outcomes_text, lines_run, run_status, settings_by}
+use Rattle.topk_top.specs.Ends.{CallEnds}
 use Rattle.topk_top.specs.declared.status.Status.{Status}
-use Rattle.topk_top.specs.declared.status.Status.TheVariants.{Done, Partial, BadWords, BadCatalog, ReadFault, WriteFault, OpenFault, PortFault, Memory, LongInput, BadInput}
+use Rattle.topk_top.specs.declared.status.Status.TheVariants.{Done, Partial, BadWords, BadCatalog, BadInput, LongInput, Memory}
+use Rattle.topk_top.specs.declared.status.Status.TheVariants.{ReadFault, WriteFault, OpenFault, PortFault}
 
 -- the words are those of this run, and the shelf tells this text of its catalog's place
 pub record TellsCatalog (o : RunOptions) (c : Call) (text : List ℕ) : Type 0 where
@@ -47,7 +48,7 @@ TurnsAway text o c BadInput = ⊥
 abbrev pub WrongCatalogsAreRefused : Type 0
 WrongCatalogsAreRefused =
     (o : RunOptions) (c : Call) (status : Status) (text : List ℕ) → TellsCatalog o c text → ((catalog : List Entry) → ¬ IsCatalog (records_of text) catalog)
-    → Ends c status → TurnsAway text o c status
+    → CallEnds c status → TurnsAway text o c status
 
 -- all is told that a run reads, and nothing fails: its catalog's text, which is this catalog, the input, which is these bytes, within its limit, and by the
 -- sources that its lines want a table for each line; no count of the catalog's text, of the input or of the output rose
@@ -57,7 +58,7 @@ pub record TellsAll (o : RunOptions) (c : Call) (catalog : List Entry) (bytes : 
   pub is : IsCatalog (records_of text) catalog
   pub input : c.before.input.left ≡ Some bytes
   pub short : length bytes ≤ input_limit
-  pub tables : TellsTables (run_by o.settings catalog (lines bytes) c.before.shelf c.after.shelf)
+  pub tables : ShelfTellsTables (lines_run o.settings catalog (lines bytes) c.before.shelf c.after.shelf)
   pub opens : ¬ Rose (c.before.shelf.at o.catalog).text_faults (c.after.shelf.at o.catalog).text_faults
   pub reads : ¬ Rose c.before.input.faults c.after.input.faults
   pub writes : ¬ Rose c.before.output.faults c.after.output.faults
@@ -79,7 +80,7 @@ pub record WritesTheOne (c : Call) (catalog : List Entry) (bytes : List ℕ) (st
 -- where all is told and nothing fails, a run writes the one text, whatever its settings, unless memory is wanting
 abbrev pub ToldRunsWriteTheOne : Type 0
 ToldRunsWriteTheOne =
-    (o : RunOptions) (c : Call) (status : Status) (catalog : List Entry) (bytes : List ℕ) → TellsAll o c catalog bytes → Ends c status
+    (o : RunOptions) (c : Call) (status : Status) (catalog : List Entry) (bytes : List ℕ) → TellsAll o c catalog bytes → CallEnds c status
     → (status ≡ Memory) ⊎ WritesTheOne c catalog bytes status
 
 -- for two runs the same is told: of the same catalog and the same bytes, by shelves that tell the same lists
@@ -99,17 +100,18 @@ pub record WroteTheSame (c d : Call) (status other : Status) : Type 0 where
 abbrev pub SettingsChangeNothing : Type 0
 SettingsChangeNothing =
     (o p : RunOptions) (c d : Call) (status other : Status) (catalog : List Entry) (bytes : List ℕ) → TellTheSame o p c d catalog bytes
-    → Ends c status → Ends d other → (status ≡ Memory) ⊎ ((other ≡ Memory) ⊎ WroteTheSame c d status other)
+    → CallEnds c status → CallEnds d other → (status ≡ Memory) ⊎ ((other ≡ Memory) ⊎ WroteTheSame c d status other)
 
--- what stands behind the reply to lines: a source gave no more than the lines asked of it, from when it was opened until it was put back, and what the shelf
--- counted at a place rose by that; and a call of a source of a place that failed, or was answered by garbled data, refused one line of each worker at most
+-- what stands behind the reply to lines: a source gave no more than the lines asked of it, from when it was opened until it was put back, and what the
+-- shelf counted at a place rose by that; and the lines that were refused because calls of a place's sources failed, or were answered by garbled data, are
+-- no more than the workers times such calls
 pub record IsSparing (settings : RunSettings) (text bytes : List ℕ) (before after : Shelf) (status : Status) (said : List ℕ)
     (r : RepliesToLines settings text bytes before after status said) : Type 0 where
   pub gave : (source : ℕ) → source < length r.run.sources.places
       → GaveWhatIsAsked (settings_by settings) r.run.ran.ran.queries source (size_at r.run.sources.counts source) (counts_at r.run.now source)
   pub counted : (place : List ℕ)
       → RoseByGiven (before.at place) (after.at place) (used_at place (put_back r.catalog r.run.sources.places r.run.now))
-  pub refused : (place : List ℕ) → RefusesFew (run_by settings r.catalog (lines bytes) before after) r.outcomes place
+  pub refused : (place : List ℕ) → RefusesFew (lines_run settings r.catalog (lines bytes) before after) r.outcomes place
 
 -- each reply to lines is sparing, however many they are
 abbrev pub RepliesAreSparing : Type 0

@@ -14,7 +14,7 @@ use Rattle.cert_text.specs.Outcome.{outcome_text}
 use Rattle.command_words.specs.declared.running.RunSettings.{RunSettings}
 use Rattle.batch_run.specs.declared.settings.Settings.{Settings}
 use Rattle.catalog_run.specs.declared.outcome.LineOutcome.{LineOutcome}
-use Rattle.catalog_run.specs.Runs.{Run, IsRun}
+use Rattle.catalog_run.specs.Runs.{CatalogRun, IsRun}
 use Rattle.topk_top.specs.declared.status.Status.{Status}
 use Rattle.topk_top.specs.declared.status.Status.TheVariants.{Done, Partial}
 use Rattle.topk_top.specs.Shelves.{Shelf, TakesSources}
@@ -24,8 +24,8 @@ abbrev pub settings_by : RunSettings → Settings
 settings_by s = record { workers = s.workers; page = s.page; ahead = s.ahead }
 
 -- the run of lines over a catalog, by what the shelf was before and afterwards
-abbrev pub run_by : RunSettings → List Entry → List (List ℕ) → Shelf → Shelf → Run
-run_by settings catalog lines before after = record {
+abbrev pub lines_run : RunSettings → List Entry → List (List ℕ) → Shelf → Shelf → CatalogRun
+lines_run settings catalog lines before after = record {
   catalog = catalog;
   lines = lines;
   lists = before.lists;
@@ -69,6 +69,6 @@ pub record RepliesToLines (settings : RunSettings) (text bytes : List ℕ) (befo
   pub is : IsCatalog (records_of text) catalog
   pub takes : TakesSources catalog (lines bytes) before after
   pub outcomes : List LineOutcome
-  pub run : IsRun (run_by settings catalog (lines bytes) before after) outcomes
+  pub run : IsRun (lines_run settings catalog (lines bytes) before after) outcomes
   pub status_is : status ≡ run_status outcomes
   pub said_is : said ≡ outcomes_text 1 outcomes

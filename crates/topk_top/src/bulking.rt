@@ -28,7 +28,8 @@ pub(crate) fn bulk<W: Threads + Wait + Sync, K: Sink>(
 ) -> Status
     requires { AreBulkOptions options }
     ensures counts { K.faults out.old ≤ K.faults out.new }
-    ensures ends { (words : List (List ℕ)) (input : Input) (shelf : Shelf) → EndsWriting (bulk_text options) (call_at words (outside_of input (output_as K.held K.faults out.old) shelf)
+    ensures ends { (words : List (List ℕ)) (input : Input) (shelf : Shelf)
+        → EndsWriting (bulk_text options) (call_at words (outside_of input (output_as K.held K.faults out.old) shelf)
         (outside_of input (output_as K.held K.faults out.new) shelf)) result }
 {
     let Ok(sums) = sums_of(rt, alloc, options) else {

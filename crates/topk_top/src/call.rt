@@ -5,7 +5,7 @@ ghost use Rattle.cert_text.specs.Outcome.{IsOutcome, outcome_text};
 ghost use Rattle.topk_top.specs.Reply.{Replies, bundle_refused_text, outcome_status};
 ghost use Rattle.topk_top.specs.Shelves.{Shelf as AnyShelf};
 ghost use Rattle.topk_top.specs.Calls.{input_as, output_as, outside_of, call_at, call_of};
-ghost use Rattle.topk_top.specs.Ends.{Ends, EndsReading, Says};
+ghost use Rattle.topk_top.specs.Ends.{CallEnds, EndsReading, Says};
 ghost use Rattle.topk_top.specs.Outcomes.{reply_text, reply_status, IsWritable};
 
 use super::bulking::bulk;
@@ -54,7 +54,7 @@ pub fn top<W: Threads + Wait + Sync, H: Shelf, R: Intake, K: Sink>(
 ) -> Status
     ensures reads { R.faults input.old ≤ R.faults input.new }
     ensures writes { K.faults out.old ≤ K.faults out.new }
-    ensures ends { Ends (call_of R.left R.faults K.held K.faults H.texts H.lists H.at words.now
+    ensures ends { CallEnds (call_of R.left R.faults K.held K.faults H.texts H.lists H.at words.now
         (input.old, out.old, shelf.old) (input.new, out.new, shelf.new)) result }
 {
     match read_command(alloc, words) {

@@ -17,7 +17,8 @@ use tk_io::Sink;
 /// Writes the table that the options ask for.
 pub(crate) fn make<K: Sink>(alloc: Global, options: MakeOptions, out: &mut K) -> Status
     ensures counts { K.faults out.old ≤ K.faults out.new }
-    ensures ends { (words : List (List ℕ)) (input : Input) (shelf : Shelf) → EndsWriting (made_text options) (call_at words (outside_of input (output_as K.held K.faults out.old) shelf)
+    ensures ends { (words : List (List ℕ)) (input : Input) (shelf : Shelf)
+        → EndsWriting (made_text options) (call_at words (outside_of input (output_as K.held K.faults out.old) shelf)
         (outside_of input (output_as K.held K.faults out.new) shelf)) result }
 {
     let Ok(table) = make_table(alloc, options.start, options.count, options.lists) else {

@@ -27,8 +27,9 @@ pub fn run_process<T: Threads + Wait + Sync, E: Env, H: Shelf, R: Read + Drop, W
     input: &mut StdIntake<R>,
     out: &mut StdSink<W>,
 ) -> u8
-    ensures { (words : List (List ℕ)) × ExitsBy (call_of (λ (i : StdIntake R). R.remaining i.stream) (λ (i : StdIntake R). i.faults) (λ (o : StdSink W). W.contents o.stream)
-        (λ (o : StdSink W). o.faults) H.texts H.lists H.at words (input.old, out.old, shelf.old) (input.new, out.new, shelf.new)) result }
+    ensures { (words : List (List ℕ)) × ExitsBy (call_of (λ (i : StdIntake R). R.remaining i.stream) (λ (i : StdIntake R). i.faults)
+        (λ (o : StdSink W). W.contents o.stream) (λ (o : StdSink W). o.faults) H.texts H.lists H.at words
+        (input.old, out.old, shelf.old) (input.new, out.new, shelf.new)) result }
 {
     let words = match read_words(env, alloc) {
         Ok(words) => words,
@@ -47,8 +48,9 @@ pub fn run_streams<T: Threads + Wait + Sync, H: Shelf, R: Read + Drop, W: Write 
     input: &mut StdIntake<R>,
     out: &mut StdSink<W>,
 ) -> u8
-    ensures { ExitsBy (call_of (λ (i : StdIntake R). R.remaining i.stream) (λ (i : StdIntake R). i.faults) (λ (o : StdSink W). W.contents o.stream)
-        (λ (o : StdSink W). o.faults) H.texts H.lists H.at words.now (input.old, out.old, shelf.old) (input.new, out.new, shelf.new)) result }
+    ensures { ExitsBy (call_of (λ (i : StdIntake R). R.remaining i.stream) (λ (i : StdIntake R). i.faults)
+        (λ (o : StdSink W). W.contents o.stream) (λ (o : StdSink W). o.faults) H.texts H.lists H.at words.now
+        (input.old, out.old, shelf.old) (input.new, out.new, shelf.new)) result }
 {
     top(rt, alloc, words, shelf, input, out).code()
 }

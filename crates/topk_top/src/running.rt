@@ -9,9 +9,9 @@ ghost use Rattle.catalog_run.specs.Runs.{CanBeWritten, IsRun};
 ghost use Rattle.topk_top.specs.Shelves.{TakesSources};
 ghost use Rattle.topk_top.specs.Calls.{output_as, shelf_as, call_of};
 ghost use Rattle.topk_top.specs.Ends.{Says};
-ghost use Rattle.topk_top.specs.RunEnds.{RunsOver, EndsRunning};
+ghost use Rattle.topk_top.specs.RunEnds.{RunsOverCatalog, EndsRunning};
 ghost use Rattle.topk_top.specs.Outcomes.{SaysFault};
-ghost use Rattle.topk_top.specs.Running.{run_by, settings_by, catalog_refused_text};
+ghost use Rattle.topk_top.specs.Running.{lines_run, settings_by, catalog_refused_text};
 
 use super::Memory;
 use super::call::ended;
@@ -64,7 +64,7 @@ fn run_over<W: Threads + Wait + Sync, H: Shelf, R: Intake, K: Sink>(
     requires { AreRunSettings settings }
     ensures reads { R.faults input.old ≤ R.faults input.new }
     ensures writes { K.faults out.old ≤ K.faults out.new }
-    ensures ends { (words : List (List ℕ)) → RunsOver settings text.now (call_of R.left R.faults K.held K.faults H.texts H.lists H.at words
+    ensures ends { (words : List (List ℕ)) → RunsOverCatalog settings text.now (call_of R.left R.faults K.held K.faults H.texts H.lists H.at words
         (input.old, out.old, shelf.old) (input.new, out.new, shelf.new)) result }
 {
     match read_catalog(alloc, text) {
@@ -115,7 +115,8 @@ fn run_input<W: Threads + Wait + Sync, H: Shelf, R: Intake, K: Sink>(
     requires { AreRunSettings settings }
     ensures reads { R.faults input.old ≤ R.faults input.new }
     ensures writes { K.faults out.old ≤ K.faults out.new }
-    ensures ends { (words : List (List ℕ)) (text : List ℕ) → IsCatalog (records_of text) catalog.now → RunsOver settings text (call_of R.left R.faults K.held K.faults H.texts H.lists H.at words
+    ensures ends { (words : List (List ℕ)) (text : List ℕ) → IsCatalog (records_of text) catalog.now
+        → RunsOverCatalog settings text (call_of R.left R.faults K.held K.faults H.texts H.lists H.at words
         (input.old, out.old, shelf.old) (input.new, out.new, shelf.new)) result }
 {
     match read_text(alloc, input, MAX_INPUT) {
@@ -140,7 +141,7 @@ fn run_text<W: Threads + Wait + Sync, H: Shelf>(
 ) -> Result<Vec<LineOutcome>, Memory>
     requires { AreRunSettings settings }
     ensures takes { TakesSources catalog.now (lines text.now) (shelf_as H.texts H.lists H.at shelf.old) (shelf_as H.texts H.lists H.at shelf.new) }
-    ensures run { IfOk result (λ outcomes. IsRun (run_by settings catalog.now (lines text.now)
+    ensures run { IfOk result (λ outcomes. IsRun (lines_run settings catalog.now (lines text.now)
         (shelf_as H.texts H.lists H.at shelf.old) (shelf_as H.texts H.lists H.at shelf.new)) outcomes.items) }
     ensures writable { IfOk result (λ outcomes. All CanBeWritten outcomes.items) }
 {

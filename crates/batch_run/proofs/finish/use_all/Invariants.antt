@@ -1,5 +1,5 @@
 use Rattle.std.proofs.Common.{◌≡◌, ◌≤◌, ◌<◌, ℕ, length, vec_len, vec_capacity}
-use Rattle.source_pool.specs.Closed.{state_at}
+use Rattle.source_state.specs.State.{state_at}
 use Rattle.batch_run.specs.Slots.{states_of, slot_at}
 use Rattle.batch_run.specs.Batches.{use_at}
 use Rattle.batch_run.specs.Crews.{UsedOf}

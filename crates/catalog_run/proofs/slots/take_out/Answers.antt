@@ -1,4 +1,4 @@
-use Rattle.std.proofs.Common.{[], length, ap, arith}
+use Rattle.std.proofs.Common.{length, ap, arith}
 use Rattle.catalog_run.proofs.Slotted.{next_idle, taken_more, taken_none}
 use Rattle.catalog_run.proofs.slots.take_out.Goals as goal
 

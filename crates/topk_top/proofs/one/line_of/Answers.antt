@@ -1,7 +1,7 @@
 use Rattle.std.proofs.Common.{subst}
 use Rattle.ranked_list.specs.Bundle.{content}
 use Rattle.query_admission.specs.Causes.{admission_causes}
-use Rattle.query_admission.specs.Admission.{Admits, IsRefused}
+use Rattle.query_admission.specs.Admission.{Admits, RefusesLine}
 use Rattle.topk_top.specs.Bundled.{bundle_view}
 use Rattle.topk_top.proofs.Bundling.{line_refused}
 use Rattle.topk_top.proofs.one.line_of.Goals as goal
@@ -13,5 +13,5 @@ returns-in-Ok-Refused c =
     let query = c.in-Ok-Refused.query in
     let refused = subst (Admits (record { view = bundle_view c.of.result; number = 1; bytes = c.deref.result.now })) c.in-Ok-Refused.field-0-is c.in-Ok-Refused.ensures in
     line_refused bundle refusal query
-    (subst (λ d. IsRefused admission_causes (record { view = bundle_view d; number = 1; bytes = c.args.bundle.now.query.items }) refusal query) c.of.ensures
-    (subst (λ bytes. IsRefused admission_causes (record { view = bundle_view c.of.result; number = 1; bytes = bytes }) refusal query) c.deref.ensures.value refused))
+    (subst (λ d. RefusesLine admission_causes (record { view = bundle_view d; number = 1; bytes = c.args.bundle.now.query.items }) refusal query) c.of.ensures
+    (subst (λ bytes. RefusesLine admission_causes (record { view = bundle_view c.of.result; number = 1; bytes = bytes }) refusal query) c.deref.ensures.value refused))

@@ -4,7 +4,7 @@ use Rattle.catalog_run.specs.Runs.{IsRun}
 use Rattle.topk_top.specs.Calls.{Call, output_as, call_at}
 use Rattle.topk_top.specs.Ends.{Says}
 use Rattle.topk_top.specs.Shelves.{Shelf, TakesSources}
-use Rattle.topk_top.specs.Running.{outcomes_text, run_by, run_status}
+use Rattle.topk_top.specs.Running.{outcomes_text, lines_run, run_status}
 use Rattle.topk_top.proofs.Ending.{outside_at, shelf_at}
 use Rattle.topk_top.proofs.RunEnding.{ends_lines}
 use Rattle.topk_top.proofs.running.run_input.Goals as goal
@@ -26,7 +26,7 @@ returns-in-Ok-run_text-clause-ends g c = λ words text is.
         is = is;
         takes = subst (λ b. TakesSources catalog (lines b) before after) c.deref.ensures.value c.run_text.ensures.takes;
         outcomes = outcomes;
-        run = subst (λ b. IsRun (run_by c.args.settings catalog (lines b) before after) outcomes) c.deref.ensures.value c.in-Ok-run_text.ensures.run;
+        run = subst (λ b. IsRun (lines_run c.args.settings catalog (lines b) before after) outcomes) c.deref.ensures.value c.in-Ok-run_text.ensures.run;
         status_is = refl;
         said_is = refl;
       };

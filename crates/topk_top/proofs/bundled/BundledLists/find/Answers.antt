@@ -1,6 +1,6 @@
 use Rattle.std.proofs.Common.{◌≡◌, true, None, Some, option_map, sym, ap, ◌∙◌, subst}
 use Rattle.ranked_list.specs.Bundle.{content}
-use Rattle.topk_top.specs.Bundled.{place_of, listed_at, bundle_view}
+use Rattle.topk_top.specs.Bundled.{bundle_place, bundle_listed, bundle_view}
 use Rattle.topk_top.proofs.Bundling.{found_at, listed_here}
 use Rattle.topk_top.proofs.bundled.BundledLists.find.Goals as goal
 
@@ -9,7 +9,7 @@ returns-in_default c =
     let bundle = c.self.inside.bundle.now in
     let name = c.args.name.now in
     let at = found_at bundle name c.deref.result.now c.place_of.result c.deref.ensures.value c.place_of.ensures ∙ c.in_default.is in
-    subst (λ d. None ≡ option_map (listed_at d) (place_of d name)) c.self.view_is (ap (option_map (listed_at (content bundle))) (sym at))
+    subst (λ d. None ≡ option_map (bundle_listed d) (bundle_place d name)) c.self.view_is (ap (option_map (bundle_listed (content bundle))) (sym at))
 
 pub returns : goal.returns
 returns c =
