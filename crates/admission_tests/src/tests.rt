@@ -30,123 +30,175 @@ impl Lists for Two {
     }
 }
 
-/// A list that was opened and offers random access.
-fn listed(size: u64) -> Option<Listed> {
+/// What a catalog has under a name.
+#[derive(Clone, Copy)]
+enum Under {
+    /// No list.
+    Nothing,
+    /// A list that wasn't opened.
+    Closed,
+    /// A list of this many objects without random access.
+    SortedOnly(u64),
+    /// A list of this many objects with random access.
+    Both(u64),
+}
+
+/// What is found under a name.
+fn listed(under: Under) -> Option<Listed> {
+    let (size, random, source) = match under {
+        Under::Nothing => return None,
+        Under::Closed => (None, false, 0),
+        Under::SortedOnly(size) => (Some(size), false, 9),
+        Under::Both(size) => (Some(size), true, 7),
+    };
     Some(Listed {
-        size: Some(size),
-        random: true,
-        source: 7,
+        size,
+        random,
+        source,
     })
 }
 
-/// A list that wasn't opened.
-fn closed() -> Option<Listed> {
-    Some(Listed {
-        size: None,
-        random: false,
-        source: 0,
-    })
+/// A refusal by its name and its fields, with 0 for the fields that it hasn't.
+type Told = (&'static str, [u64; 4]);
+
+/// A query line, what stands under its names, and the refusal.
+type Row = (Under, Under, u64, &'static [u8], Told);
+
+const QUERY: &[u8] = b"top 4 by sum(A,BB) using ta";
+
+/// Lines in the order of their refusals.
+const ROWS: [Row; 8] = [
+    (
+        Under::Nothing,
+        Under::Nothing,
+        65,
+        b"top",
+        ("ManyQueries", [64, 0, 0, 0]),
+    ),
+    (
+        Under::Nothing,
+        Under::Nothing,
+        64,
+        b"top",
+        ("Syntax", [3, 0, 0, 0]),
+    ),
+    (
+        Under::Closed,
+        Under::Nothing,
+        1,
+        QUERY,
+        ("UnknownList", [1, 0, 0, 0]),
+    ),
+    (
+        Under::Both(200_001),
+        Under::Closed,
+        1,
+        QUERY,
+        ("NotOpened", [1, 0, 0, 0]),
+    ),
+    (
+        Under::Both(3),
+        Under::Both(200_001),
+        1,
+        QUERY,
+        ("TooLarge", [1, 200_001, 0, 0]),
+    ),
+    (
+        Under::Both(3),
+        Under::SortedOnly(2),
+        1,
+        QUERY,
+        ("CountsDiffer", [0, 3, 1, 2]),
+    ),
+    (
+        Under::SortedOnly(3),
+        Under::Both(3),
+        1,
+        QUERY,
+        ("KAboveCount", [4, 3, 0, 0]),
+    ),
+    (
+        Under::Both(4),
+        Under::SortedOnly(4),
+        1,
+        QUERY,
+        ("NoRandom", [1, 0, 0, 0]),
+    ),
+];
+
+/// The name and the fields of a refusal of these rows.
+fn told(refusal: Refusal) -> Told {
+    match refusal {
+        Refusal::ManyQueries { limit } => ("ManyQueries", [u64::from(limit), 0, 0, 0]),
+        Refusal::Syntax { at } => ("Syntax", [u64::from(at), 0, 0, 0]),
+        Refusal::UnknownList { list } => ("UnknownList", [u64::from(list), 0, 0, 0]),
+        Refusal::NotOpened { list } => ("NotOpened", [u64::from(list), 0, 0, 0]),
+        Refusal::TooLarge { list, count } => ("TooLarge", [u64::from(list), count, 0, 0]),
+        Refusal::CountsDiffer { list, n, other, m } => {
+            let lists = [
+                u64::from(list),
+                u64::from(n),
+                u64::from(other),
+                u64::from(m),
+            ];
+            ("CountsDiffer", lists)
+        }
+        Refusal::KAboveCount { k, n } => ("KAboveCount", [u64::from(k), u64::from(n), 0, 0]),
+        Refusal::NoRandom { list } => ("NoRandom", [u64::from(list), 0, 0, 0]),
+        _ => ("another one", [0; 4]),
+    }
 }
 
-/// A list without random access.
-fn sorted_only(size: u64) -> Option<Listed> {
-    Some(Listed {
-        size: Some(size),
-        random: false,
-        source: 9,
-    })
-}
-
-/// The refusal of a line, or None where it is ready.
+/// What is told of the refusal of a line, or None where it is ready.
 fn refusal_of(
     alloc: Global,
-    short: Option<Listed>,
-    long: Option<Listed>,
+    lists: &Two,
     line: u64,
-    bytes: &[u8],
-) -> Result<Option<Refusal>, Fail> {
-    let lists = Two { short, long };
-    match admit(alloc, &lists, line, bytes)? {
+    bytes: &'static [u8],
+) -> Result<Option<Told>, Fail> {
+    match admit(alloc, lists, line, bytes)? {
         Admitted::Ready(_) => Ok(None),
-        Admitted::Refused { refusal, .. } => Ok(Some(refusal)),
+        Admitted::Refused { refusal, .. } => Ok(Some(told(refusal))),
     }
+}
+
+/// The number of the first row that comes to something else.
+fn first_wrong(alloc: Global, rows: &[Row]) -> Result<Option<usize>, Fail> {
+    for (number, (short, long, line, bytes, refused)) in rows.iter().enumerate() {
+        let lists = Two {
+            short: listed(*short),
+            long: listed(*long),
+        };
+        if refusal_of(alloc, &lists, *line, *bytes)? != Some(*refused) {
+            return Ok(Some(number));
+        }
+    }
+    Ok(None)
 }
 
 #[test]
 fn refuses_in_order(rt: HostRuntime) -> Result<(), Fail> {
-    let query = b"top 4 by sum(A,BB) using ta".as_slice();
-    let rows = [
-        (
-            None,
-            None,
-            65,
-            b"top".as_slice(),
-            Refusal::ManyQueries { limit: 64 },
-        ),
-        (None, None, 64, b"top".as_slice(), Refusal::Syntax { at: 3 }),
-        (closed(), None, 1, query, Refusal::UnknownList { list: 1 }),
-        (
-            listed(200_001),
-            closed(),
-            1,
-            query,
-            Refusal::NotOpened { list: 1 },
-        ),
-        (
-            listed(3),
-            listed(200_001),
-            1,
-            query,
-            Refusal::TooLarge {
-                list: 1,
-                count: 200_001,
-            },
-        ),
-        (
-            listed(3),
-            sorted_only(2),
-            1,
-            query,
-            Refusal::CountsDiffer {
-                list: 0,
-                n: 3,
-                other: 1,
-                m: 2,
-            },
-        ),
-        (
-            sorted_only(3),
-            listed(3),
-            1,
-            query,
-            Refusal::KAboveCount { k: 4, n: 3 },
-        ),
-        (
-            listed(4),
-            sorted_only(4),
-            1,
-            query,
-            Refusal::NoRandom { list: 1 },
-        ),
-    ];
-    for (short, long, line, bytes, refusal) in rows {
-        let found = refusal_of(rt.alloc(), short, long, line, bytes)?;
-        assert_eq!(rt; found, Some(refusal));
-    }
+    assert_eq!(rt; first_wrong(rt.alloc(), &ROWS)?, None);
     Ok(())
+}
+
+/// Whether a line is ready with this count and these sources.
+fn is_ready(admitted: &Admitted, count: u32, sources: &[u32]) -> bool {
+    match admitted {
+        Admitted::Ready(ready) => ready.count == count && ready.sources.as_slice() == sources,
+        Admitted::Refused { .. } => false,
+    }
 }
 
 #[test]
 fn admits(rt: HostRuntime) -> Result<(), Fail> {
     let lists = Two {
-        short: sorted_only(200_000),
-        long: listed(200_000),
+        short: listed(Under::SortedOnly(200_000)),
+        long: listed(Under::Both(200_000)),
     };
     let admitted = admit(rt.alloc(), &lists, 64, b"top 4 by sum(BB,A) using nra")?;
-    let Admitted::Ready(ready) = admitted else {
-        return Err(Fail::new("refused"));
-    };
-    assert_eq!(rt; ready.count, 200_000);
-    assert_eq!(rt; ready.sources.as_slice(), [7, 9].as_slice());
+    let is_so = is_ready(&admitted, 200_000, &[7, 9]);
+    drop(admitted);
+    assert!(rt; is_so);
     Ok(())
 }

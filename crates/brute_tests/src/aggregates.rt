@@ -4,7 +4,7 @@ use std::alloc::Global;
 use std::test::Fail;
 
 /// An aggregate over lists of any number.
-#[derive(Clone, Copy, Debug, PartialEq, Eq)]
+#[derive(Clone, Copy)]
 pub enum Aggregate {
     Sum,
     Min,
@@ -28,19 +28,24 @@ impl Aggregate {
 
     /// The aggregate of an object by its grades, list by list.
     pub fn of(self, alloc: Global, grades: &[u64]) -> Result<u64, Fail> {
-        Ok(match self {
-            Aggregate::Sum => weighted(grades, 0),
-            Aggregate::Weighted => weighted(grades, 1),
-            Aggregate::Min => grades.iter().copied().min().ok_or("a grade")?,
-            Aggregate::Max => grades.iter().copied().max().ok_or("a grade")?,
-            Aggregate::Median => {
-                let mut sorted = grades.to_vec(alloc)?;
-                sorted.sort_unstable();
-                let place = (sorted.len().saturating_sub(1)) / 2;
-                sorted.get(place).copied().ok_or("a grade")?
-            }
-        })
+        match self {
+            Aggregate::Sum => Ok(weighted(grades, 0)),
+            Aggregate::Weighted => Ok(weighted(grades, 1)),
+            Aggregate::Min => Ok(grades.iter().copied().min().ok_or("a grade")?),
+            Aggregate::Max => Ok(grades.iter().copied().max().ok_or("a grade")?),
+            Aggregate::Median => median(alloc, grades),
+        }
     }
+}
+
+/// The grade in the middle, or that before it.
+fn median(alloc: Global, grades: &[u64]) -> Result<u64, Fail> {
+    let mut sorted = grades.to_vec(alloc)?;
+    sorted.sort_unstable();
+    let place = (sorted.len().saturating_sub(1)) / 2;
+    let grade = sorted.get(place).copied();
+    drop(sorted);
+    Ok(grade.ok_or("a grade")?)
 }
 
 /// The sum of the grades, with weights that begin with 1 and rise by `step`.

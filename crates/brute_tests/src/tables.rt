@@ -10,10 +10,11 @@ use test_support::{Numbers, shuffled};
 pub const NAMES: [&str; 8] = ["A", "B", "C", "D", "E", "F", "G", "H"];
 
 /// A table: the grades of each object, those of an object side by side in the order of the lists, and
-/// the sections of its lists. The objects are 0, 1, 2 and so on.
+/// the sections of its lists. The objects are 0, 1, 2 and so on, up to a count.
 #[derive(Drop)]
 pub struct Table {
     pub lists: usize,
+    pub count: u32,
     pub grades: Vec<u64>,
     pub sections: String,
 }
@@ -25,9 +26,31 @@ impl Table {
         let end = start.saturating_add(self.lists);
         Ok(self.grades.get(start..end).ok_or("an object")?)
     }
+
+    /// Adds a row of a list.
+    fn add_row(&mut self, alloc: Global, list: usize, object: u32, grade: u32) -> Result<(), Fail> {
+        let line = format!(in alloc; "{object},{grade}\n")?;
+        let added = self.sections.push_str(&line);
+        drop(line);
+        added?;
+        let place = (object as usize)
+            .saturating_mul(self.lists)
+            .saturating_add(list);
+        *self.grades.get_mut(place).ok_or("an object")? = u64::from(grade);
+        Ok(())
+    }
+
+    /// Adds the head of a list.
+    fn add_head(&mut self, list: usize) -> Result<(), Fail> {
+        let name = NAMES.get(list).ok_or("a name")?;
+        self.sections.push_str("list ")?;
+        self.sections.push_str(name)?;
+        self.sections.push_str("\n")?;
+        Ok(())
+    }
 }
 
-/// One list more: its grades fall from the greatest on by steps that are below `step`.
+/// One list more of these objects: its grades fall from the greatest on by steps that are below `step`.
 fn add_list(
     alloc: Global,
     numbers: &mut Numbers,
@@ -38,35 +61,37 @@ fn add_list(
 ) -> Result<(), Fail>
     requires { 0 < step }
 {
-    let name = NAMES.get(list).ok_or("a name")?;
-    let head = format!(in alloc; "list {name}\n")?;
-    table.sections.push_str(&head)?;
+    table.add_head(list)?;
     let mut grade: u32 = 1_000_000;
     for object in objects {
         grade = grade.saturating_sub(numbers.below(step));
-        let line = format!(in alloc; "{object},{grade}\n")?;
-        table.sections.push_str(&line)?;
-        let place = (*object as usize)
-            .saturating_mul(table.lists)
-            .saturating_add(list);
-        *table.grades.get_mut(place).ok_or("an object")? = u64::from(grade);
+        table.add_row(alloc, list, *object, grade)?;
     }
     Ok(())
 }
 
-/// Adds each list of a table.
-fn add_lists(
+/// One list more of the objects, at random.
+fn add_shuffled(
     alloc: Global,
     numbers: &mut Numbers,
     table: &mut Table,
-    count: u32,
+    list: usize,
     step: u32,
 ) -> Result<(), Fail>
     requires { 0 < step }
 {
+    let objects = shuffled(alloc, numbers, table.count)?;
+    let added = add_list(alloc, numbers, table, list, &objects, step);
+    drop(objects);
+    added
+}
+
+/// Adds each list of a table.
+fn add_lists(alloc: Global, numbers: &mut Numbers, table: &mut Table, step: u32) -> Result<(), Fail>
+    requires { 0 < step }
+{
     for list in 0..table.lists {
-        let objects = shuffled(alloc, numbers, count)?;
-        add_list(alloc, numbers, table, list, &objects, step)?;
+        add_shuffled(alloc, numbers, table, list, step)?;
     }
     Ok(())
 }
@@ -81,16 +106,19 @@ pub fn table_of(
 ) -> Result<Table, Fail>
     requires { 0 < step }
 {
-    let places = (count as usize).saturating_mul(lists);
     let mut grades = Vec::new(alloc);
-    for _place in 0..places {
-        grades.push(0)?;
-    }
+    grades.resize((count as usize).saturating_mul(lists), 0)?;
     let mut table = Table {
         lists,
+        count,
         grades,
         sections: String::new(alloc),
     };
-    add_lists(alloc, numbers, &mut table, count, step)?;
-    Ok(table)
+    match add_lists(alloc, numbers, &mut table, step) {
+        Ok(()) => Ok(table),
+        Err(fail) => {
+            drop(table);
+            Err(fail)
+        }
+    }
 }

@@ -5,7 +5,7 @@ ghost use Rattle.catalog_run.specs.Runs.{CanBeWritten};
 ghost use Rattle.batch_run.specs.Ranges.{AreSettings};
 
 use catalog_run::{LineOutcome, Settings, run_lines};
-use catalog_text::read_catalog;
+use catalog_text::{Catalog, read_catalog};
 use cert_text::put_outcome;
 use source_api::MemShelf;
 use source_support::{Held, shelf_of};
@@ -46,6 +46,26 @@ fn settings_of(page: u32) -> Settings
     }
 }
 
+/// The outcomes of a run over a shelf and a catalog.
+fn outcomes_by<W: Threads + Wait + Sync>(
+    rt: &W,
+    alloc: Global,
+    shelf: &mut MemShelf,
+    catalog: &Catalog,
+    case: &Case,
+) -> Option<Vec<LineOutcome>>
+    ensures { IfSome result (λ outcomes. All CanBeWritten outcomes.items) }
+{
+    let Some(lines) = bytes_of(alloc, case.lines) else {
+        return None;
+    };
+    let settings = settings_of(case.page);
+    match run_lines(rt, alloc, shelf, catalog, &lines, settings) {
+        Ok(outcomes) => Some(outcomes),
+        Err(_) => None,
+    }
+}
+
 /// The outcomes of a run over a shelf.
 fn outcomes_of<W: Threads + Wait + Sync>(
     rt: &W,
@@ -58,14 +78,9 @@ fn outcomes_of<W: Threads + Wait + Sync>(
     let Ok(catalog) = read_catalog(alloc, case.catalog.as_bytes()) else {
         return None;
     };
-    let Some(lines) = bytes_of(alloc, case.lines) else {
-        return None;
-    };
-    let settings = settings_of(case.page);
-    match run_lines(rt, alloc, shelf, &catalog, &lines, settings) {
-        Ok(outcomes) => Some(outcomes),
-        Err(_) => None,
-    }
+    let outcomes = outcomes_by(rt, alloc, shelf, &catalog, case);
+    drop(catalog);
+    outcomes
 }
 
 /// Writes outcomes, whose lines are numbered from 1.
@@ -101,6 +116,21 @@ fn is_text(bytes: &[u8], pieces: &[&'static str]) -> bool {
 }
 
 /// Whether a run over a shelf writes what it is to write.
+fn writes_so<W: Threads + Wait + Sync>(
+    rt: &W,
+    alloc: Global,
+    shelf: &mut MemShelf,
+    case: &Case,
+    out: &mut MemSink,
+) -> Option<bool> {
+    let outcomes = outcomes_of(rt, alloc, shelf, case)?;
+    let wrote = write_all(out, &outcomes);
+    drop(outcomes);
+    wrote?;
+    Some(is_text(out.taken(), case.text))
+}
+
+/// The same, where a call for a source may fail.
 fn runs_over<W: Threads + Wait + Sync>(
     rt: &W,
     alloc: Global,
@@ -110,20 +140,20 @@ fn runs_over<W: Threads + Wait + Sync>(
     if let Some(call) = case.fails_take {
         shelf.fail_takes.push(call).ok()?;
     }
-    let outcomes = outcomes_of(rt, alloc, shelf, case)?;
     let mut out = MemSink::make(alloc, 4000, &[]).ok()?;
-    match write_all(&mut out, &outcomes) {
-        Some(()) => Some(is_text(out.taken(), case.text)),
-        None => None,
-    }
+    let so = writes_so(rt, alloc, shelf, case, &mut out);
+    drop(out);
+    so
 }
 
 /// Whether a run writes what it is to write.
 fn runs<W: Threads + Wait + Sync>(rt: &W, alloc: Global, case: &Case) -> bool {
-    match shelf_of(alloc, case.sources) {
-        Some(mut shelf) => runs_over(rt, alloc, &mut shelf, case) == Some(true),
-        None => false,
-    }
+    let Some(mut shelf) = shelf_of(alloc, case.sources) else {
+        return false;
+    };
+    let so = runs_over(rt, alloc, &mut shelf, case) == Some(true);
+    drop(shelf);
+    so
 }
 
 /// The first of these runs, counted from 1, that doesn't write what it is to write; 0 where each does.

@@ -3,7 +3,6 @@
 use limits::TOP_GRADE;
 use query_text::{Query, QueryFault, read};
 use std::alloc::Global;
-use std::process::Abort;
 use std::test::Fail;
 
 /// An expression, the grades of an object in its lists, and its value or why it is refused.
@@ -61,34 +60,40 @@ const REFUSED: [Row; 3] = [
     ),
 ];
 
-/// The value of a query's expression.
-fn value_of(rt: &impl Abort, query: &Query, grades: &[u32]) -> u64 {
-    assert!(rt;
-        grades.len() == query.expr.lists() as usize,
-        "a grade for each list"
-    );
-    assert!(rt; grades.iter().all(|grade| *grade <= TOP_GRADE), "grades");
-    query.expr.eval(grades)
+/// The value of a query's expression, or None where these aren't a grade for each list.
+fn value_of(query: &Query, grades: &[u32]) -> Option<u64> {
+    let are_capped = grades.iter().all(|grade| *grade <= TOP_GRADE);
+    if are_capped && grades.len() == query.expr.lists() as usize {
+        Some(query.expr.eval(grades))
+    } else {
+        None
+    }
 }
 
-/// The value of an expression, or why it is refused.
-fn outcome(
-    rt: &impl Abort,
-    alloc: Global,
-    text: &str,
-    grades: &[u32],
-) -> Result<Result<u64, QueryFault>, Fail> {
-    let line = format!(in alloc; "top 1 by {text} using ta")?;
-    match read(alloc, line.as_bytes()) {
-        Ok(query) => Ok(Ok(value_of(rt, &query, grades))),
+/// The value of a line's expression, or why it is refused.
+fn outcome_of(alloc: Global, line: &[u8], grades: &[u32]) -> Result<Result<u64, QueryFault>, Fail> {
+    match read(alloc, line) {
+        Ok(query) => {
+            let value = value_of(&query, grades);
+            drop(query);
+            Ok(Ok(value.ok_or("a grade for each list")?))
+        }
         Err(fault) => Ok(Err(fault)),
     }
 }
 
+/// The same of an expression.
+fn outcome(alloc: Global, text: &str, grades: &[u32]) -> Result<Result<u64, QueryFault>, Fail> {
+    let line = format!(in alloc; "top 1 by {text} using ta")?;
+    let outcome = outcome_of(alloc, line.as_bytes(), grades);
+    drop(line);
+    outcome
+}
+
 /// The first expression with another outcome.
-fn first_other(rt: &impl Abort, alloc: Global, rows: &[Row]) -> Result<Option<&'static str>, Fail> {
+fn first_other(alloc: Global, rows: &[Row]) -> Result<Option<&'static str>, Fail> {
     for (text, grades, wanted) in rows {
-        if outcome(rt, alloc, text, grades)? != *wanted {
+        if outcome(alloc, text, grades)? != *wanted {
             return Ok(Some(*text));
         }
     }
@@ -97,18 +102,18 @@ fn first_other(rt: &impl Abort, alloc: Global, rows: &[Row]) -> Result<Option<&'
 
 #[test]
 fn operators(rt: HostRuntime) -> Result<(), Fail> {
-    assert_eq!(rt; first_other(&rt, rt.alloc(), &OPERATORS)?, None);
+    assert_eq!(rt; first_other(rt.alloc(), &OPERATORS)?, None);
     Ok(())
 }
 
 #[test]
 fn weights(rt: HostRuntime) -> Result<(), Fail> {
-    assert_eq!(rt; first_other(&rt, rt.alloc(), &WEIGHTS)?, None);
+    assert_eq!(rt; first_other(rt.alloc(), &WEIGHTS)?, None);
     Ok(())
 }
 
 #[test]
 fn refused(rt: HostRuntime) -> Result<(), Fail> {
-    assert_eq!(rt; first_other(&rt, rt.alloc(), &REFUSED)?, None);
+    assert_eq!(rt; first_other(rt.alloc(), &REFUSED)?, None);
     Ok(())
 }

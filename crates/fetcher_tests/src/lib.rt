@@ -1,11 +1,5 @@
 //! Tests of a fetcher and a reader on threads of their own that really run.
 #![tactic(auto)]
 
-mod sides;
-mod slow;
-
-pub use sides::{fetch_side, read_beside, read_side};
-pub use slow::Slow;
-
 #[cfg(test)]
 mod tests;

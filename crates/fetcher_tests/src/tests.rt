@@ -1,6 +1,9 @@
-use super::*;
+//! Rows that are read beside a fetcher, and the sign that stops it.
+
 use fetcher::{Fetched, Stop};
-use pool_tests::make_source;
+use fetcher_support::{Slow, read_beside};
+use pool_support::make_source;
+use source_pool::Pool;
 use std::sync::atomic::AtomicU64;
 use std::test::*;
 
@@ -36,7 +39,8 @@ fn looks_while_the_source_is_called(rt: HostRuntime) -> Result<(), Fail> {
 fn a_stop_is_set_by_hand(rt: HostRuntime) -> Result<(), Fail> {
     let stop = Stop::make();
     let before = stop.is_set();
-    stop.set();
+    let (pool, _pass, _feeders) = Pool::open(rt.alloc(), &[1])?;
+    stop.set(&pool);
     assert_eq!(rt; (before, stop.is_set()), (false, true));
     Ok(())
 }

@@ -1,7 +1,5 @@
-//! Tests of list files and of the shelf of real files by their public calls.
+//! Tests of list files by their public calls.
 #![tactic(auto)]
 
-#[cfg(test)]
-mod files;
 #[cfg(test)]
 mod list_files;

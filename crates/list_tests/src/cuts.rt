@@ -2,19 +2,25 @@
 
 use line_text::{cut_at, rest_after};
 
+/// Whether a text is cut at its first comma into these.
+fn is_cut_into(text: &[u8], before: &[u8], after: &[u8]) -> bool {
+    match cut_at(text, b',') {
+        Some(cut) => cut.0 == before && cut.1 == after,
+        None => false,
+    }
+}
+
+/// Whether a text is a word with this behind it.
+fn has_behind(word: &[u8], text: &[u8], behind: &[u8]) -> bool {
+    match rest_after(word, text) {
+        Some(rest) => rest == behind,
+        None => false,
+    }
+}
+
 #[test]
 fn cuts_at_the_first(rt: HostRuntime) {
-    let Some((before, after)) = cut_at(b"1,2,3", b',') else {
-        assert!(rt; false, "there is a comma");
-        return;
-    };
-    assert_eq!(rt; before, b"1".as_slice());
-    assert_eq!(rt; after, b"2,3".as_slice());
-    assert!(rt; cut_at(b"1 2", b',').is_none());
-    assert!(rt; rest_after(b"list ", b"list").is_none());
-    let Some(name) = rest_after(b"list ", b"list A") else {
-        assert!(rt; false, "the word is there");
-        return;
-    };
-    assert_eq!(rt; name, b"A".as_slice());
+    let are_cut = is_cut_into(b"1,2,3", b"1", b"2,3") && has_behind(b"list ", b"list A", b"A");
+    let are_whole = cut_at(b"1 2", b',').is_none() && rest_after(b"list ", b"list").is_none();
+    assert!(rt; are_cut && are_whole);
 }

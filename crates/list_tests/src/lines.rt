@@ -2,25 +2,38 @@
 
 use line_text::first_line;
 
+/// A text, its first line, and the rest.
+const CUT: [(&str, &str, &str); 8] = [
+    ("a\nb\n", "a", "b\n"),
+    ("a", "a", ""),
+    ("\na", "", "a"),
+    ("a\r\nb", "a", "b"),
+    ("a\r\r\n", "a\r", ""),
+    ("a\rb\n", "a\rb", ""),
+    ("a\r", "a\r", ""),
+    ("\r\n", "", ""),
+];
+
+/// Whether a text is cut into these.
+fn is_cut_into(text: &str, line: &str, rest: &str) -> bool {
+    match first_line(text.as_bytes()) {
+        Some(cut) => cut.0 == line.as_bytes() && cut.1 == rest.as_bytes(),
+        None => false,
+    }
+}
+
+/// The first text that is cut otherwise.
+fn first_wrong(rows: &[(&'static str, &'static str, &'static str)]) -> Option<&'static str> {
+    for (text, line, rest) in rows {
+        if !is_cut_into(text, line, rest) {
+            return Some(*text);
+        }
+    }
+    None
+}
+
 #[test]
 fn cuts_the_first_line(rt: HostRuntime) {
-    let cases: [(&str, &str, &str); 8] = [
-        ("a\nb\n", "a", "b\n"),
-        ("a", "a", ""),
-        ("\na", "", "a"),
-        ("a\r\nb", "a", "b"),
-        ("a\r\r\n", "a\r", ""),
-        ("a\rb\n", "a\rb", ""),
-        ("a\r", "a\r", ""),
-        ("\r\n", "", ""),
-    ];
-    for (text, line, rest) in cases {
-        let Some(cut) = first_line(text.as_bytes()) else {
-            assert!(rt; false, "no line in {text:?}");
-            continue;
-        };
-        assert_eq!(rt; cut.0, line.as_bytes(), "the line of {text:?}");
-        assert_eq!(rt; cut.1, rest.as_bytes(), "the rest of {text:?}");
-    }
+    assert_eq!(rt; first_wrong(&CUT), None);
     assert!(rt; first_line(b"").is_none());
 }

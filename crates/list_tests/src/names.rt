@@ -2,21 +2,31 @@
 
 use line_text::{is_name, is_name_byte};
 
+/// Texts, and whether each is a name.
+const TEXTS: [(&str, bool); 9] = [
+    ("a", true),
+    ("Zz9_", true),
+    ("A23456789012345678901234567890_2", true),
+    ("A23456789012345678901234567890_23", false),
+    ("", false),
+    ("9a", false),
+    ("_a", false),
+    ("a-b", false),
+    ("a ", false),
+];
+
+/// The first text that is told otherwise.
+fn first_wrong(rows: &[(&'static str, bool)]) -> Option<&'static str> {
+    for (text, named) in rows {
+        if is_name(text.as_bytes()) != *named {
+            return Some(*text);
+        }
+    }
+    None
+}
+
 #[test]
 fn tells_names(rt: HostRuntime) {
-    let cases: [(&str, bool); 9] = [
-        ("a", true),
-        ("Zz9_", true),
-        ("A23456789012345678901234567890_2", true),
-        ("A23456789012345678901234567890_23", false),
-        ("", false),
-        ("9a", false),
-        ("_a", false),
-        ("a-b", false),
-        ("a ", false),
-    ];
-    for (text, named) in cases {
-        assert_eq!(rt; is_name(text.as_bytes()), named, "of {text:?}");
-    }
+    assert_eq!(rt; first_wrong(&TEXTS), None);
     assert!(rt; is_name_byte(b'_') && !is_name_byte(b'-'));
 }

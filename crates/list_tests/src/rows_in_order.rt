@@ -2,28 +2,44 @@
 
 use ranked_list::{Row, RowFault, check_next};
 
+const OUT_OF_ORDER: Result<(), RowFault> = Err(RowFault::OutOfOrder {
+    place: 3,
+    before: 5,
+    after: 6,
+});
+
+const TOO_HIGH: Result<(), RowFault> = Err(RowFault::TooHigh {
+    place: 3,
+    grade: 1_000_001,
+});
+
+/// The grade before the third row, if there is one, its own, and what is found.
+const ROWS: [(Option<u32>, u32, Result<(), RowFault>); 7] = [
+    (None, 0, Ok(())),
+    (None, 1_000_000, Ok(())),
+    (None, 1_000_001, TOO_HIGH),
+    (Some(5), 1_000_001, TOO_HIGH),
+    (Some(5), 5, Ok(())),
+    (Some(5), 4, Ok(())),
+    (Some(5), 6, OUT_OF_ORDER),
+];
+
+/// The number of the first row of which something else is found.
+fn first_wrong(rows: &[(Option<u32>, u32, Result<(), RowFault>)]) -> Option<usize> {
+    for (number, (last, grade, found)) in rows.iter().enumerate() {
+        let last = last.map(|grade| Row { object: 1, grade });
+        let row = Row {
+            object: 2,
+            grade: *grade,
+        };
+        if check_next(3, last, row) != *found {
+            return Some(number);
+        }
+    }
+    None
+}
+
 #[test]
 fn finds_each_fault(rt: HostRuntime) {
-    let out_of_order = RowFault::OutOfOrder {
-        place: 3,
-        before: 5,
-        after: 6,
-    };
-    let too_high = RowFault::TooHigh {
-        place: 3,
-        grade: 1_000_001,
-    };
-    let cases: [(Option<u32>, u32, Result<(), RowFault>); 7] = [
-        (None, 0, Ok(())),
-        (None, 1_000_000, Ok(())),
-        (None, 1_000_001, Err(too_high)),
-        (Some(5), 1_000_001, Err(too_high)),
-        (Some(5), 5, Ok(())),
-        (Some(5), 4, Ok(())),
-        (Some(5), 6, Err(out_of_order)),
-    ];
-    for (last, grade, found) in cases {
-        let last = last.map(|grade| Row { object: 1, grade });
-        assert_eq!(rt; check_next(3, last, Row { object: 2, grade }), found);
-    }
+    assert_eq!(rt; first_wrong(&ROWS), None);
 }

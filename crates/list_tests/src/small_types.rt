@@ -3,28 +3,51 @@
 use ranked_list::{Item, Items, PageRows, Row};
 use std::test::Fail;
 
+const ROW: Row = Row {
+    object: 7,
+    grade: 5,
+};
+
+const ITEM: Item = Item {
+    object: 7,
+    low: 5,
+    high: 9,
+};
+
+/// Whether a page is of this row, twice.
+fn is_twice(rows: &PageRows) -> bool {
+    rows.len() == 2
+        && !rows.is_empty()
+        && rows.get(1).copied() == Some(ROW)
+        && rows.get(2).is_none()
+}
+
 #[test]
-fn gives_back_what_it_was_made_of(rt: HostRuntime) -> Result<(), Fail> {
-    let row = Row {
-        object: 7,
-        grade: 5,
-    };
-    let rows = PageRows::from_vec([row, row].to_vec(rt.alloc())?);
-    assert_eq!(rt; rows.len(), 2);
-    assert!(rt; !rows.is_empty());
-    assert_eq!(rt; rows.get(1).copied(), Some(row));
-    assert_eq!(rt; rows.get(2).copied(), None);
-    assert_eq!(rt; rows.into_vec().as_slice(), [row, row].as_slice());
-    let item = Item {
-        object: 7,
-        low: 5,
-        high: 9,
-    };
-    let items = Items::from_vec([item].to_vec(rt.alloc())?);
-    assert_eq!(rt; items.len(), 1);
-    assert!(rt; !items.is_empty());
-    assert_eq!(rt; items.get(0).copied(), Some(item));
-    assert_eq!(rt; items.get(1).copied(), None);
-    assert_eq!(rt; items.into_vec().as_slice(), [item].as_slice());
+fn gives_back_the_rows(rt: HostRuntime) -> Result<(), Fail> {
+    let rows = PageRows::from_vec([ROW, ROW].to_vec(rt.alloc())?);
+    let are_kept = is_twice(&rows);
+    let given = rows.into_vec();
+    let are_given = given.as_slice() == [ROW, ROW].as_slice();
+    drop(given);
+    assert!(rt; are_kept && are_given);
+    Ok(())
+}
+
+/// Whether items are this one.
+fn is_one(items: &Items) -> bool {
+    items.len() == 1
+        && !items.is_empty()
+        && items.get(0).copied() == Some(ITEM)
+        && items.get(1).is_none()
+}
+
+#[test]
+fn gives_back_the_items(rt: HostRuntime) -> Result<(), Fail> {
+    let items = Items::from_vec([ITEM].to_vec(rt.alloc())?);
+    let are_kept = is_one(&items);
+    let given = items.into_vec();
+    let are_given = given.as_slice() == [ITEM].as_slice();
+    drop(given);
+    assert!(rt; are_kept && are_given);
     Ok(())
 }

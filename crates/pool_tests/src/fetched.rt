@@ -2,16 +2,17 @@
 
 ghost use Rattle.std.specs.Prelude.{◌≤◌};
 
-use super::desk::{Desk, Step, first_wrong, make_source};
 use fetcher::Turned;
+use pool_support::{Desk, Step, first_wrong};
 use ranked_list::{Need, Row};
 use source_api::MemSource;
 use source_state::{Look, LookFault, SourceFault};
+use source_support::{Held, Kind, source_of};
 use std::alloc::Global;
 use std::sync::Wait;
 use std::test::Fail;
 
-const ROWS: [(u32, u32); 3] = [(1, 900), (2, 800), (3, 100)];
+const ROWS: &[(u32, u32)] = &[(1, 900), (2, 800), (3, 100)];
 
 const ROW_1: Need = Need::Row { list: 0, depth: 1 };
 
@@ -37,24 +38,6 @@ const SECOND: Look = Look::Row(Row {
     grade: 800,
 });
 
-/// The place of the first step that answers otherwise over a source of `count` objects, read by pages of so many rows.
-fn wrong_over(
-    rt: &impl Wait,
-    alloc: Global,
-    source: MemSource,
-    count: u32,
-    steps: &[Step],
-) -> Option<usize>
-    requires { count ≤ 200000 }
-{
-    let Some(mut desk) = Desk::open(alloc, source, count, 1, 0) else {
-        return Some(usize::MAX);
-    };
-    let wrong = first_wrong(rt, alloc, &mut desk, steps);
-    drop(desk);
-    wrong
-}
-
 /// One failed page isn't for ever: who waited is told once, and waits anew.
 const FAILED_PAGE: [Step; 11] = [
     Step::Look(ROW_1, Look::NotYet),
@@ -69,17 +52,6 @@ const FAILED_PAGE: [Step; 11] = [
     Step::Turn(Turned::Paged { rows: 1 }),
     Step::Look(ROW_2, SECOND),
 ];
-
-#[test]
-fn tells_a_failed_page_once(rt: HostRuntime) -> Result<(), Fail> {
-    let Some(mut source) = make_source(rt.alloc(), &ROWS) else {
-        panic!(rt; "there was memory");
-    };
-    source.fail_pages.push(2)?;
-    let wrong = wrong_over(&rt, rt.alloc(), source, 3, &FAILED_PAGE);
-    assert_eq!(rt; wrong, None);
-    Ok(())
-}
 
 /// A grade that was given before its row, with another grade than the row's.
 const CLASH: [Step; 9] = [
@@ -118,25 +90,6 @@ const ABOVE: [Step; 6] = [
     Step::Look(ROW_1, FIRST),
 ];
 
-/// Where the source gives another grade for object 2 by random access.
-fn wrong_with_a_lie(rt: &impl Wait, alloc: Global, grade: u32, steps: &[Step]) -> Option<usize> {
-    let mut source = make_source(alloc, &ROWS)?;
-    let lie = Row { object: 2, grade };
-    if source.lies.push(lie).is_err() {
-        return Some(usize::MAX);
-    }
-    wrong_over(rt, alloc, source, 3, steps)
-}
-
-#[test]
-fn tells_grades_that_do_not_go_with_the_rows(rt: HostRuntime) -> Result<(), Fail> {
-    let clash = wrong_with_a_lie(&rt, rt.alloc(), 850, &CLASH);
-    let above = wrong_with_a_lie(&rt, rt.alloc(), 950, &ABOVE);
-    assert_eq!(rt; clash, None);
-    assert_eq!(rt; above, None);
-    Ok(())
-}
-
 /// A grade that couldn't be read, beside a row that stays, and the next call for it.
 const GARBLED: [Step; 8] = [
     Step::Look(ROW_1, Look::NotYet),
@@ -148,17 +101,6 @@ const GARBLED: [Step; 8] = [
     Step::Look(GRADE_2, Look::NotYet),
     Step::Turn(Turned::Graded { object: 2 }),
 ];
-
-#[test]
-fn tells_a_garbled_grade(rt: HostRuntime) -> Result<(), Fail> {
-    let Some(mut source) = make_source(rt.alloc(), &ROWS) else {
-        panic!(rt; "there was memory");
-    };
-    source.garble_grades.push(1)?;
-    let wrong = wrong_over(&rt, rt.alloc(), source, 3, &GARBLED);
-    assert_eq!(rt; wrong, None);
-    Ok(())
-}
 
 /// A list of three rows that was stated to have five.
 const SHORT: [Step; 6] = [
@@ -173,16 +115,6 @@ const SHORT: [Step; 6] = [
     ),
 ];
 
-#[test]
-fn tells_a_short_list(rt: HostRuntime) -> Result<(), Fail> {
-    let Some(source) = make_source(rt.alloc(), &ROWS) else {
-        panic!(rt; "there was memory");
-    };
-    let wrong = wrong_over(&rt, rt.alloc(), source, 5, &SHORT);
-    assert_eq!(rt; wrong, None);
-    Ok(())
-}
-
 /// A list of two objects that is asked for three others: no third ask is taken.
 const STRANGERS: [Step; 7] = [
     Step::Look(GRADE_3, Look::NotYet),
@@ -194,12 +126,66 @@ const STRANGERS: [Step; 7] = [
     Step::Look(GRADE_5, Look::Fault(LookFault::AsksFull { kept: 2 })),
 ];
 
-#[test]
-fn asks_no_more_than_there_are(rt: HostRuntime) -> Result<(), Fail> {
-    let Some(source) = make_source(rt.alloc(), &[(1, 9), (2, 8)]) else {
-        panic!(rt; "there was memory");
+/// A source, how many objects it is stated to have, and steps with what they are to answer.
+type Tried = (Held, u32, &'static [Step]);
+
+/// A source of these rows.
+macro_rules! held {
+    ($rows:expr, $kind:expr) => {
+        Held {
+            place: "a",
+            rows: $rows,
+            kind: $kind,
+        }
     };
-    let wrong = wrong_over(&rt, rt.alloc(), source, 2, &STRANGERS);
-    assert_eq!(rt; wrong, None);
+}
+
+const TRIED: [Tried; 6] = [
+    (held!(ROWS, Kind::FailsAtPage(2)), 3, &FAILED_PAGE),
+    (held!(ROWS, Kind::Lies(2, 850)), 3, &CLASH),
+    (held!(ROWS, Kind::Lies(2, 950)), 3, &ABOVE),
+    (held!(ROWS, Kind::GarblesAtGrade(1)), 3, &GARBLED),
+    (held!(ROWS, Kind::Honest), 5, &SHORT),
+    (held!(&[(1, 9), (2, 8)], Kind::Honest), 2, &STRANGERS),
+];
+
+/// Whether each step answers as it is to, over a source of `count` objects that is read by pages of one row. None without memory.
+fn answers(
+    rt: &impl Wait,
+    alloc: Global,
+    source: &mut MemSource,
+    count: u32,
+    steps: &[Step],
+) -> Option<bool>
+    requires { count ≤ 200000 }
+{
+    let mut desk = Desk::open(alloc, count, 1, 0)?;
+    let wrong = first_wrong(rt, alloc, &mut desk, source, steps);
+    drop(desk);
+    Some(wrong.is_none())
+}
+
+/// The same of a row.
+fn goes_so(rt: &impl Wait, alloc: Global, tried: &Tried) -> Option<bool> {
+    let (held, count, steps) = *tried;
+    let mut source = source_of(alloc, &held)?;
+    let so = answers(rt, alloc, &mut source, count.min(200_000), steps);
+    drop(source);
+    so
+}
+
+/// The number of the first row of which a step answers otherwise.
+fn first_other(rt: &impl Wait, alloc: Global, rows: &[Tried]) -> Option<usize> {
+    for (number, tried) in rows.iter().enumerate() {
+        if goes_so(rt, alloc, tried) != Some(true) {
+            return Some(number);
+        }
+    }
+    None
+}
+
+#[test]
+fn tells_what_the_calls_come_to(rt: HostRuntime) -> Result<(), Fail> {
+    assert_eq!(rt; first_other(&rt, rt.alloc(), &TRIED), None);
     Ok(())
 }

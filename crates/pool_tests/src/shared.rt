@@ -2,15 +2,17 @@
 
 ghost use Rattle.std.specs.Prelude.{◌≤◌};
 
-use super::desk::{Desk, Step, first_wrong, make_source};
 use fetcher::Turned;
+use pool_support::{Desk, Step, first_wrong};
 use ranked_list::{Need, Row};
+use source_api::MemSource;
 use source_state::{Look, LookFault};
+use source_support::{Held, Kind, source_of};
 use std::alloc::Global;
 use std::sync::Wait;
 use std::test::Fail;
 
-const TEN: [(u32, u32); 10] = [
+const TEN: &[(u32, u32)] = &[
     (1, 90),
     (2, 80),
     (3, 70),
@@ -60,12 +62,12 @@ const SHARED: [Step; 9] = [
     Step::Look(ROW_1, FIRST),
 ];
 
-/// The first step that answers otherwise over ten rows, of which the page call `fails` fails, or 100, and then the want, the
-/// number of asks and the number of rows at the close.
-fn over_ten(
+/// The first step that answers otherwise over a source of ten rows, or 100, and then the want, the number of asks and the number of
+/// rows at the close. None without memory.
+fn over_source(
     rt: &impl Wait,
     alloc: Global,
-    fails: Option<u64>,
+    source: &mut MemSource,
     page: u32,
     ahead: u32,
     steps: &[Step],
@@ -74,30 +76,48 @@ fn over_ten(
     requires page { (1 ≤ page) × (page ≤ 10000) }
     requires ahead { ahead ≤ 100 }
 {
-    let mut source = make_source(alloc, &TEN)?;
-    if let Some(call) = fails {
-        if source.fail_pages.push(call).is_err() {
-            return None;
-        }
-    }
-    let mut desk = Desk::open(alloc, source, 10, page, ahead)?;
-    let wrong = first_wrong(rt, alloc, &mut desk, steps).unwrap_or(100);
+    let mut desk = Desk::open(alloc, 10, page, ahead)?;
+    let wrong = first_wrong(rt, alloc, &mut desk, source, steps).unwrap_or(100);
     let state = desk.close(alloc, to_other)?;
     let figures = (wrong, state.want(), state.asks(), state.rows());
     drop(state);
     Some(figures)
 }
 
+/// The same over the ten rows.
+fn over_ten(
+    rt: &impl Wait,
+    alloc: Global,
+    kind: Kind,
+    page: u32,
+    ahead: u32,
+    steps: &[Step],
+    to_other: bool,
+) -> Option<(usize, u32, u32, u32)>
+    requires page { (1 ≤ page) × (page ≤ 10000) }
+    requires ahead { ahead ≤ 100 }
+{
+    let held = Held {
+        place: "a",
+        rows: TEN,
+        kind,
+    };
+    let mut source = source_of(alloc, &held)?;
+    let figures = over_source(rt, alloc, &mut source, page, ahead, steps, to_other);
+    drop(source);
+    figures
+}
+
 #[test]
 fn reads_no_further_than_the_reach(rt: HostRuntime) -> Result<(), Fail> {
-    let figures = over_ten(&rt, rt.alloc(), None, 2, 1, &AHEAD, false);
+    let figures = over_ten(&rt, rt.alloc(), Kind::Honest, 2, 1, &AHEAD, false);
     assert_eq!(rt; figures, Some((100, 5, 1, 6)));
     Ok(())
 }
 
 #[test]
 fn reads_one_page_for_both(rt: HostRuntime) -> Result<(), Fail> {
-    let figures = over_ten(&rt, rt.alloc(), Some(1), 1, 0, &SHARED, true);
+    let figures = over_ten(&rt, rt.alloc(), Kind::FailsAtPage(1), 1, 0, &SHARED, true);
     assert_eq!(rt; figures, Some((100, 1, 0, 1)));
     Ok(())
 }

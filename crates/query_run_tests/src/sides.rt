@@ -6,7 +6,7 @@ ghost use Rattle.query_world.specs.Made.{IsReadyFor};
 ghost use Rattle.query_run_tests.specs.Running.{MayRun, AreIdle, AreTheTwo};
 
 use fetcher::{Fetched, Stop};
-use fetcher_tests::fetch_side;
+use fetcher_support::fetch_side;
 use query_core::Ready;
 use query_run::{Ended, run_query};
 use source_api::MemSource;
@@ -31,7 +31,7 @@ fn ask(
     requires { MayRun pool.now pass.old ready.now }
 {
     *ended = run_query(rt, alloc, pool, pass, ready).ok();
-    stop.set();
+    stop.set(pool);
 }
 
 /// The query's side with the second source's fetcher beside it.

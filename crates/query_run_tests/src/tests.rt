@@ -5,6 +5,7 @@ ghost use Rattle.std.specs.Prelude.{◌≤◌};
 use super::made::ready_over;
 use super::sides::run_beside;
 use access_log::CoreFault;
+use source_api::MemSource;
 use source_state::{LookFault, SourceFault};
 use source_support::{Held, Kind, source_of};
 use std::alloc::Global;
@@ -14,33 +15,41 @@ use std::thread::Threads;
 use world_support::{Expected, FIRST_ENDS, Figures, SORTED_ENDS, is_ended_so};
 
 /// Two lists of three objects.
+const ROWS_A: &[(u32, u32)] = &[(1, 900), (2, 800), (3, 100)];
+
+const ROWS_B: &[(u32, u32)] = &[(2, 700), (3, 600), (1, 500)];
+
+/// The same as honest sources.
 const A: Held = Held {
     place: "a",
-    rows: &[(1, 900), (2, 800), (3, 100)],
+    rows: ROWS_A,
     kind: Kind::Honest,
 };
 
 const B: Held = Held {
     place: "b",
-    rows: &[(2, 700), (3, 600), (1, 500)],
+    rows: ROWS_B,
     kind: Kind::Honest,
 };
 
 /// A list of three other objects.
 const OTHERS: Held = Held {
+    place: "b",
     rows: &[(4, 700), (5, 600), (6, 500)],
-    ..B
+    kind: Kind::Honest,
 };
 
 /// A list whose second row's grade rises.
 const RISING: Held = Held {
+    place: "a",
     rows: &[(1, 500), (2, 600)],
-    ..A
+    kind: Kind::Honest,
 };
 
 const FALLING: Held = Held {
+    place: "b",
     rows: &[(1, 400), (2, 300)],
-    ..B
+    kind: Kind::Honest,
 };
 
 const SUM: &str = "top 1 by sum(A,B) using ta";
@@ -115,8 +124,9 @@ const REFUSED: [Case; 10] = [
         text: SUM,
         held: [
             Held {
+                place: "a",
+                rows: ROWS_A,
                 kind: Kind::Lies(2, 950),
-                ..A
             },
             B,
         ],
@@ -135,8 +145,9 @@ const REFUSED: [Case; 10] = [
         text: SUM,
         held: [
             Held {
+                place: "a",
+                rows: ROWS_A,
                 kind: Kind::Lies(2, 850),
-                ..A
             },
             B,
         ],
@@ -168,8 +179,9 @@ const REFUSED: [Case; 10] = [
         text: "top 1 by sum(A,B) using nra",
         held: [
             Held {
+                place: "a",
                 rows: &[(1, 9), (1, 8), (2, 7)],
-                ..A
+                kind: Kind::Honest,
             },
             B,
         ],
@@ -187,12 +199,14 @@ const REFUSED: [Case; 10] = [
         text: "top 3 by sum(A,B) using ta",
         held: [
             Held {
+                place: "a",
                 rows: &[(1, 900), (2, 800)],
-                ..A
+                kind: Kind::Honest,
             },
             Held {
+                place: "b",
                 rows: &[(2, 700), (1, 600)],
-                ..B
+                kind: Kind::Honest,
             },
         ],
         count: 3,
@@ -207,8 +221,9 @@ const REFUSED: [Case; 10] = [
         held: [
             A,
             Held {
+                place: "b",
+                rows: ROWS_B,
                 kind: Kind::FailsAtPage(1),
-                ..B
             },
         ],
         count: 3,
@@ -219,8 +234,9 @@ const REFUSED: [Case; 10] = [
         text: SUM,
         held: [
             Held {
+                place: "a",
+                rows: ROWS_A,
                 kind: Kind::GarblesAtPage(2),
-                ..A
             },
             B,
         ],
@@ -229,17 +245,34 @@ const REFUSED: [Case; 10] = [
     },
 ];
 
-/// Whether the query of a case ends as it is to. None without memory.
-fn ends_so<R: Threads + Wait + Sync>(rt: &R, alloc: Global, case: &Case) -> Option<bool> {
+/// Whether the query of a case ends as it is to over its sources. None without memory.
+fn ends_over<R: Threads + Wait + Sync>(
+    rt: &R,
+    alloc: Global,
+    case: &Case,
+    sources: &mut (MemSource, MemSource),
+) -> Option<bool> {
     let count = case.count.min(200_000);
     let ready = ready_over(alloc, case.text, count)?;
-    let first = source_of(alloc, &case.held[0])?;
-    let second = source_of(alloc, &case.held[1])?;
-    let mut sources = (first, second);
-    let ended = run_beside(rt, alloc, count, &mut sources, &ready);
+    let ended = run_beside(rt, alloc, count, sources, &ready);
     drop(ready);
+    let ended = ended?;
+    let so = is_ended_so(&ended, &case.ends);
+    drop(ended);
+    Some(so)
+}
+
+/// The same, with the sources.
+fn ends_so<R: Threads + Wait + Sync>(rt: &R, alloc: Global, case: &Case) -> Option<bool> {
+    let first = source_of(alloc, &case.held[0])?;
+    let Some(second) = source_of(alloc, &case.held[1]) else {
+        drop(first);
+        return None;
+    };
+    let mut sources = (first, second);
+    let so = ends_over(rt, alloc, case, &mut sources);
     drop(sources);
-    ended.map(|ended| is_ended_so(&ended, &case.ends))
+    so
 }
 
 /// The place of the first query that ends otherwise.

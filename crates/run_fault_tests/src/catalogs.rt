@@ -1,12 +1,12 @@
 //! Words and catalogs that are refused.
 
-use run_support::{Case, run_of};
+use run_support::{Case, run_ends};
 use std::alloc::Global;
 use std::sync::Wait;
 use std::test::Fail;
 use std::thread::Threads;
 use test_support::Unmade;
-use top_support::end_of;
+use top_support::ends_with;
 use topk_top::Status;
 
 /// Texts that are no catalog, and what is written of each.
@@ -40,8 +40,7 @@ fn first_other<W: Threads + Wait + Sync>(
             sources: &[],
             lines: "top 1 by A using ta\n",
         };
-        let (status, out) = run_of(rt, alloc, &case)?;
-        if status != Status::BadCatalog || out.taken() != text.as_bytes() {
+        if !run_ends(rt, alloc, &case, (Status::BadCatalog, *text))? {
             return Ok(Some(*catalog));
         }
     }
@@ -56,8 +55,7 @@ fn refuses_what_is_no_catalog(rt: HostRuntime) -> Result<(), Fail> {
 
 #[test]
 fn refuses_words_without_a_catalog(rt: HostRuntime) -> Result<(), Fail> {
-    let (status, out) = end_of(&rt, rt.alloc(), &["run"], b"", 100)?;
-    assert_eq!(rt; status, Status::BadWords);
-    assert_eq!(rt; out.taken(), b"refused words\n".as_slice());
+    let expected = (Status::BadWords, "refused words\n");
+    assert!(rt; ends_with(&rt, rt.alloc(), &["run"], b"", expected)?);
     Ok(())
 }

@@ -6,9 +6,9 @@ use std::alloc::Global;
 use std::sync::Wait;
 use std::test::Fail;
 use std::thread::Threads;
-use test_support::{Unmade, words_of};
-use tk_io::{MemIntake, MemSink};
-use topk_top::{Status, top};
+use test_support::Unmade;
+use top_support::{Streams, ends_over};
+use topk_top::Status;
 
 const SHELF: &[Held] = &[Held {
     place: "a",
@@ -16,76 +16,130 @@ const SHELF: &[Held] = &[Held {
     kind: Kind::Honest,
 }];
 
+const WORDS: [&str; 2] = ["run", CATALOG];
+
+/// A catalog of that source.
+const ONE: Option<&str> = Some("name,place,random\nA,a,yes\n");
+
 const LINE: &[u8] = b"top 1 by A using nra\n";
 
 /// What is written of it.
 const TEXT: &[u8] =
     b"certificate 1\nquery top 1 by A using nra\ncount 2\nanswer 1 900 900\nstop depth 1 sorted 1 random 0 cost 1\ns A 1 900\nend\n";
 
-/// A shelf of the source, and of the catalog's text where there is one.
-fn shelf_with(alloc: Global, catalog: Option<&str>) -> Result<MemShelf, Unmade> {
-    let mut shelf = shelf_of(alloc, SHELF)?;
+/// Its first bytes, as many as there is room for.
+const FRONT: &[u8] = b"certificate 1\nquery ";
+
+/// Which calls of the input fail, for how many bytes there is room, how a run ends, what it writes, and how many rows the source has
+/// given then.
+type Run = (&'static [u64], u32, Status, &'static [u8], u64);
+
+/// The catalog's text, if there is one, the call for it that fails, and runs over the same shelf.
+type Tried = (Option<&'static str>, Option<u64>, &'static [Run]);
+
+/// Puts the catalog's text on the shelf, where there is one, and the number of the call for it that fails.
+fn add_catalog(
+    shelf: &mut MemShelf,
+    catalog: Option<&str>,
+    failing: Option<u64>,
+) -> Result<(), Unmade> {
     if let Some(text) = catalog {
         if shelf.add_text(CATALOG, text.as_bytes()).is_err() {
             return Err(Unmade::Memory);
         }
     }
-    Ok(shelf)
+    if let Some(call) = failing {
+        if shelf.fail_texts.push(call).is_err() {
+            return Err(Unmade::Memory);
+        }
+    }
+    Ok(())
 }
 
-/// How a run over a shelf ends where these calls of the input fail and there is room for so many bytes, and what it writes.
-fn end_at<W: Threads + Wait + Sync>(
+/// Whether each run over a shelf ends as it is to.
+fn are_so<W: Threads + Wait + Sync>(
     rt: &W,
     alloc: Global,
     shelf: &mut MemShelf,
-    failing: &[u64],
-    room: u32,
-) -> Result<(Status, MemSink), Unmade> {
-    let words = words_of(alloc, &["run", CATALOG])?;
-    let mut input = MemIntake::make(alloc, LINE, 10, failing)?;
-    let mut out = MemSink::make(alloc, room, &[])?;
-    let status = top(rt, alloc, &words, shelf, &mut input, &mut out);
-    Ok((status, out))
+    runs: &[Run],
+) -> Result<bool, Unmade> {
+    for (failing, room, status, text, given) in runs {
+        let streams = Streams {
+            input: LINE,
+            failing_reads: failing,
+            failing_writes: &[],
+            room: *room,
+        };
+        let ends = ends_over(rt, alloc, &WORDS, shelf, &streams, (*status, *text))?;
+        if !ends || shelf.rows_given_at("a") != *given {
+            return Ok(false);
+        }
+    }
+    Ok(true)
 }
 
-/// The catalog comes before the input: it is missed, or refused, before a read can fail.
-#[test]
-fn asks_for_the_catalog_first(rt: HostRuntime) -> Result<(), Fail> {
-    let mut shelf = shelf_with(rt.alloc(), None)?;
-    let (status, out) = end_at(&rt, rt.alloc(), &mut shelf, &[1], 1000)?;
-    assert_eq!(rt; status, Status::OpenFault);
-    assert!(rt; out.taken().is_empty());
-    let mut shelf = shelf_with(rt.alloc(), Some("name,place\n"))?;
-    let (status, out) = end_at(&rt, rt.alloc(), &mut shelf, &[1], 1000)?;
-    assert_eq!(rt; status, Status::BadCatalog);
-    assert_eq!(rt; out.taken(), b"refused catalog CatalogLine 1\n".as_slice());
-    Ok(())
+/// Whether the runs of a row go as they are to.
+fn goes_so<W: Threads + Wait + Sync>(rt: &W, alloc: Global, tried: &Tried) -> Result<bool, Unmade> {
+    let (catalog, failing, runs) = *tried;
+    let mut shelf = shelf_of(alloc, SHELF)?;
+    let goes = match add_catalog(&mut shelf, catalog, failing) {
+        Ok(()) => are_so(rt, alloc, &mut shelf, runs),
+        Err(unmade) => Err(unmade),
+    };
+    drop(shelf);
+    goes
 }
 
-/// One failed call for the catalog's text isn't for ever, and the source is put back with what it gave.
-#[test]
-fn opens_again_after_a_fault(rt: HostRuntime) -> Result<(), Fail> {
-    let mut shelf = shelf_with(rt.alloc(), Some("name,place,random\nA,a,yes\n"))?;
-    shelf.fail_texts.push(1)?;
-    let (status, out) = end_at(&rt, rt.alloc(), &mut shelf, &[], 1000)?;
-    assert_eq!(rt; status, Status::OpenFault);
-    assert!(rt; out.taken().is_empty());
-    let (status, out) = end_at(&rt, rt.alloc(), &mut shelf, &[], 1000)?;
-    assert_eq!(rt; status, Status::Done);
-    assert_eq!(rt; out.taken(), TEXT);
-    assert_eq!(rt; shelf.rows_given_at("a"), 2);
-    Ok(())
+/// The number of the first row that goes otherwise.
+fn first_wrong<W: Threads + Wait + Sync>(
+    rt: &W,
+    alloc: Global,
+    rows: &[Tried],
+) -> Result<Option<usize>, Unmade> {
+    for (number, tried) in rows.iter().enumerate() {
+        if !goes_so(rt, alloc, tried)? {
+            return Ok(Some(number));
+        }
+    }
+    Ok(None)
 }
 
+const ROWS: [Tried; 4] = [
+    // the catalog comes before the input: it is missed, or refused, before a read can fail
+    (None, None, &[(&[1], 1000, Status::OpenFault, b"", 0)]),
+    (
+        Some("name,place\n"),
+        None,
+        &[(
+            &[1],
+            1000,
+            Status::BadCatalog,
+            b"refused catalog CatalogLine 1\n",
+            0,
+        )],
+    ),
+    // one failed call for the catalog's text isn't for ever, and the source is put back with what it gave
+    (
+        ONE,
+        Some(1),
+        &[
+            (&[], 1000, Status::OpenFault, b"", 0),
+            (&[], 1000, Status::Done, TEXT, 2),
+        ],
+    ),
+    // faults of the streams: nothing is asked of the source where the lines can't be read
+    (
+        ONE,
+        None,
+        &[
+            (&[2], 1000, Status::ReadFault, b"", 0),
+            (&[], 20, Status::WriteFault, FRONT, 2),
+        ],
+    ),
+];
+
 #[test]
-fn ends_at_faults_of_the_streams(rt: HostRuntime) -> Result<(), Fail> {
-    let mut shelf = shelf_with(rt.alloc(), Some("name,place,random\nA,a,yes\n"))?;
-    let (status, out) = end_at(&rt, rt.alloc(), &mut shelf, &[2], 1000)?;
-    assert_eq!(rt; status, Status::ReadFault);
-    assert!(rt; out.taken().is_empty());
-    assert_eq!(rt; shelf.rows_given_at("a"), 0);
-    let (status, out) = end_at(&rt, rt.alloc(), &mut shelf, &[], 20)?;
-    assert_eq!(rt; status, Status::WriteFault);
-    assert_eq!(rt; out.taken(), &TEXT[..20]);
+fn ends_at_each_fault(rt: HostRuntime) -> Result<(), Fail> {
+    assert_eq!(rt; first_wrong(&rt, rt.alloc(), &ROWS)?, None);
     Ok(())
 }

@@ -1,13 +1,13 @@
 //! One drive of `run`, and rows of drives with what they are to come to.
 
 use super::shelves::shelf_of;
+use source_api::MemShelf;
 use source_support::Held;
 use std::alloc::Global;
 use std::sync::Wait;
 use std::thread::Threads;
 use test_support::Unmade;
-use tk_io::MemSink;
-use top_support::end_over;
+use top_support::{Streams, ends_over};
 use topk_top::Status;
 
 /// The place of the catalog on the shelf.
@@ -33,24 +33,41 @@ pub struct Row {
     pub text: &'static str,
 }
 
-/// How a run ends, and what it writes.
-pub fn run_of<W: Threads + Wait + Sync>(
+/// Whether a run over a shelf of its sources ends so, and writes this text.
+fn ends_on<W: Threads + Wait + Sync>(
     rt: &W,
     alloc: Global,
     case: &Case,
-) -> Result<(Status, MemSink), Unmade> {
-    let mut shelf = shelf_of(alloc, case.sources)?;
+    shelf: &mut MemShelf,
+    expected: (Status, &str),
+) -> Result<bool, Unmade> {
     if shelf.add_text(CATALOG, case.catalog.as_bytes()).is_err() {
         return Err(Unmade::Memory);
     }
+    let streams = Streams {
+        input: case.lines.as_bytes(),
+        failing_reads: &[],
+        failing_writes: &[],
+        room: ROOM,
+    };
+    let expected = (expected.0, expected.1.as_bytes());
     let words = [&["run", CATALOG], case.options].concat(alloc)?;
-    end_over(rt, alloc, &words, &mut shelf, case.lines.as_bytes(), ROOM)
+    let ends = ends_over(rt, alloc, &words, shelf, &streams, expected);
+    drop(words);
+    ends
 }
 
-/// Whether a run ends so and writes this.
-fn is_right<W: Threads + Wait + Sync>(rt: &W, alloc: Global, row: &Row) -> Result<bool, Unmade> {
-    let (status, out) = run_of(rt, alloc, &row.case)?;
-    Ok(status == row.status && out.taken() == row.text.as_bytes())
+/// Whether a run ends so, and writes this text.
+pub fn run_ends<W: Threads + Wait + Sync>(
+    rt: &W,
+    alloc: Global,
+    case: &Case,
+    expected: (Status, &str),
+) -> Result<bool, Unmade> {
+    let mut shelf = shelf_of(alloc, case.sources)?;
+    let ends = ends_on(rt, alloc, case, &mut shelf, expected);
+    drop(shelf);
+    ends
 }
 
 /// The place of the first row that comes to something else.
@@ -60,7 +77,7 @@ pub fn first_wrong<W: Threads + Wait + Sync>(
     rows: &[Row],
 ) -> Result<Option<usize>, Unmade> {
     for (place, row) in rows.iter().enumerate() {
-        if !is_right(rt, alloc, row)? {
+        if !run_ends(rt, alloc, &row.case, (row.status, row.text))? {
             return Ok(Some(place));
         }
     }

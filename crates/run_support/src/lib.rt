@@ -4,6 +4,6 @@
 mod cases;
 mod shelves;
 
-pub use cases::{CATALOG, Case, Row, first_wrong, run_of};
+pub use cases::{CATALOG, Case, Row, first_wrong, run_ends};
 pub use shelves::shelf_of;
 pub use source_support::{Held, Kind};

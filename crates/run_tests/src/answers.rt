@@ -51,23 +51,22 @@ const FAILING: &[Held] = &[
 ];
 
 /// The second row of the first list is at fault, and the second query alone comes to it, whatever was read before.
-const RISING: Case = Case {
-    options: &[],
-    catalog: "name,place,random\nA,a,yes\nB,b,yes\n",
-    sources: &[
-        Held {
-            place: "a",
-            rows: &[(1, 500), (2, 600)],
-            kind: Kind::Honest,
-        },
-        Held {
-            place: "b",
-            rows: &[(1, 400), (2, 300)],
-            kind: Kind::Honest,
-        },
-    ],
-    lines: "top 1 by sum(A,B) using ta\ntop 2 by sum(A,B) using ta\n",
-};
+const RISING: &[Held] = &[
+    Held {
+        place: "a",
+        rows: &[(1, 500), (2, 600)],
+        kind: Kind::Honest,
+    },
+    Held {
+        place: "b",
+        rows: &[(1, 400), (2, 300)],
+        kind: Kind::Honest,
+    },
+];
+
+const RISING_CATALOG: &str = "name,place,random\nA,a,yes\nB,b,yes\n";
+
+const RISING_LINES: &str = "top 1 by sum(A,B) using ta\ntop 2 by sum(A,B) using ta\n";
 
 const RISING_TEXT: &str =
     "certificate 1\nquery top 1 by sum(A,B) using ta\ncount 2\nanswer 1 900 900\nstop depth 1 sorted 2 random 0 cost 2\ns A 1 500\ns B 1 400\nend\nrefused 2 OutOfOrder A 2 500 600\n";
@@ -116,7 +115,9 @@ const ANSWERED: &[Row] = &[
     Row {
         case: Case {
             options: &["--workers", "2"],
-            ..RISING
+            catalog: RISING_CATALOG,
+            sources: RISING,
+            lines: RISING_LINES,
         },
         status: Status::Partial,
         text: RISING_TEXT,
@@ -124,7 +125,9 @@ const ANSWERED: &[Row] = &[
     Row {
         case: Case {
             options: &["--page", "1", "--ahead", "0"],
-            ..RISING
+            catalog: RISING_CATALOG,
+            sources: RISING,
+            lines: RISING_LINES,
         },
         status: Status::Partial,
         text: RISING_TEXT,

@@ -1,7 +1,5 @@
-//! Tests of `run` over a shelf in memory: rows that were worked out by hand.
+//! Tests of query lines that `run` answers, over a shelf in memory: rows that were worked out by hand.
 #![tactic(auto)]
 
 #[cfg(test)]
 mod answers;
-#[cfg(test)]
-mod refusals;

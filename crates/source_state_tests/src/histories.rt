@@ -6,130 +6,100 @@ use source_state::{Applied, Asked, FailKind, SourceFault, SourceState, Tally};
 use std::alloc::Global;
 use std::test::Fail;
 
-/// What the readers tell: `asked` of object 2, `asked_one` of object 1.
-#[derive(Clone, Copy, Debug, PartialEq, Eq)]
-struct Told {
-    applied: Applied,
-    rows: u32,
-    fault: Option<SourceFault>,
-    asked: Option<Asked>,
-    asked_one: Option<Asked>,
-    pending: Option<u32>,
-    fails: u64,
-    paused: bool,
-}
-
-const NOTHING: Told = Told {
-    applied: Applied::Done,
-    rows: 0,
-    fault: None,
-    asked: None,
-    asked_one: None,
-    pending: None,
-    fails: 0,
-    paused: false,
-};
-
-/// A name, events, and what is told then.
-type History = (&'static str, &'static [Step], Told);
+/// Events, what the last one is answered, how many rows there are then, their fault, and what is told of the ask of object 2.
+type Paged = (
+    &'static [Step],
+    Applied,
+    u32,
+    Option<SourceFault>,
+    Option<Asked>,
+);
 
 /// Rows at fault.
-const ROWS: [History; 4] = [
+const ROWS: [Paged; 4] = [
+    // a row out of order ends the page
     (
-        "a row out of order ends the page",
         &[Step::Page(&[(1, 900), (2, 950), (3, 800)])],
-        Told {
-            applied: Applied::Broken,
-            rows: 1,
-            fault: Some(SourceFault::OutOfOrder {
-                place: 2,
-                before: 900,
-                after: 950,
-            }),
-            ..NOTHING
-        },
+        Applied::Broken,
+        1,
+        Some(SourceFault::OutOfOrder {
+            place: 2,
+            before: 900,
+            after: 950,
+        }),
+        None,
     ),
+    // a row of an object that was graded otherwise
     (
-        "a row of an object that was graded otherwise",
         &[
             Step::Ask(2),
             Step::Page(&[(1, 900)]),
             Step::Grade(2, 850),
             Step::Page(&[(2, 800)]),
         ],
-        Told {
-            applied: Applied::Broken,
-            rows: 1,
-            fault: Some(SourceFault::Clash {
-                object: 2,
-                sorted: 800,
-                random: 850,
-            }),
-            asked: Some(Asked::Graded(850)),
-            ..NOTHING
-        },
+        Applied::Broken,
+        1,
+        Some(SourceFault::Clash {
+            object: 2,
+            sorted: 800,
+            random: 850,
+        }),
+        Some(Asked::Graded(850)),
     ),
+    // a page without rows
     (
-        "a page without rows",
         &[Step::Page(&[])],
-        Told {
-            applied: Applied::Broken,
-            fault: Some(SourceFault::ShortList { stated: 3, got: 0 }),
-            ..NOTHING
-        },
+        Applied::Broken,
+        0,
+        Some(SourceFault::ShortList { stated: 3, got: 0 }),
+        None,
     ),
+    // a row that comes twice, on a further page
     (
-        "a row that comes twice, on a further page",
         &[Step::Page(&[(2, 900), (1, 800)]), Step::Page(&[(2, 700)])],
-        Told {
-            applied: Applied::Broken,
-            rows: 2,
-            fault: Some(SourceFault::Repeated {
-                object: 2,
-                place: 3,
-            }),
-            ..NOTHING
-        },
+        Applied::Broken,
+        2,
+        Some(SourceFault::Repeated {
+            object: 2,
+            place: 3,
+        }),
+        None,
     ),
 ];
 
 /// Grades above rows.
-const ABOVE: [History; 5] = [
+const ABOVE: [Paged; 5] = [
+    // a grade above the last row's
     (
-        "a grade above the last row's",
         &[Step::Ask(2), Step::Page(&[(1, 900)]), Step::Grade(2, 950)],
-        Told {
-            rows: 1,
-            asked: Some(Asked::Bad(SourceFault::Above {
-                object: 2,
-                grade: 950,
-                bottom: 900,
-            })),
-            ..NOTHING
-        },
+        Applied::Done,
+        1,
+        None,
+        Some(Asked::Bad(SourceFault::Above {
+            object: 2,
+            grade: 950,
+            bottom: 900,
+        })),
     ),
+    // a row under a grade that the rows don't hold
     (
-        "a row under a grade that the rows don't hold",
         &[
             Step::Ask(2),
             Step::Page(&[(1, 900)]),
             Step::Grade(2, 850),
             Step::Page(&[(3, 840)]),
         ],
-        Told {
-            applied: Applied::Broken,
-            rows: 1,
-            fault: Some(SourceFault::Above {
-                object: 2,
-                grade: 850,
-                bottom: 840,
-            }),
-            asked: Some(Asked::Graded(850)),
-            ..NOTHING
-        },
+        Applied::Broken,
+        1,
+        Some(SourceFault::Above {
+            object: 2,
+            grade: 850,
+            bottom: 840,
+        }),
+        Some(Asked::Graded(850)),
     ),
+    // of two such grades the first asked is named, not the greatest
     (
-        "of two such grades the first asked is named, not the greatest",
         &[
             Step::Ask(2),
             Step::Ask(3),
@@ -138,139 +108,76 @@ const ABOVE: [History; 5] = [
             Step::Grade(2, 850),
             Step::Page(&[(4, 840)]),
         ],
-        Told {
-            applied: Applied::Broken,
-            rows: 1,
-            fault: Some(SourceFault::Above {
-                object: 2,
-                grade: 850,
-                bottom: 840,
-            }),
-            asked: Some(Asked::Graded(850)),
-            ..NOTHING
-        },
+        Applied::Broken,
+        1,
+        Some(SourceFault::Above {
+            object: 2,
+            grade: 850,
+            bottom: 840,
+        }),
+        Some(Asked::Graded(850)),
     ),
+    // a grade equal to the last row's is good
     (
-        "a grade equal to the last row's is good",
         &[Step::Page(&[(1, 900)]), Step::Ask(2), Step::Grade(2, 900)],
-        Told {
-            rows: 1,
-            asked: Some(Asked::Graded(900)),
-            ..NOTHING
-        },
+        Applied::Done,
+        1,
+        None,
+        Some(Asked::Graded(900)),
     ),
+    // a grade above the greatest, as a row and before any row
     (
-        "a grade above the greatest, as a row and before any row",
         &[
             Step::Ask(2),
             Step::Grade(2, 1_000_001),
             Step::Page(&[(1, 1_000_001)]),
         ],
-        Told {
-            applied: Applied::Broken,
-            fault: Some(SourceFault::TooHigh {
-                place: 1,
-                grade: 1_000_001,
-            }),
-            asked: Some(Asked::Bad(SourceFault::Above {
-                object: 2,
-                grade: 1_000_001,
-                bottom: 1_000_000,
-            })),
-            ..NOTHING
-        },
+        Applied::Broken,
+        0,
+        Some(SourceFault::TooHigh {
+            place: 1,
+            grade: 1_000_001,
+        }),
+        Some(Asked::Bad(SourceFault::Above {
+            object: 2,
+            grade: 1_000_001,
+            bottom: 1_000_000,
+        })),
     ),
 ];
 
-/// Asks and pauses.
-const ASKS: [History; 6] = [
-    ("nothing", &[], NOTHING),
-    (
-        "an ask ends a pause",
-        &[Step::Want(2), Step::Fail(FailKind::Failed), Step::Ask(1)],
-        Told {
-            asked_one: Some(Asked::Pending),
-            pending: Some(1),
-            fails: 1,
-            ..NOTHING
-        },
-    ),
-    (
-        "a want ends a pause",
-        &[Step::Fail(FailKind::Failed), Step::Want(2)],
-        Told {
-            fails: 1,
-            ..NOTHING
-        },
-    ),
-    (
-        "a fail begins a pause again",
-        &[
-            Step::Fail(FailKind::Failed),
-            Step::Want(2),
-            Step::Fail(FailKind::Garbled),
-        ],
-        Told {
-            fails: 2,
-            paused: true,
-            ..NOTHING
-        },
-    ),
-    (
-        "an ask of an object that the rows hold isn't due",
-        &[Step::Page(&[(2, 900)]), Step::Ask(2), Step::Ask(3)],
-        Told {
-            rows: 1,
-            asked: Some(Asked::Pending),
-            pending: Some(3),
-            ..NOTHING
-        },
-    ),
-    (
-        "a miss",
-        &[Step::Ask(2), Step::Ask(1), Step::Miss(2)],
-        Told {
-            asked: Some(Asked::Missed),
-            asked_one: Some(Asked::Pending),
-            pending: Some(1),
-            ..NOTHING
-        },
-    ),
-];
+/// Whether a list is at fault by its rows as a row says, and nothing else is told of it: no ask of object 1, nothing pending, no
+/// fail, no pause.
+fn is_paged(state: &SourceState, row: &Paged) -> bool {
+    state.rows() == row.2
+        && state.row_fault() == row.3
+        && state.asked(2) == row.4
+        && is_quiet(state, None, None)
+        && state.fails() == 0
+        && !state.paused()
+}
 
-/// What is told after these events.
-fn told_after(alloc: Global, steps: &[Step]) -> Result<Told, Fail> {
+/// Whether these are told of the ask of object 1 and of the first pending ask.
+fn is_quiet(state: &SourceState, asked: Option<Asked>, pending: Option<u32>) -> bool {
+    state.asked(1) == asked && state.first_pending() == pending
+}
+
+/// Whether that is told after the events of a row.
+fn pages_so(alloc: Global, row: &Paged) -> Result<bool, Fail> {
     let Ok(mut state) = SourceState::open(alloc, 7, 3) else {
         return Err("no memory".into());
     };
-    let told = told_by(alloc, &mut state, steps);
+    let applied = apply_all(alloc, &mut state, row.0);
+    let is_so = is_paged(&state, row);
     drop(state);
-    told
+    Ok(applied? == row.1 && is_so)
 }
 
-fn told_by(alloc: Global, state: &mut SourceState, steps: &[Step]) -> Result<Told, Fail> {
-    let applied = apply_all(alloc, state, steps)?;
-    Ok(all_told(state, applied))
-}
-
-fn all_told(state: &SourceState, applied: Applied) -> Told {
-    Told {
-        applied,
-        rows: state.rows(),
-        fault: state.row_fault(),
-        asked: state.asked(2),
-        asked_one: state.asked(1),
-        pending: state.first_pending(),
-        fails: state.fails(),
-        paused: state.paused(),
-    }
-}
-
-/// The name of the first history of which something else is told.
-fn first_wrong(alloc: Global, histories: &[History]) -> Result<Option<&'static str>, Fail> {
-    for (name, steps, told) in histories {
-        if told_after(alloc, steps)? != *told {
-            return Ok(Some(*name));
+/// The number of the first row of which something else is told.
+fn first_wrong(alloc: Global, rows: &[Paged]) -> Result<Option<usize>, Fail> {
+    for (number, row) in rows.iter().enumerate() {
+        if !pages_so(alloc, row)? {
+            return Ok(Some(number));
         }
     }
     Ok(None)
@@ -288,24 +195,115 @@ fn tells_grades_above_rows(rt: HostRuntime) -> Result<(), Fail> {
     Ok(())
 }
 
+/// Events, how many rows there are then, what is told of the asks of objects 2 and 1, the first pending ask, how many fails there
+/// were, and whether there is a pause.
+type Waited = (
+    &'static [Step],
+    u32,
+    Option<Asked>,
+    Option<Asked>,
+    Option<u32>,
+    u64,
+    bool,
+);
+
+/// Asks and pauses.
+const ASKS: [Waited; 6] = [
+    (&[], 0, None, None, None, 0, false),
+    // an ask ends a pause
+    (
+        &[Step::Want(2), Step::Fail(FailKind::Failed), Step::Ask(1)],
+        0,
+        None,
+        Some(Asked::Pending),
+        Some(1),
+        1,
+        false,
+    ),
+    // a want ends a pause
+    (
+        &[Step::Fail(FailKind::Failed), Step::Want(2)],
+        0,
+        None,
+        None,
+        None,
+        1,
+        false,
+    ),
+    // a fail begins a pause again
+    (
+        &[
+            Step::Fail(FailKind::Failed),
+            Step::Want(2),
+            Step::Fail(FailKind::Garbled),
+        ],
+        0,
+        None,
+        None,
+        None,
+        2,
+        true,
+    ),
+    // an ask of an object that the rows hold isn't due
+    (
+        &[Step::Page(&[(2, 900)]), Step::Ask(2), Step::Ask(3)],
+        1,
+        Some(Asked::Pending),
+        None,
+        Some(3),
+        0,
+        false,
+    ),
+    // a miss
+    (
+        &[Step::Ask(2), Step::Ask(1), Step::Miss(2)],
+        0,
+        Some(Asked::Missed),
+        Some(Asked::Pending),
+        Some(1),
+        0,
+        false,
+    ),
+];
+
+/// Whether a list without a fault by its rows waits as a row says.
+fn is_waiting(state: &SourceState, row: &Waited) -> bool {
+    state.rows() == row.1
+        && state.row_fault().is_none()
+        && state.asked(2) == row.2
+        && is_quiet(state, row.3, row.4)
+        && state.fails() == row.5
+        && state.paused() == row.6
+}
+
+/// Whether that is told after the events of a row, of which the last one is done.
+fn waits_so(alloc: Global, row: &Waited) -> Result<bool, Fail> {
+    let Ok(mut state) = SourceState::open(alloc, 7, 3) else {
+        return Err("no memory".into());
+    };
+    let applied = apply_all(alloc, &mut state, row.0);
+    let is_so = is_waiting(&state, row);
+    drop(state);
+    Ok(applied? == Applied::Done && is_so)
+}
+
+/// The number of the first row that waits otherwise.
+fn first_other(alloc: Global, rows: &[Waited]) -> Result<Option<usize>, Fail> {
+    for (number, row) in rows.iter().enumerate() {
+        if !waits_so(alloc, row)? {
+            return Ok(Some(number));
+        }
+    }
+    Ok(None)
+}
+
 #[test]
 fn tells_asks_and_pauses(rt: HostRuntime) -> Result<(), Fail> {
-    assert_eq!(rt; first_wrong(rt.alloc(), &ASKS)?, None);
+    assert_eq!(rt; first_other(rt.alloc(), &ASKS)?, None);
     Ok(())
 }
 
-/// What the other readers tell.
-#[derive(Clone, Copy, Debug, PartialEq, Eq)]
-struct Counts {
-    count: u32,
-    want: u32,
-    asks: u32,
-    tally: Tally,
-    last_fail: Option<FailKind>,
-    second: Option<Row>,
-    third: Option<Row>,
-}
-
+/// Wants, an ask, a page of two rows, and fails.
 const MANY: [Step; 7] = [
     Step::Want(2),
     Step::Want(1),
@@ -316,51 +314,38 @@ const MANY: [Step; 7] = [
     Step::Fail(FailKind::Garbled),
 ];
 
-const COUNTS: Counts = Counts {
-    count: 3,
-    want: 2,
-    asks: 1,
-    tally: Tally {
+/// Whether the other readers tell what there is after these.
+fn are_counted(state: &SourceState) -> bool {
+    let second = Row {
+        object: 6,
+        grade: 30,
+    };
+    let tally = Tally {
         failed: 0,
         garbled: 2,
         memory: 1,
-    },
-    last_fail: Some(FailKind::Garbled),
-    second: Some(Row {
-        object: 6,
-        grade: 30,
-    }),
-    third: None,
-};
-
-fn all_counts(state: &SourceState) -> Counts {
-    Counts {
-        count: state.count(),
-        want: state.want(),
-        asks: state.asks(),
-        tally: state.tally(),
-        last_fail: state.last_fail(),
-        second: state.row(1),
-        third: state.row(2),
-    }
+    };
+    [state.count(), state.want(), state.asks()] == [3, 2, 1]
+        && state.tally() == tally
+        && state.last_fail() == Some(FailKind::Garbled)
+        && state.row(1) == Some(second)
+        && state.row(2).is_none()
 }
 
-fn counts_after(alloc: Global, steps: &[Step]) -> Result<Counts, Fail> {
+/// The same after events.
+fn are_counted_after(alloc: Global, steps: &[Step]) -> Result<bool, Fail> {
     let Ok(mut state) = SourceState::open(alloc, 7, 3) else {
         return Err("no memory".into());
     };
-    let counts = counts_by(alloc, &mut state, steps);
+    let applied = apply_all(alloc, &mut state, steps);
+    let are_so = are_counted(&state);
     drop(state);
-    counts
-}
-
-fn counts_by(alloc: Global, state: &mut SourceState, steps: &[Step]) -> Result<Counts, Fail> {
-    apply_all(alloc, state, steps)?;
-    Ok(all_counts(state))
+    applied?;
+    Ok(are_so)
 }
 
 #[test]
 fn counts_and_names(rt: HostRuntime) -> Result<(), Fail> {
-    assert_eq!(rt; counts_after(rt.alloc(), &MANY)?, COUNTS);
+    assert!(rt; are_counted_after(rt.alloc(), &MANY)?);
     Ok(())
 }

@@ -16,6 +16,8 @@ pub enum Kind {
     GarblesAtPage(u64),
     /// This call for a grade fails.
     FailsAtGrade(u64),
+    /// What this call for a grade gives can't be read.
+    GarblesAtGrade(u64),
     /// Random access gives this object this grade, whatever the rows say.
     Lies(u32, u32),
 }
@@ -52,6 +54,7 @@ fn bend(source: &mut MemSource, kind: Kind) -> Option<()> {
         Kind::FailsAtPage(call) => source.fail_pages.push(call).ok(),
         Kind::GarblesAtPage(call) => source.garble_pages.push(call).ok(),
         Kind::FailsAtGrade(call) => source.fail_grades.push(call).ok(),
+        Kind::GarblesAtGrade(call) => source.garble_grades.push(call).ok(),
         Kind::Lies(object, grade) => source.lies.push(Row { object, grade }).ok(),
     }
 }

@@ -1,5 +1,9 @@
-//! Tests on random tables: what `top` writes of a query is what the plain program computes of it.
+//! Tests of each algorithm on random tables against the plain program.
 #![tactic(auto)]
 
+#[cfg(test)]
+mod bundles;
+#[cfg(test)]
+mod plain;
 #[cfg(test)]
 mod tests;

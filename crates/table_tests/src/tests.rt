@@ -1,23 +1,14 @@
-//! Random tables, with ties everywhere among them.
+//! What `one` writes of random tables, and what the plain program computes.
 
-ghost use Rattle.std.specs.Prelude.{◌<◌, ◌≤◌};
-ghost use Rattle.plain_run.specs.Posed.{IsPosed};
-
-use plain_run::{ca_answer, ca_run, nra_answer, nra_run, ta_answer, ta_run};
-use query_text::{Algorithm, Costs, Query, read};
-use ranked_list::{Item, MemList, is_table, read_bundle};
+use super::bundles::bundle_of;
+use super::plain::expected;
 use std::alloc::Global;
-use std::process::Abort;
 use std::sync::Wait;
 use std::test::Fail;
 use std::thread::Threads;
-use test_support::{Numbers, shuffled};
-use top_support::end_of;
-use topk_theory::Access;
+use test_support::Numbers;
+use top_support::ends_with;
 use topk_top::Status;
-
-/// The names of the lists, in the order in which each expression names them.
-const NAMES: [&str; 3] = ["A", "B", "C"];
 
 /// Expressions over one, two and three lists.
 const EXPRESSIONS: [(usize, &str); 8] = [
@@ -31,194 +22,140 @@ const EXPRESSIONS: [(usize, &str); 8] = [
     (3, "min(sum(A,B),C)"),
 ];
 
-/// The lines of a list whose grades fall from a few on, often by 0.
-fn list_lines(
-    alloc: Global,
-    numbers: &mut Numbers,
-    name: &str,
-    count: u32,
-) -> Result<String, Fail> {
-    let mut lines = format!(in alloc; "list {name}\n")?;
-    let mut grade = numbers.below(5);
-    for object in &shuffled(alloc, numbers, count)? {
-        let line = format!(in alloc; "{object},{grade}\n")?;
-        lines.push_str(&line)?;
-        let step = numbers.below(3);
-        grade = grade.saturating_sub(step);
-    }
-    Ok(lines)
-}
-
-/// A bundle of so many lists of `count` objects, and a query.
-fn bundle_of(
-    alloc: Global,
-    numbers: &mut Numbers,
-    lists: usize,
-    count: u32,
-    query: &str,
-) -> Result<String, Fail> {
-    let mut text = String::new(alloc);
-    for name in NAMES.iter().take(lists) {
-        let lines = list_lines(alloc, numbers, name, count)?;
-        text.push_str(&lines)?;
-    }
-    let last = format!(in alloc; "query {query}\n")?;
-    text.push_str(&last)?;
-    Ok(text)
-}
-
-/// What the plain program answers to a query, and what it reads.
-fn plain_outcome(
-    alloc: Global,
-    lists: &[MemList],
-    query: &Query,
-    costs: Costs,
-) -> Result<(Vec<Item>, Vec<Access>), Fail>
-    requires posed { IsPosed lists.now query.now.expr }
-    requires costs { 1 ≤ costs.sorted }
-{
-    let expr = &query.expr;
-    match query.algorithm {
-        Algorithm::Ta => {
-            let items = ta_answer(alloc, lists, expr, query.k)?;
-            Ok((items, ta_run(alloc, lists, expr, query.k)?))
-        }
-        Algorithm::Nra => {
-            let items = nra_answer(alloc, lists, expr, query.k)?;
-            Ok((items, nra_run(alloc, lists, expr, query.k)?))
-        }
-        Algorithm::Ca => {
-            let items = ca_answer(alloc, lists, expr, query.k, costs)?;
-            Ok((items, ca_run(alloc, lists, expr, query.k, costs)?))
-        }
-    }
-}
-
-/// The line of an access.
-fn access_line(alloc: Global, access: &Access) -> Result<String, Fail> {
-    let name = NAMES.get(access.list() as usize).ok_or("a list")?;
-    let sort = if access.is_sorted() { 's' } else { 'r' };
-    let (object, grade) = (access.object(), access.grade());
-    Ok(format!(in alloc; "{sort} {name} {object} {grade}\n")?)
-}
-
-/// What so many accesses cost.
-fn cost_of(sorted: usize, random: usize, costs: Costs) -> Option<u64> {
-    let sorted = u64::from(costs.sorted).checked_mul(sorted as u64)?;
-    let random = u64::from(costs.random).checked_mul(random as u64)?;
-    sorted.checked_add(random)
-}
-
-/// The stop line: the depth of list A, which is as deep as any, and what was read at these costs.
-fn stop_line(alloc: Global, accesses: &[Access], costs: Costs) -> Result<String, Fail> {
-    let sorted = accesses.iter().filter(|access| access.is_sorted()).count();
-    let depth = accesses
-        .iter()
-        .filter(|access| access.is_sorted() && access.list() == 0)
-        .count();
-    let random = accesses.iter().filter(|access| !access.is_sorted()).count();
-    let cost = cost_of(sorted, random, costs).ok_or("a cost")?;
-    Ok(format!(in alloc; "stop depth {depth} sorted {sorted} random {random} cost {cost}\n")?)
-}
-
-/// The certificate of what the plain program computes.
-fn certificate_of(
-    alloc: Global,
-    query: &str,
-    count: u32,
-    items: &[Item],
-    accesses: &[Access],
-    costs: Costs,
-) -> Result<String, Fail> {
-    let mut text = format!(in alloc; "certificate 1\nquery {query}\ncount {count}\n")?;
-    for item in items {
-        let (object, low, high) = (item.object, item.low, item.high);
-        let line = format!(in alloc; "answer {object} {low} {high}\n")?;
-        text.push_str(&line)?;
-    }
-    text.push_str(&stop_line(alloc, accesses, costs)?)?;
-    for access in accesses {
-        text.push_str(&access_line(alloc, access)?)?;
-    }
-    text.push_str("end\n")?;
-    Ok(text)
-}
-
-/// The certificate of a query over the lists of a bundle, by the plain program.
-fn expected(
-    rt: &impl Abort,
+/// Whether `one` writes of a bundle what the plain program computes.
+fn is_plain<W: Threads + Wait + Sync>(
+    rt: &W,
     alloc: Global,
     input: &str,
-    text: &str,
-    count: u32,
-) -> Result<String, Fail> {
-    let bundle = read_bundle(alloc, input.as_bytes())?;
-    let query = read(alloc, text.as_bytes())?;
-    assert!(rt; is_table(alloc, &bundle.lists)?, "a table");
-    assert!(rt;
-        bundle.lists.len() == query.expr.lists() as usize,
-        "its lists"
+    asked: (&str, u32),
+) -> Result<bool, Fail> {
+    let wanted = expected(alloc, input, asked)?;
+    let is_so = ends_with(
+        rt,
+        alloc,
+        &["one"],
+        input.as_bytes(),
+        (Status::Done, &wanted),
     );
-    assert!(rt; bundle.lists.len() <= 8, "few lists");
-    let costs = query.costs_in_force();
-    assert!(rt; 1 <= costs.sorted, "a cost");
-    let (items, accesses) = plain_outcome(alloc, &bundle.lists, &query, costs)?;
-    certificate_of(alloc, text, count, &items, &accesses, costs)
+    drop(wanted);
+    Ok(is_so?)
 }
 
-/// Compares what `one` writes of a random table with what the plain program computes.
-fn try_table<W: Abort + Threads + Wait + Sync>(
+/// The same of a random bundle of so many lists.
+fn is_plain_at_random<W: Threads + Wait + Sync>(
     rt: &W,
     alloc: Global,
     numbers: &mut Numbers,
     lists: usize,
-    count: u32,
-    text: &str,
-) -> Result<(), Fail> {
-    let input = bundle_of(alloc, numbers, lists, count, text)?;
-    let wanted = expected(rt, alloc, &input, text, count)?;
-    let (status, out) = end_of(rt, alloc, &["one"], input.as_bytes(), 2000)?;
-    assert_eq!(rt; status, Status::Done, "{input}");
-    assert_eq!(rt; out.taken(), wanted.as_bytes(), "{input}");
-    Ok(())
+    asked: (&str, u32),
+) -> Result<bool, Fail> {
+    let input = bundle_of(alloc, numbers, lists, asked.1, asked.0)?;
+    let is_so = is_plain(rt, alloc, &input, asked);
+    drop(input);
+    is_so
 }
 
-/// Each expression, with each number of objects and of answers up to four, on random tables.
-fn try_tables<W: Abort + Threads + Wait + Sync>(
+/// The same of three of them.
+fn are_plain<W: Threads + Wait + Sync>(
     rt: &W,
     alloc: Global,
-    algorithm: &str,
-) -> Result<(), Fail> {
-    let mut numbers = Numbers::from_start(1);
-    for (lists, expression) in EXPRESSIONS {
-        for count in 1..5 {
-            for k in 1..count + 1 {
-                let text = format!(in alloc; "top {k} by {expression} using {algorithm}")?;
-                for _table in 0..3 {
-                    try_table(rt, alloc, &mut numbers, lists, count, &text)?;
-                }
+    numbers: &mut Numbers,
+    lists: usize,
+    asked: (&str, u32),
+) -> Result<bool, Fail> {
+    for _table in 0..3 {
+        if !is_plain_at_random(rt, alloc, numbers, lists, asked)? {
+            return Ok(false);
+        }
+    }
+    Ok(true)
+}
+
+/// The same of a query for k of so many objects by an expression.
+fn are_plain_for<W: Threads + Wait + Sync>(
+    rt: &W,
+    alloc: Global,
+    numbers: &mut Numbers,
+    by: (usize, &str, &str),
+    k: u32,
+    count: u32,
+) -> Result<bool, Fail> {
+    let (lists, expression, algorithm) = by;
+    let query = format!(in alloc; "top {k} by {expression} using {algorithm}")?;
+    let are_so = are_plain(rt, alloc, numbers, lists, (&query, count));
+    drop(query);
+    are_so
+}
+
+/// The same for each number of objects and of answers up to four.
+fn is_plain_by<W: Threads + Wait + Sync>(
+    rt: &W,
+    alloc: Global,
+    numbers: &mut Numbers,
+    by: (usize, &str, &str),
+) -> Result<bool, Fail> {
+    for count in 1..5 {
+        for k in 1..count + 1 {
+            if !are_plain_for(rt, alloc, numbers, by, k, count)? {
+                return Ok(false);
             }
         }
     }
-    Ok(())
+    Ok(true)
+}
+
+/// The first expression by which something else is written than the plain program computes, by an algorithm.
+fn first_other<W: Threads + Wait + Sync>(
+    rt: &W,
+    alloc: Global,
+    algorithm: &str,
+) -> Result<Option<&'static str>, Fail> {
+    let mut numbers = Numbers::from_start(1);
+    for (lists, expression) in &EXPRESSIONS {
+        if !is_plain_by(rt, alloc, &mut numbers, (*lists, *expression, algorithm))? {
+            return Ok(Some(*expression));
+        }
+    }
+    Ok(None)
 }
 
 /// Costs whose ratio is less than 1, 1, between 1 and 2, 2, and more than there are depths.
+const COMBINED: [&str; 5] = [
+    "ca",
+    "ca cost 7 2",
+    "ca cost 2 3",
+    "ca cost 1 2",
+    "ca cost 3 100",
+];
+
+/// The first of these algorithms by which something else is written, and the first such expression.
+fn first_other_by<W: Threads + Wait + Sync>(
+    rt: &W,
+    alloc: Global,
+    algorithms: &[&'static str],
+) -> Result<Option<(&'static str, &'static str)>, Fail> {
+    for algorithm in algorithms {
+        if let Some(expression) = first_other(rt, alloc, algorithm)? {
+            return Ok(Some((*algorithm, expression)));
+        }
+    }
+    Ok(None)
+}
+
 #[test]
 fn combined_algorithm(rt: HostRuntime) -> Result<(), Fail> {
-    for costs in ["", " cost 7 2", " cost 2 3", " cost 1 2", " cost 3 100"] {
-        let options = format!(in rt.alloc(); "ca{costs}")?;
-        try_tables(&rt, rt.alloc(), &options)?;
-    }
+    assert_eq!(rt; first_other_by(&rt, rt.alloc(), &COMBINED)?, None);
     Ok(())
 }
 
 #[test]
 fn threshold_algorithm(rt: HostRuntime) -> Result<(), Fail> {
-    try_tables(&rt, rt.alloc(), "ta")
+    assert_eq!(rt; first_other(&rt, rt.alloc(), "ta")?, None);
+    Ok(())
 }
 
 #[test]
 fn without_random_access(rt: HostRuntime) -> Result<(), Fail> {
-    try_tables(&rt, rt.alloc(), "nra")
+    assert_eq!(rt; first_other(&rt, rt.alloc(), "nra")?, None);
+    Ok(())
 }

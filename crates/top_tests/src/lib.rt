@@ -1,5 +1,7 @@
-//! Tests of the top call: rows from outside, and each fault in turn.
+//! Tests of the top call: rows from outside.
 #![tactic(auto)]
 
 #[cfg(test)]
-mod tests;
+mod answers;
+#[cfg(test)]
+mod refusals;

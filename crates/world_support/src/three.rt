@@ -3,12 +3,15 @@
 use super::acts::Sources;
 use super::outcomes::{Asked, Expected, Figures};
 
-/// Two lists of three objects, which random access agrees with, a row a page.
+/// Two lists of three objects.
+pub const THREE_LISTS: &[&[(u32, u32)]] = &[
+    &[(1, 900), (2, 800), (3, 100)],
+    &[(2, 700), (3, 600), (1, 500)],
+];
+
+/// These lists, which random access agrees with, a row a page.
 pub const THREE: Sources = Sources {
-    lists: &[
-        &[(1, 900), (2, 800), (3, 100)],
-        &[(2, 700), (3, 600), (1, 500)],
-    ],
+    lists: THREE_LISTS,
     grades: &[],
     page: 1,
     fails: None,

@@ -1,16 +1,19 @@
 //! Calls that fail.
 
-use super::cases::{Case, first_wrong};
 use source_state::LookFault;
 use std::test::Fail;
-use world_support::{Act, Expected, FIRST, FIRST_ENDS, Sources, THREE};
+use world_support::{
+    Act, Case, Expected, FIRST, FIRST_ENDS, Sources, THREE, THREE_LISTS, first_wrong,
+};
 
 const CASES: [Case; 5] = [
     // the second page fails: one query waited for it, the other looks later
     Case {
         sources: Sources {
+            lists: THREE_LISTS,
+            grades: &[],
+            page: 1,
             fails: Some((0, 1)),
-            ..THREE
         },
         counts: &[3, 3],
         asked: &[FIRST, FIRST],

@@ -1,18 +1,18 @@
 //! Lists that are no table.
 
-use super::cases::{Case, first_wrong};
 use access_log::CoreFault;
 use source_state::{LookFault, SourceFault};
 use std::test::Fail;
-use world_support::{Expected, FIRST, Figures, Sources, THREE};
+use world_support::{Case, Expected, FIRST, Figures, Sources, first_wrong};
 
 const CASES: [Case; 6] = [
     // a row out of order, which one query doesn't reach, whatever is read ahead
     Case {
         sources: Sources {
             lists: &[&[(1, 500), (2, 600)], &[(1, 400), (2, 300)]],
+            grades: &[],
             page: 2,
-            ..THREE
+            fails: None,
         },
         counts: &[2, 2],
         asked: &[FIRST, ("top 2 by sum(A,B) using ta", &[0, 1])],
@@ -42,8 +42,9 @@ const CASES: [Case; 6] = [
     Case {
         sources: Sources {
             lists: &[&[(7, 9), (8, 8), (7, 7)]],
+            grades: &[],
             page: 2,
-            ..THREE
+            fails: None,
         },
         counts: &[3],
         asked: &[("top 3 by A using nra", &[0])],
@@ -61,7 +62,9 @@ const CASES: [Case; 6] = [
     Case {
         sources: Sources {
             lists: &[&[(1, 9), (2, 8)], &[(3, 7), (1, 6)]],
-            ..THREE
+            grades: &[],
+            page: 1,
+            fails: None,
         },
         counts: &[2, 2],
         asked: &[FIRST],
@@ -73,7 +76,9 @@ const CASES: [Case; 6] = [
     Case {
         sources: Sources {
             lists: &[&[(1, 9), (2, 8)], &[(1, 7), (3, 6)]],
-            ..THREE
+            grades: &[],
+            page: 1,
+            fails: None,
         },
         counts: &[2, 2],
         asked: &[("top 2 by sum(A,B) using ta", &[0, 1])],
@@ -88,7 +93,9 @@ const CASES: [Case; 6] = [
     Case {
         sources: Sources {
             lists: &[&[(1, 900), (2, 800), (3, 100)]],
-            ..THREE
+            grades: &[],
+            page: 1,
+            fails: None,
         },
         counts: &[5],
         asked: &[("top 5 by A using nra", &[0])],
@@ -108,7 +115,9 @@ const CASES: [Case; 6] = [
                 &[(4, 7), (1, 6)],
                 &[(5, 7), (1, 6)],
             ],
-            ..THREE
+            grades: &[],
+            page: 1,
+            fails: None,
         },
         counts: &[2, 2, 2, 2],
         asked: &[

@@ -1,9 +1,10 @@
 //! Grades that do not go with the rows.
 
-use super::cases::{Case, first_wrong};
 use source_state::{LookFault, SourceFault};
 use std::test::Fail;
-use world_support::{Act, Expected, FIRST, FIRST_ENDS, Sources, THREE};
+use world_support::{
+    Act, Case, Expected, FIRST, FIRST_ENDS, Sources, THREE, THREE_LISTS, first_wrong,
+};
 
 /// The first row of either source, and the grade of object 1; the query asks for that of object 2, whose row comes before it.
 const GRADE_AFTER: &[Act] = &[
@@ -34,13 +35,18 @@ const GRADE_TOO_LATE: &[Act] = &[
     Act::Grade(0, 2),
 ];
 
+/// The three objects, where random access gives object 2 another grade in the first list.
+const OTHER_GRADE: Sources = Sources {
+    lists: THREE_LISTS,
+    grades: &[(0, 2, 850)],
+    page: 1,
+    fails: None,
+};
+
 const CASES: [Case; 4] = [
     // a grade that clashes with the row that comes later
     Case {
-        sources: Sources {
-            grades: &[(0, 2, 850)],
-            ..THREE
-        },
+        sources: OTHER_GRADE,
         counts: &[3, 3],
         asked: &[FIRST],
         acts: &[],
@@ -56,10 +62,7 @@ const CASES: [Case; 4] = [
     },
     // a grade that clashes with the row that came before it
     Case {
-        sources: Sources {
-            grades: &[(0, 2, 850)],
-            ..THREE
-        },
+        sources: OTHER_GRADE,
         counts: &[3, 3],
         asked: &[FIRST],
         acts: GRADE_AFTER,
@@ -75,10 +78,7 @@ const CASES: [Case; 4] = [
     },
     // the same, where the query took the row's grade before
     Case {
-        sources: Sources {
-            grades: &[(0, 2, 850)],
-            ..THREE
-        },
+        sources: OTHER_GRADE,
         counts: &[3, 3],
         asked: &[FIRST],
         acts: GRADE_TOO_LATE,
@@ -88,8 +88,10 @@ const CASES: [Case; 4] = [
     // a grade above the last row's
     Case {
         sources: Sources {
+            lists: THREE_LISTS,
             grades: &[(0, 2, 950)],
-            ..THREE
+            page: 1,
+            fails: None,
         },
         counts: &[3, 3],
         asked: &[FIRST],

@@ -1,9 +1,10 @@
 //! Lists that are a table.
 
-use super::cases::{Case, first_wrong};
 use access_log::CoreFault;
 use std::test::Fail;
-use world_support::{Act, Expected, FIRST, FIRST_ENDS, Figures, SORTED, SORTED_ENDS, THREE};
+use world_support::{
+    Act, Case, Expected, FIRST, FIRST_ENDS, Figures, SORTED, SORTED_ENDS, THREE, first_wrong,
+};
 
 const CASES: [Case; 4] = [
     // the table, by both algorithms at once

@@ -3,7 +3,7 @@
 ghost use Rattle.std.specs.Prelude.{◌≡◌, ◌≤◌, ◌<◌, ◌+◌, ◌∷◌, [], ℕ, true, length, IfSome, OnSome};
 ghost use Rattle.source_pool.specs.Passes.{hold_at, feed_at, IsPassOf, AreFeedersOf};
 ghost use Rattle.turn_lock.specs.Known.{all_parts};
-ghost use Rattle.pool_tests.specs.Ready.{IsReady, MayAsk};
+ghost use Rattle.pool_support.specs.Ready.{IsReady, MayAsk};
 
 use fetcher::{Turned, fetch_turn};
 use ranked_list::{Need, Row};
@@ -20,7 +20,6 @@ pub struct Desk {
     pub pass: PoolPass,
     pub other: PoolPass,
     pub feeder: Feeder,
-    pub source: MemSource,
     pub count: u32,
     pub page: u32,
     pub ahead: u32,
@@ -98,7 +97,7 @@ fn close_by(pool: Pool, mut pass: PoolPass, late: PoolPass, feeders: Feeders) ->
 
 impl Desk {
     /// A pool of one source, of which `count` objects are stated. None without memory.
-    pub fn open(alloc: Global, source: MemSource, count: u32, page: u32, ahead: u32) -> Option<Desk>
+    pub fn open(alloc: Global, count: u32, page: u32, ahead: u32) -> Option<Desk>
         requires count { count ≤ 200000 }
         requires page { (1 ≤ page) × (page ≤ 10000) }
         requires ahead { ahead ≤ 100 }
@@ -118,7 +117,6 @@ impl Desk {
             pass,
             other,
             feeder,
-            source,
             count,
             page,
             ahead,
@@ -147,8 +145,8 @@ impl Desk {
         Some(self.pool.look(rt, &mut self.other, 0, need))
     }
 
-    /// A turn of the fetcher.
-    pub fn turn(&mut self, rt: &impl Wait, alloc: Global) -> Turned
+    /// A turn of the fetcher over a source.
+    pub fn turn(&mut self, rt: &impl Wait, alloc: Global, source: &mut MemSource) -> Turned
         requires { IsReady self.old }
         ensures { IsReady self.new }
     {
@@ -157,21 +155,21 @@ impl Desk {
             alloc,
             &self.pool,
             &mut self.feeder,
-            &mut self.source,
+            source,
             self.page,
             self.ahead,
         )
     }
 
     /// Whether a step answers as it is to.
-    fn answers(&mut self, rt: &impl Wait, alloc: Global, step: Step) -> bool
+    fn answers(&mut self, rt: &impl Wait, alloc: Global, source: &mut MemSource, step: Step) -> bool
         requires { IsReady self.old }
         ensures { IsReady self.new }
     {
         match step {
             Step::Look(need, look) => self.look(rt, need) == Some(look),
             Step::Other(need, look) => self.look_too(rt, need) == Some(look),
-            Step::Turn(turned) => self.turn(rt, alloc) == turned,
+            Step::Turn(turned) => self.turn(rt, alloc, source) == turned,
         }
     }
 
@@ -184,10 +182,8 @@ impl Desk {
             pass,
             other,
             feeder,
-            source,
             ..
         } = self;
-        drop(source);
         let feeders = alone(alloc, feeder)?;
         if to_other {
             return close_by(pool, other, pass, feeders);
@@ -196,13 +192,19 @@ impl Desk {
     }
 }
 
-/// The place of the first step that answers otherwise.
-pub fn first_wrong(rt: &impl Wait, alloc: Global, desk: &mut Desk, steps: &[Step]) -> Option<usize>
+/// The place of the first step that answers otherwise over a source.
+pub fn first_wrong(
+    rt: &impl Wait,
+    alloc: Global,
+    desk: &mut Desk,
+    source: &mut MemSource,
+    steps: &[Step],
+) -> Option<usize>
     requires { IsReady desk.old }
     ensures { IsReady desk.new }
 {
     for (place, step) in steps.iter().enumerate() {
-        if !desk.answers(rt, alloc, *step) {
+        if !desk.answers(rt, alloc, source, *step) {
             return Some(place);
         }
     }

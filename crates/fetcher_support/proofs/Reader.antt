@@ -8,7 +8,7 @@ use Rattle.source_pool.specs.declared.hold.Hold.{Hold}
 use Rattle.source_pool.specs.Passes.{Feed, hold_at, IsPassOf}
 use Rattle.source_pool.specs.Looks.{TookTurn}
 use Rattle.source_pool.specs.Sharing.{IsOpened}
-use Rattle.fetcher_tests.specs.Reading.{IsReader}
+use Rattle.fetcher_support.specs.Reading.{IsReader}
 
 pub opened_reader : (count : ℕ) (pool : List TableId) (holds : List Hold) (feeds : List Feed) → IsOpened (count ∷ []) pool holds feeds
     → IsReader pool count holds

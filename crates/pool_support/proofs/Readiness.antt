@@ -12,10 +12,9 @@ use Rattle.source_pool.specs.Passes.{Feed, lock_at, hold_at, feed_at, IsFree, Is
 use Rattle.source_pool.specs.Looks.{MayLookFor, TookTurn}
 use Rattle.source_pool.specs.Sharing.{first_hold, first_feed, IsOpened, MaySplit, IsSplit, IsJoined}
 use Rattle.source_pool.specs.Closed.{HaveAll}
-use Rattle.source_api.specs.Stored.{Stored}
 use Rattle.fetcher.specs.Turning.{Feeds}
-use Rattle.pool_tests.specs.declared.desk.Desk.{Desk}
-use Rattle.pool_tests.specs.Ready.{IsReady, MayAsk}
+use Rattle.pool_support.specs.declared.desk.Desk.{Desk}
+use Rattle.pool_support.specs.Ready.{IsReady, MayAsk}
 
 -- a depth of the list is one that the pass may look at
 pub may_for : (known : Known LogEntry) (count : ℕ) (n : Need) → known.name.1 ≡ count → MayAsk count n → MayLookFor known n
@@ -126,9 +125,9 @@ looked_his d after h own took = record {
   ahead = h.ahead;
 }
 
-pub fed_ready : (d : Desk) (feed : Feed) (source : Stored) → IsReady d → IsIdleOf d.pool feed → feed.source ≡ d.feeder.source
-    → Feeds d.feeder.pass.1 feed.pass.1 → IsReady (record d { feeder = feed; source = source })
-fed_ready d feed source h idle same feeds = record {
+pub fed_ready : (d : Desk) (feed : Feed) → IsReady d → IsIdleOf d.pool feed → feed.source ≡ d.feeder.source
+    → Feeds d.feeder.pass.1 feed.pass.1 → IsReady (record d { feeder = feed })
+fed_ready d feed h idle same feeds = record {
   pass = h.pass;
   other = h.other;
   feeder = idle;

@@ -9,21 +9,21 @@ use std::rt::Files;
 use std::test::Fail;
 
 /// A folder for the files of the first test.
-const FOLDER: &str = "list_file_tests_files";
+const FOLDER: &str = "file_shelf_tests_files";
 
 /// A folder for the files of the second test.
-const LONG: &str = "list_file_tests_long_files";
+const LONG: &str = "file_shelf_tests_long_files";
 
 /// A list file in the first folder.
-const LIST: &str = "list_file_tests_files/a.csv";
+const LIST: &str = "file_shelf_tests_files/a.csv";
 
 /// No file.
-const MISSING: &str = "list_file_tests_files/missing.csv";
+const MISSING: &str = "file_shelf_tests_files/missing.csv";
 
 /// A file of as many bytes as there may be, and one of one byte more.
-const MOST: &str = "list_file_tests_long_files/most.csv";
+const MOST: &str = "file_shelf_tests_long_files/most.csv";
 
-const TOO_LONG: &str = "list_file_tests_long_files/long.csv";
+const TOO_LONG: &str = "file_shelf_tests_long_files/long.csv";
 
 /// What its source answers.
 const STEPS: &[Step] = &[Step::Size(2), Step::Page(0, 5, Ok(&[(1, 9), (2, 8)]))];

@@ -2,10 +2,10 @@
 
 ghost use Rattle.std.specs.Prelude.{◌≡◌, ◌≤◌, ◌<◌, ◌+◌, None, length};
 ghost use Rattle.source_pool.specs.Passes.{IsIdleOf};
-ghost use Rattle.fetcher_tests.specs.Reading.{IsReader};
+ghost use Rattle.fetcher_support.specs.Reading.{IsReader};
 
 use fetcher::{Fetched, Slot, Stop, fetch_loop};
-use pool_tests::only;
+use pool_support::only;
 use ranked_list::Need;
 use source_api::Source;
 use source_pool::{Feeder, Pool, PoolPass};
@@ -74,7 +74,7 @@ pub fn read_side(
             *sum = sum.saturating_add(row.grade);
         }
     }
-    stop.set();
+    stop.set(pool);
 }
 
 /// A fetcher and a reader of a list of `count` rows at the same time: the sum of the grades that were read, and what was fetched.

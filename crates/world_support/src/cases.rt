@@ -3,14 +3,14 @@
 ghost use Rattle.std.specs.Prelude.{◌<◌, ◌≤◌, ◌^◌, All, length};
 ghost use Rattle.query_world.specs.Made.{IsReadyFor};
 
+use super::acts::{Act, Sources, take_act};
+use super::outcomes::{Asked, Expected, are_ended_so, ends_of, world_of};
+use super::readies::{are_small, readies_of};
 use limits::MAX_OBJECTS;
 use query_core::Ready;
 use query_world::{Endings, World};
 use std::alloc::Global;
 use std::test::Fail;
-use world_support::{
-    Act, Asked, Expected, Sources, are_ended_so, are_small, ends_of, readies_of, take_act, world_of,
-};
 
 /// Sources with how many objects they state, queries, steps that are taken first where they are lawful, how many turns a round
 /// has then, and how the queries end.

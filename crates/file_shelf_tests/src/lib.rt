@@ -1,0 +1,5 @@
+//! Tests of the shelf of real files by its public calls.
+#![tactic(auto)]
+
+#[cfg(test)]
+mod files;
