@@ -3,6 +3,7 @@
 
 Use, with a built ./topk:  bench/bench.py [--lists 2,4,8] [--counts 2000,20000,200000]
     [--operators sum,min,median] [--algorithms ta,nra,ca] [--costs 1,10] [--rounds 3] [--timeout 120]
+    [--parts one,bulk] [--bulk-lists 4] [--queries 64] [--workers 1,4]
 
 Each table is made by `topk make` from the same number, and each query asks by `topk one` for the first 10
 objects; the combined algorithm, `ca`, follows the costs of a sorted and of a random access. Seconds are those
@@ -10,6 +11,10 @@ of the processor, the least of the rounds, without the time that reading the bun
 a query that names no list of it. Tables of fewer than 20,000 rows get as many more rounds as they are smaller.
 The memory is the process's at its most. Of an algorithm the greater tables are left out once a query took
 longer than the timeout.
+
+The second table is of `topk bulk`, which makes such a table and so many queries over it and runs them all: for each
+number of rows and of workers the accesses of all queries, the seconds of the processor and of the clock, and the memory,
+beside 16 bytes for each access, which is what the transcripts need at the least.
 """
 
 import argparse
@@ -23,7 +28,10 @@ from dataclasses import dataclass
 
 PROGRAM = "./topk"
 START = 1
+BULK_START = 7
 K = 10
+# A list, an object, a grade and the kind of an access.
+ACCESS_BYTES = 16
 
 
 @dataclass
@@ -31,39 +39,53 @@ class Run:
     """What became of one run of the program."""
 
     seconds: float
+    clock: float
     megabytes: int
     status: int
     text: bytes
 
 
-def run(bundle, timeout):
-    """Runs `topk one` over a bundle, or gives None where it takes longer than the timeout."""
-    with open(bundle, "rb") as source, tempfile.TemporaryFile() as out:
+def run(words, source, timeout):
+    """Runs the program on an input, or gives None where it takes longer than the timeout."""
+    with tempfile.TemporaryFile() as out:
+        began = time.monotonic()
         child = subprocess.Popen(
-            [PROGRAM, "one"],
+            [PROGRAM] + words,
             stdin=source,
             stdout=out,
             preexec_fn=lambda: resource.setrlimit(resource.RLIMIT_CPU, (timeout, timeout)),
         )
         _, ended, used = os.wait4(child.pid, 0)
+        clock = time.monotonic() - began
         child.returncode = os.waitstatus_to_exitcode(ended)
         if child.returncode < 0:
             return None
         out.seek(0)
         text = out.read()
-    return Run(used.ru_utime + used.ru_stime, used.ru_maxrss // 1024, child.returncode, text)
+    return Run(used.ru_utime + used.ru_stime, clock, used.ru_maxrss // 1024, child.returncode, text)
 
 
-def fastest(bundle, rounds, timeout):
+def run_one(bundle, timeout):
+    """Runs `topk one` over a bundle."""
+    with open(bundle, "rb") as source:
+        return run(["one"], source, timeout)
+
+
+def least(once, rounds):
     """The run that took the least time, or None where one took longer than the timeout."""
     best = None
     for _ in range(rounds):
-        one = run(bundle, timeout)
+        one = once()
         if one is None:
             return None
         if best is None or one.seconds < best.seconds:
             best = one
     return best
+
+
+def fastest(bundle, rounds, timeout):
+    """The run over a bundle that took the least time."""
+    return least(lambda: run_one(bundle, timeout), rounds)
 
 
 def accesses(text):
@@ -122,12 +144,57 @@ def measure(arguments, folder, lists, count, slow):
             row(cells + [str(made), f"{seconds:.3f}", each, str(best.megabytes)])
 
 
+def bulk_accesses(text):
+    """The accesses of `bulk queries N answered N depth D sorted S random R values V`."""
+    words = text.split()
+    return int(words[words.index(b"sorted") + 1]) + int(words[words.index(b"random") + 1])
+
+
+def measure_bulk(arguments, count, workers):
+    """A row for the made queries over one table."""
+    words = ["bulk", "--start", str(BULK_START), "--count", str(count), "--lists", str(arguments.bulk_lists)]
+    words += ["--queries", str(arguments.queries), "--workers", str(workers)]
+    rounds = arguments.rounds * max(1, 20_000 // count)
+    best = least(lambda: run(words, subprocess.DEVNULL, arguments.timeout), rounds)
+    cells = [str(arguments.queries), str(arguments.bulk_lists), str(count), str(workers)]
+    if best is None:
+        row(cells + ["", f"over {arguments.timeout}", "", "", "", ""])
+        return
+    if best.status != 0:
+        sys.exit(f"{cells} ended with {best.status}: {best.text[:80]}")
+    made = bulk_accesses(best.text)
+    needs = made * ACCESS_BYTES // 1_000_000
+    each = f"{best.seconds * 1_000_000 / made:.2f}"
+    row(cells + [str(made), f"{best.seconds:.2f}", f"{best.clock:.2f}", each, str(best.megabytes), str(needs)])
+
+
 def numbers(text):
     return [int(word) for word in text.split(",")]
 
 
 def words(text):
     return text.split(",")
+
+
+def table_of_one(arguments):
+    """A row for each algorithm, operator, number of lists and number of rows."""
+    row(["algorithm", "operator", "lists", "rows of a list", "accesses", "seconds", "seconds for a million", "MB"])
+    row(["---"] * 8)
+    slow = set()
+    with tempfile.TemporaryDirectory() as folder:
+        for lists in arguments.lists:
+            for count in sorted(arguments.counts):
+                measure(arguments, folder, lists, count, slow)
+
+
+def table_of_bulk(arguments):
+    """A row for each number of rows and of workers."""
+    heads = ["queries", "lists", "rows of a list", "workers", "accesses", "seconds", "seconds of the clock"]
+    row(heads + ["seconds for a million", "MB", "MB of accesses"])
+    row(["---"] * 10)
+    for count in sorted(arguments.counts):
+        for workers in arguments.workers:
+            measure_bulk(arguments, count, workers)
 
 
 def main():
@@ -139,15 +206,16 @@ def main():
     parser.add_argument("--costs", type=numbers, default=[1, 10])
     parser.add_argument("--rounds", type=int, default=3)
     parser.add_argument("--timeout", type=int, default=120)
+    parser.add_argument("--parts", type=words, default=["one", "bulk"])
+    parser.add_argument("--bulk-lists", type=int, default=4)
+    parser.add_argument("--queries", type=int, default=64)
+    parser.add_argument("--workers", type=numbers, default=[1, 4])
     arguments = parser.parse_args()
     began = time.monotonic()
-    row(["algorithm", "operator", "lists", "rows of a list", "accesses", "seconds", "seconds for a million", "MB"])
-    row(["---"] * 8)
-    slow = set()
-    with tempfile.TemporaryDirectory() as folder:
-        for lists in arguments.lists:
-            for count in sorted(arguments.counts):
-                measure(arguments, folder, lists, count, slow)
+    if "one" in arguments.parts:
+        table_of_one(arguments)
+    if "bulk" in arguments.parts:
+        table_of_bulk(arguments)
     print(f"in all {time.monotonic() - began:.0f} s", file=sys.stderr)
 
 
