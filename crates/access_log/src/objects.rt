@@ -35,10 +35,10 @@ fn missing(room: u32, len: usize) -> usize
 }
 
 /// Whether the access is the first sight of its object.
-fn is_first_sight(record: &Record, access: Access) -> bool
-    ensures { result ≡ (is_sorted access && is_none record.now.sight) }
+fn is_first_sight(named: &Record, access: Access) -> bool
+    ensures { result ≡ (is_sorted access && is_none named.now.sight) }
 {
-    access.is_sorted() && record.sight.is_none()
+    access.is_sorted() && named.sight.is_none()
 }
 
 /// Notes an access of the object at a place in its record and among the seen ones, and says whether

@@ -23,29 +23,20 @@ use Rattle.query_world.specs.Worlds.{source_of}
 use Rattle.query_run.specs.Advancing.{HasSourcesIn, IsSourceIn, KnowsMore, Advances}
 use Rattle.query_run.specs.Asking.{Wanted, grades_asked}
 use Rattle.query_run.specs.Ran.{shown_to}
+use Rattle.query_run.proofs.Stops.{knows_more}
 use Rattle.batch_run.specs.declared.work.Worker.{Worker}
 use Rattle.batch_run.specs.Shares.{share, share_from}
 use Rattle.batch_run.specs.Using.{is_fail, refuses_for, is_refused_for, IsWantedBy, IsNamedBy, all_grades_asked}
 use Rattle.batch_run.specs.Working.{KnowsAll, End, IsEndOf, DidOf, RanAll, RanOne, RanSo, HasWorked}
-use Rattle.batch_run.proofs.LaterLaws.{follows_on}
 use Rattle.batch_run.proofs.ShareLaws.{share_push, share_here, share_else}
 use Rattle.batch_run.proofs.Zips.{zip_push, zip_map}
 use Rattle.batch_run.proofs.Places.{stands_at}
 
--- a pass knows at least as much as itself, and step by step
-pub more_on : (a b c : Hold) → KnowsMore a b → KnowsMore b c → KnowsMore a c
-more_on a b c one other = record {
-  follows = follows_on a.pass.1 b.pass.1 c.pass.1 one.follows other.follows;
-  name = other.name ∙ one.name;
-  parts = other.parts ∙ one.parts;
-  writer = other.writer ∙ one.writer;
-  within = λ h. other.within (one.within h);
-}
-
+-- a pass knows at least as much, step by step
 pub knows_on : (a b c : List Hold) → KnowsAll a b → KnowsAll b c → KnowsAll a c
 knows_on a b c one other = record {
   size = other.size ∙ one.size;
-  each = λ source. more_on (hold_at a source) (hold_at b source) (hold_at c source) (one.each source) (other.each source);
+  each = λ source. knows_more (hold_at a source) (hold_at b source) (hold_at c source) (one.each source) (other.each source);
 }
 
 pub knows_advanced : (sources : List ℕ) (before after : List Hold) → Advances sources before after → KnowsAll before after

@@ -3,16 +3,16 @@ use Rattle.std.proofs.Common.{◌≡◌, ◌≤◌, ◌<◌, ◌+◌, ℕ, suc, 
 use Rattle.std.specs.Prelude.{◌%◌}
 use Rattle.std.specs.List.{AllZip, range_with_len, slice_index_or}
 use Rattle.std.proofs.Math.Nat.{mod-lt}
-use Rattle.std.proofs.lemmas.List.{get_or-replicate, length-replicate, length-map, map-id}
+use Rattle.std.proofs.lemmas.List.{get_or-replicate, length-replicate, length-map}
 use Rattle.std.proofs.lemmas.List.Elements.{All-replicate}
-use Rattle.std.proofs.lemmas.List.FromFn.{length-range_with_len, length-map-range_with_len, get_or-range_with_len, map-range_with_len_more, fill_by_all}
+use Rattle.std.proofs.lemmas.List.FromFn.{length-range_with_len, length-map-range_with_len, get_or-range_with_len, fill_by_all}
 use Rattle.std.proofs.lemmas.Slice.Zip.{all_zipped_more, AllZip-long}
 use Rattle.monotone_fn.specs.Limits.{IsExpr}
 use Rattle.ranked_list.specs.declared.row.Row.{Row}
 use Rattle.ranked_list.specs.Table.{IsTable, IsRanked}
 use Rattle.topk_theory.specs.Transcript.{list_at, list_numbers}
 use Rattle.topk_theory.proofs.AgreementLists.{all_from_members, member_of_all, contains_map, contains_map_from}
-use Rattle.topk_theory.proofs.ListNumbers.{number_below}
+use Rattle.topk_theory.proofs.ListNumbers.{number_below, range_more}
 use Rattle.source_api.specs.Told.{HasEachOnce}
 use Rattle.table_make.specs.Made.{made_list}
 use Rattle.table_make.proofs.Making.{is_table, list_objects}
@@ -99,10 +99,6 @@ ready_made input number ready within query count sources lawful expr =
     }
 
 -- one ready query more
-pub range_more : (n : ℕ) → range_with_len 0 (n + 1) ≡ range_with_len 0 n ++ n ∷ []
-range_more n =
-    sym (map-id (range_with_len 0 (n + 1))) ∙ map-range_with_len_more (λ k. k) 0 n n (omega arith) ∙ ap (λ (ns : List ℕ). ns ++ n ∷ []) (map-id (range_with_len 0 n))
-
 pub readies_more : (input : BulkInput) (number : ℕ) (readies more : List Ready) (ready : Ready) → AllZip (IsMadeReady input) (range_with_len 0 number) readies
     → more ≡ readies ++ ready ∷ [] → IsMadeReady input number ready → AllZip (IsMadeReady input) (range_with_len 0 (number + 1)) more
 readies_more input number readies more ready before push is =

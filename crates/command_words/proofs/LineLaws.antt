@@ -10,16 +10,13 @@ use Rattle.clap.specs.Walk.{Text}
 use Rattle.command_words.specs.Line.{OptionRule, Takes, Part, CommandLine, Given, GivenByLine, IsLine, AreParts, IsPlain, IsOptionName, AreOptionNames, Fresh, is_given, is_option, needed, line_given, line_words, line_places, part_words, behind_words, parts_given, places_given}
 use Rattle.command_words.specs.Line.Part.{placed, joined, apart}
 use Rattle.command_words.specs.Taking.{Taken, Next, Kind, kind_of, kind_by, long_kind, give, give_once, option_in, kind_in, value_in, end_in, taken_from, taken}
-use Rattle.command_words.proofs.SetRules.{same_text}
+use Rattle.command_words.proofs.SetRules.{same_self, same_text}
 
 abbrev ender : Text
 ender = 45 ∷ 45 ∷ []
 
 abbrev equals : ℕ → Bool
 equals x = x == 61
-
-same_self : (a : Text) → bytes_eq a a ≡ true
-same_self a = (bytes_eq-Decides a a).1 refl
 
 -- ---- a text with `=` in it, and one without
 

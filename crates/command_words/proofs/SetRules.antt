@@ -45,6 +45,9 @@ abbrev pub Places : List Rule → ℕ → List Text → Type 0
 Places c index [] = arg_by_index c index ≡ None
 Places c index (place ∷ left) = IsSet place (arg_by_index c index) × IsSet place (arg_by_id c place) × Places c (next_index index) left
 
+pub same_self : (a : Text) → bytes_eq a a ≡ true
+same_self a = (bytes_eq-Decides a a).1 refl
+
 pub same_text : (a b : Text) → bytes_eq a b ≡ true → a ≡ b
 same_text a b is = (bytes_eq-Decides a b).0 is
 

@@ -22,7 +22,7 @@ use Rattle.clap.specs.declared.parser.matches.ValueSource.TheVariants.{CommandLi
 use Rattle.command_words.specs.Arguments.{set_rule, next_index, built_shape}
 use Rattle.command_words.specs.Line.{Takes, Given, is_given, is_option, needed}
 use Rattle.command_words.specs.Taking.{Taken, Next, Kind, kind_by, long_kind, short_kind, give, give_once, placed_in, option_in, kind_in, value_in, end_in, taken_from, taken}
-use Rattle.command_words.proofs.SetRules.{IsSet, Serves, Places, HasNoDefaults, row_for, shown}
+use Rattle.command_words.proofs.SetRules.{same_self, IsSet, Serves, Places, HasNoDefaults, row_for, shown}
 
 -- the words are texts
 abbrev pub AllUtf8 : List Text → Type 0
@@ -566,9 +566,6 @@ abbrev ValueBy : List Rule → Text → Walk → Text → List Text → Option (
 ValueBy c name w word words result found =
     Comes (all_fault c (record w { held = (option_word found name word w.held).0; waiting = (option_word found name word w.held).1 }) words)
     (all_rows c (record w { held = (option_word found name word w.held).0; waiting = (option_word found name word w.held).1 }) words) result
-
-same_self : (name : Text) → bytes_eq name name ≡ true
-same_self name = (bytes_eq-Decides name name).1 refl
 
 -- what is given once no longer waits
 give_same : (b : Bool) (name text other : Text) (given : List Given) (left : List Text) (go : Next)

@@ -25,7 +25,7 @@ use Rattle.source_state.specs.Asks.{ask_in, ask_of, good_grade, open_row, open_r
 use Rattle.source_state.specs.State.{State, asks_of, clash_or, above_fault, grade_asked, row_fault, settle_by, settle}
 use Rattle.source_state.specs.Events.{logged, row_or, with_rows, paged, MayPage}
 use Rattle.source_state.proofs.Lists.{none_not_some}
-use Rattle.source_state.proofs.AskLaws.{ask_found}
+use Rattle.source_state.proofs.AskLaws.{ask_found, good_settled}
 use Rattle.source_state.proofs.LogLaws.{kept_rows, kept_settling, kept_faults, settled_rows, settled_faults, settled_other, settled_same, fault_rows, fault_settling, fault_first}
 use Rattle.fetcher.specs.Causes.{Rises, IsTooHigh, Repeats, IsFaultOfRow, HasFaultyRow, IsFaultOf, IsFaultOfGrade, ComesOf}
 
@@ -146,12 +146,6 @@ above_is log (object ∷ asked) bottom graded e =
     above_cons log object bottom (open_rows (map (ask_in log) asked)) graded (open_row (ask_in log object)) refl (above_is log asked bottom graded) e
 
 -- the good grade of an ask is what its object settled as
-good_is : (settled : Option Settling) (grade : ℕ) → good_grade settled ≡ Some grade → settled ≡ Some (Graded grade)
-good_is None grade e = absurd (none_not_some e)
-good_is (Some (Graded other)) grade e = ap (λ g. Some (Graded g)) (some_same e)
-good_is (Some (Bad fault)) grade e = absurd (none_not_some e)
-good_is (Some Missed) grade e = absurd (none_not_some e)
-
 asked_is : (log : List LogEntry) (asked : List ℕ) (object grade : ℕ) → grade_asked (ask_of (map (ask_in log) asked) object) ≡ Some grade
     → settling_in log object ≡ Some (Graded grade)
 asked_is log asked object grade e =
@@ -159,7 +153,7 @@ asked_is log asked object grade e =
       | inl none ↦ absurd (none_not_some (ap grade_asked (sym none) ∙ e))
       | inr some ↦
           let found : some.0 ≡ ask_in log object = (ask_found log asked object some.0 some.1).1 in
-          good_is (settling_in log object) grade (ap (λ (ask : Ask). good_grade ask.settling) (sym found) ∙ (ap grade_asked (sym some.1) ∙ e))
+          good_settled (settling_in log object) grade (ap (λ (ask : Ask). good_grade ask.settling) (sym found) ∙ (ap grade_asked (sym some.1) ∙ e))
     ]
 
 -- a clash, or what follows

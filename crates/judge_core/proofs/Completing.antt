@@ -3,7 +3,7 @@ use Rattle.std.proofs.Common.{◌≡◌, ◌≢◌, ℕ, zero, suc, ◌+◌, ◌
 use Rattle.std.specs.List.{range_with_len}
 use Rattle.std.proofs.lemmas.Bool.{cases_Bool, cases_lt, cond-true, cond-false, lt-ltb, le-ltb, or_right}
 use Rattle.std.proofs.lemmas.List.{take_more, take_all, take-append-le, map-append, length-map}
-use Rattle.std.proofs.lemmas.List.FromFn.{map-range_with_len_more, get_or-map-range_with_len}
+use Rattle.std.proofs.lemmas.List.FromFn.{get_or-map-range_with_len}
 use Rattle.std.proofs.lemmas.List.Elements.{filter-append}
 use Rattle.std.proofs.lemmas.List.Kept.{AllPairs-filter}
 use Rattle.std.proofs.lemmas.Bool.{and_from}
@@ -22,15 +22,9 @@ use Rattle.topk_theory.proofs.Agreement.{sorted_rows_append, depth_fits}
 use Rattle.topk_theory.proofs.ConsistentRows.{graded_distinct}
 use Rattle.topk_theory.proofs.AdversaryOrder.{by_grade_is}
 use Rattle.topk_theory.proofs.ThresholdLists.{filter_fits}
+use Rattle.topk_theory.proofs.ListNumbers.{range_more}
 
 -- the smallest unseen ids, one after another
-range_more : (i : ℕ) → range_with_len 0 (i + 1) ≡ range_with_len 0 i ++ i ∷ []
-range_more i = sym (map_same (range_with_len 0 (i + 1))) ∙ map-range_with_len_more (λ k. k) 0 i i (omega arith) ∙ ap (λ s. s ++ i ∷ []) (map_same (range_with_len 0 i))
-  where
-    map_same : (xs : List ℕ) → map (λ k. k) xs ≡ xs
-    map_same [] = refl
-    map_same (x ∷ xs) = ap (λ s. x ∷ s) (map_same xs)
-
 unnamed_more : (i : ℕ) (S : List ℕ) → unnamed (i + 1) S ≡ unnamed i S ++ cond (has i S) [] (i ∷ [])
 unnamed_more i S =
     ap (filter (λ o. not (has o S))) (range_more i) ∙ filter-append (λ o. not (has o S)) (range_with_len 0 i) (i ∷ [])

@@ -1,6 +1,7 @@
 //! Expressions as trees.
 
 use std::marker::Model;
+use std::slice::Iter;
 
 /// An expression: the grade in a list, or an operator over the values of expressions.
 #[cycle(node)]
@@ -93,6 +94,9 @@ impl Model for Terms {
 impl Nodes {
     ghost use Rattle.std.specs.Prelude.{◌≡◌, ◌<◌, ◌^◌, length, map, slice_get, vec_len};
     ghost use Rattle.std.specs.Option.{option_map};
+    ghost use Rattle.std.specs.Slice.Iter.{iter_rest};
+    ghost use Rattle.std.specs.Iterator.Adapters.{IterYieldsInOrder};
+    ghost use Rattle.monotone_fn.specs.declared.node.Node.{Node};
     ghost use Rattle.monotone_fn.specs.Shown.{tree_of};
 
     /// The expressions of a vector, in its order. Takes no memory.
@@ -127,11 +131,23 @@ impl Nodes {
     {
         self.items.get(place as usize)
     }
+
+    /// The expressions, in their order.
+    pub fn iter(&self) -> Iter<'_, Node>
+        ensures rest { map tree_of (iter_rest result) ≡ self.now }
+        ensures few { length (iter_rest result) < 2 ^ 32 }
+        ensures runs { IterYieldsInOrder Node }
+    {
+        self.items.iter()
+    }
 }
 
 impl Terms {
     ghost use Rattle.std.specs.Prelude.{◌≡◌, ◌<◌, ◌^◌, length, map, slice_get, vec_len};
     ghost use Rattle.std.specs.Option.{option_map};
+    ghost use Rattle.std.specs.Slice.Iter.{iter_rest};
+    ghost use Rattle.std.specs.Iterator.Adapters.{IterYieldsInOrder};
+    ghost use Rattle.monotone_fn.specs.declared.node.Term.{Term};
     ghost use Rattle.monotone_fn.specs.Shown.{term_of};
 
     /// The terms of a vector, in its order. Takes no memory.
@@ -165,5 +181,14 @@ impl Terms {
         ensures { option_map (λ t. term_of t.now) result ≡ slice_get self.now place }
     {
         self.items.get(place as usize)
+    }
+
+    /// The terms, in their order.
+    pub fn iter(&self) -> Iter<'_, Term>
+        ensures rest { map term_of (iter_rest result) ≡ self.now }
+        ensures few { length (iter_rest result) < 2 ^ 32 }
+        ensures runs { IterYieldsInOrder Term }
+    {
+        self.items.iter()
     }
 }

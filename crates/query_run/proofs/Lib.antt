@@ -6,4 +6,4 @@ mod Wants
 mod Looked
 mod Steps
 mod Stands
-mod Stops
+pub mod Stops

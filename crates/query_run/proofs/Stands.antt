@@ -28,6 +28,7 @@ use Rattle.query_world.specs.declared.inquiry.Inquiry.{Inquiry}
 use Rattle.query_world.specs.Worlds.{told_to, needed, list_needed, source_of, source_needed, is_done}
 use Rattle.query_world.specs.Causes.{IsOfList, CanNotBeHad, IsCause}
 use Rattle.query_world.specs.Kept.{IsServed}
+use Rattle.query_world.proofs.Serving.{own_list}
 use Rattle.query_world.proofs.Causes.{refusal_cause}
 use Rattle.query_run.specs.Seen.{state_seen, states_seen}
 use Rattle.query_run.specs.Advancing.{WaitsForNothing, IsSourceIn}
@@ -270,11 +271,6 @@ noted_since before now q u left (why.AsksFull kept) h refuses = at_most_same (ho
 noted_since before now q u left why.Failed h refuses = let m = told_waits (hold_at now (source_needed q)).waiting (needed q) u.tally _ refuses.tells in (h.waits (source_needed q) m.0 m.1).noted
 noted_since before now q u left why.Garbled h refuses = let m = told_waits (hold_at now (source_needed q)).waiting (needed q) u.tally _ refuses.tells in (h.waits (source_needed q) m.0 m.1).noted
 noted_since before now q u left why.Memory h refuses = let m = told_waits (hold_at now (source_needed q)).waiting (needed q) u.tally _ refuses.tells in (h.waits (source_needed q) m.0 m.1).noted
-
-own_list : (n : Need) → is_done n ≡ false → IsOfList (list_needed n) n
-own_list (need.Row list depth) going = refl
-own_list (need.Grade list object) going = refl
-own_list need.Done going = absurd (cc)
 
 -- a fail is shown at the source of its list
 fault_shown : (before now after : List Hold) (q r : Inquiry) (source : ℕ) (fault : LookFault) → IsOnItsWay before now q → OthersStay (source_needed q) now after

@@ -221,8 +221,8 @@ step_by sources before now after q r look.NotYet advances h reading ending on l 
 step_by sources before now after q r (look.Fault fault) advances h reading ending on l is = step_fault before now after q r fault h reading ending on l is
 
 -- what the pass knows goes on
-knows_on : (before now after : Hold) → KnowsMore before now → KnowsMore now after → KnowsMore before after
-knows_on before now after one other = record {
+pub knows_more : (before now after : Hold) → KnowsMore before now → KnowsMore now after → KnowsMore before after
+knows_more before now after one other = record {
   follows = record {
     seen = begins_on one.follows.seen other.follows.seen;
     met = begins_on one.follows.met other.follows.met;
@@ -255,7 +255,7 @@ advances_on sources before now after q r among long l h = record {
   size = long ∙ h.size;
   knows = λ source. elim (eqb_tells source (source_needed q)) [
     | inl t ↦ subst (λ s. KnowsMore (hold_at before s) (hold_at after s)) (sym t.1)
-        (knows_on _ _ _ (h.knows (source_needed q)) (took_knows (hold_at now (source_needed q)) (hold_at after (source_needed q)) l.took l.within))
+        (knows_more _ _ _ (h.knows (source_needed q)) (took_knows (hold_at now (source_needed q)) (hold_at after (source_needed q)) l.took l.within))
     | inr f ↦ subst (λ (hold : Hold). KnowsMore (hold_at before source) hold) (sym (l.others.stay source f.1)) (h.knows source)
   ];
   others = λ source absent. l.others.stay source (λ e. absent (subst (Contains sources) (sym e) among)) ∙ h.others source absent;

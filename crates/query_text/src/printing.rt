@@ -56,7 +56,7 @@ fn put_name<K: Sink>(out: &mut K, pieces: &mut Pieces, names: &Names, list: u8)
 }
 
 /// Puts the comma before an argument that isn't the first.
-fn put_comma<K: Sink>(out: &mut K, pieces: &mut Pieces, place: u32)
+fn put_comma<K: Sink>(out: &mut K, pieces: &mut Pieces, place: usize)
     ensures { Puts (K.held out.old) (K.held out.new) (K.faults out.old) (K.faults out.new) pieces.old pieces.new (comma_text place) }
 {
     pieces.put(out, if place == 0 { b"" } else { b"," });
@@ -91,10 +91,7 @@ fn put_nodes<K: Sink>(
         (nodes_text names.now opening.now (trees nodes.now)) }
 {
     pieces.put(out, opening);
-    for place in 0..nodes.len() {
-        let Some(node) = nodes.get(place) else {
-            unreachable!();
-        };
+    for (place, node) in nodes.iter().enumerate() {
         put_comma(out, pieces, place);
         put_expr(out, pieces, names, node);
     }
@@ -108,10 +105,7 @@ fn put_terms<K: Sink>(out: &mut K, pieces: &mut Pieces, names: &Names, weighted:
         (terms_text names.now (terms weighted.now)) }
 {
     pieces.put(out, b"wsum(");
-    for place in 0..weighted.len() {
-        let Some(term) = weighted.get(place) else {
-            unreachable!();
-        };
+    for (place, term) in weighted.iter().enumerate() {
         put_comma(out, pieces, place);
         pieces.put_number(out, term.weight);
         pieces.put(out, b"*");

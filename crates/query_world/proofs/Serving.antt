@@ -322,7 +322,7 @@ grade_went states q r u grade h ends is e takes =
 pub stays_state : (q r : Inquiry) → r.machine ≡ q.machine → state_of r.machine ≡ state_of q.machine
 stays_state q r same = ap state_of same
 
-own_list : (n : Need) → is_done n ≡ false → IsOfList (list_needed n) n
+pub own_list : (n : Need) → is_done n ≡ false → IsOfList (list_needed n) n
 own_list (need.Row list depth) going = refl
 own_list (need.Grade list object) going = refl
 own_list need.Done going = absurd (cc)

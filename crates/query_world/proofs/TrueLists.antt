@@ -36,7 +36,7 @@ use Rattle.source_state.specs.Events.{logged, one_asked, row_or, with_rows, afte
 use Rattle.source_state.specs.Looking.{called, Looks}
 use Rattle.source_state.proofs.Lists.{none_not_some, eqb_same, find_none}
 use Rattle.source_state.proofs.LogLaws.{kept_rows, kept_settling, kept_faults, settled_rows, settled_faults, settled_other, settled_same}
-use Rattle.source_state.proofs.AskLaws.{ask_found, pending_none}
+use Rattle.source_state.proofs.AskLaws.{ask_found, good_settled, pending_none}
 use Rattle.query_world.specs.Honest.{IsNextOf, IsTrueOf}
 use Rattle.query_world.proofs.Asking.{asked_settled}
 
@@ -85,12 +85,6 @@ none_above list front row other ranked next c absent =
     ]
 
 -- what is settled of an object, where the state tells the truth
-good_settled : (o : Option Settling) (grade : ℕ) → good_grade o ≡ Some grade → o ≡ Some (Graded grade)
-good_settled None grade e = absurd (none_not_some e)
-good_settled (Some (Graded other)) grade e = let same : other ≡ grade = same_Some _ _ e in ap (λ g. Some (Graded g)) same
-good_settled (Some (Bad fault)) grade e = absurd (none_not_some e)
-good_settled (Some Missed) grade e = absurd (none_not_some e)
-
 grade_listed : (list : List Row) (s : State) (object grade : ℕ) → IsTrueOf list s → good_grade (settling_in s.log object) ≡ Some grade
     → Contains list (record { object = object; grade = grade })
 grade_listed list s object grade h e =

@@ -2,6 +2,7 @@
 use Rattle.std.proofs.Common.{◌≡◌, ◌==◌, ◌⊎◌, inl, inr, ℕ, Bool, true, false, cond, Option, Some, None, List, [], ◌∷◌, ◌++◌, map, is_some, Contains, refl, sym, ap, subst, ◌∙◌, eqb-true}
 use Rattle.std.specs.Option.{option_map}
 use Rattle.std.proofs.lemmas.Bool.{cases_Bool}
+use Rattle.std.proofs.lemmas.Option.{same_Some}
 use Rattle.ranked_list.specs.declared.row.Row.{Row}
 use Rattle.ranked_list.proofs.OptionLaws.{option_cases}
 use Rattle.topk_theory.specs.Bounds.{grade_among}
@@ -16,7 +17,7 @@ use Rattle.source_state.specs.declared.entry.Settling.TheVariants.{Graded, Bad, 
 use Rattle.source_state.specs.declared.entry.Asked.TheVariants as became
 use Rattle.source_state.specs.declared.entry.SourceFault.{SourceFault}
 use Rattle.source_state.specs.Log.{rows_in, settling_in}
-use Rattle.source_state.specs.Asks.{ask_in, ask_of, change, settled_asks, held_asks}
+use Rattle.source_state.specs.Asks.{ask_in, ask_of, good_grade, change, settled_asks, held_asks}
 use Rattle.source_state.specs.State.{State, asks_of, asked_in, asked_as}
 use Rattle.source_state.proofs.Lists.{eqb_same, eqb_other, none_not_some}
 use Rattle.source_state.proofs.LogLaws.{kept_rows, kept_settling, settled_rows, settled_other, settled_same, fault_rows, fault_settling}
@@ -147,3 +148,10 @@ pending_parts s object e =
 
 pub not_asked : (s : State) (object : ℕ) → ask_of (asks_of s) object ≡ None → asked_in s object ≡ None
 not_asked s object e = ap (option_map (λ (ask : Ask). asked_as ask.settling)) e
+
+-- a good grade is one that was settled so
+pub good_settled : (settled : Option Settling) (grade : ℕ) → good_grade settled ≡ Some grade → settled ≡ Some (Graded grade)
+good_settled None grade e = absurd (none_not_some e)
+good_settled (Some (Graded other)) grade e = let same : other ≡ grade = same_Some _ _ e in ap (λ g. Some (Graded g)) same
+good_settled (Some (Bad fault)) grade e = absurd (none_not_some e)
+good_settled (Some Missed) grade e = absurd (none_not_some e)

@@ -15,6 +15,7 @@ use Rattle.topk_theory.proofs.AgreementNames.{has, has_contains, has_not}
 use Rattle.topk_theory.proofs.Agreement.{objects_of_distinct}
 use Rattle.topk_theory.proofs.ThresholdLists.{contains_filter, contains_from_filter, length-map}
 use Rattle.topk_theory.proofs.ThresholdDepth.{unseen_at_most, ta_depth_is_least}
+use Rattle.topk_theory.proofs.OrderLaws.{IsBefore-irreflexive}
 use Rattle.topk_theory.proofs.FirstK.{first_k-is}
 
 object_at : (items : List Item) (k : ℕ) (d : Item) (e : ℕ) → k < length items → slice_index_or (item_objects items) k e ≡ (slice_index_or items k d).object
@@ -49,9 +50,6 @@ scored_member V D os item h =
     let from = contains_map_from (scored V D) os item h in
     let same : from.0 ≡ item.object = ap (λ (i : Item). i.object) from.2 in
     (subst (λ o. Contains os o) same from.1, ap (scored V D) (sym same) ∙ from.2)
-
-before_itself : (item : Item) → IsBefore item item → ⊥
-before_itself item b = elim b [ inl l ↦ omega arith | inr r ↦ elim r.1 [ inl l ↦ omega arith | inr s ↦ let l : item.object < item.object = s.1 in omega arith ] ]
 
 -- where at least k items have a low of at least a bound, each of the first k has one
 first_at_least : (V : List ℕ → ℕ) (k bound : ℕ) (D : List (List Row)) (os : List ℕ) (first : List Item) (inside : Item)
@@ -111,7 +109,7 @@ first_is_top V k n D depth first monotone t positive stops is =
           let b : Item = slice_index_or first j d in
           let here : i < length first = omega arith in
           λ e. let same : a ≡ b = sym (holds a (contains_at first i d here)).1 ∙ ap (scored V D) e ∙ (holds b (contains_at first j d m)).1 in
-          before_itself b (subst (λ (z : Item). IsBefore z b) same (is.ordered i j d l m)));
+          IsBefore-irreflexive b (subst (λ (z : Item). IsBefore z b) same (is.ordered i j d l m)));
       members = all_from_members (Contains (objects_of D)) (item_objects first) (λ o h.
           let from = contains_map_from (λ (i : Item). i.object) first o h in
           subst (λ z. Contains (objects_of D) z) from.2 (contains_from_filter (stands D depth) (objects_of D) from.0.object (holds from.0 from.1).0).0);

@@ -1,5 +1,5 @@
 use Rattle.std.proofs.Common.{List, ℕ, [], ◌∷◌, ◌++◌, sym, ap, ◌∙◌}
-use Rattle.bulk_run.proofs.Readying.{range_more}
+use Rattle.topk_theory.proofs.ListNumbers.{range_more}
 use Rattle.bulk_run.proofs.readies.source_numbers.Goals as goal
 
 pub loop-list-preserved : goal.loop-list-preserved

@@ -1,4 +1,4 @@
-use Rattle.std.proofs.Common.{◌+◌, ◌*◌, ◌++◌, take, map, codes}
+use Rattle.std.proofs.Common.{◌≡◌, ◌+◌, ◌*◌, ◌++◌, length, take, map, codes}
 use Rattle.monotone_fn.specs.Tree.{trees, terms}
 use Rattle.monotone_fn.specs.Shape.{depth, depth_in, depth_under}
 use Rattle.monotone_fn.specs.Shown.{tree_of}
@@ -10,14 +10,18 @@ use Rattle.tk_io.specs.Pieces.{Puts}
 use Rattle.query_text.proofs.printing.+put.Given as goal
 
 abbrev pub invariant-put_nodes-loop-place : goal.invariant-put_nodes-loop-place
-invariant-put_nodes-loop-place g l =
-    Puts (g.K.Sink.held l.fn.out) (g.K.Sink.held l.out) (g.K.Sink.faults l.fn.out) (g.K.Sink.faults l.out) l.fn.pieces l.pieces
-    (l.opening ++ text_of (argument_pieces (arguments_from (take l.place (map (plain_argument l.names) l.nodes)))))
+invariant-put_nodes-loop-place g l = record {
+  place : l.place ≡ length l.yielded;
+  puts : Puts (g.K.Sink.held l.fn.out) (g.K.Sink.held l.out) (g.K.Sink.faults l.fn.out) (g.K.Sink.faults l.out) l.fn.pieces l.pieces
+      (l.opening ++ text_of (argument_pieces (arguments_from (take l.place (map (plain_argument l.names) l.nodes)))));
+}
 
 abbrev pub invariant-put_terms-loop-place : goal.invariant-put_terms-loop-place
-invariant-put_terms-loop-place g l =
-    Puts (g.K.Sink.held l.fn.out) (g.K.Sink.held l.out) (g.K.Sink.faults l.fn.out) (g.K.Sink.faults l.out) l.fn.pieces l.pieces
-    (codes "wsum(" ++ text_of (argument_pieces (arguments_from (take l.place (map (weighted_argument l.names) l.weighted)))))
+invariant-put_terms-loop-place g l = record {
+  place : l.place ≡ length l.yielded;
+  puts : Puts (g.K.Sink.held l.fn.out) (g.K.Sink.held l.out) (g.K.Sink.faults l.fn.out) (g.K.Sink.faults l.out) l.fn.pieces l.pieces
+      (codes "wsum(" ++ text_of (argument_pieces (arguments_from (take l.place (map (weighted_argument l.names) l.weighted)))));
+}
 
 abbrev pub decreases-put_expr : goal.decreases-put_expr
 decreases-put_expr g l = 2 * depth (tree_of l.node.now)
