@@ -23,7 +23,8 @@ fresh_within hold none rests = record {
   noted = λ some. absurd (some rests);
 }
 
-did_nothing : (source : ℕ) (hold : Hold) → hold.pass.1.high ≡ 0 → hold.pass.1.asked ≡ 0 → hold.pass.1.mine ≡ [] → hold.shown ≡ record { failed = 0; garbled = 0; memory = 0 }
+did_nothing : (source : ℕ) (hold : Hold) → hold.pass.1.high ≡ 0 → hold.pass.1.asked ≡ 0 → hold.pass.1.mine ≡ []
+    → hold.shown ≡ record { failed = 0; garbled = 0; memory = 0 }
     → hold.waiting.need ≡ None → DidOf [] source hold
 did_nothing source hold high asked mine none rests = record {
   rows = inl high;

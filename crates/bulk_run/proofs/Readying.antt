@@ -145,7 +145,8 @@ has_table input number ready made =
     subst (λ n. IsTable n (lists_for (table_of input) ready)) (sym made.count)
     (subst (IsTable input.count) (sym (made_lists input ready.sources.items made.sources)) (is_table input.start input.count input.lists))
 
-pub all_have_tables : (input : BulkInput) (readies : List Ready) → AreMadeReady input readies → All (λ ready. IsTable ready.count (lists_for (table_of input) ready)) readies
+pub all_have_tables : (input : BulkInput) (readies : List Ready) → AreMadeReady input readies
+    → All (λ ready. IsTable ready.count (lists_for (table_of input) ready)) readies
 all_have_tables input readies are =
     all_from_members (λ (ready : Ready). IsTable ready.count (lists_for (table_of input) ready)) readies (λ ready c.
     let number = zip_member (IsMadeReady input) (range_with_len 0 input.queries) readies ready are c in has_table input number.0 ready number.2)

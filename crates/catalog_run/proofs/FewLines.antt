@@ -77,7 +77,8 @@ unnamed catalog says place query refused e =
     ∙ nowhere catalog place query (says refused)
 
 -- a refusal before a line runs is none for a call of a source
-early : (catalog : List Entry) (says : Refusal → Bool) (what : FailKind) (is : SaysOf says what) (place : List ℕ) (query : Option Query) (x : QueryLine) (c : Cause) (refused : Refusal)
+early : (catalog : List Entry) (says : Refusal → Bool) (what : FailKind) (is : SaysOf says what) (place : List ℕ) (query : Option Query) (x : QueryLine)
+    (c : Cause) (refused : Refusal)
     → Gives x c refused → refused_at catalog says place query (Refused refused) ≡ false
 early catalog says what is place query x Cause.many_queries refused g = unnamed catalog says place query refused (ap failed_list g.0)
 early catalog says what is place query x Cause.text refused g = unnamed catalog says place query refused (of_text g.0 refused g.1)

@@ -8,15 +8,12 @@ use access_log::{PushFault, Transcript};
 use cert_text::{Accesses, Certificate};
 use std::alloc::Global;
 
-/// Pushes the accesses, which begin with those of the transcript.
+/// Pushes the accesses into a transcript that has none.
 fn push_all(transcript: &mut Transcript, accesses: &Accesses) -> Result<(), PushFault>
     requires { transcript.old ≡ front transcript.old.lists transcript.old.count accesses.now 0 }
     ensures { Pushes transcript.old.lists transcript.old.count accesses.now transcript.new result }
 {
-    for place in transcript.len()..accesses.len() {
-        let Some(access) = accesses.get(place) else {
-            unreachable!();
-        };
+    for access in accesses.iter() {
         if let Err(fault) = transcript.push(*access) {
             return Err(fault);
         }

@@ -301,7 +301,8 @@ bad_on rows more object (Repeated other place) begins h = absurd h
 bad_on rows more object (ShortList stated got) begins h = absurd h
 
 -- the bad grades after a page
-page_bad : (s : State) (given : List Row) → ((object : ℕ) (fault : SourceFault) → settling_in s.log object ≡ Some (Bad fault) → IsFaultOfGrade (rows_in s.log) object fault)
+page_bad : (s : State) (given : List Row) → ((object : ℕ) (fault : SourceFault) → settling_in s.log object ≡ Some (Bad fault)
+    → IsFaultOfGrade (rows_in s.log) object fault)
     → (object : ℕ) (fault : SourceFault) → settling_in (paged s given).log object ≡ Some (Bad fault) → IsFaultOfGrade (rows_in (paged s given).log) object fault
 page_bad s given h object fault e = bad_on (rows_in s.log) (rows_in (paged s given).log) object fault (page_grows s given) (h object fault (sym (page_settling s given object) ∙ e))
 

@@ -199,7 +199,8 @@ module _ {T : Type 0} (cmp : T → T → Ordering) (total : IsTotalOrder cmp) wh
           same_upto None (node_at nodes c) (node_at nodes (2 * place + 1)) (node_at nodes (2 * place + 1)) (slice_get_past nodes c past) refl (none_upto (node_at nodes (2 * place + 1)))
 
   -- ---- a node that may have any rank
-  pub loose_rises : (place up : ℕ) (nodes : List (Ranked T)) → IsLoose cmp place nodes → 1 ≤ place → up ≡ above place → IsUpTo cmp nodes up place → IsRising cmp place nodes
+  pub loose_rises : (place up : ℕ) (nodes : List (Ranked T)) → IsLoose cmp place nodes → 1 ≤ place → up ≡ above place → IsUpTo cmp nodes up place
+      → IsRising cmp place nodes
   loose_rises place up nodes loose positive is order = record {
     within = loose.within;
     others = λ c below apart. at c below apart (cases_eq (above c) place);

@@ -23,7 +23,8 @@ get_or-map f (x ∷ xs) zero none = refl
 get_or-map f (x ∷ xs) (suc i) none = get_or-map f xs i none
 
 -- the rank of a key is that of the node at its place
-pub rank_at-ranks_of : {T : Type 0} (nodes : List (Ranked T)) (places : List (Option ℕ)) (key : ℕ) → rank_at (ranks_of nodes places) key ≡ rank_of nodes (place_of places key)
+pub rank_at-ranks_of : {T : Type 0} (nodes : List (Ranked T)) (places : List (Option ℕ)) (key : ℕ)
+    → rank_at (ranks_of nodes places) key ≡ rank_of nodes (place_of places key)
 rank_at-ranks_of nodes places key = get_or-map (rank_of nodes) places key refl
 
 pub length-ranks_of : {T : Type 0} (nodes : List (Ranked T)) (places : List (Option ℕ)) → length (ranks_of nodes places) ≡ length places

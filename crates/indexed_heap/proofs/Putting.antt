@@ -88,7 +88,8 @@ shown_unset {T = T} room key nodes places shown is none =
     sym (ap (set shown key) (sym had) ∙ set-get_or shown key None)
 
 -- the rank of a key that has a node
-pub shown_rank : {T : Type 0} (cmp : T → T → Ordering) (room key place : ℕ) (nodes : List (Ranked T)) (places : List (Option ℕ)) (shown : List (Option T)) (node : Ranked T)
+pub shown_rank : {T : Type 0} (cmp : T → T → Ordering) (room key place : ℕ) (nodes : List (Ranked T)) (places : List (Option ℕ)) (shown : List (Option T))
+    (node : Ranked T)
     → ranks_within room (ranks_of nodes places) ≡ shown → place_of places key ≡ Some place → node_at nodes place ≡ Some node → Some node.rank ≡ rank_at shown key
 shown_rank {T = T} cmp room key place nodes places shown node is there at =
     sym (ap (λ (rs : List (Option T)). rank_at rs key) (sym is) ∙ rank_within room (ranks_of nodes places) key ∙ rank_at-ranks_of nodes places key
@@ -100,7 +101,8 @@ pub place_here : {T : Type 0} (cmp : T → T → Ordering) (key place : ℕ) (no
 place_here cmp key place nodes places keeps there = let had = keeps.placed.of_key key place there in slice_get_within nodes place had.0 had.1
 
 -- the first node is the greatest of what is shown
-pub shown_greatest : {T : Type 0} (cmp : T → T → Ordering) (total : IsTotalOrder cmp) (room : ℕ) (nodes : List (Ranked T)) (places : List (Option ℕ)) (shown : List (Option T))
+pub shown_greatest : {T : Type 0} (cmp : T → T → Ordering) (total : IsTotalOrder cmp) (room : ℕ) (nodes : List (Ranked T)) (places : List (Option ℕ))
+    (shown : List (Option T))
     (first : Option (Ranked T)) → Keeps cmp nodes places → ranks_within room (ranks_of nodes places) ≡ shown → first ≡ node_at nodes 0
     → IfSome first (λ top. IsGreatest cmp shown top.key top.rank)
 shown_greatest cmp total room nodes places shown None keeps is at = tt

@@ -120,7 +120,8 @@ nra-run = refl
 nra-answer : nra_answer sum 1 three ≡ item 2 1500 1500 ∷ []
 nra-answer = refl
 
-nra-bounds : low sum 2 three_sorted 1 ∷ high sum 2 three_sorted 1 ∷ low sum 2 three_sorted 3 ∷ high sum 2 three_sorted 3 ∷ cost 1 1 three_sorted ∷ [] ≡ 900 ∷ 1500 ∷ 600 ∷ 1400 ∷ 4 ∷ []
+nra-bounds : low sum 2 three_sorted 1 ∷ high sum 2 three_sorted 1 ∷ low sum 2 three_sorted 3 ∷ high sum 2 three_sorted 3 ∷ cost 1 1 three_sorted ∷ []
+    ≡ 900 ∷ 1500 ∷ 600 ∷ 1400 ∷ 4 ∷ []
 nra-bounds = refl
 
 nra-known : known_grade three_sorted 1 0 ∷ known_grade three_sorted 1 1 ∷ [] ≡ Some 900 ∷ None ∷ []

@@ -231,7 +231,8 @@ not_both line f g broken tree = go broken.why
         one_shape broken.shape (shape_of tree.query) broken.sound (lawful_shape tree.query tree.spells.lawful)
         (broken.text ∙ sym (tree_text line tree.query tree.spells))
 
-    go : ((at : ℕ) × IsNumberFault (pieces_of broken.shape) at × (f ≡ faults.Number at)) ⊎ ((at : ℕ) × IsNameFault (pieces_of broken.shape) at × (f ≡ faults.TooManyLists at)) → ⊥
+    go : ((at : ℕ) × IsNumberFault (pieces_of broken.shape) at × (f ≡ faults.Number at))
+        ⊎ ((at : ℕ) × IsNameFault (pieces_of broken.shape) at × (f ≡ faults.TooManyLists at)) → ⊥
     go (inl (at, fault, is)) = no_number_fault tree.query at tree.spells.lawful (subst (λ s. IsNumberFault (pieces_of s) at) same fault)
     go (inr (at, fault, is)) = no_name_fault tree.query at tree.spells.lawful (subst (λ s. IsNameFault (pieces_of s) at) same fault)
 

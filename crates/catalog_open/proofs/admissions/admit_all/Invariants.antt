@@ -7,5 +7,6 @@ use Rattle.catalog_open.proofs.admissions.admit_all.Given as goal
 abbrev pub invariant-loop-line : goal.invariant-loop-line
 invariant-loop-line l = record {
   number : l.number ≡ l.line-index;
-  are : AreAdmitted (view_over l.lists.catalog.now l.lists.openings.now nothing_told) 1 (map (λ line. line.now) (take l.line-index l.lines)) l.admissions.stages.items l.admissions.readies.items;
+  are : AreAdmitted (view_over l.lists.catalog.now l.lists.openings.now nothing_told) 1 (map (λ line. line.now) (take l.line-index l.lines))
+      l.admissions.stages.items l.admissions.readies.items;
 }
