@@ -19,7 +19,7 @@ use query_text::Query;
 use std::alloc::Global;
 
 /// An answer to a query, with the accesses that it was found by.
-#[derive(Debug, Drop)]
+#[derive(Drop)]
 pub struct Certificate {
     /// The number of the query's line, from 1.
     pub line: u64,

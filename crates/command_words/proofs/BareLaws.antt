@@ -1,26 +1,23 @@
 -- What `clap` takes for a command without words is no word, but maybe the one that ends the options.
-use Rattle.std.proofs.Common.{◌≡◌, ℕ, Bool, true, false, zero, suc, List, [], ◌∷◌, length, drop, Option, Some, None, refl, sym, subst, inl, inr}
+use Rattle.std.proofs.Common.{◌≡◌, ℕ, Bool, true, false, zero, suc, List, [], ◌∷◌, length, drop, Option, Some, None, refl, sym, subst}
 use Rattle.std.specs.Prelude.{is_some, slice_get, if◌then◌else◌}
 use Rattle.std.specs.Option.{option_map_or}
 use Rattle.std.specs.Str.{bytes_eq, chars}
 use Rattle.std.proofs.lemmas.Bool.{false≢true}
 use Rattle.std.proofs.lemmas.Slice.Eq.{bytes_eq-Decides}
 use Rattle.clap.specs.Lexer.{long_of, short_of}
-use Rattle.clap.specs.Kinds.{Kinds, HasKind, IsAmong, or_else}
-use Rattle.clap.specs.Values.{kind_of}
-use Rattle.clap.specs.Walk.{Text, Walk, Held, Step, walk, walk_from, nothing_held, walked, long_or_other, short_or_plain, after_flag, bundle_met, bundle_step, settled, finished}
+use Rattle.clap.specs.Kinds.{Kinds, or_else}
+use Rattle.clap.specs.Walk.{Row, Text, Walk, Held, Step, walk, walk_from, nothing_held, walked, long_or_other, short_or_plain, after_flag, bundle_met, bundle_step, settled, finished}
 use Rattle.clap.specs.Walk.Outcome.{plain}
 use Rattle.clap.specs.Walk.Step.{trailing}
 use Rattle.clap.specs.Walk.Waiting.{idle}
-use Rattle.clap.specs.Simple.{App, Shape, built, entered}
+use Rattle.clap.specs.Simple.{Shape, built, entered}
 use Rattle.clap.specs.Faults.{built_fault, bundle_step_fault, check_fault, defaults_fault, entered_fault, fault_of, flag_word_fault, flags_fault, bundle_fault, is_simple_and_free, settle_fault, step_fault, turn_fault, walk_fault}
-use Rattle.clap.specs.declared.error.Error.{Error}
-use Rattle.clap.specs.declared.error.kind.ErrorKind.{ErrorKind}
-use Rattle.clap.specs.declared.error.kind.ErrorKind.TheVariants as kind
 use Rattle.clap.proofs.OnLiterals.{clap_on_literals}
 use Rattle.command_words.specs.Commands.{are_no_words, options_end}
-use Rattle.command_words.specs.Apps.{bare_app}
-use Rattle.command_words.proofs.Walking.{first_faulty}
+use Rattle.command_line.specs.Apps.{bare_app}
+use Rattle.command_line.specs.Finding.{Finds, Refuses}
+use Rattle.command_line.proofs.Walking.{first_faulty}
 
 -- there is a fault
 abbrev HasFault : Kinds → Type 0
@@ -134,29 +131,14 @@ taken words none =
       | false ↦ λ is. absurd (no_fault _ (faulty words is) none)
     ] refl
 
-refused : (words : List Text) (k : ErrorKind) → IsAmong k (built_fault (built bare_app) nothing_held words) → are_no_words words ≡ false
-refused words k among =
-    elim (are_no_words words) as (λ t. are_no_words words ≡ t → are_no_words words ≡ false) [
-      | true ↦ λ is. absurd (subst (IsAmong k) (free words is) among)
+-- where such a command takes words, those behind its name are no words
+pub read_taken : (words : List Text) (rows : List Row) → Finds bare_app words rows → are_no_words (drop 1 words) ≡ true
+read_taken words rows finds = taken (drop 1 words) (finds.faultless is_simple)
+
+-- and where it refuses them, they aren't
+pub read_refused : (words : List Text) → Refuses bare_app words → are_no_words (drop 1 words) ≡ false
+read_refused words refuses =
+    elim (are_no_words (drop 1 words)) as (λ t. are_no_words (drop 1 words) ≡ t → are_no_words (drop 1 words) ≡ false) [
+      | true ↦ λ is. absurd (refuses.faulty is_simple (free (drop 1 words) is))
       | false ↦ λ is. is
     ] refl
-
--- where such a command takes words, those behind its name are no words
-pub read_taken : (app : App) (words texts : List Text) → app ≡ bare_app → texts ≡ words → (is_simple_and_free app ≡ true → fault_of app texts ≡ [])
-    → are_no_words (drop 1 words) ≡ true
-read_taken app words texts is same taken_by =
-    let at_bare : is_simple_and_free bare_app ≡ true → fault_of bare_app words ≡ [] =
-    subst (λ ts. is_simple_and_free bare_app ≡ true → fault_of bare_app ts ≡ []) same (subst (λ a. is_simple_and_free a ≡ true → fault_of a texts ≡ []) is taken_by) in
-    taken (drop 1 words) (at_bare is_simple)
-
--- and where it refuses them for another cause than want of memory, they aren't
-pub read_refused : (app : App) (words texts : List Text) (e : Error) → app ≡ bare_app → texts ≡ words
-    → (is_simple_and_free app ≡ true → HasKind (fault_of app texts) e)
-    → (kind_of e ≡ kind.OutOfMemory → ⊥) → are_no_words (drop 1 words) ≡ false
-read_refused app words texts e is same refused_by other =
-    let at_bare : is_simple_and_free bare_app ≡ true → HasKind (fault_of bare_app words) e =
-    subst (λ ts. is_simple_and_free bare_app ≡ true → HasKind (fault_of bare_app ts) e) same (subst (λ a. is_simple_and_free a ≡ true → HasKind (fault_of a texts) e) is refused_by) in
-    elim (at_bare is_simple) [
-      | inl memory ↦ absurd (other memory)
-      | inr among ↦ refused (drop 1 words) (kind_of e) among
-    ]

@@ -1,17 +1,15 @@
 //! The words of `bulk`.
 
 ghost use Rattle.std.specs.Prelude.{◌≡◌, None, Some, IfOk, IfSome};
-ghost use Rattle.clap.specs.Words.{app_of, rows_of, found_of};
-ghost use Rattle.command_words.specs.Bulking.{bulk_app, bulk_options, bulk_in, AreBulkOptions};
+ghost use Rattle.clap.specs.Words.{rows_of, found_of};
+ghost use Rattle.command_words.specs.Bulking.{bulk_options, bulk_in, AreBulkOptions};
 
-use super::command::WordsFault;
-use super::making::{self, MakeOptions, make_command, needed, number_of};
-use super::running::{RunSettings, free, settings_of};
-use super::words::Words;
+use super::making::{self, MakeOptions, number_of};
+use super::running::{RunSettings, settings_of};
 use clap::ArgMatches;
-use clap::error::ErrorKind;
+use command_line::{Argument, Words, WordsFault, found_in};
 use limits::MAX_QUERIES;
-use std::alloc::{AllocError, Global};
+use std::alloc::Global;
 
 /// Which made queries are to be run, and over which made table.
 #[derive(Clone, Copy, Debug, PartialEq, Eq)]
@@ -31,27 +29,19 @@ pub(crate) fn read_bulk(alloc: Global, words: &Words) -> Result<BulkOptions, Wor
     ensures refused { result ≡ Err WordsFault.BadWords → bulk_options words.now ≡ None }
     ensures within { IfOk result AreBulkOptions }
 {
-    let Ok(command) = bulk_command(alloc) else {
-        return Err(WordsFault::Memory);
-    };
-    match command.try_get_matches_from(words.as_slice()) {
+    let arguments = [
+        Argument::Needed("start"),
+        Argument::Needed("count"),
+        Argument::Needed("lists"),
+        Argument::Needed("queries"),
+        Argument::Free("workers"),
+        Argument::Free("page"),
+        Argument::Free("ahead"),
+    ];
+    match found_in(alloc, &arguments, words) {
         Ok(matches) => asked_of(&matches),
-        Err(error) => match error.kind() {
-            ErrorKind::OutOfMemory => Err(WordsFault::Memory),
-            _ => Err(WordsFault::BadWords),
-        },
+        Err(fault) => Err(fault),
     }
-}
-
-/// A command with the options of `make`, those of `run`, and `--queries`, without help and version options.
-fn bulk_command<'a>(alloc: Global) -> Result<clap::Command<'a>, AllocError>
-    ensures { IfOk result (λ command. app_of command ≡ bulk_app) }
-{
-    make_command(alloc)?
-        .arg(needed(alloc, "queries"))?
-        .arg(free(alloc, "workers"))?
-        .arg(free(alloc, "page"))?
-        .arg(free(alloc, "ahead"))
 }
 
 /// What is asked for, where each number is within its range.

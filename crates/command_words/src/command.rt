@@ -1,15 +1,12 @@
 //! Commands, read from words.
 
 ghost use Rattle.std.specs.Prelude.{◌≡◌, None, Some, IfOk, IfSome, OnOk, drop, true, false, option_and_then, slice_get};
-ghost use Rattle.clap.specs.Words.{app_of};
 ghost use Rattle.command_words.specs.Commands.{command_named, command_of, bare_command, is_named, are_no_words, HasSettings};
-ghost use Rattle.command_words.specs.Apps.{bare_app};
 
 use super::bulking::{BulkOptions, read_bulk};
 use super::making::{MakeOptions, read_make};
 use super::running::{RunOptions, read_run};
-use super::words::Words;
-use clap::error::ErrorKind;
+use command_line::{Words, WordsFault, found_in};
 use std::alloc::Global;
 
 /// What the program is to do.
@@ -25,15 +22,6 @@ pub enum Command {
     Run(RunOptions),
     /// `bulk`: answers made queries over a made table.
     Bulk(BulkOptions),
-}
-
-/// Why words are no command.
-#[derive(Clone, Copy, Debug, PartialEq, Eq)]
-pub enum WordsFault {
-    /// They aren't in the grammar of any command.
-    BadWords,
-    /// No memory was left.
-    Memory,
 }
 
 /// The command that the words are.
@@ -118,22 +106,11 @@ fn read_none(alloc: Global, words: &Words) -> Result<(), WordsFault>
     ensures read { OnOk result (are_no_words (drop 1 words.now) ≡ true) }
     ensures refused { result ≡ Err WordsFault.BadWords → are_no_words (drop 1 words.now) ≡ false }
 {
-    match bare_command(alloc).try_get_matches_from(words.as_slice()) {
-        Ok(_) => Ok(()),
-        Err(error) => {
-            match error.kind() {
-                ErrorKind::OutOfMemory => Err(WordsFault::Memory),
-                _ => Err(WordsFault::BadWords),
-            }
+    match found_in(alloc, &[], words) {
+        Ok(matches) => {
+            drop(matches);
+            Ok(())
         }
+        Err(refusal) => Err(refusal),
     }
-}
-
-/// A command that takes no words, without help and version options.
-pub(crate) fn bare_command<'a>(alloc: Global) -> clap::Command<'a>
-    ensures { app_of result ≡ bare_app }
-{
-    clap::Command::new(alloc, "topk")
-        .disable_help_flag(true)
-        .disable_version_flag(true)
 }

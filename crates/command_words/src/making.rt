@@ -1,18 +1,15 @@
 //! The words of `make`.
 
-ghost use Rattle.std.specs.Prelude.{◌≡◌, ◌≤◌, false, None, Some, IfOk, IfSome, option_map};
-ghost use Rattle.clap.specs.Words.{app_of, rule_of, rows_of, found_of};
-ghost use Rattle.command_words.specs.Apps.{needed_option};
-ghost use Rattle.command_words.specs.Making.{make_app, make_options, options_in, AreMakeOptions};
+ghost use Rattle.std.specs.Prelude.{◌≡◌, ◌≤◌, None, Some, IfOk, IfSome, option_map};
+ghost use Rattle.clap.specs.Words.{rows_of, found_of};
+ghost use Rattle.command_words.specs.Making.{make_options, options_in, AreMakeOptions};
 ghost use Rattle.command_words.specs.OptionNumbers.{number_in, number_given};
 
-use super::command::{WordsFault, bare_command};
-use super::words::Words;
-use clap::error::ErrorKind;
-use clap::{Arg, ArgMatches};
+use clap::ArgMatches;
+use command_line::{Argument, Words, WordsFault, found_in};
 use limits::{MAX_LISTS, MAX_OBJECTS, MAX_START};
 use line_text::number_up_to;
-use std::alloc::{AllocError, Global};
+use std::alloc::Global;
 
 /// Which table is to be made.
 #[derive(Clone, Copy, Debug, PartialEq, Eq)]
@@ -31,34 +28,15 @@ pub(crate) fn read_make(alloc: Global, words: &Words) -> Result<MakeOptions, Wor
     ensures read { IfOk result (λ options. make_options words.now ≡ Some options) }
     ensures refused { result ≡ Err WordsFault.BadWords → make_options words.now ≡ None }
 {
-    let Ok(command) = make_command(alloc) else {
-        return Err(WordsFault::Memory);
-    };
-    match command.try_get_matches_from(words.as_slice()) {
+    let arguments = [
+        Argument::Needed("start"),
+        Argument::Needed("count"),
+        Argument::Needed("lists"),
+    ];
+    match found_in(alloc, &arguments, words) {
         Ok(matches) => options_of(&matches).ok_or(WordsFault::BadWords),
-        Err(error) => match error.kind() {
-            ErrorKind::OutOfMemory => Err(WordsFault::Memory),
-            _ => Err(WordsFault::BadWords),
-        },
+        Err(fault) => Err(fault),
     }
-}
-
-/// A command with the three options, without help and version options.
-pub(crate) fn make_command<'a>(alloc: Global) -> Result<clap::Command<'a>, AllocError>
-    ensures { IfOk result (λ command. app_of command ≡ make_app) }
-{
-    bare_command(alloc)
-        .arg(needed(alloc, "start"))?
-        .arg(needed(alloc, "count"))?
-        .arg(needed(alloc, "lists"))
-}
-
-/// An option that has to be given, with a value.
-pub(crate) fn needed<'a>(alloc: Global, name: &'a str) -> Arg<'a>
-    ensures rule { rule_of result ≡ needed_option name.now }
-    ensures local { result.global ≡ false }
-{
-    Arg::new(alloc, name).long(name).required(true)
 }
 
 /// What was given of the three options, where each number is within its range.

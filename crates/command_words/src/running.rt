@@ -1,19 +1,16 @@
 //! The words of `run`.
 
-ghost use Rattle.std.specs.Prelude.{◌≡◌, ◌≤◌, false, None, Some, IfOk, IfSome};
+ghost use Rattle.std.specs.Prelude.{◌≡◌, ◌≤◌, None, Some, IfOk, IfSome};
 ghost use Rattle.std.specs.Str.{bytes_eq};
 ghost use Rattle.std.specs.Cmp.Rules.{comparing};
 ghost use Rattle.std.proofs.Common.{rules};
-ghost use Rattle.clap.specs.Words.{app_of, rule_of, rows_of, found_of};
-ghost use Rattle.command_words.specs.Apps.{free_option, needed_place};
+ghost use Rattle.clap.specs.Words.{rows_of, found_of};
 ghost use Rattle.command_words.specs.OptionNumbers.{free_number_in};
-ghost use Rattle.command_words.specs.Running.{run_app, run_options, run_in, settings_in, AreRunSettings};
+ghost use Rattle.command_words.specs.Running.{run_options, run_in, settings_in, AreRunSettings};
 
-use super::command::{WordsFault, bare_command};
 use super::making::number_given;
-use super::words::Words;
-use clap::error::ErrorKind;
-use clap::{Arg, ArgMatches};
+use clap::ArgMatches;
+use command_line::{Argument, Words, WordsFault, found_in};
 use std::alloc::{AllocError, Global};
 use std::marker::Model;
 
@@ -100,43 +97,16 @@ pub(crate) fn read_run(alloc: Global, words: &Words) -> Result<RunOptions, Words
     ensures refused { result ≡ Err WordsFault.BadWords → run_options words.now ≡ None }
     ensures settings { IfOk result (λ options. AreRunSettings options.settings) }
 {
-    let Ok(command) = run_command(alloc) else {
-        return Err(WordsFault::Memory);
-    };
-    match command.try_get_matches_from(words.as_slice()) {
+    let arguments = [
+        Argument::Place("catalog"),
+        Argument::Free("workers"),
+        Argument::Free("page"),
+        Argument::Free("ahead"),
+    ];
+    match found_in(alloc, &arguments, words) {
         Ok(matches) => options_of(alloc, &matches),
-        Err(error) => match error.kind() {
-            ErrorKind::OutOfMemory => Err(WordsFault::Memory),
-            _ => Err(WordsFault::BadWords),
-        },
+        Err(fault) => Err(fault),
     }
-}
-
-/// A command with a place and the three options, without help and version options.
-fn run_command<'a>(alloc: Global) -> Result<clap::Command<'a>, AllocError>
-    ensures { IfOk result (λ command. app_of command ≡ run_app) }
-{
-    bare_command(alloc)
-        .arg(needed_word(alloc, "catalog"))?
-        .arg(free(alloc, "workers"))?
-        .arg(free(alloc, "page"))?
-        .arg(free(alloc, "ahead"))
-}
-
-/// A place at which a word has to stand.
-fn needed_word<'a>(alloc: Global, name: &'a str) -> Arg<'a>
-    ensures rule { rule_of result ≡ needed_place name.now }
-    ensures local { result.global ≡ false }
-{
-    Arg::new(alloc, name).required(true)
-}
-
-/// An option that need not be given, with a value.
-pub(crate) fn free<'a>(alloc: Global, name: &'a str) -> Arg<'a>
-    ensures rule { rule_of result ≡ free_option name.now }
-    ensures local { result.global ≡ false }
-{
-    Arg::new(alloc, name).long(name)
 }
 
 /// What was given of the place and the options, where each number is within its range.

@@ -10,14 +10,14 @@ use super::copies::copy_node;
 use super::fault::ExprFault;
 use super::grades::{bottoms_filled, value_of, zeros_filled};
 use super::node::Node;
-use super::shape::{count_lists, count_nodes, depth_of};
+use super::shape::{Extent, extent_of};
 use super::value::value_at;
 use limits::{MAX_DEPTH, MAX_LISTS, MAX_NODES, MAX_VALUE, TOP_GRADE};
 use std::alloc::Global;
 use std::marker::Model;
 
 /// An expression within the limits, which contracts see as its tree. Each of its values fits in 63 bits.
-#[derive(Debug, Drop)]
+#[derive(Drop)]
 pub struct Expr {
     root: Node,
     lists: u8,
@@ -47,11 +47,10 @@ fn fault_of(root: &Node) -> Option<ExprFault>
     ensures faults { IfSome result (λ fault. Makes (tree_of root.now) (Err fault)) }
     ensures within { result ≡ None → IsExpr (tree_of root.now) }
 {
-    let nodes = count_nodes(root);
+    let Extent { nodes, depth, .. } = extent_of(root);
     if nodes > MAX_NODES as u64 {
         return Some(ExprFault::TooManyNodes { nodes });
     }
-    let depth = depth_of(root);
     if depth > MAX_DEPTH as u64 {
         return Some(ExprFault::TooDeep { depth });
     }
@@ -81,7 +80,7 @@ impl Expr {
                 Err(fault)
             }
             None => {
-                let lists = count_lists(&root) as u8;
+                let lists = extent_of(&root).lists as u8;
                 Ok(Expr { root, lists })
             }
         }

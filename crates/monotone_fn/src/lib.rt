@@ -19,7 +19,7 @@ pub use node::{Node, Nodes, Term, Terms};
 use std::alloc::{AllocError, AllocFailed};
 
 /// No memory was left.
-#[derive(Clone, Copy, Debug, PartialEq, Eq)]
+#[derive(Clone, Copy, Debug)]
 pub struct Memory;
 
 impl From<AllocError> for Memory {

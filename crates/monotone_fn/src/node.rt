@@ -5,7 +5,7 @@ use std::slice::Iter;
 
 /// An expression: the grade in a list, or an operator over the values of expressions.
 #[cycle(node)]
-#[derive(Debug, Drop)]
+#[derive(Drop)]
 pub enum Node {
     /// The grade in the list of this number. Lists are numbered from 0.
     List(u8),
@@ -23,7 +23,7 @@ pub enum Node {
 
 /// One expression or more in order, which contracts see as the list of their trees.
 #[cycle(node)]
-#[derive(Debug, Drop)]
+#[derive(Drop)]
 pub struct Nodes {
     pub(crate) items: Vec<Node>,
 }
@@ -54,7 +54,7 @@ impl Model for Nodes {
 
 /// A weight and an expression.
 #[cycle(node)]
-#[derive(Debug, Drop)]
+#[derive(Drop)]
 pub struct Term {
     pub weight: u64,
     pub node: Node,
@@ -62,7 +62,7 @@ pub struct Term {
 
 /// One term or more in order, which contracts see as the list of their weights and trees.
 #[cycle(node)]
-#[derive(Debug, Drop)]
+#[derive(Drop)]
 pub struct Terms {
     pub(crate) items: Vec<Term>,
 }

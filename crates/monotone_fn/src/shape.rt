@@ -1,6 +1,6 @@
 //! How many nodes an expression has, how deep it nests, and how many lists it names.
 
-ghost use Rattle.std.specs.Prelude.{◌≡◌, length};
+ghost use Rattle.std.specs.Prelude.{◌≡◌, ◌+◌, length, max};
 ghost use Rattle.monotone_fn.specs.Tree.{trees, terms};
 ghost use Rattle.monotone_fn.specs.Shape.{nodes_in, nodes_under, node_count, depth, depth_in, depth_under, list_count, list_count_in, list_count_under};
 ghost use Rattle.monotone_fn.specs.Limits.{counted};
@@ -8,113 +8,96 @@ ghost use Rattle.monotone_fn.specs.Shown.{tree_of};
 
 use super::node::{Node, Nodes, Terms};
 
-/// How many nodes it has, or the last `u64` where that is passed.
-#[cycle(count)]
-pub(crate) fn count_nodes(node: &Node) -> u64
-    ensures { result ≡ counted (node_count (tree_of node.now)) }
+/// How large an expression is, or some expressions together.
+#[derive(Clone, Copy)]
+pub(crate) struct Extent {
+    /// How many nodes there are, or the last `u64` where that is passed.
+    pub(crate) nodes: u64,
+    /// How deep they nest, or the last `u64` where that is passed.
+    pub(crate) depth: u64,
+    /// One more than the greatest number of a list that is named, or 0.
+    pub(crate) lists: u16,
+}
+
+impl Extent {
+    /// That of these expressions and another one.
+    fn with(self, other: Extent) -> Extent
+        ensures nodes { result.nodes ≡ counted (self.nodes + other.nodes) }
+        ensures depth { result.depth ≡ max self.depth other.depth }
+        ensures lists { result.lists ≡ max self.lists other.lists }
+    {
+        Extent {
+            nodes: self.nodes.saturating_add(other.nodes),
+            depth: self.depth.max(other.depth),
+            lists: self.lists.max(other.lists),
+        }
+    }
+
+    /// That of a node over these expressions.
+    fn below_one(self) -> Extent
+        ensures nodes { result.nodes ≡ counted (self.nodes + 1) }
+        ensures depth { result.depth ≡ counted (self.depth + 1) }
+        ensures lists { result.lists ≡ self.lists }
+    {
+        Extent {
+            nodes: self.nodes.saturating_add(1),
+            depth: self.depth.saturating_add(1),
+            lists: self.lists,
+        }
+    }
+}
+
+/// How large an expression is.
+#[cycle(extent)]
+pub(crate) fn extent_of(node: &Node) -> Extent
+    ensures nodes { result.nodes ≡ counted (node_count (tree_of node.now)) }
+    ensures depth { result.depth ≡ counted (depth (tree_of node.now)) }
+    ensures lists { result.lists ≡ list_count (tree_of node.now) }
 {
     match node {
-        Node::List(_) => 1,
-        Node::Min(nodes) => count_nodes_in(nodes).saturating_add(1),
-        Node::Max(nodes) => count_nodes_in(nodes).saturating_add(1),
-        Node::Sum(nodes) => count_nodes_in(nodes).saturating_add(1),
-        Node::Median(nodes) => count_nodes_in(nodes).saturating_add(1),
-        Node::Wsum(terms) => count_nodes_under(terms).saturating_add(1),
+        Node::List(list) => Extent {
+            nodes: 1,
+            depth: 1,
+            lists: u16::from(*list) + 1,
+        },
+        Node::Min(nodes) => extent_of_nodes(nodes).below_one(),
+        Node::Max(nodes) => extent_of_nodes(nodes).below_one(),
+        Node::Sum(nodes) => extent_of_nodes(nodes).below_one(),
+        Node::Median(nodes) => extent_of_nodes(nodes).below_one(),
+        Node::Wsum(terms) => extent_of_terms(terms).below_one(),
     }
 }
 
-#[cycle(count)]
-fn count_nodes_in(nodes: &Nodes) -> u64
-    ensures { result ≡ counted (length (nodes_in (trees nodes.now))) }
+#[cycle(extent)]
+fn extent_of_nodes(nodes: &Nodes) -> Extent
+    ensures nodes { result.nodes ≡ counted (length (nodes_in (trees nodes.now))) }
+    ensures depth { result.depth ≡ counted (depth_in (trees nodes.now)) }
+    ensures lists { result.lists ≡ list_count_in (trees nodes.now) }
 {
-    let mut count = 0u64;
+    let mut extent = Extent {
+        nodes: 0,
+        depth: 0,
+        lists: 0,
+    };
     for node in &nodes.items {
-        count = count.saturating_add(count_nodes(node));
+        extent = extent.with(extent_of(node));
     }
-    count
+    extent
 }
 
-#[cycle(count)]
-fn count_nodes_under(weighted: &Terms) -> u64
-    ensures { result ≡ counted (length (nodes_under (terms weighted.now))) }
+#[cycle(extent)]
+fn extent_of_terms(weighted: &Terms) -> Extent
+    ensures nodes { result.nodes ≡ counted (length (nodes_under (terms weighted.now))) }
+    ensures depth { result.depth ≡ counted (depth_under (terms weighted.now)) }
+    ensures lists { result.lists ≡ list_count_under (terms weighted.now) }
 {
-    let mut count = 0u64;
+    let mut extent = Extent {
+        nodes: 0,
+        depth: 0,
+        lists: 0,
+    };
     for term in &weighted.items {
-        count = count.saturating_add(count_nodes(&term.node));
+        extent = extent.with(extent_of(&term.node));
     }
-    count
-}
-
-/// How deep it nests, or the last `u64` where that is passed.
-#[cycle(depth)]
-pub(crate) fn depth_of(node: &Node) -> u64
-    ensures { result ≡ counted (depth (tree_of node.now)) }
-{
-    match node {
-        Node::List(_) => 1,
-        Node::Min(nodes) => depth_of_nodes(nodes).saturating_add(1),
-        Node::Max(nodes) => depth_of_nodes(nodes).saturating_add(1),
-        Node::Sum(nodes) => depth_of_nodes(nodes).saturating_add(1),
-        Node::Median(nodes) => depth_of_nodes(nodes).saturating_add(1),
-        Node::Wsum(terms) => depth_of_terms(terms).saturating_add(1),
-    }
-}
-
-#[cycle(depth)]
-fn depth_of_nodes(nodes: &Nodes) -> u64
-    ensures { result ≡ counted (depth_in (trees nodes.now)) }
-{
-    let mut deepest = 0u64;
-    for node in &nodes.items {
-        deepest = deepest.max(depth_of(node));
-    }
-    deepest
-}
-
-#[cycle(depth)]
-fn depth_of_terms(weighted: &Terms) -> u64
-    ensures { result ≡ counted (depth_under (terms weighted.now)) }
-{
-    let mut deepest = 0u64;
-    for term in &weighted.items {
-        deepest = deepest.max(depth_of(&term.node));
-    }
-    deepest
-}
-
-/// One more than the greatest number of a list that it names.
-#[cycle(lists)]
-pub(crate) fn count_lists(node: &Node) -> u16
-    ensures { result ≡ list_count (tree_of node.now) }
-{
-    match node {
-        Node::List(list) => u16::from(*list) + 1,
-        Node::Min(nodes) => count_lists_in(nodes),
-        Node::Max(nodes) => count_lists_in(nodes),
-        Node::Sum(nodes) => count_lists_in(nodes),
-        Node::Median(nodes) => count_lists_in(nodes),
-        Node::Wsum(terms) => count_lists_under(terms),
-    }
-}
-
-#[cycle(lists)]
-fn count_lists_in(nodes: &Nodes) -> u16
-    ensures { result ≡ list_count_in (trees nodes.now) }
-{
-    let mut count = 0;
-    for node in &nodes.items {
-        count = count.max(count_lists(node));
-    }
-    count
-}
-
-#[cycle(lists)]
-fn count_lists_under(weighted: &Terms) -> u16
-    ensures { result ≡ list_count_under (terms weighted.now) }
-{
-    let mut count = 0;
-    for term in &weighted.items {
-        count = count.max(count_lists(&term.node));
-    }
-    count
+    extent
 }

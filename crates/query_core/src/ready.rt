@@ -4,7 +4,7 @@ use query_text::Query;
 
 /// A query that is admitted over lists: contracts that take one ask for `IsReady`, which says that
 /// `k` is at most `count`, that `count` is at most 200,000, and that each list has its source.
-#[derive(Debug, Drop)]
+#[derive(Drop)]
 pub struct Ready {
     /// The query.
     pub query: Query,

@@ -21,7 +21,7 @@ use std::alloc::Global;
 use std::mem;
 
 /// What the words of a query line mean, as far as they are read.
-#[derive(Debug, Drop)]
+#[derive(Drop)]
 pub(crate) struct Draft {
     pub(crate) k: u32,
     /// The different names, in the order in which they come first.

@@ -14,7 +14,7 @@ use monotone_fn::{Node, Nodes, Term, Terms};
 use std::alloc::Global;
 
 /// An operator that is open, with its arguments so far.
-#[derive(Debug, Drop)]
+#[derive(Drop)]
 pub(crate) struct Frame {
     pub(crate) operator: Operator,
     /// The weight that stands before the next argument, if one was read.

@@ -8,7 +8,7 @@ use super::names::Names;
 use monotone_fn::{Costs, Expr};
 
 /// A query: the k objects with the greatest values of an expression over lists.
-#[derive(Debug, Drop)]
+#[derive(Drop)]
 pub struct Query {
     /// How many objects are asked for, 1 to 1,000,000.
     pub k: u32,

@@ -1,12 +1,10 @@
-use Rattle.std.proofs.Common.{◌∙◌}
+use Rattle.std.proofs.Common.{Err, ap}
 use Rattle.command_words.proofs.BareLaws.{read_taken, read_refused}
+use Rattle.command_line.proofs.OptionLaws.{fault_in}
 use Rattle.command_words.proofs.command.read_none.Goals as goal
 
 pub returns-in-Ok-clause-read : goal.returns-in-Ok-clause-read
-returns-in-Ok-clause-read c = read_taken _ c.args.words.now _ c.bare_command.ensures c.as_slice.ensures c.in-Ok.ensures.kinds
+returns-in-Ok-clause-read c = read_taken c.args.words.now _ c.in-Ok.ensures.found
 
-pub returns : goal.returns
-returns c = record {
-  read = tt;
-  refused = λ e. read_refused _ c.args.words.now _ c.in-Err.error c.bare_command.ensures c.as_slice.ensures c.in-Err.ensures.kinds (λ memory. c.in_default.not-OutOfMemory (c.kind.ensures ∙ memory));
-}
+pub returns-in-Err-clause-refused : goal.returns-in-Err-clause-refused
+returns-in-Err-clause-refused c = λ e. read_refused c.args.words.now (c.in-Err.ensures.refused (ap Err (ap fault_in e)))

@@ -1,24 +1,19 @@
-use Rattle.std.proofs.Common.{◌∙◌}
+use Rattle.std.proofs.Common.{Err, ap, ◌∙◌}
 use Rattle.command_words.specs.Running.{run_app, run_takes, run_given, run_in}
-use Rattle.command_words.proofs.OptionLaws.{asked, refused}
+use Rattle.command_line.proofs.OptionLaws.{asked, fault_in, refused}
 use Rattle.command_words.proofs.RunningLaws.{run_asks, answer_read}
 use Rattle.command_words.proofs.running.read_run.Goals as goal
 
-pub returns-in-Ok-try_get_matches_from-clause-read :
-    goal.returns-in-Ok-try_get_matches_from-clause-read
-returns-in-Ok-try_get_matches_from-clause-read c =
-    let is = asked run_takes run_app run_given run_in run_asks _ c.args.words.now _ _ c.in-Ok.ensures c.as_slice.ensures c.in-Ok-try_get_matches_from.ensures.kinds (λ s. (c.in-Ok-try_get_matches_from.ensures.matches s).0) in
+pub returns-in-Ok-clause-read : goal.returns-in-Ok-clause-read
+returns-in-Ok-clause-read c =
+    let is = asked run_takes run_app run_given run_in run_asks c.args.words.now _ c.in-Ok.ensures.found in
     answer_read _ _ c.options_of.result is c.options_of.ensures.read
 
-pub returns-in-Ok-try_get_matches_from-clause-refused :
-    goal.returns-in-Ok-try_get_matches_from-clause-refused
-returns-in-Ok-try_get_matches_from-clause-refused c =
-    let is = asked run_takes run_app run_given run_in run_asks _ c.args.words.now _ _ c.in-Ok.ensures c.as_slice.ensures c.in-Ok-try_get_matches_from.ensures.kinds (λ s. (c.in-Ok-try_get_matches_from.ensures.matches s).0) in
+pub returns-in-Ok-clause-refused : goal.returns-in-Ok-clause-refused
+returns-in-Ok-clause-refused c =
+    let is = asked run_takes run_app run_given run_in run_asks c.args.words.now _ c.in-Ok.ensures.found in
     λ e. is ∙ c.options_of.ensures.refused e
 
-pub returns : goal.returns
-returns c = record {
-  read = tt;
-  settings = tt;
-  refused = λ e. refused run_takes run_app run_given run_in run_asks _ c.args.words.now _ c.in-Err.error c.in-Ok.ensures c.as_slice.ensures c.in-Err.ensures.kinds (λ memory. c.in_default-kind.not-OutOfMemory (c.kind.ensures ∙ memory));
-}
+pub returns-in-Err-clause-refused : goal.returns-in-Err-clause-refused
+returns-in-Err-clause-refused c =
+    λ e. refused run_takes run_app run_given run_in run_asks c.args.words.now (c.in-Err.ensures.refused (ap Err (ap fault_in e)))

@@ -1,5 +1,5 @@
 use Rattle.std.proofs.Common.{◌≡◌, ◌+◌, length}
-use Rattle.command_words.proofs.given.read_words.Given as goal
+use Rattle.command_line.proofs.given.read_each.Given as goal
 
 -- the word at each place before this one was put
 abbrev pub invariant-loop-place : goal.invariant-loop-place

@@ -1,8 +1,8 @@
 //! The words that a process was given.
 
-ghost use Rattle.std.specs.Prelude.{◌≤◌, ◌<◌, ◌^◌, ◌+◌, IfOk, IfSome, length, vec_len};
+ghost use Rattle.std.specs.Prelude.{◌≡◌, ◌≤◌, ◌<◌, ◌^◌, ◌+◌, IfOk, IfSome, length, vec_len};
 
-use super::command::WordsFault;
+use super::fault::WordsFault;
 use super::words::Words;
 use std::alloc::Global;
 use std::env::{Env, FillError};
@@ -18,9 +18,24 @@ const ROOM: usize = 256;
 pub fn read_words<E: Env>(env: &E, alloc: Global) -> Result<Words, WordsFault> {
     let mut words = Words::make(alloc);
     let mut room = Vec::new(alloc);
+    let read = read_each(env, &mut room, &mut words);
+    drop(room);
+    match read {
+        Ok(()) => Ok(words),
+        Err(fault) => {
+            drop(words);
+            Err(fault)
+        }
+    }
+}
+
+/// Puts the words one after another, through a room for the bytes of each.
+fn read_each<E: Env>(env: &E, room: &mut Vec<u8>, words: &mut Words) -> Result<(), WordsFault>
+    requires { length words.old ≡ 0 }
+{
     for place in 1..u32::MAX {
-        let Some(count) = read_word(env, &mut room, place as usize)? else {
-            return Ok(words);
+        let Some(count) = read_word(env, room, place as usize)? else {
+            return Ok(());
         };
         let Ok(word) = str::from_utf8(&room[..count]) else {
             return Err(WordsFault::BadWords);

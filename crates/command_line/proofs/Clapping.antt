@@ -4,11 +4,12 @@ use Rattle.std.specs.Prelude.{is_some}
 use Rattle.clap.specs.Walk.{Text, Rule, Row, rows_after, walk, walk_from, nothing_held}
 use Rattle.clap.specs.Simple.{App, argument_words, built, entered, matches_of, names_of}
 use Rattle.clap.specs.Faults.{built_fault, entered_fault, fault_of, level_fault}
-use Rattle.command_words.specs.Arguments.{built_rules, built_shape}
-use Rattle.command_words.specs.Line.{Takes}
-use Rattle.command_words.specs.Taking.{taken}
-use Rattle.command_words.proofs.SetRules.{Places, serves}
-use Rattle.command_words.proofs.Walking.{AllUtf8, Comes, all_fault, all_rows, all_come}
+use Rattle.command_line.specs.Arguments.{built_rules, built_shape}
+use Rattle.command_line.specs.Finding.{AllUtf8}
+use Rattle.command_line.specs.Line.{Takes}
+use Rattle.command_line.specs.Taking.{taken}
+use Rattle.command_line.proofs.SetRules.{Places, serves}
+use Rattle.command_line.proofs.Walking.{Comes, all_fault, all_rows, all_come}
 
 abbrev flat : List Rule → App
 flat c = record { top = built_shape c; subs = [] }

@@ -4,7 +4,7 @@ use Rattle.std.specs.List.{list_all}
 use Rattle.std.specs.Str.{bytes_eq}
 use Rattle.clap.specs.Lexer.{long_of, short_of}
 use Rattle.clap.specs.Walk.{Text}
-use Rattle.command_words.specs.Line.{Takes, Given, is_given, is_option, needed}
+use Rattle.command_line.specs.Line.{Takes, Given, is_given, is_option, needed}
 
 -- the text of a name
 abbrev pub given_text : Text → List Given → Option Text

@@ -19,15 +19,11 @@ use Rattle.clap.specs.Takes.{is_given as is_row_given}
 use Rattle.clap.specs.Faults.{settle_fault, use_fault, long_fault, short_fault, flag_word_fault, bundle_fault, flags_fault, bundle_step_fault, turn_fault, walk_fault, word_fault, step_fault, positional_fault, stray_fault, defaults_fault, default_fault, given_default_fault, check_fault}
 use Rattle.clap.specs.declared.error.kind.ErrorKind.TheVariants as kind
 use Rattle.clap.specs.declared.parser.matches.ValueSource.TheVariants.{CommandLine}
-use Rattle.command_words.specs.Arguments.{set_rule, next_index, built_shape}
-use Rattle.command_words.specs.Line.{Takes, Given, is_given, is_option, needed}
-use Rattle.command_words.specs.Taking.{Taken, Next, Kind, kind_by, long_kind, short_kind, give, give_once, placed_in, option_in, kind_in, value_in, end_in, taken_from, taken}
-use Rattle.command_words.proofs.SetRules.{same_self, IsSet, Serves, Places, HasNoDefaults, row_for, shown}
-
--- the words are texts
-abbrev pub AllUtf8 : List Text → Type 0
-AllUtf8 [] = Unit {0}
-AllUtf8 (word ∷ words) = IsUtf8 word × AllUtf8 words
+use Rattle.command_line.specs.Arguments.{set_rule, next_index, built_shape}
+use Rattle.command_line.specs.Finding.{AllUtf8}
+use Rattle.command_line.specs.Line.{Takes, Given, is_given, is_option, needed}
+use Rattle.command_line.specs.Taking.{Taken, Next, Kind, kind_by, long_kind, short_kind, give, give_once, placed_in, option_in, kind_in, value_in, end_in, taken_from, taken}
+use Rattle.command_line.proofs.SetRules.{same_self, IsSet, Serves, Places, HasNoDefaults, row_for, shown}
 
 -- there is a fault
 abbrev pub HasFault : Kinds → Type 0

@@ -7,10 +7,10 @@ use Rattle.std.proofs.lemmas.Bool.{false≢true, eqb-true, or_parts}
 use Rattle.std.proofs.lemmas.Slice.Eq.{bytes_eq-Decides}
 use Rattle.clap.specs.Lexer.{long_of, long_of_rest, short_of, short_of_rest, strip_byte}
 use Rattle.clap.specs.Walk.{Text}
-use Rattle.command_words.specs.Line.{OptionRule, Takes, Part, CommandLine, Given, GivenByLine, IsLine, AreParts, IsPlain, IsOptionName, AreOptionNames, Fresh, is_given, is_option, needed, line_given, line_words, line_places, part_words, behind_words, parts_given, places_given}
-use Rattle.command_words.specs.Line.Part.{placed, joined, apart}
-use Rattle.command_words.specs.Taking.{Taken, Next, Kind, kind_of, kind_by, long_kind, give, give_once, option_in, kind_in, value_in, end_in, taken_from, taken}
-use Rattle.command_words.proofs.SetRules.{same_self, same_text}
+use Rattle.command_line.specs.Line.{OptionRule, Takes, Part, CommandLine, Given, GivenByLine, IsLine, AreParts, IsPlain, IsOptionName, AreOptionNames, Fresh, is_given, is_option, needed, line_given, line_words, line_places, part_words, behind_words, parts_given, places_given}
+use Rattle.command_line.specs.Line.Part.{placed, joined, apart}
+use Rattle.command_line.specs.Taking.{Taken, Next, Kind, kind_of, kind_by, long_kind, give, give_once, option_in, kind_in, value_in, end_in, taken_from, taken}
+use Rattle.command_line.proofs.SetRules.{same_self, same_text}
 
 abbrev ender : Text
 ender = 45 ∷ 45 ∷ []

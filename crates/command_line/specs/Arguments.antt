@@ -5,7 +5,7 @@ use Rattle.clap.specs.Walk.{Text, Rule}
 use Rattle.clap.specs.Simple.{Shape, new_rule, new_shape}
 use Rattle.clap.specs.declared.builder.action.ArgAction.TheVariants.{Set}
 use Rattle.clap.specs.declared.builder.value_parser.ValueParser.TheVariants.{String}
-use Rattle.command_words.specs.Line.{OptionRule, Takes}
+use Rattle.command_line.specs.Line.{OptionRule, Takes}
 
 -- an argument that takes one value, once
 abbrev pub set_rule : Text → Option Text → Option ℕ → Bool → Rule

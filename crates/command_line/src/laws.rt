@@ -1,8 +1,8 @@
 //! Laws on words, each the contract of a function that does nothing.
 
 ghost use Rattle.std.specs.Prelude.{◌≡◌, List, ℕ, Some};
-ghost use Rattle.command_words.specs.Line.{Takes, CommandLine, Given, IsLine, GivenByLine, AreOptionNames, line_words, line_given};
-ghost use Rattle.command_words.specs.Taking.{taken};
+ghost use Rattle.command_line.specs.Line.{Takes, CommandLine, Given, IsLine, GivenByLine, AreOptionNames, line_words, line_given};
+ghost use Rattle.command_line.specs.Taking.{taken};
 
 /// What the words behind a command's name give, word by word, is what the command lines give that spell
 /// them: each lawful command line of a command is read as what it gives, and what is read is given by a

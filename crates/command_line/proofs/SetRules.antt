@@ -11,8 +11,8 @@ use Rattle.clap.specs.Walk.{Text, Rule, Row, arg_by_id, arg_by_long, arg_by_shor
 use Rattle.clap.specs.Takes.{is_given as is_row_given}
 use Rattle.clap.specs.declared.builder.value_parser.Reading.TheVariants.{AsWritten}
 use Rattle.clap.specs.declared.parser.matches.ValueSource.TheVariants.{CommandLine}
-use Rattle.command_words.specs.Arguments.{set_rule, option_rule, placed_rules, built_rules, next_index}
-use Rattle.command_words.specs.Line.{OptionRule, Takes, Given, is_given, is_option, needed}
+use Rattle.command_line.specs.Arguments.{set_rule, option_rule, placed_rules, built_rules, next_index}
+use Rattle.command_line.specs.Line.{OptionRule, Takes, Given, is_given, is_option, needed}
 
 -- it is the rule of an argument with this id that takes one value
 abbrev pub IsSet : Text → Option Rule → Type 0

@@ -1,0 +1,6 @@
+-- The words of the contracts.
+pub mod Line
+pub mod Taking
+pub mod Finding
+pub mod Apps
+pub mod Arguments
