@@ -5,9 +5,10 @@ use Rattle.std.proofs.lemmas.List.{get_or_past}
 use Rattle.topk_theory.proofs.AgreementLists.{contains_nil}
 use Rattle.atomic_table.specs.Seated.{TableId}
 use Rattle.turn_lock.specs.Known.{all_parts}
-use Rattle.source_pool.specs.declared.hold.Hold.{Hold}
-use Rattle.source_pool.specs.Passes.{Feed, no_hold, hold_at}
-use Rattle.source_pool.specs.Looks.{IsWithin}
+use Rattle.source_pass.specs.declared.hold.Hold.{Hold}
+use Rattle.source_pass.specs.Passes.{no_hold}
+use Rattle.source_pool.specs.Passes.{Feed, hold_at}
+use Rattle.source_pass.specs.Looks.{IsWithin}
 use Rattle.source_pool.specs.Sharing.{IsOpened}
 use Rattle.query_core.specs.declared.ready.Ready.{Ready}
 use Rattle.query_world.specs.Made.{IsReadyFor}
@@ -100,7 +101,7 @@ hiring_none counts pool holds feeds opened = record {
     high = λ source l. ap (λ (hold : Hold). hold.pass.1.high) (opened.held source l);
     asked = λ source l. ap (λ (hold : Hold). hold.pass.1.asked) (opened.held source l);
     mine = λ source l. ap (λ (hold : Hold). hold.pass.1.mine) (opened.held source l);
-    gives = λ source l. ap Rattle.source_pool.specs.Sharing.new_hold (opened.held source l);
+    gives = λ source l. ap Rattle.source_pass.specs.Sharing.new_hold (opened.held source l);
   };
   each = λ i d l. absurd (omega (arith, l));
 }

@@ -11,13 +11,13 @@ use Rattle.turn_lock.specs.declared.facts.Tally.{Tally}
 use Rattle.turn_lock.specs.declared.known.Known.{Known}
 use Rattle.turn_lock.specs.Known.{Follows}
 use Rattle.source_api.specs.declared.counts.Counts.{Counts}
-use Rattle.source_state.specs.declared.entry.LogEntry.{LogEntry}
-use Rattle.source_state.specs.declared.entry.FailKind.{FailKind}
-use Rattle.source_state.specs.declared.entry.FailKind.TheVariants as kind
-use Rattle.source_state.specs.Log.{settled_in}
+use Rattle.source_log.specs.declared.entry.LogEntry.{LogEntry}
+use Rattle.source_log.specs.declared.entry.FailKind.{FailKind}
+use Rattle.source_log.specs.declared.entry.FailKind.TheVariants as kind
+use Rattle.source_log.specs.Log.{settled_in}
 use Rattle.source_state.specs.State.{State, IsSound, last_count, state_at}
 use Rattle.source_state.specs.Looking.{reach_of}
-use Rattle.source_pool.specs.declared.hold.Hold.{Hold}
+use Rattle.source_pass.specs.declared.hold.Hold.{Hold}
 use Rattle.source_pool.specs.Passes.{Feed, lock_at, hold_at, feed_at}
 use Rattle.source_pool.specs.Sharing.{first_feed}
 use Rattle.source_pool.specs.Closed.{HaveAll, IsClosed, AreClosed}

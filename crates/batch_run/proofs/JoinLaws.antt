@@ -6,7 +6,7 @@ use Rattle.std.proofs.lemmas.List.Elements.{Contains-append_left, Contains-appen
 use Rattle.topk_theory.proofs.AgreementLists.{contains_nil, contains_here, contains_there, contains_cases}
 use Rattle.atomic_table.specs.Seated.{TableId}
 use Rattle.turn_lock.specs.Known.{Follows}
-use Rattle.source_pool.specs.declared.hold.Hold.{Hold}
+use Rattle.source_pass.specs.declared.hold.Hold.{Hold}
 use Rattle.source_pool.specs.Passes.{hold_at, IsPassOf}
 use Rattle.source_pool.specs.Sharing.{IsJoined}
 use Rattle.batch_run.specs.declared.work.Worker.{Worker}

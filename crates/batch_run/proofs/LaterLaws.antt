@@ -4,9 +4,9 @@ use Rattle.turn_lock.specs.declared.facts.Tally.{Tally}
 use Rattle.turn_lock.specs.declared.known.Known.{Known}
 use Rattle.turn_lock.specs.Facts.{Begins, AtMost}
 use Rattle.turn_lock.specs.Known.{Follows}
-use Rattle.source_state.specs.declared.entry.LogEntry.{LogEntry}
+use Rattle.source_log.specs.declared.entry.LogEntry.{LogEntry}
 use Rattle.source_state.specs.State.{State, IsSound, state_at}
-use Rattle.source_pool.specs.declared.hold.Hold.{Hold}
+use Rattle.source_pass.specs.declared.hold.Hold.{Hold}
 use Rattle.source_pool.specs.Passes.{hold_at}
 use Rattle.query_world.specs.declared.inquiry.Inquiry.{Inquiry}
 use Rattle.query_world.specs.Kept.{IsServed}

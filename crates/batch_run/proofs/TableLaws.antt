@@ -15,10 +15,10 @@ use Rattle.topk_theory.proofs.Agreement.{drawn_gives, drawn_more}
 use Rattle.topk_theory.proofs.AgreementLists.{all_from_members, member_of_all, contains_nil, contains_cases, contains_map, contains_at, contains_splits, begins_splits}
 use Rattle.topk_theory.proofs.AgreementRows.{objects_in_each}
 use Rattle.access_log.specs.Log.{AgreesWith}
-use Rattle.source_state.specs.declared.entry.Settling.TheVariants.{Graded}
-use Rattle.source_state.specs.Log.{rows_in, graded_in}
+use Rattle.source_log.specs.declared.entry.Settling.TheVariants.{Graded}
+use Rattle.source_log.specs.Log.{rows_in, graded_in}
 use Rattle.source_state.specs.State.{State, opened, IsSound, state_at}
-use Rattle.source_state.proofs.LogLaws.{graded_settling}
+use Rattle.source_log.proofs.LogLaws.{graded_settling}
 use Rattle.query_core.specs.Machines.{state_of}
 use Rattle.query_world.specs.declared.inquiry.Inquiry.{Inquiry}
 use Rattle.query_world.specs.Worlds.{told_to, needed, source_of}

@@ -8,15 +8,15 @@ use Rattle.turn_lock.specs.Facts as facts
 use Rattle.topk_theory.specs.Transcript.{Begins}
 use Rattle.source_api.specs.declared.counts.Counts.{Counts}
 use Rattle.source_api.specs.Told.{IsPage}
-use Rattle.source_state.specs.declared.entry.LogEntry.{LogEntry}
-use Rattle.source_state.specs.declared.entry.Settling.{Settling}
+use Rattle.source_log.specs.declared.entry.LogEntry.{LogEntry}
+use Rattle.source_log.specs.declared.entry.Settling.{Settling}
 use Rattle.source_state.specs.declared.event.Event.{Event}
 use Rattle.source_state.specs.declared.event.Event.TheVariants as event
-use Rattle.source_state.specs.Log.{rows_in, settling_in, fault_in}
+use Rattle.source_log.specs.Log.{rows_in, settling_in, fault_in}
 use Rattle.source_state.specs.State.{State}
 use Rattle.source_state.specs.Events as events
 use Rattle.source_state.proofs.AskLaws.{pending_parts}
-use Rattle.source_state.proofs.Lists.{none_not_some}
+use Rattle.source_log.proofs.Lists.{none_not_some}
 use Rattle.query_world.specs.Honest.{IsGradeOf, IsTrueOf}
 use Rattle.query_world.proofs.TrueLists.{IsHonestEvent, true_after}
 use Rattle.fetcher.specs.declared.turned.Turned.{Turned}

@@ -2,11 +2,11 @@
 use Rattle.std.specs.Prelude.{◌≡◌, ◌≤◌, ◌==◌, ◌&&◌, ◌*◌, ◌⊎◌, ℕ, Bool, true, false, Option, Some, None, List, length, Contains, count_by}
 use Rattle.std.specs.List.{sum_by}
 use Rattle.source_api.specs.declared.counts.Counts.{Counts}
-use Rattle.source_state.specs.declared.entry.FailKind.{FailKind}
-use Rattle.source_state.specs.declared.entry.FailKind.TheVariants as kind
+use Rattle.source_log.specs.declared.entry.FailKind.{FailKind}
+use Rattle.source_log.specs.declared.entry.FailKind.TheVariants as kind
 use Rattle.source_state.specs.declared.look.LookFault.{LookFault}
 use Rattle.source_state.specs.declared.look.LookFault.TheVariants as why
-use Rattle.source_state.specs.Log.{settled_in}
+use Rattle.source_log.specs.Log.{settled_in}
 use Rattle.source_state.specs.State.{State}
 use Rattle.source_state.specs.Looking.{reach_of}
 use Rattle.query_world.specs.declared.ended.Refusal.{Refusal}

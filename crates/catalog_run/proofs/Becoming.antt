@@ -10,8 +10,8 @@ use Rattle.topk_theory.specs.Transcript.{list_at}
 use Rattle.topk_theory.proofs.AgreementLists.{contains_here, contains_there, member_of_all}
 use Rattle.access_log.specs.declared.core_fault.CoreFault.TheVariants as core
 use Rattle.source_api.specs.Counting.{NoneFell}
-use Rattle.source_state.specs.declared.entry.FailKind.{FailKind}
-use Rattle.source_state.specs.declared.entry.FailKind.TheVariants as kind
+use Rattle.source_log.specs.declared.entry.FailKind.{FailKind}
+use Rattle.source_log.specs.declared.entry.FailKind.TheVariants as kind
 use Rattle.source_state.specs.declared.look.LookFault.{LookFault}
 use Rattle.source_state.specs.declared.look.LookFault.TheVariants as why
 use Rattle.cert_text.specs.declared.outcome.Outcome.{Outcome}

@@ -10,8 +10,8 @@ use Rattle.std.proofs.lemmas.List.Elements.{All-from_recursion}
 use Rattle.topk_theory.proofs.AgreementLists.{contains_here, contains_there, contains_at, member_of_all}
 use Rattle.access_log.specs.declared.answer.Answer.{Answer}
 use Rattle.access_log.specs.declared.core_fault.CoreFault.TheVariants as core
-use Rattle.source_state.specs.declared.entry.SourceFault.{SourceFault}
-use Rattle.source_state.specs.declared.entry.SourceFault.TheVariants as fault
+use Rattle.source_log.specs.declared.entry.SourceFault.{SourceFault}
+use Rattle.source_log.specs.declared.entry.SourceFault.TheVariants as fault
 use Rattle.source_state.specs.declared.look.LookFault.{LookFault}
 use Rattle.source_state.specs.declared.look.LookFault.TheVariants as why
 use Rattle.query_text.specs.declared.query.Query.{Query}

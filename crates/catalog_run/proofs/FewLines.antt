@@ -13,8 +13,8 @@ use Rattle.topk_theory.proofs.AgreementLists.{contains_here, contains_there}
 use Rattle.nra_theory.proofs.Counts.{count_first, count_le, count_no, count_none, count_yes}
 use Rattle.access_log.specs.declared.core_fault.CoreFault.TheVariants as core
 use Rattle.source_api.specs.declared.counts.Counts.{Counts}
-use Rattle.source_state.specs.declared.entry.FailKind.{FailKind}
-use Rattle.source_state.specs.declared.entry.FailKind.TheVariants as kind
+use Rattle.source_log.specs.declared.entry.FailKind.{FailKind}
+use Rattle.source_log.specs.declared.entry.FailKind.TheVariants as kind
 use Rattle.source_state.specs.declared.look.LookFault.{LookFault}
 use Rattle.source_state.specs.declared.look.LookFault.TheVariants as why
 use Rattle.query_text.specs.declared.query.Query.{Query}

@@ -12,8 +12,8 @@ use Rattle.query_core.specs.declared.ready.Ready.{Ready}
 use Rattle.source_state.specs.State.{State, state_at}
 use Rattle.source_state.specs.declared.look.LookFault.{LookFault}
 use Rattle.source_state.specs.declared.look.LookFault.TheVariants as look
-use Rattle.source_state.specs.declared.entry.SourceFault.{SourceFault}
-use Rattle.source_state.specs.declared.entry.SourceFault.TheVariants as fault
+use Rattle.source_log.specs.declared.entry.SourceFault.{SourceFault}
+use Rattle.source_log.specs.declared.entry.SourceFault.TheVariants as fault
 use Rattle.access_log.specs.declared.core_fault.CoreFault.TheVariants as core
 use Rattle.query_admission.specs.View.{View}
 use Rattle.query_admission.specs.Causes.{admission_causes}

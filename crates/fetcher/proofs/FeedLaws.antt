@@ -7,7 +7,7 @@ use Rattle.turn_lock.specs.declared.known.Known.{Known}
 use Rattle.turn_lock.specs.Facts.{Grows}
 use Rattle.turn_lock.specs.Known.{Agrees, HasAll, after_turn}
 use Rattle.turn_lock.proofs.Growth.{begins_on, at_most_on, grows_same}
-use Rattle.source_state.specs.declared.entry.LogEntry.{LogEntry}
+use Rattle.source_log.specs.declared.entry.LogEntry.{LogEntry}
 use Rattle.source_state.specs.declared.event.Event.{Event}
 use Rattle.source_state.specs.declared.plan.Plan.{Plan}
 use Rattle.source_state.specs.State.{State, facts_of, IsSound}
@@ -15,7 +15,7 @@ use Rattle.source_state.specs.Events as events
 use Rattle.source_state.specs.Events.{MayCome}
 use Rattle.source_state.specs.Looking.{plan_of, Serves}
 use Rattle.source_pool.specs.Passes.{Feed, IsFeederOf, IsIdleOf, in_turn, turned}
-use Rattle.source_pool.proofs.TurnLaws.{marks_kept}
+use Rattle.source_pass.proofs.TurnLaws.{marks_kept}
 use Rattle.fetcher.specs.Turning.{IsFound, HasSeen, Feeds, IsPlanned, IsFed, IsOfSource}
 use Rattle.fetcher.proofs.EventLaws.{event_want, event_asks}
 

@@ -1,7 +1,7 @@
 -- What holds of a reader of a pool of one source.
 use Rattle.std.specs.Prelude.{◌≡◌, ℕ, List, length}
 use Rattle.atomic_table.specs.Seated.{TableId}
-use Rattle.source_pool.specs.declared.hold.Hold.{Hold}
+use Rattle.source_pass.specs.declared.hold.Hold.{Hold}
 use Rattle.source_pool.specs.Passes.{hold_at, IsPassOf}
 
 -- the pass is the pool's own, and the one source has so many objects

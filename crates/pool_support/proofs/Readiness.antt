@@ -6,10 +6,11 @@ use Rattle.ranked_list.specs.declared.need.Need.TheVariants as need
 use Rattle.atomic_table.specs.Seated.{TableId}
 use Rattle.turn_lock.specs.declared.known.Known.{Known}
 use Rattle.turn_lock.specs.Known.{all_parts}
-use Rattle.source_state.specs.declared.entry.LogEntry.{LogEntry}
-use Rattle.source_pool.specs.declared.hold.Hold.{Hold}
-use Rattle.source_pool.specs.Passes.{Feed, lock_at, hold_at, feed_at, IsFree, IsPassOf, IsIdleOf, AreFeedersOf}
-use Rattle.source_pool.specs.Looks.{MayLookFor, TookTurn}
+use Rattle.source_log.specs.declared.entry.LogEntry.{LogEntry}
+use Rattle.source_pass.specs.declared.hold.Hold.{Hold}
+use Rattle.source_pass.specs.Passes.{IsFree}
+use Rattle.source_pool.specs.Passes.{Feed, lock_at, hold_at, feed_at, IsPassOf, IsIdleOf, AreFeedersOf}
+use Rattle.source_pass.specs.Looks.{MayLookFor, TookTurn}
 use Rattle.source_pool.specs.Sharing.{first_hold, first_feed, IsOpened, MaySplit, IsSplit, IsJoined}
 use Rattle.source_pool.specs.Closed.{HaveAll}
 use Rattle.fetcher.specs.Turning.{Feeds}

@@ -14,7 +14,7 @@ use Rattle.topk_theory.proofs.Agreement.{sorted_rows_append}
 use Rattle.topk_theory.proofs.AgreementLists.{contains_nil, contains_here, contains_cases}
 use Rattle.access_log.specs.Machine.{MachineState, row_access, grade_access}
 use Rattle.turn_lock.specs.declared.known.Known.{Known}
-use Rattle.source_state.specs.declared.entry.LogEntry.{LogEntry}
+use Rattle.source_log.specs.declared.entry.LogEntry.{LogEntry}
 use Rattle.query_core.specs.Machines.{state_of}
 use Rattle.query_world.specs.declared.inquiry.Inquiry.{Inquiry}
 use Rattle.query_world.specs.Worlds.{needed, is_done}

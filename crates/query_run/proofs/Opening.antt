@@ -3,8 +3,9 @@ use Rattle.std.proofs.Common.{inl, inr, â„•, List, length, slice_index_or, ap, â
 use Rattle.std.proofs.lemmas.Bool.{cases_lt}
 use Rattle.std.proofs.lemmas.List.{get_or_past}
 use Rattle.atomic_table.specs.Seated.{TableId}
-use Rattle.source_pool.specs.declared.hold.Hold.{Hold}
-use Rattle.source_pool.specs.Passes.{Feed, no_hold}
+use Rattle.source_pass.specs.declared.hold.Hold.{Hold}
+use Rattle.source_pass.specs.Passes.{no_hold}
+use Rattle.source_pool.specs.Passes.{Feed}
 use Rattle.source_pool.specs.Sharing.{IsOpened}
 use Rattle.query_core.specs.declared.ready.Ready.{Ready}
 use Rattle.query_world.specs.Made.{IsReadyFor}

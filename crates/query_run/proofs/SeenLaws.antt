@@ -4,10 +4,10 @@ use Rattle.std.proofs.lemmas.List.{length-map}
 use Rattle.turn_lock.specs.Facts.{Begins}
 use Rattle.topk_theory.specs.Transcript as transcript
 use Rattle.topk_theory.specs.Transcript.{Grows, list_at}
-use Rattle.source_state.specs.Log.{rows_in}
+use Rattle.source_log.specs.Log.{rows_in}
 use Rattle.source_state.specs.State.{State, state_at}
 use Rattle.source_state.specs.Drawing.{told_by}
-use Rattle.source_pool.specs.declared.hold.Hold.{Hold}
+use Rattle.source_pass.specs.declared.hold.Hold.{Hold}
 use Rattle.source_pool.specs.Passes.{hold_at}
 use Rattle.query_world.specs.Worlds.{logs_of}
 use Rattle.query_world.proofs.Causes.{rows_begin, known_more}

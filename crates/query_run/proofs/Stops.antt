@@ -17,10 +17,10 @@ use Rattle.source_state.specs.declared.look.Look.TheVariants as look
 use Rattle.source_state.specs.declared.look.LookFault.{LookFault}
 use Rattle.source_state.specs.State.{State, opened, IsSound, state_at}
 use Rattle.source_state.specs.Drawing.{told_by}
-use Rattle.source_state.proofs.Lists.{none_not_some}
-use Rattle.source_pool.specs.declared.hold.Hold.{Hold}
+use Rattle.source_log.proofs.Lists.{none_not_some}
+use Rattle.source_pass.specs.declared.hold.Hold.{Hold}
 use Rattle.source_pool.specs.Passes.{hold_at}
-use Rattle.source_pool.specs.Looks.{IsWithin, TookTurn}
+use Rattle.source_pass.specs.Looks.{IsWithin, TookTurn}
 use Rattle.query_core.specs.declared.ready.Ready.{Ready}
 use Rattle.query_core.specs.Driving.{Continues, IsFedFrom}
 use Rattle.query_core.specs.Machines.{state_of}
@@ -92,14 +92,14 @@ row_stands : (before now after : List Hold) (q r : Inquiry) (row : Row) (states 
     → FeedsFrom after r states → Went states q r → r.refusal ≡ refused → RowTaken row q r refused → Stands before after r refused
 row_stands before now after q r row states None h reading going on l is seen feeds w e taken =
     open_given before now after q r h l.others
-    (over_of _ _ (subst (Rattle.source_pool.specs.Looks.Waits (needed q) (hold_at now (source_needed q)) (hold_at after (source_needed q))) is l.waits))
-    (l.shown ∙ ap (λ a. Rattle.source_pool.specs.Looks.shown_by a (hold_at now (source_needed q)).shown) is)
+    (over_of _ _ (subst (Rattle.source_pass.specs.Looks.Waits (needed q) (hold_at now (source_needed q)) (hold_at after (source_needed q))) is l.waits))
+    (l.shown ∙ ap (λ a. Rattle.source_pass.specs.Looks.shown_by a (hold_at now (source_needed q)).shown) is)
     (record { sources = l.sources; access = Rattle.access_log.specs.Machine.row_access (needed q) row; accesses = taken.1.log.accesses; meets = row_meets (needed q) row going })
 row_stands before now after q r row states (Some (refusal.Core fault)) h reading going on l is seen feeds w e taken =
     let same : state_of r.machine ≡ state_of q.machine = stays fault taken in
     core_stops before now after q r states fault h l.others
-    (over_of _ _ (subst (Rattle.source_pool.specs.Looks.Waits (needed q) (hold_at now (source_needed q)) (hold_at after (source_needed q))) is l.waits))
-    (l.shown ∙ ap (λ a. Rattle.source_pool.specs.Looks.shown_by a (hold_at now (source_needed q)).shown) is)
+    (over_of _ _ (subst (Rattle.source_pass.specs.Looks.Waits (needed q) (hold_at now (source_needed q)) (hold_at after (source_needed q))) is l.waits))
+    (l.shown ∙ ap (λ a. Rattle.source_pass.specs.Looks.shown_by a (hold_at now (source_needed q)).shown) is)
     l.sources same e (many_on now q r reading l.sources (same_goes q r same)) (each_on now after q r on reading l.sources (same_goes q r same)) l.run feeds
     (elim w.cause [
       | inl none ↦ absurd (none_not_some (sym none ∙ e))
@@ -122,7 +122,7 @@ step_row before now after q r row h reading ending on l is =
     let s = source_needed q in
     let parts = open_parts q ending in
     let place = place_of now q reading ending in
-    let turn = subst (Rattle.source_pool.specs.Looks.IsTurn (needed q) (hold_at now s) (hold_at after s)) is l.turn in
+    let turn = subst (Rattle.source_pass.specs.Looks.IsTurn (needed q) (hold_at now s) (hold_at after s)) is l.turn in
     let by = row_seen (needed q) (hold_at now s) (hold_at after s) row turn in
     let states = slice_set reading.states s (state_seen (hold_at after s).pass.1) in
     let f = fresh now after q reading parts.0 place on by.sound in
@@ -144,7 +144,7 @@ step_grade before now after q r grade h reading ending on l is =
     let s = source_needed q in
     let parts = open_parts q ending in
     let place = place_of now q reading ending in
-    let turn = subst (Rattle.source_pool.specs.Looks.IsTurn (needed q) (hold_at now s) (hold_at after s)) is l.turn in
+    let turn = subst (Rattle.source_pass.specs.Looks.IsTurn (needed q) (hold_at now s) (hold_at after s)) is l.turn in
     let by = grade_seen (needed q) (hold_at now s) (hold_at after s) grade turn in
     let states = slice_set reading.states s (state_seen (hold_at after s).pass.1) in
     let f = fresh now after q reading parts.0 place on by.sound in
@@ -157,8 +157,8 @@ step_grade before now after q r grade h reading ending on l is =
       feeds = feeds_on after q r states f.feeds l.sources w.goes w.fed;
       stands = subst (Stands before after r) (sym answers.0)
           (open_given before now after q r h l.others
-          (over_of _ _ (subst (Rattle.source_pool.specs.Looks.Waits (needed q) (hold_at now s) (hold_at after s)) is l.waits))
-          (l.shown ∙ ap (λ a. Rattle.source_pool.specs.Looks.shown_by a (hold_at now s).shown) is)
+          (over_of _ _ (subst (Rattle.source_pass.specs.Looks.Waits (needed q) (hold_at now s) (hold_at after s)) is l.waits))
+          (l.shown ∙ ap (λ a. Rattle.source_pass.specs.Looks.shown_by a (hold_at now s).shown) is)
           (record { sources = l.sources; access = Rattle.access_log.specs.Machine.grade_access (needed q) grade; accesses = answers.1.log.accesses; meets = grade_meets (needed q) grade parts.1 }));
     }
 
@@ -184,9 +184,9 @@ step_waits sources before now after q r advances h reading ending on l is =
       feeds = feeds_on after q r reading.states feeds l.sources goes (subst (IsFedFrom (told_to reading.states q)) (sym same) reading.feeds.fed);
       stands = subst (Stands before after r) (sym answers.0)
           (open_waits before now after q r place h l.others
-          (l.shown ∙ ap (λ a. Rattle.source_pool.specs.Looks.shown_by a (hold_at now s).shown) is)
+          (l.shown ∙ ap (λ a. Rattle.source_pass.specs.Looks.shown_by a (hold_at now s).shown) is)
           l.sources same parts.1 (tally_more sources before now after q advances on)
-          (subst (Rattle.source_pool.specs.Looks.Waits (needed q) (hold_at now s) (hold_at after s)) is l.waits));
+          (subst (Rattle.source_pass.specs.Looks.Waits (needed q) (hold_at now s) (hold_at after s)) is l.waits));
     }
 
 -- where it can't be had
@@ -198,7 +198,7 @@ step_fault before now after q r fault h reading ending on l is =
     let answers = subst (Rattle.query_world.specs.Steps.Answers q r) is l.answers in
     let same : state_of r.machine ≡ state_of q.machine = ap state_of answers.1 in
     let goes = same_goes q r same in
-    let turn = subst (Rattle.source_pool.specs.Looks.IsTurn (needed q) (hold_at now s) (hold_at after s)) is l.turn in
+    let turn = subst (Rattle.source_pass.specs.Looks.IsTurn (needed q) (hold_at now s) (hold_at after s)) is l.turn in
     let feeds = feeds_on after q r reading.states (feeds_still s now after q reading.states on reading.feeds) l.sources goes (subst (IsFedFrom (told_to reading.states q)) (sym same) reading.feeds.fed) in
     record {
       goes = goes;
@@ -206,8 +206,8 @@ step_fault before now after q r fault h reading ending on l is =
       feeds = feeds;
       stands = subst (Stands before after r) (sym answers.0)
           (fault_stops before now after q r reading.states fault h l.others
-          (over_of _ _ (subst (Rattle.source_pool.specs.Looks.Waits (needed q) (hold_at now s) (hold_at after s)) is l.waits))
-          (l.shown ∙ ap (λ a. Rattle.source_pool.specs.Looks.shown_by a (hold_at now s).shown) is)
+          (over_of _ _ (subst (Rattle.source_pass.specs.Looks.Waits (needed q) (hold_at now s) (hold_at after s)) is l.waits))
+          (l.shown ∙ ap (λ a. Rattle.source_pass.specs.Looks.shown_by a (hold_at now s).shown) is)
           l.sources same answers.0 parts.1 (many_on now q r reading l.sources goes) (each_on now after q r on reading l.sources goes) l.run feeds
           (fault_seen (needed q) (hold_at now s) (hold_at after s) fault turn));
     }

@@ -12,11 +12,11 @@ use Rattle.topk_theory.specs.Transcript.{depth_of}
 use Rattle.topk_theory.proofs.Agreement.{depth_of_sorted}
 use Rattle.topk_theory.proofs.AgreementLists.{contains_nil, contains_here, contains_cases}
 use Rattle.access_log.specs.Machine.{IsInRange}
-use Rattle.source_state.specs.declared.entry.LogEntry.{LogEntry}
+use Rattle.source_log.specs.declared.entry.LogEntry.{LogEntry}
 use Rattle.source_state.specs.declared.look.Waiting.{Waiting}
-use Rattle.source_state.proofs.Lists.{none_not_some}
-use Rattle.source_pool.specs.declared.hold.Hold.{Hold}
-use Rattle.source_pool.specs.Looks.{KeepsMarks, HasCalled, BeginsToWait}
+use Rattle.source_log.proofs.Lists.{none_not_some}
+use Rattle.source_pass.specs.declared.hold.Hold.{Hold}
+use Rattle.source_pass.specs.Looks.{KeepsMarks, HasCalled, BeginsToWait}
 use Rattle.query_core.specs.Machines.{state_of}
 use Rattle.query_world.specs.declared.inquiry.Inquiry.{Inquiry}
 use Rattle.query_world.specs.Worlds.{needed, list_needed, source_of, source_needed}

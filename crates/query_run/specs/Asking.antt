@@ -6,7 +6,7 @@ use Rattle.turn_lock.specs.declared.known.Known.{Known}
 use Rattle.topk_theory.specs.declared.access.Access.{Access}
 use Rattle.topk_theory.specs.declared.access.Access.TheVariants.{Sorted, Random}
 use Rattle.topk_theory.specs.Transcript.{list_of, is_sorted, depth_of}
-use Rattle.source_state.specs.declared.entry.LogEntry.{LogEntry}
+use Rattle.source_log.specs.declared.entry.LogEntry.{LogEntry}
 use Rattle.query_core.specs.Machines.{state_of}
 use Rattle.query_world.specs.declared.inquiry.Inquiry.{Inquiry}
 use Rattle.query_world.specs.Worlds.{needed, source_of}

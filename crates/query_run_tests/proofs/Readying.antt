@@ -1,7 +1,7 @@
 -- A query may run over the pool of two sources that was opened, whose feeders have no turn.
 use Rattle.std.proofs.Common.{◌≡◌, ◌<◌, ◌∷◌, [], ℕ, List, length, sym, subst, arith}
 use Rattle.atomic_table.specs.Seated.{TableId}
-use Rattle.source_pool.specs.declared.hold.Hold.{Hold}
+use Rattle.source_pass.specs.declared.hold.Hold.{Hold}
 use Rattle.source_pool.specs.Passes.{Feed, lock_at, feed_at, IsIdleOf, AreFeedersOf}
 use Rattle.source_pool.specs.Sharing.{IsOpened}
 use Rattle.query_core.specs.declared.ready.Ready.{Ready}

@@ -1,16 +1,16 @@
 -- What became of an ask, by the log.
 use Rattle.std.proofs.Common.{◌≡◌, ℕ, Option, Some, None, Contains, refl, sym, ap, ◌∙◌, inl, inr}
 use Rattle.std.specs.Option.{option_map}
-use Rattle.source_state.specs.declared.ask.Ask.{Ask}
-use Rattle.source_state.specs.declared.entry.Settling.{Settling}
-use Rattle.source_state.specs.declared.entry.Settling.TheVariants.{Graded, Bad, Missed}
-use Rattle.source_state.specs.declared.entry.SourceFault.{SourceFault}
-use Rattle.source_state.specs.declared.entry.Asked.{Asked}
-use Rattle.source_state.specs.declared.entry.Asked.TheVariants as became
-use Rattle.source_state.specs.Log.{settling_in}
-use Rattle.source_state.specs.Asks.{ask_of}
+use Rattle.source_log.specs.declared.ask.Ask.{Ask}
+use Rattle.source_log.specs.declared.entry.Settling.{Settling}
+use Rattle.source_log.specs.declared.entry.Settling.TheVariants.{Graded, Bad, Missed}
+use Rattle.source_log.specs.declared.entry.SourceFault.{SourceFault}
+use Rattle.source_log.specs.declared.entry.Asked.{Asked}
+use Rattle.source_log.specs.declared.entry.Asked.TheVariants as became
+use Rattle.source_log.specs.Log.{settling_in}
+use Rattle.source_log.specs.Asks.{ask_of}
 use Rattle.source_state.specs.State.{State, asks_of, asked_in, asked_as}
-use Rattle.source_state.proofs.Lists.{none_not_some}
+use Rattle.source_log.proofs.Lists.{none_not_some}
 use Rattle.source_state.proofs.AskLaws.{ask_found, ask_missing}
 use Rattle.ranked_list.proofs.OptionLaws.{option_cases}
 

@@ -17,23 +17,23 @@ use Rattle.topk_theory.proofs.AgreementLists.{begins_with, begins_get}
 use Rattle.topk_theory.proofs.AgreementRows.{grade_among_row}
 use Rattle.access_log.specs.Machine.{MachineState}
 use Rattle.access_log.specs.declared.core_fault.CoreFault.TheVariants.{Strangers, RoomFull}
-use Rattle.source_state.specs.declared.entry.LogEntry.{LogEntry}
-use Rattle.source_state.specs.declared.entry.Asked.{Asked}
-use Rattle.source_state.specs.declared.entry.Asked.TheVariants as became
-use Rattle.source_state.specs.declared.entry.Settling.{Settling}
-use Rattle.source_state.specs.declared.entry.Settling.TheVariants.{Bad, Missed}
-use Rattle.source_state.specs.declared.entry.SourceFault.{SourceFault}
-use Rattle.source_state.specs.declared.entry.FailKind.{FailKind}
-use Rattle.source_state.specs.declared.entry.FailKind.TheVariants as kind
+use Rattle.source_log.specs.declared.entry.LogEntry.{LogEntry}
+use Rattle.source_log.specs.declared.entry.Asked.{Asked}
+use Rattle.source_log.specs.declared.entry.Asked.TheVariants as became
+use Rattle.source_log.specs.declared.entry.Settling.{Settling}
+use Rattle.source_log.specs.declared.entry.Settling.TheVariants.{Bad, Missed}
+use Rattle.source_log.specs.declared.entry.SourceFault.{SourceFault}
+use Rattle.source_log.specs.declared.entry.FailKind.{FailKind}
+use Rattle.source_log.specs.declared.entry.FailKind.TheVariants as kind
 use Rattle.source_state.specs.declared.look.Waiting.{Waiting}
 use Rattle.source_state.specs.declared.look.Look.TheVariants as look
 use Rattle.source_state.specs.declared.look.LookFault.{LookFault}
 use Rattle.source_state.specs.declared.look.LookFault.TheVariants as why
-use Rattle.source_state.specs.Log.{first_of, kept_row, rows_in, settled_as, settling_in, graded_row, graded_in, fault_set, faults_in, fault_in}
+use Rattle.source_log.specs.Log.{first_of, kept_row, rows_in, settled_as, settling_in, graded_row, graded_in, fault_set, faults_in, fault_in}
 use Rattle.source_state.specs.State.{State, asked_in, asked_as}
 use Rattle.source_state.specs.Looking.{row_or_fault, grade_or, decided, waits_for, newer, told, is_full, Refuses}
-use Rattle.source_state.proofs.Lists.{none_not_some}
-use Rattle.source_state.proofs.LogLaws.{settling_graded}
+use Rattle.source_log.proofs.Lists.{none_not_some}
+use Rattle.source_log.proofs.LogLaws.{settling_graded}
 use Rattle.source_state.proofs.LookLaws.{held_there, row_there}
 use Rattle.query_world.specs.declared.ended.Refusal.{Refusal}
 use Rattle.query_world.specs.declared.ended.Refusal.TheVariants.{Core, Look as LookedFor}

@@ -7,25 +7,25 @@ use Rattle.ranked_list.specs.declared.need.Need.TheVariants as need
 use Rattle.turn_lock.specs.declared.facts.Tally.{Tally}
 use Rattle.turn_lock.specs.Facts.{AtMost, Grows}
 use Rattle.turn_lock.proofs.Growth.{begins_same, at_most_same, grows_same}
-use Rattle.source_state.specs.declared.entry.LogEntry.TheVariants as entry
-use Rattle.source_state.specs.declared.entry.Settling.TheVariants as settling
-use Rattle.source_state.specs.declared.entry.FailKind.{FailKind}
-use Rattle.source_state.specs.declared.entry.FailKind.TheVariants as kind
-use Rattle.source_state.specs.declared.entry.SourceFault.{SourceFault}
-use Rattle.source_state.specs.declared.entry.SourceFault.TheVariants.{ShortList}
+use Rattle.source_log.specs.declared.entry.LogEntry.TheVariants as entry
+use Rattle.source_log.specs.declared.entry.Settling.TheVariants as settling
+use Rattle.source_log.specs.declared.entry.FailKind.{FailKind}
+use Rattle.source_log.specs.declared.entry.FailKind.TheVariants as kind
+use Rattle.source_log.specs.declared.entry.SourceFault.{SourceFault}
+use Rattle.source_log.specs.declared.entry.SourceFault.TheVariants.{ShortList}
 use Rattle.source_state.specs.declared.event.Event.{Event}
 use Rattle.source_state.specs.declared.event.Event.TheVariants.{Want, Ask, Page, Grade, Miss, Fail}
 use Rattle.source_state.specs.declared.look.Waiting.{Waiting}
 use Rattle.source_state.specs.declared.look.Look.{Look}
 use Rattle.source_state.specs.declared.look.Look.TheVariants as look
 use Rattle.source_state.specs.declared.look.LookFault.TheVariants as why
-use Rattle.source_state.specs.Log.{rows_in, fault_in}
+use Rattle.source_log.specs.Log.{rows_in, fault_in}
 use Rattle.source_state.specs.State.{State, opened, asks_of, row_fault, settle, facts_of, IsSound, IsCounted}
 use Rattle.source_state.specs.Events.{logged, row_or, with_rows, counted, after, MayCome}
 use Rattle.source_state.specs.History.{replayed, AllMayCome}
 use Rattle.source_state.specs.Looking.{called, is_full, Looks, MayLook}
-use Rattle.source_state.proofs.Lists.{none_not_some}
-use Rattle.source_state.proofs.LogLaws.{kept_rows, kept_faults, settled_rows}
+use Rattle.source_log.proofs.Lists.{none_not_some}
+use Rattle.source_log.proofs.LogLaws.{kept_rows, kept_faults, settled_rows}
 use Rattle.source_state.proofs.Sound.{sound_row, sound_fault, sound_settling, sound_ask, settles_well}
 use Rattle.source_state.proofs.AskLaws.{not_asked}
 use Rattle.source_state.proofs.Growing.{logged_grows, ask_grows, rows_grow}

@@ -11,21 +11,21 @@ use Rattle.turn_lock.specs.declared.facts.Tally.{Tally}
 use Rattle.topk_theory.proofs.AgreementLists.{member_of_all, contains_here, slice_get_contains, slice_get_in_range}
 use Rattle.indexed_heap.proofs.Getting.{get_set_same, get_set_other}
 use Rattle.access_log.specs.Machine.{MachineState}
-use Rattle.source_state.specs.declared.entry.FailKind.{FailKind}
-use Rattle.source_state.specs.declared.entry.FailKind.TheVariants as kind
+use Rattle.source_log.specs.declared.entry.FailKind.{FailKind}
+use Rattle.source_log.specs.declared.entry.FailKind.TheVariants as kind
 use Rattle.source_state.specs.declared.event.Event.{Event}
 use Rattle.source_state.specs.declared.event.Event.TheVariants as event
 use Rattle.source_state.specs.declared.look.Waiting.{Waiting}
 use Rattle.source_state.specs.declared.look.Look.{Look}
 use Rattle.source_state.specs.declared.look.Look.TheVariants as look
 use Rattle.source_state.specs.declared.look.LookFault.{LookFault}
-use Rattle.source_state.specs.declared.entry.LogEntry.TheVariants as entry
-use Rattle.source_state.specs.declared.entry.SourceFault.{SourceFault}
-use Rattle.source_state.specs.Log.{rows_in}
+use Rattle.source_log.specs.declared.entry.LogEntry.TheVariants as entry
+use Rattle.source_log.specs.declared.entry.SourceFault.{SourceFault}
+use Rattle.source_log.specs.Log.{rows_in}
 use Rattle.source_state.specs.State.{State, asks_of, row_fault, state_at}
 use Rattle.source_state.specs.Events.{logged, with_rows, row_or, after}
 use Rattle.source_state.specs.Looking.{waits_for, newer, told, refusal_of, called, Refuses, IsTold, Looks}
-use Rattle.source_state.proofs.Lists.{none_not_some}
+use Rattle.source_log.proofs.Lists.{none_not_some}
 use Rattle.query_core.specs.declared.ready.Ready.{Ready}
 use Rattle.query_world.specs.declared.ended.Refusal.TheVariants as refusal
 use Rattle.query_world.specs.declared.inquiry.Inquiry.{Inquiry}

@@ -18,17 +18,17 @@ use Rattle.topk_theory.proofs.AgreementRows.{list_at_ranked, list_at_length, obj
 use Rattle.access_log.specs.Log.{AgreesWith}
 use Rattle.access_log.specs.Machine.{MachineState, HasRoomFor}
 use Rattle.access_log.specs.declared.core_fault.CoreFault.TheVariants.{Strangers, RoomFull}
-use Rattle.source_state.specs.declared.entry.Settling.TheVariants.{Graded, Bad, Missed}
-use Rattle.source_state.specs.declared.entry.SourceFault.{SourceFault}
+use Rattle.source_log.specs.declared.entry.Settling.TheVariants.{Graded, Bad, Missed}
+use Rattle.source_log.specs.declared.entry.SourceFault.{SourceFault}
 use Rattle.source_state.specs.declared.event.Event.{Event}
 use Rattle.source_state.specs.declared.event.Event.TheVariants as event
 use Rattle.source_state.specs.declared.look.LookFault.{LookFault}
 use Rattle.source_state.specs.declared.look.LookFault.TheVariants as why
-use Rattle.source_state.specs.Log.{rows_in, graded_in}
+use Rattle.source_log.specs.Log.{rows_in, graded_in}
 use Rattle.source_state.specs.State.{State, opened, IsSound, state_at}
 use Rattle.source_state.specs.Events.{after}
-use Rattle.source_state.proofs.Lists.{none_not_some}
-use Rattle.source_state.proofs.LogLaws.{graded_settling}
+use Rattle.source_log.proofs.Lists.{none_not_some}
+use Rattle.source_log.proofs.LogLaws.{graded_settling}
 use Rattle.query_core.specs.Driving.{CanDrive}
 use Rattle.query_core.specs.Machines.{algorithm_of, state_of}
 use Rattle.query_core.specs.declared.ready.Ready.{Ready}

@@ -22,12 +22,12 @@ use Rattle.source_state.specs.declared.look.Look.{Look}
 use Rattle.source_state.specs.declared.look.Look.TheVariants as look
 use Rattle.source_state.specs.declared.look.LookFault.{LookFault}
 use Rattle.source_state.specs.declared.look.LookFault.TheVariants as why
-use Rattle.source_state.specs.Log.{rows_in, graded_in}
+use Rattle.source_log.specs.Log.{rows_in, graded_in}
 use Rattle.source_state.specs.State.{State, IsSound, state_at}
 use Rattle.source_state.specs.Drawing.{told_by, IsSomeSound}
 use Rattle.source_state.specs.Looking.{Ends, Looks, Refuses, MayLook}
 use Rattle.source_state.proofs.Drawing.{next_consistent}
-use Rattle.source_state.proofs.Lists.{none_not_some}
+use Rattle.source_log.proofs.Lists.{none_not_some}
 use Rattle.query_core.specs.Algorithms.{run_by}
 use Rattle.query_core.specs.Machines.{algorithm_of, state_of, MakesItsRun}
 use Rattle.query_core.specs.Driving.{Continues, IsFedFrom}

@@ -10,7 +10,7 @@ use Rattle.source_state.specs.declared.event.Event.{Event}
 use Rattle.source_state.specs.declared.event.Event.TheVariants as event
 use Rattle.source_state.specs.State.{State, opened, IsSound, state_at}
 use Rattle.source_state.specs.Events.{after}
-use Rattle.source_state.proofs.Lists.{none_not_some}
+use Rattle.source_log.proofs.Lists.{none_not_some}
 use Rattle.query_core.specs.declared.ready.Ready.{Ready}
 use Rattle.query_core.specs.Driving.{Continues}
 use Rattle.query_core.specs.Machines.{algorithm_of, state_of}

@@ -16,26 +16,26 @@ use Rattle.topk_theory.proofs.AgreementLists.{begins_splits, begins_front, conta
 use Rattle.topk_theory.proofs.AgreementRows.{grade_among_row, grade_among_none, grade_among_absent, grade_in_row, object_of_row}
 use Rattle.topk_theory.proofs.ThresholdRun.{contains_from_filter_map}
 use Rattle.topk_theory.proofs.ConsistentRows.{ranked_capped, ranked_parts_below, ranked_parts_apart, behind_below_last}
-use Rattle.source_state.specs.declared.ask.Ask.{Ask as Asking}
-use Rattle.source_state.specs.declared.entry.LogEntry.TheVariants as entry
-use Rattle.source_state.specs.declared.entry.Settling.{Settling}
-use Rattle.source_state.specs.declared.entry.Settling.TheVariants.{Graded, Bad, Missed}
-use Rattle.source_state.specs.declared.entry.SourceFault.{SourceFault}
-use Rattle.source_state.specs.declared.entry.SourceFault.TheVariants.{Clash, Above}
-use Rattle.source_state.specs.declared.entry.Asked.TheVariants as became
+use Rattle.source_log.specs.declared.ask.Ask.{Ask as Asking}
+use Rattle.source_log.specs.declared.entry.LogEntry.TheVariants as entry
+use Rattle.source_log.specs.declared.entry.Settling.{Settling}
+use Rattle.source_log.specs.declared.entry.Settling.TheVariants.{Graded, Bad, Missed}
+use Rattle.source_log.specs.declared.entry.SourceFault.{SourceFault}
+use Rattle.source_log.specs.declared.entry.SourceFault.TheVariants.{Clash, Above}
+use Rattle.source_log.specs.declared.entry.Asked.TheVariants as became
 use Rattle.source_state.specs.declared.event.Event.{Event}
 use Rattle.source_state.specs.declared.event.Event.TheVariants.{Want, Ask, Page, Grade, Miss, Fail}
 use Rattle.source_state.specs.declared.look.Waiting.{Waiting}
 use Rattle.source_state.specs.declared.look.Look.{Look}
 use Rattle.source_state.specs.declared.look.Look.TheVariants as look
 use Rattle.source_state.specs.declared.look.LookFault.TheVariants as why
-use Rattle.source_state.specs.Log.{first_of, rows_in, settling_in, fault_in}
-use Rattle.source_state.specs.Asks.{ask_in, ask_of, good_grade, open_row, open_rows, first_above}
+use Rattle.source_log.specs.Log.{first_of, rows_in, settling_in, fault_in}
+use Rattle.source_log.specs.Asks.{ask_in, ask_of, good_grade, open_row, open_rows, first_above}
 use Rattle.source_state.specs.State.{State, asks_of, asked_in, clash_or, above_fault, grade_asked, fault_by_grades, row_fault, settle_by, settle}
 use Rattle.source_state.specs.Events.{logged, one_asked, row_or, with_rows, after, MayCome}
 use Rattle.source_state.specs.Looking.{called, Looks}
-use Rattle.source_state.proofs.Lists.{none_not_some, eqb_same, find_none}
-use Rattle.source_state.proofs.LogLaws.{kept_rows, kept_settling, kept_faults, settled_rows, settled_faults, settled_other, settled_same}
+use Rattle.source_log.proofs.Lists.{none_not_some, eqb_same, find_none}
+use Rattle.source_log.proofs.LogLaws.{kept_rows, kept_settling, kept_faults, settled_rows, settled_faults, settled_other, settled_same}
 use Rattle.source_state.proofs.AskLaws.{ask_found, good_settled, pending_none}
 use Rattle.query_world.specs.Honest.{IsNextOf, IsTrueOf}
 use Rattle.query_world.proofs.Asking.{asked_settled}

@@ -7,13 +7,13 @@ use Rattle.turn_lock.specs.declared.facts.Tally.{Tally}
 use Rattle.access_log.specs.Machine.{MachineState, HasRoomFor}
 use Rattle.access_log.specs.declared.core_fault.CoreFault.{CoreFault}
 use Rattle.access_log.specs.declared.core_fault.CoreFault.TheVariants.{Strangers, RoomFull}
-use Rattle.source_state.specs.declared.entry.FailKind.{FailKind}
-use Rattle.source_state.specs.declared.entry.FailKind.TheVariants as kind
-use Rattle.source_state.specs.declared.entry.SourceFault.{SourceFault}
-use Rattle.source_state.specs.declared.entry.Settling.TheVariants.{Bad, Missed}
+use Rattle.source_log.specs.declared.entry.FailKind.{FailKind}
+use Rattle.source_log.specs.declared.entry.FailKind.TheVariants as kind
+use Rattle.source_log.specs.declared.entry.SourceFault.{SourceFault}
+use Rattle.source_log.specs.declared.entry.Settling.TheVariants.{Bad, Missed}
 use Rattle.source_state.specs.declared.look.LookFault.{LookFault}
 use Rattle.source_state.specs.declared.look.LookFault.TheVariants as why
-use Rattle.source_state.specs.Log.{rows_in, settling_in, fault_in}
+use Rattle.source_log.specs.Log.{rows_in, settling_in, fault_in}
 use Rattle.source_state.specs.State.{State, state_at}
 use Rattle.query_core.specs.Machines.{state_of}
 use Rattle.query_world.specs.declared.ended.Refusal.{Refusal}

@@ -1,7 +1,7 @@
 -- Whom a fail of a source refuses.
 use Rattle.std.specs.Prelude.{◌≡◌, ℕ, false, Some, None, List, ◌∷◌, ◌++◌, Contains}
 use Rattle.ranked_list.specs.declared.need.Need.{Need}
-use Rattle.source_state.specs.declared.entry.FailKind.{FailKind}
+use Rattle.source_log.specs.declared.entry.FailKind.{FailKind}
 use Rattle.source_state.specs.Looking.{waits_for, refusal_of}
 use Rattle.query_world.specs.declared.ended.Refusal.TheVariants.{Look}
 use Rattle.query_world.specs.declared.step.Step.{Step}

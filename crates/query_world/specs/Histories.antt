@@ -1,9 +1,9 @@
 -- The histories of sources, and what never changes of what was read.
 use Rattle.std.specs.Prelude.{◌≡◌, Some, List}
 use Rattle.turn_lock.specs.Facts.{Grows}
-use Rattle.source_state.specs.declared.entry.SourceFault.{SourceFault}
+use Rattle.source_log.specs.declared.entry.SourceFault.{SourceFault}
 use Rattle.source_state.specs.declared.event.Event.{Event}
-use Rattle.source_state.specs.Log.{rows_in, fault_in}
+use Rattle.source_log.specs.Log.{rows_in, fault_in}
 use Rattle.source_state.specs.State.{State, opened, facts_of}
 use Rattle.source_state.specs.History.{replayed, AllMayCome}
 

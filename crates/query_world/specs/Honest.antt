@@ -6,10 +6,10 @@ use Rattle.topk_theory.specs.Transcript.{Begins, list_at}
 use Rattle.access_log.specs.Log.{AgreesWith}
 use Rattle.access_log.specs.Machine.{asked_of}
 use Rattle.access_log.specs.declared.core_fault.CoreFault.TheVariants.{Strangers, RoomFull}
-use Rattle.source_state.specs.declared.entry.Settling.{Settling}
-use Rattle.source_state.specs.declared.entry.Settling.TheVariants.{Graded}
+use Rattle.source_log.specs.declared.entry.Settling.{Settling}
+use Rattle.source_log.specs.declared.entry.Settling.TheVariants.{Graded}
 use Rattle.source_state.specs.declared.look.LookFault.TheVariants as why
-use Rattle.source_state.specs.Log.{rows_in, settling_in, fault_in}
+use Rattle.source_log.specs.Log.{rows_in, settling_in, fault_in}
 use Rattle.source_state.specs.State.{State, state_at}
 use Rattle.query_core.specs.Algorithms.{run_by}
 use Rattle.query_core.specs.Driving.{run_sees}

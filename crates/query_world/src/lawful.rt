@@ -1,7 +1,7 @@
 //! Which steps are lawful.
 
 ghost use Rattle.std.specs.Prelude.{◌≡◌, ◌<◌, Some, length, slice_get};
-ghost use Rattle.source_state.specs.declared.entry.Asked.TheVariants.{Pending};
+ghost use Rattle.source_log.specs.declared.entry.Asked.TheVariants.{Pending};
 ghost use Rattle.source_state.specs.declared.event.Event.TheVariants.{Page};
 ghost use Rattle.source_state.specs.State.{asked_in, state_at};
 ghost use Rattle.source_state.specs.Events.{MayPage};

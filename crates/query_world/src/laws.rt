@@ -2,7 +2,7 @@
 
 ghost use Rattle.std.specs.Prelude.{◌≡◌, ◌≤◌, ℕ, Some, List, All, slice_get};
 ghost use Rattle.ranked_list.specs.declared.row.Row.{Row};
-ghost use Rattle.source_state.specs.declared.entry.FailKind.{FailKind};
+ghost use Rattle.source_log.specs.declared.entry.FailKind.{FailKind};
 ghost use Rattle.source_state.specs.Looking.{refusal_of};
 ghost use Rattle.query_core.specs.declared.ready.Ready.{Ready};
 ghost use Rattle.query_world.specs.declared.ended.Refusal.TheVariants.{Look};

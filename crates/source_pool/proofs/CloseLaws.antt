@@ -7,10 +7,11 @@ use Rattle.atomic_table.specs.Seated.{TableId}
 use Rattle.turn_lock.specs.declared.known.Known.{Known}
 use Rattle.turn_lock.specs.Known.{Agrees, Follows, all_parts, writers, joined}
 use Rattle.turn_lock.proofs.Growth.{begins_on, at_most_on}
-use Rattle.source_state.specs.declared.entry.LogEntry.{LogEntry}
+use Rattle.source_log.specs.declared.entry.LogEntry.{LogEntry}
 use Rattle.source_state.specs.State.{State, opened, state_at, facts_of, IsSound}
-use Rattle.source_pool.specs.declared.hold.Hold.{Hold}
-use Rattle.source_pool.specs.Passes.{Feed, no_lock, no_hold, no_feed, lock_at, hold_at, feed_at, IsFree, IsPassOf, AreFeedersOf}
+use Rattle.source_pass.specs.declared.hold.Hold.{Hold}
+use Rattle.source_pass.specs.Passes.{no_lock, no_hold, IsFree}
+use Rattle.source_pool.specs.Passes.{Feed, no_feed, lock_at, hold_at, feed_at, IsPassOf, AreFeedersOf}
 use Rattle.source_pool.specs.Closed.{HaveAll, IsClosed, AreClosed, AreClosedBack}
 use Rattle.source_pool.proofs.Fronts.{read_before, read_last, front_before, front_last, front_within, fronts_size}
 

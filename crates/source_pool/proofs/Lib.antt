@@ -1,8 +1,5 @@
-pub mod SaidLaws
-pub mod TurnLaws
 mod Fronts
 mod HoldLaws
 mod OpenLaws
 mod Walks
 mod CloseLaws
-pub mod SaidMeans

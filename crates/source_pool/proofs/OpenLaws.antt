@@ -3,8 +3,9 @@ use Rattle.std.proofs.Common.{◌≡◌, ◌<◌, ◌+◌, inl, inr, ℕ, List, 
 use Rattle.std.proofs.lemmas.List.{length_push}
 use Rattle.std.specs.Prelude.{slice_index}
 use Rattle.atomic_table.specs.Seated.{TableId}
-use Rattle.source_pool.specs.declared.hold.Hold.{Hold}
-use Rattle.source_pool.specs.Passes.{Feed, no_lock, no_hold, no_feed, lock_at, hold_at, feed_at, IsFree}
+use Rattle.source_pass.specs.declared.hold.Hold.{Hold}
+use Rattle.source_pass.specs.Passes.{no_lock, no_hold, IsFree}
+use Rattle.source_pool.specs.Passes.{Feed, no_feed, lock_at, hold_at, feed_at}
 use Rattle.source_pool.specs.Sharing.{first_hold, first_feed, IsOpened}
 use Rattle.source_pool.proofs.Fronts.{last_or_before, read_before, read_last}
 

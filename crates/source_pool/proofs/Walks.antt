@@ -4,9 +4,11 @@ use Rattle.std.proofs.lemmas.List.{get_or-set_same, get_or-set_other, length_pus
 use Rattle.std.proofs.lemmas.Bool.Decides.{eqb_tells}
 use Rattle.atomic_table.specs.Seated.{TableId}
 use Rattle.turn_lock.specs.Known.{Follows}
-use Rattle.source_pool.specs.declared.hold.Hold.{Hold}
-use Rattle.source_pool.specs.Passes.{no_lock, no_hold, lock_at, hold_at, IsFree, IsPassOf}
-use Rattle.source_pool.specs.Sharing.{kept_hold, new_hold, joined_hold, IsSplit, IsJoined}
+use Rattle.source_pass.specs.declared.hold.Hold.{Hold}
+use Rattle.source_pass.specs.Passes.{no_lock, no_hold, IsFree}
+use Rattle.source_pool.specs.Passes.{lock_at, hold_at, IsPassOf}
+use Rattle.source_pass.specs.Sharing.{kept_hold, new_hold, joined_hold}
+use Rattle.source_pool.specs.Sharing.{IsSplit, IsJoined}
 use Rattle.source_pool.proofs.Fronts.{last_or_before, read_before, read_last, front_before, front_last, front_within}
 
 -- the sources before a place are split
@@ -38,6 +40,17 @@ split_more place before holds given hold h within is =
       ];
       rest = λ source ge. get_or-set_other holds place source (kept_hold hold) no_hold (let apart : source ≡ place → ⊥ = λ e. omega arith in apart) ∙ h.rest source (omega arith);
     }
+
+pub split_step : (place : ℕ) (before holds given more : List Hold) (hold kept new : Hold) → SplitTo place before holds given → place < length before
+    → hold ≡ get_or holds place hold → kept ≡ kept_hold hold → new ≡ new_hold hold → more ≡ given ++ new ∷ []
+    → SplitTo (place + 1) before (set holds place kept) more
+split_step place before holds given more hold kept new h within read is_kept is_new pushed =
+    let short : place < length holds = subst (λ n. place < n) (sym h.size) within in
+    let mine : hold ≡ hold_at holds place = get_or_read holds place hold short read no_hold in
+    let whole : SplitTo (place + 1) before (set holds place (kept_hold hold)) (given ++ new_hold hold ∷ []) = split_more place before holds given hold h short mine in
+    subst (λ xs. SplitTo (place + 1) before (set holds place kept) xs) (sym pushed)
+    (subst (λ one. SplitTo (place + 1) before (set holds place kept) (given ++ one ∷ [])) (sym is_new)
+    (subst (λ one. SplitTo (place + 1) before (set holds place one) (given ++ new_hold hold ∷ [])) (sym is_kept) whole))
 
 -- what two passes hold of a source is joined
 pub record IsOne (before other after : Hold) : Type 0 where

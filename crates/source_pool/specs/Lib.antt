@@ -1,5 +1,4 @@
 pub mod Passes
-pub mod Looks
 pub mod Sharing
 pub mod Closed
 pub mod Rooms

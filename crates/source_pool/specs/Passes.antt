@@ -1,35 +1,12 @@
 -- What contracts see of a pool, of its passes and of its feeders. A pool is the list of the locks of its sources.
-use Rattle.std.specs.Prelude.{◌≡◌, ◌≢◌, ◌<◌, ℕ, List, [], length, None}
+use Rattle.std.specs.Prelude.{◌≡◌, ◌≢◌, ◌<◌, ℕ, List, length, None}
 use Rattle.std.specs.List.{slice_index_or}
 use Rattle.atomic_table.specs.Seated.{TableId}
-use Rattle.turn_lock.specs.declared.facts.Tally.{Tally}
 use Rattle.turn_lock.specs.declared.facts.Facts.{Facts}
-use Rattle.turn_lock.specs.declared.known.Known.{Known}
 use Rattle.turn_lock.specs.Known.{holding, after_turn}
-use Rattle.turn_lock.specs.Rule.{nobody}
-use Rattle.source_state.specs.declared.entry.LogEntry.{LogEntry}
-use Rattle.source_state.specs.declared.look.Waiting.{Waiting}
-use Rattle.source_pool.specs.declared.hold.Hold.{Hold}
-
--- a pass of the lock of a source: the lock's table, and what the pass knows
-abbrev pub SourcePass : Type 0
-SourcePass = TableId × Known LogEntry
-
--- no lock, a pass that knows nothing, and what is held of a source that isn't there
-abbrev pub no_lock : TableId
-no_lock = record { words = 0; slots = 0; views_name = 0; atom = 0; block = 0; offset = 0; slot_names = [] }
-
-abbrev pub no_pass : SourcePass
-no_pass = (no_lock, nobody)
-
-abbrev pub no_fails : Tally
-no_fails = record { failed = 0; garbled = 0; memory = 0 }
-
-abbrev pub no_waiting : Waiting
-no_waiting = record { need = None; noted = no_fails }
-
-abbrev pub no_hold : Hold
-no_hold = record { pass = no_pass; waiting = no_waiting; shown = no_fails }
+use Rattle.source_log.specs.declared.entry.LogEntry.{LogEntry}
+use Rattle.source_pass.specs.declared.hold.Hold.{Hold}
+use Rattle.source_pass.specs.Passes.{SourcePass, no_lock, no_pass, no_hold, IsFree}
 
 -- the lock of a source, by the source's number; what a pool's pass holds of it
 abbrev pub lock_at : List TableId → ℕ → TableId
@@ -37,11 +14,6 @@ lock_at pool source = slice_index_or pool source no_lock
 
 abbrev pub hold_at : List Hold → ℕ → Hold
 hold_at holds source = slice_index_or holds source no_hold
-
--- a pass is of a lock and has no turn
-pub record IsFree (lock : TableId) (pass : SourcePass) : Type 0 where
-  pub own : pass.0 ≡ lock
-  pub rests : pass.1.held ≡ None
 
 -- a pass of this pool: of each source it holds a pass of its lock, which has no turn
 pub record IsPassOf (pool : List TableId) (holds : List Hold) : Type 0 where

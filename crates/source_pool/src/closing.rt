@@ -2,11 +2,12 @@
 
 ghost use Rattle.std.specs.Prelude.{◌≡◌, ◌≤◌, ◌+◌, ◌<◌, ◌^◌, [], vec_len, vec_capacity, true};
 ghost use Rattle.turn_lock.specs.Known.{all_parts};
-ghost use Rattle.source_pool.specs.Passes.{IsFree, IsPassOf, AreFeedersOf};
+ghost use Rattle.source_pass.specs.Passes.{IsFree};
+ghost use Rattle.source_pool.specs.Passes.{IsPassOf, AreFeedersOf};
 ghost use Rattle.source_pool.specs.Closed.{HaveAll, IsClosed, AreClosed, AreClosedBack};
 
 use super::feeder::Feeder;
-use super::hold::Hold;
+use source_pass::Hold;
 use source_state::SourceState;
 use turn_lock::TurnLock;
 

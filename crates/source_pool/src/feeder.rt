@@ -1,7 +1,6 @@
 //! The feeders of a pool.
 
-ghost use Rattle.std.specs.Prelude.{◌≡◌, ◌==◌, ◌<◌, ◌^◌, length, slice_get, vec_len};
-ghost use Rattle.std.specs.Option.{option_map};
+ghost use Rattle.std.specs.Prelude.{◌≡◌, ◌<◌, ◌^◌, vec_len};
 
 use source_state::SourceState;
 use std::marker::Model;
@@ -57,26 +56,5 @@ impl Feeders {
     {
         let Feeders { feeders } = self;
         feeders
-    }
-
-    /// How many there are.
-    pub fn len(&self) -> u32
-        ensures { result ≡ length self.now }
-    {
-        self.feeders.len() as u32
-    }
-
-    /// Whether there are none.
-    pub fn is_empty(&self) -> bool
-        ensures { result ≡ (length self.now == 0) }
-    {
-        self.feeders.is_empty()
-    }
-
-    /// The feeder at a place from 0, or None past the end.
-    pub fn get(&self, place: u32) -> Option<&Feeder>
-        ensures { option_map (λ feeder. feeder.now) result ≡ slice_get self.now place }
-    {
-        self.feeders.get(place as usize)
     }
 }

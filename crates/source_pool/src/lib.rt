@@ -3,17 +3,14 @@
 
 mod closing;
 mod feeder;
-mod hold;
-mod laws;
-mod look;
 mod opening;
 mod pool;
+mod pool_pass;
 mod sharing;
 mod states;
 
 pub use feeder::{Feeder, Feeders};
-pub use hold::{Hold, PoolPass};
-pub use laws::a_log_says_what_it_has;
 pub use pool::Pool;
+pub use pool_pass::PoolPass;
 pub use source_state::Memory;
 pub use states::States;

@@ -2,13 +2,15 @@
 
 ghost use Rattle.std.specs.Prelude.{◌≡◌, ◌≤◌, ◌<◌, ◌^◌, ◌∷◌, [], ◌++◌, ℕ, List, length, take, All, IfOk, OnOk, vec_len};
 ghost use Rattle.turn_lock.specs.Known.{all_parts, without, split_off};
-ghost use Rattle.source_pool.specs.Passes.{IsFree, IsPassOf, hold_at, lock_at};
-ghost use Rattle.source_pool.specs.Sharing.{first_known, first_hold, first_feed, IsOpened};
+ghost use Rattle.source_pass.specs.Passes.{IsFree};
+ghost use Rattle.source_pool.specs.Passes.{IsPassOf, hold_at, lock_at};
+ghost use Rattle.source_pool.specs.Sharing.{first_hold, first_feed, IsOpened};
+ghost use Rattle.source_pass.specs.Sharing.{first_known};
 ghost use Rattle.source_pool.specs.Rooms.{HasRoom, HasPlace, IsEmpty};
 
 use super::feeder::Feeder;
-use super::hold::{Hold, NO_FAILS, NO_WAITING};
 use limits::MAX_OBJECTS;
+use source_pass::{Hold, NO_FAILS, NO_WAITING, open_lock};
 use source_state::{Memory, SourceState};
 use std::alloc::Global;
 use turn_lock::{Pass, TurnLock};
@@ -44,22 +46,6 @@ impl Opened {
             holds,
             feeders,
         })
-    }
-}
-
-/// The lock round the state of a source that had no event, with the writer's pass.
-fn open_lock(
-    alloc: Global,
-    source: u32,
-    count: u32,
-) -> Result<(TurnLock<SourceState>, Pass<SourceState>), Memory>
-    requires { count ≤ MAX_OBJECTS }
-    ensures { IfOk result (λ r. r.1 ≡ (r.0, first_known source count)) }
-{
-    let state = SourceState::open(alloc, source, count)?;
-    match TurnLock::open(alloc, state) {
-        Ok(opened) => Ok(opened),
-        Err(_) => Err(Memory),
     }
 }
 

@@ -1,6 +1,6 @@
 //! The states of a pool that was closed.
 
-ghost use Rattle.std.specs.Prelude.{◌≡◌, ◌==◌, ◌<◌, ◌^◌, length, slice_get, vec_len};
+ghost use Rattle.std.specs.Prelude.{◌≡◌, ◌<◌, ◌^◌, length, slice_get, vec_len};
 ghost use Rattle.std.specs.Option.{option_map};
 
 use source_state::SourceState;
@@ -45,13 +45,6 @@ impl States {
         ensures { result ≡ length self.now }
     {
         self.states.len() as u32
-    }
-
-    /// Whether there are none.
-    pub fn is_empty(&self) -> bool
-        ensures { result ≡ (length self.now == 0) }
-    {
-        self.states.is_empty()
     }
 
     /// The state at a place from 0, or None past the end.

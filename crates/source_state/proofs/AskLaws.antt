@@ -9,23 +9,25 @@ use Rattle.topk_theory.specs.Bounds.{grade_among}
 use Rattle.topk_theory.proofs.AgreementRows.{grade_among_append_some, grade_among_append_none}
 use Rattle.topk_theory.proofs.AgreementLists.{contains_here, contains_there, contains_cases, contains_nil}
 use Rattle.topk_theory.proofs.ThresholdLists.{map_map, map_same}
-use Rattle.source_state.specs.declared.ask.Ask.{Ask}
-use Rattle.source_state.specs.declared.entry.LogEntry.{LogEntry}
-use Rattle.source_state.specs.declared.entry.LogEntry.TheVariants.{Kept, Settled, Fault}
-use Rattle.source_state.specs.declared.entry.Settling.{Settling}
-use Rattle.source_state.specs.declared.entry.Settling.TheVariants.{Graded, Bad, Missed}
-use Rattle.source_state.specs.declared.entry.Asked.TheVariants as became
-use Rattle.source_state.specs.declared.entry.SourceFault.{SourceFault}
-use Rattle.source_state.specs.Log.{rows_in, settling_in}
-use Rattle.source_state.specs.Asks.{ask_in, ask_of, good_grade, change, settled_asks, held_asks}
+use Rattle.source_log.specs.declared.ask.Ask.{Ask}
+use Rattle.source_log.specs.declared.entry.LogEntry.{LogEntry}
+use Rattle.source_log.specs.declared.entry.LogEntry.TheVariants.{Kept, Settled, Fault}
+use Rattle.source_log.specs.declared.entry.Settling.{Settling}
+use Rattle.source_log.specs.declared.entry.Settling.TheVariants.{Graded, Bad, Missed}
+use Rattle.source_log.specs.declared.entry.Asked.TheVariants as became
+use Rattle.source_log.specs.declared.entry.SourceFault.{SourceFault}
+use Rattle.source_log.specs.Log.{rows_in, settling_in}
+use Rattle.source_log.specs.Asks.{ask_in, ask_of, good_grade, change, settled_asks, held_asks}
 use Rattle.source_state.specs.State.{State, asks_of, asked_in, asked_as}
-use Rattle.source_state.proofs.Lists.{eqb_same, eqb_other, none_not_some}
-use Rattle.source_state.proofs.LogLaws.{kept_rows, kept_settling, settled_rows, settled_other, settled_same, fault_rows, fault_settling}
+use Rattle.source_log.proofs.Lists.{eqb_same, eqb_other, none_not_some}
+use Rattle.source_log.proofs.LogLaws.{kept_rows, kept_settling, settled_rows, settled_other, settled_same, fault_rows, fault_settling}
 
 -- an ask by its parts
 ask_is : (object : ℕ) (one other : Option Settling) (held kept : Bool) → one ≡ other → held ≡ kept
     → (let a : Ask = record { object = object; settling = one; is_held = held } in let b : Ask = record { object = object; settling = other; is_held = kept } in a ≡ b)
-ask_is object one other held kept e f = cc
+ask_is object one other held kept e f =
+    ap (λ settling. let ask : Ask = record { object = object; settling = settling; is_held = held } in ask) e
+    ∙ ap (λ is_held. let ask : Ask = record { object = object; settling = other; is_held = is_held } in ask) f
 
 -- one more row holds its object, and no other
 grade_other : (rows : List Row) (row : Row) (object : ℕ) → (row.object ≡ object → ⊥) → grade_among (rows ++ row ∷ []) object ≡ grade_among rows object
@@ -105,7 +107,7 @@ ask_found log (other ∷ objects) object ask e =
       | inl same ↦
           let t : (object == other) ≡ true = subst (λ o. (object == o) ≡ true) same (eqb_same object) in
           let found : Some (ask_in log other) ≡ Some ask = sym (ap (λ b. cond b (Some (ask_in log other)) (ask_of (map (ask_in log) objects) object)) t) ∙ e in
-          let is : ask_in log other ≡ ask = cc in
+          let is : ask_in log other ≡ ask = same_Some _ _ found in
           (subst (λ o. Contains (other ∷ objects) o) (sym same) (contains_here other objects), sym is ∙ ap (ask_in log) (sym same))
       | inr apart ↦
           let rest : ask_of (map (ask_in log) objects) object ≡ Some ask = sym (ap (λ b. cond b (Some (ask_in log other)) (ask_of (map (ask_in log) objects) object)) (eqb_other object other apart)) ∙ e in
@@ -142,7 +144,7 @@ pending_parts s object e =
       | inr some ↦
           let found = ask_found s.log s.asks object some.0 some.1 in
           let is : Some (asked_as some.0.settling) ≡ Some became.Pending = sym (ap (option_map (λ (ask : Ask). asked_as ask.settling)) some.1) ∙ e in
-          let settling : some.0.settling ≡ None = pending_none some.0.settling (cc) in
+          let settling : some.0.settling ≡ None = pending_none some.0.settling (same_Some _ _ is) in
           (found.0, sym (ap (λ (ask : Ask). ask.settling) found.1) ∙ settling)
     ]
 

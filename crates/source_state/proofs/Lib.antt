@@ -1,7 +1,4 @@
-pub mod Lists
-pub mod LogLaws
 pub mod AskLaws
-mod Caching
 pub mod Sound
 mod Stepping
 pub mod Drawing

@@ -1,5 +1,3 @@
-pub mod Log
-pub mod Asks
 pub mod State
 pub mod Events
 pub mod Looking

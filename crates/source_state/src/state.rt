@@ -2,18 +2,15 @@
 
 ghost use Rattle.std.specs.Prelude.{◌≡◌, ◌<◌, ◌≤◌, [], ◌∷◌, ◌++◌, None, Some, length, slice_get, IfOk, is_some, vec_len, vec_capacity};
 ghost use Rattle.turn_lock.specs.Facts.{Grows};
-ghost use Rattle.source_state.specs.Log.{rows_in, fault_in};
+ghost use Rattle.source_log.specs.Log.{rows_in, fault_in};
 ghost use Rattle.topk_theory.specs.Bounds.{grade_among};
 ghost use Rattle.source_state.specs.State.{opened, asks_of, asked_in, asked_as, first_pending, fails_of, fault_by_grades, row_fault, settle, IsSound, SettlesWell};
 ghost use Rattle.source_state.specs.Events.{counted};
 
-use super::Memory;
-use super::asks::Asks;
-use super::entry::{Asked, FailKind, LogEntry, Settling, SourceFault};
 use super::event::{Applied, Event};
-use super::kept_rows::KeptRows;
 use limits::{MAX_OBJECTS, TOP_GRADE};
 use ranked_list::{PageRows, Row};
+use source_log::{Asked, Asks, FailKind, KeptRows, LogEntry, Memory, Settling, SourceFault};
 use std::alloc::Global;
 use std::marker::Model;
 use turn_lock::{Logged, Tally};
@@ -36,7 +33,8 @@ pub struct SourceState {
 impl Model for SourceState {
     ghost use Rattle.std.specs.Prelude.{vec_capacity};
     ghost use Rattle.source_state.specs.State.{State};
-    ghost use Rattle.source_state.specs.Keeping.{ask_objects, KeepsState};
+    ghost use Rattle.source_log.specs.Keeping.{ask_objects};
+    ghost use Rattle.source_state.specs.Keeping.{KeepsState};
 
     ghost Value = { State };
 

@@ -1,8 +1,8 @@
 //! What the readers tell after a few events on a list of three objects.
 
-use super::steps::{Step, apply_all};
 use ranked_list::Row;
 use source_state::{Applied, Asked, FailKind, SourceFault, SourceState, Tally};
+use source_state_support::{Step, apply_all};
 use std::alloc::Global;
 use std::test::Fail;
 
