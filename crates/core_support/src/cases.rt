@@ -1,8 +1,7 @@
 //! Queries with what is wanted of them.
 
-use super::driven::Driven;
-use super::driver::run;
 use access_log::{Access, Answer, CoreFault, Transcript};
+use core_driver::{Driven, run};
 use monotone_fn::Costs;
 use ranked_list::{Item, Items};
 use std::alloc::Global;

@@ -1,7 +1,7 @@
 //! The combined algorithm.
 
-use super::outcomes::{Case, first_wrong};
 use super::tables::THREE;
+use plain_support::{Case, first_wrong};
 use std::test::Fail;
 use test_support::{Lists, item_row, random_row, sorted_row};
 use topk_theory::Access;

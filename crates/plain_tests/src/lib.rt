@@ -9,8 +9,6 @@ mod combined;
 #[cfg(test)]
 mod no_random;
 #[cfg(test)]
-mod outcomes;
-#[cfg(test)]
 mod tables;
 #[cfg(test)]
 mod threshold;

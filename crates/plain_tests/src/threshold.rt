@@ -1,14 +1,9 @@
 //! The threshold algorithm.
 
-use super::outcomes::{Case, check_posed, first_wrong};
 use super::tables::THREE;
-use monotone_fn::Expr;
-use plain_run::aggregate;
-use query_text::read;
-use ranked_list::MemList;
-use std::alloc::Global;
+use plain_support::{Case, aggregates_by, first_wrong};
 use std::test::Fail;
-use test_support::{Lists, item_row, random_row, sorted_row, table_of};
+use test_support::{Lists, item_row, random_row, sorted_row};
 use topk_theory::Access;
 
 const ALIKE: Lists<'static> = &[
@@ -105,26 +100,11 @@ fn by_hand(rt: HostRuntime) -> Result<(), Fail> {
     Ok(())
 }
 
-/// The aggregates of the three objects of a table.
-fn aggregates_of(alloc: Global, table: &[MemList], expr: &Expr) -> Result<[u64; 3], Fail> {
-    check_posed(alloc, table, expr)?;
-    Ok([1, 2, 3].map(|object| aggregate(table, expr, object)))
-}
-
-/// The same by an expression, over the table of three.
-fn aggregates_by(alloc: Global, expr: &Expr) -> Result<[u64; 3], Fail> {
-    let table = table_of(alloc, THREE)?;
-    let outcome = aggregates_of(alloc, &table, expr);
-    drop(table);
-    outcome
-}
-
 /// The aggregates of a table's objects, of which one list is taken twice.
 #[test]
 fn aggregates(rt: HostRuntime) -> Result<(), Fail> {
-    let query = read(rt.alloc(), b"top 1 by sum(min(A,B),B) using ta")?;
-    let outcome = aggregates_by(rt.alloc(), &query.expr);
-    drop(query);
-    assert_eq!(rt; outcome?, [1000, 1400, 700]);
+    let text = "top 1 by sum(min(A,B),B) using ta";
+    let found = aggregates_by(rt.alloc(), text, THREE, [1, 2, 3])?;
+    assert_eq!(rt; found, [1000, 1400, 700]);
     Ok(())
 }

@@ -1,10 +1,12 @@
 //! The certificate of what the plain program computes.
 
 ghost use Rattle.std.specs.Prelude.{◌≤◌};
-ghost use Rattle.plain_run.specs.Posed.{IsPosed};
+ghost use Rattle.plain_ta.specs.Posed.{IsPosed};
 
 use super::bundles::NAMES;
-use plain_run::{ca_answer, ca_run, nra_answer, nra_run, ta_answer, ta_run};
+use plain_ca::{ca_answer, ca_run};
+use plain_nra::{nra_answer, nra_run};
+use plain_ta::{ta_answer, ta_run};
 use query_text::{Algorithm, Costs, Query, read};
 use ranked_list::{Item, MemList, is_table, read_bundle};
 use std::alloc::Global;

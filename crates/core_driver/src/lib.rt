@@ -1,0 +1,8 @@
+//! The machines of all algorithms under one set of calls, driven over lists that a test gives, which need be no table.
+#![tactic(auto)]
+
+mod driven;
+mod driver;
+
+pub use driven::{Driven, Terms};
+pub use driver::run;

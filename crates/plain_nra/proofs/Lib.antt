@@ -1,0 +1,4 @@
+pub mod Bounding
+pub mod Descending
+pub mod Scanning
+pub mod Seeing

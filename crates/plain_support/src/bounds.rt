@@ -1,0 +1,43 @@
+//! Bounds of objects.
+
+use limits::TOP_GRADE;
+use monotone_fn::Expr;
+use plain_nra::{high, low};
+use query_text::read;
+use std::alloc::Global;
+use std::test::Fail;
+use topk_theory::Access;
+
+/// Accesses, an object, and its bounds after them.
+pub type BoundsCase = (&'static [Access], u32, (u64, u64));
+
+/// The bounds of an object, or None where a grade is above the greatest.
+fn bounds(expr: &Expr, accesses: &[Access], object: u32) -> Option<(u64, u64)> {
+    if accesses.iter().all(|access| access.grade() <= TOP_GRADE) {
+        Some((low(accesses, expr, object), high(accesses, expr, object)))
+    } else {
+        None
+    }
+}
+
+/// The object of the first case with other bounds by an expression.
+fn first_other(expr: &Expr, cases: &[BoundsCase]) -> Option<u32> {
+    for (accesses, object, expected) in cases {
+        if bounds(expr, accesses, *object) != Some(*expected) {
+            return Some(*object);
+        }
+    }
+    None
+}
+
+/// The object of the first case with other bounds by the expression of a query's text.
+pub fn first_wrong_bounds(
+    alloc: Global,
+    text: &str,
+    cases: &[BoundsCase],
+) -> Result<Option<u32>, Fail> {
+    let query = read(alloc, text.as_bytes())?;
+    let wrong = first_other(&query.expr, cases);
+    drop(query);
+    Ok(wrong)
+}

@@ -1,0 +1,4 @@
+pub mod Apart
+pub mod Least
+pub mod Making
+pub mod Reading
