@@ -2,7 +2,8 @@
 
 use access_log::{Access, Answer, Item, Items, Transcript};
 use cert_text::{Outcome, write_outcome};
-use query_text::{Query, read};
+use query_reading::read;
+use query_text::Query;
 use std::alloc::Global;
 use std::process::Abort;
 use std::test::Fail;

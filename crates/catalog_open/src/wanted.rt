@@ -7,7 +7,8 @@ ghost use Rattle.catalog_open.specs.Wanted.{AreMarked, MarksMore, Wants};
 use super::Memory;
 use catalog_text::Catalog;
 use limits::MAX_QUERIES;
-use query_text::{Names, QueryFault, read};
+use query_reading::read;
+use query_text::{Names, QueryFault};
 use std::alloc::Global;
 
 /// Marks the sources of the catalog that lines want: those of the lists that a line names which no cause refuses before its lists

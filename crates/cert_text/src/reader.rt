@@ -8,7 +8,8 @@ use super::fault::CertFault;
 use super::parts::{Figures, access_of, count_of, figures_of, item_of};
 use access_log::{Access, Item};
 use line_text::{first_line, rest_after};
-use query_text::{Memory, Names, Query, QueryFault, read};
+use query_reading::read;
+use query_text::{Memory, Names, Query, QueryFault};
 use std::alloc::Global;
 
 /// What a certificate says of an answer.

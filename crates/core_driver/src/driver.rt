@@ -5,7 +5,8 @@ ghost use Rattle.core_driver.specs.Wide.{IsWide};
 
 use super::driven::{Driven, Terms};
 use access_log::{Access, Answer, CoreFault, Transcript};
-use query_text::{Query, read};
+use query_reading::read;
+use query_text::Query;
 use ranked_list::{Need, Row};
 use std::alloc::Global;
 use std::test::Fail;

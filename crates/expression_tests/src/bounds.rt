@@ -2,7 +2,7 @@
 
 use limits::TOP_GRADE;
 use monotone_fn::Expr;
-use query_text::read;
+use query_reading::read;
 use std::alloc::Global;
 use std::test::Fail;
 

@@ -1,7 +1,8 @@
 //! Values of expressions, each of which a query's text gives.
 
 use limits::TOP_GRADE;
-use query_text::{Query, QueryFault, read};
+use query_reading::read;
+use query_text::{Query, QueryFault};
 use std::alloc::Global;
 use std::test::Fail;
 

@@ -6,7 +6,7 @@ ghost use Rattle.monotone_fn.specs.Shape.{list_count};
 use access_log::{Access, Transcript};
 use judge_core::{JudgeFault, Verdict, counter_table, judge};
 use monotone_fn::Expr;
-use query_text::read;
+use query_reading::read;
 use ranked_list::{MemList, is_table};
 use std::alloc::Global;
 use std::test::Fail;

@@ -17,7 +17,7 @@ use Rattle.monotone_fn.specs.declared.fault.ExprFault.TheVariants.{TooManyNodes,
 use Rattle.query_text.specs.declared.algorithm.Algorithm.{Algorithm}
 use Rattle.query_text.specs.Pieces.{each_once}
 use Rattle.query_text.specs.Query.{name_of, lists_of, lists_among, lists_under, IsPlain, ArePlain, AreWeighed, IsLawful, IsCount}
-use Rattle.query_text.proofs.FinalLaws.{once_different, no_pairs}
+use Rattle.query_text.proofs.ListLaws.{once_different, no_pairs}
 use Rattle.table_text.specs.Numbered.{list_names}
 use Rattle.made_queries.specs.Made.{list_trees, list_terms, made_tree, made_algorithm, made_query}
 use Rattle.made_queries.proofs.Trees.{each_tree, each_count, made_fits}

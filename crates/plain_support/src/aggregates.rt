@@ -3,7 +3,7 @@
 use super::outcomes::check_posed;
 use monotone_fn::Expr;
 use plain_ta::aggregate;
-use query_text::read;
+use query_reading::read;
 use ranked_list::MemList;
 use std::alloc::Global;
 use std::test::Fail;

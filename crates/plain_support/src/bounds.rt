@@ -3,7 +3,7 @@
 use limits::TOP_GRADE;
 use monotone_fn::Expr;
 use plain_nra::{high, low};
-use query_text::read;
+use query_reading::read;
 use std::alloc::Global;
 use std::test::Fail;
 use topk_theory::Access;

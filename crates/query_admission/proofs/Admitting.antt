@@ -10,7 +10,7 @@ use Rattle.query_text.specs.declared.query.Query.{Query}
 use Rattle.query_text.specs.declared.fault.QueryFault.{QueryFault}
 use Rattle.query_text.specs.declared.fault.QueryFault.TheVariants.{LongLine, Syntax, Number, TooManyLists, TooManyNodes, TooDeep, TooBig, Memory}
 use Rattle.query_text.specs.Reading.{Reads}
-use Rattle.query_text.proofs.BackLaws.{read_back}
+use Rattle.query_reading.proofs.BackLaws.{read_back}
 use Rattle.cert_text.specs.declared.refusal.Refusal.{Refusal}
 use Rattle.cert_text.specs.declared.refusal.Refusal.TheVariants.{ManyQueries, UnknownList, KAboveCount}
 use Rattle.cert_text.specs.Refusal.{refused_lists}

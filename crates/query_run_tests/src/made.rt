@@ -5,7 +5,7 @@ ghost use Rattle.query_world.specs.Made.{IsReadyFor};
 ghost use Rattle.query_core.specs.Ready.{IsReady};
 
 use query_core::Ready;
-use query_text::read;
+use query_reading::read;
 use std::alloc::Global;
 
 /// Whether there is such a source of so many objects, of two that have `count` each.

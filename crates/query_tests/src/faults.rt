@@ -1,9 +1,10 @@
 //! Lines worked out by hand: each reason of a refusal at its edges, and lines that are read and printed.
 
+use query_reading::read;
 use query_text::QueryFault::{
     LongLine, Number, Syntax, TooBig, TooDeep, TooManyLists, TooManyNodes,
 };
-use query_text::{Query, QueryFault, print, read};
+use query_text::{Query, QueryFault, print};
 use std::alloc::{AllocError, Global};
 use std::process::Abort;
 use std::test::Fail;

@@ -1,6 +1,7 @@
 //! What a query holds.
 
-use query_text::{Algorithm, Costs, Names, Query, read};
+use query_reading::read;
+use query_text::{Algorithm, Costs, Names, Query};
 use std::alloc::Global;
 use std::process::Abort;
 use std::test::Fail;

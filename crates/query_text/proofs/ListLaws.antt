@@ -1,14 +1,61 @@
--- Names that are there, and names that come last.
-use Rattle.std.proofs.Common.{◌≡◌, ℕ, suc, ◌+◌, ◌<◌, ◌≤◌, Bool, true, false, cond, not, ◌||◌, nat_lt, List, [], ◌∷◌, ◌++◌, length, Some, None, refl, sym, ap, ◌∙◌, arith}
-use Rattle.std.specs.List.{list_any, position, prefix_len}
+-- Names that are there, names that come last, and lists with each member once.
+use Rattle.std.proofs.Common.{◌≡◌, ℕ, suc, ◌+◌, ◌<◌, ◌≤◌, Bool, true, false, cond, not, ◌||◌, nat_lt, List, [], ◌∷◌, ◌++◌, length, Some, None, refl, sym, ap, ◌∙◌, arith, ◌≢◌, zero, get_or, append_assoc}
+use Rattle.std.specs.List.{list_any, position, prefix_len, AllPairs}
 use Rattle.std.specs.Global.{Vec}
 use Rattle.std.specs.Str.{bytes_eq}
-use Rattle.std.proofs.lemmas.Bool.{cond-true, cond-false, false≢true, or_left, or_right, or_from, ltb-true, ltb-false, false_from_ne_true}
-use Rattle.std.proofs.lemmas.List.{length-append}
+use Rattle.std.proofs.lemmas.Bool.{cond-true, cond-false, false≢true, or_left, or_right, or_from, ltb-true, ltb-false, false_from_ne_true, or_parts}
+use Rattle.std.proofs.lemmas.List.{length-append, append-nil}
+use Rattle.std.proofs.lemmas.List.Quantifiers.{all_pairs_push}
+use Rattle.std.proofs.lemmas.Slice.Eq.{bytes_eq-Decides}
 use Rattle.query_text.specs.Bytes.{bytes_of}
-use Rattle.query_text.specs.Pieces.{with_member}
+use Rattle.query_text.specs.Pieces.{with_member, Piece, names_in, each_once_after}
 use Rattle.query_text.specs.Query.{name_of}
-use Rattle.query_text.proofs.WordLaws.{same_bytes, bytes_same}
+
+pub same_bytes : (xs ys : List ℕ) → bytes_eq xs ys ≡ true → xs ≡ ys
+same_bytes xs ys h = (bytes_eq-Decides xs ys).0 h
+
+pub bytes_same : (xs ys : List ℕ) → xs ≡ ys → bytes_eq xs ys ≡ true
+bytes_same xs ys h = (bytes_eq-Decides xs ys).1 h
+
+pub names_in-append : (ps qs : List Piece) → names_in (ps ++ qs) ≡ names_in ps ++ names_in qs
+names_in-append [] qs = refl
+names_in-append (Piece.fixed t ∷ ps) qs = names_in-append ps qs
+names_in-append (Piece.number l m d ∷ ps) qs = names_in-append ps qs
+names_in-append (Piece.name t ∷ ps) qs = ap (λ z. t ∷ z) (names_in-append ps qs)
+
+pub once-append : {A : Type 0} (same : A → A → Bool) (seen xs ys : List A)
+    → each_once_after same seen (xs ++ ys) ≡ each_once_after same (each_once_after same seen xs) ys
+once-append same seen [] ys = refl
+once-append same seen (x ∷ xs) ys = once-append same (with_member same seen x) xs ys
+
+-- members are added at the end
+pub once-extends : {A : Type 0} (same : A → A → Bool) (seen xs : List A) → (extra : List A) × (each_once_after same seen xs ≡ seen ++ extra)
+once-extends same seen [] = ([], sym (append-nil seen))
+once-extends same seen (x ∷ xs) =
+    let r = once-extends same (with_member same seen x) xs in
+    let s = member_extends (list_any (same x) seen) in
+    (s.0 ++ r.0, r.1 ∙ (ap (λ z. z ++ r.0) s.1 ∙ append_assoc seen s.0 r.0))
+  where
+    member_extends : (b : Bool) → (extra : List _) × (cond b seen (seen ++ x ∷ []) ≡ seen ++ extra)
+    member_extends true = ([], sym (append-nil seen))
+    member_extends false = (x ∷ [], refl)
+
+-- different members
+lacks : (y : List ℕ) (xs : List (List ℕ)) → list_any (bytes_eq y) xs ≡ false → (k : ℕ) (d : List ℕ) → k < length xs → get_or xs k d ≢ y
+lacks y [] h k d l e = absurd (omega arith)
+lacks y (x ∷ xs) h zero d l e = false≢true (sym (or_parts (bytes_eq y x) _ h).0 ∙ bytes_same y x (sym e))
+lacks y (x ∷ xs) h (suc k) d l e = lacks y xs (or_parts (bytes_eq y x) _ h).1 k d (omega arith) e
+
+pub once_different : (seen xs : List (List ℕ)) → AllPairs ◌≢◌ seen → AllPairs ◌≢◌ (each_once_after bytes_eq seen xs)
+once_different seen [] h = h
+once_different seen (x ∷ xs) h = once_different (with_member bytes_eq seen x) xs (kept (list_any (bytes_eq x) seen) refl)
+  where
+    kept : (b : Bool) → list_any (bytes_eq x) seen ≡ b → AllPairs ◌≢◌ (cond b seen (seen ++ x ∷ []))
+    kept true e = h
+    kept false e = all_pairs_push ◌≢◌ seen x h (λ k d l. lacks x seen e k d l)
+
+pub no_pairs : AllPairs {X = List ℕ} ◌≢◌ []
+no_pairs = λ i j d l m. absurd (omega arith)
 
 -- how many names stand before a word
 abbrev before : List (Vec ℕ) → List ℕ → ℕ

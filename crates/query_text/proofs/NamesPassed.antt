@@ -1,6 +1,5 @@
 -- Names, expressions and terms that are passed one after another.
 use Rattle.std.proofs.Common.{◌≡◌, ◌<◌, ℕ, List, length, map, get_or, slice_get, Some, sym, ap, subst, ◌∙◌}
-use Rattle.std.specs.Global.{Vec}
 use Rattle.std.specs.Slice.Iter.{iter_rest}
 use Rattle.std.proofs.lemmas.Fn.{fronts}
 use Rattle.std.proofs.lemmas.List.{length-map}

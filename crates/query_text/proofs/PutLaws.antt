@@ -9,14 +9,21 @@ use Rattle.std.proofs.lemmas.Option.{unwrap_or-slice_get, slice_get_within, get_
 use Rattle.std.proofs.lemmas.Grind.{flat_map-append}
 use Rattle.monotone_fn.specs.Tree.{Tree, trees, terms}
 use Rattle.monotone_fn.specs.Shape.{depth, depth_in, depth_under}
+use Rattle.query_text.specs.Written.{Arguments, Argument, arguments_from}
 use Rattle.query_text.specs.Pieces.{Piece, piece_text, text_of}
 use Rattle.query_text.specs.Shape.{weight_pieces, expr_pieces, argument_pieces, further_pieces, algorithm_word, algorithm_pieces, cost_pieces, room_pieces}
-use Rattle.query_text.specs.Query.{written, name_of, cost_digits, printed}
+use Rattle.query_text.specs.Query.{written, name_of, cost_digits, printed, arguments, weighted, plain_argument, weighted_argument}
 use Rattle.query_text.specs.declared.query.Query.{Query}
-use Rattle.query_text.specs.Front.{Argument, arguments_from}
-use Rattle.query_text.specs.Draft.{plain_argument, weighted_argument}
 use Rattle.query_text.specs.Printing.{nodes_text, terms_text, comma_text, cost_text, room_text}
-use Rattle.query_text.proofs.DraftLaws.{arguments_plain, arguments_weighted}
+
+-- the arguments of trees and of terms, as lists
+pub arguments_plain : (names : List (List ℕ)) (ts : List Tree) → arguments names (trees ts) ≡ arguments_from (map (plain_argument names) ts)
+arguments_plain names [] = refl
+arguments_plain names (t ∷ ts) = ap (Arguments.argument_then None (written names t)) (arguments_plain names ts)
+
+pub arguments_weighted : (names : List (List ℕ)) (us : List (ℕ × Tree)) → weighted names (terms us) ≡ arguments_from (map (weighted_argument names) us)
+arguments_weighted names [] = refl
+arguments_weighted names (u ∷ us) = ap (Arguments.argument_then (Some (decimal u.0)) (written names u.1)) (arguments_weighted names us)
 
 -- a list without the member at a place
 pub name_past : (names : List (List ℕ)) (list : ℕ) → None ≡ slice_get names list → [] ≡ name_of names list

@@ -5,10 +5,4 @@ pub mod Shape
 pub mod Query
 pub mod Costs
 pub mod Reading
-pub mod Words
-pub mod Front
-pub mod Course
-pub mod Draft
-pub mod Reached
-pub mod Finish
 pub mod Printing

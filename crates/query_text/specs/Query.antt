@@ -5,7 +5,7 @@ use Rattle.std.specs.Fmt.{decimal}
 use Rattle.line_text.specs.Names.{IsName}
 use Rattle.monotone_fn.specs.Tree.{Tree, Trees, Terms}
 use Rattle.monotone_fn.specs.declared.costs.Costs.{Costs}
-use Rattle.query_text.specs.Written.{Written, Arguments}
+use Rattle.query_text.specs.Written.{Written, Arguments, Argument}
 use Rattle.query_text.specs.Pieces.{each_once}
 use Rattle.query_text.specs.Shape.{SyntaxTree, spelled}
 use Rattle.query_text.specs.declared.query.Query.{Query}
@@ -33,6 +33,13 @@ abbrev mutual
   pub weighted : List (List ℕ) → Terms → Arguments
   weighted names Terms.no_term = Arguments.no_argument
   weighted names (Terms.term_then weight t us) = Arguments.argument_then (Some (decimal weight)) (written names t) (weighted names us)
+
+-- an expression as an argument without a weight, and one with a weight
+abbrev pub plain_argument : List (List ℕ) → Tree → Argument
+plain_argument names tree = (None, written names tree)
+
+abbrev pub weighted_argument : List (List ℕ) → ℕ × Tree → Argument
+weighted_argument names term = (Some (decimal term.0), written names term.1)
 
 -- the digits of both costs
 abbrev pub cost_digits : Costs → List ℕ × List ℕ

@@ -1,5 +1,5 @@
 -- An expression as a query text has it.
-use Rattle.std.specs.Prelude.{ℕ, List, Option, Some, None, IsTrue}
+use Rattle.std.specs.Prelude.{ℕ, List, Option, Some, None, IsTrue, [], ◌∷◌}
 use Rattle.line_text.specs.Numbers.{is_number}
 use Rattle.line_text.specs.Names.{IsName}
 use Rattle.query_text.specs.declared.operator.Operator.{Operator}
@@ -15,6 +15,15 @@ mutual
   pub data Arguments : Type 0 where
     no_argument : Arguments
     argument_then : Option (List ℕ) → Written → Arguments → Arguments
+
+-- an argument with the digits of its weight
+abbrev pub Argument : Type 0
+Argument = Option (List ℕ) × Written
+
+-- the arguments of a list
+abbrev pub arguments_from : List Argument → Arguments
+arguments_from [] = Arguments.no_argument
+arguments_from (argument ∷ rest) = Arguments.argument_then argument.0 argument.1 (arguments_from rest)
 
 -- the text is a number
 abbrev pub IsNumber : List ℕ → Type 0

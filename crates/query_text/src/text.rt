@@ -9,7 +9,7 @@ use std::alloc::Global;
 use tk_io::{Failed, Sink};
 
 /// A text in memory. A write fails where memory is refused.
-#[derive(Debug, Drop)]
+#[derive(Drop)]
 pub(crate) struct Text {
     bytes: Vec<u8>,
     faults: u64,

@@ -5,7 +5,8 @@ ghost use Rattle.cert_text.specs.declared.outcome.Outcome.TheVariants.{Refused};
 ghost use Rattle.cert_text.specs.Outcome.{IsOutcome};
 
 use cert_text::{Outcome, Refusal, write_outcome};
-use query_text::{Query, read};
+use query_reading::read;
+use query_text::Query;
 use std::alloc::Global;
 use std::test::Fail;
 use tk_io::MemSink;

@@ -8,7 +8,7 @@ use Rattle.topk_theory.specs.declared.access.Access.{Access}
 use Rattle.query_text.specs.declared.query.Query.{Query}
 use Rattle.query_text.specs.Query.{printed}
 use Rattle.query_text.specs.Reading.{Reads}
-use Rattle.query_text.proofs.BackLaws.{printed_same}
+use Rattle.query_reading.proofs.BackLaws.{printed_same}
 use Rattle.cert_text.specs.declared.certificate.Certificate.{Certificate}
 use Rattle.cert_text.specs.Certificate.{number_line, query_line, count_line, answer_line, stop_line, access_line, access_lines, IsItem, IsAccess}
 use Rattle.cert_text.specs.Judging.{AreNames, Found, FindsQuery, SpellsAccesses, SpellsFound, SpellsCounted, SpellsQueried}

@@ -5,7 +5,7 @@ ghost use Rattle.monotone_fn.specs.Shape.{list_count};
 
 use access_log::{Access, PushFault, Transcript};
 use monotone_fn::{Costs, Expr};
-use query_text::read;
+use query_reading::read;
 use std::alloc::Global;
 use std::test::Fail;
 use test_support::{random, random_row, sorted, sorted_row};

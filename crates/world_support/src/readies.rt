@@ -7,7 +7,7 @@ ghost use Rattle.query_core.specs.Ready.{IsReady};
 use super::outcomes::Asked;
 use limits::MAX_OBJECTS;
 use query_core::Ready;
-use query_text::read;
+use query_reading::read;
 use std::alloc::Global;
 use std::test::Fail;
 

@@ -1,4 +1,4 @@
-use Rattle.std.proofs.Common.{◌≡◌, ◌∙◌, length, Some, slice_get, refl, sym, ap, subst, codes, append-nil, arith, rules}
+use Rattle.std.proofs.Common.{◌≡◌, Some, slice_get, refl, sym, subst, codes, append-nil, arith, rules}
 use Rattle.std.proofs.lemmas.List.{length_push}
 use Rattle.std.proofs.lemmas.Iterator.Consumers.{YieldsList-turn, YieldsList-end}
 use Rattle.monotone_fn.specs.Shown.{tree_of, term_of}

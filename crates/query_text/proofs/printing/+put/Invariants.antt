@@ -2,10 +2,10 @@ use Rattle.std.proofs.Common.{◌≡◌, ◌+◌, ◌*◌, ◌++◌, length, tak
 use Rattle.monotone_fn.specs.Tree.{trees, terms}
 use Rattle.monotone_fn.specs.Shape.{depth, depth_in, depth_under}
 use Rattle.monotone_fn.specs.Shown.{tree_of}
+use Rattle.query_text.specs.Query.{plain_argument, weighted_argument}
+use Rattle.query_text.specs.Written.{arguments_from}
 use Rattle.query_text.specs.Pieces.{text_of}
 use Rattle.query_text.specs.Shape.{argument_pieces}
-use Rattle.query_text.specs.Front.{arguments_from}
-use Rattle.query_text.specs.Draft.{plain_argument, weighted_argument}
 use Rattle.tk_io.specs.Pieces.{Puts}
 use Rattle.query_text.proofs.printing.+put.Given as goal
 

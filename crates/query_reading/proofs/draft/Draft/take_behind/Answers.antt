@@ -1,0 +1,18 @@
+use Rattle.std.proofs.Common.{refl, sym, subst, ◌∙◌}
+use Rattle.monotone_fn.specs.Shown.{tree_of}
+use Rattle.query_reading.specs.Draft.{AddsArgument, Closes}
+use Rattle.query_reading.proofs.TakeLaws.{takes_comma, takes_close}
+use Rattle.query_reading.proofs.draft.Draft.take_behind.Goals as goal
+
+pub returns-then-is_comma-clause-taken : goal.returns-then-is_comma-clause-taken
+returns-then-is_comma-clause-taken c =
+    takes_comma c.args.self.now _ c.pop.new.self.items c.in-Some.frame c.add.new.self c.args.word.now (sym c.is_comma.ensures ∙ c.if-is_comma.true) c.in-Some.ensures.items
+    c.in-Ok.ensures.items
+    (subst (λ n. AddsArgument c.in-Some.frame c.add.new.self (tree_of n)) c.replace-node.ensures.value c.in_ok-add.ensures.ok)
+    refl refl c.replace-node.ensures.after refl c.requires
+
+pub returns-clause-taken : goal.returns-clause-taken
+returns-clause-taken c =
+    takes_close c.args.self.now _ c.pop.new.self.items c.in-Some.frame c.args.word.now (sym c.is_comma.ensures ∙ c.if-is_comma.false) c.in-Some.ensures.items refl
+    (subst (λ n. Closes c.in-Some.frame (tree_of n) (tree_of c.in_ok-self.field-0)) c.replace-node.ensures.value c.in_ok-self.ensures.ok)
+    refl refl refl c.requires

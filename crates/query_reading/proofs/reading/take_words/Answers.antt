@@ -1,0 +1,36 @@
+use Rattle.std.proofs.Common.{sym, ap, subst, ◌∙◌, arith, take, drop}
+use Rattle.std.proofs.lemmas.List.{length-drop}
+use Rattle.query_words.specs.Course.{course_view, is_open}
+use Rattle.query_reading.specs.Reached.{Reached}
+use Rattle.query_reading.proofs.ReadLaws.{whole_has_byte, reach-next, reach_refused, reach_draft, reach_fault}
+use Rattle.query_reading.proofs.reading.take_words.Goals as goal
+use Rattle.query_reading.proofs.reading.take_words.Goals.{then-at-bytes, else-at-bytes+then-not-may_end}
+
+pub loop-at-init : goal.loop-at-init
+loop-at-init c = c.requires.start
+
+pub returns-in-Err-clause-err : goal.returns-in-Err-clause-err
+returns-in-Err-clause-err c =
+    reach_refused c.args.bytes.now c.loop-at.at c.in-Err.ensures.0 c.loop-at.course c.loop-at.draft c.loop-at.fault c.in-Err.at c.loop-at.invariant
+    c.in-Err.ensures.1 c.in-Err.ensures.2 c.in-Err.ensures.3
+    (elim c.if-at-bytes.branch [ then-at-bytes w ↦ (λ over. absurd (omega arith)) | else-at-bytes+then-not-may_end w ↦ (λ over. sym w.may_end.ensures ∙ w.if-not-may_end.true) ])
+
+pub loop-at-preserved : goal.loop-at-preserved
+loop-at-preserved c =
+    reach-next c.args.bytes.now c.loop-at.at c.in-Ok.count c.loop-at.course c.advance.new.self c.loop-at.draft c.take_word.new.draft c.loop-at.fault c.in_ok-fault.fault _
+    c.loop-at.invariant (ap (λ n. take n (drop c.loop-at.at c.args.bytes.now)) (omega arith)) c.in-Ok.ensures.0 c.in-Ok.ensures.1 c.in_ok-fault.ensures.ok c.in_ok-advance.ensures.ok
+
+pub loop-at-smaller : goal.loop-at-smaller
+loop-at-smaller c =
+    let n = whole_has_byte c.loop-at.course.stage (is_open (course_view c.loop-at.course).operators) c.in-Ok.count (drop c.loop-at.at c.args.bytes.now) c.in-Ok.ensures.1 in
+    omega (arith, n, c.in-Ok.ensures.0.within, length-drop c.loop-at.at c.args.bytes.now, c.loop-at.invariant.within)
+
+pub returns-in-None-clause-ok : goal.returns-in-None-clause-ok
+returns-in-None-clause-ok c =
+    reach_draft c.args.bytes.now c.loop-at.at c.loop-at.course c.loop-at.draft
+    (subst (Reached c.args.bytes.now c.loop-at.at c.loop-at.course c.loop-at.draft) c.in-None.is c.loop-at.invariant) (omega arith) (sym c.may_end.ensures ∙ c.if-not-may_end.false)
+
+pub returns-in-Some-clause-err : goal.returns-in-Some-clause-err
+returns-in-Some-clause-err c =
+    reach_fault c.args.bytes.now c.loop-at.at c.loop-at.course c.loop-at.draft c.in-Some.fault
+    (subst (Reached c.args.bytes.now c.loop-at.at c.loop-at.course c.loop-at.draft) c.in-Some.is c.loop-at.invariant) (omega arith) (sym c.may_end.ensures ∙ c.if-not-may_end.false)

@@ -1,0 +1,3 @@
+pub mod Draft
+pub mod Reached
+pub mod Finish

@@ -1,0 +1,107 @@
+//! Operators whose arguments are being read.
+
+ghost use Rattle.std.specs.Prelude.{◌≡◌, ℕ, List, OnOk, IfOk, IfErr, false};
+ghost use Rattle.monotone_fn.specs.Shown.{tree_of};
+ghost use Rattle.monotone_fn.specs.Tree.{trees};
+ghost use Rattle.query_text.specs.Written.{Written};
+ghost use Rattle.query_text.specs.Query.{written, arguments, IsPlain, ArePlain, HasTree};
+ghost use Rattle.query_words.specs.Front.{opened, is_weighted};
+ghost use Rattle.query_reading.specs.Draft.{frame_of, AddsArgument, Closes, IsFramePlain};
+
+use monotone_fn::{Node, Nodes, Term, Terms};
+use query_text::{Operator, QueryFault};
+use query_words::is_weighted;
+use std::alloc::Global;
+
+/// An operator that is open, with its arguments so far.
+#[derive(Drop)]
+pub(crate) struct Frame {
+    pub(crate) operator: Operator,
+    /// The weight that stands before the next argument, if one was read.
+    pub(crate) weight: Option<u64>,
+    /// The arguments of an operator without weights.
+    pub(crate) nodes: Vec<Node>,
+    /// The arguments of an operator with weights.
+    pub(crate) terms: Vec<Term>,
+}
+
+impl Frame {
+    /// An operator without arguments.
+    pub(crate) fn new(alloc: Global, operator: Operator) -> Frame
+        ensures shows { (names : List (List ℕ)) → frame_of names result ≡ opened operator }
+        ensures plain { IsFramePlain result }
+    {
+        Frame {
+            operator,
+            weight: None,
+            nodes: Vec::new(alloc),
+            terms: Vec::new(alloc),
+        }
+    }
+
+    /// Adds an argument, with the weight that was read before it.
+    pub(crate) fn add(&mut self, node: Node) -> Result<(), QueryFault>
+        ensures ok { OnOk result (AddsArgument self.old self.new (tree_of node)) }
+        ensures err { IfErr result (λ fault. fault ≡ QueryFault.Memory) }
+    {
+        let weight = self.weight.take();
+        if is_weighted(self.operator) {
+            let weight = weight.unwrap_or(0);
+            let Ok(()) = self.terms.push(Term { weight, node }) else {
+                return Err(QueryFault::Memory);
+            };
+        } else {
+            let Ok(()) = self.nodes.push(node) else {
+                return Err(QueryFault::Memory);
+            };
+        }
+        Ok(())
+    }
+
+    /// The expression of the operator over its arguments and one more, which comes last.
+    pub(crate) fn close(self, node: Node) -> Result<Node, QueryFault>
+        ensures ok { IfOk result (λ whole. Closes self (tree_of node) (tree_of whole)) }
+        ensures err { IfErr result (λ fault. fault ≡ QueryFault.Memory) }
+    {
+        let Frame {
+            operator,
+            weight,
+            mut nodes,
+            mut terms,
+        } = self;
+        if is_weighted(operator) {
+            let weight = weight.unwrap_or(0);
+            let Ok(()) = terms.push(Term { weight, node }) else {
+                return Err(QueryFault::Memory);
+            };
+            if terms.len() > MAX_ARGUMENTS {
+                return Err(QueryFault::Memory);
+            }
+            return Ok(Node::Wsum(Terms::from_vec(terms)));
+        }
+        let Ok(()) = nodes.push(node) else {
+            return Err(QueryFault::Memory);
+        };
+        if nodes.len() > MAX_ARGUMENTS {
+            return Err(QueryFault::Memory);
+        }
+        Ok(over(operator, Nodes::from_vec(nodes)))
+    }
+}
+
+/// How many arguments are kept at most. A line that fits has fewer.
+const MAX_ARGUMENTS: usize = 0xffff_ffff;
+
+/// An operator without weights over its arguments.
+fn over(operator: Operator, nodes: Nodes) -> Node
+    ensures shows { is_weighted operator ≡ false → (names : List (List ℕ)) →
+        written names (tree_of result) ≡ Written.call operator (arguments names (trees nodes)) }
+    ensures plain { HasTree (trees nodes) → ArePlain (trees nodes) → IsPlain (tree_of result) }
+{
+    match operator {
+        Operator::Min => Node::Min(nodes),
+        Operator::Max => Node::Max(nodes),
+        Operator::Sum | Operator::Wsum => Node::Sum(nodes),
+        Operator::Median => Node::Median(nodes),
+    }
+}

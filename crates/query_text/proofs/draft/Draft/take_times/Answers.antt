@@ -1,8 +1,0 @@
-use Rattle.std.proofs.Common.{refl, sym}
-use Rattle.query_text.proofs.TakeLaws.{takes_times}
-use Rattle.query_text.proofs.draft.Draft.take_times.Goals as goal
-
-pub returns-clause-taken : goal.returns-clause-taken
-returns-clause-taken c = λ w.
-    takes_times c.args.self.now _ c.pop.new.self.items c.in-Some.frame w c.in-Some.ensures.items
-    c.in-Ok.ensures.items refl refl refl refl c.requires

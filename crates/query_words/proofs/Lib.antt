@@ -1,0 +1,5 @@
+pub mod WordLaws
+pub mod FrontLaws
+pub mod ViableLaws
+pub mod CompleteLaws
+pub mod LongestLaws
