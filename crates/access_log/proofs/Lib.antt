@@ -1,8 +1,5 @@
-pub mod AheadKept
-pub mod EndsKept
 pub mod FirstKind
 pub mod MachineLaws
 pub mod ObjectsKept
 pub mod Pushing
 pub mod Readers
-pub mod RecordKept

@@ -14,12 +14,13 @@ use Rattle.topk_theory.proofs.Agreement.{named_objects_old, named_objects_new, d
 use Rattle.topk_theory.proofs.Consistent.{empty_agrees, kind_excludes, no_kind_agrees}
 use Rattle.access_log.specs.Log.{Log, IsWithinLimits, HasNoRoom, with_access}
 use Rattle.access_log.specs.Refusal.{Refuses, IsFirstOf}
-use Rattle.access_log.specs.Tests.{differs, exceeds, first_of_sorted, first_of_random}
+use Rattle.access_records.specs.Tests.{differs, exceeds, first_of_sorted, first_of_random}
 use Rattle.access_log.specs.declared.fault.PushFault.TheVariants.{Inconsistent}
 use Rattle.access_log.specs.declared.objects.Objects.{Objects}
-use Rattle.access_log.specs.declared.ends.Ends.{Ends}
-use Rattle.access_log.specs.Kept.{is_read, IsGreatestAhead, AreObjects, AreEndsOf, HasRoom, IsKept}
-use Rattle.access_log.proofs.RecordKept.{placed, not_placed}
+use Rattle.access_records.specs.declared.ends.Ends.{Ends}
+use Rattle.access_records.specs.Kept.{is_read, IsGreatestAhead, AreEndsOf}
+use Rattle.access_log.specs.Kept.{AreObjects, HasRoom, IsKept}
+use Rattle.access_records.proofs.RecordKept.{placed, not_placed}
 use Rattle.access_log.proofs.ObjectsKept.{list_in_range}
 use Rattle.access_log.proofs.FirstKind.{IsEarly, sorted_first, random_first}
 

@@ -3,15 +3,11 @@
 //! what it ends with, and why it refuses a row.
 #![tactic(auto)]
 
-mod ahead;
 mod answer;
 mod core_fault;
-mod ends;
 mod fault;
 mod first_kind;
-mod kinds;
 mod objects;
-mod record;
 mod room;
 mod transcript;
 
@@ -45,8 +41,8 @@ impl From<room_map::Memory> for Memory {
     }
 }
 
-impl From<indexed_heap::Memory> for Memory {
-    fn from(_: indexed_heap::Memory) -> Memory {
+impl From<access_records::Memory> for Memory {
+    fn from(_: access_records::Memory) -> Memory {
         Memory
     }
 }

@@ -5,16 +5,22 @@ ghost use Rattle.topk_theory.specs.declared.access.Access.{Access as Made};
 ghost use Rattle.topk_theory.specs.Transcript.{is_sorted, list_of, object_of, named_objects, seen_objects};
 ghost use Rattle.topk_theory.specs.Bounds.{known_grade};
 ghost use Rattle.topk_theory.specs.Consistent.{SomeAgrees};
-ghost use Rattle.access_log.specs.Kept.{AreObjects, AreRecords, AreAhead, HasRoom, HaveRoom, IsNoted, FitsAccess, IsPlaced, is_read};
+ghost use Rattle.access_records.specs.Kept.{AreRecords, AreAhead, HaveRoom, is_read};
+ghost use Rattle.access_log.specs.Kept.{AreObjects, HasRoom, IsNoted, FitsAccess, IsPlaced};
 
 use super::Memory;
-use super::ahead::Ahead;
-use super::kinds::Known;
-use super::record::{Record, UNNAMED};
+use access_records::{Ahead, Known, Record};
 use limits::{MAX_LISTS, MAX_OBJECTS};
 use room_map::RoomMap;
 use std::alloc::Global;
 use topk_theory::Access;
+
+/// The record of an object that no access names.
+const UNNAMED: Record = Record {
+    known: [None; MAX_LISTS],
+    read: [false; MAX_LISTS],
+    sight: None,
+};
 
 /// The objects that accesses name, by their places in the order in which they were named; the seen
 /// ones in the order of first sight; and for how many objects there is room.

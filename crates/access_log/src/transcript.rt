@@ -1,18 +1,20 @@
 //! Transcripts.
 
 use super::Memory;
-use super::ends::Ends;
 use super::fault::PushFault;
 use super::first_kind::first_kind;
 use super::objects::Objects;
-use super::record::NONE_KNOWN;
 use super::room::{make_room, spare_after};
-use limits::{MAX_NUMBER, MAX_OBJECTS};
+use access_records::Ends;
+use limits::{MAX_LISTS, MAX_NUMBER, MAX_OBJECTS};
 use monotone_fn::{Costs, Expr};
 use std::alloc::Global;
 use std::marker::Model;
 use std::slice::Iter;
 use topk_theory::Access;
+
+/// The known grades of an object that no access names.
+static NONE_KNOWN: [Option<u32>; MAX_LISTS] = [None; MAX_LISTS];
 
 /// The accesses that a query made, in their order, with the grades that they gave. Some table of
 /// its lists and its number of objects always agrees with it. Contracts see it as a `Log`.

@@ -5,7 +5,8 @@ ghost use Rattle.batch_run.specs.Ranges.{AreSettings};
 
 use batch_run::{Batch, Memory, Settings, run_all};
 use fetcher::Slot;
-use source_api::{MemSource, Source};
+use mem_source::MemSource;
+use source_api::Source;
 use source_support::{Held, source_of};
 use std::alloc::Global;
 use std::sync::Wait;

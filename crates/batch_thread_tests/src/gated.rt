@@ -2,11 +2,12 @@
 
 ghost use Rattle.std.specs.Prelude.{◌≡◌, ◌≤◌, vec_len, IfOk, IfErr, IfSome, OnErr, OnOk};
 ghost use Rattle.source_api.specs.Counting.{NoneFell, HasCause, GaveNothing, GaveRows, GaveGrade};
-ghost use Rattle.source_api.specs.InMemory.{told_list};
+ghost use Rattle.mem_source.specs.InMemory.{told_list};
 ghost use Rattle.source_api.specs.Told.{IsPage, IsGrade};
 
+use mem_source::MemSource;
 use ranked_list::Row;
-use source_api::{Counts, MemSource, Source, Trouble};
+use source_api::{Counts, Source, Trouble};
 use std::alloc::Global;
 use std::sync::atomic::{AtomicU64, Ordering};
 
@@ -162,8 +163,8 @@ impl<'a> Gated<'a> {
 }
 
 impl<'a> Source for Gated<'a> {
-    ghost use Rattle.source_api.specs.InMemory.{told_list};
-    ghost use Rattle.source_api.specs.EachOnce.{told_has_each_once};
+    ghost use Rattle.mem_source.specs.InMemory.{told_list};
+    ghost use Rattle.mem_source.specs.EachOnce.{told_has_each_once};
 
     ghost list = { λ s. told_list s.rows };
 

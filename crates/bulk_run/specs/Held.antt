@@ -3,8 +3,7 @@ use Rattle.std.specs.Prelude.{◌≤◌, ℕ, List, [], Option, None, length, Al
 use Rattle.std.specs.List.{slice_index_or}
 use Rattle.ranked_list.specs.declared.row.Row.{Row}
 use Rattle.source_api.specs.declared.counts.Counts.{Counts}
-use Rattle.source_api.specs.Told.{HasEachOnce, IsGrade}
-use Rattle.source_api.specs.InMemory.{told_of}
+use Rattle.source_api.specs.Told.{HasEachOnce, IsGrade, told_of}
 use Rattle.source_api.specs.EachOnce.{told_law}
 use Rattle.fetcher.specs.declared.slot.Slot.{Slot}
 use Rattle.fetcher.specs.Metering.{nothing}

@@ -1,6 +1,6 @@
 //! The command `bulk`.
 
-use source_api::MemShelf;
+use mem_source::MemShelf;
 use std::alloc::Global;
 use std::sync::Wait;
 use std::test::Fail;

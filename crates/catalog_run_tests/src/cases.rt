@@ -7,7 +7,7 @@ ghost use Rattle.batch_run.specs.Ranges.{AreSettings};
 use catalog_run::{LineOutcome, Settings, run_lines};
 use catalog_text::{Catalog, read_catalog};
 use cert_text::put_outcome;
-use source_api::MemShelf;
+use mem_source::MemShelf;
 use source_support::{Held, shelf_of};
 use std::alloc::Global;
 use std::sync::Wait;

@@ -14,7 +14,7 @@ use Rattle.access_log.specs.Log.{Log, IsConsistent}
 use Rattle.query_text.specs.Bytes.{bytes_of}
 use Rattle.cert_text.specs.declared.certificate.Certificate.{Certificate}
 use Rattle.cert_text.specs.Certificate.{answer_line, access_line, access_lines, stop_line}
-use Rattle.cert_text.specs.Reading.{Spells}
+use Rattle.cert_reader.specs.Reading.{Spells}
 use Rattle.judge_core.specs.declared.verdict.Verdict.{Verdict}
 use Rattle.judge_core.specs.declared.verdict.Verdict.TheVariants as verdict
 use Rattle.judge_core.specs.declared.verdict.JudgeFault.{JudgeFault}

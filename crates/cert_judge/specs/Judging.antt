@@ -9,7 +9,7 @@ use Rattle.topk_theory.specs.Threshold.{item_objects}
 use Rattle.access_log.specs.Log.{IsConsistent}
 use Rattle.query_text.specs.Query.{printed}
 use Rattle.cert_text.specs.declared.certificate.Certificate.{Certificate}
-use Rattle.cert_text.specs.Reading.{Spells, IsFirstFault}
+use Rattle.cert_reader.specs.Reading.{Spells, IsFirstFault}
 use Rattle.judge_core.specs.declared.verdict.Verdict.{Verdict}
 use Rattle.judge_core.specs.declared.verdict.Verdict.TheVariants as verdict
 use Rattle.judge_core.specs.declared.verdict.JudgeFault.{JudgeFault}

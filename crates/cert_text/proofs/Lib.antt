@@ -1,12 +1,2 @@
 pub mod WritingLaws
 pub mod FigureLaws
-pub mod PartLaws
-pub mod LineLaws
-pub mod JudgingLaws
-pub mod SpellLaws
-pub mod QueryLaws
-pub mod ExampleLaws
-pub mod CertificateLaws
-pub mod CountLaws
-pub mod TextLaws
-pub mod CertifiedLaws

@@ -1,4 +1,4 @@
-//! Certificates and refusals as text: what is printed of a query line's outcome, and read back.
+//! Certificates and refusals as text: what is printed of a query line's outcome. `cert_reader` reads certificates back.
 //!
 //! ```text
 //! certificate LINE
@@ -16,18 +16,14 @@
 
 mod accesses;
 mod certificate;
-mod fault;
 mod fields;
 mod outcome;
-mod parts;
-mod reader;
 mod refusal;
 mod words;
 mod writing;
 
 pub use accesses::Accesses;
-pub use certificate::{Certificate, read_certificate};
-pub use fault::CertFault;
+pub use certificate::Certificate;
 pub use outcome::{Outcome, put_outcome, write_outcome};
 pub use refusal::Refusal;
 pub use writing::depth_of;

@@ -1,7 +1,8 @@
 //! Texts that are read: the first example, and texts with the line at fault.
 
 use access_log::Items;
-use cert_text::{Accesses, CertFault, Certificate, read_certificate};
+use cert_reader::{CertFault, read_certificate};
+use cert_text::{Accesses, Certificate};
 use query_text::{Query, print};
 use std::alloc::Global;
 use std::process::Abort;

@@ -2,7 +2,7 @@
 //! stands beside it.
 #![tactic(auto)]
 
-use source_api::MemShelf;
+use mem_source::MemShelf;
 use std::io::ErrorKind;
 use std::rt::Files;
 use std::sync::Wait;

@@ -1,7 +1,8 @@
 //! A source that answers for a page only after a reader has looked once more.
 
+use mem_source::MemSource;
 use ranked_list::Row;
-use source_api::{MemSource, Source, Trouble};
+use source_api::{Source, Trouble};
 use std::alloc::Global;
 use std::sync::atomic::{AtomicU64, Ordering};
 
@@ -27,8 +28,8 @@ fn rises(looks: &AtomicU64) -> bool {
 }
 
 impl<'a> Source for Slow<'a> {
-    ghost use Rattle.source_api.specs.InMemory.{told_list};
-    ghost use Rattle.source_api.specs.EachOnce.{told_has_each_once};
+    ghost use Rattle.mem_source.specs.InMemory.{told_list};
+    ghost use Rattle.mem_source.specs.EachOnce.{told_has_each_once};
 
     ghost list = { λ s. told_list s.rows };
 

@@ -5,8 +5,7 @@ use Rattle.std.specs.Option.{is_none}
 use Rattle.std.specs.List.{Contains, list_any}
 use Rattle.std.proofs.lemmas.List.{take-map, drop-map, length-map}
 use Rattle.ranked_list.specs.declared.row.Row.{Row}
-use Rattle.source_api.specs.Told.{IsPage, IsGrade, first_grade}
-use Rattle.source_api.specs.InMemory.{each_once, told_of}
+use Rattle.source_api.specs.Told.{IsPage, IsGrade, first_grade, each_once, told_of}
 use Rattle.source_api.proofs.ToldLaws.{told_page, told_grade, first_grade_push}
 use Rattle.file_source.specs.ListFile.{rows_among, are_rows, told_records}
 use Rattle.file_source.specs.Taking.{kept_record}

@@ -1,8 +1,7 @@
 -- The list that a source over a list file tells, and that it has no object twice.
 use Rattle.std.specs.Prelude.{Bool, true, false, List, [], Option, None, IfSome, if◌then◌else◌}
 use Rattle.ranked_list.specs.declared.row.Row.{Row}
-use Rattle.source_api.specs.Told.{HasEachOnce}
-use Rattle.source_api.specs.InMemory.{told_of}
+use Rattle.source_api.specs.Told.{HasEachOnce, told_of}
 use Rattle.source_api.specs.EachOnce.{told_law}
 use Rattle.file_source.specs.ListFile.{are_rows, rows_among, told_records}
 use Rattle.file_source.specs.Filed.{Filed}

@@ -6,7 +6,7 @@ use Rattle.std.specs.Str.{all_ascii_digits, bytes_eq}
 use Rattle.std.specs.Str.Parse.{digits_value}
 use Rattle.ranked_list.specs.declared.row.Row.{Row}
 use Rattle.csv_records.specs.Records.{records_of}
-use Rattle.source_api.specs.InMemory.{told_of}
+use Rattle.source_api.specs.Told.{told_of}
 
 -- whether a text is 1 to 10 digits
 abbrev pub are_few_digits : List ℕ → Bool

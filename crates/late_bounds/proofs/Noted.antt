@@ -12,7 +12,7 @@ use Rattle.topk_theory.proofs.AgreementLists.{contains_nil, contains_cases, slic
 use Rattle.topk_theory.proofs.AgreementNames.{has, has_contains, has_not}
 use Rattle.topk_theory.proofs.Agreement.{seen_distinct, seen_objects_old, seen_objects_new, seen_objects_random}
 use Rattle.std.proofs.lemmas.List.Elements.{Contains-append_cases}
-use Rattle.access_log.proofs.RecordKept.{placed}
+use Rattle.access_records.proofs.RecordKept.{placed}
 use Rattle.indexed_heap.specs.Ranks.{rank_at}
 use Rattle.ranked_slots.specs.declared.slots.Entry.{Entry}
 use Rattle.ranked_slots.specs.Slots.{Slots, HasNone, IsLeast, AreDistinctKeys}

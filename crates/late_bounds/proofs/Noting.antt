@@ -9,7 +9,7 @@ use Rattle.topk_theory.specs.declared.access.Access.{Access}
 use Rattle.topk_theory.specs.Transcript.{Agrees, object_of, seen_objects}
 use Rattle.topk_theory.specs.Bounds.{low, high}
 use Rattle.access_log.specs.Log.{Log, IsConsistent}
-use Rattle.access_log.proofs.RecordKept.{placed}
+use Rattle.access_records.proofs.RecordKept.{placed}
 use Rattle.ranked_slots.specs.declared.slots.Entry.{Entry}
 use Rattle.ranked_slots.specs.Slots.{Slots, HasNone, IsAt, IsLeast, AreDistinctKeys, IsRenewed}
 use Rattle.nra_theory.specs.Late.{AreNextBounds}

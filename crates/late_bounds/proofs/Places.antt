@@ -9,7 +9,7 @@ use Rattle.std.proofs.lemmas.List.Elements.{Contains-append_cases}
 use Rattle.std.proofs.lemmas.List.Folds.{list_any-append}
 use Rattle.std.proofs.lemmas.Option.{none-some, same_Some, slice_get_within}
 use Rattle.topk_theory.proofs.AgreementLists.{contains_nil, contains_cases, slice_get_contains, one_place}
-use Rattle.access_log.proofs.RecordKept.{placed, not_placed, place_of_absent}
+use Rattle.access_records.proofs.RecordKept.{placed, not_placed, place_of_absent}
 use Rattle.indexed_heap.specs.Ranks.{rank_at}
 use Rattle.ranked_slots.specs.declared.slots.Entry.{Entry}
 use Rattle.ranked_slots.specs.Slots.{HasNone, AreDistinctKeys}

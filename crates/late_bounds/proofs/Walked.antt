@@ -8,7 +8,7 @@ use Rattle.topk_theory.specs.declared.access.Access.{Access}
 use Rattle.topk_theory.specs.Transcript.{seen_objects}
 use Rattle.topk_theory.specs.Bounds.{low, high}
 use Rattle.topk_theory.proofs.Agreement.{seen_distinct}
-use Rattle.access_log.proofs.RecordKept.{placed}
+use Rattle.access_records.proofs.RecordKept.{placed}
 use Rattle.indexed_heap.specs.Ranks.{rank_at}
 use Rattle.ranked_slots.specs.declared.slots.Entry.{Entry}
 use Rattle.ranked_slots.specs.Slots.{Slots, HasNone, AreDistinctKeys}

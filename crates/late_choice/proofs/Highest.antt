@@ -17,7 +17,7 @@ use Rattle.topk_theory.specs.NoRandom.{seen_items, exceeds, is_viable}
 use Rattle.topk_theory.specs.Combined.{unknown_lists, MayBeAsked, IsChoice, choice}
 use Rattle.topk_theory.proofs.AgreementLists.{slice_get_contains}
 use Rattle.topk_theory.proofs.CombinedChoice.{choice_law, one_choice}
-use Rattle.access_log.proofs.RecordKept.{placed, not_placed}
+use Rattle.access_records.proofs.RecordKept.{placed, not_placed}
 use Rattle.indexed_heap.specs.Ranks.{rank_at, IsGreatest}
 use Rattle.ranked_list.proofs.OptionLaws.{option_cases}
 use Rattle.late_choice.specs.declared.kept_high.KeptHigh.{KeptHigh}

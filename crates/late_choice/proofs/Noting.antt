@@ -17,7 +17,7 @@ use Rattle.monotone_fn.specs.Tree.{Tree}
 use Rattle.monotone_fn.specs.Value.{value, IsMonotone}
 use Rattle.monotone_fn.proofs.Laws.{value-monotone}
 use Rattle.access_log.specs.Log.{Log, IsConsistent}
-use Rattle.access_log.proofs.RecordKept.{placed}
+use Rattle.access_records.proofs.RecordKept.{placed}
 use Rattle.indexed_heap.specs.Ranks.{rank_at}
 use Rattle.nra_theory.proofs.Renewed.{high_falls}
 use Rattle.late_choice.specs.declared.kept_high.KeptHigh.{KeptHigh}

@@ -1,6 +1,6 @@
 //! The command `make`.
 
-use source_api::MemShelf;
+use mem_source::MemShelf;
 use std::alloc::Global;
 use std::sync::Wait;
 use std::test::Fail;

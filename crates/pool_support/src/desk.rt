@@ -6,8 +6,8 @@ ghost use Rattle.turn_lock.specs.Known.{all_parts};
 ghost use Rattle.pool_support.specs.Ready.{IsReady, MayAsk};
 
 use fetcher::{Turned, fetch_turn};
+use mem_source::MemSource;
 use ranked_list::{Need, Row};
-use source_api::MemSource;
 use source_pool::{Feeder, Feeders, Pool, PoolPass};
 use source_state::{Look, SourceState};
 use std::alloc::Global;

@@ -3,9 +3,9 @@
 ghost use Rattle.std.specs.Prelude.{◌≤◌};
 
 use fetcher::Turned;
+use mem_source::MemSource;
 use pool_support::{Desk, Step, first_wrong};
 use ranked_list::{Need, Row};
-use source_api::MemSource;
 use source_state::{Look, LookFault, SourceFault};
 use source_support::{Held, Kind, source_of};
 use std::alloc::Global;

@@ -7,9 +7,9 @@ ghost use Rattle.query_run_tests.specs.Running.{MayRun, AreIdle, AreTheTwo};
 
 use fetcher::{Fetched, Stop};
 use fetcher_support::fetch_side;
+use mem_source::MemSource;
 use query_core::Ready;
 use query_run::{Ended, run_query};
-use source_api::MemSource;
 use source_pool::{Feeder, Feeders, Pool, PoolPass};
 use std::alloc::Global;
 use std::sync::Wait;

@@ -5,7 +5,7 @@ ghost use Rattle.std.specs.Prelude.{◌≤◌};
 use super::made::ready_over;
 use super::sides::run_beside;
 use access_log::CoreFault;
-use source_api::MemSource;
+use mem_source::MemSource;
 use source_state::{LookFault, SourceFault};
 use source_support::{Held, Kind, source_of};
 use std::alloc::Global;

@@ -1,7 +1,7 @@
 //! Each fault in turn: the catalog's text, the input, the output.
 
+use mem_source::MemShelf;
 use run_support::{CATALOG, Held, Kind, shelf_of};
-use source_api::MemShelf;
 use std::alloc::Global;
 use std::sync::Wait;
 use std::test::Fail;

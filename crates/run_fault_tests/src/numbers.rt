@@ -1,7 +1,7 @@
 //! More lines than a run takes, and a line that is too long.
 
+use mem_source::MemShelf;
 use run_support::{CATALOG, shelf_of};
-use source_api::MemShelf;
 use std::alloc::Global;
 use std::sync::Wait;
 use std::test::Fail;

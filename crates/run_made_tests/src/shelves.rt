@@ -2,7 +2,8 @@
 
 use file_source::FileSource;
 use line_text::first_line;
-use source_api::{MemShelf, MemSource, Source};
+use mem_source::{MemShelf, MemSource};
+use source_api::Source;
 use std::alloc::Global;
 
 /// The places of the lists.

@@ -1,7 +1,7 @@
 //! One drive of `run`, and rows of drives with what they are to come to.
 
+use mem_source::MemShelf;
 use super::shelves::shelf_of;
-use source_api::MemShelf;
 use source_support::Held;
 use std::alloc::Global;
 use std::sync::Wait;

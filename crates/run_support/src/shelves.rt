@@ -1,6 +1,6 @@
 //! Shelves in memory from plain data.
 
-use source_api::MemShelf;
+use mem_source::MemShelf;
 use source_support::Held;
 use std::alloc::Global;
 use test_support::Unmade;

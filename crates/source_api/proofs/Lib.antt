@@ -1,5 +1,4 @@
 -- Lemmas on told lists, on grades by object, on what is counted, and on counts by place.
 pub mod CountLaws
 pub mod LedgerLaws
-pub mod ShelfLaws
 pub mod ToldLaws

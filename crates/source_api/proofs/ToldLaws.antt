@@ -1,30 +1,11 @@
 -- Pages and grades of told lists, and the grade of an object by its first row.
-use Rattle.std.proofs.Common.{◌≡◌, ◌≤◌, ◌<◌, ◌+◌, ◌-◌, ℕ, zero, suc, Bool, true, false, ◌==◌, cond, ◌&&◌, List, [], ◌∷◌, ◌++◌, length, take, drop, min, get_or, Option, Some, None, Err, refl, sym, ap, ◌∙◌, subst, arith, eqb-true, eq-eqb}
+use Rattle.std.proofs.Common.{◌≡◌, ◌≤◌, ◌<◌, ◌+◌, ◌-◌, ℕ, zero, suc, Bool, true, false, ◌==◌, cond, ◌&&◌, List, [], ◌∷◌, ◌++◌, length, take, drop, min, get_or, Option, Some, None, refl, sym, ap, ◌∙◌, subst, arith, eqb-true, eq-eqb}
 use Rattle.std.specs.Prelude.{IfSome}
 use Rattle.std.proofs.lemmas.Bool.{both_ways}
 use Rattle.std.proofs.lemmas.List.{length-take, length-drop, take_more}
 use Rattle.ranked_list.specs.declared.row.Row.{Row}
 use Rattle.ranked_list.specs.Table.{objects}
-use Rattle.source_api.specs.declared.source.Trouble.{Trouble}
-use Rattle.source_api.specs.declared.source.Trouble.TheVariants as trouble
-use Rattle.source_api.specs.Told.{IsPage, IsGrade, first_grade, kept_first}
-use Rattle.source_api.specs.InMemory.{each_once, told_of, is_empty, or_else, IsDue, trouble_in}
-
--- ---- how a call is to end
-
-due_in_error : (T : Type 0) (fails garbles : List ℕ) (call : ℕ) (t : Trouble) → IsDue fails garbles call (Some t)
-    → IsDue fails garbles call (trouble_in {T = T} (Err t))
-due_in_error T fails garbles call trouble.Failed h = h
-due_in_error T fails garbles call trouble.Garbled h = h
-due_in_error T fails garbles call trouble.Memory h = absurd h
-
--- what is found of a call that isn't answered is how it ends
-pub ends_as_due : (T : Type 0) (f g fails garbles : List ℕ) (n call : ℕ) (t : Trouble) → f ≡ fails → g ≡ garbles → n ≡ call
-    → IsDue f g n (Some t) → IsDue fails garbles call (trouble_in {T = T} (Err t))
-ends_as_due T f g fails garbles n call t same_fails same_garbles same_call h =
-    due_in_error T fails garbles call t
-    (subst (λ n. IsDue fails garbles n (Some t)) same_call
-    (subst (λ g. IsDue fails g n (Some t)) same_garbles (subst (λ f. IsDue f g n (Some t)) same_fails h)))
+use Rattle.source_api.specs.Told.{IsPage, IsGrade, first_grade, kept_first, each_once, told_of, is_empty, or_else}
 
 -- ---- pages
 

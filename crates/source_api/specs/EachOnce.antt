@@ -1,4 +1,4 @@
--- A list that a source in memory tells has no object twice.
+-- A list that is told has no object twice.
 use Rattle.std.proofs.Common.{◌≡◌, ℕ, Bool, true, false, cond, not, ◌&&◌, List, [], ◌∷◌, Option, Some, None, refl, sym, subst, arith}
 use Rattle.std.specs.Prelude.{nat_eq, IfSome}
 use Rattle.std.specs.Set.{is_member}
@@ -7,9 +7,7 @@ use Rattle.std.proofs.lemmas.List.Kept.{AllPairs-cons}
 use Rattle.ranked_list.specs.declared.row.Row.{Row}
 use Rattle.ranked_list.specs.Table.{objects}
 use Rattle.ranked_list.proofs.RankLaws.{has_object}
-use Rattle.source_api.specs.Told.{HasEachOnce}
-use Rattle.source_api.specs.InMemory.{each_once, told_list, told_of, is_empty}
-use Rattle.source_api.specs.Stored.{Stored}
+use Rattle.source_api.specs.Told.{HasEachOnce, each_once, told_of, is_empty}
 
 not_true : (b : Bool) → not b ≡ true → b ≡ true → ⊥
 not_true true h e = absurd (cc)
@@ -31,6 +29,3 @@ told_law None lies rows = by (is_empty lies && each_once rows) refl
     by true e = let parts = and_parts (is_empty lies) (each_once rows) e in each_once_law rows parts.1
     by false e = tt
 told_law (Some n) lies rows = tt
-
-pub told_has_each_once : (m : Stored) → IfSome (told_list m) HasEachOnce
-told_has_each_once m = told_law m.stated m.lies m.rows

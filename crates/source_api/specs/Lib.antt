@@ -2,9 +2,5 @@
 pub mod Counting
 pub mod EachOnce
 pub mod Entries
-pub mod InMemory
-pub mod OnShelf
 pub mod Places
-pub mod Shelved
-pub mod Stored
 pub mod Told

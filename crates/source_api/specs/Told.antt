@@ -1,5 +1,6 @@
 -- What a source answers whose list is told.
-use Rattle.std.specs.Prelude.{◌≡◌, ◌≢◌, ℕ, ◌<◌, ◌==◌, List, [], ◌∷◌, Option, Some, None, length, take, drop, AllPairs, Contains, if◌then◌else◌}
+use Rattle.std.specs.Prelude.{◌≡◌, ◌≢◌, ℕ, ◌<◌, ◌==◌, ◌&&◌, Bool, true, false, not, nat_eq, List, [], ◌∷◌, Option, Some, None, length, take, drop, AllPairs, Contains, if◌then◌else◌}
+use Rattle.std.specs.Set.{is_member}
 use Rattle.ranked_list.specs.declared.row.Row.{Row}
 use Rattle.ranked_list.specs.Table.{objects}
 
@@ -26,3 +27,23 @@ first_grade (row ∷ rows) object = if row.object == object then Some row.grade 
 abbrev pub kept_first : Option ℕ → Row → ℕ → Option ℕ
 kept_first None row object = if row.object == object then Some row.grade else None
 kept_first (Some grade) row object = Some grade
+
+-- the first of two grades that is there
+abbrev pub or_else : Option ℕ → Option ℕ → Option ℕ
+or_else None other = other
+or_else (Some grade) other = Some grade
+
+-- whether no object comes twice
+abbrev pub each_once : List Row → Bool
+each_once [] = true
+each_once (row ∷ rows) = not (is_member nat_eq (objects rows) row.object) && each_once rows
+
+-- whether there are no rows
+abbrev pub is_empty : List Row → Bool
+is_empty [] = true
+is_empty (row ∷ rows) = false
+
+-- its rows are told where no number is stated, nothing is a lie and no object comes twice
+abbrev pub told_of : Option ℕ → List Row → List Row → Option (List Row)
+told_of None lies rows = if is_empty lies && each_once rows then Some rows else None
+told_of (Some stated) lies rows = None

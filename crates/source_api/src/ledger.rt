@@ -9,7 +9,7 @@ use std::alloc::Global;
 use std::marker::Model;
 
 /// What a shelf counts at one place. Each count stands still at the last value of its type.
-#[derive(Clone, Copy, Debug, PartialEq, Eq)]
+#[derive(Clone, Copy, Debug)]
 pub struct PlaceCounts {
     /// Calls for the text that failed.
     pub text_faults: u64,

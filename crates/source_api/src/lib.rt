@@ -3,15 +3,13 @@
 
 mod counts;
 mod ledger;
-mod mem_shelf;
-mod mem_source;
+mod rows;
 mod shelf;
 mod source;
 
 pub use counts::Counts;
 pub use ledger::{Ledger, PlaceCounts};
-pub use mem_shelf::MemShelf;
-pub use mem_source::{MemSource, keep_first, part_of};
+pub use rows::{keep_first, part_of};
 pub use shelf::Shelf;
 pub use source::{Source, Trouble};
 use std::alloc::{AllocError, AllocFailed};

@@ -1,7 +1,7 @@
 //! Sources in memory, and shelves of them, from plain data.
 
+use mem_source::{MemShelf, MemSource};
 use ranked_list::Row;
-use source_api::{MemShelf, MemSource};
 use std::alloc::Global;
 
 /// How a source differs from an honest one. Calls are counted from 1.

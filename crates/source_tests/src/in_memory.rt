@@ -1,7 +1,8 @@
 //! Sources in memory: pages and grades, each failing and garbling call in turn, stated sizes and lies.
 
+use mem_source::MemSource;
 use ranked_list::Row;
-use source_api::{Counts, MemSource, Memory, Trouble};
+use source_api::{Counts, Memory, Trouble};
 use source_support::{Step, first_wrong};
 use std::alloc::Global;
 use std::test::Fail;

@@ -2,8 +2,9 @@
 
 ghost use Rattle.std.specs.Prelude.{◌≤◌};
 
+use mem_source::{MemShelf, MemSource};
 use ranked_list::Row;
-use source_api::{MemShelf, MemSource, Memory, Shelf, Source, Trouble};
+use source_api::{Memory, Shelf, Source, Trouble};
 use source_support::{Step, first_wrong};
 use std::alloc::Global;
 use std::test::Fail;

@@ -1,6 +1,6 @@
 //! Each fault of the streams in turn, on the first example.
 
-use source_api::MemShelf;
+use mem_source::MemShelf;
 use std::alloc::Global;
 use std::sync::Wait;
 use std::test::Fail;

@@ -1,6 +1,6 @@
 //! The words of a process.
 
-use source_api::MemShelf;
+use mem_source::MemShelf;
 use std::alloc::Global;
 use std::env::{Env, FillError};
 use std::io;

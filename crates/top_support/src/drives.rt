@@ -1,7 +1,7 @@
 //! How `top` ends.
 
 use command_words::Words;
-use source_api::MemShelf;
+use mem_source::MemShelf;
 use std::alloc::Global;
 use std::sync::Wait;
 use std::thread::Threads;

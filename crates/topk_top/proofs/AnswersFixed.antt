@@ -5,8 +5,8 @@ use Rattle.cert_text.specs.declared.outcome.Outcome.{Outcome}
 use Rattle.cert_text.specs.declared.outcome.Outcome.TheVariants.{Answered, Refused}
 use Rattle.cert_text.specs.declared.certificate.Certificate.{Certificate}
 use Rattle.cert_text.specs.Outcome.{outcome_text, certificate_of}
-use Rattle.cert_text.specs.Reading.{Spells}
-use Rattle.cert_text.proofs.CertifiedLaws.{certified_spelled}
+use Rattle.cert_reader.specs.Reading.{Spells}
+use Rattle.cert_reader.proofs.CertifiedLaws.{certified_spelled}
 use Rattle.query_text.specs.declared.query.Query.{Query}
 use Rattle.ranked_list.specs.Bundle.{Content, IsBundle}
 use Rattle.query_admission.specs.Becomes.{Becomes}

@@ -4,7 +4,7 @@ use Rattle.line_text.specs.Lines.{lines}
 use Rattle.ranked_list.specs.declared.bundle.Bundle.{Bundle}
 use Rattle.ranked_list.specs.Bundle.{content, IsBundle}
 use Rattle.cert_text.specs.declared.certificate.Certificate.{Certificate}
-use Rattle.cert_text.specs.Reading.{Spells}
+use Rattle.cert_reader.specs.Reading.{Spells}
 use Rattle.cert_judge.specs.declared.told.Told.TheVariants.{Fixes, Beaten}
 use Rattle.cert_judge.specs.Figures.{HasItsFigures}
 use Rattle.cert_judge.specs.Judging.{Tells}

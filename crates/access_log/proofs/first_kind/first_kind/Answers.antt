@@ -1,7 +1,7 @@
 use Rattle.std.proofs.Common.{◌≡◌, ◌<◌, ◌≤◌, ℕ, length, sym, ap, subst, ◌∙◌, arith}
 use Rattle.ranked_list.specs.Table.{top_grade}
 use Rattle.topk_theory.specs.Transcript.{object_of, named_objects}
-use Rattle.access_log.specs.Kept.{AreAhead}
+use Rattle.access_records.specs.Kept.{AreAhead}
 use Rattle.access_log.proofs.FirstKind.{first_list, first_above, first_many, is_early}
 use Rattle.access_log.proofs.Pushing.{sorted_kinds, random_kinds}
 use Rattle.access_log.proofs.first_kind.first_kind.Goals as goal

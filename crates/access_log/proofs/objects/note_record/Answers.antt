@@ -1,6 +1,6 @@
 use Rattle.std.proofs.Common.{◌≡◌, ℕ, arith, ◌++◌, ◌∷◌, [], length, sym, ◌∙◌, ap, subst}
 use Rattle.topk_theory.specs.Transcript.{object_of}
-use Rattle.access_log.specs.Kept.{IsRecordOf}
+use Rattle.access_records.specs.Kept.{IsRecordOf}
 use Rattle.access_log.proofs.ObjectsKept.{noted, seen_then, seen_else}
 use Rattle.access_log.proofs.objects.note_record.Goals as goal
 

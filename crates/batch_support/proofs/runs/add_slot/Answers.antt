@@ -1,6 +1,6 @@
 use Rattle.std.proofs.Common.{◌≡◌, None, All, sym, ap, subst}
 use Rattle.std.proofs.lemmas.List.Elements.{All-push}
-use Rattle.source_api.specs.Stored.{Stored}
+use Rattle.mem_source.specs.Stored.{Stored}
 use Rattle.fetcher.specs.declared.slot.Slot.{Slot}
 use Rattle.batch_support.proofs.runs.add_slot.Goals as goal
 

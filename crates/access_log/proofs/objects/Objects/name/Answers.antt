@@ -1,6 +1,6 @@
 use Rattle.std.proofs.Common.{◌++◌, ◌∷◌, [], sym, ap, refl, subst}
 use Rattle.room_map.specs.Keys.{Keys}
-use Rattle.access_log.specs.Kept.{AreRecords}
+use Rattle.access_records.specs.Kept.{AreRecords}
 use Rattle.access_log.proofs.ObjectsKept.{records_named, unnamed_record, unnamed}
 use Rattle.access_log.proofs.objects.Objects.name.Goals as goal
 

@@ -1,5 +1,5 @@
 use Rattle.access_log.proofs.ObjectsKept.{objects_wider}
-use Rattle.access_log.proofs.AheadKept.{wider_same}
+use Rattle.access_records.proofs.AheadKept.{wider_same}
 use Rattle.std.proofs.Common.{refl}
 use Rattle.access_log.proofs.objects.Objects.widen.Goals as goal
 

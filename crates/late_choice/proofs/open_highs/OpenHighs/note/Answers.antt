@@ -1,6 +1,6 @@
 use Rattle.std.proofs.Common.{◌≡◌, not, sym, ap, ◌∙◌}
 use Rattle.topk_theory.specs.Transcript.{seen_objects}
-use Rattle.access_log.proofs.RecordKept.{not_placed}
+use Rattle.access_records.proofs.RecordKept.{not_placed}
 use Rattle.late_choice.proofs.Noting.{note_known, note_new, note_same}
 use Rattle.late_choice.proofs.open_highs.OpenHighs.note.Goals as goal
 

@@ -1,0 +1,168 @@
+-- The grades that are known ahead of the lists, after one more access.
+use Rattle.std.proofs.Common.{◌≡◌, ◌≢◌, ℕ, zero, suc, ◌<◌, ◌≤◌, ◌⊎◌, inl, inr, true, false, cond, List, [], ◌∷◌, ◌++◌, length, AllPairs, Option, Some, None, slice_get, slice_index_or, slice_set, replicate, refl, sym, ap, subst, ◌∙◌, arith}
+use Rattle.std.specs.Option.{option_and_then}
+use Rattle.std.proofs.Math.Nat.{le_refl}
+use Rattle.std.proofs.lemmas.Bool.{cases_eq, cases_lt, true≢false}
+use Rattle.std.proofs.lemmas.List.{get_or-set_same, get_or-set_other, length-set, length-replicate}
+use Rattle.topk_theory.specs.declared.access.Access.{Access}
+use Rattle.topk_theory.specs.declared.access.Access.TheVariants.{Sorted, Random}
+use Rattle.topk_theory.specs.Transcript.{list_of, object_of, grade_of, is_sorted}
+use Rattle.topk_theory.specs.Bounds.{known_grade}
+use Rattle.topk_theory.specs.Consistent.{SomeAgrees}
+use Rattle.topk_theory.proofs.AgreementLists.{slice_get_in_range, slice_get_reads}
+use Rattle.topk_theory.proofs.Agreement.{known_grade_given, known_grade_other_object, known_grade_other_list}
+use Rattle.indexed_heap.specs.Ranks.{rank_at}
+use Rattle.ranked_list.proofs.OptionLaws.{option_cases}
+use Rattle.access_records.specs.Kept.{is_read, grade_ahead, heap_at, AreAhead, AreWider, HaveRoom}
+use Rattle.access_records.proofs.RecordKept.{read_after, read_random, read_other_list, read_other_object}
+
+-- the object at a place of the names
+ahead_other_object : (A : List Access) (a : Access) (object list : ℕ) → object_of a ≢ object → grade_ahead (A ++ a ∷ []) object list ≡ grade_ahead A object list
+ahead_other_object A a object list n =
+    ap (λ b. cond b None (known_grade (A ++ a ∷ []) object list)) (read_other_object A a object list n)
+    ∙ ap (λ o. cond (is_read A object list) None o) (known_grade_other_object A a object list n)
+
+ahead_other_list : (A : List Access) (a : Access) (object list : ℕ) → list_of a ≢ list → grade_ahead (A ++ a ∷ []) object list ≡ grade_ahead A object list
+ahead_other_list A a object list n =
+    ap (λ b. cond b None (known_grade (A ++ a ∷ []) object list)) (read_other_list A a object list n)
+    ∙ ap (λ o. cond (is_read A object list) None o) (known_grade_other_list A a object list n)
+
+-- two places of distinct names have two names
+pub apart : (names : List ℕ) (p q x y : ℕ) → AllPairs (λ (a : ℕ) (b : ℕ). a ≢ b) names → slice_get names p ≡ Some x → slice_get names q ≡ Some y → p ≢ q → x ≢ y
+apart names p q x y d e f n = λ same.
+    elim (cases_lt p q) [
+      | inl l ↦ d p q x l (slice_get_in_range names q y f) (slice_get_reads names p x x e ∙ same ∙ sym (slice_get_reads names q y x f))
+      | inr l ↦ d q p x (less q p l (λ z. n (sym z))) (slice_get_in_range names p x e) (slice_get_reads names q y x f ∙ sym same ∙ sym (slice_get_reads names p x x e))
+    ]
+  where
+    less : (a b : ℕ) → a ≤ b → a ≢ b → a < b
+    less a b l k = omega arith
+
+-- in the other lists, and in this one at the other places, the grades ahead stay
+other_lists : (A : List Access) (a : Access) (list : ℕ) (o : Option ℕ) → list_of a ≢ list
+    → option_and_then (λ object. grade_ahead A object list) o ≡ option_and_then (λ object. grade_ahead (A ++ a ∷ []) object list) o
+other_lists A a list None n = refl
+other_lists A a list (Some object) n = sym (ahead_other_list A a object list n)
+
+other_places : (A : List Access) (a : Access) (names : List ℕ) (place at : ℕ) → AllPairs (λ (x : ℕ) (y : ℕ). x ≢ y) names
+    → slice_get names place ≡ Some (object_of a) → place ≢ at
+    → option_and_then (λ object. grade_ahead A object (list_of a))
+    (slice_get names at) ≡ option_and_then (λ object. grade_ahead (A ++ a ∷ []) object (list_of a)) (slice_get names at)
+other_places A a names place at d e n =
+    elim (option_cases (slice_get names at)) [
+      | inl none ↦ ap (option_and_then (λ object. grade_ahead A object (list_of a))) none ∙ sym (ap (option_and_then (λ object. grade_ahead (A ++ a ∷ []) object (list_of a))) none)
+      | inr some ↦ ap (option_and_then (λ object. grade_ahead A object (list_of a))) some.1
+          ∙ sym (ahead_other_object A a some.0 (list_of a) (apart names place at (object_of a) some.0 d e some.1 n))
+          ∙ sym (ap (option_and_then (λ object. grade_ahead (A ++ a ∷ []) object (list_of a))) some.1)
+    ]
+
+in_list : (m : ℕ) (A : List Access) (a : Access) (names : List ℕ) (heap : List (Option ℕ)) (place : ℕ) (v : Option ℕ) (at : ℕ) → place < length heap
+    → AllPairs (λ (x : ℕ) (y : ℕ). x ≢ y) names → slice_get names place ≡ Some (object_of a) → v ≡ grade_ahead (A ++ a ∷ []) (object_of a) (list_of a)
+    → ((q : ℕ) → rank_at heap q ≡ option_and_then (λ object. grade_ahead A object (list_of a)) (slice_get names q))
+    → rank_at (slice_set heap place v) at ≡ option_and_then (λ object. grade_ahead (A ++ a ∷ []) object (list_of a)) (slice_get names at)
+in_list m A a names heap place v at p d e f h =
+    elim (cases_eq place at) [
+      | inl same ↦ subst (λ q. rank_at (slice_set heap place v) q ≡ option_and_then (λ object. grade_ahead (A ++ a ∷ []) object (list_of a)) (slice_get names q)) same
+          (get_or-set_same heap place v None p ∙ f ∙ sym (ap (option_and_then (λ object. grade_ahead (A ++ a ∷ []) object (list_of a))) e))
+      | inr other ↦ get_or-set_other heap place at v None (λ q. other (sym q)) ∙ h at ∙ other_places A a names place at d e other
+    ]
+
+-- no grade ahead is set where that of the access's object stays
+pub ahead_stays : (m : ℕ) (A : List Access) (a : Access) (names : List ℕ) (heaps : List (List (Option ℕ))) (place : ℕ)
+    → AllPairs (λ (x : ℕ) (y : ℕ). x ≢ y) names → slice_get names place ≡ Some (object_of a)
+    → grade_ahead A (object_of a) (list_of a) ≡ grade_ahead (A ++ a ∷ []) (object_of a) (list_of a) → AreAhead m A names heaps
+    → AreAhead m (A ++ a ∷ []) names heaps
+ahead_stays m A a names heaps place d e f h = record {
+  sized = h.sized;
+  grades = λ list at k. h.grades list at k ∙ elim (cases_eq (list_of a) list) [
+    | inl same ↦ subst (λ j. option_and_then (λ object. grade_ahead A object j) (slice_get names at) ≡ option_and_then (λ object. grade_ahead (A ++ a ∷ []) object j) (slice_get names at)) same
+        (elim (cases_eq place at) [
+          | inl here ↦ subst (λ q. option_and_then (λ object. grade_ahead A object (list_of a)) (slice_get names q) ≡ option_and_then (λ object. grade_ahead (A ++ a ∷ []) object (list_of a)) (slice_get names q)) here
+              (ap (option_and_then (λ object. grade_ahead A object (list_of a))) e ∙ f ∙ sym (ap (option_and_then (λ object. grade_ahead (A ++ a ∷ []) object (list_of a))) e))
+          | inr there ↦ other_places A a names place at d e there
+        ])
+    | inr other ↦ other_lists A a list (slice_get names at) other
+  ];
+}
+
+-- the grade ahead of the access's object after it
+pub ahead_read : (A : List Access) (a : Access) → is_sorted a ≡ true → None ≡ grade_ahead (A ++ a ∷ []) (object_of a) (list_of a)
+ahead_read A (Sorted list object grade) t = sym (ap (λ b. cond b None (known_grade (A ++ Sorted list object grade ∷ []) object list)) (read_after A list object grade))
+ahead_read A (Random list object grade) t = absurd (true≢false (sym t))
+
+pub ahead_known : (m n : ℕ) (A : List Access) (a : Access) → is_sorted a ≡ false → SomeAgrees m n (A ++ a ∷ []) → is_read A (object_of a) (list_of a) ≡ false
+    → Some (grade_of a) ≡ grade_ahead (A ++ a ∷ []) (object_of a) (list_of a)
+ahead_known m n A (Sorted list object grade) t some f = absurd (true≢false t)
+ahead_known m n A (Random list object grade) t some f =
+    sym (ap (λ b. cond b None (known_grade (A ++ Random list object grade ∷ []) object list)) (read_random A list object grade object list ∙ f)
+    ∙ known_grade_given m n some.0 A (Random list object grade) some.1)
+
+pub ahead_was_read : (A : List Access) (a : Access) → is_sorted a ≡ false → is_read A (object_of a) (list_of a) ≡ true
+    → grade_ahead A (object_of a) (list_of a) ≡ grade_ahead (A ++ a ∷ []) (object_of a) (list_of a)
+ahead_was_read A (Sorted list object grade) t r = absurd (true≢false t)
+ahead_was_read A (Random list object grade) t r =
+    ap (λ b. cond b None (known_grade A object list)) r
+    ∙ sym (ap (λ b. cond b None (known_grade (A ++ Random list object grade ∷ []) object list)) (read_random A list object grade object list ∙ r))
+
+-- one grade ahead is set, that of the access's object in its list
+pub ahead_set : (m : ℕ) (A : List Access) (a : Access) (names : List ℕ) (heaps : List (List (Option ℕ))) (place : ℕ) (v : Option ℕ) → list_of a < length heaps
+    → place < length (heap_at heaps (list_of a)) → AllPairs (λ (x : ℕ) (y : ℕ). x ≢ y) names → slice_get names place ≡ Some (object_of a)
+    → v ≡ grade_ahead (A ++ a ∷ []) (object_of a) (list_of a) → AreAhead m A names heaps
+    → AreAhead m (A ++ a ∷ []) names (slice_set heaps (list_of a) (slice_set (heap_at heaps (list_of a)) place v))
+ahead_set m A a names heaps place v l p d e f h =
+    let heap : List (Option ℕ) = heap_at heaps (list_of a) in
+    record {
+      sized = length-set heaps (list_of a) (slice_set heap place v) ∙ h.sized;
+      grades = λ list at k. elim (cases_eq (list_of a) list) [
+        | inl same ↦ subst (λ j. rank_at (heap_at (slice_set heaps (list_of a) (slice_set heap place v)) j) at ≡ option_and_then (λ object. grade_ahead (A ++ a ∷ []) object j) (slice_get names at)) same
+            (ap (λ ranks. rank_at ranks at) (get_or-set_same heaps (list_of a) (slice_set heap place v) [] l)
+            ∙ in_list m A a names heap place v at p d e f (λ q. h.grades (list_of a) q (subst (λ j. j < m) (sym same) k)))
+        | inr other ↦ ap (λ ranks. rank_at ranks at) (get_or-set_other heaps (list_of a) list (slice_set heap place v) [] (λ q. other (sym q)))
+            ∙ h.grades list at k ∙ other_lists A a list (slice_get names at) other
+      ];
+    }
+
+-- as the heaps are written
+pub at_any : {X : Type 0} → (xs : List X) (i : ℕ) (d e : X) → i < length xs → slice_index_or xs i d ≡ slice_index_or xs i e
+at_any [] i d e l = absurd (omega arith)
+at_any (x ∷ xs) zero d e l = refl
+at_any (x ∷ xs) (suc i) d e l = at_any xs i d e (omega arith)
+
+pub ahead_written : (m : ℕ) (A : List Access) (a : Access) (names : List ℕ) (heaps : List (List (Option ℕ))) (list place : ℕ) (v : Option ℕ)
+    (heap d now : List (Option ℕ)) → list ≡ list_of a → heap ≡ slice_index_or heaps list d → now ≡ slice_set heap place v → list_of a < length heaps
+    → place < length (heap_at heaps (list_of a)) → AllPairs (λ (x : ℕ) (y : ℕ). x ≢ y) names → slice_get names place ≡ Some (object_of a)
+    → v ≡ grade_ahead (A ++ a ∷ []) (object_of a) (list_of a) → AreAhead m A names heaps → AreAhead m (A ++ a ∷ []) names (slice_set heaps list now)
+ahead_written m A a names heaps list place v heap d now e f g l p q r s h =
+    let same : heap ≡ heap_at heaps (list_of a) = f ∙ ap (λ k. slice_index_or heaps k d) e ∙ at_any heaps (list_of a) d [] l in
+    subst (λ hs. AreAhead m (A ++ a ∷ []) names hs)
+    (sym (ap (λ k. slice_set heaps k now) e ∙ ap (λ z. slice_set heaps (list_of a) z) (g ∙ ap (λ z. slice_set z place v) same)))
+    (ahead_set m A a names heaps place v l p q r s h)
+
+-- wider heaps
+pub ahead_wider : (m : ℕ) (A : List Access) (names : List ℕ) (heaps wider : List (List (Option ℕ))) → AreWider heaps wider → AreAhead m A names heaps
+    → AreAhead m A names wider
+ahead_wider m A names heaps wider w h = record {
+  sized = w.sized ∙ h.sized;
+  grades = λ list place l. w.ranks list place ∙ h.grades list place l;
+}
+
+pub room_wider : (room : ℕ) (heaps wider : List (List (Option ℕ))) → AreWider heaps wider → HaveRoom room heaps → HaveRoom room wider
+room_wider room heaps wider w h = λ list l.
+    let before : room ≤ length (heap_at heaps list) = h list (subst (λ n. list < n) w.sized l) in
+    let more = w.room list in
+    omega arith
+
+pub wider_same : (heaps : List (List (Option ℕ))) → AreWider heaps heaps
+wider_same heaps = record { sized = refl; ranks = λ list place. refl; room = λ list. le_refl (length (heap_at heaps list)) }
+
+-- no grades are known ahead before any access
+pub ahead_none : (m : ℕ) (heaps : List (List (Option ℕ))) → heaps ≡ replicate m [] → AreAhead m [] [] heaps
+ahead_none m heaps e = record {
+  sized = ap (length {A = List (Option ℕ)}) e ∙ length-replicate m [];
+  grades = λ list place l. ap (λ hs. rank_at (heap_at hs list) place) e ∙ ap (λ heap. rank_at heap place) (heap_of_none m list);
+}
+  where
+    heap_of_none : (n list : ℕ) → heap_at (replicate n []) list ≡ []
+    heap_of_none zero list = refl
+    heap_of_none (suc n) zero = refl
+    heap_of_none (suc n) (suc list) = heap_of_none n list

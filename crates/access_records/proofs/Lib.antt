@@ -1,0 +1,4 @@
+pub mod AheadKept
+pub mod EndsKept
+pub mod GreatestAhead
+pub mod RecordKept

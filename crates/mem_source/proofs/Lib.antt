@@ -1,0 +1,3 @@
+-- Lemmas on how a call ends and on look-ups by place.
+pub mod DueLaws
+pub mod ShelfLaws
