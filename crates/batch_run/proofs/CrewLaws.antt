@@ -11,7 +11,7 @@ use Rattle.source_pool.specs.Passes.{Feed, hold_at}
 use Rattle.source_pass.specs.Looks.{IsWithin}
 use Rattle.source_pool.specs.Sharing.{IsOpened}
 use Rattle.query_core.specs.declared.ready.Ready.{Ready}
-use Rattle.query_world.specs.Made.{IsReadyFor}
+use Rattle.query_turns.specs.Made.{IsReadyFor}
 use Rattle.batch_run.specs.declared.settings.Settings.{Settings}
 use Rattle.batch_run.specs.declared.work.Worker.{Worker}
 use Rattle.batch_run.specs.Working.{DidOf, IsAtWork, Worked, AllWorked}

@@ -18,17 +18,17 @@ use Rattle.source_state.specs.declared.look.LookFault.TheVariants as why
 use Rattle.source_state.specs.State.{State, state_at}
 use Rattle.query_core.specs.declared.ready.Ready.{Ready}
 use Rattle.query_core.specs.Machines.{state_of}
-use Rattle.query_world.specs.declared.ended.Ended.{Ended}
-use Rattle.query_world.specs.declared.ended.Refusal.TheVariants as refusal
-use Rattle.query_world.specs.declared.inquiry.Inquiry.{Inquiry}
-use Rattle.query_world.specs.Worlds.{needed, list_needed, source_of, source_needed}
-use Rattle.query_world.specs.Causes.{IsOfList, IsCause}
-use Rattle.query_world.specs.Endings.{EndsAs}
-use Rattle.query_world.specs.Honest.{lists_of, HasTable, IsOnItsRun}
-use Rattle.query_world.specs.Kept.{IsServed}
-use Rattle.query_world.specs.Made.{IsOf}
-use Rattle.query_world.proofs.Serving.{of_some_list, source_there}
-use Rattle.query_world.proofs.Stepping.{zip_member}
+use Rattle.query_turns.specs.declared.ended.Ended.{Ended}
+use Rattle.query_turns.specs.declared.ended.Refusal.TheVariants as refusal
+use Rattle.query_turns.specs.declared.inquiry.Inquiry.{Inquiry}
+use Rattle.query_turns.specs.Inquiries.{needed, list_needed, source_of, source_needed}
+use Rattle.query_turns.specs.Causes.{IsOfList, IsCause}
+use Rattle.query_turns.specs.Endings.{EndsAs}
+use Rattle.query_turns.specs.Honest.{lists_of, HasTable, IsOnItsRun}
+use Rattle.query_turns.specs.Kept.{IsServed}
+use Rattle.query_turns.specs.Made.{IsOf}
+use Rattle.query_turns.proofs.Serving.{of_some_list, source_there}
+use Rattle.query_turns.proofs.Lists.{zip_member}
 use Rattle.batch_run.specs.Using.{is_refused_for, refuses_for, is_fail, IsFewFor}
 use Rattle.batch_run.specs.Batches.{BatchState, BatchRun, IsSpared, IsBatch}
 use Rattle.batch_run.specs.Tables.{lists_for, TellsTables, EndsOver}

@@ -22,11 +22,11 @@ use Rattle.source_pool.specs.Passes.{Feed, lock_at, hold_at, feed_at}
 use Rattle.source_pool.specs.Sharing.{first_feed}
 use Rattle.source_pool.specs.Closed.{HaveAll, IsClosed, AreClosed}
 use Rattle.query_core.specs.declared.ready.Ready.{Ready}
-use Rattle.query_world.specs.declared.ended.Ended.{Ended}
-use Rattle.query_world.specs.declared.inquiry.Inquiry.{Inquiry}
-use Rattle.query_world.specs.Kept.{IsServed}
-use Rattle.query_world.specs.Made.{IsOf}
-use Rattle.query_world.specs.Endings.{EndsAs, IsRight}
+use Rattle.query_turns.specs.declared.ended.Ended.{Ended}
+use Rattle.query_turns.specs.declared.inquiry.Inquiry.{Inquiry}
+use Rattle.query_turns.specs.Kept.{IsServed}
+use Rattle.query_turns.specs.Made.{IsOf}
+use Rattle.query_turns.specs.Endings.{EndsAs, IsRight}
 use Rattle.query_run.specs.Asking.{grades_asked}
 use Rattle.fetcher.specs.Causes.{HasGiven}
 use Rattle.fetcher.specs.Chaining.{moment, IsFetched}

@@ -8,10 +8,10 @@ use Rattle.source_log.specs.declared.entry.LogEntry.{LogEntry}
 use Rattle.source_state.specs.State.{State, IsSound, state_at}
 use Rattle.source_pass.specs.declared.hold.Hold.{Hold}
 use Rattle.source_pool.specs.Passes.{hold_at}
-use Rattle.query_world.specs.declared.inquiry.Inquiry.{Inquiry}
-use Rattle.query_world.specs.Kept.{IsServed}
-use Rattle.query_world.proofs.Causes.{IsLater}
-use Rattle.query_world.proofs.Serving.{AreLater, served_stays}
+use Rattle.query_turns.specs.declared.inquiry.Inquiry.{Inquiry}
+use Rattle.query_turns.specs.Kept.{IsServed}
+use Rattle.query_turns.proofs.Causes.{IsLater}
+use Rattle.query_turns.proofs.Serving.{AreLater, served_stays}
 use Rattle.query_run.specs.Seen.{state_seen, states_seen}
 use Rattle.query_run.proofs.SeenLaws.{state_is, seen_long}
 use Rattle.batch_run.proofs.ShutLaws.{Shut, shut_begins}

@@ -21,16 +21,16 @@ use Rattle.query_core.specs.Driving.{Continues, AnswersOver, Drives, IsFedFrom, 
 use Rattle.query_core.specs.Machines.{algorithm_of, state_of, IsMachineFor}
 use Rattle.query_core.specs.OneAnswer.{IsOverRoom}
 use Rattle.query_core.proofs.Answering.{drives_ready, finishes_end, stops_first}
-use Rattle.query_world.specs.declared.ended.Ended.{Ended}
-use Rattle.query_world.specs.declared.ended.Ended.TheVariants as ended
-use Rattle.query_world.specs.declared.ended.Refusal.TheVariants as refusal
-use Rattle.query_world.specs.declared.inquiry.Inquiry.{Inquiry}
-use Rattle.query_world.specs.Worlds.{source_needed}
-use Rattle.query_world.specs.Causes.{IsCause}
-use Rattle.query_world.specs.Endings.{EndsAs}
-use Rattle.query_world.specs.Honest.{lists_of, MayRefuse, IsOnItsRun}
-use Rattle.query_world.specs.Kept.{IsServed}
-use Rattle.query_world.specs.Made.{IsOf}
+use Rattle.query_turns.specs.declared.ended.Ended.{Ended}
+use Rattle.query_turns.specs.declared.ended.Ended.TheVariants as ended
+use Rattle.query_turns.specs.declared.ended.Refusal.TheVariants as refusal
+use Rattle.query_turns.specs.declared.inquiry.Inquiry.{Inquiry}
+use Rattle.query_turns.specs.Inquiries.{source_needed}
+use Rattle.query_turns.specs.Causes.{IsCause}
+use Rattle.query_turns.specs.Endings.{EndsAs}
+use Rattle.query_turns.specs.Honest.{lists_of, MayRefuse, IsOnItsRun}
+use Rattle.query_turns.specs.Kept.{IsServed}
+use Rattle.query_turns.specs.Made.{IsOf}
 use Rattle.batch_run.specs.Batches.{IsSpared}
 use Rattle.batch_run.specs.Tables.{EndsOver}
 

@@ -20,12 +20,12 @@ use Rattle.source_log.specs.Log.{rows_in, graded_in}
 use Rattle.source_state.specs.State.{State, opened, IsSound, state_at}
 use Rattle.source_log.proofs.LogLaws.{graded_settling}
 use Rattle.query_core.specs.Machines.{state_of}
-use Rattle.query_world.specs.declared.inquiry.Inquiry.{Inquiry}
-use Rattle.query_world.specs.Worlds.{told_to, needed, source_of}
-use Rattle.query_world.specs.Kept.{IsSourceOf, IsServed}
-use Rattle.query_world.specs.Honest.{lists_of, HasTable, IsTrueOf, IsTrueFor, IsOnItsRun}
-use Rattle.query_world.proofs.Serving.{sound_at, rows_told, known_told, source_at}
-use Rattle.query_world.proofs.Honest.{list_is, on_its_run}
+use Rattle.query_turns.specs.declared.inquiry.Inquiry.{Inquiry}
+use Rattle.query_turns.specs.Inquiries.{told_to, needed, source_of}
+use Rattle.query_turns.specs.Kept.{IsSourceOf, IsServed}
+use Rattle.query_turns.specs.Honest.{lists_of, HasTable, IsTrueOf, IsTrueFor, IsOnItsRun}
+use Rattle.query_turns.proofs.Serving.{sound_at, rows_told, known_told, source_at}
+use Rattle.query_turns.proofs.Honest.{list_is, on_its_run}
 use Rattle.query_run.specs.Asking.{access_of, AsksGradeOf}
 use Rattle.fetcher.specs.Telling.{TellsOf}
 use Rattle.batch_run.specs.Numbered.{told_at}

@@ -17,8 +17,8 @@ use Rattle.source_state.specs.State.{State}
 use Rattle.source_state.specs.Events as events
 use Rattle.source_state.proofs.AskLaws.{pending_parts}
 use Rattle.source_log.proofs.Lists.{none_not_some}
-use Rattle.query_world.specs.Honest.{IsGradeOf, IsTrueOf}
-use Rattle.query_world.proofs.TrueLists.{IsHonestEvent, true_after}
+use Rattle.query_turns.specs.Honest.{IsGradeOf, IsTrueOf}
+use Rattle.query_turns.proofs.TrueLists.{IsHonestEvent, true_after}
 use Rattle.fetcher.specs.declared.turned.Turned.{Turned}
 use Rattle.fetcher.specs.declared.turned.Turned.TheVariants as turned
 use Rattle.fetcher.specs.Turning.{IsFed, IsOfSource, Brings}

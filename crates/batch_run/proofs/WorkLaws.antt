@@ -16,10 +16,10 @@ use Rattle.source_pass.specs.declared.hold.Hold.{Hold}
 use Rattle.source_pool.specs.Passes.{hold_at}
 use Rattle.source_pass.specs.Looks.{shown_fault}
 use Rattle.query_core.specs.declared.ready.Ready.{Ready}
-use Rattle.query_world.specs.declared.ended.Refusal.{Refusal}
-use Rattle.query_world.specs.declared.ended.Refusal.TheVariants.{Core, Look}
-use Rattle.query_world.specs.declared.inquiry.Inquiry.{Inquiry}
-use Rattle.query_world.specs.Worlds.{source_of}
+use Rattle.query_turns.specs.declared.ended.Refusal.{Refusal}
+use Rattle.query_turns.specs.declared.ended.Refusal.TheVariants.{Core, Look}
+use Rattle.query_turns.specs.declared.inquiry.Inquiry.{Inquiry}
+use Rattle.query_turns.specs.Inquiries.{source_of}
 use Rattle.query_run.specs.Advancing.{HasSourcesIn, IsSourceIn, KnowsMore, Advances}
 use Rattle.query_run.specs.Asking.{Wanted, grades_asked}
 use Rattle.query_run.specs.Ran.{shown_to}

@@ -9,7 +9,7 @@ use Rattle.source_pool.specs.Passes.{Feed, lock_at, hold_at, feed_at, IsPassOf, 
 use Rattle.source_pass.specs.Sharing.{new_hold}
 use Rattle.source_pool.specs.Sharing.{first_hold, first_feed}
 use Rattle.query_core.specs.declared.ready.Ready.{Ready}
-use Rattle.query_world.specs.declared.ended.Ended.{Ended}
+use Rattle.query_turns.specs.declared.ended.Ended.{Ended}
 use Rattle.source_api.specs.Counting.{NoneFell}
 use Rattle.fetcher.specs.declared.turned.Fetched.{Fetched}
 use Rattle.fetcher.specs.Turning.{Feeds}

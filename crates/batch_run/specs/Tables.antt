@@ -9,8 +9,8 @@ use Rattle.source_api.specs.declared.counts.Counts.{Counts}
 use Rattle.query_core.specs.declared.ready.Ready.{Ready}
 use Rattle.query_core.specs.Driving.{AnswersOver}
 use Rattle.query_core.specs.OneAnswer.{IsOverRoom}
-use Rattle.query_world.specs.declared.ended.Ended.{Ended}
-use Rattle.query_world.specs.declared.ended.Ended.TheVariants as ended
+use Rattle.query_turns.specs.declared.ended.Ended.{Ended}
+use Rattle.query_turns.specs.declared.ended.Ended.TheVariants as ended
 use Rattle.batch_run.specs.Numbered.{counts_at}
 use Rattle.batch_run.specs.Batches.{BatchRun}
 

@@ -9,10 +9,10 @@ use Rattle.source_state.specs.declared.look.LookFault.TheVariants as why
 use Rattle.source_log.specs.Log.{settled_in}
 use Rattle.source_state.specs.State.{State}
 use Rattle.source_state.specs.Looking.{reach_of}
-use Rattle.query_world.specs.declared.ended.Refusal.{Refusal}
-use Rattle.query_world.specs.declared.ended.Refusal.TheVariants.{Core, Look}
-use Rattle.query_world.specs.declared.inquiry.Inquiry.{Inquiry}
-use Rattle.query_world.specs.Worlds.{source_of}
+use Rattle.query_turns.specs.declared.ended.Refusal.{Refusal}
+use Rattle.query_turns.specs.declared.ended.Refusal.TheVariants.{Core, Look}
+use Rattle.query_turns.specs.declared.inquiry.Inquiry.{Inquiry}
+use Rattle.query_turns.specs.Inquiries.{source_of}
 use Rattle.query_run.specs.Asking.{IsAskedFor, AsksGradeOf, grades_asked}
 use Rattle.fetcher.specs.Causes.{HasGiven}
 use Rattle.fetcher.specs.Metering.{WentUp, RoseBy}

@@ -9,11 +9,11 @@ use Rattle.source_pool.specs.Passes.{hold_at, IsPassOf}
 use Rattle.source_pass.specs.Looks.{IsWithin}
 use Rattle.query_core.specs.declared.ready.Ready.{Ready}
 use Rattle.query_core.specs.Ready.{IsReady}
-use Rattle.query_world.specs.declared.ended.Ended.{Ended}
-use Rattle.query_world.specs.declared.inquiry.Inquiry.{Inquiry}
-use Rattle.query_world.specs.Kept.{IsServed}
-use Rattle.query_world.specs.Made.{IsOf}
-use Rattle.query_world.specs.Endings.{EndsAs, IsRight}
+use Rattle.query_turns.specs.declared.ended.Ended.{Ended}
+use Rattle.query_turns.specs.declared.inquiry.Inquiry.{Inquiry}
+use Rattle.query_turns.specs.Kept.{IsServed}
+use Rattle.query_turns.specs.Made.{IsOf}
+use Rattle.query_turns.specs.Endings.{EndsAs, IsRight}
 use Rattle.query_run.specs.Seen.{states_seen}
 use Rattle.query_run.specs.Advancing.{WaitsForNothing, HasSourcesIn, KnowsMore}
 use Rattle.query_run.specs.Ran.{Ran}

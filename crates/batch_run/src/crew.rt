@@ -3,7 +3,7 @@
 ghost use Rattle.std.specs.Prelude.{◌≡◌, ◌≤◌, ◌<◌, ℕ, List, None, All, length};
 ghost use Rattle.std.specs.List.{list_any};
 ghost use Rattle.batch_run.specs.Ranges.{AreSettings};
-ghost use Rattle.query_world.specs.Made.{IsReadyFor};
+ghost use Rattle.query_turns.specs.Made.{IsReadyFor};
 ghost use Rattle.batch_run.specs.Slots.{states_of};
 ghost use Rattle.batch_run.specs.Crews.{IsNewCrew, HasRun};
 

@@ -4,7 +4,7 @@ ghost use Rattle.std.specs.Prelude.{◌≡◌, ◌≤◌, ◌<◌, [], ◌∷◌
 ghost use Rattle.source_pool.specs.Passes.{IsPassOf};
 ghost use Rattle.source_state.specs.State.{state_at};
 ghost use Rattle.query_core.specs.declared.ready.Ready.{Ready};
-ghost use Rattle.query_world.specs.declared.ended.Ended.{Ended as EndedOf};
+ghost use Rattle.query_turns.specs.declared.ended.Ended.{Ended as EndedOf};
 ghost use Rattle.batch_run.specs.declared.settings.Settings.{Settings};
 ghost use Rattle.batch_run.specs.Slots.{SlotState, states_of, slot_at};
 ghost use Rattle.batch_run.specs.Batches.{IsBatch, use_at};

@@ -3,7 +3,7 @@
 ghost use Rattle.std.specs.Prelude.{◌≡◌, Some, List, All, map};
 ghost use Rattle.std.specs.List.{AllZip};
 ghost use Rattle.ranked_list.specs.declared.row.Row.{Row};
-ghost use Rattle.query_world.specs.Honest.{HasTable, IsOnItsRun};
+ghost use Rattle.query_turns.specs.Honest.{HasTable, IsOnItsRun};
 ghost use Rattle.batch_run.specs.Batches.{BatchState, BatchRun, IsBatch};
 ghost use Rattle.batch_run.specs.Tables.{TellsTables, EndsOver, lists_for};
 

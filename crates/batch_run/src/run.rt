@@ -3,8 +3,8 @@
 ghost use Rattle.std.specs.Prelude.{◌≡◌, ◌≤◌, ◌<◌, ◌^◌, None, All, map, length, IfOk};
 ghost use Rattle.std.specs.List.{AllZip};
 ghost use Rattle.source_api.specs.Counting.{NoneFell};
-ghost use Rattle.query_world.specs.Made.{IsReadyFor};
-ghost use Rattle.query_world.specs.Endings.{IsRight};
+ghost use Rattle.query_turns.specs.Made.{IsReadyFor};
+ghost use Rattle.query_turns.specs.Endings.{IsRight};
 ghost use Rattle.batch_run.specs.Ranges.{AreSettings};
 ghost use Rattle.batch_run.specs.Batches.{run_of, IsBatch};
 

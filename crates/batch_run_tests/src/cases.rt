@@ -2,12 +2,12 @@
 
 use batch_run::{Batch, Settings};
 use batch_support::{are_ended_so, run_of, slots_of};
+use query_support::{Asked, Expected};
 use source_support::{Held, Kind};
 use std::alloc::Global;
 use std::sync::Wait;
 use std::test::Fail;
 use std::thread::Threads;
-use world_support::{Asked, Expected};
 
 /// What is used of a source: the rows and the grades that it gave, the greatest depth that was wanted, and how many objects were asked for.
 pub type Used = (u32, u32, u32, u32);

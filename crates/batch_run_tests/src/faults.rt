@@ -3,10 +3,10 @@
 use super::cases::{A, B, Case, PLAIN, first_wrong};
 use access_log::CoreFault;
 use batch_run::Settings;
+use query_support::{Asked, Expected, FIRST, FIRST_ENDS, Figures};
 use source_state::{LookFault, SourceFault};
 use source_support::{Held, Kind};
 use std::test::*;
-use world_support::{Asked, Expected, FIRST, FIRST_ENDS, Figures};
 
 /// The second row's grade rises.
 const RISING: Held = Held {

@@ -1,10 +1,10 @@
 //! Batches over sources that give other grades than their rows have, or no grade.
 
 use super::cases::{A, B, Case, PLAIN, first_wrong};
+use query_support::{Expected, FIRST};
 use source_state::{LookFault, SourceFault};
 use source_support::{Held, Kind};
 use std::test::*;
-use world_support::{Expected, FIRST};
 
 /// Two lists that have one object each that the other one lacks.
 const ONE: Held = Held {

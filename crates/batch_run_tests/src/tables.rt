@@ -3,8 +3,8 @@
 use super::cases::{A, B, Case, PLAIN, Used, first_wrong};
 use access_log::CoreFault;
 use batch_run::Settings;
+use query_support::{Asked, Expected, FIRST, FIRST_ENDS, Figures, SORTED, SORTED_ENDS};
 use std::test::*;
-use world_support::{Asked, Expected, FIRST, FIRST_ENDS, Figures, SORTED, SORTED_ENDS};
 
 /// Two rows of each list, the grades of both other objects of the first, and of one of the second.
 const FIRST_USES: &[Used] = &[(2, 2, 2, 2), (2, 1, 2, 1)];

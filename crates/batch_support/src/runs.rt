@@ -6,13 +6,13 @@ ghost use Rattle.batch_run.specs.Ranges.{AreSettings};
 use batch_run::{Batch, Memory, Settings, run_all};
 use fetcher::Slot;
 use mem_source::MemSource;
+use query_support::{Asked, Expected, are_small, is_ended_so, readies_of};
 use source_api::Source;
 use source_support::{Held, source_of};
 use std::alloc::Global;
 use std::sync::Wait;
 use std::test::Fail;
 use std::thread::Threads;
-use world_support::{Asked, Expected, are_small, is_ended_so, readies_of};
 
 /// Adds a slot of a source.
 fn add_slot(slots: &mut Vec<Slot<MemSource>>, source: MemSource) -> Result<(), Fail>

@@ -3,9 +3,9 @@
 use super::gated::{Call, Gate};
 use super::runs::{A, B, Case, GATE, end_so, goes_so, no_calls, slots_of};
 use batch_run::Settings;
+use query_support::{Expected, FIRST, FIRST_ENDS, Figures};
 use source_support::Held;
 use std::test::*;
-use world_support::{Expected, FIRST, FIRST_ENDS, Figures};
 
 /// The query needs a grade of the second list before a second row of the first one, and the call for it waits until the first list is
 /// read to its end.

@@ -3,9 +3,9 @@
 use super::gated::Gate;
 use super::runs::{A, B, Case, GATE, goes_so};
 use batch_run::Settings;
+use query_support::{Expected, Figures};
 use source_support::Held;
 use std::test::*;
-use world_support::{Expected, Figures};
 
 /// A row a page, nothing read ahead.
 const TWO_WORKERS: Settings = Settings {

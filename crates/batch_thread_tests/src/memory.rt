@@ -7,12 +7,12 @@ use super::runs::{A, B, Case, GATE, end_so, no_calls, slots_of};
 use batch_run::{Memory, Settings};
 use batch_support::run_of;
 use fetcher::Slot;
+use query_support::{FIRST, FIRST_ENDS};
 use source_api::Trouble;
 use std::alloc::Global;
 use std::sync::Wait;
 use std::test::*;
 use std::thread::Threads;
-use world_support::{FIRST, FIRST_ENDS};
 
 /// The first call for a page wants memory, at once.
 const SHORT: Case = Case {

@@ -6,6 +6,7 @@ use super::gated::{Call, Gate, Gated};
 use batch_run::Settings;
 use batch_support::{are_ended_so, run_of};
 use fetcher::Slot;
+use query_support::{Asked, Expected};
 use source_api::Trouble;
 use source_support::{Held, Kind, source_of};
 use std::alloc::Global;
@@ -13,7 +14,6 @@ use std::sync::Wait;
 use std::sync::atomic::AtomicU64;
 use std::test::Fail;
 use std::thread::Threads;
-use world_support::{Asked, Expected};
 
 /// A source, and its call that waits.
 pub type Waiter = (Held, Option<Gate>);

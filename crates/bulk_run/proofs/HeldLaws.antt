@@ -11,7 +11,7 @@ use Rattle.ranked_list.specs.Table.{objects}
 use Rattle.ranked_list.proofs.Members.{contains_from_member}
 use Rattle.topk_theory.proofs.AgreementLists.{contains_nil, contains_map, contains_map_from}
 use Rattle.source_api.specs.Told.{HasEachOnce, IsGrade, each_once, told_of}
-use Rattle.query_world.proofs.Making.{take_whole}
+use Rattle.query_turns.proofs.Lists.{take_whole}
 use Rattle.fetcher.specs.declared.slot.Slot.{Slot}
 use Rattle.bulk_run.specs.Held.{Held, AreGradesOf, AreSmall, fresh, fresh_slot, new_slot, grade_at}
 

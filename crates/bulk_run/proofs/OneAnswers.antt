@@ -8,8 +8,8 @@ use Rattle.access_log.specs.declared.core_fault.CoreFault.TheVariants.{Strangers
 use Rattle.query_text.specs.declared.query.Query.{Query}
 use Rattle.query_core.specs.declared.ready.Ready.{Ready}
 use Rattle.query_core.specs.OneAnswer.{IsOneAnswer}
-use Rattle.query_world.specs.declared.ended.Ended.{Ended}
-use Rattle.query_world.specs.declared.ended.Ended.TheVariants.{Answered, Core, Look}
+use Rattle.query_turns.specs.declared.ended.Ended.{Ended}
+use Rattle.query_turns.specs.declared.ended.Ended.TheVariants.{Answered, Core, Look}
 use Rattle.fetcher.specs.declared.slot.Slot.{Slot}
 use Rattle.batch_run.specs.declared.settings.Settings.{Settings}
 use Rattle.batch_run.specs.Numbered.{counts_at}

@@ -20,8 +20,8 @@ use Rattle.table_text.specs.Numbered.{list_name}
 use Rattle.query_text.specs.declared.query.Query.{Query}
 use Rattle.query_text.specs.Query.{IsLawful}
 use Rattle.query_core.specs.declared.ready.Ready.{Ready}
-use Rattle.query_world.specs.Made.{IsReadyFor}
-use Rattle.query_world.proofs.Stepping.{zip_member}
+use Rattle.query_turns.specs.Made.{IsReadyFor}
+use Rattle.query_turns.proofs.Lists.{zip_member}
 use Rattle.fetcher.specs.declared.slot.Slot.{Slot}
 use Rattle.batch_run.specs.Tables.{lists_for}
 use Rattle.bulk_run.specs.declared.input.BulkInput.{BulkInput}

@@ -22,15 +22,15 @@ use Rattle.query_admission.specs.Causes.{most_queries, Cause, admission_causes}
 use Rattle.query_admission.specs.Admission.{IsAdmitted}
 use Rattle.query_admission.specs.Becomes.{Becomes}
 use Rattle.query_admission.proofs.Becoming.{answered_line, full_line, refused_line}
-use Rattle.query_world.specs.declared.ended.Ended.{Ended}
-use Rattle.query_world.specs.declared.ended.Ended.TheVariants as ended
-use Rattle.query_world.specs.declared.ended.Refusal.TheVariants as refusal
-use Rattle.query_world.specs.declared.inquiry.Inquiry.{Inquiry}
-use Rattle.query_world.specs.Worlds.{source_needed, source_of}
-use Rattle.query_world.specs.Endings.{EndsAs}
-use Rattle.query_world.specs.Honest.{lists_of, IsOnItsRun}
-use Rattle.query_world.specs.Kept.{IsServed}
-use Rattle.query_world.specs.Made.{IsOf}
+use Rattle.query_turns.specs.declared.ended.Ended.{Ended}
+use Rattle.query_turns.specs.declared.ended.Ended.TheVariants as ended
+use Rattle.query_turns.specs.declared.ended.Refusal.TheVariants as refusal
+use Rattle.query_turns.specs.declared.inquiry.Inquiry.{Inquiry}
+use Rattle.query_turns.specs.Inquiries.{source_needed, source_of}
+use Rattle.query_turns.specs.Endings.{EndsAs}
+use Rattle.query_turns.specs.Honest.{lists_of, IsOnItsRun}
+use Rattle.query_turns.specs.Kept.{IsServed}
+use Rattle.query_turns.specs.Made.{IsOf}
 use Rattle.batch_run.specs.Batches.{IsSpared}
 use Rattle.batch_run.specs.Tables.{EndsOver}
 use Rattle.batch_run.specs.Using.{is_fail}

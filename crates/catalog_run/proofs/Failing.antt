@@ -17,12 +17,12 @@ use Rattle.source_log.specs.declared.entry.FailKind.{FailKind}
 use Rattle.source_state.specs.declared.look.LookFault.{LookFault}
 use Rattle.source_state.specs.State.{State, state_at}
 use Rattle.query_core.specs.Machines.{state_of}
-use Rattle.query_world.specs.declared.ended.Refusal.TheVariants as refusal
-use Rattle.query_world.specs.declared.inquiry.Inquiry.{Inquiry}
-use Rattle.query_world.specs.Worlds.{needed, list_needed, source_needed, source_of}
-use Rattle.query_world.specs.Causes.{IsCause, IsOfList}
-use Rattle.query_world.specs.Kept.{IsServed}
-use Rattle.query_world.proofs.Serving.{listed, of_some_list}
+use Rattle.query_turns.specs.declared.ended.Refusal.TheVariants as refusal
+use Rattle.query_turns.specs.declared.inquiry.Inquiry.{Inquiry}
+use Rattle.query_turns.specs.Inquiries.{needed, list_needed, source_needed, source_of}
+use Rattle.query_turns.specs.Causes.{IsCause, IsOfList}
+use Rattle.query_turns.specs.Kept.{IsServed}
+use Rattle.query_turns.proofs.Serving.{listed, of_some_list}
 use Rattle.batch_run.specs.Numbered.{counts_at}
 use Rattle.batch_run.specs.Using.{IsFewFor, is_fail, is_refused_for}
 use Rattle.batch_run.proofs.EndingLaws.{counted_for, no_calls}

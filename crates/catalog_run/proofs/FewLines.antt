@@ -26,14 +26,14 @@ use Rattle.query_core.specs.declared.ready.Ready.{Ready as ReadyQuery}
 use Rattle.query_admission.specs.View.{View}
 use Rattle.query_admission.specs.Causes.{QueryLine, Cause, Gives}
 use Rattle.query_admission.specs.Admission.{IsAdmitted}
-use Rattle.query_world.specs.declared.ended.Ended.{Ended}
-use Rattle.query_world.specs.declared.ended.Ended.TheVariants as ended
-use Rattle.query_world.specs.declared.ended.Refusal.{Refusal as QueryRefusal}
-use Rattle.query_world.specs.declared.ended.Refusal.TheVariants as refusal
-use Rattle.query_world.specs.declared.inquiry.Inquiry.{Inquiry}
-use Rattle.query_world.specs.Worlds.{source_of, source_needed}
-use Rattle.query_world.specs.Endings.{EndsAs}
-use Rattle.query_world.specs.Made.{IsOf}
+use Rattle.query_turns.specs.declared.ended.Ended.{Ended}
+use Rattle.query_turns.specs.declared.ended.Ended.TheVariants as ended
+use Rattle.query_turns.specs.declared.ended.Refusal.{Refusal as QueryRefusal}
+use Rattle.query_turns.specs.declared.ended.Refusal.TheVariants as refusal
+use Rattle.query_turns.specs.declared.inquiry.Inquiry.{Inquiry}
+use Rattle.query_turns.specs.Inquiries.{source_of, source_needed}
+use Rattle.query_turns.specs.Endings.{EndsAs}
+use Rattle.query_turns.specs.Made.{IsOf}
 use Rattle.batch_run.specs.Numbered.{counts_at}
 use Rattle.batch_run.specs.Using.{IsFewFor, is_fail, is_refused_for}
 use Rattle.batch_run.proofs.EndingLaws.{counted_for}

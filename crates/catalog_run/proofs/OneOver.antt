@@ -24,14 +24,14 @@ use Rattle.query_admission.specs.Admission.{IsAdmitted}
 use Rattle.query_admission.specs.declared.lists.Listed.{Listed}
 use Rattle.query_admission.proofs.Positions.{nothing}
 use Rattle.query_admission.proofs.ReadyLists.{admitted_states}
-use Rattle.query_world.specs.declared.ended.Ended.{Ended}
-use Rattle.query_world.specs.declared.ended.Ended.TheVariants as ended
-use Rattle.query_world.specs.declared.inquiry.Inquiry.{Inquiry}
-use Rattle.query_world.specs.Worlds.{source_of}
-use Rattle.query_world.specs.Endings.{EndsAs, IsRight}
-use Rattle.query_world.specs.Honest.{HasTable as HasQueryTable, lists_of}
-use Rattle.query_world.specs.Kept.{IsServed, IsSourceOf}
-use Rattle.query_world.specs.Made.{IsOf}
+use Rattle.query_turns.specs.declared.ended.Ended.{Ended}
+use Rattle.query_turns.specs.declared.ended.Ended.TheVariants as ended
+use Rattle.query_turns.specs.declared.inquiry.Inquiry.{Inquiry}
+use Rattle.query_turns.specs.Inquiries.{source_of}
+use Rattle.query_turns.specs.Endings.{EndsAs, IsRight}
+use Rattle.query_turns.specs.Honest.{HasTable as HasQueryTable, lists_of}
+use Rattle.query_turns.specs.Kept.{IsServed, IsSourceOf}
+use Rattle.query_turns.specs.Made.{IsOf}
 use Rattle.fetcher.specs.Telling.{TellsOf}
 use Rattle.batch_run.proofs.TableLaws.{states_sound, told_agrees}
 use Rattle.catalog_open.specs.declared.opened.Opening.{Opening}

@@ -8,10 +8,10 @@ use Rattle.query_core.specs.declared.ready.Ready.{Ready as ReadyQuery}
 use Rattle.query_admission.specs.View.{View}
 use Rattle.query_admission.specs.Causes.{admission_causes}
 use Rattle.query_admission.specs.Admission.{RefusesLine}
-use Rattle.query_world.specs.declared.ended.Ended.{Ended}
-use Rattle.query_world.specs.declared.inquiry.Inquiry.{Inquiry}
-use Rattle.query_world.specs.Made.{IsOf}
-use Rattle.query_world.specs.Endings.{EndsAs, IsRight}
+use Rattle.query_turns.specs.declared.ended.Ended.{Ended}
+use Rattle.query_turns.specs.declared.inquiry.Inquiry.{Inquiry}
+use Rattle.query_turns.specs.Made.{IsOf}
+use Rattle.query_turns.specs.Endings.{EndsAs, IsRight}
 use Rattle.catalog_open.specs.declared.admissions.Stage.{Stage}
 use Rattle.catalog_open.specs.declared.admissions.Stage.TheVariants.{Refused, Ready}
 use Rattle.catalog_open.specs.Admissions.{AreAdmitted}

@@ -10,10 +10,10 @@ use Rattle.cert_text.specs.declared.refusal.Refusal.{Refusal}
 use Rattle.query_core.specs.declared.ready.Ready.{Ready as ReadyQuery}
 use Rattle.query_core.specs.OneAnswer.{IsAnswered}
 use Rattle.query_admission.specs.View.{View}
-use Rattle.query_world.specs.declared.ended.Ended.{Ended}
-use Rattle.query_world.specs.declared.ended.Ended.TheVariants as ended
-use Rattle.query_world.specs.declared.inquiry.Inquiry.{Inquiry}
-use Rattle.query_world.specs.Endings.{IsRight}
+use Rattle.query_turns.specs.declared.ended.Ended.{Ended}
+use Rattle.query_turns.specs.declared.ended.Ended.TheVariants as ended
+use Rattle.query_turns.specs.declared.inquiry.Inquiry.{Inquiry}
+use Rattle.query_turns.specs.Endings.{IsRight}
 use Rattle.catalog_run.specs.declared.outcome.LineOutcome.{LineOutcome}
 use Rattle.catalog_run.specs.Answers.{IsRightLine}
 use Rattle.catalog_run.specs.Outcomes.{ended_outcome, look_refusal}

@@ -14,10 +14,10 @@ use Rattle.query_admission.specs.View.{count_of}
 use Rattle.query_admission.specs.Causes.{most_queries, admission_causes}
 use Rattle.query_admission.specs.Admission.{IsAdmitted}
 use Rattle.query_admission.specs.declared.lists.Listed.{Listed}
-use Rattle.query_world.specs.declared.inquiry.Inquiry.{Inquiry}
-use Rattle.query_world.specs.Made.{IsOf}
-use Rattle.query_world.specs.Honest.{HasTable as HasQueryTable, IsOnItsRun}
-use Rattle.query_world.proofs.Stepping.{zip_member}
+use Rattle.query_turns.specs.declared.inquiry.Inquiry.{Inquiry}
+use Rattle.query_turns.specs.Made.{IsOf}
+use Rattle.query_turns.specs.Honest.{HasTable as HasQueryTable, IsOnItsRun}
+use Rattle.query_turns.proofs.Lists.{zip_member}
 use Rattle.batch_run.specs.Batches.{BatchState, IsBatch, BatchRun}
 use Rattle.catalog_text.specs.Catalog.{Listed as Entry}
 use Rattle.catalog_open.specs.declared.opened.Opening.{Opening}

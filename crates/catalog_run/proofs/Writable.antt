@@ -18,16 +18,16 @@ use Rattle.access_log.specs.declared.core_fault.CoreFault.TheVariants as core
 use Rattle.query_admission.specs.View.{View}
 use Rattle.query_admission.specs.Causes.{admission_causes}
 use Rattle.query_admission.proofs.Becoming.{answered_writable, refused_writable}
-use Rattle.query_world.specs.declared.ended.Ended.{Ended}
-use Rattle.query_world.specs.declared.ended.Ended.TheVariants as ended
-use Rattle.query_world.specs.declared.ended.Refusal.TheVariants as refusal
-use Rattle.query_world.specs.declared.inquiry.Inquiry.{Inquiry}
-use Rattle.query_world.specs.Causes.{IsCause, IsOfList}
-use Rattle.query_world.specs.Endings.{EndsAs, IsRight}
-use Rattle.query_world.specs.Kept.{IsServed}
-use Rattle.query_world.specs.Made.{IsOf}
-use Rattle.query_world.specs.Worlds.{needed, source_needed, list_needed}
-use Rattle.query_world.proofs.Serving.{listed, of_some_list}
+use Rattle.query_turns.specs.declared.ended.Ended.{Ended}
+use Rattle.query_turns.specs.declared.ended.Ended.TheVariants as ended
+use Rattle.query_turns.specs.declared.ended.Refusal.TheVariants as refusal
+use Rattle.query_turns.specs.declared.inquiry.Inquiry.{Inquiry}
+use Rattle.query_turns.specs.Causes.{IsCause, IsOfList}
+use Rattle.query_turns.specs.Endings.{EndsAs, IsRight}
+use Rattle.query_turns.specs.Kept.{IsServed}
+use Rattle.query_turns.specs.Made.{IsOf}
+use Rattle.query_turns.specs.Inquiries.{needed, source_needed, list_needed}
+use Rattle.query_turns.proofs.Serving.{listed, of_some_list}
 use Rattle.query_core.specs.Machines.{state_of}
 use Rattle.ranked_list.specs.declared.need.Need.{Need}
 use Rattle.ranked_list.specs.declared.need.Need.TheVariants as need

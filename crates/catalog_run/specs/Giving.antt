@@ -5,7 +5,7 @@ use Rattle.source_api.specs.declared.counts.Counts.{Counts}
 use Rattle.source_api.specs.declared.ledger.PlaceCounts.{PlaceCounts}
 use Rattle.source_state.specs.Looking.{reach_of}
 use Rattle.fetcher.specs.Metering.{WentUp}
-use Rattle.query_world.specs.declared.inquiry.Inquiry.{Inquiry}
+use Rattle.query_turns.specs.declared.inquiry.Inquiry.{Inquiry}
 use Rattle.batch_run.specs.declared.settings.Settings.{Settings}
 use Rattle.batch_run.specs.Using.{IsWantedBy, IsNamedBy}
 

@@ -10,8 +10,8 @@ use Rattle.source_log.specs.declared.entry.SourceFault.{SourceFault}
 use Rattle.source_log.specs.declared.entry.SourceFault.TheVariants as fault
 use Rattle.source_state.specs.declared.look.LookFault.{LookFault}
 use Rattle.source_state.specs.declared.look.LookFault.TheVariants as look
-use Rattle.query_world.specs.declared.ended.Ended.{Ended}
-use Rattle.query_world.specs.declared.ended.Ended.TheVariants as ended
+use Rattle.query_turns.specs.declared.ended.Ended.{Ended}
+use Rattle.query_turns.specs.declared.ended.Ended.TheVariants as ended
 
 -- the refusal of a query that has no room for an object
 abbrev pub core_refusal : CoreFault → Refusal

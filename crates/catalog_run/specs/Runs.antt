@@ -11,10 +11,10 @@ use Rattle.query_core.specs.declared.ready.Ready.{Ready}
 use Rattle.query_admission.specs.View.{View}
 use Rattle.query_admission.specs.Causes.{admission_causes}
 use Rattle.query_admission.specs.Admission.{RefusesLine, IsAdmitted}
-use Rattle.query_world.specs.declared.ended.Ended.{Ended}
-use Rattle.query_world.specs.declared.inquiry.Inquiry.{Inquiry}
-use Rattle.query_world.specs.Made.{IsOf, IsReadyFor}
-use Rattle.query_world.specs.Endings.{EndsAs, IsRight}
+use Rattle.query_turns.specs.declared.ended.Ended.{Ended}
+use Rattle.query_turns.specs.declared.inquiry.Inquiry.{Inquiry}
+use Rattle.query_turns.specs.Made.{IsOf, IsReadyFor}
+use Rattle.query_turns.specs.Endings.{EndsAs, IsRight}
 use Rattle.batch_run.specs.declared.settings.Settings.{Settings}
 use Rattle.batch_run.specs.Batches.{BatchState, IsBatch, BatchRun}
 use Rattle.catalog_text.specs.Catalog.{Listed as Entry}

@@ -1,7 +1,7 @@
 //! Laws of runs of query lines.
 
 ghost use Rattle.std.specs.Prelude.{◌<◌, ℕ, List, All, length};
-ghost use Rattle.query_world.specs.Causes.{HasCause};
+ghost use Rattle.query_turns.specs.Causes.{HasCause};
 ghost use Rattle.batch_run.specs.Batches.{size_at};
 ghost use Rattle.batch_run.specs.Numbered.{counts_at};
 ghost use Rattle.catalog_open.specs.Openings.{put_back, used_at};

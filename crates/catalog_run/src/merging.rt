@@ -10,7 +10,7 @@ use super::outcome::{LineOutcome, ended_outcome};
 use catalog_open::{Admissions, Stage};
 use cert_text::Outcome;
 use query_core::Ready;
-use query_world::Ended;
+use query_turns::Ended;
 use std::alloc::Global;
 
 /// The outcomes of lines in their order: what refused a line before it ran, and how the queries ended that were ready, in theirs.

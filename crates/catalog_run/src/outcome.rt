@@ -6,7 +6,7 @@ ghost use Rattle.catalog_run.specs.Outcomes.{core_refusal, source_refusal, look_
 use access_log::CoreFault;
 use cert_text::{Outcome, Refusal};
 use query_text::Query;
-use query_world::Ended;
+use query_turns::Ended;
 use source_state::{LookFault, SourceFault};
 
 /// What became of a query line: its query, where the line spells one and that was read; how many objects its lists have, 0 where it

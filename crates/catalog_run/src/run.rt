@@ -4,7 +4,7 @@ ghost use Rattle.std.specs.Prelude.{◌≡◌, ◌≤◌, ◌<◌, ◌^◌, [], 
 ghost use Rattle.std.specs.List.{AllZip};
 ghost use Rattle.source_api.specs.Counting.{NoneFell};
 ghost use Rattle.query_admission.specs.View.{View as AnyView};
-ghost use Rattle.query_world.specs.Made.{IsReadyFor};
+ghost use Rattle.query_turns.specs.Made.{IsReadyFor};
 ghost use Rattle.batch_run.specs.Ranges.{AreSettings};
 ghost use Rattle.batch_run.specs.Batches.{IsBatch};
 ghost use Rattle.catalog_open.specs.Admissions.{AreAdmitted};

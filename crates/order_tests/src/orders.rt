@@ -1,16 +1,18 @@
 //! How queries end after every list of lawful steps.
 
 ghost use Rattle.std.specs.Prelude.{◌<◌, ◌≤◌, ◌^◌, All, length};
-ghost use Rattle.query_world.specs.Made.{IsReadyFor};
+ghost use Rattle.query_turns.specs.Made.{IsReadyFor};
 
-use super::trials::{FAILS, MISSING, OUT_OF_ORDER, PAGES, SHARED, Trial};
+use super::trials::{TRIALS, Trial};
 use limits::MAX_OBJECTS;
 use query_core::Ready;
-use query_world::{Ended, Endings, World};
+use query_support::{are_small, readies_of};
+use query_turns::{Ended, Endings};
+use query_world::World;
 use source_state::LookFault;
 use std::alloc::Global;
 use std::test::Fail;
-use world_support::{Act, are_ended_so, are_small, ends_of, readies_of, take_act, world_of};
+use world_support::{Act, are_ended_so, ends_of, take_act, world_of};
 
 /// What comes of an order, which has for each step the place of its act among those of the trial.
 enum Outcome {
@@ -52,7 +54,7 @@ fn take_next(
     Ok(None)
 }
 
-/// Takes the steps of an order, for each the first lawful one from its place on, and tells how many there are.
+/// Takes the steps of an order, as many as the trial says, for each the first lawful one from its place on, and tells how many there are.
 fn follow(
     alloc: Global,
     world: &mut World,
@@ -61,6 +63,9 @@ fn follow(
 ) -> Result<usize, Fail> {
     let mut taken: usize = 0;
     for place in order.iter_mut() {
+        if taken == trial.steps {
+            return Ok(taken);
+        }
         let Some(next) = take_next(alloc, world, trial, *place)? else {
             return Ok(taken);
         };
@@ -186,57 +191,32 @@ fn try_orders(
     Err("fewer orders".into())
 }
 
-/// How many orders a trial has, from the first one on, if the queries end as they are to after each.
-fn count_alike(alloc: Global, trial: &Trial, order: &mut [u8]) -> Result<Option<u32>, Fail> {
+/// Whether a trial has as many orders as it says, and the queries end as they are to after each.
+fn is_alike(alloc: Global, trial: &Trial) -> Result<bool, Fail> {
     let readies = readies_of(alloc, trial.counts, trial.asked)?;
     if !are_small(trial.counts) || trial.counts.len() > 100 || readies.len() > 100 {
         drop(readies);
         return Err("a few small sources".into());
     }
-    let counted = try_orders(alloc, trial, &readies, order);
-    drop(readies);
-    counted
-}
-
-/// All lists of seven lawful steps.
-#[test]
-fn pages_in_every_order(rt: HostRuntime) -> Result<(), Fail> {
-    let mut order: [u8; 7] = [0; 7];
-    assert_eq!(rt; count_alike(rt.alloc(), &PAGES, &mut order)?, Some(6_889));
-    Ok(())
-}
-
-/// All lists of six lawful steps.
-#[test]
-fn queries_in_every_order(rt: HostRuntime) -> Result<(), Fail> {
-    let mut order: [u8; 6] = [0; 6];
-    assert_eq!(rt; count_alike(rt.alloc(), &SHARED, &mut order)?, Some(3_791));
-    Ok(())
-}
-
-/// All lists of five lawful steps.
-#[test]
-fn fails_in_every_order(rt: HostRuntime) -> Result<(), Fail> {
-    let mut order: [u8; 5] = [0; 5];
-    assert_eq!(rt; count_alike(rt.alloc(), &FAILS, &mut order)?, Some(3_065));
-    Ok(())
-}
-
-/// All lists of six lawful steps.
-#[test]
-fn row_fault_in_every_order(rt: HostRuntime) -> Result<(), Fail> {
-    let mut order: [u8; 6] = [0; 6];
-    assert_eq!(rt;
-        count_alike(rt.alloc(), &OUT_OF_ORDER, &mut order)?,
-        Some(5_350)
-    );
-    Ok(())
-}
-
-/// All lists of eight lawful steps.
-#[test]
-fn miss_in_every_order(rt: HostRuntime) -> Result<(), Fail> {
     let mut order: [u8; 8] = [0; 8];
-    assert_eq!(rt; count_alike(rt.alloc(), &MISSING, &mut order)?, Some(1_682));
+    let counted = try_orders(alloc, trial, &readies, &mut order);
+    drop(readies);
+    Ok(counted? == Some(trial.orders))
+}
+
+/// The number of the first trial that is otherwise.
+fn first_otherwise(alloc: Global, trials: &[Trial]) -> Result<Option<usize>, Fail> {
+    for (number, trial) in trials.iter().enumerate() {
+        if !is_alike(alloc, trial)? {
+            return Ok(Some(number));
+        }
+    }
+    Ok(None)
+}
+
+/// All lists of so many lawful steps.
+#[test]
+fn queries_end_alike_in_every_order(rt: HostRuntime) -> Result<(), Fail> {
+    assert_eq!(rt; first_otherwise(rt.alloc(), TRIALS)?, None);
     Ok(())
 }

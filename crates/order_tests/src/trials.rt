@@ -1,23 +1,28 @@
 //! Worlds of which every list of lawful steps is tried.
 
+use query_support::{Asked, Expected, FIRST, FIRST_ENDS, Figures, SORTED, SORTED_ENDS};
 use source_state::{LookFault, SourceFault};
-use world_support::{
-    Act, Asked, Expected, FIRST, FIRST_ENDS, Figures, SORTED, SORTED_ENDS, Sources, THREE,
-};
+use world_support::{Act, Sources, THREE};
 
-/// Sources with how many objects they state, queries, the steps that are tried, and how the queries end whatever their order is.
+/// Sources with how many objects they state, queries, the steps that are tried, how many of them an order has, eight at most, how many
+/// orders there are, and how the queries end whatever their order is.
 #[derive(Clone, Copy)]
 pub struct Trial {
     pub sources: Sources,
     pub counts: &'static [u32],
     pub asked: &'static [Asked],
     pub acts: &'static [Act],
+    pub steps: usize,
+    pub orders: u32,
     pub ends: &'static [Expected],
 }
 
+/// All of them.
+pub const TRIALS: &[Trial] = &[PAGES, SHARED, FAILS, OUT_OF_ORDER, MISSING];
+
 /// Pages of one, two and three rows of either source, and the grades that the query asks for, before and after the rows that hold
 /// their objects.
-pub const PAGES: Trial = Trial {
+const PAGES: Trial = Trial {
     sources: THREE,
     counts: &[3, 3],
     asked: &[FIRST],
@@ -33,11 +38,13 @@ pub const PAGES: Trial = Trial {
         Act::Grade(0, 2),
         Act::Grade(0, 3),
     ],
+    steps: 7,
+    orders: 6_889,
     ends: &[FIRST_ENDS],
 };
 
 /// Two queries that share both sources.
-pub const SHARED: Trial = Trial {
+const SHARED: Trial = Trial {
     asked: &[FIRST, SORTED],
     acts: &[
         Act::Turn(0),
@@ -48,12 +55,14 @@ pub const SHARED: Trial = Trial {
         Act::Grade(0, 2),
         Act::Grade(0, 3),
     ],
+    steps: 6,
+    orders: 3_791,
     ends: &[FIRST_ENDS, SORTED_ENDS],
     ..PAGES
 };
 
 /// Calls that fail, also between a want and its page.
-pub const FAILS: Trial = Trial {
+const FAILS: Trial = Trial {
     acts: &[
         Act::Turn(0),
         Act::Fail(0),
@@ -64,11 +73,13 @@ pub const FAILS: Trial = Trial {
         Act::Grade(0, 2),
         Act::Grade(0, 3),
     ],
+    steps: 5,
+    orders: 3_065,
     ..PAGES
 };
 
 /// A row out of order, which one of two queries needs.
-pub const OUT_OF_ORDER: Trial = Trial {
+const OUT_OF_ORDER: Trial = Trial {
     sources: Sources {
         lists: &[&[(1, 500), (2, 600)], &[(1, 400), (2, 300)]],
         ..THREE
@@ -83,6 +94,8 @@ pub const OUT_OF_ORDER: Trial = Trial {
         Act::Page(1, 1),
         Act::Page(1, 2),
     ],
+    steps: 6,
+    orders: 5_350,
     ends: &[
         Expected::Answered(
             &[(1, 900, 900)],
@@ -105,7 +118,7 @@ pub const OUT_OF_ORDER: Trial = Trial {
 };
 
 /// An object that the other list hasn't.
-pub const MISSING: Trial = Trial {
+const MISSING: Trial = Trial {
     sources: Sources {
         lists: &[&[(1, 9), (2, 8)], &[(3, 7), (1, 6)]],
         ..THREE
@@ -121,5 +134,7 @@ pub const MISSING: Trial = Trial {
         Act::Grade(1, 1),
         Act::Grade(0, 3),
     ],
+    steps: 8,
+    orders: 1_682,
     ends: &[Expected::Look(0, LookFault::Missing { object: 3 })],
 };

@@ -16,8 +16,8 @@ use Rattle.access_log.specs.Machine.{MachineState, row_access, grade_access}
 use Rattle.turn_lock.specs.declared.known.Known.{Known}
 use Rattle.source_log.specs.declared.entry.LogEntry.{LogEntry}
 use Rattle.query_core.specs.Machines.{state_of}
-use Rattle.query_world.specs.declared.inquiry.Inquiry.{Inquiry}
-use Rattle.query_world.specs.Worlds.{needed, is_done}
+use Rattle.query_turns.specs.declared.inquiry.Inquiry.{Inquiry}
+use Rattle.query_turns.specs.Inquiries.{needed, is_done}
 use Rattle.query_run.specs.Asking.{access_of, accesses_asked, is_grade_of, grades_asked, IsAskedFor, AsksGradeOf, Wanted}
 use Rattle.query_run.specs.Looking.{grades_given}
 

@@ -9,9 +9,9 @@ use Rattle.source_state.specs.State.{State, state_at}
 use Rattle.source_state.specs.Drawing.{told_by}
 use Rattle.source_pass.specs.declared.hold.Hold.{Hold}
 use Rattle.source_pool.specs.Passes.{hold_at}
-use Rattle.query_world.specs.Worlds.{logs_of}
-use Rattle.query_world.proofs.Causes.{rows_begin, known_more}
-use Rattle.query_world.proofs.Serving.{rows_told, known_told}
+use Rattle.query_turns.specs.Inquiries.{logs_of}
+use Rattle.query_turns.proofs.Causes.{rows_begin, known_more}
+use Rattle.query_turns.proofs.Serving.{rows_told, known_told}
 use Rattle.query_run.specs.Seen.{state_seen, states_seen}
 
 -- the state of a source, as its pass saw it

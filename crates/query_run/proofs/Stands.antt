@@ -23,13 +23,13 @@ use Rattle.source_pass.specs.declared.hold.Hold.{Hold}
 use Rattle.source_pool.specs.Passes.{hold_at, OthersStay}
 use Rattle.source_pass.specs.Looks.{KeepsMarks, shown_fault, Ends, BeginsToWait}
 use Rattle.query_core.specs.Machines.{state_of, MakesItsRun}
-use Rattle.query_world.specs.declared.ended.Refusal.TheVariants as refusal
-use Rattle.query_world.specs.declared.inquiry.Inquiry.{Inquiry}
-use Rattle.query_world.specs.Worlds.{told_to, needed, list_needed, source_of, source_needed, is_done}
-use Rattle.query_world.specs.Causes.{IsOfList, CanNotBeHad, IsCause}
-use Rattle.query_world.specs.Kept.{IsServed}
-use Rattle.query_world.proofs.Serving.{own_list}
-use Rattle.query_world.proofs.Causes.{refusal_cause}
+use Rattle.query_turns.specs.declared.ended.Refusal.TheVariants as refusal
+use Rattle.query_turns.specs.declared.inquiry.Inquiry.{Inquiry}
+use Rattle.query_turns.specs.Inquiries.{told_to, needed, list_needed, source_of, source_needed, is_done}
+use Rattle.query_turns.specs.Causes.{IsOfList, CanNotBeHad, IsCause}
+use Rattle.query_turns.specs.Kept.{IsServed}
+use Rattle.query_turns.proofs.Serving.{own_list}
+use Rattle.query_turns.proofs.Causes.{refusal_cause}
 use Rattle.query_run.specs.Seen.{state_seen, states_seen}
 use Rattle.query_run.specs.Advancing.{WaitsForNothing, IsSourceIn}
 use Rattle.query_run.specs.Asking.{Wanted}

@@ -19,12 +19,12 @@ use Rattle.source_pool.specs.Passes.{hold_at, OthersStay}
 use Rattle.source_pass.specs.Looks.{MayLookFor, shown_by, IsTurn, IsWithin, TookTurn, Waits}
 use Rattle.query_core.specs.Algorithms.{run_by}
 use Rattle.query_core.specs.Machines.{algorithm_of, state_of, MakesItsRun}
-use Rattle.query_world.specs.declared.inquiry.Inquiry.{Inquiry}
-use Rattle.query_world.specs.Worlds.{needed, list_needed, source_needed, is_done, is_ended}
-use Rattle.query_world.specs.Kept.{IsServed}
-use Rattle.query_world.specs.Causes.{IsCause}
-use Rattle.query_world.specs.Steps.{MayFeed, Answers}
-use Rattle.query_world.proofs.Serving.{state_set, listed, open_parts, may_feed}
+use Rattle.query_turns.specs.declared.inquiry.Inquiry.{Inquiry}
+use Rattle.query_turns.specs.Inquiries.{needed, list_needed, source_needed, is_done, is_ended}
+use Rattle.query_turns.specs.Kept.{IsServed}
+use Rattle.query_turns.specs.Causes.{IsCause}
+use Rattle.query_turns.specs.Turns.{MayFeed, Answers}
+use Rattle.query_turns.proofs.Serving.{state_set, listed, open_parts, may_feed}
 use Rattle.query_run.specs.Seen.{state_seen}
 use Rattle.query_run.specs.Looking.{FeedsFrom, IsReading, LooksOnce}
 use Rattle.query_run.proofs.Looked.{IsDecidedBy, row_seen, grade_seen, SeesOn, name_on, feeds_later}

@@ -18,8 +18,8 @@ use Rattle.source_log.proofs.Lists.{none_not_some}
 use Rattle.source_pass.specs.declared.hold.Hold.{Hold}
 use Rattle.source_pass.specs.Looks.{KeepsMarks, HasCalled, BeginsToWait}
 use Rattle.query_core.specs.Machines.{state_of}
-use Rattle.query_world.specs.declared.inquiry.Inquiry.{Inquiry}
-use Rattle.query_world.specs.Worlds.{needed, list_needed, source_of, source_needed}
+use Rattle.query_turns.specs.declared.inquiry.Inquiry.{Inquiry}
+use Rattle.query_turns.specs.Inquiries.{needed, list_needed, source_of, source_needed}
 use Rattle.query_run.specs.Asking.{access_of, accesses_asked, is_grade_of, grades_asked, IsAskedFor, AsksGradeOf, Wanted}
 use Rattle.query_run.specs.Looking.{grades_given, WantsOf}
 use Rattle.query_run.proofs.AskingLaws.{WasGiven, given_asks, asked_given, same_asks, same_given, wanted_more}

@@ -4,5 +4,5 @@
 
 mod run;
 
-pub use query_world::{Ended, Memory};
+pub use query_turns::{Ended, Memory};
 pub use run::run_query;

@@ -5,7 +5,7 @@ use Rattle.source_pass.specs.declared.hold.Hold.{Hold}
 use Rattle.source_pool.specs.Passes.{Feed, lock_at, feed_at, IsIdleOf, AreFeedersOf}
 use Rattle.source_pool.specs.Sharing.{IsOpened}
 use Rattle.query_core.specs.declared.ready.Ready.{Ready}
-use Rattle.query_world.specs.Made.{IsReadyFor}
+use Rattle.query_turns.specs.Made.{IsReadyFor}
 use Rattle.query_run.proofs.Opening.{opened_rests, opened_sources}
 use Rattle.query_run_tests.specs.Running.{MayRun, AreIdle, AreTheTwo}
 

@@ -1,7 +1,7 @@
 //! Queries over two sources that are ready, from their texts.
 
 ghost use Rattle.std.specs.Prelude.{◌≡◌, ◌<◌, ◌∷◌, [], true, All, length, slice_index_or, IfSome};
-ghost use Rattle.query_world.specs.Made.{IsReadyFor};
+ghost use Rattle.query_turns.specs.Made.{IsReadyFor};
 ghost use Rattle.query_core.specs.Ready.{IsReady};
 
 use query_core::Ready;

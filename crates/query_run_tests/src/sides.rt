@@ -2,7 +2,7 @@
 
 ghost use Rattle.std.specs.Prelude.{◌≡◌, ◌≤◌, ◌∷◌, [], length, IfSome};
 ghost use Rattle.source_pool.specs.Passes.{IsIdleOf, AreFeedersOf};
-ghost use Rattle.query_world.specs.Made.{IsReadyFor};
+ghost use Rattle.query_turns.specs.Made.{IsReadyFor};
 ghost use Rattle.query_run_tests.specs.Running.{MayRun, AreIdle, AreTheTwo};
 
 use fetcher::{Fetched, Stop};

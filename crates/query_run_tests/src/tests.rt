@@ -6,13 +6,13 @@ use super::made::ready_over;
 use super::sides::run_beside;
 use access_log::CoreFault;
 use mem_source::MemSource;
+use query_support::{Expected, FIRST_ENDS, Figures, SORTED_ENDS, is_ended_so};
 use source_state::{LookFault, SourceFault};
 use source_support::{Held, Kind, source_of};
 use std::alloc::Global;
 use std::sync::Wait;
 use std::test::*;
 use std::thread::Threads;
-use world_support::{Expected, FIRST_ENDS, Figures, SORTED_ENDS, is_ended_so};
 
 /// Two lists of three objects.
 const ROWS_A: &[(u32, u32)] = &[(1, 900), (2, 800), (3, 100)];

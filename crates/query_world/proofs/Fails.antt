@@ -27,20 +27,25 @@ use Rattle.source_state.specs.Events.{logged, with_rows, row_or, after}
 use Rattle.source_state.specs.Looking.{waits_for, newer, told, refusal_of, called, Refuses, IsTold, Looks}
 use Rattle.source_log.proofs.Lists.{none_not_some}
 use Rattle.query_core.specs.declared.ready.Ready.{Ready}
-use Rattle.query_world.specs.declared.ended.Refusal.TheVariants as refusal
-use Rattle.query_world.specs.declared.inquiry.Inquiry.{Inquiry}
+use Rattle.query_turns.specs.declared.ended.Refusal.TheVariants as refusal
+use Rattle.query_turns.specs.declared.inquiry.Inquiry.{Inquiry}
 use Rattle.query_world.specs.declared.step.Step.{Step}
 use Rattle.query_world.specs.declared.step.Step.TheVariants.{Page, Grade, Miss, Fail, Turn}
-use Rattle.query_world.specs.Worlds.{WorldState, needed, list_needed, source_of, source_needed}
-use Rattle.query_world.specs.Causes.{HasFailed}
-use Rattle.query_world.specs.Steps.{with_event, MayStep, RowTaken, Answers, TakesTurn, Steps}
-use Rattle.query_world.specs.Kept.{IsServed, IsWorld}
-use Rattle.query_world.specs.Made.{IsFresh, IsMade}
+use Rattle.query_turns.specs.Inquiries.{needed, list_needed, source_of, source_needed}
+use Rattle.query_world.specs.Worlds.{WorldState}
+use Rattle.query_turns.specs.Causes.{HasFailed}
+use Rattle.query_turns.specs.Turns.{RowTaken, Answers}
+use Rattle.query_world.specs.Steps.{with_event, MayStep, TakesTurn, Steps}
+use Rattle.query_turns.specs.Kept.{IsServed}
+use Rattle.query_world.specs.Kept.{IsWorld}
+use Rattle.query_turns.specs.Made.{IsFresh}
+use Rattle.query_world.specs.Made.{IsMade}
 use Rattle.query_world.specs.Runs.{Runs}
 use Rattle.query_world.specs.Fails.{BeginsToWait, IsToldOfFail}
-use Rattle.query_world.proofs.Causes.{told_failed}
-use Rattle.query_world.proofs.Serving.{state_set, state_other, open_parts, fault_ends, stays_state}
-use Rattle.query_world.proofs.Stepping.{stepped, turn_of, zip_member, open_query}
+use Rattle.query_turns.proofs.Causes.{told_failed}
+use Rattle.query_turns.proofs.Serving.{state_set, state_other, open_parts, fault_ends, stays_state}
+use Rattle.query_turns.proofs.Lists.{zip_member}
+use Rattle.query_world.proofs.Stepping.{stepped, turn_of, open_query}
 
 -- one more step of a run
 runs_push : (w v : WorldState) (first : WorldState) (steps : List Step) (step : Step) → Runs first steps w → MayStep w step → Steps step w v
@@ -213,7 +218,7 @@ record Turning (first : WorldState) (steps : List Step) (w v : WorldState) (quer
   world : IsWorld w
   may : MayStep w (Turn query)
   turn : TakesTurn query w v
-  going : Rattle.query_world.specs.Worlds.is_ended turn.q ≡ false
+  going : Rattle.query_turns.specs.Inquiries.is_ended turn.q ≡ false
   served : IsServed w.states turn.q
   known : Known first steps w query turn.q
   later : state_at v.states (source_needed turn.q) ≡ turn.turns.state
@@ -341,7 +346,7 @@ turn_known first steps w v query ran world may turn h other x is =
           known_longer first steps w v other x (Turn query) may turn (same_tally (state_at w.states (source_needed x)) (state_at v.states (source_needed x)) (Turn query) (source_needed x) (tally_at (source_needed x))) (h other x before)
     ]
   where
-    done : Rattle.query_world.proofs.Serving.Turned w.states v.states turn.q turn.r
+    done : Rattle.query_turns.proofs.Serving.Turned w.states v.states turn.q turn.r
     done = turn_of query w v world may turn
 
     there : source_needed turn.q < length w.states

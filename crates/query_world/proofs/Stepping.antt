@@ -1,36 +1,35 @@
 -- What a step keeps of a world.
-use Rattle.std.proofs.Common.{◌≡◌, ◌<◌, ◌≤◌, ◌+◌, inl, inr, ℕ, zero, suc, false, Option, Some, List, [], ◌∷◌, length, slice_get, slice_index_or, All, Contains, refl, sym, ap, subst, ◌∙◌, arith}
-use Rattle.std.specs.List.{AllZip, slice_set}
+use Rattle.std.proofs.Common.{◌≡◌, ◌≤◌, ℕ, false, Option, Some, List, [], ◌∷◌, length, slice_get, All, refl, sym, ap, subst, ◌∙◌}
+use Rattle.std.specs.List.{AllZip}
 use Rattle.std.proofs.lemmas.List.{length-set}
 use Rattle.std.proofs.lemmas.List.Elements.{All-set}
-use Rattle.std.proofs.lemmas.Option.{same_Some}
-use Rattle.topk_theory.proofs.AgreementLists.{all_from_members, member_of_all, slice_get_contains, slice_get_in_range, contains_nil, contains_here, contains_there, contains_cases}
-use Rattle.topk_theory.proofs.Agreement.{drawn_none}
+use Rattle.topk_theory.proofs.AgreementLists.{all_from_members, member_of_all, slice_get_contains}
 use Rattle.source_state.specs.declared.event.Event.{Event}
 use Rattle.source_state.specs.declared.event.Event.TheVariants as event
-use Rattle.source_state.specs.State.{State, opened, IsSound, state_at}
+use Rattle.source_state.specs.State.{State, IsSound, state_at}
 use Rattle.source_state.specs.Events.{after}
-use Rattle.source_log.proofs.Lists.{none_not_some}
 use Rattle.query_core.specs.declared.ready.Ready.{Ready}
 use Rattle.query_core.specs.Driving.{Continues}
 use Rattle.query_core.specs.Machines.{algorithm_of, state_of}
-use Rattle.query_core.proofs.Feeding.{continues_same, continues_on}
-use Rattle.query_core.proofs.ListCount.{lists_counted}
-use Rattle.ranked_list.proofs.FrontLaws.{IsRanked-nil}
-use Rattle.query_world.specs.declared.inquiry.Inquiry.{Inquiry}
+use Rattle.query_core.proofs.Feeding.{continues_on}
+use Rattle.query_turns.specs.declared.inquiry.Inquiry.{Inquiry}
 use Rattle.query_world.specs.declared.step.Step.{Step}
 use Rattle.query_world.specs.declared.step.Step.TheVariants.{Page, Grade, Miss, Fail, Turn}
-use Rattle.query_world.specs.Histories.{HasHistory}
-use Rattle.query_world.specs.Worlds.{WorldState, told_to, source_needed, is_ended}
-use Rattle.query_world.specs.Causes.{IsCause}
+use Rattle.query_turns.specs.Histories.{HasHistory}
+use Rattle.query_turns.specs.Inquiries.{source_needed, is_ended}
+use Rattle.query_world.specs.Worlds.{WorldState}
 use Rattle.query_world.specs.Steps.{with_event, MayComeTo, IsOpen, MayStep, TakesTurn, Steps}
-use Rattle.query_world.specs.Kept.{IsSourceOf, IsServed, IsWorld, ReadsOn, IsAfter}
-use Rattle.query_world.specs.Made.{IsReadyFor, opened_from, IsOf, IsFresh, AreOf, IsMade}
+use Rattle.query_turns.specs.Kept.{IsServed, ReadsOn}
+use Rattle.query_world.specs.Kept.{IsWorld, IsAfter}
+use Rattle.query_turns.specs.Made.{IsReadyFor, opened_from, IsOf, IsFresh}
+use Rattle.query_world.specs.Made.{AreOf, IsMade}
 use Rattle.query_world.specs.Runs.{Runs}
-use Rattle.query_world.proofs.Events.{moved_after}
-use Rattle.query_world.proofs.Reading.{turn_reads, reads_on, all_read_same, after_same, after_on}
-use Rattle.query_world.proofs.Serving.{AreLater, sound_at, history_at, later_moved, later_set, served_stays, Turned, turned}
-use Rattle.query_world.proofs.Making.{opened_length}
+use Rattle.query_turns.proofs.Events.{moved_after}
+use Rattle.query_turns.proofs.Reading.{turn_reads, reads_on, all_read_same}
+use Rattle.query_world.proofs.Reading.{after_same, after_on}
+use Rattle.query_turns.proofs.Serving.{AreLater, sound_at, history_at, later_moved, later_set, served_stays, Turned, turned}
+use Rattle.query_turns.proofs.Lists.{all_zip_set, zip_member, all_zip_on}
+use Rattle.query_turns.proofs.Opening.{opened_sound, opened_history, opened_member, fresh_served, fresh_of}
 
 -- what every step makes of a world
 pub record Stepped (before after : WorldState) : Type 0 where
@@ -56,15 +55,6 @@ event_steps w source e h may =
       later = record { sources = later.long; queries = refl; goes = λ other l. (later.each other l).goes; reads = all_read_same w.queries };
       queries = λ readies are. are;
     }
-
--- a pair of lists with one member changed
-pub all_zip_set : {A B : Type 0} (R : A → B → Type 0) (xs : List A) (ys : List B) (i : ℕ) (y z : B) → AllZip R xs ys → slice_get ys i ≡ Some y
-    → ((x : A) → R x y → R x z) → AllZip R xs (slice_set ys i z)
-all_zip_set R [] [] i y z h e f = absurd (let l = slice_get_in_range [] i y e in omega (arith, l))
-all_zip_set R [] (w ∷ ys) i y z h e f = absurd h
-all_zip_set R (x ∷ xs) [] i y z h e f = absurd h
-all_zip_set R (x ∷ xs) (w ∷ ys) zero y z h e f = let same : w ≡ y = same_Some _ _ e in (f x (subst (R x) same h.0), h.1)
-all_zip_set R (x ∷ xs) (w ∷ ys) (suc i) y z h e f = (h.0, all_zip_set R xs ys i y z h.1 e f)
 
 -- the member of an option that is going
 pub open_query : (o : Option Inquiry) (q : Inquiry) → o ≡ Some q → IsOpen o → is_ended q ≡ false
@@ -118,84 +108,7 @@ stepped (Miss source object) w after h may steps = stepped_is w after _ (event_s
 stepped (Fail source what) w after h may steps = stepped_is w after _ (event_steps w source (event.Fail what) h may) steps
 stepped (Turn query) w after h may steps = turn_steps query w after h may steps
 
--- a state before any event is sound
-pub opened_sound : (list count : ℕ) → count ≤ 200000 → IsSound (opened list count)
-opened_sound list count small = record {
-  log = record {
-    ranked = IsRanked-nil;
-    fits = omega arith;
-    good = λ k d l. absurd (omega (arith, l));
-    once = λ i j d l m. absurd (omega (arith, m));
-    asked = λ object c. absurd (contains_nil object c);
-    one_fault = omega arith;
-  };
-  distinct = λ i j d l m. absurd (omega (arith, m));
-  fits = omega arith;
-  small = small;
-  want = omega arith;
-  tally = record { failed = omega arith; garbled = omega arith; memory = omega arith };
-}
-
 -- a world that is made
-opened_history : (list count : ℕ) → HasHistory (opened list count)
-opened_history list count = record { events = []; may = tt; told = refl }
-
-pub opened_member : (first : ℕ) (counts : List ℕ) (s : State) → Contains (opened_from first counts) s
-    → (list : ℕ) × (count : ℕ) × Contains counts count × (opened list count ≡ s)
-opened_member first [] s c = absurd (contains_nil s c)
-opened_member first (count ∷ counts) s c =
-    elim (contains_cases (opened first count) (opened_from (first + 1) counts) s c) [
-      | inl same ↦ (first, count, contains_here count counts, same)
-      | inr there ↦ let rest = opened_member (first + 1) counts s there in (rest.0, rest.1, contains_there count counts rest.1 rest.2, rest.3)
-    ]
-
-opened_at : (first : ℕ) (counts : List ℕ) (source : ℕ) → source < length counts
-    → (state_at (opened_from first counts) source).count ≡ slice_index_or counts source 0
-opened_at first [] source l = absurd (omega (arith, l))
-opened_at first (count ∷ counts) zero l = refl
-opened_at first (count ∷ counts) (suc source) l = opened_at (first + 1) counts source (omega (arith, l))
-
-fresh_served : (counts : List ℕ) (ready : Ready) (q : Inquiry) → IsReadyFor counts ready → IsFresh ready q → IsServed (opened_from 0 counts) q
-fresh_served counts ready q for fresh =
-    let t = state_of q.machine in
-    let begun = fresh.machine.begun in
-    record {
-      sources = record {
-        many = ap (length {A = ℕ}) fresh.sources ∙ for.is.sources ∙ sym (lists_counted ready.query for.is.lawful) ∙ sym begun.lists;
-        each = subst (All (IsSourceOf (opened_from 0 counts) t.log.count)) (sym fresh.sources)
-            (λ k d l.
-            let is = for.sources k d l in
-            let long = opened_length 0 counts in
-            (omega (arith, is.0, long), opened_at 0 counts (slice_index_or ready.sources.items k d) is.0 ∙ is.1 ∙ sym begun.count));
-      };
-      run = fresh.run;
-      drawn = record {
-        drawn = subst (λ A. Rattle.topk_theory.specs.Transcript.IsDrawn t.log.lists (told_to (opened_from 0 counts) q) A) (sym begun.none) (drawn_none t.log.lists (told_to (opened_from 0 counts) q));
-        roomy = subst (λ A. length (Rattle.topk_theory.specs.Transcript.seen_objects A) ≤ t.room) (sym begun.none) (omega arith);
-      };
-      waits = λ n e. absurd (none_not_some (sym fresh.waits ∙ e));
-      cause = subst (λ o. IsCause (state_at (opened_from 0 counts) (source_needed q)) t q.waiting.noted o) (sym fresh.refusal) tt;
-    }
-
-pub zip_member : {A B : Type 0} (R : A → B → Type 0) (xs : List A) (ys : List B) (y : B) → AllZip R xs ys → Contains ys y → (x : A) × Contains xs x × R x y
-zip_member R [] [] y h c = absurd (contains_nil y c)
-zip_member R [] (w ∷ ys) y h c = absurd h
-zip_member R (x ∷ xs) [] y h c = absurd h
-zip_member R (x ∷ xs) (w ∷ ys) y h c =
-    elim (contains_cases w ys y c) [
-      | inl same ↦ (x, contains_here x xs, subst (R x) same h.0)
-      | inr there ↦ let rest = zip_member R xs ys y h.1 there in (rest.0, contains_there x xs rest.0 rest.1, rest.2)
-    ]
-
-all_zip_on : {A B : Type 0} (R S : A → B → Type 0) (xs : List A) (ys : List B) → ((x : A) (y : B) → R x y → S x y) → AllZip R xs ys → AllZip S xs ys
-all_zip_on R S [] [] f h = tt
-all_zip_on R S [] (y ∷ ys) f h = absurd h
-all_zip_on R S (x ∷ xs) [] f h = absurd h
-all_zip_on R S (x ∷ xs) (y ∷ ys) f h = (f x y h.0, all_zip_on R S xs ys f h.1)
-
-fresh_of : (ready : Ready) (q : Inquiry) → IsFresh ready q → IsOf ready q
-fresh_of ready q fresh = record { is = fresh.is; first = state_of q.machine; begun = fresh.machine.begun; goes = continues_same (state_of q.machine); algorithm = fresh.machine.algorithm; sources = fresh.sources }
-
 pub made_world : (counts : List ℕ) (readies : List Ready) (w : WorldState) → All (λ (count : ℕ). count ≤ 200000) counts → All (IsReadyFor counts) readies
     → IsMade counts readies w → IsWorld w
 made_world counts readies w small ready made = record {

@@ -3,10 +3,11 @@ use Rattle.std.specs.Prelude.{◌≡◌, ℕ, false, Some, None, List, ◌∷◌
 use Rattle.ranked_list.specs.declared.need.Need.{Need}
 use Rattle.source_log.specs.declared.entry.FailKind.{FailKind}
 use Rattle.source_state.specs.Looking.{waits_for, refusal_of}
-use Rattle.query_world.specs.declared.ended.Refusal.TheVariants.{Look}
+use Rattle.query_turns.specs.declared.ended.Refusal.TheVariants.{Look}
 use Rattle.query_world.specs.declared.step.Step.{Step}
 use Rattle.query_world.specs.declared.step.Step.TheVariants.{Fail, Turn}
-use Rattle.query_world.specs.Worlds.{WorldState, needed, source_needed}
+use Rattle.query_turns.specs.Inquiries.{needed, source_needed}
+use Rattle.query_world.specs.Worlds.{WorldState}
 use Rattle.query_world.specs.Steps.{TakesTurn}
 use Rattle.query_world.specs.Runs.{Runs}
 

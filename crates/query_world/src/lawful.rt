@@ -7,7 +7,7 @@ ghost use Rattle.source_state.specs.State.{asked_in, state_at};
 ghost use Rattle.source_state.specs.Events.{MayPage};
 ghost use Rattle.query_world.specs.Steps.{IsTestOf, MayComeTo, IsOpen};
 
-use super::inquiry::Inquiry;
+use query_turns::Inquiry;
 use ranked_list::PageRows;
 use source_state::{Asked, SourceState};
 

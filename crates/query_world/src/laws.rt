@@ -5,13 +5,14 @@ ghost use Rattle.ranked_list.specs.declared.row.Row.{Row};
 ghost use Rattle.source_log.specs.declared.entry.FailKind.{FailKind};
 ghost use Rattle.source_state.specs.Looking.{refusal_of};
 ghost use Rattle.query_core.specs.declared.ready.Ready.{Ready};
-ghost use Rattle.query_world.specs.declared.ended.Refusal.TheVariants.{Look};
-ghost use Rattle.query_world.specs.declared.inquiry.Inquiry.{Inquiry};
+ghost use Rattle.query_turns.specs.declared.ended.Refusal.TheVariants.{Look};
+ghost use Rattle.query_turns.specs.declared.inquiry.Inquiry.{Inquiry};
 ghost use Rattle.query_world.specs.declared.step.Step.{Step};
 ghost use Rattle.query_world.specs.Worlds.{WorldState};
 ghost use Rattle.query_world.specs.Kept.{IsWorld, IsAfter};
-ghost use Rattle.query_world.specs.Made.{IsReadyFor, IsMade, AreOf};
-ghost use Rattle.query_world.specs.Honest.{HasTable, IsOnItsRun};
+ghost use Rattle.query_turns.specs.Made.{IsReadyFor};
+ghost use Rattle.query_world.specs.Made.{IsMade, AreOf};
+ghost use Rattle.query_turns.specs.Honest.{HasTable, IsOnItsRun};
 ghost use Rattle.query_world.specs.Runs.{Runs, RunsHonestly};
 ghost use Rattle.query_world.specs.Fails.{IsToldOfFail};
 

@@ -3,21 +3,13 @@
 //! one answer of the tables that agree with what it read.
 #![tactic(auto)]
 
-mod ended;
-mod inquiry;
 mod lawful;
 mod laws;
 mod step;
 mod world;
 
-pub use ended::{Ended, Endings, Refusal};
-pub use inquiry::{Inquiry, list_needed};
 pub use laws::{
     a_failure_refuses_those_that_wait, each_order_gives_the_one_answer, what_was_read_stays,
 };
 pub use step::Step;
 pub use world::World;
-
-/// No memory was left.
-#[derive(Clone, Copy, Debug, PartialEq, Eq)]
-pub struct Memory;

@@ -8,20 +8,22 @@ ghost use Rattle.source_state.specs.State.{opened, state_at};
 ghost use Rattle.source_state.specs.Events.{after, MayCome};
 ghost use Rattle.query_core.specs.declared.ready.Ready.{Ready as AnyReady};
 ghost use Rattle.query_core.specs.Ready.{IsReady};
-ghost use Rattle.query_world.specs.Worlds.{world_of, is_ended};
+ghost use Rattle.query_turns.specs.declared.inquiry.Inquiry.{Inquiry as AnyInquiry};
+ghost use Rattle.query_turns.specs.Inquiries.{is_ended};
+ghost use Rattle.query_world.specs.Worlds.{world_of};
 ghost use Rattle.query_world.specs.Steps.{IsTestOf, MayStep, MayComeTo, Steps, with_event};
 ghost use Rattle.query_world.specs.Kept.{IsWorld, IsAfter};
-ghost use Rattle.query_world.specs.Made.{IsReadyFor, IsFresh, IsMade, AreOf, opened_from};
-ghost use Rattle.query_world.specs.Honest.{IsHonest, IsTrueWorld, IsOnItsRun};
-ghost use Rattle.query_world.specs.Endings.{EndsAs, IsRight};
+ghost use Rattle.query_turns.specs.Made.{IsReadyFor, IsFresh, opened_from};
+ghost use Rattle.query_world.specs.Made.{IsMade, AreOf};
+ghost use Rattle.query_turns.specs.Honest.{IsOnItsRun};
+ghost use Rattle.query_world.specs.Honest.{IsHonest, IsTrueWorld};
+ghost use Rattle.query_turns.specs.Endings.{EndsAs, IsRight};
 
-use super::Memory;
-use super::ended::{Ended, Endings};
-use super::inquiry::{Inquiry, turn};
 use super::lawful::{may_page, may_settle, may_turn};
 use super::step::Step;
 use limits::MAX_OBJECTS;
 use query_core::Ready;
+use query_turns::{Ended, Endings, Inquiry, Memory, turn};
 use source_state::{Event, SourceState};
 use std::alloc::Global;
 use std::marker::Model;
@@ -145,6 +147,21 @@ fn all_ended(queries: &[Inquiry]) -> bool
     queries.iter().all(|query| query.is_ended())
 }
 
+/// How one more query ends.
+fn end_next(query: Inquiry, endings: &mut Vec<Ended>) -> Result<(), Memory>
+    requires { is_ended query ≡ true }
+    ensures { OnOk result ((queries : List AnyInquiry) → AllZip EndsAs queries endings.old.items → AllZip EndsAs (queries ++ query ∷ []) endings.new.items) }
+{
+    let ended = query.end()?;
+    match endings.push(ended) {
+        Ok(()) => Ok(()),
+        Err(refused) => {
+            drop(refused);
+            Err(Memory)
+        }
+    }
+}
+
 /// How queries end, in their order. They are taken out.
 fn end_all(queries: &mut Vec<Inquiry>, endings: &mut Vec<Ended>) -> Result<(), Memory>
     requires none { endings.old.items ≡ [] }
@@ -153,10 +170,7 @@ fn end_all(queries: &mut Vec<Inquiry>, endings: &mut Vec<Ended>) -> Result<(), M
 {
     queries.reverse();
     while let Some(query) = queries.pop() {
-        let ended = query.end()?;
-        let Ok(()) = endings.push(ended) else {
-            return Err(Memory);
-        };
+        end_next(query, endings)?;
     }
     Ok(())
 }
@@ -234,14 +248,6 @@ impl World {
         ensures { result.now ≡ state_at self.now.states source }
     {
         &self.states[source as usize]
-    }
-
-    /// Whether a query is refused or needs nothing more.
-    pub fn ended(&self, query: u32) -> bool
-        requires { query < length self.now.queries }
-        ensures { Some result ≡ option_map is_ended (slice_get self.now.queries query) }
-    {
-        self.queries[query as usize].is_ended()
     }
 
     /// Whether all queries have ended.

@@ -1,14 +1,15 @@
 //! Worlds that are worked out by hand.
 
 ghost use Rattle.std.specs.Prelude.{◌<◌, ◌≤◌, ◌^◌, All, length};
-ghost use Rattle.query_world.specs.Made.{IsReadyFor};
+ghost use Rattle.query_turns.specs.Made.{IsReadyFor};
 
 use super::acts::{Act, Sources, take_act};
-use super::outcomes::{Asked, Expected, are_ended_so, ends_of, world_of};
-use super::readies::{are_small, readies_of};
+use super::outcomes::{are_ended_so, ends_of, world_of};
 use limits::MAX_OBJECTS;
 use query_core::Ready;
-use query_world::{Endings, World};
+use query_support::{Asked, Expected, are_small, readies_of};
+use query_turns::Endings;
+use query_world::World;
 use std::alloc::Global;
 use std::test::Fail;
 

@@ -1,10 +1,9 @@
 //! Calls that fail.
 
+use query_support::{Expected, FIRST, FIRST_ENDS};
 use source_state::LookFault;
 use std::test::Fail;
-use world_support::{
-    Act, Case, Expected, FIRST, FIRST_ENDS, Sources, THREE, THREE_LISTS, first_wrong,
-};
+use world_support::{Act, Case, Sources, THREE, THREE_LISTS, first_wrong};
 
 const CASES: [Case; 5] = [
     // the second page fails: one query waited for it, the other looks later

@@ -1,9 +1,10 @@
 //! Lists that are no table.
 
 use access_log::CoreFault;
+use query_support::{Expected, FIRST, Figures};
 use source_state::{LookFault, SourceFault};
 use std::test::Fail;
-use world_support::{Case, Expected, FIRST, Figures, Sources, first_wrong};
+use world_support::{Case, Sources, first_wrong};
 
 const CASES: [Case; 6] = [
     // a row out of order, which one query doesn't reach, whatever is read ahead

@@ -1,10 +1,9 @@
 //! Grades that do not go with the rows.
 
+use query_support::{Expected, FIRST, FIRST_ENDS};
 use source_state::{LookFault, SourceFault};
 use std::test::Fail;
-use world_support::{
-    Act, Case, Expected, FIRST, FIRST_ENDS, Sources, THREE, THREE_LISTS, first_wrong,
-};
+use world_support::{Act, Case, Sources, THREE, THREE_LISTS, first_wrong};
 
 /// The first row of either source, and the grade of object 1; the query asks for that of object 2, whose row comes before it.
 const GRADE_AFTER: &[Act] = &[

@@ -1,10 +1,9 @@
 //! Lists that are a table.
 
 use access_log::CoreFault;
+use query_support::{Expected, FIRST, FIRST_ENDS, Figures, SORTED, SORTED_ENDS};
 use std::test::Fail;
-use world_support::{
-    Act, Case, Expected, FIRST, FIRST_ENDS, Figures, SORTED, SORTED_ENDS, THREE, first_wrong,
-};
+use world_support::{Act, Case, THREE, first_wrong};
 
 const CASES: [Case; 4] = [
     // the table, by both algorithms at once

@@ -1,5 +1,5 @@
 use Rattle.std.proofs.Common.{◌≡◌, ◌≤◌, List, length, map, vec_len, vec_capacity}
-use Rattle.query_world.specs.declared.ended.Ended.{Ended}
+use Rattle.query_turns.specs.declared.ended.Ended.{Ended}
 use Rattle.batch_run.specs.declared.work.Worker.{Worker}
 use Rattle.batch_run.specs.Crews.{AreShares}
 use Rattle.batch_run.proofs.GatherLaws.{GatheredTo}

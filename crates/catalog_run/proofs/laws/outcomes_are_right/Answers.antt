@@ -1,6 +1,6 @@
 use Rattle.topk_theory.proofs.AgreementLists.{all_from_members, member_of_all}
-use Rattle.query_world.specs.Causes.{HasCause}
-use Rattle.query_world.specs.Kept.{IsServed}
+use Rattle.query_turns.specs.Causes.{HasCause}
+use Rattle.query_turns.specs.Kept.{IsServed}
 use Rattle.catalog_open.specs.Views.{nothing_told, view_over}
 use Rattle.catalog_run.proofs.Right.{lines_right}
 use Rattle.catalog_run.proofs.laws.outcomes_are_right.Goals as goal

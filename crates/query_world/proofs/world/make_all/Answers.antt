@@ -1,7 +1,7 @@
 use Rattle.std.proofs.Common.{◌++◌, ◌∷◌, [], take, ap, sym, subst, ◌∙◌}
 use Rattle.std.specs.List.{AllZip}
-use Rattle.query_world.specs.Made.{IsFresh}
-use Rattle.query_world.proofs.Making.{take_more, take_whole}
+use Rattle.query_turns.specs.Made.{IsFresh}
+use Rattle.query_turns.proofs.Lists.{take_more, take_whole}
 use Rattle.query_world.proofs.world.make_all.Goals as goal
 
 pub loop-place-init : goal.loop-place-init

@@ -1,6 +1,6 @@
 use Rattle.std.proofs.Common.{take}
 use Rattle.std.specs.List.{AllZip}
-use Rattle.query_world.specs.Made.{IsFresh}
+use Rattle.query_turns.specs.Made.{IsFresh}
 use Rattle.query_world.proofs.world.make_all.Given as goal
 
 -- the queries so far are fresh

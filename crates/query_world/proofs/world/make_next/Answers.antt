@@ -1,7 +1,7 @@
 use Rattle.std.proofs.Common.{◌++◌, ◌∷◌, [], sym, subst}
 use Rattle.std.specs.List.{AllZip}
 use Rattle.std.proofs.lemmas.Slice.Zip.{all_zipped_more}
-use Rattle.query_world.specs.Made.{IsFresh}
+use Rattle.query_turns.specs.Made.{IsFresh}
 use Rattle.query_world.proofs.world.make_next.Goals as goal
 
 pub returns-in-Ok : goal.returns-in-Ok

@@ -1,6 +1,7 @@
 use Rattle.std.proofs.Common.{◌∙◌, ap, refl, arith, slice_index_or}
-use Rattle.query_world.specs.Made.{opened_from}
-use Rattle.query_world.proofs.Making.{take_whole, opened_so_far, opened_more}
+use Rattle.query_turns.specs.Made.{opened_from}
+use Rattle.query_turns.proofs.Lists.{take_whole}
+use Rattle.query_world.proofs.Making.{opened_so_far, opened_more}
 use Rattle.query_world.proofs.world.open_all.Goals as goal
 
 pub loop-place-init : goal.loop-place-init

@@ -1,5 +1,5 @@
 use Rattle.std.proofs.Common.{◌≡◌, take}
-use Rattle.query_world.specs.Made.{opened_from}
+use Rattle.query_turns.specs.Made.{opened_from}
 use Rattle.query_world.proofs.world.open_all.Given as goal
 
 -- the sources so far are opened

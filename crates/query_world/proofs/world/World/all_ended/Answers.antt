@@ -1,7 +1,8 @@
 use Rattle.std.proofs.Common.{◌≡◌, true, List, All, ap, subst, ◌∙◌}
-use Rattle.query_world.specs.Worlds.{WorldState, is_ended}
+use Rattle.query_turns.specs.Inquiries.{is_ended}
+use Rattle.query_world.specs.Worlds.{WorldState}
 use Rattle.query_world.specs.Steps.{IsTestOf}
-use Rattle.query_world.specs.declared.inquiry.Inquiry.{Inquiry}
+use Rattle.query_turns.specs.declared.inquiry.Inquiry.{Inquiry}
 use Rattle.query_world.proofs.world.World.all_ended.Goals as goal
 
 pub returns : goal.returns

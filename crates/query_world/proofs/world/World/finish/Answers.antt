@@ -3,7 +3,7 @@ use Rattle.std.specs.List.{AllZip}
 use Rattle.query_world.specs.Worlds.{world_of}
 use Rattle.query_world.specs.Kept.{IsWorld}
 use Rattle.query_world.specs.Made.{AreOf}
-use Rattle.query_world.specs.Endings.{IsRight}
+use Rattle.query_turns.specs.Endings.{IsRight}
 use Rattle.query_world.proofs.Honest.{all_on_run}
 use Rattle.query_world.proofs.Ending.{ended_right}
 use Rattle.query_world.proofs.Making.{ending_count}

@@ -1,8 +1,10 @@
 use Rattle.std.proofs.Common.{ap, length, arith}
 use Rattle.query_world.specs.Worlds.{world_of}
-use Rattle.query_world.specs.Made.{IsFresh, IsMade}
+use Rattle.query_turns.specs.Made.{IsFresh}
+use Rattle.query_world.specs.Made.{IsMade}
 use Rattle.query_world.specs.Kept.{IsWorld}
-use Rattle.query_world.proofs.Making.{opened_length, zip_length}
+use Rattle.query_turns.proofs.Lists.{zip_length}
+use Rattle.query_turns.proofs.Opening.{opened_length}
 use Rattle.query_world.proofs.Stepping.{made_world, made_of}
 use Rattle.query_world.proofs.world.World.make.Goals as goal
 

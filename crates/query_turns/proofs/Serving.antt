@@ -32,16 +32,16 @@ use Rattle.query_core.specs.Algorithms.{run_by}
 use Rattle.query_core.specs.Machines.{algorithm_of, state_of, MakesItsRun}
 use Rattle.query_core.specs.Driving.{Continues, IsFedFrom}
 use Rattle.query_core.proofs.Feeding.{continues_same, row_took, grade_took}
-use Rattle.query_world.specs.declared.ended.Refusal.{Refusal}
-use Rattle.query_world.specs.declared.ended.Refusal.TheVariants as refusal
-use Rattle.query_world.specs.declared.inquiry.Inquiry.{Inquiry}
-use Rattle.query_world.specs.Histories.{HasHistory}
-use Rattle.query_world.specs.Worlds.{logs_of, told_to, needed, list_needed, source_of, source_needed, is_done, is_ended}
-use Rattle.query_world.specs.Causes.{RowLacksRoom, LacksRoom, IsOfList, IsCause, HasCause, CanNotBeHad}
-use Rattle.query_world.specs.Steps.{MayFeed, RowTaken, Answers, Turns}
-use Rattle.query_world.specs.Kept.{IsSourceOf, HasSources, IsServed}
-use Rattle.query_world.proofs.Events.{Moved, goes_same, look_moved}
-use Rattle.query_world.proofs.Causes.{rows_begin, known_more, IsLater, cause_stays, IsRowOf, row_decided, IsGradeAt, grade_decided, refusal_cause}
+use Rattle.query_turns.specs.declared.ended.Refusal.{Refusal}
+use Rattle.query_turns.specs.declared.ended.Refusal.TheVariants as refusal
+use Rattle.query_turns.specs.declared.inquiry.Inquiry.{Inquiry}
+use Rattle.query_turns.specs.Histories.{HasHistory}
+use Rattle.query_turns.specs.Inquiries.{logs_of, told_to, needed, list_needed, source_of, source_needed, is_done, is_ended}
+use Rattle.query_turns.specs.Causes.{RowLacksRoom, LacksRoom, IsOfList, IsCause, HasCause, CanNotBeHad}
+use Rattle.query_turns.specs.Turns.{MayFeed, RowTaken, Answers, Turns}
+use Rattle.query_turns.specs.Kept.{IsSourceOf, HasSources, IsServed}
+use Rattle.query_turns.proofs.Events.{Moved, goes_same, look_moved}
+use Rattle.query_turns.proofs.Causes.{rows_begin, known_more, IsLater, cause_stays, IsRowOf, row_decided, IsGradeAt, grade_decided, refusal_cause}
 
 -- the states later on
 pub record AreLater (states laters : List State) : Type 0 where

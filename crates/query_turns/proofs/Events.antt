@@ -31,7 +31,7 @@ use Rattle.source_state.proofs.AskLaws.{not_asked}
 use Rattle.source_state.proofs.Growing.{logged_grows, ask_grows, rows_grow}
 use Rattle.source_state.proofs.LookLaws.{ask_may}
 use Rattle.source_state.proofs.Told.{replayed_push}
-use Rattle.query_world.specs.Histories.{HasHistory, GoesOn}
+use Rattle.query_turns.specs.Histories.{HasHistory, GoesOn}
 
 -- the facts grow
 counted_more : (what : FailKind) (tally : Tally) → IsCounted tally → AtMost tally (counted what tally)

@@ -1,10 +1,10 @@
-//! How the queries of a world end.
+//! How queries end.
 
 ghost use Rattle.std.specs.Prelude.{◌≡◌, ◌==◌, ◌<◌, ◌^◌, length, slice_get, vec_len};
 ghost use Rattle.std.specs.Option.{option_map};
 ghost use Rattle.std.specs.Slice.Iter.{iter_rest};
 ghost use Rattle.std.specs.Iterator.Adapters.{IterYieldsInOrder};
-ghost use Rattle.query_world.specs.declared.ended.Ended.{Ended};
+ghost use Rattle.query_turns.specs.declared.ended.Ended.{Ended};
 
 use access_log::{Answer, CoreFault};
 use source_state::LookFault;
@@ -31,7 +31,7 @@ pub enum Ended {
     Look { list: u8, fault: LookFault },
 }
 
-/// How the queries of a world ended, in the order of the queries. Contracts see the list.
+/// How queries ended, in the order of the queries. Contracts see the list.
 #[derive(Drop)]
 pub struct Endings {
     endings: Vec<Ended>,
@@ -39,7 +39,7 @@ pub struct Endings {
 
 impl Model for Endings {
     ghost use Rattle.std.specs.Prelude.{List, ◌<◌, ◌^◌, vec_len};
-    ghost use Rattle.query_world.specs.declared.ended.Ended.{Ended};
+    ghost use Rattle.query_turns.specs.declared.ended.Ended.{Ended};
 
     ghost Value = { List Ended };
 

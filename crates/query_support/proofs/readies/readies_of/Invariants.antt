@@ -1,6 +1,6 @@
 use Rattle.std.proofs.Common.{All}
-use Rattle.query_world.specs.Made.{IsReadyFor}
-use Rattle.world_support.proofs.readies.readies_of.Given as goal
+use Rattle.query_turns.specs.Made.{IsReadyFor}
+use Rattle.query_support.proofs.readies.readies_of.Given as goal
 
 -- the queries so far are ready
 abbrev pub invariant-loop-one : goal.invariant-loop-one

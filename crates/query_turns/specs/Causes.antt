@@ -16,10 +16,10 @@ use Rattle.source_state.specs.declared.look.LookFault.TheVariants as why
 use Rattle.source_log.specs.Log.{rows_in, settling_in, fault_in}
 use Rattle.source_state.specs.State.{State, state_at}
 use Rattle.query_core.specs.Machines.{state_of}
-use Rattle.query_world.specs.declared.ended.Refusal.{Refusal}
-use Rattle.query_world.specs.declared.ended.Refusal.TheVariants.{Core, Look}
-use Rattle.query_world.specs.declared.inquiry.Inquiry.{Inquiry}
-use Rattle.query_world.specs.Worlds.{source_needed}
+use Rattle.query_turns.specs.declared.ended.Refusal.{Refusal}
+use Rattle.query_turns.specs.declared.ended.Refusal.TheVariants.{Core, Look}
+use Rattle.query_turns.specs.declared.inquiry.Inquiry.{Inquiry}
+use Rattle.query_turns.specs.Inquiries.{source_needed}
 
 -- the row that is needed is kept, and the machine has no room for its object
 abbrev pub RowLacksRoom : State → MachineState → Need → ℕ → Type 0

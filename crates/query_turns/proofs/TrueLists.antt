@@ -37,8 +37,8 @@ use Rattle.source_state.specs.Looking.{called, Looks}
 use Rattle.source_log.proofs.Lists.{none_not_some, eqb_same, find_none}
 use Rattle.source_log.proofs.LogLaws.{kept_rows, kept_settling, kept_faults, settled_rows, settled_faults, settled_other, settled_same}
 use Rattle.source_state.proofs.AskLaws.{ask_found, good_settled, pending_none}
-use Rattle.query_world.specs.Honest.{IsNextOf, IsTrueOf}
-use Rattle.query_world.proofs.Asking.{asked_settled}
+use Rattle.query_turns.specs.Honest.{IsNextOf, IsTrueOf}
+use Rattle.query_turns.proofs.Asking.{asked_settled}
 
 graded_same : {a b : ℕ} → Graded a ≡ Graded b → a ≡ b
 graded_same e = cc

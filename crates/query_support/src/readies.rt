@@ -1,7 +1,7 @@
 //! Queries that are ready, from their texts.
 
 ghost use Rattle.std.specs.Prelude.{◌≡◌, ◌<◌, ◌≤◌, true, All, length, slice_index_or, IfOk, OnOk};
-ghost use Rattle.query_world.specs.Made.{IsReadyFor};
+ghost use Rattle.query_turns.specs.Made.{IsReadyFor};
 ghost use Rattle.query_core.specs.Ready.{IsReady};
 
 use super::outcomes::Asked;
@@ -33,11 +33,11 @@ fn is_over(counts: &[u32], ready: &Ready) -> bool
 fn ready_of(alloc: Global, text: &str, count: u32, sources: &[u32]) -> Result<Ready, Fail>
     ensures { IfOk result IsReady }
 {
-    let Ok(query) = read(alloc, text.as_bytes()) else {
-        return Err("a query".into());
-    };
     let Ok(sources) = sources.to_vec(alloc) else {
         return Err("memory".into());
+    };
+    let Ok(query) = read(alloc, text.as_bytes()) else {
+        return Err("a query".into());
     };
     let ready = Ready {
         query,
@@ -80,10 +80,13 @@ fn add_ready(
     ensures { OnOk result (All (IsReadyFor counts.now) readies.new.items) }
 {
     let ready = ready_over(alloc, counts, text, sources)?;
-    let Ok(()) = readies.push(ready) else {
-        return Err("memory".into());
-    };
-    Ok(())
+    match readies.push(ready) {
+        Ok(()) => Ok(()),
+        Err(refused) => {
+            drop(refused);
+            Err("memory".into())
+        }
+    }
 }
 
 /// The queries of a world, all ready.

@@ -35,11 +35,11 @@ use Rattle.source_state.specs.Looking.{row_or_fault, grade_or, decided, waits_fo
 use Rattle.source_log.proofs.Lists.{none_not_some}
 use Rattle.source_log.proofs.LogLaws.{settling_graded}
 use Rattle.source_state.proofs.LookLaws.{held_there, row_there}
-use Rattle.query_world.specs.declared.ended.Refusal.{Refusal}
-use Rattle.query_world.specs.declared.ended.Refusal.TheVariants.{Core, Look as LookedFor}
-use Rattle.query_world.specs.Histories.{GoesOn}
-use Rattle.query_world.specs.Causes.{RowLacksRoom, IsAtFault, IsMissed, AreAsksFull, HasFailed, CanNotBeHad, IsCause}
-use Rattle.query_world.proofs.Asking.{asked_settled, not_asked, as_graded, as_bad, as_missed}
+use Rattle.query_turns.specs.declared.ended.Refusal.{Refusal}
+use Rattle.query_turns.specs.declared.ended.Refusal.TheVariants.{Core, Look as LookedFor}
+use Rattle.query_turns.specs.Histories.{GoesOn}
+use Rattle.query_turns.specs.Causes.{RowLacksRoom, IsAtFault, IsMissed, AreAsksFull, HasFailed, CanNotBeHad, IsCause}
+use Rattle.query_turns.proofs.Asking.{asked_settled, not_asked, as_graded, as_bad, as_missed}
 
 -- what is told of a log is told of each that goes on as it
 pub rows_begin : (log more : List LogEntry) → GoesOnAs log more → Begins (rows_in log) (rows_in more)

@@ -1,14 +1,14 @@
-//! A query of a world, and its turns.
+//! A query that takes turns.
 
 ghost use Rattle.std.specs.Prelude.{◌≡◌, true, false, None, All, IfOk};
 ghost use Rattle.source_state.specs.State.{IsSound};
 ghost use Rattle.query_core.specs.Machines.{algorithm_of, state_of, MakesItsRun};
 ghost use Rattle.query_core.specs.Ready.{IsReady};
-ghost use Rattle.query_world.specs.Worlds.{needed, list_needed, is_done, is_ended};
-ghost use Rattle.query_world.specs.Steps.{MayFeed, Answers, Turns};
-ghost use Rattle.query_world.specs.Kept.{IsServed};
-ghost use Rattle.query_world.specs.Made.{IsFresh};
-ghost use Rattle.query_world.specs.Endings.{IsRefusedEnding, EndsAs};
+ghost use Rattle.query_turns.specs.Inquiries.{needed, list_needed, is_done, is_ended};
+ghost use Rattle.query_turns.specs.Turns.{MayFeed, Answers, Turns};
+ghost use Rattle.query_turns.specs.Kept.{IsServed};
+ghost use Rattle.query_turns.specs.Made.{IsFresh};
+ghost use Rattle.query_turns.specs.Endings.{IsRefusedEnding, EndsAs};
 
 use super::Memory;
 use super::ended::{Ended, Refusal};
@@ -72,7 +72,7 @@ fn refused(refusal: Refusal) -> Ended
 }
 
 /// One turn of a query that hasn't ended: a look at the source of what it needs, and what it makes of the answer.
-pub(crate) fn turn(states: &mut Vec<SourceState>, query: &mut Inquiry)
+pub fn turn(states: &mut Vec<SourceState>, query: &mut Inquiry)
     requires served { IsServed states.old.items query.old }
     requires going { is_ended query.old ≡ false }
     requires sound { All IsSound states.old.items }
