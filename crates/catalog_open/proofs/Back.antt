@@ -6,7 +6,7 @@ use Rattle.source_api.specs.declared.counts.Counts.{Counts}
 use Rattle.source_api.specs.declared.ledger.PlaceCounts.{PlaceCounts}
 use Rattle.source_api.specs.Places.{SameElsewhere, put_back_at, with_source}
 use Rattle.catalog_text.specs.Catalog.{Listed as Entry}
-use Rattle.catalog_open.specs.Views.{entry_at}
+use Rattle.catalog_open.specs.Entries.{entry_at}
 use Rattle.catalog_open.specs.Openings.{Counted, Used, Moves, MovesAt, PutsBack, KeepsOthers, put_back}
 use Rattle.catalog_open.proofs.Moving.{moves_none, moves_then, moves_here, takes_here, keeps_then, keeps_here}
 

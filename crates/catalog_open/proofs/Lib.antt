@@ -2,6 +2,4 @@
 pub mod Moving
 pub mod Opens
 pub mod Unread
-pub mod Marking
-pub mod Admits
 pub mod Back

@@ -13,7 +13,7 @@ use Rattle.source_api.specs.Counting.{HasCause, added, no_counts, raised}
 use Rattle.source_api.specs.Places.{SameElsewhere, put_back_at}
 use Rattle.catalog_text.specs.Catalog.{Listed as Entry}
 use Rattle.catalog_open.specs.Openings.{Counted, Used, used_at, added_all, AddsSources, Moves, MovesAt, PutsBack, KeepsOthers, TroubleAt}
-use Rattle.catalog_open.specs.Views.{entry_at}
+use Rattle.catalog_open.specs.Entries.{entry_at}
 
 added_append : (c : Counts) (xs ys : List Counts) → added_all c (xs ++ ys) ≡ added_all (added_all c xs) ys
 added_append c [] ys = refl

@@ -9,7 +9,7 @@ use Rattle.source_api.specs.Places.{SameElsewhere}
 use Rattle.catalog_text.specs.Catalog.{Listed as Entry}
 use Rattle.catalog_open.specs.declared.opened.Opening.{Opening}
 use Rattle.catalog_open.specs.declared.opened.Opening.TheVariants.{Closed, Open}
-use Rattle.catalog_open.specs.Views.{no_entry, entry_at, opening_at, entry_told}
+use Rattle.catalog_open.specs.Entries.{no_entry, entry_at, opening_at, entry_told}
 use Rattle.catalog_open.specs.Openings.{Counted, Used, Moves, MovesAt, KeepsOthers, TroubleAt, Sources, run_count, IsToldAs, IsSource, IsOpening, IsNumbered, AreOpened, IsKnownAt}
 use Rattle.catalog_open.proofs.Moving.{at_place, moves_none, moves_then, moves_here, moves_at, trouble_on, trouble_from, keeps_then, keeps_here}
 use Rattle.limits.specs.declared.TheConstants.{MAX_OBJECTS}

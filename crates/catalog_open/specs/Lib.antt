@@ -1,5 +1,3 @@
--- Lists that are known by a catalog, and what opening and putting back do to a shelf.
-pub mod Views
-pub mod Wanted
+-- The entries of a catalog, and what opening sources and putting them back do to a shelf.
+pub mod Entries
 pub mod Openings
-pub mod Admissions

@@ -9,7 +9,7 @@ use Rattle.source_api.specs.Counting.{added, raised}
 use Rattle.catalog_text.specs.Catalog.{Listed as Entry}
 use Rattle.catalog_open.specs.declared.opened.Opening.{Opening}
 use Rattle.catalog_open.specs.declared.opened.Opening.TheVariants.{Closed, Open}
-use Rattle.catalog_open.specs.Views.{entry_at, opening_at, entry_told}
+use Rattle.catalog_open.specs.Entries.{entry_at, opening_at, entry_told}
 use Rattle.limits.specs.declared.TheConstants.{MAX_OBJECTS}
 
 -- what a shelf has counted, by place

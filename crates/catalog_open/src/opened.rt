@@ -3,7 +3,7 @@
 use std::alloc::Global;
 
 /// What became of a source of the catalog.
-#[derive(Clone, Copy, Debug, PartialEq, Eq)]
+#[derive(Clone, Copy, Debug)]
 pub enum Opening {
     /// It isn't open: no line wants it, or it couldn't be opened.
     Closed,
@@ -21,7 +21,7 @@ pub struct Opened {
 }
 
 impl Opened {
-    ghost use Rattle.std.specs.Prelude.{◌≡◌, [], map};
+    ghost use Rattle.std.specs.Prelude.{◌≡◌, []};
 
     /// Nothing is open. Takes no memory yet.
     pub fn make(alloc: Global) -> Opened

@@ -4,7 +4,7 @@ ghost use Rattle.std.specs.Prelude.{◌≡◌, ◌≤◌, ◌<◌, ◌+◌, ◌^
 ghost use Rattle.ranked_list.specs.declared.row.Row.{Row};
 ghost use Rattle.source_api.specs.Counting.{no_counts};
 ghost use Rattle.source_api.specs.Places.{SameAtEach, SameElsewhere};
-ghost use Rattle.catalog_open.specs.Wanted.{is_marked, IsMarked};
+ghost use Rattle.catalog_open.specs.Entries.{is_marked, IsMarked};
 ghost use Rattle.catalog_open.specs.Openings.{Counted, AddsSources, AreOpened, GivesNothing, IsKnownAt, IsToldAs, IsUnread, MovesAt, ReadsNothing, TroubleAt, run_count};
 ghost use Rattle.catalog_open.specs.declared.opened.Opening.TheVariants as Opening;
 

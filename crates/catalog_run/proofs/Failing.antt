@@ -4,8 +4,6 @@ use Rattle.std.specs.Prelude.{if◌then◌else◌}
 use Rattle.std.specs.Str.{bytes_eq}
 use Rattle.std.specs.List.{count_by, sum_by}
 use Rattle.std.proofs.lemmas.Bool.{cases_lt, false≢true}
-use Rattle.std.proofs.lemmas.List.{reverse-append}
-use Rattle.std.proofs.lemmas.List.Elements.{Contains-append_left, Contains-append_right}
 use Rattle.std.proofs.lemmas.List.Sums.{get_or-le-sum_by, sum_by-cons}
 use Rattle.std.proofs.lemmas.Slice.Eq.{bytes_eq-Decides}
 use Rattle.tk_io.specs.Faults.{Rose}
@@ -27,8 +25,9 @@ use Rattle.batch_run.specs.Numbered.{counts_at}
 use Rattle.batch_run.specs.Using.{IsFewFor, is_fail, is_refused_for}
 use Rattle.batch_run.proofs.EndingLaws.{counted_for, no_calls}
 use Rattle.catalog_text.specs.Catalog.{Listed as Entry}
-use Rattle.catalog_open.specs.Views.{entry_at}
+use Rattle.catalog_open.specs.Entries.{entry_at}
 use Rattle.catalog_open.specs.Openings.{Counted, Used, used_at, added_all, PutsBack, put_back}
+use Rattle.catalog_batch.proofs.Turned.{contains_back}
 use Rattle.catalog_run.proofs.Writable.{of_list_is}
 
 -- what is counted of sources that were put back
@@ -69,15 +68,6 @@ rose_garbles back mid after place x puts c some =
     omega (arith, n, is_after, one, some)
 
 -- what a source had counted is among what was put back at its place
-pub contains_back : {X : Type 0} → (xs : List X) (x : X) → Contains xs x → Contains (reverse xs) x
-contains_back [] x c = absurd (contains_nil x c)
-contains_back (y ∷ xs) x c =
-    subst (λ zs. Contains zs x) (sym (reverse-append (y ∷ []) xs))
-    (elim (contains_cases y xs x c) [
-      | inl same ↦ Contains-append_right (reverse xs) (y ∷ []) x (subst (λ z. Contains (y ∷ []) z) same (contains_here y []))
-      | inr there ↦ Contains-append_left (reverse xs) (y ∷ []) x (contains_back xs x there)
-    ])
-
 used_one : (used : List Used) (one : Used) → Contains used one → Contains (used_at one.place used) one.counts
 used_one [] one c = absurd (contains_nil one c)
 used_one (u ∷ used) one c = elim (contains_cases u used one c) [

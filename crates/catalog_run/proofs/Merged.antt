@@ -1,10 +1,11 @@
 -- Outcomes in order, from what is left in the opposite order.
-use Rattle.std.proofs.Common.{◌≡◌, ◌<◌, List, [], ◌∷◌, ◌++◌, reverse, length, append_assoc, append-nil, refl, sym, ap, ◌∙◌, subst, arith}
-use Rattle.std.proofs.lemmas.List.{reverse-append, reverse-reverse}
+use Rattle.std.proofs.Common.{◌≡◌, ◌<◌, List, [], ◌∷◌, ◌++◌, reverse, length, append-nil, refl, sym, ap, ◌∙◌, subst, arith}
+use Rattle.std.proofs.lemmas.List.{reverse-reverse}
 use Rattle.query_core.specs.declared.ready.Ready.{Ready as ReadyQuery}
 use Rattle.query_turns.specs.declared.ended.Ended.{Ended}
-use Rattle.catalog_open.specs.declared.admissions.Stage.{Stage}
-use Rattle.catalog_open.specs.declared.admissions.Stage.TheVariants.{Refused, Ready}
+use Rattle.catalog_admission.specs.declared.admissions.Stage.{Stage}
+use Rattle.catalog_admission.specs.declared.admissions.Stage.TheVariants.{Refused, Ready}
+use Rattle.catalog_batch.proofs.Turned.{popped, one_on}
 use Rattle.catalog_run.specs.declared.outcome.LineOutcome.{LineOutcome}
 use Rattle.catalog_run.specs.Merging.{Fit, Merges, Nexts, IsEndedAs}
 
@@ -36,10 +37,6 @@ merges_none stages left_stages readies left_readies endings left_endings fit s r
       fit = subst (λ ss. Fit ss (reverse left_readies) (reverse left_endings)) (sym back_s) (subst (λ rs. Fit stages rs (reverse left_endings)) (sym back_r) (subst (Fit stages readies) (sym back_e) fit));
     }
 
--- the last one of what is left is the first in order
-pub popped : {X : Type 0} (left rest : List X) (x : X) → left ≡ rest ++ x ∷ [] → reverse left ≡ x ∷ reverse rest
-popped left rest x e = ap reverse e ∙ reverse-append rest (x ∷ [])
-
 merged_refused : (fs : List Stage) (fr : List ReadyQuery) (fe : List Ended) (outcomes : List LineOutcome) (o : LineOutcome) (stage : Stage)
     → Merges fs fr fe outcomes
     → Merges (stage ∷ []) [] [] (o ∷ []) → Merges (fs ++ stage ∷ []) fr fe (outcomes ++ o ∷ [])
@@ -69,9 +66,6 @@ pub next_fits : (stages : List Stage) (readies : List ReadyQuery) (endings : Lis
     (outcomes : List LineOutcome) (stage : Stage)
     → MergesSoFar stages readies endings ls lr le outcomes → ls ≡ rest ++ stage ∷ [] → (ss : List Stage) × Fit (stage ∷ ss) (reverse lr) (reverse le)
 next_fits stages readies endings ls rest lr le outcomes stage so_far e = (reverse rest, subst (λ ss. Fit ss (reverse lr) (reverse le)) (popped ls rest stage e) so_far.fit)
-
-pub one_on : {X : Type 0} (all front left rest : List X) (x : X) → all ≡ front ++ reverse left → left ≡ rest ++ x ∷ [] → all ≡ (front ++ x ∷ []) ++ reverse rest
-one_on all front left rest x is e = is ∙ ap (λ t. front ++ t) (popped left rest x e) ∙ sym (append_assoc front (x ∷ []) (reverse rest))
 
 -- one outcome more
 pub merges_more : (stages : List Stage) (readies : List ReadyQuery) (endings : List Ended) (ls rest : List Stage) (lr lr_now : List ReadyQuery)

@@ -20,11 +20,12 @@ use Rattle.query_turns.specs.Made.{IsReadyFor}
 use Rattle.catalog_text.specs.Catalog.{Listed as Entry}
 use Rattle.catalog_open.specs.declared.opened.Opening.{Opening}
 use Rattle.catalog_open.specs.declared.opened.Opening.TheVariants.{Closed, Open}
-use Rattle.catalog_open.specs.declared.admissions.Stage.{Stage}
-use Rattle.catalog_open.specs.declared.admissions.Stage.TheVariants.{Refused, Ready}
-use Rattle.catalog_open.specs.Views.{entry_at, opening_at, place_of, said_of, listed_at, view_over, line_over}
+use Rattle.catalog_admission.specs.declared.admissions.Stage.{Stage}
+use Rattle.catalog_admission.specs.declared.admissions.Stage.TheVariants.{Refused, Ready}
+use Rattle.catalog_admission.specs.Views.{place_of, said_of, listed_at, view_over, line_over}
+use Rattle.catalog_open.specs.Entries.{entry_at, opening_at}
 use Rattle.catalog_open.specs.Openings.{Counted, Sources, AreOpened, IsOpening, IsSource, run_count}
-use Rattle.catalog_open.specs.Admissions.{AreAdmitted}
+use Rattle.catalog_admission.specs.Admissions.{AreAdmitted}
 use Rattle.catalog_run.specs.Runs.{IsReadyOf}
 use Rattle.limits.specs.declared.TheConstants.{MAX_OBJECTS}
 

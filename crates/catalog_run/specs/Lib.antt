@@ -2,7 +2,3 @@
 pub mod Outcomes
 pub mod Merging
 pub mod Runs
-pub mod Told
-pub mod Failures
-pub mod Answers
-pub mod Giving

@@ -3,8 +3,8 @@ use Rattle.std.specs.Prelude.{◌≡◌, List, [], ◌∷◌, ◌++◌, Some}
 use Rattle.cert_text.specs.declared.outcome.Outcome.TheVariants.{Refused as RefusedAs}
 use Rattle.query_core.specs.declared.ready.Ready.{Ready as ReadyQuery}
 use Rattle.query_turns.specs.declared.ended.Ended.{Ended}
-use Rattle.catalog_open.specs.declared.admissions.Stage.{Stage}
-use Rattle.catalog_open.specs.declared.admissions.Stage.TheVariants.{Refused, Ready}
+use Rattle.catalog_admission.specs.declared.admissions.Stage.{Stage}
+use Rattle.catalog_admission.specs.declared.admissions.Stage.TheVariants.{Refused, Ready}
 use Rattle.catalog_run.specs.declared.outcome.LineOutcome.{LineOutcome}
 use Rattle.catalog_run.specs.Outcomes.{ended_outcome}
 

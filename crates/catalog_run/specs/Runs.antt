@@ -16,12 +16,13 @@ use Rattle.query_turns.specs.declared.inquiry.Inquiry.{Inquiry}
 use Rattle.query_turns.specs.Made.{IsOf, IsReadyFor}
 use Rattle.query_turns.specs.Endings.{EndsAs, IsRight}
 use Rattle.batch_run.specs.declared.settings.Settings.{Settings}
-use Rattle.batch_run.specs.Batches.{BatchState, IsBatch, BatchRun}
+use Rattle.batch_run.specs.Batches.{BatchState, IsBatch}
 use Rattle.catalog_text.specs.Catalog.{Listed as Entry}
 use Rattle.catalog_open.specs.declared.opened.Opening.{Opening}
-use Rattle.catalog_open.specs.Views.{view_over, line_over, nothing_told}
-use Rattle.catalog_open.specs.Wanted.{IsWanted}
+use Rattle.catalog_admission.specs.Views.{view_over, line_over, nothing_told}
+use Rattle.catalog_admission.specs.Wanted.{IsWanted}
 use Rattle.catalog_open.specs.Openings.{Counted, IsUnread, GivesNothing, PutsBack, Sources, AreOpened, put_back}
+use Rattle.catalog_batch.specs.OpenSources.{batch_over}
 use Rattle.catalog_run.specs.declared.outcome.LineOutcome.{LineOutcome}
 use Rattle.catalog_run.specs.Merging.{IsEndedAs}
 
@@ -71,10 +72,6 @@ pub record CatalogRun : Type 0 where
   pub settings : Settings
   pub before : Counted
   pub after : Counted
-
--- the batch of these queries over the open sources, which had counted so much before it and count so much now
-abbrev pub batch_over : Settings → Sources → List Counts → List Counts → List Ready → BatchRun
-batch_over settings s begun now readies = record { settings = settings; sizes = s.counts; readies = readies; told = s.told; before = begun; now = now }
 
 -- the queries of the lines that are ready ran as one batch over the open sources, no count of which fell, and the lines have the outcomes that follow from
 -- how they ended

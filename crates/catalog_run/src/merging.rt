@@ -1,13 +1,13 @@
 //! The outcomes of lines from what they came to before they ran and how their queries ended.
 
 ghost use Rattle.std.specs.Prelude.{◌<◌, ◌∷◌, List, IfOk, length, reverse};
-ghost use Rattle.catalog_open.specs.declared.admissions.Stage.{Stage as AnyStage};
-ghost use Rattle.catalog_open.specs.declared.admissions.Stage.TheVariants as stage;
+ghost use Rattle.catalog_admission.specs.declared.admissions.Stage.{Stage as AnyStage};
+ghost use Rattle.catalog_admission.specs.declared.admissions.Stage.TheVariants as stage;
 ghost use Rattle.catalog_run.specs.Merging.{Fit, Merges, Nexts};
 
 use super::Memory;
 use super::outcome::{LineOutcome, ended_outcome};
-use catalog_open::{Admissions, Stage};
+use catalog_admission::{Admissions, Stage};
 use cert_text::Outcome;
 use query_core::Ready;
 use query_turns::Ended;

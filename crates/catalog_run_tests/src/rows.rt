@@ -1,6 +1,6 @@
 //! The outcomes of lines.
 
-use super::cases::{Case, first_wrong};
+use catalog_support::{Case, first_wrong};
 use source_support::{Held, Kind};
 use std::test::Fail;
 

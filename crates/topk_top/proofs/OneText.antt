@@ -7,11 +7,12 @@ use Rattle.topk_theory.proofs.AgreementLists.{all_from_members, member_of_all}
 use Rattle.cert_text.specs.declared.refusal.Refusal.{Refusal}
 use Rattle.query_admission.specs.View.{View}
 use Rattle.query_admission.specs.Causes.{QueryLine, Cause, admission_causes, line_causes, Gives, NoneOf}
-use Rattle.catalog_open.specs.Views.{entry_told, line_over}
+use Rattle.catalog_admission.specs.Views.{line_over}
+use Rattle.catalog_open.specs.Entries.{entry_told}
 use Rattle.catalog_run.specs.declared.outcome.LineOutcome.{LineOutcome}
 use Rattle.catalog_run.specs.Runs.{CatalogRun}
-use Rattle.catalog_run.specs.Told.{AllBecome, ShelfTellsTables, told_listed, view_told}
-use Rattle.catalog_run.proofs.ToldLists.{rows_of, known_places, named_wanted, admitted_few, names_told}
+use Rattle.catalog_laws.specs.Told.{AllBecome, ShelfTellsTables, told_listed, view_told}
+use Rattle.catalog_laws.proofs.ToldLists.{rows_of, known_places, named_wanted, admitted_few, names_told}
 use Rattle.topk_top.specs.Running.{is_answer, outcomes_text, run_status}
 use Rattle.topk_top.specs.RunLaws.{ComeTo}
 use Rattle.topk_top.specs.declared.status.Status.{Status}

@@ -10,10 +10,10 @@ use Rattle.line_text.specs.Lines.{lines}
 use Rattle.csv_records.specs.Records.{records_of}
 use Rattle.catalog_text.specs.Catalog.{Listed as Entry, IsCatalog}
 use Rattle.catalog_open.specs.Openings.{TroubleAt}
-use Rattle.catalog_open.specs.Views.{entry_at}
+use Rattle.catalog_open.specs.Entries.{entry_at}
 use Rattle.command_words.specs.declared.running.RunOptions.{RunOptions}
 use Rattle.command_words.specs.declared.running.RunSettings.{RunSettings}
-use Rattle.catalog_run.specs.Told.{AllBecome, ShelfTellsTables, view_told}
+use Rattle.catalog_laws.specs.Told.{AllBecome, ShelfTellsTables, view_told}
 use Rattle.catalog_run.specs.declared.outcome.LineOutcome.{LineOutcome}
 use Rattle.catalog_run.specs.Runs.{CatalogRun, IsRun}
 use Rattle.topk_top.specs.Calls.{Call, WroteWhole}

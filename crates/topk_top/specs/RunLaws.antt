@@ -14,9 +14,9 @@ use Rattle.batch_run.specs.Numbered.{counts_at}
 use Rattle.batch_run.specs.Batches.{size_at}
 use Rattle.catalog_open.specs.Openings.{used_at, put_back}
 use Rattle.catalog_run.specs.declared.outcome.LineOutcome.{LineOutcome}
-use Rattle.catalog_run.specs.Told.{AllBecome, ShelfTellsTables, view_told}
-use Rattle.catalog_run.specs.Failures.{RefusesFew}
-use Rattle.catalog_run.specs.Giving.{GaveWhatIsAsked, RoseByGiven}
+use Rattle.catalog_laws.specs.Told.{AllBecome, ShelfTellsTables, view_told}
+use Rattle.catalog_laws.specs.Failures.{RefusesFew}
+use Rattle.catalog_laws.specs.Giving.{GaveWhatIsAsked, RoseByGiven}
 use Rattle.topk_top.specs.Calls.{Call, WroteWhole, input_limit}
 use Rattle.topk_top.specs.Shelves.{Shelf, TextFailed}
 use Rattle.topk_top.specs.Running.{RefusesCatalog, RepliesToLines, outcomes_text, lines_run, run_status, settings_by}

@@ -5,7 +5,7 @@ use Rattle.ranked_list.specs.declared.row.Row.{Row}
 use Rattle.source_api.specs.declared.ledger.PlaceCounts.{PlaceCounts}
 use Rattle.source_api.specs.Places.{CountsTexts, SameAtEach, SameElsewhere, text_limit}
 use Rattle.catalog_text.specs.Catalog.{Listed as Entry}
-use Rattle.catalog_open.specs.Wanted.{IsWanted}
+use Rattle.catalog_admission.specs.Wanted.{IsWanted}
 use Rattle.catalog_open.specs.Openings.{Used, Moves, KeepsOthers}
 
 -- a shelf: the texts of its places and the lists of their sources, where it tells them, and what it has counted at each place

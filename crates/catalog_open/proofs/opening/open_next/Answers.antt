@@ -1,7 +1,7 @@
 use Rattle.std.proofs.Common.{◌∷◌, [], ◌++◌, length, map, ap, ◌∙◌, sym, subst}
 use Rattle.std.proofs.lemmas.List.{map-append}
 use Rattle.catalog_text.specs.Listed.{listed}
-use Rattle.catalog_open.specs.Wanted.{IsMarked}
+use Rattle.catalog_open.specs.Entries.{IsMarked}
 use Rattle.catalog_open.specs.Openings.{IsToldAs}
 use Rattle.catalog_open.proofs.Opens.{entry_place, match_none, match_some, opened_as, opened_tried, opened_not, opened_some, known_more}
 use Rattle.catalog_open.proofs.Unread.{if_some, reads_here, reads_more}

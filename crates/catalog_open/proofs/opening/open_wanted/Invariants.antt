@@ -1,6 +1,6 @@
 use Rattle.std.proofs.Common.{◌≡◌, ◌≤◌, ℕ, List, length, map, All}
 use Rattle.source_api.specs.Places.{SameAtEach}
-use Rattle.catalog_open.specs.Wanted.{IsMarked}
+use Rattle.catalog_open.specs.Entries.{IsMarked}
 use Rattle.catalog_open.specs.Openings.{AreOpened, GivesNothing, IsKnownAt, IsUnread}
 use Rattle.catalog_open.proofs.opening.open_wanted.Given as goal
 

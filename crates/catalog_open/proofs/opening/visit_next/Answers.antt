@@ -1,6 +1,6 @@
 use Rattle.std.proofs.Common.{◌∙◌, map, sym}
 use Rattle.std.proofs.lemmas.Bool.{false≢true}
-use Rattle.catalog_open.specs.Wanted.{IsMarked}
+use Rattle.catalog_open.specs.Entries.{IsMarked}
 use Rattle.catalog_open.proofs.Opens.{opened_passed}
 use Rattle.catalog_open.proofs.opening.visit_next.Goals as goal
 

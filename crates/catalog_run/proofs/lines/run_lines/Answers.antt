@@ -1,6 +1,6 @@
 use Rattle.std.proofs.Common.{◌≡◌, Contains, length, map, reverse, subst}
 use Rattle.catalog_open.specs.Openings.{AreOpened, KeepsOthers, PutsBack, put_back}
-use Rattle.catalog_open.specs.Wanted.{IsMarked}
+use Rattle.catalog_open.specs.Entries.{IsMarked}
 use Rattle.catalog_run.proofs.Whole.{if_ran, is_run, run_moves, run_others}
 use Rattle.catalog_run.proofs.lines.run_lines.Goals as goal
 

@@ -1,0 +1,3 @@
+-- Lemmas on what query lines want and come to.
+pub mod Marking
+pub mod Admits

@@ -1,0 +1,2 @@
+-- What a batch over open sources is.
+pub mod OpenSources

@@ -1,0 +1,11 @@
+//! One batch of queries over the open sources of a catalog, which stand in slots while they run.
+#![tactic(auto)]
+
+mod run;
+mod slots;
+
+pub use run::run_queries;
+
+/// No memory was left.
+#[derive(Clone, Copy, Debug, PartialEq, Eq)]
+pub struct Memory;
