@@ -11,6 +11,3 @@ pub mod Calls
 pub mod RunEnds
 pub mod Ends
 pub mod Outcomes
-pub mod Laws
-pub mod Limits
-pub mod RunLaws

@@ -5,8 +5,6 @@ mod bulking;
 mod bundled;
 mod call;
 mod judging;
-mod laws;
-mod laws_run;
 mod line_outcomes;
 mod made;
 mod one;
@@ -16,11 +14,6 @@ mod status;
 
 pub use call::top;
 pub use command_words::{Words, WordsFault, read_words};
-pub use laws::{answers_are_fixed, counters_are_bundles, limits_are_stated};
-pub use laws_run::{
-    replies_are_sparing, settings_change_nothing, told_runs_write_the_one_text,
-    wrong_catalogs_are_refused,
-};
 pub use real::{run_process, run_streams};
 pub use status::Status;
 

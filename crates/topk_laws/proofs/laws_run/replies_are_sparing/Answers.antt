@@ -1,6 +1,6 @@
 use Rattle.topk_top.specs.Running.{lines_run}
 use Rattle.line_text.specs.Lines.{lines}
-use Rattle.topk_top.proofs.laws_run.replies_are_sparing.Goals as goal
+use Rattle.topk_laws.proofs.laws_run.replies_are_sparing.Goals as goal
 
 pub returns : goal.returns
 returns c = λ settings text bytes before after status said r.

@@ -20,7 +20,7 @@ use Rattle.query_core.proofs.ListCount.{lists_counted}
 use Rattle.cert_text.specs.declared.certificate.Certificate.{Certificate}
 use Rattle.cert_text.specs.Certificate.{IsAccess, number_line, query_line, count_line, answer_line, stop_line, access_lines, certificate_lines}
 use Rattle.cert_reader.specs.Reading.{Spells}
-use Rattle.topk_top.specs.Laws.{CountersAreBundles}
+use Rattle.topk_laws.specs.Laws.{CountersAreBundles}
 
 -- an object that the accesses of a certificate name is small
 named_small : (m : ℕ) (A : List Access) (object : ℕ) → All (IsAccess m) A → Contains (named_objects A) object → object < 2 ^ 32

@@ -17,12 +17,12 @@ use Rattle.cert_judge.specs.Text.{told_text}
 use Rattle.cert_judge.proofs.Telling.{told_result}
 use Rattle.topk_top.specs.Bundled.{bundle_line}
 use Rattle.topk_top.specs.Judge.{told_status}
-use Rattle.topk_top.specs.Laws.{IsFixedText, AnswersAreFixed}
+use Rattle.topk_laws.specs.Laws.{IsFixedText, AnswersAreFixed}
 use Rattle.topk_top.specs.Reply.{outcome_status}
 use Rattle.topk_top.specs.declared.status.Status.TheVariants.{Done}
-use Rattle.topk_top.proofs.Certifying.{certified}
-use Rattle.topk_top.proofs.OneCertificate.{spells_one}
-use Rattle.topk_top.proofs.Fixing.{IsFixedBy, only_fixed, fixed_by, fixed_of}
+use Rattle.topk_laws.proofs.Certifying.{certified}
+use Rattle.topk_laws.proofs.OneCertificate.{spells_one}
+use Rattle.topk_laws.proofs.Fixing.{IsFixedBy, only_fixed, fixed_by, fixed_of}
 
 -- the lines spell a certificate that is fixed: nothing else is told
 told_fixed : (ls : List (List ℕ)) (c : Certificate) (told : Told) → Spells ls c → IsFixedBy c → Tells ls told → told ≡ Fixes

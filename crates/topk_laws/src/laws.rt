@@ -1,7 +1,7 @@
 //! Laws of what the commands write.
 
-ghost use Rattle.topk_top.specs.Laws.{AnswersAreFixed, CountersAreBundles};
-ghost use Rattle.topk_top.specs.Limits.{AreStated};
+ghost use Rattle.topk_laws.specs.Laws.{AnswersAreFixed, CountersAreBundles};
+ghost use Rattle.topk_laws.specs.Limits.{AreStated};
 
 /// Each text that `one` writes of an answered query spells a certificate whose figures are right, and is fixed: `judge`
 /// replies `fixes` to it, and nothing else.

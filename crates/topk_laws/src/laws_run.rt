@@ -1,6 +1,6 @@
 //! Laws of what a run of query lines comes to.
 
-ghost use Rattle.topk_top.specs.RunLaws.{RepliesAreSparing, SettingsChangeNothing, ToldRunsWriteTheOne, WrongCatalogsAreRefused};
+ghost use Rattle.topk_laws.specs.RunLaws.{RepliesAreSparing, SettingsChangeNothing, ToldRunsWriteTheOne, WrongCatalogsAreRefused};
 
 use catalog_laws::{
     failures_refuse_few_lines, sources_give_what_is_asked, told_tables_give_the_one_outcome,

@@ -10,7 +10,7 @@ use Rattle.topk_top.specs.Calls.{Call}
 use Rattle.topk_top.specs.Shelves.{Shelf, GivesText}
 use Rattle.topk_top.specs.Running.{RefusesCatalog}
 use Rattle.topk_top.specs.RunEnds.{EndsRunning}
-use Rattle.topk_top.specs.RunLaws.{TurnsAway, WrongCatalogsAreRefused}
+use Rattle.topk_laws.specs.RunLaws.{TurnsAway, WrongCatalogsAreRefused}
 use Rattle.topk_top.specs.Ends.{CommandEnds}
 use Rattle.topk_top.specs.declared.status.Status.{Status}
 use Rattle.topk_top.specs.declared.status.Status.TheVariants.{Done, Partial, BadWords, BadCatalog, ReadFault, WriteFault, OpenFault, PortFault, Memory, LongInput, BadInput}

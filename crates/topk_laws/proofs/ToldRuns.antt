@@ -20,12 +20,12 @@ use Rattle.topk_top.specs.Calls.{Call, WroteWhole}
 use Rattle.topk_top.specs.Shelves.{Shelf, AsksText, GivesText}
 use Rattle.topk_top.specs.Running.{lines_run}
 use Rattle.topk_top.specs.RunEnds.{EndsRunning, LinesReplied, from_shelf}
-use Rattle.topk_top.specs.RunLaws.{TellsAll, ComeTo, WritesTheOne, ToldRunsWriteTheOne, TellTheSame, WroteTheSame, SettingsChangeNothing}
+use Rattle.topk_laws.specs.RunLaws.{TellsAll, ComeTo, WritesTheOne, ToldRunsWriteTheOne, TellTheSame, WroteTheSame, SettingsChangeNothing}
 use Rattle.topk_top.specs.Ends.{CommandEnds}
 use Rattle.topk_top.specs.declared.status.Status.{Status}
 use Rattle.topk_top.specs.declared.status.Status.TheVariants.{Done, Partial, BadWords, BadCatalog, ReadFault, WriteFault, OpenFault, PortFault, Memory, LongInput, BadInput}
-use Rattle.topk_top.proofs.OneText.{come_to_one}
-use Rattle.topk_top.proofs.ToldText.{gives_told, refuses_none, one_catalog, gave_told, gave_no_more}
+use Rattle.topk_laws.proofs.OneText.{come_to_one}
+use Rattle.topk_laws.proofs.ToldText.{gives_told, refuses_none, one_catalog, gave_told, gave_no_more}
 
 -- trouble since a text was asked for is trouble from before that on
 trouble_since : (before mid now : PlaceCounts) → CountsTexts before mid → TroubleAt mid now → TroubleAt before now

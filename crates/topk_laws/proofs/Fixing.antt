@@ -31,7 +31,7 @@ use Rattle.cert_judge.specs.declared.told.Told.TheVariants.{BadLine, Inconsisten
 use Rattle.cert_judge.specs.Transcripts.{log_of, front}
 use Rattle.cert_judge.specs.Figures.{HasItsFigures, item_figures}
 use Rattle.cert_judge.specs.Judging.{TellsOfCertificate}
-use Rattle.topk_top.proofs.Honest.{tame_by, seen_by, bounded_by, IsRunOn}
+use Rattle.topk_laws.proofs.Honest.{tame_by, seen_by, bounded_by, IsRunOn}
 
 -- the certificate is of a transcript that fixes its answer, with its figures
 pub record IsFixedBy (c : Certificate) : Type 0 where

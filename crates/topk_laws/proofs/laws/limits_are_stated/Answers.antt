@@ -1,5 +1,5 @@
 use Rattle.std.proofs.Common.{refl}
-use Rattle.topk_top.proofs.laws.limits_are_stated.Goals as goal
+use Rattle.topk_laws.proofs.laws.limits_are_stated.Goals as goal
 
 pub returns : goal.returns
 returns c = record {

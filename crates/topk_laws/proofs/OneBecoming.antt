@@ -36,7 +36,7 @@ use Rattle.query_admission.specs.Becomes.{AnswersLine, Becomes}
 use Rattle.query_admission.specs.declared.lists.Listed.{Listed}
 use Rattle.query_admission.proofs.Admitting.{read_once, lists_once}
 use Rattle.topk_top.specs.Running.{is_answer}
-use Rattle.topk_top.proofs.OneReading.{two_splits, fault_once}
+use Rattle.topk_laws.proofs.OneReading.{two_splits, fault_once}
 
 -- what holds over the lists of a line's query holds over the same ones
 over_both : (x : QueryLine) (P Q : Query → List Listed → Type 0) → (h : Over x P) → Over x Q → Q h.query h.lists
