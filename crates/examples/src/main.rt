@@ -1,8 +1,9 @@
-//! Runs each example whose name the input has, and says how it ended and whether it wrote the text that
-//! stands beside it.
+//! Runs each example of the input, a file and the words of a command on each line, and says how it ended and
+//! whether it wrote the text that stands beside the file.
 #![tactic(auto)]
 
-use mem_source::MemShelf;
+use file_source::FileShelf;
+use std::alloc::Global;
 use std::io::ErrorKind;
 use std::rt::Files;
 use std::sync::Wait;
@@ -11,13 +12,22 @@ use std::{fs, io};
 use tk_io::{MemSink, StdIntake};
 use topk_top::{Status, Words, top};
 
+/// The most bytes that an example writes.
+const ROOM: u32 = 40_000;
+
+/// The most words of a command.
+const MOST_WORDS: u32 = 20;
+
 /// Prints a line for each example.
 fn main(rt: HostRuntime) -> io::Result<()> {
-    let names = io::read_to_string(rt.alloc(), rt.stdin())?;
-    for name in names.lines() {
-        let (status, is_its_text) = run_example(&rt, name)?;
+    let examples = io::read_to_string(rt.alloc(), rt.stdin())?;
+    for example in examples.lines() {
+        let (status, is_its_text) = run_example(&rt, example)?;
         let what = if is_its_text { "its" } else { "another" };
-        println!(rt; "{name} ends with {}, and wrote {what} text", status.code())?;
+        println!(rt;
+            "{example} ends with {}, and wrote {what} text",
+            status.code()
+        )?;
     }
     Ok(())
 }
@@ -25,19 +35,33 @@ fn main(rt: HostRuntime) -> io::Result<()> {
 /// How an example ends, and whether what it wrote is its text.
 fn run_example<R: Files + AllocGlobal + Threads + Wait + Sync>(
     rt: &R,
-    name: &str,
+    example: &str,
 ) -> io::Result<(Status, bool)> {
+    let Some((input, command)) = example.split_once(' ') else {
+        return Err(io::Error::from(ErrorKind::InvalidInput));
+    };
+    let name = input.rsplit_once('.').unwrap_or((input, "")).0;
     let text = fs::read(rt, format!(in rt.alloc(); "{name}.text")?)?;
-    let file = fs::open(rt, format!(in rt.alloc(); "{name}.bundle")?)?;
-    let mut words = Words::make(rt.alloc());
-    let Ok(()) = words.push("one") else {
+    let words = words_of(rt.alloc(), command)?;
+    let Ok(mut out) = MemSink::make(rt.alloc(), ROOM, &[]) else {
         return Err(io::Error::from(ErrorKind::OutOfMemory));
     };
-    let Ok(mut out) = MemSink::make(rt.alloc(), 1000, &[]) else {
-        return Err(io::Error::from(ErrorKind::OutOfMemory));
-    };
-    let mut input = StdIntake::make(file);
-    let mut shelf = MemShelf::make(rt.alloc());
+    let mut input = StdIntake::make(fs::open(rt, input)?);
+    let mut shelf = FileShelf::make(rt.alloc(), rt);
     let status = top(rt, rt.alloc(), &words, &mut shelf, &mut input, &mut out);
     Ok((status, out.taken() == text.as_slice()))
+}
+
+/// The words of a command, with one space between them.
+fn words_of(alloc: Global, command: &str) -> io::Result<Words> {
+    let mut words = Words::make(alloc);
+    for word in command.split(' ') {
+        if words.len() >= MOST_WORDS {
+            return Err(io::Error::from(ErrorKind::InvalidInput));
+        }
+        let Ok(()) = words.push(word) else {
+            return Err(io::Error::from(ErrorKind::OutOfMemory));
+        };
+    }
+    Ok(words)
 }
