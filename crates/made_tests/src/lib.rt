@@ -1,8 +1,6 @@
-//! Tests of made tables: the numbers of the generator, their words, and `make`.
+//! Tests of made tables: the numbers of the generator, their words, and made queries.
 #![tactic(auto)]
 
-#[cfg(test)]
-mod calls;
 #[cfg(test)]
 mod queries;
 #[cfg(test)]
