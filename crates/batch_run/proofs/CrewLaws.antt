@@ -12,9 +12,9 @@ use Rattle.source_pass.specs.Looks.{IsWithin}
 use Rattle.source_pool.specs.Sharing.{IsOpened}
 use Rattle.query_core.specs.declared.ready.Ready.{Ready}
 use Rattle.query_turns.specs.Made.{IsReadyFor}
-use Rattle.batch_run.specs.declared.settings.Settings.{Settings}
-use Rattle.batch_run.specs.declared.work.Worker.{Worker}
-use Rattle.batch_run.specs.Working.{DidOf, IsAtWork, Worked, AllWorked}
+use Rattle.batch_result.specs.declared.settings.Settings.{Settings}
+use Rattle.batch_sides.specs.declared.work.Worker.{Worker}
+use Rattle.batch_sides.specs.Working.{DidOf, IsAtWork, Worked, AllWorked}
 use Rattle.batch_run.specs.Crews.{fresh_hold, IsHired, IsBase, IsHiring, HasLeft}
 
 -- what a fresh pass holds of a source

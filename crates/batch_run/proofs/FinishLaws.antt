@@ -34,26 +34,26 @@ use Rattle.fetcher.specs.Telling.{TellsOf}
 use Rattle.fetcher.specs.Metering.{RoseBy, WentUp}
 use Rattle.fetcher.proofs.ToldLaws.{fetched_from_nothing}
 use Rattle.fetcher.proofs.ClosedLaws.{called_for}
-use Rattle.batch_run.specs.declared.settings.Settings.{Settings}
-use Rattle.batch_run.specs.Ranges.{AreSettings}
-use Rattle.batch_run.specs.Numbered.{told_at, counts_at}
-use Rattle.batch_run.specs.declared.batch.Use.{Use}
-use Rattle.batch_run.specs.declared.work.Worker.{Worker}
-use Rattle.batch_run.specs.Shares.{share, share_from}
-use Rattle.batch_run.specs.Using.{is_refused_for, IsWantedBy, IsNamedBy, all_grades_asked, IsUsed, HasCounted}
-use Rattle.batch_run.specs.Batches.{batch_of, use_at, IsClosing, IsSpared, IsBatch}
-use Rattle.batch_run.specs.Working.{End, IsEndOf, DidOf, RanAll}
-use Rattle.batch_run.specs.Slots.{SlotState, slot_at}
+use Rattle.batch_result.specs.declared.settings.Settings.{Settings}
+use Rattle.batch_result.specs.Ranges.{AreSettings}
+use Rattle.batch_result.specs.Numbered.{told_at, counts_at}
+use Rattle.batch_result.specs.declared.batch.Use.{Use}
+use Rattle.batch_sides.specs.declared.work.Worker.{Worker}
+use Rattle.batch_sides.specs.Shares.{share, share_from}
+use Rattle.batch_result.specs.Using.{is_refused_for, IsWantedBy, IsNamedBy, all_grades_asked, IsUsed, HasCounted}
+use Rattle.batch_result.specs.Batches.{batch_of, use_at, IsClosing, IsSpared, IsBatch}
+use Rattle.batch_sides.specs.Working.{End, IsEndOf, DidOf, RanAll}
+use Rattle.batch_slots.specs.Slots.{SlotState, slot_at}
 use Rattle.batch_run.specs.Crews.{IsBase, HasLeft, HasFetched, Rejoins, AreShares, UsedOf, slots_run}
-use Rattle.batch_run.proofs.SumLaws.{sum_up, sum_up_bound, sum_by_most}
-use Rattle.batch_run.proofs.ShareLaws.{HasShares, whole_of, shares_add}
-use Rattle.batch_run.proofs.Places.{map_at, stands_at}
-use Rattle.batch_run.proofs.Picks.{Picked, picked, sum_ones, share_member, share_map, share_long, member_mapped}
-use Rattle.batch_run.proofs.TruthLaws.{told_honest}
-use Rattle.batch_run.proofs.ShutLaws.{Shut, fetched_shut}
-use Rattle.batch_run.proofs.LaterLaws.{begins_on, at_most_on, IsAhead, ahead_of, all_later, served_later}
+use Rattle.batch_sides.proofs.SumLaws.{sum_up, sum_up_bound, sum_by_most}
+use Rattle.batch_sides.proofs.ShareLaws.{HasShares, whole_of, shares_add}
+use Rattle.batch_result.proofs.Places.{map_at, stands_at}
+use Rattle.batch_sides.proofs.Picks.{Picked, picked, sum_ones, share_member, share_map, share_long, member_mapped}
+use Rattle.batch_result.proofs.TruthLaws.{told_honest}
+use Rattle.batch_result.proofs.ShutLaws.{Shut, fetched_shut}
+use Rattle.batch_result.proofs.LaterLaws.{begins_on, at_most_on, IsAhead, ahead_of, all_later, served_later}
 use Rattle.batch_run.proofs.JoinLaws.{passes}
-use Rattle.batch_run.proofs.Zips.{zip_map, zip_part, all_seconds, both_parts}
+use Rattle.batch_sides.proofs.Zips.{zip_map, zip_part, all_seconds, both_parts}
 
 -- the pass of a worker among the passes
 pass_at : (workers : List Worker) (i : ℕ) (d : List Hold) (e : Worker) → i < length workers

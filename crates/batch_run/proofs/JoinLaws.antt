@@ -9,9 +9,9 @@ use Rattle.turn_lock.specs.Known.{Follows}
 use Rattle.source_pass.specs.declared.hold.Hold.{Hold}
 use Rattle.source_pool.specs.Passes.{hold_at, IsPassOf}
 use Rattle.source_pool.specs.Sharing.{IsJoined}
-use Rattle.batch_run.specs.declared.work.Worker.{Worker}
+use Rattle.batch_sides.specs.declared.work.Worker.{Worker}
 use Rattle.batch_run.specs.Crews.{Rejoins}
-use Rattle.batch_run.proofs.LaterLaws.{follows_on}
+use Rattle.batch_result.proofs.LaterLaws.{follows_on}
 
 rejoins_none : (pool : List TableId) (before : List Hold) → IsPassOf pool before → Rejoins pool [] before before
 rejoins_none pool before own = record {

@@ -1,21 +1,7 @@
--- Lemmas on batches.
-pub mod Pages
-pub mod SumLaws
-pub mod ShareLaws
-pub mod Zips
-pub mod Places
-pub mod ShutLaws
-pub mod TruthLaws
-pub mod LaterLaws
-pub mod WorkLaws
+-- Lemmas on the run of a batch, from its crew to what it gives.
 pub mod JoinLaws
 pub mod GatherLaws
-pub mod LendLaws
 pub mod CrewLaws
 pub mod SlotLaws
-pub mod Picks
 pub mod FinishLaws
-pub mod TableLaws
-pub mod RunOverLists
-pub mod EndingLaws
 pub mod RunLaws

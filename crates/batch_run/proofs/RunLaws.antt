@@ -9,14 +9,14 @@ use Rattle.source_pool.specs.Passes.{hold_at, IsPassOf}
 use Rattle.source_api.specs.declared.counts.Counts.{Counts}
 use Rattle.source_api.specs.Counting.{NoneFell}
 use Rattle.fetcher.specs.declared.slot.Slot.{Slot}
-use Rattle.batch_run.specs.declared.settings.Settings.{Settings}
+use Rattle.batch_result.specs.declared.settings.Settings.{Settings}
 use Rattle.query_core.specs.declared.ready.Ready.{Ready}
-use Rattle.batch_run.specs.declared.work.Worker.{Worker}
-use Rattle.batch_run.specs.Slots.{SlotState, states_of, slot_at}
-use Rattle.batch_run.specs.Batches.{BatchRun, run_of}
+use Rattle.batch_sides.specs.declared.work.Worker.{Worker}
+use Rattle.batch_slots.specs.Slots.{SlotState, states_of, slot_at}
+use Rattle.batch_result.specs.Batches.{BatchRun, run_of}
 use Rattle.batch_run.specs.declared.hire.Crew.{Crew}
 use Rattle.batch_run.specs.Crews.{slots_run, HasLeft, HasRun}
-use Rattle.batch_run.proofs.Places.{stands_at, map_at}
+use Rattle.batch_result.proofs.Places.{stands_at, map_at}
 use Rattle.batch_run.proofs.JoinLaws.{passes}
 
 module _ {S : Type 0} (list : S → Option (List Row)) (counts : S → Counts) where

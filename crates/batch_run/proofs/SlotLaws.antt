@@ -13,10 +13,10 @@ use Rattle.fetcher.specs.declared.turned.Fetched.{Fetched}
 use Rattle.fetcher.specs.Turning.{Feeds}
 use Rattle.fetcher.specs.Chaining.{moment, IsFetched}
 use Rattle.fetcher.specs.Metering.{IsMetered}
-use Rattle.batch_run.specs.declared.settings.Settings.{Settings}
-use Rattle.batch_run.specs.Slots.{SlotState, state_of, states_of, slot_at, Fetches, AllFetch, AreLent, AreTakenBack}
+use Rattle.batch_result.specs.declared.settings.Settings.{Settings}
+use Rattle.batch_slots.specs.Slots.{SlotState, state_of, states_of, slot_at, Fetches, AllFetch, AreLent, AreTakenBack}
 use Rattle.batch_run.specs.Crews.{HasFetched}
-use Rattle.batch_run.proofs.Places.{map_at, stands_at}
+use Rattle.batch_result.proofs.Places.{map_at, stands_at}
 
 -- what one fetcher did, and that its feeder is idle
 record FetchedOne (pool : List TableId) (settings : Settings) (source count : ℕ) (before after : SlotState) (feed : Feed) : Type 0 where

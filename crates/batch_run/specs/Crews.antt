@@ -15,15 +15,15 @@ use Rattle.fetcher.specs.declared.turned.Fetched.{Fetched}
 use Rattle.fetcher.specs.Turning.{Feeds}
 use Rattle.fetcher.specs.Chaining.{moment, IsFetched}
 use Rattle.fetcher.specs.Metering.{IsMetered}
-use Rattle.batch_run.specs.declared.settings.Settings.{Settings}
-use Rattle.batch_run.specs.Ranges.{AreSettings}
-use Rattle.batch_run.specs.declared.batch.Use.{Use}
-use Rattle.batch_run.specs.declared.work.Worker.{Worker}
+use Rattle.batch_result.specs.declared.settings.Settings.{Settings}
+use Rattle.batch_result.specs.Ranges.{AreSettings}
+use Rattle.batch_result.specs.declared.batch.Use.{Use}
+use Rattle.batch_sides.specs.declared.work.Worker.{Worker}
 use Rattle.batch_run.specs.declared.hire.Crew.{Crew}
-use Rattle.batch_run.specs.Shares.{share}
-use Rattle.batch_run.specs.Batches.{BatchRun}
-use Rattle.batch_run.specs.Working.{HasWorked}
-use Rattle.batch_run.specs.Slots.{SlotState, slot_at}
+use Rattle.batch_sides.specs.Shares.{share}
+use Rattle.batch_result.specs.Batches.{BatchRun}
+use Rattle.batch_sides.specs.Working.{HasWorked}
+use Rattle.batch_slots.specs.Slots.{SlotState, slot_at}
 
 -- what a worker's pass holds of a source before it works: it did nothing yet, and waits for nothing
 abbrev pub fresh_hold : List TableId → List ℕ → ℕ → Hold

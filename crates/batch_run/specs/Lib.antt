@@ -1,10 +1,2 @@
--- What a batch promises, and what carries it.
-pub mod Ranges
-pub mod Numbered
-pub mod Shares
-pub mod Using
-pub mod Batches
-pub mod Tables
-pub mod Working
-pub mod Slots
+-- What a crew of workers and fetchers is, before it runs and after it.
 pub mod Crews

@@ -2,15 +2,15 @@
 
 ghost use Rattle.std.specs.Prelude.{◌≡◌, ◌≤◌, ◌<◌, ℕ, List, None, All, length};
 ghost use Rattle.std.specs.List.{list_any};
-ghost use Rattle.batch_run.specs.Ranges.{AreSettings};
+ghost use Rattle.batch_result.specs.Ranges.{AreSettings};
 ghost use Rattle.query_turns.specs.Made.{IsReadyFor};
-ghost use Rattle.batch_run.specs.Slots.{states_of};
+ghost use Rattle.batch_slots.specs.Slots.{states_of};
 ghost use Rattle.batch_run.specs.Crews.{IsNewCrew, HasRun};
 
 use super::hire::Crew;
-use super::lend::{lend, take_back};
-use super::settings::Settings;
-use super::sides::run_sides;
+use batch_result::Settings;
+use batch_sides::run_sides;
+use batch_slots::{lend, take_back};
 use fetcher::Slot;
 use query_core::Ready;
 use source_api::Source;

@@ -5,12 +5,11 @@ ghost use Rattle.std.specs.List.{AllZip};
 ghost use Rattle.source_api.specs.Counting.{NoneFell};
 ghost use Rattle.query_turns.specs.Made.{IsReadyFor};
 ghost use Rattle.query_turns.specs.Endings.{IsRight};
-ghost use Rattle.batch_run.specs.Ranges.{AreSettings};
-ghost use Rattle.batch_run.specs.Batches.{run_of, IsBatch};
+ghost use Rattle.batch_result.specs.Ranges.{AreSettings};
+ghost use Rattle.batch_result.specs.Batches.{run_of, IsBatch};
 
-use super::batch::Batch;
 use super::hire::Crew;
-use super::settings::Settings;
+use batch_result::{Batch, Settings};
 use fetcher::Slot;
 use limits::MAX_OBJECTS;
 use query_core::Ready;

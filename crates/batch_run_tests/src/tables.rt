@@ -1,8 +1,8 @@
 //! Batches over lists that are a table. Two of the queries are asked by the threshold algorithm, and one each by the others.
 
-use super::cases::{A, B, Case, PLAIN, Used, first_wrong};
 use access_log::CoreFault;
 use batch_run::Settings;
+use batch_support::{A, B, Case, PLAIN, Used, first_wrong};
 use query_support::{Asked, Expected, FIRST, FIRST_ENDS, Figures, SORTED, SORTED_ENDS};
 use std::test::*;
 

@@ -1,7 +1,7 @@
 //! One run of a batch over slots of sources, and what it came to.
 
 ghost use Rattle.std.specs.Prelude.{◌≡◌, true, None, All, IfOk, OnOk};
-ghost use Rattle.batch_run.specs.Ranges.{AreSettings};
+ghost use Rattle.batch_result.specs.Ranges.{AreSettings};
 
 use batch_run::{Batch, Memory, Settings, run_all};
 use fetcher::Slot;

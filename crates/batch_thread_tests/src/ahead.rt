@@ -1,8 +1,7 @@
 //! What fetchers read ahead, beside a query that doesn't need it.
 
-use super::gated::{Call, Gate};
-use super::runs::{A, B, Case, GATE, end_so, goes_so, no_calls, slots_of};
 use batch_run::Settings;
+use gated_support::{A, B, Call, Case, GATE, Gate, end_so, goes_so, no_calls, slots_of};
 use query_support::{Expected, FIRST, FIRST_ENDS, Figures};
 use source_support::Held;
 use std::test::*;

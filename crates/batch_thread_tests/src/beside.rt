@@ -1,8 +1,7 @@
 //! Queries beside queries.
 
-use super::gated::Gate;
-use super::runs::{A, B, Case, GATE, goes_so};
 use batch_run::Settings;
+use gated_support::{A, B, Case, GATE, Gate, goes_so};
 use query_support::{Expected, Figures};
 use source_support::Held;
 use std::test::*;

@@ -6,8 +6,4 @@ mod ahead;
 #[cfg(test)]
 mod beside;
 #[cfg(test)]
-mod gated;
-#[cfg(test)]
 mod memory;
-#[cfg(test)]
-mod runs;

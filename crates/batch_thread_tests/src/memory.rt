@@ -2,11 +2,10 @@
 
 ghost use Rattle.std.specs.Prelude.{◌≡◌, None, All};
 
-use super::gated::{Gate, Gated};
-use super::runs::{A, B, Case, GATE, end_so, no_calls, slots_of};
 use batch_run::{Memory, Settings};
 use batch_support::run_of;
 use fetcher::Slot;
+use gated_support::{A, B, Case, GATE, Gate, Gated, end_so, no_calls, slots_of};
 use query_support::{FIRST, FIRST_ENDS};
 use source_api::Trouble;
 use std::alloc::Global;

@@ -11,10 +11,10 @@ use Rattle.query_core.specs.OneAnswer.{IsOneAnswer}
 use Rattle.query_turns.specs.declared.ended.Ended.{Ended}
 use Rattle.query_turns.specs.declared.ended.Ended.TheVariants.{Answered, Core, Look}
 use Rattle.fetcher.specs.declared.slot.Slot.{Slot}
-use Rattle.batch_run.specs.declared.settings.Settings.{Settings}
-use Rattle.batch_run.specs.Numbered.{counts_at}
-use Rattle.batch_run.specs.Batches.{BatchState, BatchRun, run_of, IsBatch}
-use Rattle.batch_run.specs.Tables.{lists_for, TellsTables, EndsOver}
+use Rattle.batch_result.specs.declared.settings.Settings.{Settings}
+use Rattle.batch_result.specs.Numbered.{counts_at}
+use Rattle.batch_result.specs.Batches.{BatchState, BatchRun, run_of, IsBatch}
+use Rattle.batch_result.specs.Tables.{lists_for, TellsTables, EndsOver}
 use Rattle.bulk_run.specs.declared.input.BulkInput.{BulkInput}
 use Rattle.bulk_run.specs.Held.{Held, fresh_slot, told_rows, counts_of}
 use Rattle.bulk_run.specs.Sums.{table_of, query_of}

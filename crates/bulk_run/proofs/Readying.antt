@@ -23,7 +23,7 @@ use Rattle.query_core.specs.declared.ready.Ready.{Ready}
 use Rattle.query_turns.specs.Made.{IsReadyFor}
 use Rattle.query_turns.proofs.Lists.{zip_member}
 use Rattle.fetcher.specs.declared.slot.Slot.{Slot}
-use Rattle.batch_run.specs.Tables.{lists_for}
+use Rattle.batch_result.specs.Tables.{lists_for}
 use Rattle.bulk_run.specs.declared.input.BulkInput.{BulkInput}
 use Rattle.bulk_run.specs.Held.{Held, AreSmall, fresh_slot, told_rows}
 use Rattle.bulk_run.specs.Sums.{IsInput, table_of, query_of}

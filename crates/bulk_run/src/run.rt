@@ -1,7 +1,7 @@
 //! The run.
 
 ghost use Rattle.std.specs.Prelude.{◌≡◌, IfOk, map, replicate};
-ghost use Rattle.batch_run.specs.Ranges.{AreSettings};
+ghost use Rattle.batch_result.specs.Ranges.{AreSettings};
 ghost use Rattle.bulk_run.specs.Held.{fresh_slot};
 ghost use Rattle.bulk_run.specs.Sums.{IsInput, table_of, bulk_sums};
 ghost use Rattle.bulk_run.specs.Endings.{AreMadeReady, AllEndInOne};
@@ -12,7 +12,8 @@ use super::made_source::MadeSource;
 use super::readies::made_readies;
 use super::slots::table_slots;
 use super::sums::{BulkSums, sums_of};
-use batch_run::{Ended, Settings, run_all, told_tables_give_the_one_ending};
+use batch_result::told_tables_give_the_one_ending;
+use batch_run::{Ended, Settings, run_all};
 use fetcher::Slot;
 use query_core::Ready;
 use std::alloc::Global;

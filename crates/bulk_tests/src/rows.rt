@@ -1,6 +1,6 @@
 //! Rows of inputs with the lines that they come to.
 
-ghost use Rattle.batch_run.specs.Ranges.{AreSettings};
+ghost use Rattle.batch_result.specs.Ranges.{AreSettings};
 ghost use Rattle.bulk_run.specs.Sums.{IsInput};
 
 use batch_run::Settings;

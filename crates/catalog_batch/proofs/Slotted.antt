@@ -9,9 +9,9 @@ use Rattle.source_api.specs.declared.counts.Counts.{Counts}
 use Rattle.source_api.specs.Counting.{NoneFell}
 use Rattle.query_core.specs.declared.ready.Ready.{Ready as ReadyQuery}
 use Rattle.fetcher.specs.declared.slot.Slot.{Slot}
-use Rattle.batch_run.specs.declared.settings.Settings.{Settings}
-use Rattle.batch_run.specs.Batches.{BatchState, IsBatch, run_of}
-use Rattle.batch_run.proofs.Places.{lent_back}
+use Rattle.batch_result.specs.declared.settings.Settings.{Settings}
+use Rattle.batch_result.specs.Batches.{BatchState, IsBatch, run_of}
+use Rattle.batch_result.proofs.Places.{lent_back}
 use Rattle.catalog_batch.specs.OpenSources.{batch_over}
 use Rattle.catalog_batch.proofs.Turned.{one_on, contains_back}
 

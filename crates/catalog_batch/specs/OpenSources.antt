@@ -2,8 +2,8 @@
 use Rattle.std.specs.Prelude.{List}
 use Rattle.source_api.specs.declared.counts.Counts.{Counts}
 use Rattle.query_core.specs.declared.ready.Ready.{Ready}
-use Rattle.batch_run.specs.declared.settings.Settings.{Settings}
-use Rattle.batch_run.specs.Batches.{BatchRun}
+use Rattle.batch_result.specs.declared.settings.Settings.{Settings}
+use Rattle.batch_result.specs.Batches.{BatchRun}
 use Rattle.catalog_open.specs.Openings.{Sources}
 
 -- the batch of these queries over the open sources, which had counted so much before it and count so much now

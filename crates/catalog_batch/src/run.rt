@@ -4,8 +4,8 @@ ghost use Rattle.std.specs.Prelude.{◌≡◌, ◌≤◌, ◌<◌, ◌^◌, [], 
 ghost use Rattle.std.specs.List.{AllZip};
 ghost use Rattle.source_api.specs.Counting.{NoneFell};
 ghost use Rattle.query_turns.specs.Made.{IsReadyFor};
-ghost use Rattle.batch_run.specs.Ranges.{AreSettings};
-ghost use Rattle.batch_run.specs.Batches.{IsBatch};
+ghost use Rattle.batch_result.specs.Ranges.{AreSettings};
+ghost use Rattle.batch_result.specs.Batches.{IsBatch};
 ghost use Rattle.catalog_batch.specs.OpenSources.{batch_over};
 
 use super::Memory;

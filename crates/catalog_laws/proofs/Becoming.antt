@@ -31,11 +31,11 @@ use Rattle.query_turns.specs.Endings.{EndsAs}
 use Rattle.query_turns.specs.Honest.{lists_of, IsOnItsRun}
 use Rattle.query_turns.specs.Kept.{IsServed}
 use Rattle.query_turns.specs.Made.{IsOf}
-use Rattle.batch_run.specs.Batches.{IsSpared}
-use Rattle.batch_run.specs.Tables.{EndsOver}
-use Rattle.batch_run.specs.Using.{is_fail}
-use Rattle.batch_run.proofs.EndingLaws.{counted_for}
-use Rattle.batch_run.proofs.RunOverLists.{ends_over}
+use Rattle.batch_result.specs.Batches.{IsSpared}
+use Rattle.batch_result.specs.Tables.{EndsOver}
+use Rattle.batch_result.specs.Using.{is_fail}
+use Rattle.batch_result.proofs.EndingLaws.{counted_for}
+use Rattle.batch_result.proofs.RunOverLists.{ends_over}
 use Rattle.catalog_admission.specs.Views.{view_over, nothing_told, line_over}
 use Rattle.catalog_open.specs.Entries.{entry_at}
 use Rattle.catalog_open.specs.Openings.{TroubleAt}

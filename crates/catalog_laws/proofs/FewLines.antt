@@ -34,9 +34,9 @@ use Rattle.query_turns.specs.declared.inquiry.Inquiry.{Inquiry}
 use Rattle.query_turns.specs.Inquiries.{source_of, source_needed}
 use Rattle.query_turns.specs.Endings.{EndsAs}
 use Rattle.query_turns.specs.Made.{IsOf}
-use Rattle.batch_run.specs.Numbered.{counts_at}
-use Rattle.batch_run.specs.Using.{IsFewFor, is_fail, is_refused_for}
-use Rattle.batch_run.proofs.EndingLaws.{counted_for}
+use Rattle.batch_result.specs.Numbered.{counts_at}
+use Rattle.batch_result.specs.Using.{IsFewFor, is_fail, is_refused_for}
+use Rattle.batch_result.proofs.EndingLaws.{counted_for}
 use Rattle.catalog_text.specs.Catalog.{Listed as Entry}
 use Rattle.catalog_admission.specs.Views.{view_over, nothing_told, line_over}
 use Rattle.catalog_open.specs.Entries.{entry_at}

@@ -10,11 +10,11 @@ use Rattle.source_state.specs.Looking.{reach_of}
 use Rattle.query_turns.specs.declared.inquiry.Inquiry.{Inquiry}
 use Rattle.fetcher.specs.Metering.{WentUp}
 use Rattle.fetcher.proofs.ReachLaws.{reach_within}
-use Rattle.batch_run.specs.declared.settings.Settings.{Settings}
-use Rattle.batch_run.specs.Numbered.{counts_at}
-use Rattle.batch_run.specs.declared.batch.Use.{Use}
-use Rattle.batch_run.specs.Batches.{size_at, use_at}
-use Rattle.batch_run.specs.Using.{IsNamedBy, IsUsed}
+use Rattle.batch_result.specs.declared.settings.Settings.{Settings}
+use Rattle.batch_result.specs.Numbered.{counts_at}
+use Rattle.batch_result.specs.declared.batch.Use.{Use}
+use Rattle.batch_result.specs.Batches.{size_at, use_at}
+use Rattle.batch_result.specs.Using.{IsNamedBy, IsUsed}
 use Rattle.catalog_open.specs.Openings.{IsUnread, added_all, put_back, used_at}
 use Rattle.catalog_run.specs.declared.outcome.LineOutcome.{LineOutcome}
 use Rattle.catalog_run.specs.Runs.{CatalogRun, IsRun}

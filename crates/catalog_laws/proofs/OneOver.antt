@@ -33,7 +33,7 @@ use Rattle.query_turns.specs.Honest.{HasTable as HasQueryTable, lists_of}
 use Rattle.query_turns.specs.Kept.{IsServed, IsSourceOf}
 use Rattle.query_turns.specs.Made.{IsOf}
 use Rattle.fetcher.specs.Telling.{TellsOf}
-use Rattle.batch_run.proofs.TableLaws.{states_sound, told_agrees}
+use Rattle.batch_result.proofs.TableLaws.{states_sound, told_agrees}
 use Rattle.catalog_open.specs.declared.opened.Opening.{Opening}
 use Rattle.catalog_open.specs.declared.opened.Opening.TheVariants.{Closed, Open}
 use Rattle.catalog_admission.specs.Views.{place_of, said_of, listed_at, view_over, nothing_told, line_over}

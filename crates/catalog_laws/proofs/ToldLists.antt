@@ -18,7 +18,7 @@ use Rattle.query_turns.specs.declared.inquiry.Inquiry.{Inquiry}
 use Rattle.query_turns.specs.Made.{IsOf}
 use Rattle.query_turns.specs.Honest.{HasTable as HasQueryTable, IsOnItsRun}
 use Rattle.query_turns.proofs.Lists.{zip_member}
-use Rattle.batch_run.specs.Batches.{BatchState, IsBatch, BatchRun}
+use Rattle.batch_result.specs.Batches.{BatchState, IsBatch, BatchRun}
 use Rattle.catalog_text.specs.Catalog.{Listed as Entry}
 use Rattle.catalog_open.specs.declared.opened.Opening.{Opening}
 use Rattle.catalog_open.specs.declared.opened.Opening.TheVariants.{Closed, Open}

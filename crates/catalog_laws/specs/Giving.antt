@@ -6,8 +6,8 @@ use Rattle.source_api.specs.declared.ledger.PlaceCounts.{PlaceCounts}
 use Rattle.source_state.specs.Looking.{reach_of}
 use Rattle.fetcher.specs.Metering.{WentUp}
 use Rattle.query_turns.specs.declared.inquiry.Inquiry.{Inquiry}
-use Rattle.batch_run.specs.declared.settings.Settings.{Settings}
-use Rattle.batch_run.specs.Using.{IsWantedBy, IsNamedBy}
+use Rattle.batch_result.specs.declared.settings.Settings.{Settings}
+use Rattle.batch_result.specs.Using.{IsWantedBy, IsNamedBy}
 
 -- a source of so many objects gave no more than these queries asked of it, whatever their number: no row beyond the reach of the greatest depth to which one of
 -- them asked, and for each of some objects, whose grades were asked for, one grade at most

@@ -2,8 +2,8 @@
 
 ghost use Rattle.std.specs.Prelude.{◌<◌, ℕ, List, All, length};
 ghost use Rattle.query_turns.specs.Causes.{HasCause};
-ghost use Rattle.batch_run.specs.Batches.{size_at};
-ghost use Rattle.batch_run.specs.Numbered.{counts_at};
+ghost use Rattle.batch_result.specs.Batches.{size_at};
+ghost use Rattle.batch_result.specs.Numbered.{counts_at};
 ghost use Rattle.catalog_open.specs.Openings.{put_back, used_at};
 ghost use Rattle.catalog_run.specs.declared.outcome.LineOutcome.{LineOutcome as AnyOutcome};
 ghost use Rattle.catalog_run.specs.Runs.{CatalogRun, IsRun};
@@ -12,7 +12,7 @@ ghost use Rattle.catalog_laws.specs.Answers.{IsOneOverTold, IsRightLine};
 ghost use Rattle.catalog_laws.specs.Failures.{HasFailure, RefusesFew};
 ghost use Rattle.catalog_laws.specs.Giving.{GaveWhatIsAsked, RoseByGiven};
 
-use batch_run::queries_are_on_their_runs;
+use batch_result::queries_are_on_their_runs;
 
 /// Where the sources that the lines want tell their lists, the lists of each line that nothing refuses before it runs form a table, and
 /// nothing fails, each line comes to the one outcome that it has over these lists: it is refused for the first of the causes that holds,

@@ -21,9 +21,9 @@ use Rattle.query_turns.specs.Inquiries.{needed, list_needed, source_needed, sour
 use Rattle.query_turns.specs.Causes.{IsCause, IsOfList}
 use Rattle.query_turns.specs.Kept.{IsServed}
 use Rattle.query_turns.proofs.Serving.{listed, of_some_list}
-use Rattle.batch_run.specs.Numbered.{counts_at}
-use Rattle.batch_run.specs.Using.{IsFewFor, is_fail, is_refused_for}
-use Rattle.batch_run.proofs.EndingLaws.{counted_for, no_calls}
+use Rattle.batch_result.specs.Numbered.{counts_at}
+use Rattle.batch_result.specs.Using.{IsFewFor, is_fail, is_refused_for}
+use Rattle.batch_result.proofs.EndingLaws.{counted_for, no_calls}
 use Rattle.catalog_text.specs.Catalog.{Listed as Entry}
 use Rattle.catalog_open.specs.Entries.{entry_at}
 use Rattle.catalog_open.specs.Openings.{Counted, Used, used_at, added_all, PutsBack, put_back}

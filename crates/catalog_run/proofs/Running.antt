@@ -8,8 +8,8 @@ use Rattle.query_core.specs.declared.ready.Ready.{Ready as ReadyQuery}
 use Rattle.query_admission.specs.View.{View}
 use Rattle.query_turns.specs.declared.ended.Ended.{Ended}
 use Rattle.query_turns.specs.Made.{IsReadyFor}
-use Rattle.batch_run.specs.declared.settings.Settings.{Settings}
-use Rattle.batch_run.specs.Batches.{BatchState, IsBatch}
+use Rattle.batch_result.specs.declared.settings.Settings.{Settings}
+use Rattle.batch_result.specs.Batches.{BatchState, IsBatch}
 use Rattle.catalog_admission.specs.declared.admissions.Stage.{Stage}
 use Rattle.catalog_admission.specs.Admissions.{AreAdmitted}
 use Rattle.catalog_open.specs.Openings.{Sources}

@@ -15,8 +15,8 @@ use Rattle.query_turns.specs.declared.ended.Ended.{Ended}
 use Rattle.query_turns.specs.declared.inquiry.Inquiry.{Inquiry}
 use Rattle.query_turns.specs.Made.{IsOf, IsReadyFor}
 use Rattle.query_turns.specs.Endings.{EndsAs, IsRight}
-use Rattle.batch_run.specs.declared.settings.Settings.{Settings}
-use Rattle.batch_run.specs.Batches.{BatchState, IsBatch}
+use Rattle.batch_result.specs.declared.settings.Settings.{Settings}
+use Rattle.batch_result.specs.Batches.{BatchState, IsBatch}
 use Rattle.catalog_text.specs.Catalog.{Listed as Entry}
 use Rattle.catalog_open.specs.declared.opened.Opening.{Opening}
 use Rattle.catalog_admission.specs.Views.{view_over, line_over, nothing_told}

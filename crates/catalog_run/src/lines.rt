@@ -4,7 +4,7 @@ ghost use Rattle.std.specs.Prelude.{◌≡◌, ◌≤◌, [], ℕ, Bool, List, O
 ghost use Rattle.ranked_list.specs.declared.row.Row.{Row};
 ghost use Rattle.source_api.specs.declared.counts.Counts.{Counts};
 ghost use Rattle.source_api.specs.Places.{SameAtEach};
-ghost use Rattle.batch_run.specs.Ranges.{AreSettings};
+ghost use Rattle.batch_result.specs.Ranges.{AreSettings};
 ghost use Rattle.catalog_admission.specs.Views.{view_over, nothing_told};
 ghost use Rattle.catalog_admission.specs.Wanted.{IsWanted};
 ghost use Rattle.catalog_open.specs.Entries.{IsMarked};

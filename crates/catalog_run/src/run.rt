@@ -3,7 +3,7 @@
 ghost use Rattle.std.specs.Prelude.{◌≡◌, ◌≤◌, ◌<◌, ◌^◌, ℕ, List, All, IfOk, length, map};
 ghost use Rattle.query_admission.specs.View.{View as AnyView};
 ghost use Rattle.query_turns.specs.Made.{IsReadyFor};
-ghost use Rattle.batch_run.specs.Ranges.{AreSettings};
+ghost use Rattle.batch_result.specs.Ranges.{AreSettings};
 ghost use Rattle.catalog_admission.specs.Admissions.{AreAdmitted};
 ghost use Rattle.catalog_run.specs.Runs.{CanBeWritten, RanOver};
 

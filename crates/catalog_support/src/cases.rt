@@ -2,7 +2,7 @@
 
 ghost use Rattle.std.specs.Prelude.{All, IfSome};
 ghost use Rattle.catalog_run.specs.Runs.{CanBeWritten};
-ghost use Rattle.batch_run.specs.Ranges.{AreSettings};
+ghost use Rattle.batch_result.specs.Ranges.{AreSettings};
 
 use catalog_run::{LineOutcome, Settings, run_lines};
 use catalog_text::{Catalog, read_catalog};

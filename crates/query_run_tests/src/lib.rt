@@ -2,8 +2,4 @@
 #![tactic(auto)]
 
 #[cfg(test)]
-mod made;
-#[cfg(test)]
-mod sides;
-#[cfg(test)]
 mod tests;

@@ -1,12 +1,16 @@
 //! Rows that were worked out by hand.
 
-ghost use Rattle.std.specs.Prelude.{◌≤◌};
+ghost use Rattle.std.specs.Prelude.{◌≤◌, ◌∷◌, [], All};
+ghost use Rattle.query_turns.specs.Made.{IsReadyFor};
 
-use super::made::ready_over;
-use super::sides::run_beside;
 use access_log::CoreFault;
 use mem_source::MemSource;
-use query_support::{Expected, FIRST_ENDS, Figures, SORTED_ENDS, is_ended_so};
+use query_core::Ready;
+use query_run::Ended;
+use query_run_support::run_beside;
+use query_support::{
+    Asked, Expected, FIRST, FIRST_ENDS, Figures, SORTED, SORTED_ENDS, is_ended_so, readies_of,
+};
 use source_state::{LookFault, SourceFault};
 use source_support::{Held, Kind, source_of};
 use std::alloc::Global;
@@ -52,12 +56,10 @@ const FALLING: Held = Held {
     kind: Kind::Honest,
 };
 
-const SUM: &str = "top 1 by sum(A,B) using ta";
-
 /// A query over two sources that are to have so many objects each, and how it ends.
 #[derive(Clone, Copy)]
 struct Case {
-    text: &'static str,
+    asked: Asked,
     held: [Held; 2],
     count: u32,
     ends: Expected,
@@ -65,21 +67,21 @@ struct Case {
 
 const ANSWERED: [Case; 3] = [
     Case {
-        text: SUM,
+        asked: FIRST,
         held: [A, B],
         count: 3,
         ends: FIRST_ENDS,
     },
     // at depth 2 object 2 is known whole, and nothing else can have more than 1500
     Case {
-        text: "top 1 by sum(A,B) using nra",
+        asked: SORTED,
         held: [A, B],
         count: 3,
         ends: SORTED_ENDS,
     },
     // the row out of order isn't reached
     Case {
-        text: SUM,
+        asked: FIRST,
         held: [RISING, FALLING],
         count: 2,
         ends: Expected::Answered(
@@ -97,14 +99,14 @@ const ANSWERED: [Case; 3] = [
 const REFUSED: [Case; 10] = [
     // there is room for object 1, and the first row of B has another
     Case {
-        text: "top 1 by sum(A,B) using ta room 1",
+        asked: ("top 1 by sum(A,B) using ta room 1", &[0, 1]),
         held: [A, B],
         count: 3,
         ends: Expected::Core(CoreFault::RoomFull { room: 1 }),
     },
     // of three objects the second row of B is the fourth
     Case {
-        text: "top 1 by sum(A,B) using nra",
+        asked: SORTED,
         held: [A, OTHERS],
         count: 3,
         ends: Expected::Core(CoreFault::Strangers {
@@ -114,14 +116,14 @@ const REFUSED: [Case; 10] = [
     },
     // B hasn't the object of A's first row, whose grade is asked for first
     Case {
-        text: SUM,
+        asked: FIRST,
         held: [A, OTHERS],
         count: 3,
         ends: Expected::Look(1, LookFault::Missing { object: 1 }),
     },
     // the grade of object 2 in A is above that of the row that was read
     Case {
-        text: SUM,
+        asked: FIRST,
         held: [
             Held {
                 place: "a",
@@ -142,7 +144,7 @@ const REFUSED: [Case; 10] = [
     },
     // it isn't that of the row which is read next
     Case {
-        text: SUM,
+        asked: FIRST,
         held: [
             Held {
                 place: "a",
@@ -162,7 +164,7 @@ const REFUSED: [Case; 10] = [
         ),
     },
     Case {
-        text: "top 2 by sum(A,B) using ta",
+        asked: ("top 2 by sum(A,B) using ta", &[0, 1]),
         held: [RISING, FALLING],
         count: 2,
         ends: Expected::Look(
@@ -176,7 +178,7 @@ const REFUSED: [Case; 10] = [
     },
     // the second row of A has the object of the first one
     Case {
-        text: "top 1 by sum(A,B) using nra",
+        asked: SORTED,
         held: [
             Held {
                 place: "a",
@@ -196,7 +198,7 @@ const REFUSED: [Case; 10] = [
     },
     // A has two rows of the three that are stated
     Case {
-        text: "top 3 by sum(A,B) using ta",
+        asked: ("top 3 by sum(A,B) using ta", &[0, 1]),
         held: [
             Held {
                 place: "a",
@@ -217,7 +219,7 @@ const REFUSED: [Case; 10] = [
     },
     // the first page of B fails
     Case {
-        text: SUM,
+        asked: FIRST,
         held: [
             A,
             Held {
@@ -231,7 +233,7 @@ const REFUSED: [Case; 10] = [
     },
     // the second page of A can't be read
     Case {
-        text: SUM,
+        asked: FIRST,
         held: [
             Held {
                 place: "a",
@@ -245,54 +247,86 @@ const REFUSED: [Case; 10] = [
     },
 ];
 
-/// Whether the query of a case ends as it is to over its sources. None without memory.
+/// How the first of these queries ends over its sources. None where there is none, or without memory.
+fn end_of<R: Threads + Wait + Sync>(
+    rt: &R,
+    alloc: Global,
+    count: u32,
+    sources: &mut (MemSource, MemSource),
+    readies: &[Ready],
+) -> Option<Ended>
+    requires count { count ≤ 200000 }
+    requires ready { All (IsReadyFor (count ∷ count ∷ [])) readies.now }
+{
+    if readies.is_empty() {
+        return None;
+    }
+    run_beside(rt, alloc, count, sources, &readies[0])
+}
+
+/// Whether the query of a case ends as it is to over its sources.
 fn ends_over<R: Threads + Wait + Sync>(
     rt: &R,
     alloc: Global,
     case: &Case,
     sources: &mut (MemSource, MemSource),
-) -> Option<bool> {
+) -> Result<bool, Fail> {
     let count = case.count.min(200_000);
-    let ready = ready_over(alloc, case.text, count)?;
-    let ended = run_beside(rt, alloc, count, sources, &ready);
-    drop(ready);
-    let ended = ended?;
+    let readies = readies_of(alloc, &[count, count], &[case.asked])?;
+    let ended = end_of(rt, alloc, count, sources, &readies);
+    drop(readies);
+    let Some(ended) = ended else {
+        return Ok(false);
+    };
     let so = is_ended_so(&ended, &case.ends);
     drop(ended);
-    Some(so)
+    Ok(so)
+}
+
+/// The sources of a case. None without memory.
+fn sources_of(alloc: Global, case: &Case) -> Option<(MemSource, MemSource)> {
+    let first = source_of(alloc, &case.held[0])?;
+    match source_of(alloc, &case.held[1]) {
+        Some(second) => Some((first, second)),
+        None => {
+            drop(first);
+            None
+        }
+    }
 }
 
 /// The same, with the sources.
-fn ends_so<R: Threads + Wait + Sync>(rt: &R, alloc: Global, case: &Case) -> Option<bool> {
-    let first = source_of(alloc, &case.held[0])?;
-    let Some(second) = source_of(alloc, &case.held[1]) else {
-        drop(first);
-        return None;
+fn ends_so<R: Threads + Wait + Sync>(rt: &R, alloc: Global, case: &Case) -> Result<bool, Fail> {
+    let Some(mut sources) = sources_of(alloc, case) else {
+        return Ok(false);
     };
-    let mut sources = (first, second);
     let so = ends_over(rt, alloc, case, &mut sources);
     drop(sources);
     so
 }
 
 /// The place of the first query that ends otherwise.
-fn first_wrong<R: Threads + Wait + Sync>(rt: &R, alloc: Global, cases: &[Case]) -> Option<usize> {
+fn first_wrong<R: Threads + Wait + Sync>(
+    rt: &R,
+    alloc: Global,
+    cases: &[Case],
+) -> Result<Option<usize>, Fail> {
     for (place, case) in cases.iter().enumerate() {
-        if ends_so(rt, alloc, case) != Some(true) {
-            return Some(place);
+        if !ends_so(rt, alloc, case)? {
+            return Ok(Some(place));
         }
     }
-    None
+    Ok(None)
 }
 
 #[test]
 fn answers_beside_two_fetchers(rt: HostRuntime) -> Result<(), Fail> {
-    assert_eq!(rt; first_wrong(&rt, rt.alloc(), &ANSWERED), None);
+    assert_eq!(rt; first_wrong(&rt, rt.alloc(), &ANSWERED)?, None);
     Ok(())
 }
 
 #[test]
 fn refuses_beside_two_fetchers(rt: HostRuntime) -> Result<(), Fail> {
-    assert_eq!(rt; first_wrong(&rt, rt.alloc(), &REFUSED), None);
+    assert_eq!(rt; first_wrong(&rt, rt.alloc(), &REFUSED)?, None);
     Ok(())
 }

@@ -10,8 +10,8 @@ use Rattle.command_words.specs.Commands.{command_of}
 use Rattle.command_words.specs.declared.command.Command.TheVariants.{Run}
 use Rattle.command_words.specs.declared.running.RunOptions.{RunOptions}
 use Rattle.command_words.specs.declared.running.RunSettings.{RunSettings}
-use Rattle.batch_run.specs.Numbered.{counts_at}
-use Rattle.batch_run.specs.Batches.{size_at}
+use Rattle.batch_result.specs.Numbered.{counts_at}
+use Rattle.batch_result.specs.Batches.{size_at}
 use Rattle.catalog_open.specs.Openings.{used_at, put_back}
 use Rattle.catalog_run.specs.declared.outcome.LineOutcome.{LineOutcome}
 use Rattle.catalog_laws.specs.Told.{AllBecome, ShelfTellsTables, view_told}

@@ -12,7 +12,7 @@ use Rattle.cert_text.specs.declared.outcome.Outcome.{Outcome}
 use Rattle.cert_text.specs.declared.outcome.Outcome.TheVariants.{Answered, Refused}
 use Rattle.cert_text.specs.Outcome.{outcome_text}
 use Rattle.command_words.specs.declared.running.RunSettings.{RunSettings}
-use Rattle.batch_run.specs.declared.settings.Settings.{Settings}
+use Rattle.batch_result.specs.declared.settings.Settings.{Settings}
 use Rattle.catalog_run.specs.declared.outcome.LineOutcome.{LineOutcome}
 use Rattle.catalog_run.specs.Runs.{CatalogRun, IsRun}
 use Rattle.topk_top.specs.declared.status.Status.{Status}

@@ -1,5 +1,5 @@
 use Rattle.std.proofs.Common.{◌≡◌, map, subst}
-use Rattle.batch_run.specs.Batches.{IsBatch, run_of}
+use Rattle.batch_result.specs.Batches.{IsBatch, run_of}
 use Rattle.std.specs.List.{AllZip}
 use Rattle.source_api.specs.Counting.{NoneFell}
 use Rattle.catalog_batch.proofs.Slotted.{batch_out, counts_later, lists_stay, none_falls, out_of}

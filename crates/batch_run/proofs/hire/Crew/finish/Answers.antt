@@ -1,7 +1,7 @@
 use Rattle.std.proofs.Common.{sym, ap, subst, ◌∙◌, arith}
 use Rattle.source_pool.specs.Closed.{HaveAll, AreClosed}
-use Rattle.batch_run.specs.Batches.{IsBatch, batch_of}
-use Rattle.batch_run.specs.Slots.{states_of}
+use Rattle.batch_result.specs.Batches.{IsBatch, batch_of}
+use Rattle.batch_slots.specs.Slots.{states_of}
 use Rattle.batch_run.specs.Crews.{slots_run, Rejoins}
 use Rattle.batch_run.proofs.SlotLaws.{states_long}
 use Rattle.batch_run.proofs.RunLaws.{none_short, passes_own, left_as, parts_left}
@@ -34,6 +34,29 @@ close-states-requires-clause-whole g c =
     (subst (λ ps. Rejoins c.args.self.pool ps c.args.self.pass c.rejoin.new.pass) c.gather.ensures.passes c.rejoin.ensures)
     (parts_left c.args.self.pool r.0 r.1 r.2 workers can.ran.each)
     (λ source l. (can.ran.fetched source l).feeds.parts))
+
+pub use_all-requires-clause-states : goal.use_all-requires-clause-states
+use_all-requires-clause-states g c =
+    let can = c.requires.4 in
+    c.close-states.ensures.size ∙ (can.ran.base.size ∙ (sym can.ran.slots.1 ∙ states_long g.S.Source.list g.S.Source.counts c.args.slots.now))
+
+pub use_all-requires-clause-room : goal.use_all-requires-clause-room
+use_all-requires-clause-room g c =
+    let can = c.requires.4 in
+    let room = can.ran.uses.1 in
+    let many = can.ran.slots.1 in
+    let long = states_long g.S.Source.list g.S.Source.counts c.args.slots.now in
+    omega (arith, room, many, long)
+
+pub make-requires-clause-uses : goal.make-requires-clause-uses
+make-requires-clause-uses g c =
+    let can = c.requires.4 in
+    let few = can.few.1 in
+    let many = can.ran.slots.1 in
+    let long = states_long g.S.Source.list g.S.Source.counts c.args.slots.now in
+    let used = c.use_all.ensures.size in
+    let items = c.use_all.new.uses.ok.0 in
+    omega (arith, few, many, long, used, items)
 
 pub returns : goal.returns
 returns g c settings counts readies before can =

@@ -1,7 +1,7 @@
 use Rattle.std.proofs.Common.{◌++◌, All, length, take, drop, sym, ap, subst, ◌∙◌, arith}
-use Rattle.batch_run.specs.Working.{IsAtWork, AllWorked}
+use Rattle.batch_sides.specs.Working.{IsAtWork, AllWorked}
 use Rattle.batch_run.proofs.CrewLaws.{all_at_work, ran_parts}
-use Rattle.batch_run.proofs.Places.{lent_back}
+use Rattle.batch_result.proofs.Places.{lent_back}
 use Rattle.batch_run.proofs.SlotLaws.{all_fetched}
 use Rattle.batch_run.proofs.hire.Crew.run.Goals as goal
 

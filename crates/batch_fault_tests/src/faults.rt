@@ -1,0 +1,164 @@
+//! Batches over sources whose rows are at fault, or whose calls fail.
+
+use access_log::CoreFault;
+use batch_run::Settings;
+use batch_support::{A, B, Case, PLAIN, first_wrong};
+use query_support::{Asked, Expected, FIRST, FIRST_ENDS, Figures};
+use source_state::{LookFault, SourceFault};
+use source_support::{Held, Kind};
+use std::test::*;
+
+/// The second row's grade rises.
+const RISING: Held = Held {
+    rows: &[(1, 500), (2, 600)],
+    ..A
+};
+
+const FALLING: Held = Held {
+    rows: &[(1, 400), (2, 300)],
+    ..B
+};
+
+/// Both objects of two lists.
+const BOTH: Asked = ("top 2 by sum(A,B) using ta", &[0, 1]);
+
+/// The first query doesn't reach the row at fault, the second one does.
+const RISING_ENDS: &[Expected] = &[
+    Expected::Answered(
+        &[(1, 900, 900)],
+        Figures {
+            depth: 1,
+            sorted: 2,
+            random: 0,
+            cost: 2,
+        },
+    ),
+    Expected::Look(
+        0,
+        LookFault::Source(SourceFault::OutOfOrder {
+            place: 2,
+            before: 500,
+            after: 600,
+        }),
+    ),
+];
+
+const ROWS: [Case; 5] = [
+    // the row at fault isn't read before it is needed
+    Case {
+        held: &[RISING, FALLING],
+        counts: &[2, 2],
+        asked: &[FIRST, BOTH],
+        settings: PLAIN,
+        ends: RISING_ENDS,
+        used: &[(2, 0, 2, 0), (1, 0, 1, 0)],
+    },
+    // it comes with the first row, before either query has what it needs, so that nobody has to want it
+    Case {
+        held: &[RISING, FALLING],
+        counts: &[2, 2],
+        asked: &[FIRST, BOTH],
+        settings: Settings {
+            workers: 2,
+            page: 2,
+            ahead: 1,
+        },
+        ends: RISING_ENDS,
+        used: &[(2, 0, 1, 0), (2, 0, 1, 0)],
+    },
+    // a row of the second page repeats an object
+    Case {
+        held: &[Held {
+            rows: &[(7, 9), (8, 8), (7, 7)],
+            ..A
+        }],
+        counts: &[3],
+        asked: &[("top 3 by A using nra", &[0])],
+        settings: Settings { page: 2, ..PLAIN },
+        ends: &[Expected::Look(
+            0,
+            LookFault::Source(SourceFault::Repeated {
+                object: 7,
+                place: 3,
+            }),
+        )],
+        used: &[(3, 0, 3, 0)],
+    },
+    // three rows where five are stated
+    Case {
+        held: &[A],
+        counts: &[5],
+        asked: &[("top 5 by A using nra", &[0])],
+        settings: PLAIN,
+        ends: &[Expected::Look(
+            0,
+            LookFault::Source(SourceFault::ShortList { stated: 5, got: 3 }),
+        )],
+        used: &[(3, 0, 4, 0)],
+    },
+    // each list has an object that the other one lacks
+    Case {
+        held: &[
+            Held {
+                rows: &[(1, 9), (2, 8)],
+                ..A
+            },
+            Held {
+                rows: &[(1, 7), (3, 6)],
+                ..B
+            },
+        ],
+        counts: &[2, 2],
+        asked: &[BOTH],
+        settings: PLAIN,
+        ends: &[Expected::Core(CoreFault::Strangers {
+            object: 3,
+            count: 2,
+        })],
+        used: &[(2, 0, 2, 0), (2, 0, 2, 0)],
+    },
+];
+
+#[test]
+fn refuses_by_rows(rt: HostRuntime) -> Result<(), Fail> {
+    assert_eq!(rt; first_wrong(&rt, rt.alloc(), &ROWS)?, None);
+    Ok(())
+}
+
+/// One failed call isn't for ever: the query that waits for it is refused, and the next one is answered.
+const CALLS: [Case; 2] = [
+    Case {
+        held: &[
+            Held {
+                kind: Kind::FailsAtPage(2),
+                ..A
+            },
+            B,
+        ],
+        counts: &[3, 3],
+        asked: &[FIRST, FIRST],
+        settings: PLAIN,
+        ends: &[Expected::Look(0, LookFault::Failed), FIRST_ENDS],
+        used: &[(2, 2, 2, 2), (2, 1, 2, 1)],
+    },
+    Case {
+        held: &[
+            A,
+            Held {
+                kind: Kind::FailsAtGrade(1),
+                ..B
+            },
+        ],
+        counts: &[3, 3],
+        asked: &[FIRST, FIRST, FIRST],
+        settings: PLAIN,
+        ends: &[Expected::Look(1, LookFault::Failed), FIRST_ENDS, FIRST_ENDS],
+        used: &[(2, 2, 2, 2), (2, 1, 2, 1)],
+    },
+];
+
+#[test]
+fn refuses_for_a_fail_once(rt: HostRuntime) -> Result<(), Fail> {
+    assert_eq!(rt; first_wrong(&rt, rt.alloc(), &CALLS)?, None);
+    Ok(())
+}

@@ -1,0 +1,99 @@
+//! Batches over sources that give other grades than their rows have, or no grade.
+
+use batch_support::{A, B, Case, PLAIN, first_wrong};
+use query_support::{Expected, FIRST};
+use source_state::{LookFault, SourceFault};
+use source_support::{Held, Kind};
+use std::test::*;
+
+/// Two lists that have one object each that the other one lacks.
+const ONE: Held = Held {
+    rows: &[(1, 9), (2, 8)],
+    ..A
+};
+
+const OTHER: Held = Held {
+    rows: &[(3, 7), (1, 6)],
+    ..B
+};
+
+const CASES: [Case; 3] = [
+    // a grade that isn't the one of the row that comes later
+    Case {
+        held: &[
+            Held {
+                kind: Kind::Lies(2, 850),
+                ..A
+            },
+            B,
+        ],
+        counts: &[3, 3],
+        asked: &[FIRST],
+        settings: PLAIN,
+        ends: &[Expected::Look(
+            0,
+            LookFault::Source(SourceFault::Clash {
+                object: 2,
+                sorted: 800,
+                random: 850,
+            }),
+        )],
+        used: &[(2, 1, 2, 1), (1, 1, 1, 1)],
+    },
+    // a grade above the last row's
+    Case {
+        held: &[
+            Held {
+                kind: Kind::Lies(2, 950),
+                ..A
+            },
+            B,
+        ],
+        counts: &[3, 3],
+        asked: &[FIRST],
+        settings: PLAIN,
+        ends: &[Expected::Look(
+            0,
+            LookFault::Source(SourceFault::Above {
+                object: 2,
+                grade: 950,
+                bottom: 900,
+            }),
+        )],
+        used: &[(1, 1, 1, 1), (1, 1, 1, 1)],
+    },
+    // the first list hasn't the objects of the others, and takes no more asks than it has objects
+    Case {
+        held: &[
+            ONE,
+            OTHER,
+            Held {
+                rows: &[(4, 7), (1, 6)],
+                ..OTHER
+            },
+            Held {
+                rows: &[(5, 7), (1, 6)],
+                ..OTHER
+            },
+        ],
+        counts: &[2, 2, 2, 2],
+        asked: &[
+            FIRST,
+            ("top 1 by sum(A,B) using ta", &[0, 2]),
+            ("top 1 by sum(A,B) using ta", &[0, 3]),
+        ],
+        settings: PLAIN,
+        ends: &[
+            Expected::Look(0, LookFault::Missing { object: 3 }),
+            Expected::Look(0, LookFault::Missing { object: 4 }),
+            Expected::Look(0, LookFault::AsksFull { kept: 2 }),
+        ],
+        used: &[(1, 2, 1, 2), (1, 1, 1, 1)],
+    },
+];
+
+#[test]
+fn refuses_by_grades(rt: HostRuntime) -> Result<(), Fail> {
+    assert_eq!(rt; first_wrong(&rt, rt.alloc(), &CASES)?, None);
+    Ok(())
+}

@@ -1,0 +1,9 @@
+-- Lemmas on what logs tell of a source's list, and how queries end over told lists.
+pub mod Pages
+pub mod Places
+pub mod ShutLaws
+pub mod TruthLaws
+pub mod LaterLaws
+pub mod TableLaws
+pub mod RunOverLists
+pub mod EndingLaws

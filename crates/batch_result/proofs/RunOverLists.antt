@@ -1,0 +1,106 @@
+-- How a query ends that is on its run over its own lists.
+use Rattle.std.proofs.Common.{◌≡◌, ℕ, List, length, Result, Ok, Err, Some, unwrap_or, refl, sym, subst, ◌∙◌}
+use Rattle.ranked_list.specs.declared.row.Row.{Row}
+use Rattle.ranked_list.specs.Table.{IsTable}
+use Rattle.monotone_fn.specs.Shape.{list_count}
+use Rattle.topk_theory.specs.Transcript.{whole}
+use Rattle.access_log.specs.declared.answer.Answer.{Answer}
+use Rattle.access_log.specs.declared.core_fault.CoreFault.TheVariants as core
+use Rattle.access_log.specs.Machine.{MachineState, IsBegun}
+use Rattle.source_state.specs.declared.look.LookFault.TheVariants as why
+use Rattle.source_state.specs.State.{State, state_at}
+use Rattle.query_text.specs.declared.algorithm.Algorithm.{Algorithm}
+use Rattle.query_text.specs.declared.algorithm.Algorithm.TheVariants.{Ta, Nra, Ca}
+use Rattle.query_text.specs.Costs.{costs_in_force}
+use Rattle.query_core.specs.declared.drive.DriveFault.{DriveFault}
+use Rattle.query_core.specs.declared.drive.DriveFault.TheVariants.{RoomFull}
+use Rattle.query_core.specs.declared.machine.Machine.{Machine}
+use Rattle.query_core.specs.declared.machine.Machine.TheVariants.{Ta as TaMachine, Nra as NraMachine, Ca as CaMachine}
+use Rattle.query_core.specs.declared.ready.Ready.{Ready}
+use Rattle.query_core.specs.Driving.{Continues, AnswersOver, Drives, IsFedFrom, RunsOver}
+use Rattle.query_core.specs.Machines.{algorithm_of, state_of, IsMachineFor}
+use Rattle.query_core.specs.OneAnswer.{IsOverRoom}
+use Rattle.query_core.proofs.Answering.{drives_ready, finishes_end, stops_first}
+use Rattle.query_turns.specs.declared.ended.Ended.{Ended}
+use Rattle.query_turns.specs.declared.ended.Ended.TheVariants as ended
+use Rattle.query_turns.specs.declared.ended.Refusal.TheVariants as refusal
+use Rattle.query_turns.specs.declared.inquiry.Inquiry.{Inquiry}
+use Rattle.query_turns.specs.Inquiries.{source_needed}
+use Rattle.query_turns.specs.Causes.{IsCause}
+use Rattle.query_turns.specs.Endings.{EndsAs}
+use Rattle.query_turns.specs.Honest.{lists_of, MayRefuse, IsOnItsRun}
+use Rattle.query_turns.specs.Kept.{IsServed}
+use Rattle.query_turns.specs.Made.{IsOf}
+use Rattle.batch_result.specs.Batches.{IsSpared}
+use Rattle.batch_result.specs.Tables.{EndsOver}
+
+-- a machine of an algorithm in a state
+abbrev machine_of : Algorithm → MachineState → Machine
+machine_of Ta t = TaMachine t
+machine_of Nra t = NraMachine t
+machine_of Ca t = CaMachine t
+
+machine_algorithm : (a : Algorithm) (t : MachineState) → algorithm_of (machine_of a t) ≡ a
+machine_algorithm Ta t = refl
+machine_algorithm Nra t = refl
+machine_algorithm Ca t = refl
+
+machine_state : (a : Algorithm) (t : MachineState) → state_of (machine_of a t) ≡ t
+machine_state Ta t = refl
+machine_state Nra t = refl
+machine_state Ca t = refl
+
+-- a query on its run over its own lists, which form a table
+module _ (lists : List (List Row)) (states : List State) (ready : Ready) (q : Inquiry) (served : IsServed states q) (of : IsOf ready q)
+    (table : IsTable ready.count (lists_of lists q)) (on : IsOnItsRun lists q) where
+  abbrev D : List (List Row)
+  D = lists_of lists q
+
+  -- the machine that the query began with
+  abbrev first_machine : Machine
+  first_machine = machine_of ready.query.algorithm of.first
+
+  goes_on : Continues (state_of first_machine) (state_of q.machine)
+  goes_on = subst (λ t. Continues t (state_of q.machine)) (sym (machine_state ready.query.algorithm of.first)) of.goes
+
+  is_machine : IsMachineFor ready first_machine
+  is_machine = record {
+    algorithm = machine_algorithm ready.query.algorithm of.first;
+    begun = subst (IsBegun ready.query.expr ready.query.k ready.count (unwrap_or ready.query.room ready.count) (costs_in_force ready.query)) (sym (machine_state ready.query.algorithm of.first)) of.begun;
+  }
+
+  same_algorithm : algorithm_of q.machine ≡ algorithm_of first_machine
+  same_algorithm = of.algorithm ∙ sym (machine_algorithm ready.query.algorithm of.first)
+
+  fed : IsFedFrom (whole D) (state_of q.machine)
+  fed = record { drawn = on.agrees.drawn; roomy = served.drawn.roomy }
+
+  many_lists : length D ≡ list_count ready.query.expr
+  many_lists = on.agrees.lists ∙ of.goes.lists ∙ of.begun.lists
+
+  comes : (result : Result Answer DriveFault) → Drives (algorithm_of first_machine) D (state_of first_machine) result → RunsOver ready D result
+  comes result drives = drives_ready ready D first_machine result of.is table many_lists of.is.expr.lists.some is_machine drives
+
+  pub answers_over : (answer : Answer) → EndsAs q (ended.Answered answer) → AnswersOver ready D answer
+  answers_over answer ends =
+      comes (Ok answer) (finishes_end D first_machine q.machine (Ok answer) same_algorithm goes_on fed ends.done (served.run, ends.items, ends.log))
+
+  pub is_over : (room : ℕ) → q.refusal ≡ Some (refusal.Core (core.RoomFull room)) → IsOverRoom ready.query ready.count D room
+  is_over room e =
+      let may : MayRefuse D q (Some (refusal.Core (core.RoomFull room))) = subst (MayRefuse D q) e on.refused in
+      let cause : IsCause (state_at states (source_needed q)) (state_of q.machine) q.waiting.noted (Some (refusal.Core (core.RoomFull room))) =
+      subst (IsCause (state_at states (source_needed q)) (state_of q.machine) q.waiting.noted) e served.cause in
+      comes (Err (RoomFull room)) (stops_first D first_machine q.machine (RoomFull room) same_algorithm goes_on (cause.2, may.0, may.1))
+
+  -- where no call that failed refuses it, the query ends over its lists
+  pub ends_over : ((list : ℕ) → q.refusal ≡ Some (refusal.Look list why.Failed) → ⊥) → ((list : ℕ) → q.refusal ≡ Some (refusal.Look list why.Garbled) → ⊥)
+      → IsSpared q → (end : Ended) → EndsAs q end → EndsOver D ready end
+  ends_over failed garbled spared (ended.Answered answer) ends = answers_over answer ends
+  ends_over failed garbled spared (ended.Core (core.RoomFull room)) ends = is_over room ends
+  ends_over failed garbled spared (ended.Core (core.Strangers object count)) ends = subst (MayRefuse D q) ends on.refused
+  ends_over failed garbled spared (ended.Look list (why.Source fault)) ends = subst (MayRefuse D q) ends on.refused
+  ends_over failed garbled spared (ended.Look list (why.Missing object)) ends = subst (MayRefuse D q) ends on.refused
+  ends_over failed garbled spared (ended.Look list (why.AsksFull kept)) ends = subst (MayRefuse D q) ends on.refused
+  ends_over failed garbled spared (ended.Look list why.Failed) ends = failed list ends
+  ends_over failed garbled spared (ended.Look list why.Garbled) ends = garbled list ends
+  ends_over failed garbled spared (ended.Look list why.Memory) ends = spared list ends

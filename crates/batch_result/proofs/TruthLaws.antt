@@ -1,0 +1,117 @@
+-- The turns of a fetcher of a source that tells a ranked list, of whose objects alone grades are asked, leave a log that is true of it.
+use Rattle.std.proofs.Common.{◌≡◌, ◌<◌, ℕ, Option, Some, None, List, [], ◌∷◌, length, Contains, IfSome, refl, sym, ap, subst, ◌∙◌, arith}
+use Rattle.std.proofs.lemmas.List.Elements.{Contains-append_left}
+use Rattle.ranked_list.specs.declared.row.Row.{Row}
+use Rattle.ranked_list.specs.Table.{IsRanked, objects}
+use Rattle.turn_lock.specs.declared.known.Known.{Known}
+use Rattle.turn_lock.specs.Facts as facts
+use Rattle.topk_theory.specs.Transcript.{Begins}
+use Rattle.source_api.specs.declared.counts.Counts.{Counts}
+use Rattle.source_api.specs.Told.{IsPage}
+use Rattle.source_log.specs.declared.entry.LogEntry.{LogEntry}
+use Rattle.source_log.specs.declared.entry.Settling.{Settling}
+use Rattle.source_state.specs.declared.event.Event.{Event}
+use Rattle.source_state.specs.declared.event.Event.TheVariants as event
+use Rattle.source_log.specs.Log.{rows_in, settling_in, fault_in}
+use Rattle.source_state.specs.State.{State}
+use Rattle.source_state.specs.Events as events
+use Rattle.source_state.proofs.AskLaws.{pending_parts}
+use Rattle.source_log.proofs.Lists.{none_not_some}
+use Rattle.query_turns.specs.Honest.{IsGradeOf, IsTrueOf}
+use Rattle.query_turns.proofs.TrueLists.{IsHonestEvent, true_after}
+use Rattle.fetcher.specs.declared.turned.Turned.{Turned}
+use Rattle.fetcher.specs.declared.turned.Turned.TheVariants as turned
+use Rattle.fetcher.specs.Turning.{IsFed, IsOfSource, Brings}
+use Rattle.fetcher.specs.Chaining.{Moment, OneTurn, moment, AreTurns, IsFetched}
+use Rattle.fetcher.proofs.EventLaws.{event_asks}
+use Rattle.batch_result.proofs.Pages.{next_page}
+use Rattle.batch_result.specs.Batches.{IsHonestFor}
+
+-- a log is true of a list: its rows are how the list begins and have no fault, and what is settled is the list's
+record IsTrueLog (list : List Row) (log : List LogEntry) : Type 0 where
+  rows : Begins (rows_in log) list
+  faultless : fault_in log ≡ None
+  settled : (object : ℕ) (settling : Settling) → settling_in log object ≡ Some settling → IsGradeOf list object settling
+
+-- each of some objects is one of the list
+abbrev AreIn : List Row → List ℕ → Type 0
+AreIn list asks = (object : ℕ) → Contains asks object → Contains (objects list) object
+
+true_of : (list : List Row) (s : State) → IsTrueLog list s.log → AreIn list s.asks → IsTrueOf list s
+true_of list s h asked = record { rows = h.rows; faultless = h.faultless; settled = h.settled; asked = asked }
+
+log_of : (list : List Row) (s : State) → IsTrueOf list s → IsTrueLog list s.log
+log_of list s h = record { rows = h.rows; faultless = h.faultless; settled = h.settled }
+
+none_true : (list : List Row) → IsTrueLog list []
+none_true list = record { rows = refl; faultless = refl; settled = λ object settling e. absurd (none_not_some e) }
+
+-- the state that a turn found was asked what it knew of afterwards
+found_asks : (e : Event) (before after : Known LogEntry) → (fed : IsFed e before after) → IsOfSource e → fed.found.asks ≡ after.met
+found_asks e before after fed of = sym (event_asks fed.found e of) ∙ sym fed.sees.asks
+
+true_fed : (list : List Row) (e : Event) (before after : Known LogEntry) → (fed : IsFed e before after) → IsRanked list → IsOfSource e → AreIn list after.met
+    → IsHonestEvent list fed.found e → IsTrueLog list before.seen → IsTrueLog list after.seen
+true_fed list e before after fed ranked of asked honest h =
+    let found = fed.found in
+    let now = true_of list found (subst (IsTrueLog list) (sym fed.is.log) h) (subst (AreIn list) (sym (found_asks e before after fed of)) asked) in
+    subst (IsTrueLog list) (sym fed.sees.log) (log_of list (events.after found e) (true_after list found e ranked now fed.may honest))
+
+true_same : (list : List Row) (log after : List LogEntry) → after ≡ log → IsTrueLog list log → IsTrueLog list after
+true_same list log after e h = subst (IsTrueLog list) (sym e) h
+
+-- one turn
+true_turn : (page ahead : ℕ) (list : List Row) (counts now : Counts) (before after : Known LogEntry) (answer : Turned)
+    → Brings page ahead (Some list) counts now before after answer → IsRanked list → length list ≡ before.name.1 → AreIn list after.met
+    → IsTrueLog list before.seen → IsTrueLog list after.seen
+true_turn page ahead list counts now before after (turned.Paged rows) b ranked long asked h =
+    let found = b.fed.found in
+    let count : found.count ≡ before.name.1 = ap (λ (p : ℕ × ℕ). p.1) b.fed.is.name in
+    let room : length (rows_in found.log) < found.count = b.fed.may.room in
+    let told : IsPage list (length (rows_in found.log)) b.given = subst (λ log. IsPage list (length (rows_in log)) b.given) (sym b.fed.is.log) b.told in
+    let front : Begins (rows_in found.log) list = subst (λ log. Begins (rows_in log) list) (sym b.fed.is.log) h.rows in
+    true_fed list (event.Page b.given) before after b.fed ranked tt asked (next_page list (rows_in found.log) b.given front (omega (arith, room, count, long)) told) h
+true_turn page ahead list counts now before after (turned.Graded object) b ranked long asked h =
+    true_fed list (event.Grade object b.grade) before after b.fed ranked tt asked b.told h
+true_turn page ahead list counts now before after (turned.Missed object) b ranked long asked h =
+    let pending : Contains b.fed.found.asks object = (pending_parts b.fed.found object b.fed.may).0 in
+    let there : Contains after.met object = subst (λ os. Contains os object) (found_asks (event.Miss object) before after b.fed tt) pending in
+    absurd (b.told (asked object there))
+true_turn page ahead list counts now before after turned.Failed b ranked long asked h = true_same list before.seen after.seen b.seen h
+true_turn page ahead list counts now before after turned.Garbled b ranked long asked h = true_same list before.seen after.seen b.seen h
+true_turn page ahead list counts now before after turned.Memory b ranked long asked h = true_same list before.seen after.seen b.seen h
+true_turn page ahead list counts now before after turned.Idle b ranked long asked h = true_same list before.seen after.seen b.seen h
+
+-- the objects that were asked earlier are asked later
+asked_back : (list : List Row) (earlier later : List ℕ) → facts.Begins earlier later → AreIn list later → AreIn list earlier
+asked_back list earlier later begins asked object c =
+    asked object (subst (λ os. Contains os object) (sym begins.goes_on) (Contains-append_left earlier begins.rest object c))
+
+asked_first : (page ahead : ℕ) (told : Option (List Row)) (list : List Row) (before after : Moment) (turns : List OneTurn)
+    → AreTurns page ahead told before turns after → AreIn list after.known.met → AreIn list before.known.met
+asked_first page ahead told list before after [] is asked = subst (λ (m : Moment). AreIn list m.known.met) is asked
+asked_first page ahead told list before after (turn ∷ turns) is asked =
+    asked_back list before.known.met turn.next.known.met is.0.feeds.follows.met (asked_first page ahead told list turn.next after turns is.1 asked)
+
+true_turns : (page ahead : ℕ) (list : List Row) (before after : Moment) (turns : List OneTurn) → AreTurns page ahead (Some list) before turns after
+    → IsRanked list → length list ≡ before.known.name.1 → AreIn list after.known.met → IsTrueLog list before.known.seen → IsTrueLog list after.known.seen
+true_turns page ahead list before after [] is ranked long asked h = subst (λ (m : Moment). IsTrueLog list m.known.seen) (sym is) h
+true_turns page ahead list before after (turn ∷ turns) is ranked long asked h =
+    let next = asked_first page ahead (Some list) list turn.next after turns is.1 asked in
+    let same : length list ≡ turn.next.known.name.1 = long ∙ ap (λ (p : ℕ × ℕ). p.1) (sym is.0.feeds.name) in
+    true_turns page ahead list turn.next after turns is.1 ranked same asked
+    (true_turn page ahead list before.counts turn.next.counts before.known turn.next.known turn.answer is.0.brings ranked long next h)
+
+-- the closing state
+pub told_honest : (page ahead : ℕ) (told : Option (List Row)) (before after : Counts) (first last : Known LogEntry) (s : State) → first.seen ≡ []
+    → s.log ≡ last.seen → facts.Begins last.met s.asks → s.count ≡ first.name.1 → IsFetched page ahead told (moment before first) (moment after last)
+    → IfSome told (λ list. IsHonestFor list s)
+told_honest page ahead None before after first last s none log asks count turns = tt
+told_honest page ahead (Some list) before after first last s none log asks count turns = record {
+  honest = λ ranked long asked.
+      let met : AreIn list last.met = asked_back list last.met s.asks asks asked in
+      let begun : IsTrueLog list first.seen = subst (IsTrueLog list) (sym none) (none_true list) in
+      let seen : IsTrueLog list last.seen
+      = true_turns page ahead list (moment before first) (moment after last) turns.turns turns.each ranked (long ∙ count) met begun in
+      true_of list s (subst (IsTrueLog list) (sym log) seen) asked;
+}

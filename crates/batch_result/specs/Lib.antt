@@ -1,0 +1,6 @@
+-- What a batch promises.
+pub mod Ranges
+pub mod Numbered
+pub mod Using
+pub mod Batches
+pub mod Tables

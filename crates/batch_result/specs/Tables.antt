@@ -1,0 +1,37 @@
+-- What comes of a batch whose sources tell tables.
+use Rattle.std.specs.Prelude.{◌≡◌, ◌<◌, ℕ, Some, List, All, length, map}
+use Rattle.tk_io.specs.Faults.{Rose}
+use Rattle.ranked_list.specs.declared.row.Row.{Row}
+use Rattle.ranked_list.specs.Table.{IsTable}
+use Rattle.topk_theory.specs.Transcript.{list_at}
+use Rattle.access_log.specs.declared.core_fault.CoreFault.TheVariants.{Strangers, RoomFull}
+use Rattle.source_api.specs.declared.counts.Counts.{Counts}
+use Rattle.query_core.specs.declared.ready.Ready.{Ready}
+use Rattle.query_core.specs.Driving.{AnswersOver}
+use Rattle.query_core.specs.OneAnswer.{IsOverRoom}
+use Rattle.query_turns.specs.declared.ended.Ended.{Ended}
+use Rattle.query_turns.specs.declared.ended.Ended.TheVariants as ended
+use Rattle.batch_result.specs.Numbered.{counts_at}
+use Rattle.batch_result.specs.Batches.{BatchRun}
+
+-- the lists of a ready query, by the numbers of their sources
+abbrev pub lists_for : List (List Row) → Ready → List (List Row)
+lists_for lists ready = map (list_at lists) ready.sources.items
+
+-- by its counts no call of a source failed, and none was answered by garbled data
+pub record NoneFailed (before now : Counts) : Type 0 where
+  pub faults : ¬ Rose before.faults now.faults
+  pub garbles : ¬ Rose before.garbles now.garbles
+
+-- the sources of a run tell these lists, those of each query form a table, and no call failed
+pub record TellsTables (run : BatchRun) (lists : List (List Row)) : Type 0 where
+  pub told : run.told ≡ map Some lists
+  pub tables : All (λ ready. IsTable ready.count (lists_for lists ready)) run.readies
+  pub untroubled : (source : ℕ) → source < length run.sizes → NoneFailed (counts_at run.before source) (counts_at run.now source)
+
+-- how a query ends over its lists D: with the one answer, or refused for a room that it states and its one run passes
+abbrev pub EndsOver : List (List Row) → Ready → Ended → Type 0
+EndsOver D ready (ended.Answered answer) = AnswersOver ready D answer
+EndsOver D ready (ended.Core (RoomFull room)) = IsOverRoom ready.query ready.count D room
+EndsOver D ready (ended.Core (Strangers object count)) = ⊥
+EndsOver D ready (ended.Look list fault) = ⊥

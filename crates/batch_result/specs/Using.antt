@@ -1,0 +1,90 @@
+-- What queries used of a source, and what the source gave for it.
+use Rattle.std.specs.Prelude.{◌≡◌, ◌≤◌, ◌==◌, ◌&&◌, ◌*◌, ◌⊎◌, ℕ, Bool, true, false, Option, Some, None, List, length, Contains, count_by}
+use Rattle.std.specs.List.{sum_by}
+use Rattle.source_api.specs.declared.counts.Counts.{Counts}
+use Rattle.source_log.specs.declared.entry.FailKind.{FailKind}
+use Rattle.source_log.specs.declared.entry.FailKind.TheVariants as kind
+use Rattle.source_state.specs.declared.look.LookFault.{LookFault}
+use Rattle.source_state.specs.declared.look.LookFault.TheVariants as why
+use Rattle.source_log.specs.Log.{settled_in}
+use Rattle.source_state.specs.State.{State}
+use Rattle.source_state.specs.Looking.{reach_of}
+use Rattle.query_turns.specs.declared.ended.Refusal.{Refusal}
+use Rattle.query_turns.specs.declared.ended.Refusal.TheVariants.{Core, Look}
+use Rattle.query_turns.specs.declared.inquiry.Inquiry.{Inquiry}
+use Rattle.query_turns.specs.Inquiries.{source_of}
+use Rattle.query_run.specs.Asking.{IsAskedFor, AsksGradeOf, grades_asked}
+use Rattle.fetcher.specs.Causes.{HasGiven}
+use Rattle.fetcher.specs.Metering.{WentUp, RoseBy}
+use Rattle.batch_result.specs.declared.settings.Settings.{Settings}
+use Rattle.batch_result.specs.declared.batch.Use.{Use}
+
+-- a look's fault is that a call failed so
+abbrev pub is_fail : FailKind → LookFault → Bool
+is_fail kind.Failed why.Failed = true
+is_fail kind.Garbled why.Garbled = true
+is_fail kind.Memory why.Memory = true
+is_fail kind.Failed (why.Source fault) = false
+is_fail kind.Failed (why.Missing object) = false
+is_fail kind.Failed (why.AsksFull kept) = false
+is_fail kind.Failed why.Garbled = false
+is_fail kind.Failed why.Memory = false
+is_fail kind.Garbled (why.Source fault) = false
+is_fail kind.Garbled (why.Missing object) = false
+is_fail kind.Garbled (why.AsksFull kept) = false
+is_fail kind.Garbled why.Failed = false
+is_fail kind.Garbled why.Memory = false
+is_fail kind.Memory (why.Source fault) = false
+is_fail kind.Memory (why.Missing object) = false
+is_fail kind.Memory (why.AsksFull kept) = false
+is_fail kind.Memory why.Failed = false
+is_fail kind.Memory why.Garbled = false
+
+-- a query is refused because a call of this source failed so
+abbrev pub refuses_for : FailKind → ℕ → Inquiry → Option Refusal → Bool
+refuses_for what source q None = false
+refuses_for what source q (Some (Core fault)) = false
+refuses_for what source q (Some (Look list fault)) = is_fail what fault && source_of q list == source
+
+abbrev pub is_refused_for : FailKind → ℕ → Inquiry → Bool
+is_refused_for what source q = refuses_for what source q q.refusal
+
+-- a depth is none, or one of these queries asked a list of this source for so many rows
+abbrev pub IsWantedBy : List Inquiry → ℕ → ℕ → Type 0
+IsWantedBy queries source depth = (depth ≡ 0) ⊎ ((q : Inquiry) × Contains queries q × IsAskedFor q source depth)
+
+-- one of these queries asked a list of this source for the grade of an object
+abbrev pub IsNamedBy : List Inquiry → ℕ → ℕ → Type 0
+IsNamedBy queries source object = (q : Inquiry) × Contains queries q × AsksGradeOf q source object
+
+-- how many grades these queries asked a source for
+abbrev pub all_grades_asked : List Inquiry → ℕ → ℕ
+all_grades_asked queries source = sum_by (λ q. grades_asked q source) queries
+
+-- what was used of a source, between what it had counted before and what it counts now. Its closing state has what the queries wanted of
+-- it, which is what some query asked for, and no more grades than all asked for, each of an object that one of them named; the rows that it gave
+-- are within the reach of the greatest depth that was wanted, whatever the number of the queries; and a grade was given for each object once at most,
+-- and settled it; and what the log has of rows and of faults came of so many rows
+pub record IsUsed (settings : Settings) (queries : List Inquiry) (source : ℕ) (s : State) (before now : Counts) (used : Use) : Type 0 where
+  pub want : used.want ≡ s.want
+  pub wanted : IsWantedBy queries source used.want
+  pub asks : used.asks ≡ length s.asks
+  pub asked : used.asks ≤ all_grades_asked queries source
+  pub named : (object : ℕ) → Contains s.asks object → IsNamedBy queries source object
+  pub rows : WentUp used.rows before.rows_given now.rows_given
+  pub reach : used.rows ≤ reach_of used.want settings.page settings.ahead s.count
+  pub grades : WentUp used.grades before.grades_given now.grades_given
+  pub once : used.grades ≤ used.asks
+  pub settled : length (settled_in s.log) ≡ used.grades
+  pub comes : HasGiven used.rows s.count s.log
+
+-- so many lines, no more than the workers times some number of calls, by which the count rose, or it stands at its last value
+pub record IsFewFor (workers lines calls : ℕ) (before now : ℕ) : Type 0 where
+  pub rose : RoseBy calls before now
+  pub few : lines ≤ workers * calls
+
+-- the fails that refused queries, of either kind: the calls of the source that failed so, by its closing state, are counted, and the queries that
+-- are refused for one are no more than the workers times these calls
+pub record HasCounted (workers : ℕ) (queries : List Inquiry) (source : ℕ) (s : State) (before now : Counts) : Type 0 where
+  pub failed : IsFewFor workers (count_by (is_refused_for kind.Failed source) queries) s.tally.failed before.faults now.faults
+  pub garbled : IsFewFor workers (count_by (is_refused_for kind.Garbled source) queries) s.tally.garbled before.garbles now.garbles

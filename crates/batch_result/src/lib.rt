@@ -1,0 +1,12 @@
+//! What a batch of queries gives, over sources that all of them read: how each query ended, and what was used of each source. What a batch
+//! promises is said here (`IsBatch`), and what follows where the sources tell lists that form tables.
+#![tactic(auto)]
+
+mod batch;
+mod laws;
+mod settings;
+
+pub use batch::{Batch, Use};
+pub use laws::{queries_are_on_their_runs, told_tables_give_the_one_ending};
+pub use query_run::Ended;
+pub use settings::Settings;

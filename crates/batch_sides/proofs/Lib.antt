@@ -1,0 +1,6 @@
+-- Lemmas on shares of the queries, and on what a worker does with its share.
+pub mod SumLaws
+pub mod ShareLaws
+pub mod Picks
+pub mod Zips
+pub mod WorkLaws

@@ -1,0 +1,3 @@
+-- What workers and fetchers do.
+pub mod Shares
+pub mod Working

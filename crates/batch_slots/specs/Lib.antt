@@ -1,0 +1,2 @@
+-- What happens to slots.
+pub mod Slots

@@ -1,0 +1,6 @@
+use Rattle.std.proofs.Common.{◌≡◌, All, None}
+use Rattle.gated_support.proofs.runs.slots_of.Given as goal
+
+-- no slot so far has a feeder
+abbrev pub invariant-loop-number : goal.invariant-loop-number
+invariant-loop-number l = All (λ slot. slot.feeder ≡ None) l.slots.items
