@@ -1,5 +1,5 @@
 #!/usr/bin/env python3
-"""Writes the data and the expected texts of crates/hotels and crates/many_queries. Run it at the top of the repository."""
+"""Writes the data and the expected texts of crates/hotels and of many_queries in crates/examples/data. Run it at the top of the repository."""
 
 import os
 import random
@@ -84,10 +84,10 @@ def many_queries():
         line = made_query(draw, names)
         if line not in lines:
             lines.append(line)
-    write("crates/many_queries/data/catalog.csv", "name,place,random\r\n" + "".join(f"{n},lists/{n}.csv,yes\r\n" for n in names))
-    write_lists("crates/many_queries/data/lists", lists)
-    write("crates/many_queries/stdin", "".join(line + "\r\n" for line in lines))
-    write("crates/many_queries/stdout", "".join(outcome(n, line, lists) for n, line in enumerate(lines, 1)))
+    write("crates/examples/data/many_queries.csv", "name,place,random\r\n" + "".join(f"{n},lists/{n}.csv,yes\r\n" for n in names))
+    write_lists("crates/examples/data/lists", lists)
+    write("crates/examples/data/many_queries.lines", "".join(line + "\r\n" for line in lines))
+    write("crates/examples/data/many_queries.text", "".join(outcome(n, line, lists) for n, line in enumerate(lines, 1)))
 
 
 if __name__ == "__main__":

@@ -52,17 +52,23 @@ item_in line = do
   high ← number_up_to top_64 low.1
   Some (record { object = object.0; low = low.0; high = high })
 
+-- the figures, from what follows their depth and their number of sorted accesses
+abbrev pub figures_after : ℕ → ℕ → List ℕ → Option Figures
+figures_after depth sorted text = do
+  text ← rest_after (codes "random ") text
+  random ← number_before top_64 text
+  text ← rest_after (codes "cost ") random.1
+  cost ← number_up_to top_64 text
+  Some (record { depth = depth; sorted = sorted; random = random.0; cost = cost })
+
+-- the figures of a line
 unfoldable pub figures_in : List ℕ → Option Figures
 figures_in line = do
   text ← rest_after (codes "stop depth ") line
   depth ← number_before top_64 text
   text ← rest_after (codes "sorted ") depth.1
   sorted ← number_before top_64 text
-  text ← rest_after (codes "random ") sorted.1
-  random ← number_before top_64 text
-  text ← rest_after (codes "cost ") random.1
-  cost ← number_up_to top_64 text
-  Some (record { depth = depth.0; sorted = sorted.0; random = random.0; cost = cost })
+  figures_after depth.0 sorted.0 sorted.1
 
 -- the number of the list with a name
 abbrev pub list_named : List (List ℕ) → List ℕ → Option ℕ

@@ -3,7 +3,7 @@
 ghost use Rattle.std.specs.Prelude.{◌≡◌, ◌≤◌, length, IfSome};
 ghost use Rattle.std.specs.Option.{option_map};
 ghost use Rattle.limits.specs.declared.TheConstants.{MAX_LISTS};
-ghost use Rattle.cert_reader.specs.Parts.{number_within, number_before, number_in, count_in, item_in, figures_in, list_named, row_in, access_in};
+ghost use Rattle.cert_reader.specs.Parts.{number_within, number_before, number_in, count_in, item_in, figures_after, figures_in, list_named, row_in, access_in};
 
 use access_log::{Access, Item};
 use limits::MAX_OBJECTS;
@@ -75,14 +75,11 @@ pub(crate) fn item_of(line: &[u8]) -> Option<Item>
     })
 }
 
-/// The figures that a line gives.
-#[tactic(auto, unfolding(crate::specs::Parts::figures_in))]
-pub(crate) fn figures_of(line: &[u8]) -> Option<Figures>
-    ensures { result ≡ figures_in line.now }
+/// The figures, from what follows their depth and their number of sorted accesses.
+fn figures_after(depth: u64, sorted: u64, text: &[u8]) -> Option<Figures>
+    ensures { result ≡ figures_after depth sorted text.now }
 {
-    let (depth, rest) = number_before(rest_after(b"stop depth ", line)?, u64::MAX)?;
-    let (sorted, rest) = number_before(rest_after(b"sorted ", rest)?, u64::MAX)?;
-    let (random, rest) = number_before(rest_after(b"random ", rest)?, u64::MAX)?;
+    let (random, rest) = number_before(rest_after(b"random ", text)?, u64::MAX)?;
     let cost = number_up_to(rest_after(b"cost ", rest)?, u64::MAX)?;
     Some(Figures {
         depth,
@@ -90,6 +87,16 @@ pub(crate) fn figures_of(line: &[u8]) -> Option<Figures>
         random,
         cost,
     })
+}
+
+/// The figures that a line gives.
+#[tactic(auto, unfolding(crate::specs::Parts::figures_in))]
+pub(crate) fn figures_of(line: &[u8]) -> Option<Figures>
+    ensures { result ≡ figures_in line.now }
+{
+    let (depth, rest) = number_before(rest_after(b"stop depth ", line)?, u64::MAX)?;
+    let (sorted, rest) = number_before(rest_after(b"sorted ", rest)?, u64::MAX)?;
+    figures_after(depth, sorted, rest)
 }
 
 /// The number of the list with a name.

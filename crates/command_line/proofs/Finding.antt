@@ -1,5 +1,5 @@
 -- What `clap` finds in words that a process was given.
-use Rattle.std.proofs.Common.{◌≡◌, ℕ, true, List, [], ◌∷◌, map, sym, subst, inl, inr}
+use Rattle.std.proofs.Common.{◌≡◌, ℕ, true, List, [], ◌∷◌, map, subst, inl, inr}
 use Rattle.std.specs.Prelude.{string_bytes, String}
 use Rattle.std.proofs.lemmas.Str.{IsUtf8-string_bytes}
 use Rattle.clap.specs.Words.{App, Row, fault_of, matches_of, is_simple, is_simple_and_free, HasKind, IsAmong, kind_of}

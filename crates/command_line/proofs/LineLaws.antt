@@ -4,7 +4,6 @@ use Rattle.std.specs.Prelude.{if◌then◌else◌, not, option_and_then}
 use Rattle.std.specs.List.{flat_map, list_all, list_any, before_first, after_first, position_or_len}
 use Rattle.std.specs.Str.{bytes_eq}
 use Rattle.std.proofs.lemmas.Bool.{false≢true, eqb-true, or_parts}
-use Rattle.std.proofs.lemmas.Slice.Eq.{bytes_eq-Decides}
 use Rattle.clap.specs.Lexer.{long_of, long_of_rest, short_of, short_of_rest, strip_byte}
 use Rattle.clap.specs.Walk.{Text}
 use Rattle.command_line.specs.Line.{OptionRule, Takes, Part, CommandLine, Given, GivenByLine, IsLine, AreParts, IsPlain, IsOptionName, AreOptionNames, Fresh, is_given, is_option, needed, line_given, line_words, line_places, part_words, behind_words, parts_given, places_given}

@@ -1,12 +1,9 @@
 -- What `clap` gives of the places and options of a command, whatever they ask for.
-use Rattle.std.proofs.Common.{◌≡◌, ℕ, Ok, Err, Bool, true, false, List, [], ◌∷◌, map, drop, Option, Some, None, refl, sym, ap, ◌∙◌, subst, inl, inr}
-use Rattle.std.specs.Prelude.{if◌then◌else◌, find, slice_get, string_bytes, String}
+use Rattle.std.proofs.Common.{◌≡◌, ℕ, Ok, Err, Bool, true, false, List, [], ◌∷◌, drop, Option, Some, None, refl, sym, ap, ◌∙◌, subst}
+use Rattle.std.specs.Prelude.{if◌then◌else◌, find, slice_get}
 use Rattle.std.specs.Option.{option_and_then}
 use Rattle.std.specs.Str.{bytes_eq}
-use Rattle.std.proofs.lemmas.Str.{IsUtf8-string_bytes}
-use Rattle.clap.specs.Words.{App, Row, Kinds, fault_of, first_of, matches_of, is_simple, is_simple_and_free, HasKind, IsAmong, kind_of}
-use Rattle.clap.specs.declared.error.Error.{Error}
-use Rattle.clap.specs.declared.error.kind.ErrorKind.TheVariants as kind
+use Rattle.clap.specs.Words.{App, Row, Kinds, fault_of, first_of, matches_of, is_simple, is_simple_and_free}
 use Rattle.std.specs.declared.result.Result.{Result}
 use Rattle.command_line.specs.declared.fault.WordsFault.{WordsFault}
 use Rattle.command_line.specs.declared.fault.WordsFault.TheVariants.{Memory}

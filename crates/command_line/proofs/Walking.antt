@@ -7,7 +7,6 @@ use Rattle.std.specs.Str.{bytes_eq, chars, IsUtf8, encode_utf8_all as encodes}
 use Rattle.std.proofs.Math.Bool.{or-false}
 use Rattle.std.proofs.lemmas.Bool.{false≢true, eqb-true}
 use Rattle.std.proofs.lemmas.List.{map-append}
-use Rattle.std.proofs.lemmas.Slice.Eq.{bytes_eq-Decides}
 use Rattle.std.proofs.lemmas.Str.{encodes-chars, encode_ascii}
 use Rattle.clap.specs.Lexer.{long_of, short_of, short_of_rest}
 use Rattle.clap.specs.Kinds.{Kinds, or_else, check_kinds}

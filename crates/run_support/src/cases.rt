@@ -1,14 +1,13 @@
 //! One drive of `run`, and rows of drives with what they are to come to.
 
-use mem_source::MemShelf;
 use super::shelves::shelf_of;
+use mem_source::MemShelf;
 use source_support::Held;
 use std::alloc::Global;
 use std::sync::Wait;
 use std::thread::Threads;
 use test_support::Unmade;
-use top_support::{Streams, ends_over};
-use topk_top::Status;
+use top_support::{Status, Streams, ends_over};
 
 /// The place of the catalog on the shelf.
 pub const CATALOG: &str = "cat.csv";

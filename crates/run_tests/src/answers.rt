@@ -2,7 +2,7 @@
 
 use run_support::{Case, Held, Kind, Row, first_wrong};
 use std::test::Fail;
-use topk_top::Status;
+use top_support::Status;
 
 /// Two lists of the same objects.
 const A: &[(u32, u32)] = &[(1, 900), (2, 800), (3, 100)];

@@ -6,8 +6,7 @@ use std::sync::Wait;
 use std::test::Fail;
 use std::thread::Threads;
 use test_support::Unmade;
-use top_support::{Streams, ends_over, ends_with};
-use topk_top::Status;
+use top_support::{Status, Streams, ends_over, ends_with};
 
 /// The line of one query over a list of one row, whose grade is that of the first state.
 const LINE: &str = "bulk queries 1 answered 1 depth 1 sorted 1 random 0 values 951640\n";

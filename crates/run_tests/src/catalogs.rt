@@ -6,8 +6,7 @@ use std::sync::Wait;
 use std::test::Fail;
 use std::thread::Threads;
 use test_support::Unmade;
-use top_support::ends_with;
-use topk_top::Status;
+use top_support::{Status, ends_with};
 
 /// Texts that are no catalog, and what is written of each.
 const NO_CATALOGS: &[(&str, &str)] = &[

@@ -14,8 +14,7 @@ use std::test::*;
 use std::thread::Threads;
 use test_support::Unmade;
 use tk_io::MemSink;
-use top_support::{end_of, end_over};
-use topk_top::Status;
+use top_support::{Status, end_of, end_over};
 
 /// A made table and made queries over it: the words of `make`, and their numbers.
 #[derive(Clone, Copy)]

@@ -7,8 +7,7 @@ use std::sync::Wait;
 use std::test::Fail;
 use std::thread::Threads;
 use test_support::Unmade;
-use top_support::{Streams, ends_over};
-use topk_top::Status;
+use top_support::{Status, Streams, ends_over};
 
 /// Whether a run over a shelf of an empty catalog refuses these lines so.
 fn refuses_on<W: Threads + Wait + Sync>(

@@ -2,7 +2,7 @@
 
 use run_support::{Case, Held, Kind, Row, first_wrong};
 use std::test::Fail;
-use topk_top::Status;
+use top_support::Status;
 
 const TWO: &str = "name,place,random\nA,a,yes\nB,b,yes\n";
 

@@ -7,19 +7,12 @@ use std::alloc::Global;
 use std::test::Fail;
 
 /// Events, a need that is looked for first, further events, and the need with what is answered then.
-type Looked = (
-    &'static str,
-    &'static [Step],
-    Need,
-    &'static [Step],
-    Need,
-    Look,
-);
+type Looked = (&'static [Step], Need, &'static [Step], Need, Look);
 
 /// Looks for rows.
 const ROWS: [Looked; 8] = [
+    // a row that is there
     (
-        "a row that is there",
         &[],
         Need::Row { list: 0, depth: 1 },
         &[Step::Page(&[(1, 9), (2, 8)])],
@@ -29,24 +22,24 @@ const ROWS: [Looked; 8] = [
             grade: 8,
         }),
     ),
+    // a row that isn't there yet
     (
-        "a row that isn't there yet",
         &[],
         Need::Row { list: 0, depth: 1 },
         &[],
         Need::Row { list: 0, depth: 2 },
         Look::NotYet,
     ),
+    // a row that is waited for
     (
-        "a row that is waited for",
         &[],
         Need::Row { list: 0, depth: 2 },
         &[],
         Need::Row { list: 0, depth: 2 },
         Look::NotYet,
     ),
+    // a row fault comes after the rows
     (
-        "a row fault comes after the rows",
         &[],
         Need::Row { list: 0, depth: 1 },
         &[Step::Page(&[(1, 8), (2, 9)])],
@@ -57,32 +50,32 @@ const ROWS: [Looked; 8] = [
             after: 9,
         })),
     ),
+    // a fail since the want
     (
-        "a fail since the want",
         &[],
         Need::Row { list: 0, depth: 1 },
         &[Step::Fail(FailKind::Memory), Step::Fail(FailKind::Garbled)],
         Need::Row { list: 0, depth: 1 },
         Look::Fault(LookFault::Garbled),
     ),
+    // a fail before the want
     (
-        "a fail before the want",
         &[Step::Fail(FailKind::Failed)],
         Need::Row { list: 0, depth: 1 },
         &[],
         Need::Row { list: 0, depth: 1 },
         Look::NotYet,
     ),
+    // a fail while another need waits
     (
-        "a fail while another need waits",
         &[],
         Need::Row { list: 0, depth: 1 },
         &[Step::Fail(FailKind::Failed)],
         Need::Row { list: 0, depth: 2 },
         Look::NotYet,
     ),
+    // another list's number
     (
-        "another list's number",
         &[],
         Need::Row { list: 0, depth: 1 },
         &[Step::Fail(FailKind::Failed)],
@@ -93,16 +86,16 @@ const ROWS: [Looked; 8] = [
 
 /// Looks for grades.
 const GRADES: [Looked; 5] = [
+    // a grade that came
     (
-        "a grade that came",
         &[],
         Need::Grade { list: 0, object: 1 },
         &[Step::Grade(1, 5)],
         Need::Grade { list: 0, object: 1 },
         Look::Grade(5),
     ),
+    // a bad grade
     (
-        "a bad grade",
         &[Step::Page(&[(1, 4)])],
         Need::Grade { list: 0, object: 2 },
         &[Step::Grade(2, 5)],
@@ -113,24 +106,24 @@ const GRADES: [Looked; 5] = [
             bottom: 4,
         })),
     ),
+    // an object that the source hasn't
     (
-        "an object that the source hasn't",
         &[],
         Need::Grade { list: 0, object: 1 },
         &[Step::Miss(1)],
         Need::Grade { list: 0, object: 1 },
         Look::Fault(LookFault::Missing { object: 1 }),
     ),
+    // a grade that stands in the rows
     (
-        "a grade that stands in the rows",
         &[],
         Need::Grade { list: 0, object: 2 },
         &[Step::Page(&[(2, 4)]), Step::Fail(FailKind::Failed)],
         Need::Grade { list: 0, object: 2 },
         Look::Grade(4),
     ),
+    // no room for one more ask
     (
-        "no room for one more ask",
         &[Step::Ask(1), Step::Ask(2), Step::Ask(3)],
         Need::Grade { list: 0, object: 3 },
         &[],
@@ -187,12 +180,12 @@ fn answer_by(
     Ok((answer, waiting.need == Some(second)))
 }
 
-/// The name of the first row that is answered otherwise.
-fn first_wrong(alloc: Global, looks: &[Looked]) -> Result<Option<&'static str>, Fail> {
-    for (name, before, first, between, second, answer) in looks {
+/// The number of the first row that is answered otherwise.
+fn first_wrong(alloc: Global, looks: &[Looked]) -> Result<Option<usize>, Fail> {
+    for (number, (before, first, between, second, answer)) in looks.iter().enumerate() {
         let told = second_answer(alloc, before, *first, between, *second)?;
         if told != (*answer, *answer == Look::NotYet) {
-            return Ok(Some(*name));
+            return Ok(Some(number));
         }
     }
     Ok(None)

@@ -43,6 +43,13 @@ impl Model for Pool {
     ghost invariant = { λ a. (vec_len a.locks < 2 ^ 32) × (a.room.items ≡ []) × (vec_len a.locks ≤ vec_capacity a.room) };
 }
 
+/// Wakes the feeder of a source where a look is not yet answered.
+fn wake_feeder(lock: &TurnLock<SourceState>, answer: Look) {
+    if answer == Look::NotYet {
+        lock.wanted().ring();
+    }
+}
+
 impl Pool {
     /// A pool of sources with these counts of objects, with a pass and a feeder for each source. A feeder has one part of its source's
     /// lock, and the pass all others.
@@ -86,9 +93,7 @@ impl Pool {
     {
         let lock = &self.locks[source as usize];
         let answer = look_once(rt, lock, &mut pass.holds[source as usize], need);
-        if answer == Look::NotYet {
-            lock.wanted().ring();
-        }
+        wake_feeder(lock, answer);
         answer
     }
 

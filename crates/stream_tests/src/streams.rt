@@ -3,39 +3,19 @@
 use std::alloc::Global;
 use std::io;
 use std::io::{ErrorKind, Read, Write};
-use std::process::Abort;
 use std::test::Fail;
 use test_support::Counting;
 use tk_io::{
-    Failed, MemIntake, MemSink, PIECE, Pieces, ReadError, Sink, StdIntake, StdSink, read_text,
-    write_text,
+    Failed, MemIntake, MemSink, Memory, PIECE, Pieces, ReadError, Sink, StdIntake, StdSink,
+    read_text, write_text,
 };
 
 const TEXT: &[u8] = b"list A\n1,900\n";
 
-/// Why the text isn't read whole in pieces of so many bytes, or None where it is.
-fn fault_of(
-    rt: &impl Abort,
-    alloc: Global,
-    piece: u32,
-    fails: &[u64],
-    limit: u64,
-) -> Result<Option<ReadError>, Fail> {
-    assert!(rt; 0 < piece, "a piece");
-    let mut input = MemIntake::make(alloc, TEXT, piece, fails)?;
-    let read = read_text(alloc, &mut input, limit);
-    drop(input);
-    match read {
-        Ok(text) => {
-            assert_eq!(rt; text.as_slice(), TEXT, "in pieces of {piece}");
-            Ok(None)
-        }
-        Err(fault) => Ok(Some(fault)),
-    }
-}
+/// The most bytes of a piece, the calls that fail, the most bytes that are read, and what comes of it.
+type ReadRow = (u32, &'static [u64], u64, Option<ReadError>);
 
-/// The most bytes of a piece, the call that fails, the most bytes that are read, and what comes of it.
-const READS: [(u32, &[u64], u64, Option<ReadError>); 7] = [
+const READS: [ReadRow; 7] = [
     (1, &[], 13, None),
     (5, &[], 13, None),
     (100, &[], 13, None),
@@ -45,43 +25,69 @@ const READS: [(u32, &[u64], u64, Option<ReadError>); 7] = [
     (5, &[], 12, Some(ReadError::Long)),
 ];
 
-#[test]
-fn reads_whole_texts(rt: HostRuntime) -> Result<(), Fail> {
-    for (piece, fails, limit, expected) in &READS {
-        let fault = fault_of(&rt, rt.alloc(), *piece, fails, *limit)?;
-        assert_eq!(rt; fault, *expected, "in pieces of {piece}, {fails:?}");
+/// Whether reading ended so: with a fault, or with the text where none is expected.
+fn is_read(read: Result<Vec<u8>, ReadError>, expected: Option<ReadError>) -> bool {
+    match read {
+        Ok(text) => expected.is_none() && text.as_slice() == TEXT,
+        Err(fault) => expected == Some(fault),
     }
-    Ok(())
 }
 
-/// The text once, and then what there is room for.
-fn writes_until_full(rt: &impl Abort, out: &mut MemSink) {
-    assert!(rt; write_text(out, TEXT).is_ok());
-    assert_eq!(rt; out.taken(), TEXT);
-    assert!(rt; write_text(out, TEXT).is_err());
-    assert_eq!(rt; out.taken(), b"list A\n1,900\nlist A\n".as_slice());
+/// What comes of reading the text in pieces of so many bytes, where these calls fail.
+fn read_in_pieces(
+    alloc: Global,
+    piece: u32,
+    fails: &[u64],
+    limit: u64,
+) -> Result<Vec<u8>, ReadError> {
+    let Ok(mut input) = MemIntake::make(alloc, TEXT, piece.max(1), fails) else {
+        return Err(ReadError::Memory);
+    };
+    let read = read_text(alloc, &mut input, limit);
+    drop(input);
+    read
+}
+
+/// The number of the first row that isn't read as it says.
+fn first_wrong(alloc: Global, rows: &[ReadRow]) -> Option<usize> {
+    rows.iter().position(|(piece, fails, limit, expected)| {
+        !is_read(read_in_pieces(alloc, *piece, fails, *limit), *expected)
+    })
+}
+
+#[test]
+fn reads_whole_texts(rt: HostRuntime) {
+    assert_eq!(rt; first_wrong(rt.alloc(), &READS), None);
+}
+
+/// Whether the text is written once, and then what there is room for.
+fn writes_until_full(out: &mut MemSink) -> bool {
+    let is_whole = write_text(out, TEXT).is_ok() && out.taken() == TEXT;
+    let is_full = write_text(out, TEXT).is_err();
+    is_whole && is_full && out.taken() == b"list A\n1,900\nlist A\n".as_slice()
 }
 
 #[test]
 fn writes_whole_texts(rt: HostRuntime) -> Result<(), Fail> {
     let mut out = MemSink::make(rt.alloc(), 20, &[])?;
-    writes_until_full(&rt, &mut out);
+    let writes = writes_until_full(&mut out);
     drop(out);
+    assert!(rt; writes);
     Ok(())
 }
 
-/// Nothing, since the first call fails.
-fn writes_nothing(rt: &impl Abort, out: &mut MemSink) {
-    assert!(rt; write_text(out, TEXT).is_err());
-    assert!(rt; out.taken().is_empty());
-    assert!(rt; out.write(b"").is_ok());
+/// Whether nothing is written, since the first call fails.
+fn writes_nothing(out: &mut MemSink) -> bool {
+    let fails = write_text(out, TEXT).is_err();
+    fails && out.taken().is_empty() && out.write(b"").is_ok()
 }
 
 #[test]
 fn stops_at_a_failed_write(rt: HostRuntime) -> Result<(), Fail> {
     let mut out = MemSink::make(rt.alloc(), 20, &[1])?;
-    writes_nothing(&rt, &mut out);
+    let stops = writes_nothing(&mut out);
     drop(out);
+    assert!(rt; stops);
     Ok(())
 }
 
@@ -115,26 +121,26 @@ fn put_all(out: &mut MemSink, texts: &[&[u8]]) -> Result<(), Failed> {
     pieces.end(out)
 }
 
-/// Whether these texts go out where such calls fail, of which so many bytes of the long text are taken.
+/// Whether these texts go out where such calls fail, and of them so many bytes of the long text are taken.
 fn are_put(
-    rt: &impl Abort,
     alloc: Global,
     fails: &[u64],
     texts: &[&[u8]],
     taken: usize,
-) -> Result<bool, Fail> {
+) -> Result<(bool, bool), Memory> {
     let mut out = MemSink::make(alloc, 40_000, fails)?;
-    let put = put_all(&mut out, texts);
-    assert_eq!(rt; Some(out.taken()), LONG.get(..taken));
+    let is_put = put_all(&mut out, texts).is_ok();
+    let is_taken = Some(out.taken()) == LONG.get(..taken);
     drop(out);
-    Ok(put.is_ok())
+    Ok((is_put, is_taken))
 }
 
 /// A longer text than a piece goes out whole, and after a failed write nothing does.
 #[test]
 fn stops_after_a_failed_piece(rt: HostRuntime) -> Result<(), Fail> {
-    assert!(rt; !are_put(&rt, rt.alloc(), &[2], &[LONG, b"y"], PIECE)?);
-    assert!(rt; are_put(&rt, rt.alloc(), &[], &[LONG], 20_000)?);
+    let stopped = are_put(rt.alloc(), &[2], &[LONG, b"y"], PIECE)?;
+    let whole = are_put(rt.alloc(), &[], &[LONG], 20_000)?;
+    assert_eq!(rt; [stopped, whole], [(false, true), (true, true)]);
     Ok(())
 }
 
@@ -194,9 +200,8 @@ fn read_of(alloc: Global, good: u32) -> Option<ReadError> {
 
 #[test]
 fn reads_on_after_interruptions(rt: HostRuntime) {
-    for (good, fault) in [(100, ReadError::Long), (6, ReadError::Failed)] {
-        assert_eq!(rt; read_of(rt.alloc(), good), Some(fault), "{good}");
-    }
+    let reads = [read_of(rt.alloc(), 100), read_of(rt.alloc(), 6)];
+    assert_eq!(rt; reads, [Some(ReadError::Long), Some(ReadError::Failed)]);
 }
 
 /// What comes of writing where so many calls are good.
@@ -209,12 +214,10 @@ fn write_of(good: u32) -> Result<(), Failed> {
 
 #[test]
 fn writes_on_after_interruptions(rt: HostRuntime) {
-    for (good, wrote) in [(100, Ok(())), (6, Err(Failed))] {
-        assert_eq!(rt; write_of(good), wrote, "{good}");
-    }
+    assert_eq!(rt; [write_of(100), write_of(6)], [Ok(()), Err(Failed)]);
 }
 
-/// Writes the text, and closes the stream.
+/// Whether the text is written; closes the stream.
 fn write_and_close<W: Write + Drop>(writer: W) -> bool {
     let mut out = StdSink::make(writer);
     let is_ok = write_text(&mut out, TEXT).is_ok();
@@ -222,19 +225,19 @@ fn write_and_close<W: Write + Drop>(writer: W) -> bool {
     is_ok
 }
 
-/// Reads all, and closes the stream.
-fn read_and_close<R: Read + Drop>(alloc: Global, reader: R) -> Option<Vec<u8>> {
+/// Whether the text is all that is read, and closes the stream.
+fn read_and_close<R: Read + Drop>(alloc: Global, reader: R) -> bool {
     let mut input = StdIntake::make(reader);
-    let text = read_text(alloc, &mut input, 100);
+    let read = read_text(alloc, &mut input, 100);
     drop(input);
-    text.ok()
+    is_read(read, None)
 }
 
 #[test]
 fn moves_through_a_pipe(rt: HostRuntime) -> Result<(), Fail> {
     let (reader, writer) = io::pipe(&rt)?;
-    assert!(rt; write_and_close(writer));
-    let text = read_and_close(rt.alloc(), reader);
-    assert_eq!(rt; text.as_deref(), Some(TEXT));
+    let is_written = write_and_close(writer);
+    let is_read = read_and_close(rt.alloc(), reader);
+    assert_eq!(rt; (is_written, is_read), (true, true));
     Ok(())
 }

@@ -7,8 +7,7 @@ use std::sync::Wait;
 use std::test::Fail;
 use std::thread::Threads;
 use test_support::Numbers;
-use top_support::ends_with;
-use topk_top::Status;
+use top_support::{Status, ends_with};
 
 /// Expressions over one, two and three lists.
 const EXPRESSIONS: [(usize, &str); 8] = [

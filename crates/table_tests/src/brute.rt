@@ -9,8 +9,7 @@ use std::sync::Wait;
 use std::test::Fail;
 use std::thread::Threads;
 use test_support::Numbers;
-use top_support::end_of;
-use topk_top::Status;
+use top_support::{Status, end_of};
 
 /// How many objects are asked for, and by which aggregate.
 type Asked = (u32, Aggregate);

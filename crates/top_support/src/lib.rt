@@ -6,3 +6,4 @@ mod outcomes;
 
 pub use drives::{end_into, end_of, end_over};
 pub use outcomes::{Streams, answers_by, ends_over, ends_with};
+pub use topk_top::{Status, run_process};

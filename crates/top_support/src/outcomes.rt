@@ -1,7 +1,7 @@
 //! Whether `top` ends as it is to, and writes what it is to.
 
-use mem_source::MemShelf;
 use super::drives::end_into;
+use mem_source::MemShelf;
 use std::alloc::Global;
 use std::sync::Wait;
 use std::thread::Threads;

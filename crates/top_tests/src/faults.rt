@@ -7,8 +7,7 @@ use std::test::Fail;
 use std::thread::Threads;
 use test_support::{FIRST_TEXT, Unmade};
 use tk_io::{Failed, MemSink, Sink};
-use top_support::{Streams, end_into, ends_over};
-use topk_top::Status;
+use top_support::{Status, Streams, end_into, ends_over};
 
 /// The bundle of the first example.
 const BUNDLE: &[u8] =

@@ -6,8 +6,7 @@ use std::sync::Wait;
 use std::test::Fail;
 use std::thread::Threads;
 use test_support::Unmade;
-use top_support::{Streams, answers_by, ends_over};
-use topk_top::Status;
+use top_support::{Status, Streams, answers_by, ends_over};
 
 const WORDS: [&str; 7] = ["make", "--start", "7", "--count", "4", "--lists", "2"];
 

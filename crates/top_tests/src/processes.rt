@@ -10,7 +10,7 @@ use std::sync::Wait;
 use std::test::Fail;
 use std::thread::Threads;
 use tk_io::{StdIntake, StdSink, read_text};
-use topk_top::run_process;
+use top_support::run_process;
 
 /// A process with this name and this word behind it.
 #[derive(Clone, Copy)]

@@ -5,8 +5,7 @@ use std::sync::Wait;
 use std::test::Fail;
 use std::thread::Threads;
 use test_support::Unmade;
-use top_support::ends_with;
-use topk_top::Status;
+use top_support::{Status, ends_with};
 
 /// The options of `one` end by `--`, and it has none.
 const ONE: [&str; 2] = ["one", "--"];

@@ -5,8 +5,7 @@ use std::sync::Wait;
 use std::test::Fail;
 use std::thread::Threads;
 use test_support::{FIRST_TEXT, Unmade};
-use top_support::ends_with;
-use topk_top::Status;
+use top_support::{Status, ends_with};
 
 /// The certificate of a run over one list of one object, whose grade is 0.
 const NINE: &str =

@@ -10,4 +10,4 @@ mod three;
 pub use acts::{Act, Sources, take_act};
 pub use cases::{Case, first_wrong};
 pub use outcomes::{are_ended_so, ends_of, world_of};
-pub use three::THREE;
+pub use three::{THREE, THREE_LISTS};

@@ -3,7 +3,7 @@
 use super::acts::Sources;
 
 /// Two lists of three objects.
-const THREE_LISTS: &[&[(u32, u32)]] = &[
+pub const THREE_LISTS: &[&[(u32, u32)]] = &[
     &[(1, 900), (2, 800), (3, 100)],
     &[(2, 700), (3, 600), (1, 500)],
 ];

@@ -36,12 +36,12 @@ close-states-requires-clause-whole g c =
     (λ source l. (can.ran.fetched source l).feeds.parts))
 
 pub use_all-requires-clause-states : goal.use_all-requires-clause-states
-use_all-requires-clause-states g c =
+use_all-requires-clause-states g c κs within =
     let can = c.requires.4 in
     c.close-states.ensures.size ∙ (can.ran.base.size ∙ (sym can.ran.slots.1 ∙ states_long g.S.Source.list g.S.Source.counts c.args.slots.now))
 
 pub use_all-requires-clause-room : goal.use_all-requires-clause-room
-use_all-requires-clause-room g c =
+use_all-requires-clause-room g c κs within =
     let can = c.requires.4 in
     let room = can.ran.uses.1 in
     let many = can.ran.slots.1 in
