@@ -8,6 +8,8 @@ const HEARD: u64 = 4_294_967_296;
 #[derive(Drop)]
 pub struct Bell {
     rings: AtomicU64,
+    /// How many sleep at it or are about to. Where nobody does, a ring makes no system call.
+    sleepers: AtomicU64,
 }
 
 impl Bell {
@@ -15,6 +17,7 @@ impl Bell {
     pub fn make() -> Bell {
         Bell {
             rings: AtomicU64::new(0),
+            sleepers: AtomicU64::new(0),
         }
     }
 
@@ -23,14 +26,18 @@ impl Bell {
         self.rings.load(Ordering::SeqCst)
     }
 
-    /// Rings it, and wakes all who sleep at it.
+    /// Rings it, and wakes all who sleep at it. Who isn't counted as a sleeper yet finds that it was rung.
     pub fn ring(&self) {
         self.rings.fetch_add(1, Ordering::SeqCst);
-        self.rings.wake_all();
+        if self.sleepers.load(Ordering::SeqCst) > 0 {
+            self.rings.wake_all();
+        }
     }
 
     /// Sleeps until it was rung since it had been rung so often. It may also return for no reason.
     pub fn sleep(&self, rt: &impl Wait, heard: u64) {
+        self.sleepers.fetch_add(1, Ordering::SeqCst);
         self.rings.park(rt, (heard % HEARD) as u32);
+        self.sleepers.fetch_sub(1, Ordering::SeqCst);
     }
 }

@@ -8,6 +8,7 @@ mod laws;
 mod lock;
 mod logged;
 mod pass;
+mod queue;
 mod rule;
 mod seat;
 mod view;

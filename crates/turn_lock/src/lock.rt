@@ -5,6 +5,7 @@ ghost use Rattle.turn_lock.specs.Known.{all_parts, Agrees, Follows, opened, hold
 use crate::bell::Bell;
 use crate::logged::Logged;
 use crate::pass::Pass;
+use crate::queue::Queue;
 use crate::rule::Turns;
 use crate::seat;
 use crate::view::View;
@@ -22,6 +23,7 @@ use std::sync::Wait;
 #[derive(Drop)]
 pub struct TurnLock<V: Logged + Drop> {
     table: Table<Option<V>, View<V::Entry>, Snapshot<V>, Turns, Global>,
+    queue: Queue,
     /// The writer rings it, and the others sleep at it.
     told: Bell,
     /// The others ring it, and the writer sleeps at it.
@@ -56,6 +58,7 @@ impl<V: Logged + Send + Drop> TurnLock<V> {
             Ok((table, seat)) => {
                 let lock = TurnLock {
                     table,
+                    queue: Queue::make(),
                     told: Bell::make(),
                     wanted: Bell::make(),
                 };
@@ -73,7 +76,7 @@ impl<V: Logged + Send + Drop> TurnLock<V> {
         ensures pass { pass.new ≡ (self.now, holding (V.facts result) pass.old.1) }
         ensures value { Agrees (V.facts result) pass.old.1 }
     {
-        seat::enter(rt, &self.table.shared, &mut pass.seat)
+        seat::enter(rt, &self.table.shared, &self.queue, &mut pass.seat)
     }
 
     /// Gives a value in place of the one that was taken, and ends the turn. Its log, its asks, its mark and its tally
@@ -83,7 +86,7 @@ impl<V: Logged + Send + Drop> TurnLock<V> {
         requires turn { IsSomeAnd pass.old.1.held (λ f. Grows f (V.facts value) × (pass.old.1.writer ≡ false → IsKept f (V.facts value))) }
         ensures { IfSome pass.old.1.held (λ f. pass.new ≡ (self.now, after_turn f (V.facts value) pass.old.1)) }
     {
-        seat::leave(&self.table.shared, &mut pass.seat, value);
+        seat::leave(&self.table.shared, &self.queue, &mut pass.seat, value);
     }
 
     /// The bell that the writer rings when a turn of its brought something, and that the others sleep at. Who looked in a turn, and found

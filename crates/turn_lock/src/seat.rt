@@ -6,12 +6,13 @@ ghost use Rattle.turn_lock.specs.Rule.{resting};
 ghost use Rattle.turn_lock.specs.Seats.{IsSeatOf, IsSameSeat, Rests, InTurn, Waits, Took, MayGive, Gives, Counted, Gave};
 
 use crate::logged::Logged;
+use crate::queue::Queue;
 use crate::rule::{Compare, Count, Cut, Draw, Glue, Offer, PassOn, Turns, Watch};
 use crate::view::View;
 use atomic_table::{Seat, Shared};
+use std::hint::spin_loop;
 use std::snapshot::Snapshot;
 use std::sync::Wait;
-use std::thread;
 
 /// The words of the table: the next ticket, the ticket that is served, and the length of the log.
 const TICKET: usize = 0;
@@ -24,24 +25,46 @@ pub type Desk<V> = Shared<Option<V>, View<<V as Logged>::Entry>, Snapshot<V>, Tu
 
 pub type Place<V> = Seat<Option<V>, View<<V as Logged>::Entry>>;
 
-// Waits until the ticket is served.
-fn wait_for<V: Logged, R: Wait>(rt: &R, desk: &Desk<V>, seat: &mut Place<V>, ticket: u64)
+/// How often a pass looks for its turn before it sleeps.
+const LOOKS: u32 = 100;
+
+// Waits until the ticket is served. A turn takes about as long as the looks, so where the one whose turn it is runs, nobody sleeps.
+fn wait_for<V: Logged, R: Wait>(
+    rt: &R,
+    desk: &Desk<V>,
+    queue: &Queue,
+    seat: &mut Place<V>,
+    ticket: u64,
+)
     requires desk { IsSeatOf desk.now.table_id seat.old.table_id }
     requires waits { Waits ticket seat.old.me }
     ensures same { IsSameSeat seat.old seat.new }
     ensures took { Took V.facts seat.old.me seat.new.me }
 {
+    let bell = queue.bell(ticket);
+    let mut looks = 0;
     for _ in rt.forever() {
+        let heard = bell.rings();
         if desk.load::<Watch>(seat, SERVING) == ticket {
             return;
         }
-        thread::yield_now();
+        if looks < LOOKS {
+            looks += 1;
+            spin_loop();
+        } else {
+            bell.sleep(rt, heard);
+        }
     }
     unreachable!()
 }
 
 // Waits for a turn, and takes the value out.
-pub fn enter<V: Logged + Drop, R: Wait>(rt: &R, desk: &Desk<V>, seat: &mut Place<V>) -> V
+pub fn enter<V: Logged + Drop, R: Wait>(
+    rt: &R,
+    desk: &Desk<V>,
+    queue: &Queue,
+    seat: &mut Place<V>,
+) -> V
     requires desk { IsSeatOf desk.now.table_id seat.old.table_id }
     requires rests { Rests seat.old.me }
     ensures same { IsSameSeat seat.old seat.new }
@@ -49,7 +72,7 @@ pub fn enter<V: Logged + Drop, R: Wait>(rt: &R, desk: &Desk<V>, seat: &mut Place
     ensures value { Agrees (V.facts result) seat.old.me.0.known }
 {
     let ticket = desk.fetch_add::<Draw>(seat, TICKET, 1);
-    wait_for(rt, desk, seat, ticket);
+    wait_for(rt, desk, queue, seat, ticket);
     match desk.exchange(seat, 0, None) {
         Some(value) => value,
         None => unreachable!(),
@@ -81,19 +104,20 @@ fn count<V: Logged>(desk: &Desk<V>, seat: &mut Place<V>, length: u64)
     desk.store::<Count>(seat, LENGTH, length);
 }
 
-// Serves the next ticket.
-fn pass_on<V: Logged>(desk: &Desk<V>, seat: &mut Place<V>)
+// Serves the next ticket, and wakes the pass that has it.
+fn pass_on<V: Logged>(desk: &Desk<V>, queue: &Queue, seat: &mut Place<V>)
     requires desk { IsSeatOf desk.now.table_id seat.old.table_id }
     requires given { Gave V.facts seat.old.me }
     ensures same { IsSameSeat seat.old seat.new }
     ensures rests { Rests seat.new.me }
     ensures known { seat.new.me.0.known ≡ record seat.old.me.0.known { held = None } }
 {
-    desk.fetch_add::<PassOn>(seat, SERVING, 1);
+    let served = desk.fetch_add::<PassOn>(seat, SERVING, 1);
+    queue.bell(served.wrapping_add(1)).ring();
 }
 
 // Puts a value home, and ends the turn.
-pub fn leave<V: Logged + Drop>(desk: &Desk<V>, seat: &mut Place<V>, value: V)
+pub fn leave<V: Logged + Drop>(desk: &Desk<V>, queue: &Queue, seat: &mut Place<V>, value: V)
     requires desk { IsSeatOf desk.now.table_id seat.old.table_id }
     requires turn { InTurn seat.old.me }
     requires change { MayGive (V.facts value) seat.old.me.0.known }
@@ -103,7 +127,7 @@ pub fn leave<V: Logged + Drop>(desk: &Desk<V>, seat: &mut Place<V>, value: V)
 {
     let length = put(desk, seat, value);
     count(desk, seat, length);
-    pass_on(desk, seat);
+    pass_on(desk, queue, seat);
 }
 
 // Splits a seat off, with so many parts.
