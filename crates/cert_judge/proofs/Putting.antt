@@ -7,7 +7,7 @@ use Rattle.std.specs.Option.{option_map}
 use Rattle.line_text.specs.Lines.{unlines}
 use Rattle.line_text.proofs.LineLaws.{unlines-append}
 use Rattle.ranked_list.specs.declared.row.Row.{Row}
-use Rattle.ranked_list.specs.Bundle.{Content, section, sections, query_line, bundle_lines}
+use Rattle.bundle_text.specs.Bundle.{Content, section, sections, query_line, bundle_lines}
 use Rattle.topk_theory.proofs.AgreementLists.{slice_get_from_read}
 
 -- the text of the sections is that of one after another

@@ -1,7 +1,7 @@
 -- What is told of a text that may be a certificate.
 use Rattle.std.specs.Prelude.{◌≡◌, ℕ, List, Result, Ok, Err}
-use Rattle.ranked_list.specs.declared.bundle.Bundle.{Bundle}
-use Rattle.ranked_list.specs.Bundle.{content}
+use Rattle.bundle_text.specs.declared.bundle.Bundle.{Bundle}
+use Rattle.bundle_text.specs.Bundle.{content}
 use Rattle.monotone_fn.specs.Value.{value}
 use Rattle.monotone_fn.specs.Shape.{list_count}
 use Rattle.topk_theory.specs.Adversary.{counter_table}

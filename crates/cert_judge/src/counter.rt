@@ -8,10 +8,10 @@ ghost use Rattle.cert_judge.specs.Judging.{IsCounterOf};
 
 use super::Memory;
 use access_log::Transcript;
+use bundle_text::Bundle;
 use cert_text::Certificate;
 use judge_core::counter_table;
 use query_text::{Names, print};
-use ranked_list::Bundle;
 use std::alloc::Global;
 
 /// The bytes of a name.

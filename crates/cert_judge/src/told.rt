@@ -1,6 +1,6 @@
 //! What is told of a text.
 
-use ranked_list::Bundle;
+use bundle_text::Bundle;
 
 /// What is told of a text that may be a certificate: the first of these that holds.
 #[derive(Drop)]

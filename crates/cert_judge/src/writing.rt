@@ -8,11 +8,12 @@ ghost use Rattle.tk_io.specs.Faults.{HasCause};
 ghost use Rattle.tk_io.specs.Whole.{TookFront};
 ghost use Rattle.tk_io.specs.Pieces.{Puts};
 ghost use Rattle.line_text.specs.Lines.{unlines};
-ghost use Rattle.ranked_list.specs.Bundle.{content, section, bundle_lines};
+ghost use Rattle.bundle_text.specs.Bundle.{content, section, bundle_lines};
 ghost use Rattle.cert_judge.specs.Text.{refused_line, named, beaten_line, told_text};
 
 use super::told::Told;
-use ranked_list::{Bundle, MemList};
+use bundle_text::Bundle;
+use ranked_list::MemList;
 use table_text::put_rows;
 use tk_io::{Failed, Pieces, Sink};
 

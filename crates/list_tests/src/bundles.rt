@@ -1,6 +1,6 @@
 //! Bundles from outside, with the line at fault or none.
 
-use ranked_list::{Bundle, BundleFault, read_bundle};
+use bundle_text::{Bundle, BundleFault, read_bundle};
 use std::alloc::Global;
 use std::test::Fail;
 

@@ -10,7 +10,7 @@ use Rattle.query_core.specs.declared.ready.Ready.{Ready}
 use Rattle.query_core.specs.Machines.{state_of}
 use Rattle.query_core.proofs.Feeding.{continues_same}
 use Rattle.query_core.proofs.ListCount.{lists_counted}
-use Rattle.ranked_list.proofs.FrontLaws.{IsRanked-nil}
+use Rattle.ranked_list.proofs.RankLaws.{IsRanked-nil}
 use Rattle.query_turns.specs.Histories.{HasHistory}
 use Rattle.query_turns.specs.Inquiries.{told_to, source_needed}
 use Rattle.query_turns.specs.Causes.{IsCause}

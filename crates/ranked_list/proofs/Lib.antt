@@ -1,12 +1,5 @@
-pub mod PartLaws
-pub mod TrackLaws
-pub mod ReadLaws
 pub mod Members
 pub mod OptionLaws
 pub mod RankLaws
-pub mod FrontLaws
-pub mod Viable
-pub mod Complete
-pub mod Outcome
+pub mod RowLaws
 pub mod TableLaws
-pub mod FrontLines

@@ -11,7 +11,7 @@ use Rattle.std.proofs.lemmas.Option.{same_Some}
 use Rattle.std.proofs.lemmas.Map.Keys.{IsDistinct-from_apart}
 use Rattle.ranked_list.specs.declared.row.Row.{Row}
 use Rattle.ranked_list.specs.Table.{IsRanked, objects, top_grade}
-use Rattle.ranked_list.specs.Reading.{last_row, in_order}
+use Rattle.ranked_list.specs.Rows.{last_row, in_order}
 use Rattle.ranked_list.proofs.Members.{member_at, contains_from_member}
 
 abbrev pub Apart : Row → Row → Type 0
@@ -76,6 +76,13 @@ above_last rows k d last falling l is =
     (λ same. subst (λ j. Falls (get_or rows k d) (get_or rows j d)) same (le_refl (get_or rows k d).grade))
     (λ order. ⊎_elim (λ before. falling k (length rows - 1) d before (omega arith)) (λ after. absurd (omega arith)) order)
     (cases_order k (length rows - 1)))
+
+pub IsRanked-nil : IsRanked []
+IsRanked-nil = record {
+  distinct = λ i j d l m. absurd (omega arith);
+  falling = λ i j d l m. absurd (omega arith);
+  capped = λ k d l. absurd (omega arith);
+}
 
 -- a row in order, whose object is new, makes a ranked list longer
 pub IsRanked-push : (rows : List Row) (row : Row) → IsRanked rows → in_order (last_row rows) row ≡ true → is_member nat_eq (objects rows) row.object ≡ false

@@ -12,12 +12,10 @@ use Rattle.ranked_list.specs.declared.order.RowFault.{RowFault}
 use Rattle.ranked_list.specs.declared.order.RowFault.TheVariants.{OutOfOrder, TooHigh}
 use Rattle.ranked_list.specs.Order.{FindsOrder}
 use Rattle.ranked_list.specs.Table.{IsRanked, IsTable, objects}
-use Rattle.ranked_list.specs.Reading.{last_row, in_order, TellsObjects}
-use Rattle.ranked_list.specs.Tracking.{IsAlike}
+use Rattle.ranked_list.specs.Rows.{last_row, in_order, TellsObjects, IsAlike}
 use Rattle.ranked_list.proofs.Members.{Within, all_there}
 use Rattle.ranked_list.proofs.RankLaws.{next_in_order, next_is_new, next_has, distinct_objects, length-objects, order_cap, order_below, order_from}
-use Rattle.ranked_list.proofs.TrackLaws.{is_member-push}
-use Rattle.ranked_list.proofs.FrontLaws.{SameObjects, same_from_within, within_from_same}
+use Rattle.ranked_list.proofs.RowLaws.{is_member-push, SameObjects, same_from_within, within_from_same}
 
 -- ---- one row of a list
 

@@ -1,6 +1,3 @@
 pub mod Table
 pub mod Order
-pub mod Bundle
-pub mod Reading
-pub mod Tracking
-pub mod Fronts
+pub mod Rows

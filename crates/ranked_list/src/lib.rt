@@ -1,20 +1,15 @@
 //! Rows, ranked lists and tables: what the sources of a query hold.
 #![tactic(auto)]
 
-mod bundle;
 mod item;
-mod line;
 mod mem_list;
 mod need;
 mod objects;
 mod order;
 mod page_rows;
-mod reader;
 mod row;
-mod row_front;
 mod table;
 
-pub use bundle::{Bundle, BundleFault, read_bundle};
 pub use item::{Item, Items};
 pub use mem_list::MemList;
 pub use need::Need;
@@ -27,12 +22,6 @@ pub use table::is_table;
 /// No memory was left.
 #[derive(Clone, Copy, Debug, PartialEq, Eq)]
 pub struct Memory;
-
-impl From<object_map::Memory> for Memory {
-    fn from(_: object_map::Memory) -> Memory {
-        Memory
-    }
-}
 
 impl From<AllocError> for Memory {
     fn from(_: AllocError) -> Memory {

@@ -4,8 +4,7 @@ ghost use Rattle.std.specs.Prelude.{◌≡◌, ◌↔◌, ℕ, true, nat_eq, IsT
 ghost use Rattle.std.specs.Set.{is_member};
 ghost use Rattle.std.specs.HashSet.{contains};
 ghost use Rattle.ranked_list.specs.Table.{IsRanked, IsTable, objects};
-ghost use Rattle.ranked_list.specs.Reading.{TellsObjects};
-ghost use Rattle.ranked_list.specs.Tracking.{IsAlike};
+ghost use Rattle.ranked_list.specs.Rows.{TellsObjects, IsAlike};
 
 use super::Memory;
 use super::mem_list::MemList;

@@ -4,7 +4,7 @@ use Rattle.std.proofs.lemmas.List.Elements.{All-contains, All-head, All-tail, Co
 use Rattle.ranked_list.specs.declared.row.Row.{Row}
 use Rattle.ranked_list.specs.Table.{IsRanked, objects, top_grade}
 use Rattle.ranked_list.proofs.OptionLaws.{option_cases}
-use Rattle.ranked_list.proofs.FrontLaws.{IsRanked-nil}
+use Rattle.ranked_list.proofs.RankLaws.{IsRanked-nil}
 use Rattle.topk_theory.specs.declared.access.Access.{Access}
 use Rattle.topk_theory.specs.declared.access.Access.TheVariants.{Sorted, Random}
 use Rattle.topk_theory.specs.Transcript.{Begins, IsDrawn, Gives, list_of, list_at, last_grade, sorted_rows, random_rows, named_objects}

@@ -4,12 +4,13 @@ ghost use Rattle.std.specs.Prelude.{◌≤◌};
 ghost use Rattle.plain_ta.specs.Posed.{IsPosed};
 
 use super::bundles::NAMES;
+use bundle_text::read_bundle;
 use plain_ca::{ca_answer, ca_run};
 use plain_nra::{nra_answer, nra_run};
 use plain_ta::{ta_answer, ta_run};
 use query_reading::read;
 use query_text::{Algorithm, Costs, Query};
-use ranked_list::{Item, MemList, is_table, read_bundle};
+use ranked_list::{Item, MemList, is_table};
 use std::alloc::Global;
 use std::test::Fail;
 use topk_theory::Access;

@@ -7,8 +7,8 @@ use Rattle.std.proofs.lemmas.Grind.{flat_map-append}
 use Rattle.line_text.specs.Lines.{unlines}
 use Rattle.line_text.proofs.LineLaws.{unlines-append}
 use Rattle.ranked_list.specs.declared.row.Row.{Row}
-use Rattle.ranked_list.specs.Bundle.{list_line, row_line, section, sections}
-use Rattle.ranked_list.proofs.FrontLaws.{zip-push}
+use Rattle.bundle_text.specs.Bundle.{list_line, row_line, section, sections}
+use Rattle.bundle_text.proofs.FrontLaws.{zip-push}
 use Rattle.tk_io.specs.Pieces.{Puts}
 use Rattle.tk_io.proofs.Putting.{puts_then, puts_as}
 use Rattle.table_text.specs.Numbered.{list_name, list_names}

@@ -2,7 +2,7 @@
 
 ghost use Rattle.std.specs.Prelude.{◌++◌, ◌∷◌, [], map};
 ghost use Rattle.line_text.specs.Lines.{unlines};
-ghost use Rattle.ranked_list.specs.Bundle.{row_line};
+ghost use Rattle.bundle_text.specs.Bundle.{row_line};
 ghost use Rattle.tk_io.specs.Pieces.{Puts};
 
 use ranked_list::{MemList, Row};

@@ -3,7 +3,7 @@
 ghost use Rattle.std.specs.Prelude.{◌≡◌, ◌++◌, ◌∷◌, [], length, OnOk, OnErr};
 ghost use Rattle.std.specs.Io.KnownBytes.{Appends};
 ghost use Rattle.line_text.specs.Lines.{unlines};
-ghost use Rattle.ranked_list.specs.Bundle.{list_line, section, sections};
+ghost use Rattle.bundle_text.specs.Bundle.{list_line, section, sections};
 ghost use Rattle.table_text.specs.Numbered.{list_name, list_names};
 ghost use Rattle.tk_io.specs.Faults.{HasCause};
 ghost use Rattle.tk_io.specs.Pieces.{Puts};

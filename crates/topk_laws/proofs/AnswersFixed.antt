@@ -8,7 +8,7 @@ use Rattle.cert_text.specs.Outcome.{outcome_text, certificate_of}
 use Rattle.cert_reader.specs.Reading.{Spells}
 use Rattle.cert_reader.proofs.CertifiedLaws.{certified_spelled}
 use Rattle.query_text.specs.declared.query.Query.{Query}
-use Rattle.ranked_list.specs.Bundle.{Content, IsBundle}
+use Rattle.bundle_text.specs.Bundle.{Content, IsBundle}
 use Rattle.query_admission.specs.Becomes.{Becomes}
 use Rattle.cert_judge.specs.declared.told.Told.{Told}
 use Rattle.cert_judge.specs.declared.told.Told.TheVariants.{BadLine, Inconsistent, WildGuess, WrongSize, UnseenAnswer, Figure, Fixes, Beaten}

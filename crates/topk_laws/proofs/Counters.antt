@@ -4,7 +4,7 @@ use Rattle.line_text.specs.Lines.{lines}
 use Rattle.line_text.proofs.LineLaws.{lines_have_no_end}
 use Rattle.ranked_list.specs.declared.row.Row.{Row}
 use Rattle.ranked_list.specs.Table.{IsTable}
-use Rattle.ranked_list.specs.Bundle.{Content, content, IsBundle}
+use Rattle.bundle_text.specs.Bundle.{Content, content, IsBundle}
 use Rattle.monotone_fn.specs.Shape.{list_count}
 use Rattle.topk_theory.specs.declared.access.Access.{Access}
 use Rattle.topk_theory.specs.Transcript.{Agrees, object_of, named_objects}

@@ -1,8 +1,8 @@
 -- What a judge tells of a right answer's certificate.
 use Rattle.std.specs.Prelude.{◌≡◌, ℕ, List, codes}
 use Rattle.line_text.specs.Lines.{lines}
-use Rattle.ranked_list.specs.declared.bundle.Bundle.{Bundle}
-use Rattle.ranked_list.specs.Bundle.{content, IsBundle}
+use Rattle.bundle_text.specs.declared.bundle.Bundle.{Bundle}
+use Rattle.bundle_text.specs.Bundle.{content, IsBundle}
 use Rattle.cert_text.specs.declared.certificate.Certificate.{Certificate}
 use Rattle.cert_reader.specs.Reading.{Spells}
 use Rattle.cert_judge.specs.declared.told.Told.TheVariants.{Fixes, Beaten}

@@ -6,7 +6,7 @@ use Rattle.std.proofs.lemmas.List.Elements.{Contains-append_left, Contains-appen
 use Rattle.std.proofs.lemmas.List.Kept.{AllPairs-cons, AllPairs-filter}
 use Rattle.ranked_list.specs.declared.row.Row.{Row}
 use Rattle.ranked_list.specs.Table.{IsRanked, objects, grade_in, top_grade}
-use Rattle.ranked_list.proofs.FrontLaws.{IsRanked-nil}
+use Rattle.ranked_list.proofs.RankLaws.{IsRanked-nil}
 use Rattle.topk_theory.specs.Transcript.{last_grade}
 use Rattle.topk_theory.specs.Consistent.{HasOther, HasAbove}
 use Rattle.topk_theory.specs.Adversary.{is_above, put_row, by_grade, graded, unread, filled}

@@ -7,7 +7,7 @@ use Rattle.std.proofs.lemmas.List.Elements.{Contains-append_right, All-push}
 use Rattle.ranked_list.specs.declared.row.Row.{Row}
 use Rattle.ranked_list.specs.Table.{IsRanked, IsTable, objects, grade_in, top_grade}
 use Rattle.ranked_list.proofs.OptionLaws.{option_cases}
-use Rattle.ranked_list.proofs.FrontLaws.{IsRanked-nil}
+use Rattle.ranked_list.proofs.RankLaws.{IsRanked-nil}
 use Rattle.topk_theory.specs.declared.access.Access.{Access}
 use Rattle.topk_theory.specs.declared.access.Access.TheVariants.{Sorted, Random}
 use Rattle.topk_theory.specs.Aggregate.{objects_of}

@@ -8,8 +8,8 @@ use Rattle.std.proofs.lemmas.List.Elements.{All-from_recursion}
 use Rattle.std.proofs.lemmas.List.Quantifiers.{position-Some}
 use Rattle.ranked_list.specs.declared.row.Row.{Row}
 use Rattle.ranked_list.specs.Table.{IsTable, IsRanked, objects}
-use Rattle.ranked_list.specs.declared.bundle.Bundle.{Bundle}
-use Rattle.ranked_list.specs.Bundle.{Content, content, IsBundle}
+use Rattle.bundle_text.specs.declared.bundle.Bundle.{Bundle}
+use Rattle.bundle_text.specs.Bundle.{Content, content, IsBundle}
 use Rattle.monotone_fn.specs.Shape.{list_count}
 use Rattle.topk_theory.specs.Transcript.{list_at}
 use Rattle.topk_theory.proofs.AgreementLists.{contains_at, contains_map_from, all_from_members, member_of_all}

@@ -3,7 +3,7 @@ use Rattle.std.proofs.Common.{◌≡◌, ℕ, List, length, inl, inr, sym, ap, �
 use Rattle.std.proofs.lemmas.List.FromFn.{length-map-range_with_len}
 use Rattle.line_text.specs.Lines.{unlines}
 use Rattle.ranked_list.specs.declared.row.Row.{Row}
-use Rattle.ranked_list.specs.Bundle.{sections}
+use Rattle.bundle_text.specs.Bundle.{sections}
 use Rattle.command_words.specs.declared.making.MakeOptions.{MakeOptions}
 use Rattle.table_make.specs.Made.{made_list, made_table}
 use Rattle.table_text.specs.Numbered.{list_names}

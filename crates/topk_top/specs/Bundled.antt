@@ -3,7 +3,7 @@ use Rattle.std.specs.Prelude.{ℕ, true, List, length, map, Option, Some, option
 use Rattle.std.specs.List.{position}
 use Rattle.std.specs.Str.{bytes_eq}
 use Rattle.ranked_list.specs.declared.row.Row.{Row}
-use Rattle.ranked_list.specs.Bundle.{Content}
+use Rattle.bundle_text.specs.Bundle.{Content}
 use Rattle.topk_theory.specs.Transcript.{list_at}
 use Rattle.query_admission.specs.View.{View}
 use Rattle.query_admission.specs.Causes.{QueryLine}

@@ -1,7 +1,7 @@
 -- What is written of a made table.
 use Rattle.std.specs.Prelude.{ℕ, List}
 use Rattle.line_text.specs.Lines.{unlines}
-use Rattle.ranked_list.specs.Bundle.{sections}
+use Rattle.bundle_text.specs.Bundle.{sections}
 use Rattle.command_words.specs.declared.making.MakeOptions.{MakeOptions}
 use Rattle.table_make.specs.Made.{made_table}
 use Rattle.table_text.specs.Numbered.{list_names}

@@ -2,7 +2,7 @@
 use Rattle.std.specs.Prelude.{◌≡◌, ℕ, List, Some, codes}
 use Rattle.std.specs.Io.KnownBytes.{Keeps}
 use Rattle.line_text.specs.Lines.{lines}
-use Rattle.ranked_list.specs.Bundle.{Content, Spells, IsFirstFault}
+use Rattle.bundle_text.specs.Bundle.{Content, Spells, IsFirstFault}
 use Rattle.cert_text.specs.declared.outcome.Outcome.{Outcome}
 use Rattle.cert_text.specs.Outcome.{IsOutcome, outcome_text}
 use Rattle.catalog_run.specs.declared.outcome.LineOutcome.{LineOutcome}

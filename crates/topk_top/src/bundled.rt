@@ -2,13 +2,13 @@
 
 ghost use Rattle.std.specs.Prelude.{◌≡◌, ◌<◌, length, position, All, IfOk};
 ghost use Rattle.std.specs.Str.{bytes_eq};
-ghost use Rattle.ranked_list.specs.Bundle.{content, IsBundle};
+ghost use Rattle.bundle_text.specs.Bundle.{content, IsBundle};
 ghost use Rattle.topk_top.specs.Bundled.{lists_at};
 
 use super::Memory;
+use bundle_text::Bundle;
 use query_admission::{Listed, Lists};
 use query_core::ToldList;
-use ranked_list::Bundle;
 use std::alloc::Global;
 use std::marker::Model;
 
@@ -20,7 +20,7 @@ pub(crate) struct Bundled<'a> {
 }
 
 impl<'a> Model for Bundled<'a> {
-    ghost use Rattle.ranked_list.specs.Bundle.{Content, content, IsBundle};
+    ghost use Rattle.bundle_text.specs.Bundle.{Content, content, IsBundle};
 
     ghost Value = { Content };
 

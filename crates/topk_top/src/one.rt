@@ -1,18 +1,18 @@
 //! The command `one`: a bundle and its query.
 
 ghost use Rattle.std.specs.Prelude.{◌≡◌, IfOk};
-ghost use Rattle.ranked_list.specs.Bundle.{content, IsBundle};
+ghost use Rattle.bundle_text.specs.Bundle.{content, IsBundle};
 ghost use Rattle.query_admission.specs.Admission.{IsAdmitted};
 ghost use Rattle.topk_top.specs.Bundled.{bundle_line};
 ghost use Rattle.topk_top.specs.Outcomes.{BecomesOf, IsLineOf, IsReply};
 
 use super::Memory;
 use super::bundled::{Bundled, told_lists};
+use bundle_text::{Bundle, BundleFault, read_bundle};
 use catalog_run::LineOutcome;
 use cert_text::{Outcome, Refusal};
 use query_admission::{Admitted, admit};
 use query_core::{DriveFault, Ready, answer_over};
-use ranked_list::{Bundle, BundleFault, read_bundle};
 use std::alloc::Global;
 
 /// What is replied to an input.

@@ -3,7 +3,7 @@ use Rattle.tk_io.proofs.Putting.{puts_none, puts_then, puts_as, puts_next, puts_
 use Rattle.std.specs.List.{flat_map, zip}
 use Rattle.line_text.specs.Lines.{unlines}
 use Rattle.ranked_list.specs.declared.row.Row.{Row}
-use Rattle.ranked_list.specs.Bundle.{content, section}
+use Rattle.bundle_text.specs.Bundle.{content, section}
 use Rattle.cert_judge.proofs.Putting.{bundle_text, zipped_here, zipped_length}
 use Rattle.cert_judge.proofs.writing.put_bundle.Goals as goal
 

@@ -3,7 +3,7 @@ use Rattle.std.specs.List.{flat_map, zip}
 use Rattle.line_text.specs.Lines.{unlines}
 use Rattle.tk_io.specs.Pieces.{Puts}
 use Rattle.ranked_list.specs.declared.row.Row.{Row}
-use Rattle.ranked_list.specs.Bundle.{content, section}
+use Rattle.bundle_text.specs.Bundle.{content, section}
 use Rattle.cert_judge.proofs.writing.put_bundle.Given as goal
 
 -- the lists so far were put

@@ -1,7 +1,7 @@
 use Rattle.std.proofs.Common.{[], ◌∷◌, ◌++◌, append-nil}
 use Rattle.tk_io.proofs.Putting.{puts_then, puts_as}
 use Rattle.line_text.specs.Lines.{unlines}
-use Rattle.ranked_list.specs.Bundle.{content, bundle_lines}
+use Rattle.bundle_text.specs.Bundle.{content, bundle_lines}
 use Rattle.cert_judge.specs.Text.{told_text, beaten_line}
 use Rattle.cert_judge.proofs.writing.put_told.Goals as goal
 

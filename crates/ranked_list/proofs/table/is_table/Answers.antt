@@ -6,8 +6,7 @@ use Rattle.std.proofs.lemmas.List.Elements.{All-more}
 use Rattle.std.proofs.lemmas.Bool.{both_ways, false≢true}
 use Rattle.std.proofs.lemmas.Option.{MatchOption-at_some}
 use Rattle.ranked_list.specs.Table.{IsRanked}
-use Rattle.ranked_list.specs.Reading.{TellsObjects}
-use Rattle.ranked_list.specs.Tracking.{IsAlike}
+use Rattle.ranked_list.specs.Rows.{TellsObjects, IsAlike}
 use Rattle.ranked_list.proofs.TableLaws.{table_from_alike, alike_in_table}
 use Rattle.ranked_list.proofs.table.is_table.Goals as goal
 

@@ -2,7 +2,7 @@ use Rattle.std.proofs.Common.{length, take}
 use Rattle.std.specs.Prelude.{nat_eq}
 use Rattle.std.specs.List.{All}
 use Rattle.std.specs.HashSet.{contains}
-use Rattle.ranked_list.specs.Tracking.{IsAlike}
+use Rattle.ranked_list.specs.Rows.{IsAlike}
 use Rattle.ranked_list.proofs.table.is_table.Given as goal
 
 abbrev pub invariant-loop-list : goal.invariant-loop-list

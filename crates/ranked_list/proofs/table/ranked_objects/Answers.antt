@@ -2,9 +2,9 @@ use Rattle.std.proofs.Common.{sym, ◌∙◌, ap, subst, take}
 use Rattle.std.specs.Prelude.{nat_eq}
 use Rattle.std.specs.HashSet.{contains}
 use Rattle.ranked_list.specs.Table.{IsRanked}
-use Rattle.ranked_list.specs.Reading.{last_row, in_order, TellsObjects}
+use Rattle.ranked_list.specs.Rows.{last_row, in_order, TellsObjects}
 use Rattle.ranked_list.proofs.RankLaws.{IsRanked-push}
-use Rattle.ranked_list.proofs.TrackLaws.{last_row-push, TellsObjects-push}
+use Rattle.ranked_list.proofs.RowLaws.{last_row-push, TellsObjects-push}
 use Rattle.ranked_list.proofs.TableLaws.{at_place, found_order, found_fault, fault_of_order, fault_of_object}
 use Rattle.std.proofs.lemmas.Bool.{not-true, not-false}
 use Rattle.ranked_list.proofs.table.ranked_objects.Goals as goal

@@ -2,7 +2,7 @@ use Rattle.std.proofs.Common.{◌≡◌, take}
 use Rattle.std.specs.Prelude.{nat_eq}
 use Rattle.std.specs.HashSet.{contains}
 use Rattle.ranked_list.specs.Table.{IsRanked}
-use Rattle.ranked_list.specs.Reading.{last_row, TellsObjects}
+use Rattle.ranked_list.specs.Rows.{last_row, TellsObjects}
 use Rattle.ranked_list.proofs.table.ranked_objects.Given as goal
 
 abbrev pub invariant-loop-place : goal.invariant-loop-place

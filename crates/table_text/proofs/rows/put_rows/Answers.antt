@@ -7,7 +7,7 @@ use Rattle.std.proofs.lemmas.Option.{slice_get-get_or}
 use Rattle.line_text.specs.Lines.{unlines}
 use Rattle.tk_io.proofs.Putting.{puts_none, puts_next_of, puts_all}
 use Rattle.ranked_list.specs.declared.row.Row.{Row}
-use Rattle.ranked_list.specs.Bundle.{row_line}
+use Rattle.bundle_text.specs.Bundle.{row_line}
 use Rattle.table_text.proofs.rows.put_rows.Goals as goal
 
 pub loop-row-init : goal.loop-row-init

@@ -1,6 +1,6 @@
 use Rattle.std.proofs.Common.{length, map, take}
 use Rattle.line_text.specs.Lines.{unlines}
-use Rattle.ranked_list.specs.Bundle.{row_line}
+use Rattle.bundle_text.specs.Bundle.{row_line}
 use Rattle.tk_io.specs.Pieces.{Puts}
 use Rattle.table_text.proofs.rows.put_rows.Given as goal
 

@@ -1,7 +1,7 @@
 use Rattle.std.proofs.Common.{List, ◌+◌, subst, arith}
 use Rattle.line_text.specs.Lines.{unlines}
 use Rattle.ranked_list.specs.declared.row.Row.{Row}
-use Rattle.ranked_list.specs.Bundle.{section}
+use Rattle.bundle_text.specs.Bundle.{section}
 use Rattle.tk_io.specs.Pieces.{Puts}
 use Rattle.table_text.specs.Numbered.{list_name}
 use Rattle.tk_io.proofs.Putting.{puts_none}

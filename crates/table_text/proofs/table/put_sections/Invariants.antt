@@ -1,6 +1,6 @@
 use Rattle.std.proofs.Common.{take}
 use Rattle.line_text.specs.Lines.{unlines}
-use Rattle.ranked_list.specs.Bundle.{sections}
+use Rattle.bundle_text.specs.Bundle.{sections}
 use Rattle.tk_io.specs.Pieces.{Puts}
 use Rattle.table_text.specs.Numbered.{list_names}
 use Rattle.table_text.proofs.table.put_sections.Given as goal

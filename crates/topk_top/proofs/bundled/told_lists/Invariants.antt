@@ -1,5 +1,5 @@
 use Rattle.std.proofs.Common.{◌≡◌, take}
-use Rattle.ranked_list.specs.Bundle.{content}
+use Rattle.bundle_text.specs.Bundle.{content}
 use Rattle.topk_top.specs.Bundled.{lists_at}
 use Rattle.topk_top.proofs.bundled.told_lists.Given as goal
 

@@ -1,5 +1,5 @@
 use Rattle.std.proofs.Common.{subst}
-use Rattle.ranked_list.specs.Bundle.{content}
+use Rattle.bundle_text.specs.Bundle.{content}
 use Rattle.query_admission.specs.Causes.{admission_causes}
 use Rattle.query_admission.specs.Admission.{Admits, RefusesLine}
 use Rattle.topk_top.specs.Bundled.{bundle_view}

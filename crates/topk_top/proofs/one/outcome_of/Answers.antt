@@ -1,5 +1,5 @@
 use Rattle.std.proofs.Common.{◌<◌, All, length, Err, sym, ap, ◌∙◌, subst}
-use Rattle.ranked_list.specs.Bundle.{content}
+use Rattle.bundle_text.specs.Bundle.{content}
 use Rattle.ranked_list.specs.Table.{IsTable}
 use Rattle.query_core.specs.Driving.{RunsOver}
 use Rattle.topk_top.specs.Bundled.{lists_at}

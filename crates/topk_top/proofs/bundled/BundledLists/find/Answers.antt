@@ -1,5 +1,5 @@
 use Rattle.std.proofs.Common.{◌≡◌, true, None, Some, option_map, sym, ap, ◌∙◌, subst}
-use Rattle.ranked_list.specs.Bundle.{content}
+use Rattle.bundle_text.specs.Bundle.{content}
 use Rattle.topk_top.specs.Bundled.{bundle_place, bundle_listed, bundle_view}
 use Rattle.topk_top.proofs.Bundling.{found_at, listed_here}
 use Rattle.topk_top.proofs.bundled.BundledLists.find.Goals as goal

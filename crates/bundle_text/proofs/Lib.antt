@@ -1,0 +1,8 @@
+pub mod PartLaws
+pub mod TrackLaws
+pub mod ReadLaws
+pub mod FrontLaws
+pub mod Viable
+pub mod Complete
+pub mod Outcome
+pub mod FrontLines

@@ -1,0 +1,4 @@
+pub mod Bundle
+pub mod Reading
+pub mod Tracking
+pub mod Fronts
