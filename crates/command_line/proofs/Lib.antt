@@ -3,5 +3,6 @@ mod Finding
 pub mod SetRules
 pub mod Walking
 mod Clapping
+mod RuleLaws
 pub mod OptionLaws
 mod LineLaws

@@ -40,9 +40,9 @@ fn read_each<E: Env>(env: &E, room: &mut Vec<u8>, words: &mut Words) -> Result<(
         let Ok(word) = str::from_utf8(&room[..count]) else {
             return Err(WordsFault::BadWords);
         };
-        if words.push(word).is_err() {
+        let Ok(()) = words.push(word) else {
             return Err(WordsFault::Memory);
-        }
+        };
     }
     Err(WordsFault::Memory)
 }

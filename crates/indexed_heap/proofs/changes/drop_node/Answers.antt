@@ -1,8 +1,44 @@
-use Rattle.std.proofs.Common.{◌≡◌, ◌<◌, ◌-◌, ◌∙◌, length, sym, ap, arith}
-use Rattle.std.proofs.lemmas.List.{with_items_is}
-use Rattle.indexed_heap.proofs.Placing.{dropped}
+use Rattle.std.proofs.Common.{◌≡◌, ◌<◌, ◌-◌, ◌∙◌, List, length, sym, ap, subst, arith}
+use Rattle.std.proofs.lemmas.List.{with_items_is, length-set}
+use Rattle.indexed_heap.specs.declared.tree.Ranked.{Ranked}
+use Rattle.indexed_heap.specs.Tree.{IsPlaced}
+use Rattle.indexed_heap.proofs.Placing.{dropped, key_within}
 use Rattle.indexed_heap.proofs.Putting.{place_here}
 use Rattle.indexed_heap.proofs.changes.drop_node.Goals as goal
+
+pub overflow_sub-last : goal.overflow_sub-last
+overflow_sub-last g c =
+    let here = place_here g.T.Ord.cmp c.args.key c.args.place c.args.nodes.now.items c.args.places.now c.requires.keeps c.requires.there in
+    omega (arith, c.args.nodes.now.ok.0, c.len-last.ensures)
+
+pub exchange-requires-clause-placed : goal.exchange-requires-clause-placed
+exchange-requires-clause-placed g c =
+    subst (λ (ns : List (Ranked g.row.T.Denot)). IsPlaced ns c.args.places.now) (sym c.deref_mut.ensures.value) c.requires.keeps.placed
+
+pub exchange-requires-clause-one : goal.exchange-requires-clause-one
+exchange-requires-clause-one g c =
+    let here = place_here g.T.Ord.cmp c.args.key c.args.place c.args.nodes.now.items c.args.places.now c.requires.keeps c.requires.there in
+    let same = ap length c.deref_mut.ensures.value in
+    omega arith
+
+pub exchange-requires-clause-other : goal.exchange-requires-clause-other
+exchange-requires-clause-other g c =
+    let here = place_here g.T.Ord.cmp c.args.key c.args.place c.args.nodes.now.items c.args.places.now c.requires.keeps c.requires.there in
+    let same = ap length c.deref_mut.ensures.value in
+    omega (arith, c.args.nodes.now.ok.0, c.len-last.ensures)
+
+pub offset_bounds-places-key : goal.offset_bounds-places-key
+offset_bounds-places-key g c =
+    let small = c.exchange.ensures.moved.placed.small in
+    let here = key_within c.args.places.now c.args.key c.args.place c.requires.there in
+    let same = c.exchange.ensures.moved.places in
+    omega arith
+
+pub bounds-places-key : goal.bounds-places-key
+bounds-places-key g c =
+    let here = key_within c.args.places.now c.args.key c.args.place c.requires.there in
+    let same = c.exchange.ensures.moved.places in
+    omega arith
 
 pub returns-clause-left : goal.returns-clause-left
 returns-clause-left g c =
@@ -36,3 +72,6 @@ returns-clause-heap g c =
     c.args.place (c.len-last.result - 1) c.args.key c.args.nodes.now.len c.pop.new.self.len c.pop.result c.requires.keeps c.requires.there c.deref_mut.ensures.value
     c.exchange.ensures.exchanged c.exchange.ensures.moved c.args.nodes.now.ok.0 some (ap (λ n. n - 1) c.len-last.ensures)
     (sym (with_items_is c.args.nodes.now c.exchange.new.nodes size) ∙ c.pop.ensures.items) c.pop.ensures.cases).2
+
+pub returns-clause-places : goal.returns-clause-places
+returns-clause-places g c = length-set c.exchange.new.places c.args.key _ ∙ c.exchange.ensures.moved.places

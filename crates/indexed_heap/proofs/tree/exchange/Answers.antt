@@ -4,6 +4,27 @@ use Rattle.std.proofs.lemmas.Option.{slice_get_read}
 use Rattle.indexed_heap.proofs.Placing.{key_within, exchanged_by, moved}
 use Rattle.indexed_heap.proofs.tree.exchange.Goals as goal
 
+pub bounds-nodes-one : goal.bounds-nodes-one
+bounds-nodes-one g c = c.requires.one
+
+pub bounds-nodes-other : goal.bounds-nodes-other
+bounds-nodes-other g c = c.requires.other
+
+pub bounds-nodes-one-2 : goal.bounds-nodes-one-2
+bounds-nodes-one-2 g c = c.requires.one
+
+pub overflow_cast-places : goal.overflow_cast-places
+overflow_cast-places g c =
+    let few = c.requires.placed.few in
+    let one = c.requires.one in
+    omega arith
+
+pub overflow_cast-places-3 : goal.overflow_cast-places-3
+overflow_cast-places-3 g c =
+    let few = c.requires.placed.few in
+    let other = c.requires.other in
+    omega arith
+
 pub overflow_cast-places-2 : goal.overflow_cast-places-2
 overflow_cast-places-2 g c =
     let placed = c.requires.placed in

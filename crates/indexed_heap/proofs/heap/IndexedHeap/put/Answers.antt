@@ -17,6 +17,11 @@ change-requires-clause-keeps g c =
     subst (λ (ns : List (Ranked g.row.T.Denot)). Keeps g.T.Ord.cmp ns c.deref_mut-in-Some.result.now) (sym c.deref_mut.ensures.value)
     (subst (λ (ps : List (Option _)). Keeps g.T.Ord.cmp i.nodes.items ps) (sym c.deref_mut-in-Some.ensures.value) long.keeps)
 
+pub change-requires-clause-there : goal.change-requires-clause-there
+change-requires-clause-there g c =
+    ap (λ (ps : List (Option _)). place_of ps c.args.key) c.deref_mut-in-Some.ensures.value
+    ∙ sym (c.in-Some.ensures ∙ ap (λ ps. place_of ps c.args.key) c.deref.ensures.value)
+
 pub change-requires-clause-within : goal.change-requires-clause-within
 change-requires-clause-within g c =
     let i = c.self.inside in
@@ -35,6 +40,32 @@ add-requires-clause-keeps g c =
     reached g.T.Ord.cmp i.room i.nodes.items i.places.items c.args.self.now c.args.key i.nodes.cap i.places.cap c.reach.new.places.items c.self.invariant c.self.view_is c.requires
     c.reach.ensures.items in
     subst (λ (ps : List (Option _)). Keeps g.T.Ord.cmp i.nodes.items ps) (sym c.deref_mut-in-None.ensures.value) long.keeps
+
+pub add-requires-clause-within : goal.add-requires-clause-within
+add-requires-clause-within g c =
+    let i = c.self.inside in
+    let long =
+    reached g.T.Ord.cmp i.room i.nodes.items i.places.items c.args.self.now c.args.key i.nodes.cap i.places.cap c.reach.new.places.items c.self.invariant c.self.view_is c.requires
+    c.reach.ensures.items in
+    let here = long.here in
+    let same = ap length c.deref_mut-in-None.ensures.value in
+    omega arith
+
+pub add-requires-clause-absent : goal.add-requires-clause-absent
+add-requires-clause-absent g c =
+    ap (λ (ps : List (Option _)). place_of ps c.args.key) c.deref_mut-in-None.ensures.value
+    ∙ sym (c.in-None.ensures ∙ ap (λ ps. place_of ps c.args.key) c.deref.ensures.value)
+
+pub add-requires-clause-room : goal.add-requires-clause-room
+add-requires-clause-room g c =
+    let i = c.self.inside in
+    let long =
+    reached g.T.Ord.cmp i.room i.nodes.items i.places.items c.args.self.now c.args.key i.nodes.cap i.places.cap c.reach.new.places.items c.self.invariant c.self.view_is c.requires
+    c.reach.ensures.items in
+    let within = long.within in
+    let fits = c.self.invariant.nodes in
+    let same = ap length c.deref_mut-in-None.ensures.value in
+    omega arith
 
 pub invariant_of-self : goal.invariant_of-self
 invariant_of-self g c =

@@ -1,10 +1,19 @@
-use Rattle.std.proofs.Common.{◌∙◌, List, Option, None, length, set, sym, ap, arith}
+use Rattle.std.proofs.Common.{◌∙◌, List, Option, None, length, set, sym, ap, subst, arith}
 use Rattle.std.specs.Prelude.{vec_capacity}
 use Rattle.std.proofs.lemmas.List.{with_items_is}
 use Rattle.indexed_heap.specs.Ranks.{ranks_within}
-use Rattle.indexed_heap.specs.Tree.{place_of, ranks_of}
+use Rattle.indexed_heap.specs.Tree.{place_of, ranks_of, Keeps}
 use Rattle.indexed_heap.proofs.Putting.{reached_here, shows_written, shown_unset}
 use Rattle.indexed_heap.proofs.heap.IndexedHeap.remove.Goals as goal
+
+pub take_out-requires-clause-keeps : goal.take_out-requires-clause-keeps
+take_out-requires-clause-keeps g c =
+    subst (λ (ps : List (Option _)). Keeps g.T.Ord.cmp c.self.inside.nodes.items ps) (sym c.deref_mut.ensures.value) c.self.invariant.keeps
+
+pub take_out-requires-clause-there : goal.take_out-requires-clause-there
+take_out-requires-clause-there g c =
+    ap (λ (ps : List (Option _)). place_of ps c.args.key) c.deref_mut.ensures.value
+    ∙ sym (c.in-Some.ensures ∙ ap (λ ps. place_of ps c.args.key) c.deref.ensures.value)
 
 pub returns-in-Some : goal.returns-in-Some
 returns-in-Some g c =
