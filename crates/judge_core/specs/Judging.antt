@@ -77,12 +77,3 @@ Judges V k log Y (Err (WildGuess at)) = IsFirstWildGuess log.accesses at
 Judges V k log Y (Err (WrongSize given asked)) = IsTame log.accesses × (given ≡ length Y) × (asked ≡ k) × (¬ IsSized k Y)
 Judges V k log Y (Err (UnseenAnswer object)) = IsTame log.accesses × IsSized k Y × IsFirstUnseen log.accesses Y object
 Judges V k log Y (Err Memory) = Unit {0}
-
--- the table against an object, in which it has its low and every other object its high
-pub record IsCounterTable (log : Log) (inside : ℕ) (D : List (List Row)) : Type 0 where
-  pub exact : D ≡ counter_table log.lists log.count log.accesses inside
-  pub agrees : AgreesWith D log
-  pub over : IsOver (judged_objects log) D
-  pub inside_has : (V : List ℕ → ℕ) → aggregate V D inside ≡ low V log.lists log.accesses inside
-  pub others_have : (V : List ℕ → ℕ) (object : ℕ) → Contains (judged_objects log) object → object ≢ inside
-      → aggregate V D object ≡ high V log.lists log.accesses object

@@ -3,15 +3,14 @@
 #![tactic(auto)]
 
 mod bound;
-mod counter;
 mod decision;
 mod extremes;
 mod objects;
 mod question;
 mod verdict;
 
-pub use counter::counter_table;
 pub use decision::judge;
+pub use objects::Objects;
 use std::alloc::{AllocError, AllocFailed};
 pub use verdict::{JudgeFault, Verdict};
 

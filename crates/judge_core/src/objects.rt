@@ -7,7 +7,7 @@ use std::marker::Model;
 
 /// Objects, each once, which contracts see as their list.
 #[derive(Drop)]
-pub(crate) struct Objects {
+pub struct Objects {
     keys: IndexSet<u32>,
 }
 
@@ -24,7 +24,7 @@ impl Objects {
     ghost use Rattle.judge_core.specs.Objects.{has, with_object};
 
     /// No objects.
-    pub(crate) fn make(alloc: Global) -> Objects
+    pub fn make(alloc: Global) -> Objects
         ensures { result ≡ [] }
     {
         Objects {
@@ -33,7 +33,7 @@ impl Objects {
     }
 
     /// Adds an object, unless it is there, and says whether it wasn't.
-    pub(crate) fn add(&mut self, object: u32) -> Result<bool, Memory>
+    pub fn add(&mut self, object: u32) -> Result<bool, Memory>
         ensures is_new { IfOk result (λ is_new. is_new ≡ not (has object self.old)) }
         ensures added { OnOk result (self.new ≡ with_object object self.old) }
     {
@@ -42,7 +42,7 @@ impl Objects {
     }
 
     /// Whether the object is there.
-    pub(crate) fn has(&self, object: u32) -> bool
+    pub fn has(&self, object: u32) -> bool
         ensures { result ≡ has object self.now }
     {
         self.keys.contains(&object)

@@ -4,7 +4,8 @@ ghost use Rattle.std.specs.Prelude.{◌≡◌};
 ghost use Rattle.monotone_fn.specs.Shape.{list_count};
 
 use access_log::{Access, Transcript};
-use judge_core::{JudgeFault, Verdict, counter_table, judge};
+use judge_core::{JudgeFault, Verdict, judge};
+use judge_counter::counter_table;
 use monotone_fn::Expr;
 use query_reading::read;
 use ranked_list::{MemList, is_table};

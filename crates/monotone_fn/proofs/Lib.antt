@@ -1,3 +1,5 @@
+pub mod Copied
+pub mod Extents
 pub mod Extremes
 pub mod Fills
 pub mod Laws

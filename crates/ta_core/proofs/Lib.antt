@@ -1,9 +1,3 @@
-pub mod Rows
-pub mod Fills
-pub mod Asks
-pub mod BoardSteps
-pub mod NeedSteps
-pub mod Steps
 pub mod Runs
 pub mod Sound
 pub mod Feeds

@@ -1,5 +1,2 @@
-pub mod Reading
-pub mod Shown
-pub mod OnTable
 pub mod Kept
 pub mod Machine

@@ -1,7 +1,6 @@
 //! The threshold algorithm of Fagin, Lotem and Naor, as a machine that is fed one access at a time.
 #![tactic(auto)]
 
-mod progress;
 mod ta;
 
 pub use machine_base::{CoreFault, Memory, Need};

@@ -1,11 +1,12 @@
-use Rattle.std.proofs.Common.{length, subst, ap, ◌∙◌}
+use Rattle.std.proofs.Common.{◌<◌, length, subst, ap, ◌∙◌, arith}
+use Rattle.std.proofs.lemmas.Result.{err_from_is_err_and}
 use Rattle.topk_theory.specs.declared.access.Access.TheVariants.{Sorted}
 use Rattle.machine_base.proofs.Held.{may_row}
-use Rattle.ta_core.specs.Reading.{row_added, need_at}
-use Rattle.ta_core.specs.Shown.{reading_of}
+use Rattle.ta_progress.specs.Reading.{row_added, need_at}
+use Rattle.ta_progress.specs.Shown.{reading_of}
 use Rattle.ta_core.specs.Machine.{MakesItsRun}
 use Rattle.ta_core.proofs.Runs.{kept_makes}
-use Rattle.ta_core.proofs.Calls.{IsReady, IsFed, can_row, row_fed, fed_ready, fed_kept, row_taken}
+use Rattle.ta_core.proofs.Calls.{IsReady, IsFed, next_row_is, can_row, row_fed, fed_ready, fed_kept, row_taken, row_refused}
 use Rattle.ta_core.proofs.ta.Ta.feed_row.Goals as goal
 use Rattle.ta_core.proofs.ta.Ta.feed_row.Goals.{After-add_row}
 
@@ -30,10 +31,34 @@ returns-in_err-is_new-clause-run c =
     let a = c.self.inside in
     subst MakesItsRun c.self.view_is (kept_makes a.base a.board (reading_of a.progress) c.self.invariant.kept)
 
+pub returns-in_err-is_new-clause-fed : goal.returns-in_err-is_new-clause-fed
+returns-in_err-is_new-clause-fed c =
+    let a = c.self.inside in
+    let p = err_from_is_err_and c.from_residual.result c.from_residual.ensures.1 in
+    rw (p.1, p.2) (row_refused (Unit {0}) a.base (need_at a.base.transcript.lists (reading_of a.progress)) c.args.self.now c.args.row _ c.self.view_is c.in_err-is_new.ensures.full)
+
 pub tell-requires-clause-can : goal.tell-requires-clause-can
 tell-requires-clause-can c =
     let a = c.self.inside in
     can_row a.base a.board (reading_of a.progress) c.args.row c.len.result c.self.invariant.kept (may_row a.base (need_at a.base.transcript.lists (reading_of a.progress)) c.args.self.now c.args.row c.self.view_is c.requires) c.in_ok-is_new.ensures.fits c.len.ensures.value
+
+pub add_row-requires-clause-unread : goal.add_row-requires-clause-unread
+add_row-requires-clause-unread c =
+    let a = c.self.inside in
+    let next = next_row_is a.base.transcript (reading_of a.progress) c.args.row (may_row a.base (need_at a.base.transcript.lists (reading_of a.progress)) c.args.self.now c.args.row c.self.view_is c.requires) in
+    let short : length a.progress.objects.items < a.base.transcript.lists = next.1 in
+    omega (arith, c.lists.ensures.lists, c.tell.ensures.told.log.lists)
+
+pub add_row-requires-clause-same : goal.add_row-requires-clause-same
+add_row-requires-clause-same c = c.self.invariant.kept.sound.same_length
+
+pub add_row-requires-clause-waits : goal.add_row-requires-clause-waits
+add_row-requires-clause-waits c = c.self.invariant.kept.sound.few
+
+pub add_row-requires-clause-none : goal.add_row-requires-clause-none
+add_row-requires-clause-none c =
+    let a = c.self.inside in
+    c.self.invariant.kept.rest.in_row (next_row_is a.base.transcript (reading_of a.progress) c.args.row (may_row a.base (need_at a.base.transcript.lists (reading_of a.progress)) c.args.self.now c.args.row c.self.view_is c.requires)).1
 
 pub score-requires-clause-grades : goal.score-requires-clause-grades
 score-requires-clause-grades c = (ready (goal.at.score-requires-clause-grades c).After-add_row).grades

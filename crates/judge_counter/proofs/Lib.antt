@@ -1,0 +1,3 @@
+-- Lemmas on the table against an object.
+pub mod Completing
+pub mod Countering

@@ -1,0 +1,2 @@
+-- What the table against an object is.
+pub mod CounterTable

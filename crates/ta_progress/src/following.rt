@@ -1,0 +1,65 @@
+//! What follows an access that is told.
+
+ghost use Rattle.std.specs.Prelude.{◌≡◌, ◌<◌, ◌-◌, ◌^◌, ◌==◌, if◌then◌else◌, length};
+ghost use Rattle.best_k.specs.Held.{Held};
+ghost use Rattle.monotone_fn.specs.Value.{value};
+ghost use Rattle.monotone_fn.specs.Limits.{AreGrades};
+ghost use Rattle.machine_base.specs.Base.{Holds};
+ghost use Rattle.ta_progress.specs.Reading.{enough, items_after, followed};
+ghost use Rattle.ta_progress.specs.Shown.{reading_of};
+
+use super::progress::Progress;
+use best_k::Board;
+use machine_base::Base;
+
+/// Puts the first object that waits on the board, where it has all its grades.
+pub fn score(base: &Base, board: &mut Board, progress: &Progress)
+    requires held { Holds base.now }
+    requires grades { AreGrades progress.now.grades.items }
+    requires waits { length progress.now.grades.items ≡ base.now.transcript.lists → 0 < length progress.now.waiting.items }
+    requires room { length progress.now.grades.items ≡ base.now.transcript.lists → length board.old.items < board.old.room }
+    ensures { board.new ≡ record board.old {
+      items =
+          items_after (value base.now.expr) base.now.transcript.lists board.old.items (reading_of progress.now);
+    } }
+{
+    if progress.is_scored(base.transcript.lists()) {
+        let aggregate = base.expr.eval(progress.grades.as_slice());
+        board.put(progress.waiting[0], aggregate, aggregate);
+    }
+}
+
+/// Whether at least k on the board have an aggregate of at least the bound.
+fn has_enough(board: &Board, bound: u64) -> bool
+    ensures { result ≡ enough board.now.k bound board.now.items }
+{
+    match board.kth() {
+        Some(low) => bound <= low,
+        None => false,
+    }
+}
+
+/// What follows an access that is told: the object that has all its grades waits no more, and a whole
+/// row is the last one, where the algorithm stops, or makes room for the next.
+pub fn follow(base: &Base, board: &Board, progress: &mut Progress)
+    requires held { Holds base.now }
+    requires bottoms { AreGrades progress.old.bottoms.items }
+    requires same { length progress.old.bottoms.items ≡ length progress.old.objects.items }
+    requires waits { length progress.old.grades.items ≡ base.now.transcript.lists → 0 < length progress.old.waiting.items }
+    requires deep { progress.old.depth < 2 ^ 32 - 1 }
+    ensures { reading_of progress.new
+        ≡ followed (value base.now.expr) board.now.k base.now.transcript.lists board.now.items (reading_of progress.old) }
+{
+    let lists = base.transcript.lists();
+    progress.settle(lists);
+    if !progress.is_whole(lists) {
+        return;
+    }
+    let threshold = base.expr.eval(progress.bottoms.as_slice());
+    if has_enough(board, threshold) {
+        progress.done = true;
+        return;
+    }
+    let next = progress.depth + 1;
+    progress.begin(next);
+}
