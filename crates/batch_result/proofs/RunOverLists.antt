@@ -12,8 +12,8 @@ use Rattle.source_state.specs.State.{State, state_at}
 use Rattle.query_text.specs.declared.algorithm.Algorithm.{Algorithm}
 use Rattle.query_text.specs.declared.algorithm.Algorithm.TheVariants.{Ta, Nra, Ca}
 use Rattle.query_text.specs.Costs.{costs_in_force}
-use Rattle.query_core.specs.declared.drive.DriveFault.{DriveFault}
-use Rattle.query_core.specs.declared.drive.DriveFault.TheVariants.{RoomFull}
+use Rattle.query_core.specs.declared.drive_fault.DriveFault.{DriveFault}
+use Rattle.query_core.specs.declared.drive_fault.DriveFault.TheVariants.{RoomFull}
 use Rattle.query_core.specs.declared.machine.Machine.{Machine}
 use Rattle.query_core.specs.declared.machine.Machine.TheVariants.{Ta as TaMachine, Nra as NraMachine, Ca as CaMachine}
 use Rattle.query_core.specs.declared.ready.Ready.{Ready}

@@ -80,11 +80,21 @@ impl Ca {
         ensures run { IfOk result MakesItsRun }
     {
         let Ok(first) = Vec::with_capacity(alloc, room.min(count) as usize) else {
+            drop(expr);
             return Err(Memory);
         };
-        let late = LateSeen::make(alloc, k, room.min(count))?;
+        let Ok(late) = LateSeen::make(alloc, k, room.min(count)) else {
+            drop(expr);
+            drop(first);
+            return Err(Memory);
+        };
+        let Ok(base) = Base::make(alloc, expr, k, count, room, costs) else {
+            drop(late);
+            drop(first);
+            return Err(Memory);
+        };
         Ok(Ca {
-            base: Base::make(alloc, expr, k, count, room, costs)?,
+            base,
             phase: phase_length(costs),
             late,
             first,

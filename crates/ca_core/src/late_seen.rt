@@ -32,6 +32,7 @@ impl LateSeen {
             return Err(Memory);
         };
         let Ok(highs) = OpenHighs::make(alloc, room) else {
+            drop(bounds);
             return Err(Memory);
         };
         Ok(LateSeen { bounds, highs })

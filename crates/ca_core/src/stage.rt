@@ -6,7 +6,7 @@ ghost use Rattle.ca_core.specs.Course.{need_at};
 use machine_base::Need;
 
 /// Which access is next. Lists count from 0 and depths from 1.
-#[derive(Clone, Copy, Debug)]
+#[derive(Clone, Copy)]
 pub(crate) enum Stage {
     /// The row of a list at a depth.
     Row { list: u8, depth: u32 },

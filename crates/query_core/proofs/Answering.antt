@@ -18,8 +18,8 @@ use Rattle.topk_theory.proofs.Agreement.{agrees_none}
 use Rattle.topk_theory.proofs.AgreementLists.{member_of_all, contains_here, contains_nil}
 use Rattle.access_log.specs.Log.{Log, AgreesWith}
 use Rattle.access_log.specs.declared.answer.Answer.{Answer}
-use Rattle.query_core.specs.declared.drive.DriveFault.{DriveFault}
-use Rattle.query_core.specs.declared.drive.DriveFault.TheVariants.{RoomFull, Memory}
+use Rattle.query_core.specs.declared.drive_fault.DriveFault.{DriveFault}
+use Rattle.query_core.specs.declared.drive_fault.DriveFault.TheVariants.{RoomFull, Memory}
 use Rattle.access_log.specs.Machine.{MachineState, asked_of, IsBegun, IsSameLog, MakesRun, IsAnswerBy}
 use Rattle.access_log.proofs.MachineLaws.{whole_run}
 use Rattle.monotone_fn.specs.Value.{IsMonotone}

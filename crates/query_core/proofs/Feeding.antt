@@ -26,7 +26,7 @@ use Rattle.access_log.proofs.MachineLaws.{in_range}
 use Rattle.query_text.specs.declared.algorithm.Algorithm.{Algorithm}
 use Rattle.access_log.specs.declared.core_fault.CoreFault.{CoreFault}
 use Rattle.access_log.specs.declared.core_fault.CoreFault.TheVariants.{Strangers, RoomFull}
-use Rattle.query_core.specs.declared.drive.DriveFault.TheVariants.{RoomFull as NoRoom}
+use Rattle.query_core.specs.declared.drive_fault.DriveFault.TheVariants.{RoomFull as NoRoom}
 use Rattle.query_core.specs.Algorithms.{run_by}
 use Rattle.query_core.specs.Driving.{run_sees, Continues, IsFedFrom, TookOne, CanDrive, StopsDriving}
 use Rattle.query_core.proofs.Runs.{runs_agree}

@@ -1,6 +1,5 @@
 -- Lemmas on machines and their runs.
 pub mod ListCount
-pub mod Grading
 pub mod Runs
 pub mod RunLength
 pub mod Feeding

@@ -8,8 +8,8 @@ use Rattle.access_log.specs.Log.{AgreesWith}
 use Rattle.access_log.specs.declared.answer.Answer.{Answer}
 use Rattle.access_log.specs.Machine.{MachineState, asked_of, IsSameLog, MakesRun, IsAnswerBy}
 use Rattle.query_text.specs.declared.algorithm.Algorithm.{Algorithm}
-use Rattle.query_core.specs.declared.drive.DriveFault.{DriveFault}
-use Rattle.query_core.specs.declared.drive.DriveFault.TheVariants.{RoomFull, Memory}
+use Rattle.query_core.specs.declared.drive_fault.DriveFault.{DriveFault}
+use Rattle.query_core.specs.declared.drive_fault.DriveFault.TheVariants.{RoomFull, Memory}
 use Rattle.query_core.specs.declared.machine.Machine.{Machine}
 use Rattle.query_core.specs.declared.ready.Ready.{Ready}
 use Rattle.query_core.specs.Algorithms.{run_by, items_by}

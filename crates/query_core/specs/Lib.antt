@@ -3,5 +3,4 @@ pub mod Algorithms
 pub mod Ready
 pub mod OneAnswer
 pub mod Machines
-pub mod Grades
 pub mod Driving

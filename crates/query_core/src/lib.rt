@@ -1,26 +1,24 @@
-//! Queries that are ready to run, the machines that answer them, and running one over lists that are told.
+//! Queries that are ready to run, the machines that answer them, and what becomes of a machine that is driven over lists.
 #![tactic(auto)]
 
 mod algorithms;
-mod drive;
+mod drive_fault;
 mod laws;
 mod machine;
 mod ready;
-mod told;
 
 pub use algorithms::asks_grades;
-pub use drive::{DriveFault, answer_over};
+pub use drive_fault::DriveFault;
 pub use laws::right_answers_are_one;
 pub use machine::Machine;
 pub use ready::Ready;
-pub use told::ToldList;
 
 /// No memory was left.
-#[derive(Clone, Copy, Debug, PartialEq, Eq)]
+#[derive(Clone, Copy, Debug)]
 pub struct Memory;
 
-impl From<object_map::Memory> for Memory {
-    fn from(_: object_map::Memory) -> Memory {
+impl From<access_log::Memory> for Memory {
+    fn from(_: access_log::Memory) -> Memory {
         Memory
     }
 }

@@ -48,18 +48,18 @@ impl Machine {
         let room = query.room.unwrap_or(count);
         let costs = query.costs_in_force();
         match query.algorithm {
-            Algorithm::Ta => match Ta::make(alloc, expr, query.k, count, room, costs) {
-                Ok(machine) => Ok(Machine::Ta(machine)),
-                Err(_) => Err(Memory),
-            },
-            Algorithm::Nra => match Nra::make(alloc, expr, query.k, count, room, costs) {
-                Ok(machine) => Ok(Machine::Nra(machine)),
-                Err(_) => Err(Memory),
-            },
-            Algorithm::Ca => match Ca::make(alloc, expr, query.k, count, room, costs) {
-                Ok(machine) => Ok(Machine::Ca(machine)),
-                Err(_) => Err(Memory),
-            },
+            Algorithm::Ta => {
+                let machine = Ta::make(alloc, expr, query.k, count, room, costs)?;
+                Ok(Machine::Ta(machine))
+            }
+            Algorithm::Nra => {
+                let machine = Nra::make(alloc, expr, query.k, count, room, costs)?;
+                Ok(Machine::Nra(machine))
+            }
+            Algorithm::Ca => {
+                let machine = Ca::make(alloc, expr, query.k, count, room, costs)?;
+                Ok(Machine::Ca(machine))
+            }
         }
     }
 

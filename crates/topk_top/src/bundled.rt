@@ -8,9 +8,9 @@ ghost use Rattle.topk_top.specs.Bundled.{lists_at};
 use super::Memory;
 use bundle_text::Bundle;
 use query_admission::{Listed, Lists};
-use query_core::ToldList;
 use std::alloc::Global;
 use std::marker::Model;
+use told_run::ToldList;
 
 /// The lists of a bundle by name: all are told, and all offer random access. The number of a list's
 /// source is its place in the bundle. Contracts see the bundle's content.

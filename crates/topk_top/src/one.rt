@@ -12,8 +12,9 @@ use bundle_text::{Bundle, BundleFault, read_bundle};
 use catalog_run::LineOutcome;
 use cert_text::{Outcome, Refusal};
 use query_admission::{Admitted, admit};
-use query_core::{DriveFault, Ready, answer_over};
+use query_core::{DriveFault, Ready};
 use std::alloc::Global;
+use told_run::answer_over;
 
 /// What is replied to an input.
 #[derive(Drop)]

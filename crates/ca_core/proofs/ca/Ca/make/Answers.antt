@@ -7,10 +7,10 @@ use Rattle.ca_core.proofs.ca.Ca.make.Goals as goal
 
 pub invariant_of-result : goal.invariant_of-result
 invariant_of-result c =
-    let made = c.in_ok-make.ensures in
+    let made = c.in-Ok-make-2.ensures in
     let room = c.in-Ok.ensures in
-    stands_start c.args.expr c.args.k c.args.count c.args.room c.phase_length.result c.args.costs c.in_ok-make.field-0 c.in_ok-late.late c.in-Ok.first.items _ made.begun made.held made.reserved
-    room.items (omega (arith, room.capacity, c.min.ensures)) c.phase_length.ensures (λ e m. subst (λ r. AreRenewed e c.args.k r m [] c.in_ok-late.late) c.min-2.ensures (c.in_ok-late.ensures e m))
+    stands_start c.args.expr c.args.k c.args.count c.args.room c.phase_length.result c.args.costs c.in-Ok-make-2.base c.in-Ok-make.late c.in-Ok.first.items _ made.begun made.held made.reserved
+    room.items (omega (arith, room.capacity, c.min.ensures)) c.phase_length.ensures (λ e m. subst (λ r. AreRenewed e c.args.k r m [] c.in-Ok-make.late) c.min-2.ensures (c.in-Ok-make.ensures e m))
 
 pub returns-clause-run : goal.returns-clause-run
-returns-clause-run c = kept_makes c.in_ok-make.field-0 c.phase_length.result c.in-Ok.first.items (stages.Row 0 1) (invariant_of-result c).kept (invariant_of-result c).paid
+returns-clause-run c = kept_makes c.in-Ok-make-2.base c.phase_length.result c.in-Ok.first.items (stages.Row 0 1) (invariant_of-result c).kept (invariant_of-result c).paid

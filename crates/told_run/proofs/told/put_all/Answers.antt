@@ -1,6 +1,6 @@
 use Rattle.std.proofs.Common.{sym, ◌∙◌, ◌-◌, ap, cond, Some, ◌==◌, arith}
-use Rattle.query_core.proofs.Grading.{grades_more, row_there}
-use Rattle.query_core.proofs.told.grades_of.Goals as goal
+use Rattle.told_run.proofs.Grading.{grades_more, row_there}
+use Rattle.told_run.proofs.told.put_all.Goals as goal
 
 pub loop-place-preserved-in-Continue-branch-2 : goal.loop-place-preserved-in-Continue-branch-2
 loop-place-preserved-in-Continue-branch-2 c = λ object.

@@ -3,8 +3,8 @@ use Rattle.topk_theory.specs.Transcript.{list_at}
 use Rattle.query_core.specs.Machines.{algorithm_of, state_of}
 use Rattle.query_core.proofs.Answering.{steps}
 use Rattle.query_core.proofs.Feeding.{may_feed_row, row_told, row_within, row_fed, stranger_fed, room_fed, no_stranger, room_stops}
-use Rattle.query_core.proofs.drive.feed_row.Goals as goal
-use Rattle.query_core.proofs.drive.feed_row.Goals.{In-Some}
+use Rattle.told_run.proofs.drive.feed_row.Goals as goal
+use Rattle.told_run.proofs.drive.feed_row.Goals.{In-Some}
 
 -- the row is the one that the list has at this depth
 found : (c : In-Some) → slice_get (list_at c.args.lists.now c.args.list) (c.args.depth - 1) ≡ Some c.in-Some.row

@@ -1,7 +1,7 @@
 use Rattle.std.proofs.Common.{◌≡◌, ℕ, drop}
 use Rattle.object_map.specs.Values.{value_of}
 use Rattle.topk_theory.specs.Bounds.{grade_among}
-use Rattle.query_core.proofs.told.grades_of.Given as goal
+use Rattle.told_run.proofs.told.put_all.Given as goal
 
 -- the grades of the rows from this place down
 abbrev pub invariant-loop-place : goal.invariant-loop-place

@@ -7,22 +7,11 @@ ghost use Rattle.query_core.specs.Ready.{IsReady};
 ghost use Rattle.query_core.specs.Machines.{algorithm_of, state_of, MakesItsRun};
 ghost use Rattle.query_core.specs.Driving.{CanDrive, Steps, IsDriven, StopsDriving, Finishes, Drives, RunsOver};
 
-use super::machine::Machine;
-use super::ready::Ready;
 use super::told::ToldList;
 use access_log::{Answer, CoreFault};
+use query_core::{DriveFault, Machine, Ready};
 use ranked_list::Need;
 use std::alloc::Global;
-
-/// Why a query has no answer over lists that are told.
-#[derive(Clone, Copy, Debug, PartialEq, Eq)]
-pub enum DriveFault {
-    /// The room that it states is less than the objects of its lists, and less than those that it has to
-    /// see.
-    RoomFull { room: u32 },
-    /// No memory was left: for the machine, for its answer, or for a list's grades by object.
-    Memory,
-}
 
 /// Runs a query over its lists, which are a table of `ready.count` objects and are told in the order of
 /// the query, and has its answer. It is refused for its room alone.

@@ -1,11 +1,12 @@
-use Rattle.std.proofs.Common.{◌≡◌, sym, ap, ◌∙◌}
+use Rattle.std.proofs.Common.{◌≡◌, sym, ap, ◌∙◌, slice_set}
+use Rattle.std.proofs.lemmas.List.{set-get_or}
 use Rattle.topk_theory.specs.Transcript.{list_at}
 use Rattle.topk_theory.specs.Bounds.{grade_among}
 use Rattle.query_core.specs.Machines.{algorithm_of, state_of}
 use Rattle.query_core.proofs.Answering.{steps}
 use Rattle.query_core.proofs.Feeding.{may_feed_grade, grade_told, grade_there, grade_within, grade_fed}
-use Rattle.query_core.proofs.drive.feed_grade.Goals as goal
-use Rattle.query_core.proofs.drive.feed_grade.Goals.{In-Ok}
+use Rattle.told_run.proofs.drive.feed_grade.Goals as goal
+use Rattle.told_run.proofs.drive.feed_grade.Goals.{In-Ok}
 
 -- what is found is the grade that the list has of the object
 found : (c : In-Ok) → grade_among (list_at c.args.lists.now c.args.list) c.args.object ≡ c.in-Ok.found
@@ -25,3 +26,10 @@ returns-clause-ok c =
     let before = state_of c.args.machine.now in
     steps c.args.lists.now c.args.machine.now c.feed_grade.new.self c.feed_grade.ensures.same (grade_within a c.args.lists.now before c.args.list c.args.object c.requires.drives.agrees c.requires.run c.requires.need)
     (grade_fed a c.args.lists.now before (state_of c.feed_grade.new.self) c.args.list c.args.object c.in-Some.grade c.requires.drives c.requires.run c.requires.need (found (goal.at.returns-clause-ok c).In-Ok ∙ c.in-Some.is) c.feed_grade.ensures.fed)
+
+-- a list that is asked for a grade tells the same rows
+pub returns-clause-same : goal.returns-clause-same
+returns-clause-same c = ap (slice_set c.args.lists.now c.from.result) c.grade.ensures.same ∙ set-get_or c.args.lists.now c.from.result c.index-lists-from.result
+
+pub returns-in_default-clause-same : goal.returns-in_default-clause-same
+returns-in_default-clause-same c = ap (slice_set c.args.lists.now c.from.result) c.grade.ensures.same ∙ set-get_or c.args.lists.now c.from.result c.index-lists-from.result

@@ -1,6 +1,6 @@
 //! A list that is told, as a query reads it.
 
-ghost use Rattle.std.specs.Prelude.{◌≡◌, ◌-◌, ◌==◌, ℕ, slice_get, IfOk, OnOk, if◌then◌else◌};
+ghost use Rattle.std.specs.Prelude.{◌≡◌, ◌-◌, ◌==◌, ℕ, slice_get, None, IfOk, OnOk, if◌then◌else◌};
 ghost use Rattle.object_map.specs.Values.{value_of};
 ghost use Rattle.topk_theory.specs.Bounds.{grade_among};
 
@@ -21,7 +21,7 @@ pub struct ToldList<'a> {
 impl<'a> Model for ToldList<'a> {
     ghost use Rattle.std.specs.Prelude.{List};
     ghost use Rattle.ranked_list.specs.declared.row.Row.{Row};
-    ghost use Rattle.query_core.specs.Grades.{AreGradesOf};
+    ghost use Rattle.told_run.specs.Grades.{AreGradesOf};
 
     ghost Value = { List Row };
 
@@ -65,13 +65,27 @@ fn grades_of(alloc: Global, rows: &MemList) -> Result<ObjectMap<u32>, Memory>
     ensures { IfOk result (λ grades. (object : ℕ) → value_of grades object ≡ grade_among rows.now object) }
 {
     let mut grades = ObjectMap::make(alloc);
+    match put_all(&mut grades, rows) {
+        Ok(()) => Ok(grades),
+        Err(fault) => {
+            drop(grades);
+            Err(fault)
+        }
+    }
+}
+
+/// Puts the grades of a list where there are none.
+fn put_all(grades: &mut ObjectMap<u32>, rows: &MemList) -> Result<(), Memory>
+    requires { (object : ℕ) → value_of grades.old object ≡ None }
+    ensures { OnOk result ((object : ℕ) → value_of grades.new object ≡ grade_among rows.now object) }
+{
     grades.widen(rows.len().saturating_mul(2))?;
     for place in (0..rows.len()).rev() {
         if let Some(row) = rows.get(place) {
-            put(&mut grades, row)?;
+            put(grades, row)?;
         }
     }
-    Ok(grades)
+    Ok(())
 }
 
 /// Puts the grade of a row.

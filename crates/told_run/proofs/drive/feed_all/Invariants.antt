@@ -3,7 +3,7 @@ use Rattle.access_log.specs.Machine.{asked_of}
 use Rattle.query_core.specs.Algorithms.{run_by}
 use Rattle.query_core.specs.Machines.{algorithm_of, state_of}
 use Rattle.query_core.specs.Driving.{Continues, CanDrive}
-use Rattle.query_core.proofs.drive.feed_all.Given as goal
+use Rattle.told_run.proofs.drive.feed_all.Given as goal
 
 -- the lists are as they were, and the machine has come some accesses on
 abbrev pub invariant-loop-list : goal.invariant-loop-list

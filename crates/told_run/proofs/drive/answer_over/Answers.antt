@@ -1,5 +1,5 @@
 use Rattle.query_core.proofs.Answering.{drives_ready}
-use Rattle.query_core.proofs.drive.answer_over.Goals as goal
+use Rattle.told_run.proofs.drive.answer_over.Goals as goal
 
 pub returns-in-Ok : goal.returns-in-Ok
 returns-in-Ok c =

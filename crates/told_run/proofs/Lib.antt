@@ -1,0 +1,2 @@
+-- Lemmas on the grades of a list that is told.
+pub mod Grading

@@ -1,0 +1,2 @@
+-- What is kept of a list that is told.
+pub mod Grades
