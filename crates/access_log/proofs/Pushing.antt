@@ -1,11 +1,9 @@
 -- What one more access comes to: why it is refused, and what the transcript keeps after it.
-use Rattle.std.proofs.Common.{◌≡◌, ℕ, zero, suc, ◌+◌, ◌-◌, ◌<◌, ◌≤◌, ◌⊎◌, inl, inr, Bool, cond, nat_lt, List, [], ◌∷◌, ◌++◌, length, Option, Some, None, is_some, position, nat_eq, slice_index_or, refl, sym, ap, subst, ◌∙◌, arith}
+use Rattle.std.proofs.Common.{◌≡◌, ℕ, zero, suc, ◌+◌, ◌-◌, ◌<◌, ◌≤◌, ◌⊎◌, inl, inr, cond, List, [], ◌∷◌, ◌++◌, length, Option, Some, None, is_some, position, nat_eq, slice_index_or, refl, sym, ap, subst, ◌∙◌, arith}
 use Rattle.std.proofs.lemmas.Bool.{cases_lt}
 use Rattle.std.proofs.lemmas.List.{length_push}
 use Rattle.topk_theory.specs.declared.access.Access.{Access}
-use Rattle.topk_theory.specs.declared.access.Access.TheVariants.{Sorted, Random}
-use Rattle.topk_theory.specs.Transcript.{list_of, object_of, named_objects, bottom_of, depth_of}
-use Rattle.topk_theory.specs.Bounds.{known_grade}
+use Rattle.topk_theory.specs.Transcript.{list_of, object_of, named_objects, depth_of}
 use Rattle.topk_theory.specs.Consistent.{SomeAgrees}
 use Rattle.topk_theory.specs.Consistent.Kind.{too_many_objects}
 use Rattle.topk_theory.proofs.AgreementLists.{slice_get_contains}
@@ -13,35 +11,16 @@ use Rattle.topk_theory.proofs.AgreementNames.{has, contains_has, not_has}
 use Rattle.topk_theory.proofs.Agreement.{named_objects_old, named_objects_new, depth_fits}
 use Rattle.topk_theory.proofs.Consistent.{empty_agrees, kind_excludes, no_kind_agrees}
 use Rattle.access_log.specs.Log.{Log, IsWithinLimits, HasNoRoom, with_access}
-use Rattle.access_log.specs.Refusal.{Refuses, IsFirstOf}
-use Rattle.access_records.specs.Tests.{differs, exceeds, first_of_sorted, first_of_random}
+use Rattle.access_objects.specs.FirstKind.{IsFirstOf}
+use Rattle.access_log.specs.Refusal.{Refuses}
 use Rattle.access_log.specs.declared.fault.PushFault.TheVariants.{Inconsistent}
-use Rattle.access_log.specs.declared.objects.Objects.{Objects}
+use Rattle.access_objects.specs.declared.objects.Objects.{Objects}
 use Rattle.access_records.specs.declared.ends.Ends.{Ends}
-use Rattle.access_records.specs.Kept.{is_read, IsGreatestAhead, AreEndsOf}
-use Rattle.access_log.specs.Kept.{AreObjects, HasRoom, IsKept}
+use Rattle.access_records.specs.Kept.{AreEndsOf}
+use Rattle.access_objects.specs.Kept.{AreObjects, HasRoom}
+use Rattle.access_log.specs.Kept.{IsKept}
 use Rattle.access_records.proofs.RecordKept.{placed, not_placed}
-use Rattle.access_log.proofs.ObjectsKept.{list_in_range}
-use Rattle.access_log.proofs.FirstKind.{IsEarly, sorted_first, random_first}
-
--- the first kind, by what the access is
-pub sorted_kinds : (m n : ℕ) (A : List Access) (a : Access) (list object grade at bottom : ℕ) (read : Bool) (known ahead r : Option ℕ)
-    → a ≡ Sorted list object grade → at ≡ list_of a → SomeAgrees m n A → IsEarly m n A a → bottom ≡ bottom_of at A
-    → (known ≡ known_grade A (object_of a) at) × (read ≡ is_read A (object_of a) at) → IsGreatestAhead A at ahead
-    → r ≡ first_of_sorted (nat_lt bottom grade) read (differs known grade) (exceeds ahead grade) → IsFirstOf m n A a r
-sorted_kinds m n A a list object grade at bottom read known ahead r e =
-    subst (λ b. at ≡ list_of b → SomeAgrees m n A → IsEarly m n A b → bottom ≡ bottom_of at A → (known ≡ known_grade A (object_of b) at) × (read ≡ is_read A (object_of b) at) → IsGreatestAhead A at ahead → r ≡ first_of_sorted (nat_lt bottom grade) read (differs known grade) (exceeds ahead grade) → IsFirstOf m n A b r) (sym e)
-    (λ l some early b k g q. subst (IsFirstOf m n A (Sorted list object grade)) (sym q)
-    (sorted_first m n A list object grade bottom read known ahead some early (b ∙ ap (λ j. bottom_of j A) l) (k.0 ∙ ap (λ j. known_grade A object j) l) (k.1 ∙ ap (λ j. is_read A object j) l) (subst (λ j. IsGreatestAhead A j ahead) l g)))
-
-pub random_kinds : (m n : ℕ) (A : List Access) (a : Access) (list object grade at bottom : ℕ) (read : Bool) (known r : Option ℕ) → a ≡ Random list object grade
-    → at ≡ list_of a → SomeAgrees m n A → IsEarly m n A a → bottom ≡ bottom_of at A
-    → (known ≡ known_grade A (object_of a) at) × (read ≡ is_read A (object_of a) at) → r ≡ first_of_random (differs known grade) read (nat_lt bottom grade)
-    → IsFirstOf m n A a r
-random_kinds m n A a list object grade at bottom read known r e =
-    subst (λ b. at ≡ list_of b → SomeAgrees m n A → IsEarly m n A b → bottom ≡ bottom_of at A → (known ≡ known_grade A (object_of b) at) × (read ≡ is_read A (object_of b) at) → r ≡ first_of_random (differs known grade) read (nat_lt bottom grade) → IsFirstOf m n A b r) (sym e)
-    (λ l some early b k q. subst (IsFirstOf m n A (Random list object grade)) (sym q)
-    (random_first m n A list object grade bottom read known some early (b ∙ ap (λ j. bottom_of j A) l) (k.0 ∙ ap (λ j. known_grade A object j) l) (k.1 ∙ ap (λ j. is_read A object j) l)))
+use Rattle.access_objects.proofs.ObjectsKept.{list_in_range}
 
 -- an access that is refused
 pub refusal : (log : Log) (lists count so sa : ℕ) (A : List Access) (a : Access) (kind len : ℕ)

@@ -1,8 +1,7 @@
 -- Why an access is refused.
-use Rattle.std.specs.Prelude.{◌≡◌, ◌+◌, ℕ, List, length, Option, Some, None}
+use Rattle.std.specs.Prelude.{◌≡◌, ◌+◌, List, length}
 use Rattle.ranked_list.specs.declared.row.Row.{Row}
 use Rattle.topk_theory.specs.declared.access.Access.{Access}
-use Rattle.topk_theory.specs.Consistent.{Kind, number_of, IsOfKind, IsFirstKind}
 use Rattle.access_log.specs.Log.{Log, AgreesWith, with_access, IsFirstNumber, HasNoRoom}
 use Rattle.access_log.specs.declared.fault.PushFault.{PushFault}
 use Rattle.access_log.specs.declared.fault.PushFault.TheVariants.{Inconsistent, Memory}
@@ -12,8 +11,3 @@ abbrev pub Refuses : Log → Access → PushFault → Type 0
 Refuses log access (Inconsistent at kind) =
     (at ≡ length log.accesses + 1) × IsFirstNumber log access kind × ((D : List (List Row)) → ¬ AgreesWith D (with_access log access))
 Refuses log access Memory = HasNoRoom log access
-
--- the number of the first kind of which an access is, None where it is of none
-abbrev pub IsFirstOf : ℕ → ℕ → List Access → Access → Option ℕ → Type 0
-IsFirstOf m n A access None = (kind : Kind) → ¬ IsOfKind m n A access kind
-IsFirstOf m n A access (Some number) = (kind : Kind) × (number_of kind ≡ number) × IsFirstKind m n A access kind

@@ -1,9 +1,7 @@
 //! Why an access is refused.
 
-use thiserror::Error;
-
 /// Why a transcript doesn't take an access.
-#[derive(Clone, Copy, Debug, PartialEq, Eq, Error)]
+#[derive(Clone, Copy, Debug, PartialEq, Eq)]
 pub enum PushFault {
     /// No table agrees with the transcript and this access. `at` is the access's number, from 1.
     /// `kind` is the first of these that holds:
@@ -17,9 +15,7 @@ pub enum PushFault {
     /// 7. a sorted access passes over an object of its list that is known to have a greater grade;
     /// 8. a random access gives an object that its list hasn't given yet a grade above the list's
     ///    bottom.
-    #[error("access {at} agrees with no table (kind {kind})")]
     Inconsistent { at: u64, kind: u8 },
     /// No memory was left.
-    #[error("no memory was left")]
     Memory,
 }

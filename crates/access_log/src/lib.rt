@@ -6,8 +6,6 @@
 mod answer;
 mod core_fault;
 mod fault;
-mod first_kind;
-mod objects;
 mod room;
 mod transcript;
 
@@ -15,7 +13,7 @@ pub use answer::Answer;
 pub use core_fault::CoreFault;
 pub use fault::PushFault;
 pub use ranked_list::{Item, Items};
-use std::alloc::{AllocError, AllocFailed};
+use std::alloc::AllocError;
 pub use topk_theory::Access;
 pub use transcript::Transcript;
 
@@ -29,20 +27,8 @@ impl From<AllocError> for Memory {
     }
 }
 
-impl<T: Drop> From<AllocFailed<T>> for Memory {
-    fn from(_: AllocFailed<T>) -> Memory {
-        Memory
-    }
-}
-
-impl From<room_map::Memory> for Memory {
-    fn from(_: room_map::Memory) -> Memory {
-        Memory
-    }
-}
-
-impl From<access_records::Memory> for Memory {
-    fn from(_: access_records::Memory) -> Memory {
+impl From<access_objects::Memory> for Memory {
+    fn from(_: access_objects::Memory) -> Memory {
         Memory
     }
 }

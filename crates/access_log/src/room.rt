@@ -2,10 +2,9 @@
 
 ghost use Rattle.std.specs.Prelude.{◌≡◌, ◌-◌, ◌<◌, ◌≤◌, ◌⊎◌, ℕ, List, None, is_some, length, vec_len, vec_capacity, OnOk, OnErr, if◌then◌else◌};
 ghost use Rattle.topk_theory.specs.declared.access.Access.{Access as Made};
-ghost use Rattle.access_log.specs.Kept.{AreObjects, HasRoom};
+ghost use Rattle.access_objects.specs.Kept.{AreObjects, HasRoom};
 
-use super::Memory;
-use super::objects::Objects;
+use access_objects::{Memory, Objects};
 use limits::MAX_OBJECTS;
 use topk_theory::Access;
 

@@ -2,9 +2,8 @@
 
 use super::Memory;
 use super::fault::PushFault;
-use super::first_kind::first_kind;
-use super::objects::Objects;
 use super::room::{make_room, spare_after};
+use access_objects::{Objects, first_kind};
 use access_records::Ends;
 use limits::{MAX_LISTS, MAX_NUMBER, MAX_OBJECTS};
 use monotone_fn::{Costs, Expr};

@@ -6,7 +6,7 @@ ghost use Rattle.topk_theory.specs.Transcript.{is_sorted, list_of, object_of, na
 ghost use Rattle.topk_theory.specs.Bounds.{known_grade};
 ghost use Rattle.topk_theory.specs.Consistent.{SomeAgrees};
 ghost use Rattle.access_records.specs.Kept.{AreRecords, AreAhead, HaveRoom, is_read};
-ghost use Rattle.access_log.specs.Kept.{AreObjects, HasRoom, IsNoted, FitsAccess, IsPlaced};
+ghost use Rattle.access_objects.specs.Kept.{AreObjects, HasRoom, IsNoted, FitsAccess, IsPlaced};
 
 use super::Memory;
 use access_records::{Ahead, Known, Record};
@@ -26,10 +26,15 @@ const UNNAMED: Record = Record {
 /// ones in the order of first sight; and for how many objects there is room.
 #[derive(Drop)]
 pub struct Objects {
+    /// For how many objects there is room.
     pub room: u32,
+    /// The objects that accesses name, each with its place.
     pub names: RoomMap,
+    /// The record of each, by its place.
     pub records: Vec<Record>,
+    /// The objects that sorted accesses gave, in the order of first sight.
     pub sights: Vec<u32>,
+    /// The grades that are known ahead of the lists, by the places of their objects.
     pub ahead: Ahead,
 }
 

@@ -5,8 +5,8 @@ ghost use Rattle.topk_theory.specs.declared.access.Access.{Access as Made};
 ghost use Rattle.topk_theory.specs.Transcript.{object_of, named_objects};
 ghost use Rattle.topk_theory.specs.Consistent.{SomeAgrees};
 ghost use Rattle.access_records.specs.Kept.{AreEndsOf};
-ghost use Rattle.access_log.specs.Kept.{AreObjects};
-ghost use Rattle.access_log.specs.Refusal.{IsFirstOf};
+ghost use Rattle.access_objects.specs.Kept.{AreObjects};
+ghost use Rattle.access_objects.specs.FirstKind.{IsFirstOf};
 
 use super::objects::Objects;
 use access_records::{

@@ -1,5 +1,5 @@
 -- The objects that accesses name, after one more access.
-use Rattle.std.proofs.Common.{◌≡◌, ◌≢◌, ℕ, zero, suc, ◌+◌, ◌^◌, ◌<◌, ◌≤◌, ◌⊎◌, inl, inr, Bool, true, false, cond, ◌&&◌, List, [], ◌∷◌, ◌++◌, length, AllPairs, Contains, Option, Some, None, position, nat_eq, is_none, slice_get, slice_index_or, slice_set, replicate, refl, sym, ap, subst, ◌∙◌, arith}
+use Rattle.std.proofs.Common.{◌≡◌, ◌≢◌, ℕ, ◌+◌, ◌^◌, ◌<◌, ◌≤◌, ◌⊎◌, inl, inr, Bool, true, false, cond, ◌&&◌, List, [], ◌∷◌, ◌++◌, length, AllPairs, Contains, Option, Some, None, position, nat_eq, is_none, slice_get, slice_index_or, slice_set, replicate, sym, ap, subst, ◌∙◌, arith}
 use Rattle.std.specs.Option.{option_and_then}
 use Rattle.std.proofs.lemmas.Bool.{cases_Bool, cases_eq, cases_lt, true≢false}
 use Rattle.std.proofs.lemmas.List.{get_or-set_same, get_or-set_other, length-set, get_or_append_left, length_push}
@@ -16,10 +16,10 @@ use Rattle.topk_theory.proofs.Agreement.{named_objects_old, named_objects_new, n
 use Rattle.topk_theory.proofs.Unseen.{unnamed_unknown}
 use Rattle.ranked_list.proofs.OptionLaws.{option_cases}
 use Rattle.access_records.specs.declared.record.Record.{Record}
-use Rattle.access_log.specs.declared.objects.Objects.{Objects}
+use Rattle.access_objects.specs.declared.objects.Objects.{Objects}
 use Rattle.indexed_heap.proofs.Getting.{get_last, get_replicate}
 use Rattle.access_records.specs.Kept.{IsRecordOf, AreRecords, AreAhead, AreWider, heap_at, is_read, grade_ahead}
-use Rattle.access_log.specs.Kept.{AreObjects, HasRoom, IsNoted, FitsAccess, IsPlaced}
+use Rattle.access_objects.specs.Kept.{AreObjects, HasRoom, IsNoted, FitsAccess, IsPlaced}
 use Rattle.access_records.proofs.RecordKept.{record_other, unnamed_unread, placed, not_placed, place_of_absent}
 use Rattle.access_records.proofs.AheadKept.{ahead_wider, apart}
 use Rattle.limits.specs.declared.TheConstants.{MAX_LISTS}

@@ -15,7 +15,7 @@ use Rattle.topk_theory.proofs.AgreementRows.{grade_among_row, object_of_row}
 use Rattle.topk_theory.proofs.Agreement.{given_from, agrees_front, known_grade_given, known_grade_kept}
 use Rattle.topk_theory.proofs.ConsistentTable.{given_split, random_given}
 use Rattle.access_records.specs.Tests.{differs, exceeds, first_of_sorted, first_of_random}
-use Rattle.access_log.specs.Refusal.{IsFirstOf}
+use Rattle.access_objects.specs.FirstKind.{IsFirstOf}
 use Rattle.access_records.specs.Kept.{is_read, grade_ahead, IsGreatestAhead}
 use Rattle.access_records.proofs.RecordKept.{not_placed, place_of_absent}
 
@@ -240,3 +240,22 @@ is_early m n A a place len l g e s f = record {
   capped = λ z. not_both top_grade (grade_of a) z g;
   few = λ z. true≢false (sym (and_from (is_none place) (nat_le n len) (ap is_none (e ∙ place_of_absent (object_of a) (named_objects A) z.1)) (le-leb n len (subst (λ k. n ≤ k) (sym s) z.0))) ∙ f);
 }
+
+-- the first kind, by what the access is
+pub sorted_kinds : (m n : ℕ) (A : List Access) (a : Access) (list object grade at bottom : ℕ) (read : Bool) (known ahead r : Option ℕ)
+    → a ≡ Sorted list object grade → at ≡ list_of a → SomeAgrees m n A → IsEarly m n A a → bottom ≡ bottom_of at A
+    → (known ≡ known_grade A (object_of a) at) × (read ≡ is_read A (object_of a) at) → IsGreatestAhead A at ahead
+    → r ≡ first_of_sorted (nat_lt bottom grade) read (differs known grade) (exceeds ahead grade) → IsFirstOf m n A a r
+sorted_kinds m n A a list object grade at bottom read known ahead r e =
+    subst (λ b. at ≡ list_of b → SomeAgrees m n A → IsEarly m n A b → bottom ≡ bottom_of at A → (known ≡ known_grade A (object_of b) at) × (read ≡ is_read A (object_of b) at) → IsGreatestAhead A at ahead → r ≡ first_of_sorted (nat_lt bottom grade) read (differs known grade) (exceeds ahead grade) → IsFirstOf m n A b r) (sym e)
+    (λ l some early b k g q. subst (IsFirstOf m n A (Sorted list object grade)) (sym q)
+    (sorted_first m n A list object grade bottom read known ahead some early (b ∙ ap (λ j. bottom_of j A) l) (k.0 ∙ ap (λ j. known_grade A object j) l) (k.1 ∙ ap (λ j. is_read A object j) l) (subst (λ j. IsGreatestAhead A j ahead) l g)))
+
+pub random_kinds : (m n : ℕ) (A : List Access) (a : Access) (list object grade at bottom : ℕ) (read : Bool) (known r : Option ℕ) → a ≡ Random list object grade
+    → at ≡ list_of a → SomeAgrees m n A → IsEarly m n A a → bottom ≡ bottom_of at A
+    → (known ≡ known_grade A (object_of a) at) × (read ≡ is_read A (object_of a) at) → r ≡ first_of_random (differs known grade) read (nat_lt bottom grade)
+    → IsFirstOf m n A a r
+random_kinds m n A a list object grade at bottom read known r e =
+    subst (λ b. at ≡ list_of b → SomeAgrees m n A → IsEarly m n A b → bottom ≡ bottom_of at A → (known ≡ known_grade A (object_of b) at) × (read ≡ is_read A (object_of b) at) → r ≡ first_of_random (differs known grade) read (nat_lt bottom grade) → IsFirstOf m n A b r) (sym e)
+    (λ l some early b k q. subst (IsFirstOf m n A (Random list object grade)) (sym q)
+    (random_first m n A list object grade bottom read known some early (b ∙ ap (λ j. bottom_of j A) l) (k.0 ∙ ap (λ j. known_grade A object j) l) (k.1 ∙ ap (λ j. is_read A object j) l)))

@@ -1,0 +1,2 @@
+pub mod FirstKind
+pub mod ObjectsKept
