@@ -7,7 +7,7 @@ use Rattle.turn_lock.specs.Known.{Follows}
 use Rattle.source_log.specs.declared.entry.LogEntry.{LogEntry}
 use Rattle.source_state.specs.State.{State, IsSound, state_at}
 use Rattle.source_pass.specs.declared.hold.Hold.{Hold}
-use Rattle.source_pool.specs.Passes.{hold_at}
+use Rattle.source_locks.specs.Passes.{hold_at}
 use Rattle.query_turns.specs.declared.inquiry.Inquiry.{Inquiry}
 use Rattle.query_turns.specs.Kept.{IsServed}
 use Rattle.query_turns.proofs.Causes.{IsLater}

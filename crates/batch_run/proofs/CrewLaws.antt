@@ -7,9 +7,9 @@ use Rattle.atomic_table.specs.Seated.{TableId}
 use Rattle.turn_lock.specs.Known.{all_parts}
 use Rattle.source_pass.specs.declared.hold.Hold.{Hold}
 use Rattle.source_pass.specs.Passes.{no_hold}
-use Rattle.source_pool.specs.Passes.{Feed, hold_at}
+use Rattle.source_locks.specs.Passes.{Feed, hold_at}
 use Rattle.source_pass.specs.Looks.{IsWithin}
-use Rattle.source_pool.specs.Sharing.{IsOpened}
+use Rattle.source_locks.specs.Sharing.{IsOpened}
 use Rattle.query_core.specs.declared.ready.Ready.{Ready}
 use Rattle.query_turns.specs.Made.{IsReadyFor}
 use Rattle.batch_result.specs.declared.settings.Settings.{Settings}

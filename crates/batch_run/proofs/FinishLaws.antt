@@ -18,9 +18,9 @@ use Rattle.source_log.specs.Log.{settled_in}
 use Rattle.source_state.specs.State.{State, IsSound, last_count, state_at}
 use Rattle.source_state.specs.Looking.{reach_of}
 use Rattle.source_pass.specs.declared.hold.Hold.{Hold}
-use Rattle.source_pool.specs.Passes.{Feed, lock_at, hold_at, feed_at}
-use Rattle.source_pool.specs.Sharing.{first_feed}
-use Rattle.source_pool.specs.Closed.{HaveAll, IsClosed, AreClosed}
+use Rattle.source_locks.specs.Passes.{Feed, lock_at, hold_at, feed_at}
+use Rattle.source_locks.specs.Sharing.{first_feed}
+use Rattle.source_locks.specs.Closed.{HaveAll, IsClosed, AreClosed}
 use Rattle.query_core.specs.declared.ready.Ready.{Ready}
 use Rattle.query_turns.specs.declared.ended.Ended.{Ended}
 use Rattle.query_turns.specs.declared.inquiry.Inquiry.{Inquiry}

@@ -7,8 +7,8 @@ use Rattle.topk_theory.proofs.AgreementLists.{contains_nil, contains_here, conta
 use Rattle.atomic_table.specs.Seated.{TableId}
 use Rattle.turn_lock.specs.Known.{Follows}
 use Rattle.source_pass.specs.declared.hold.Hold.{Hold}
-use Rattle.source_pool.specs.Passes.{hold_at, IsPassOf}
-use Rattle.source_pool.specs.Sharing.{IsJoined}
+use Rattle.source_locks.specs.Passes.{hold_at, IsPassOf}
+use Rattle.source_locks.specs.Sharing.{IsJoined}
 use Rattle.batch_sides.specs.declared.work.Worker.{Worker}
 use Rattle.batch_run.specs.Crews.{Rejoins}
 use Rattle.batch_result.proofs.LaterLaws.{follows_on}

@@ -6,8 +6,8 @@ use Rattle.ranked_list.specs.declared.row.Row.{Row}
 use Rattle.atomic_table.specs.Seated.{TableId}
 use Rattle.source_api.specs.declared.counts.Counts.{Counts}
 use Rattle.source_api.specs.Counting.{NoneFell}
-use Rattle.source_pool.specs.Passes.{Feed, lock_at, feed_at, IsIdleOf, AreFeedersOf}
-use Rattle.source_pool.specs.Sharing.{first_feed}
+use Rattle.source_locks.specs.Passes.{Feed, lock_at, feed_at, IsIdleOf, AreFeedersOf}
+use Rattle.source_locks.specs.Sharing.{first_feed}
 use Rattle.fetcher.specs.declared.slot.Slot.{Slot}
 use Rattle.fetcher.specs.declared.turned.Fetched.{Fetched}
 use Rattle.fetcher.specs.Turning.{Feeds}

@@ -5,9 +5,9 @@ use Rattle.atomic_table.specs.Seated.{TableId}
 use Rattle.turn_lock.specs.Known.{all_parts, Follows}
 use Rattle.source_state.specs.State.{State}
 use Rattle.source_pass.specs.declared.hold.Hold.{Hold}
-use Rattle.source_pool.specs.Passes.{Feed, lock_at, hold_at, feed_at, IsPassOf, AreFeedersOf}
+use Rattle.source_locks.specs.Passes.{Feed, lock_at, hold_at, feed_at, IsPassOf, AreFeedersOf}
 use Rattle.source_pass.specs.Sharing.{new_hold}
-use Rattle.source_pool.specs.Sharing.{first_hold, first_feed}
+use Rattle.source_locks.specs.Sharing.{first_hold, first_feed}
 use Rattle.query_core.specs.declared.ready.Ready.{Ready}
 use Rattle.query_turns.specs.declared.ended.Ended.{Ended}
 use Rattle.source_api.specs.Counting.{NoneFell}

@@ -1,7 +1,7 @@
 //! What a crew gives once it has run.
 
 ghost use Rattle.std.specs.Prelude.{◌≡◌, ◌≤◌, ◌<◌, [], ◌∷◌, ◌++◌, ℕ, List, All, length, map, vec_len, vec_capacity};
-ghost use Rattle.source_pool.specs.Passes.{IsPassOf};
+ghost use Rattle.source_locks.specs.Passes.{IsPassOf};
 ghost use Rattle.source_state.specs.State.{state_at};
 ghost use Rattle.query_core.specs.declared.ready.Ready.{Ready};
 ghost use Rattle.query_turns.specs.declared.ended.Ended.{Ended as EndedOf};

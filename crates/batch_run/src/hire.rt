@@ -1,7 +1,7 @@
 //! Workers, and what a run needs before it begins.
 
 ghost use Rattle.std.specs.Prelude.{◌≡◌, ◌≤◌, ◌<◌, ◌+◌, ◌^◌, [], ℕ, List, All, length, IfOk, OnOk, vec_len, vec_capacity};
-ghost use Rattle.source_pool.specs.Passes.{IsPassOf};
+ghost use Rattle.source_locks.specs.Passes.{IsPassOf};
 ghost use Rattle.batch_run.specs.Crews.{IsHiring, IsNewCrew};
 
 use batch_result::Use;

@@ -3,7 +3,7 @@ use Rattle.std.proofs.Common.{◌≡◌, ◌≤◌, ◌<◌, ℕ, Option, Some, 
 use Rattle.std.proofs.lemmas.List.{take_all}
 use Rattle.ranked_list.specs.declared.row.Row.{Row}
 use Rattle.source_api.specs.declared.counts.Counts.{Counts}
-use Rattle.source_pool.specs.Passes.{Feed, feed_at}
+use Rattle.source_locks.specs.Passes.{Feed, feed_at}
 use Rattle.fetcher.specs.declared.slot.Slot.{Slot}
 use Rattle.batch_slots.specs.Slots.{SlotState, state_of, AreLent, AreTakenBack}
 

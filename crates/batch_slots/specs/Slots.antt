@@ -5,7 +5,7 @@ use Rattle.ranked_list.specs.declared.row.Row.{Row}
 use Rattle.atomic_table.specs.Seated.{TableId}
 use Rattle.source_api.specs.declared.counts.Counts.{Counts}
 use Rattle.source_api.specs.Counting.{no_counts, NoneFell}
-use Rattle.source_pool.specs.Passes.{Feed, IsIdleOf, feed_at}
+use Rattle.source_locks.specs.Passes.{Feed, IsIdleOf, feed_at}
 use Rattle.fetcher.specs.declared.slot.Slot.{Slot}
 use Rattle.fetcher.specs.declared.turned.Fetched.{Fetched}
 use Rattle.fetcher.specs.Turning.{Feeds}

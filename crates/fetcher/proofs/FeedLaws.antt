@@ -14,7 +14,7 @@ use Rattle.source_state.specs.State.{State, facts_of, IsSound}
 use Rattle.source_state.specs.Events as events
 use Rattle.source_state.specs.Events.{MayCome}
 use Rattle.source_state.specs.Looking.{plan_of, Serves}
-use Rattle.source_pool.specs.Passes.{Feed, IsFeederOf, IsIdleOf, in_turn, turned}
+use Rattle.source_locks.specs.Passes.{Feed, IsFeederOf, IsIdleOf, in_turn, turned}
 use Rattle.source_pass.proofs.TurnLaws.{marks_kept}
 use Rattle.fetcher.specs.Turning.{IsFound, HasSeen, Feeds, IsPlanned, IsFed, IsOfSource}
 use Rattle.fetcher.proofs.EventLaws.{event_want, event_asks}

@@ -5,9 +5,9 @@ use Rattle.atomic_table.specs.Seated.{TableId}
 use Rattle.turn_lock.specs.declared.known.Known.{Known}
 use Rattle.source_log.specs.declared.entry.LogEntry.{LogEntry}
 use Rattle.source_pass.specs.declared.hold.Hold.{Hold}
-use Rattle.source_pool.specs.Passes.{Feed, hold_at, IsPassOf}
+use Rattle.source_locks.specs.Passes.{Feed, hold_at, IsPassOf}
 use Rattle.source_pass.specs.Looks.{TookTurn}
-use Rattle.source_pool.specs.Sharing.{IsOpened}
+use Rattle.source_locks.specs.Sharing.{IsOpened}
 use Rattle.fetcher_support.specs.Reading.{IsReader}
 
 pub opened_reader : (count : ℕ) (pool : List TableId) (holds : List Hold) (feeds : List Feed) → IsOpened (count ∷ []) pool holds feeds

@@ -2,7 +2,7 @@
 use Rattle.std.specs.Prelude.{◌≡◌, ℕ, List, length}
 use Rattle.atomic_table.specs.Seated.{TableId}
 use Rattle.source_pass.specs.declared.hold.Hold.{Hold}
-use Rattle.source_pool.specs.Passes.{hold_at, IsPassOf}
+use Rattle.source_locks.specs.Passes.{hold_at, IsPassOf}
 
 -- the pass is the pool's own, and the one source has so many objects
 pub record IsReader (pool : List TableId) (count : ℕ) (holds : List Hold) : Type 0 where

@@ -1,7 +1,7 @@
 //! The two sides of a run over one source.
 
 ghost use Rattle.std.specs.Prelude.{◌≡◌, ◌≤◌, ◌<◌, ◌+◌, None, length};
-ghost use Rattle.source_pool.specs.Passes.{IsIdleOf};
+ghost use Rattle.source_locks.specs.Passes.{IsIdleOf};
 ghost use Rattle.fetcher_support.specs.Reading.{IsReader};
 
 use fetcher::{Fetched, Slot, Stop, fetch_loop};

@@ -9,10 +9,10 @@ use Rattle.turn_lock.specs.Known.{all_parts}
 use Rattle.source_log.specs.declared.entry.LogEntry.{LogEntry}
 use Rattle.source_pass.specs.declared.hold.Hold.{Hold}
 use Rattle.source_pass.specs.Passes.{IsFree}
-use Rattle.source_pool.specs.Passes.{Feed, lock_at, hold_at, feed_at, IsPassOf, IsIdleOf, AreFeedersOf}
+use Rattle.source_locks.specs.Passes.{Feed, lock_at, hold_at, feed_at, IsPassOf, IsIdleOf, AreFeedersOf}
 use Rattle.source_pass.specs.Looks.{MayLookFor, TookTurn}
-use Rattle.source_pool.specs.Sharing.{first_hold, first_feed, IsOpened, MaySplit, IsSplit, IsJoined}
-use Rattle.source_pool.specs.Closed.{HaveAll}
+use Rattle.source_locks.specs.Sharing.{first_hold, first_feed, IsOpened, MaySplit, IsSplit, IsJoined}
+use Rattle.source_locks.specs.Closed.{HaveAll}
 use Rattle.fetcher.specs.Turning.{Feeds}
 use Rattle.pool_support.specs.declared.desk.Desk.{Desk}
 use Rattle.pool_support.specs.Ready.{IsReady, MayAsk}

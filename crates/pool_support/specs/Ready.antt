@@ -3,7 +3,7 @@ use Rattle.std.specs.Prelude.{◌≡◌, ◌≤◌, ◌+◌, ℕ, length}
 use Rattle.ranked_list.specs.declared.need.Need.{Need}
 use Rattle.ranked_list.specs.declared.need.Need.TheVariants as need
 use Rattle.turn_lock.specs.Known.{all_parts}
-use Rattle.source_pool.specs.Passes.{hold_at, IsPassOf, IsIdleOf}
+use Rattle.source_locks.specs.Passes.{hold_at, IsPassOf, IsIdleOf}
 use Rattle.pool_support.specs.declared.desk.Desk.{Desk}
 
 -- two passes and the feeder are the pool's own, of a source with so many objects, and have all parts of it

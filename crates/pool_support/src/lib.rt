@@ -1,6 +1,9 @@
-//! A pool of one source on one thread, for the tests of several crates: looks through two passes, and the turns of its fetcher.
+//! Pools for the tests of several crates: of one source, with looks through two passes and the turns of its fetcher on one thread, and of two
+//! sources.
 #![tactic(auto)]
 
 mod desk;
+mod pair;
 
 pub use desk::{Desk, Step, first_wrong, make_source, only};
+pub use pair::Pair;

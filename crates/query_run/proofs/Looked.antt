@@ -20,7 +20,7 @@ use Rattle.source_state.specs.declared.look.LookFault.TheVariants as why
 use Rattle.source_state.specs.State.{State, IsSound, state_at}
 use Rattle.source_state.specs.Looking.{decided, is_full, Ends, Refuses}
 use Rattle.source_pass.specs.declared.hold.Hold.{Hold}
-use Rattle.source_pool.specs.Passes.{hold_at, OthersStay}
+use Rattle.source_locks.specs.Passes.{hold_at, OthersStay}
 use Rattle.source_pass.specs.Looks.{IsTurn}
 use Rattle.query_core.specs.Machines.{state_of}
 use Rattle.query_turns.specs.declared.inquiry.Inquiry.{Inquiry}

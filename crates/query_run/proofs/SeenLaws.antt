@@ -8,7 +8,7 @@ use Rattle.source_log.specs.Log.{rows_in}
 use Rattle.source_state.specs.State.{State, state_at}
 use Rattle.source_state.specs.Drawing.{told_by}
 use Rattle.source_pass.specs.declared.hold.Hold.{Hold}
-use Rattle.source_pool.specs.Passes.{hold_at}
+use Rattle.source_locks.specs.Passes.{hold_at}
 use Rattle.query_turns.specs.Inquiries.{logs_of}
 use Rattle.query_turns.proofs.Causes.{rows_begin, known_more}
 use Rattle.query_turns.proofs.Serving.{rows_told, known_told}

@@ -20,7 +20,7 @@ use Rattle.source_state.specs.Looking.{waits_for, is_same, newer, told, Refuses}
 use Rattle.source_state.specs.State.{State, state_at}
 use Rattle.source_log.proofs.Lists.{none_not_some, eqb_same}
 use Rattle.source_pass.specs.declared.hold.Hold.{Hold}
-use Rattle.source_pool.specs.Passes.{hold_at, OthersStay}
+use Rattle.source_locks.specs.Passes.{hold_at, OthersStay}
 use Rattle.source_pass.specs.Looks.{KeepsMarks, shown_fault, Ends, BeginsToWait}
 use Rattle.query_core.specs.Machines.{state_of, MakesItsRun}
 use Rattle.query_turns.specs.declared.ended.Refusal.TheVariants as refusal

@@ -15,7 +15,7 @@ use Rattle.source_state.specs.Looking.{decided, IsDecided}
 use Rattle.source_state.specs.State.{State, IsSound, state_at}
 use Rattle.source_log.proofs.Lists.{none_not_some}
 use Rattle.source_pass.specs.declared.hold.Hold.{Hold}
-use Rattle.source_pool.specs.Passes.{hold_at, OthersStay}
+use Rattle.source_locks.specs.Passes.{hold_at, OthersStay}
 use Rattle.source_pass.specs.Looks.{MayLookFor, shown_by, IsTurn, IsWithin, TookTurn, Waits}
 use Rattle.query_core.specs.Algorithms.{run_by}
 use Rattle.query_core.specs.Machines.{algorithm_of, state_of, MakesItsRun}

@@ -19,7 +19,7 @@ use Rattle.source_state.specs.State.{State, opened, IsSound, state_at}
 use Rattle.source_state.specs.Drawing.{told_by}
 use Rattle.source_log.proofs.Lists.{none_not_some}
 use Rattle.source_pass.specs.declared.hold.Hold.{Hold}
-use Rattle.source_pool.specs.Passes.{hold_at}
+use Rattle.source_locks.specs.Passes.{hold_at}
 use Rattle.source_pass.specs.Looks.{IsWithin, TookTurn}
 use Rattle.query_core.specs.declared.ready.Ready.{Ready}
 use Rattle.query_core.specs.Driving.{Continues, IsFedFrom}

@@ -8,7 +8,7 @@ use Rattle.source_state.specs.declared.look.LookFault.TheVariants as why
 use Rattle.source_state.specs.declared.look.Waiting.{Waiting}
 use Rattle.source_state.specs.State.{State, IsSound, state_at}
 use Rattle.source_pass.specs.declared.hold.Hold.{Hold}
-use Rattle.source_pool.specs.Passes.{hold_at, OthersStay}
+use Rattle.source_locks.specs.Passes.{hold_at, OthersStay}
 use Rattle.source_pass.specs.Looks.{shown_by, IsTurn, IsWithin, TookTurn, Waits}
 use Rattle.query_core.specs.Driving.{Continues, IsFedFrom}
 use Rattle.query_core.specs.Machines.{algorithm_of, state_of, MakesItsRun}

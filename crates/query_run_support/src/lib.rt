@@ -3,4 +3,4 @@
 
 mod sides;
 
-pub use sides::run_beside;
+pub use sides::ends_beside;

@@ -1,16 +1,18 @@
 //! The sides of a run over two sources.
 
-ghost use Rattle.std.specs.Prelude.{◌≡◌, ◌≤◌, ◌∷◌, [], length, IfSome};
-ghost use Rattle.source_pool.specs.Passes.{IsIdleOf, AreFeedersOf};
+ghost use Rattle.std.specs.Prelude.{◌≡◌, ◌≤◌, ◌∷◌, []};
+ghost use Rattle.source_locks.specs.Passes.{IsIdleOf};
 ghost use Rattle.query_turns.specs.Made.{IsReadyFor};
-ghost use Rattle.query_run_support.specs.Running.{MayRun, AreIdle, AreTheTwo};
+ghost use Rattle.query_run_support.specs.Running.{MayRun};
 
 use fetcher::{Fetched, Stop};
 use fetcher_support::fetch_side;
 use mem_source::MemSource;
+use pool_support::Pair;
 use query_core::Ready;
-use query_run::{Ended, run_query};
-use source_pool::{Feeder, Feeders, Pool, PoolPass};
+use query_run::run_query;
+use query_support::{Expected, has_ended_so};
+use source_pool::{Feeder, Pool, PoolPass};
 use std::alloc::Global;
 use std::sync::Wait;
 use std::thread::{Threads, join_mut};
@@ -18,19 +20,20 @@ use std::thread::{Threads, join_mut};
 /// Nothing fetched yet.
 const NOTHING: Fetched = Fetched { rows: 0, grades: 0 };
 
-/// The query's side: it runs the query, and sets the sign.
+/// The query's side: it runs the query, tells whether it ended as it is to, and sets the sign.
 fn ask(
     rt: &impl Wait,
     alloc: Global,
     pool: &Pool,
     pass: &mut PoolPass,
     ready: &Ready,
-    ended: &mut Option<Ended>,
+    expected: &Expected,
+    so: &mut bool,
     stop: &Stop,
 )
     requires { MayRun pool.now pass.old ready.now }
 {
-    *ended = run_query(rt, alloc, pool, pass, ready).ok();
+    *so = has_ended_so(run_query(rt, alloc, pool, pass, ready), expected);
     stop.set(pool);
 }
 
@@ -43,7 +46,8 @@ fn ask_beside<R: Threads + Wait + Sync>(
     ready: &Ready,
     feeder: &mut Feeder,
     source: &mut MemSource,
-    ended: &mut Option<Ended>,
+    expected: &Expected,
+    so: &mut bool,
     stop: &Stop,
 )
     requires may { MayRun pool.now pass.old ready.now }
@@ -58,7 +62,7 @@ fn ask_beside<R: Threads + Wait + Sync>(
         { fetch_side(rt, alloc, pool, feeder, source, given, stop) },
         &mut ||
             requires { MayRun pool.now pass.now ready.now }
-        { ask(rt, alloc, pool, pass, ready, ended, stop) },
+        { ask(rt, alloc, pool, pass, ready, expected, so, stop) },
     );
 }
 
@@ -69,19 +73,21 @@ fn run_all<R: Threads + Wait + Sync>(
     pool: &Pool,
     pass: &mut PoolPass,
     ready: &Ready,
-    feeders: &mut (Feeder, Feeder),
+    first: &mut Feeder,
+    second: &mut Feeder,
     sources: &mut (MemSource, MemSource),
-) -> Option<Ended>
+    expected: &Expected,
+) -> bool
     requires may { MayRun pool.now pass.old ready.now }
-    requires feeders { AreIdle pool.now feeders.old }
+    requires first { IsIdleOf pool.now first.old }
+    requires second { IsIdleOf pool.now second.old }
 {
     let stop = Stop::make();
     let sign = &stop;
-    let mut ended = None;
-    let end = &mut ended;
+    let mut so = false;
+    let found = &mut so;
     let mut fetched = NOTHING;
     let given = &mut fetched;
-    let (first, second) = feeders;
     let (one, other) = sources;
     join_mut(
         rt,
@@ -90,36 +96,38 @@ fn run_all<R: Threads + Wait + Sync>(
         { fetch_side(rt, alloc, pool, first, one, given, sign) },
         &mut ||
             requires { (MayRun pool.now pass.now ready.now) × IsIdleOf pool.now second.now }
-        { ask_beside(rt, alloc, pool, pass, ready, second, other, end, sign) },
+        { ask_beside(rt, alloc, pool, pass, ready, second, other, expected, found, sign) },
     );
-    ended
+    so
 }
 
-/// The feeders of a pool of two sources.
-fn both(feeders: Feeders) -> Option<(Feeder, Feeder)>
-    requires { length feeders ≡ 2 }
-    ensures { IfSome result (AreTheTwo feeders) }
-{
-    let mut feeders = feeders.into_vec();
-    let second = feeders.pop()?;
-    let first = feeders.pop()?;
-    Some((first, second))
-}
-
-/// Runs a query over two sources of so many objects, each with a fetcher in a thread of its own that reads a row a page. None without memory.
-pub fn run_beside<R: Threads + Wait + Sync>(
+/// Runs a query over two sources of so many objects, each with a fetcher in a thread of its own that reads a row a page, and tells whether
+/// it ended as it is to. Without memory it didn't.
+pub fn ends_beside<R: Threads + Wait + Sync>(
     rt: &R,
     alloc: Global,
     count: u32,
     sources: &mut (MemSource, MemSource),
     ready: &Ready,
-) -> Option<Ended>
+    expected: &Expected,
+) -> bool
     requires count { count ≤ 200000 }
     requires ready { IsReadyFor (count ∷ count ∷ []) ready.now }
 {
-    let Ok((pool, mut pass, feeders)) = Pool::open(alloc, &[count, count]) else {
-        return None;
+    let Some(mut pair) = Pair::open(alloc, count) else {
+        return false;
     };
-    let mut feeders = both(feeders)?;
-    run_all(rt, alloc, &pool, &mut pass, ready, &mut feeders, sources)
+    let so = run_all(
+        rt,
+        alloc,
+        &pair.pool,
+        &mut pair.pass,
+        ready,
+        &mut pair.first,
+        &mut pair.second,
+        sources,
+        expected,
+    );
+    pair.let_go();
+    so
 }

@@ -6,10 +6,9 @@ ghost use Rattle.query_turns.specs.Made.{IsReadyFor};
 use access_log::CoreFault;
 use mem_source::MemSource;
 use query_core::Ready;
-use query_run::Ended;
-use query_run_support::run_beside;
+use query_run_support::ends_beside;
 use query_support::{
-    Asked, Expected, FIRST, FIRST_ENDS, Figures, SORTED, SORTED_ENDS, is_ended_so, readies_of,
+    Asked, Expected, FIRST, FIRST_ENDS, Figures, SORTED, SORTED_ENDS, let_go, readies_of,
 };
 use source_state::{LookFault, SourceFault};
 use source_support::{Held, Kind, source_of};
@@ -247,21 +246,19 @@ const REFUSED: [Case; 10] = [
     },
 ];
 
-/// How the first of these queries ends over its sources. None where there is none, or without memory.
-fn end_of<R: Threads + Wait + Sync>(
+/// Whether the first of these queries ends over its sources as it is to.
+fn first_ends_so<R: Threads + Wait + Sync>(
     rt: &R,
     alloc: Global,
     count: u32,
     sources: &mut (MemSource, MemSource),
     readies: &[Ready],
-) -> Option<Ended>
+    ends: &Expected,
+) -> bool
     requires count { count ≤ 200000 }
     requires ready { All (IsReadyFor (count ∷ count ∷ [])) readies.now }
 {
-    if readies.is_empty() {
-        return None;
-    }
-    run_beside(rt, alloc, count, sources, &readies[0])
+    !readies.is_empty() && ends_beside(rt, alloc, count, sources, &readies[0], ends)
 }
 
 /// Whether the query of a case ends as it is to over its sources.
@@ -273,13 +270,8 @@ fn ends_over<R: Threads + Wait + Sync>(
 ) -> Result<bool, Fail> {
     let count = case.count.min(200_000);
     let readies = readies_of(alloc, &[count, count], &[case.asked])?;
-    let ended = end_of(rt, alloc, count, sources, &readies);
-    drop(readies);
-    let Some(ended) = ended else {
-        return Ok(false);
-    };
-    let so = is_ended_so(&ended, &case.ends);
-    drop(ended);
+    let so = first_ends_so(rt, alloc, count, sources, &readies, &case.ends);
+    let_go(readies);
     Ok(so)
 }
 

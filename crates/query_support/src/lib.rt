@@ -5,6 +5,6 @@ mod outcomes;
 mod readies;
 mod three;
 
-pub use outcomes::{Asked, Expected, Figures, is_ended_so};
-pub use readies::{are_small, readies_of};
+pub use outcomes::{Asked, Expected, Figures, has_ended_so, is_ended_so};
+pub use readies::{are_small, let_go, readies_of};
 pub use three::{FIRST, FIRST_ENDS, SORTED, SORTED_ENDS};

@@ -2,7 +2,7 @@
 
 use access_log::{Answer, CoreFault, Transcript};
 use query_text::Costs;
-use query_turns::Ended;
+use query_turns::{Ended, Memory};
 use source_state::LookFault;
 
 /// What the accesses of an answer come to, where each costs 1.
@@ -86,4 +86,14 @@ pub fn is_ended_so(ended: &Ended, expected: &Expected) -> bool {
         }
         _ => false,
     }
+}
+
+/// The same of what a run gave, which is let go. Without memory it didn't end.
+pub fn has_ended_so(ended: Result<Ended, Memory>, expected: &Expected) -> bool {
+    let Ok(ended) = ended else {
+        return false;
+    };
+    let so = is_ended_so(&ended, expected);
+    drop(ended);
+    so
 }

@@ -100,6 +100,11 @@ pub fn readies_of(alloc: Global, counts: &[u32], asked: &[Asked]) -> Result<Vec<
     Ok(readies)
 }
 
+/// Lets queries go, for who would prove that anew.
+pub fn let_go(readies: Vec<Ready>) {
+    drop(readies);
+}
+
 /// Whether the counts are within the limits.
 pub fn are_small(counts: &[u32]) -> bool
     ensures { result ≡ true → All (λ count. count ≤ MAX_OBJECTS) counts.now }

@@ -1,5 +1,1 @@
-mod Fronts
 mod HoldLaws
-mod OpenLaws
-mod Walks
-mod CloseLaws

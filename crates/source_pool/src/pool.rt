@@ -4,19 +4,17 @@ ghost use Rattle.std.specs.Prelude.{◌≡◌, ◌≤◌, ◌<◌, ◌^◌, leng
 ghost use Rattle.turn_lock.specs.Facts.{Grows};
 ghost use Rattle.turn_lock.specs.Known.{Agrees, HasAll};
 ghost use Rattle.source_state.specs.State.{facts_of};
-ghost use Rattle.source_pool.specs.Passes.{hold_at, IsPassOf, OthersStay, IsFeederOf, IsIdleOf, AreFeedersOf, in_turn, turned};
+ghost use Rattle.source_locks.specs.Passes.{hold_at, IsPassOf, OthersStay, IsFeederOf, IsIdleOf, AreFeedersOf, in_turn, turned};
 ghost use Rattle.source_pass.specs.Looks.{MayLookFor, Answers, Waits, shown_by, TookTurn, IsTurn, IsWithin};
-ghost use Rattle.source_pool.specs.Sharing.{IsOpened, MaySplit, IsSplit, IsJoined};
-ghost use Rattle.source_pool.specs.Closed.{HaveAll, AreClosed};
+ghost use Rattle.source_locks.specs.Sharing.{IsOpened, MaySplit, IsSplit, IsJoined};
+ghost use Rattle.source_locks.specs.Closed.{HaveAll, AreClosed};
 
-use super::closing::close_all;
-use super::feeder::{Feeder, Feeders};
-use super::opening::open_all;
+use super::feeders::Feeders;
 use super::pool_pass::PoolPass;
-use super::sharing::{join_all, split_all};
 use super::states::States;
 use limits::MAX_OBJECTS;
 use ranked_list::Need;
+use source_locks::{Feeder, close_all, join_all, open_all, split_all};
 use source_pass::look_once;
 use source_state::{Look, Memory, SourceState};
 use std::alloc::Global;
@@ -45,8 +43,9 @@ impl Model for Pool {
 
 /// Wakes the feeder of a source where a look is not yet answered.
 fn wake_feeder(lock: &TurnLock<SourceState>, answer: Look) {
-    if answer == Look::NotYet {
-        lock.wanted().ring();
+    match answer {
+        Look::NotYet => lock.wanted().ring(),
+        Look::Row(_) | Look::Grade(_) | Look::Fault(_) => {}
     }
 }
 
@@ -69,9 +68,7 @@ impl Pool {
         let pass = PoolPass {
             holds: opened.holds,
         };
-        let feeders = Feeders {
-            feeders: opened.feeders,
-        };
+        let feeders = Feeders::from_vec(opened.feeders);
         Ok((pool, pass, feeders))
     }
 
@@ -116,21 +113,21 @@ impl Pool {
     pub fn wanted(&self, feeder: &Feeder) -> u64
         requires own { IsIdleOf self.now feeder.now }
     {
-        self.locks[feeder.source as usize].wanted().rings()
+        self.locks[feeder.source() as usize].wanted().rings()
     }
 
     /// Wakes all that sleep until a feeder told something.
     pub fn wake_lookers(&self, feeder: &Feeder)
         requires own { IsIdleOf self.now feeder.now }
     {
-        self.locks[feeder.source as usize].told().ring();
+        self.locks[feeder.source() as usize].told().ring();
     }
 
     /// Sleeps until something was wanted of a feeder since it had been wanted so often. May also return for no reason.
     pub fn sleep_till_wanted(&self, rt: &impl Wait, feeder: &Feeder, wanted: u64)
         requires own { IsIdleOf self.now feeder.now }
     {
-        self.locks[feeder.source as usize]
+        self.locks[feeder.source() as usize]
             .wanted()
             .sleep(rt, wanted);
     }
@@ -177,8 +174,8 @@ impl Pool {
         ensures state { Agrees (facts_of result) feeder.old.pass.1 }
         ensures all { HasAll (facts_of result) feeder.old.pass.1 }
     {
-        let lock = &self.locks[feeder.source as usize];
-        lock.take(rt, &mut feeder.pass)
+        let lock = &self.locks[feeder.source() as usize];
+        feeder.take(rt, lock)
     }
 
     /// Gives a state in place of the one that was taken, and ends the feeder's turn. The log, the asks, the want and the tally go on from
@@ -188,8 +185,8 @@ impl Pool {
         requires turn { IsSomeAnd feeder.old.pass.1.held (λ f. Grows f (facts_of state)) }
         ensures { IfSome feeder.old.pass.1.held (λ f. feeder.new ≡ turned f (facts_of state) feeder.old) }
     {
-        let lock = &self.locks[feeder.source as usize];
-        lock.give(&mut feeder.pass, state);
+        let lock = &self.locks[feeder.source() as usize];
+        feeder.give(lock, state);
     }
 
     /// Takes the pool down, by a pass and the feeders that have all parts between them, and gives the closing states out, in the order of

@@ -1,5 +1,5 @@
 use Rattle.std.proofs.Common.{length}
-use Rattle.source_pool.specs.Passes.{IsPassOf}
+use Rattle.source_locks.specs.Passes.{IsPassOf}
 use Rattle.batch_run.proofs.JoinLaws.{RejoinedSo}
 use Rattle.batch_run.proofs.finish.rejoin.Given as goal
 

@@ -1,5 +1,5 @@
 use Rattle.std.proofs.Common.{sym, ap, subst, ◌∙◌, arith}
-use Rattle.source_pool.specs.Closed.{HaveAll, AreClosed}
+use Rattle.source_locks.specs.Closed.{HaveAll, AreClosed}
 use Rattle.batch_result.specs.Batches.{IsBatch, batch_of}
 use Rattle.batch_slots.specs.Slots.{states_of}
 use Rattle.batch_run.specs.Crews.{slots_run, Rejoins}

@@ -1,0 +1,4 @@
+mod Fronts
+mod OpenLaws
+mod Walks
+mod CloseLaws

@@ -1,0 +1,62 @@
+use Rattle.std.proofs.Common.{◌≡◌, ◌<◌, ℕ, List, length, get_or, set, sym, ap, subst, ◌∙◌}
+use Rattle.std.proofs.lemmas.List.{get_or_read}
+use Rattle.atomic_table.specs.Seated.{TableId}
+use Rattle.source_pass.specs.declared.hold.Hold.{Hold}
+use Rattle.source_pass.specs.Passes.{no_lock, no_hold, IsFree}
+use Rattle.source_pass.specs.Looks.{Answers, Waits, shown_by, TookTurn, IsTurn, IsWithin}
+use Rattle.source_locks.specs.Passes.{hold_at, IsPassOf, OthersStay}
+use Rattle.source_pool.proofs.HoldLaws.{read_set, others_set, pass_set}
+use Rattle.source_pool.proofs.pool.Pool.look.Goals as goal
+
+-- what a change of what is held of a source leaves of the pass, by the lists of the locks and of what is held
+pass_given : (pool locks : List TableId) (holds items : List Hold) (source : ℕ) (table : TableId) (hold : Hold) → locks ≡ pool → items ≡ holds
+    → IsPassOf pool holds → source < length pool → table ≡ get_or locks source table → IsFree table hold.pass → IsPassOf pool (set items source hold)
+pass_given pool locks holds items source table hold pool_is holds_is h within lock free =
+    let there : table ≡ get_or pool source table = lock ∙ ap (λ xs. get_or xs source table) pool_is in
+    subst (λ xs. IsPassOf pool (set xs source hold)) (sym holds_is)
+    (pass_set pool holds source hold h within (subst (λ t. IsFree t hold.pass) (get_or_read pool source table within there no_lock) free))
+
+others_given : (holds items : List Hold) (source : ℕ) (hold : Hold) → items ≡ holds → OthersStay source holds (set items source hold)
+others_given holds items source hold holds_is = subst (λ xs. OthersStay source holds (set xs source hold)) (sym holds_is) (others_set holds source hold)
+
+-- what is known of a hold before and after its change is known of what the pass holds of its source
+changed_there : (P : Hold → Hold → Type 0) (pool : List TableId) (holds items : List Hold) (source : ℕ) (before after : Hold) → items ≡ holds
+    → IsPassOf pool holds → source < length pool → before ≡ get_or items source before → P before after
+    → P (hold_at holds source) (hold_at (set items source after) source)
+changed_there P pool holds items source before after holds_is h within held known =
+    let lt : source < length holds = subst (λ n. source < n) (sym h.size) within in
+    let there : before ≡ get_or holds source before = held ∙ ap (λ xs. get_or xs source before) holds_is in
+    let its : before ≡ hold_at holds source = get_or_read holds source before lt there no_hold in
+    subst (λ xs. P (hold_at holds source) (hold_at (set xs source after) source)) (sym holds_is)
+    (subst (λ new. P (hold_at holds source) new) (sym (read_set holds source after lt)) (subst (λ old. P old after) its known))
+
+pub returns-clause-own : goal.returns-clause-own
+returns-clause-own g c = pass_given c.args.self.now c.self.inside.locks.items c.args.pass.now c.pass.inside.holds.items c.args.source _ _ c.self.view_is c.pass.view_is
+    c.requires.own c.requires.source c.index-lock.ensures c.look_once-answer.ensures.own
+
+pub returns-clause-others : goal.returns-clause-others
+returns-clause-others g c = others_given c.args.pass.now c.pass.inside.holds.items c.args.source _ c.pass.view_is
+
+pub returns-clause-turn : goal.returns-clause-turn
+returns-clause-turn g c = changed_there (λ before after. IsTurn c.args.need before after c.look_once-answer.result) c.args.self.now c.args.pass.now c.pass.inside.holds.items c.args.source _ _ c.pass.view_is
+    c.requires.own c.requires.source c.index_mut.ensures.value c.look_once-answer.ensures.turn
+
+pub returns-clause-answer : goal.returns-clause-answer
+returns-clause-answer g c = changed_there (λ before after. Answers c.args.need before after c.look_once-answer.result) c.args.self.now c.args.pass.now c.pass.inside.holds.items c.args.source _ _ c.pass.view_is
+    c.requires.own c.requires.source c.index_mut.ensures.value c.look_once-answer.ensures.answer
+
+pub returns-clause-waits : goal.returns-clause-waits
+returns-clause-waits g c = changed_there (λ before after. Waits c.args.need before after c.look_once-answer.result) c.args.self.now c.args.pass.now c.pass.inside.holds.items c.args.source _ _ c.pass.view_is
+    c.requires.own c.requires.source c.index_mut.ensures.value c.look_once-answer.ensures.waits
+
+pub returns-clause-shown : goal.returns-clause-shown
+returns-clause-shown g c = changed_there (λ before after. after.shown ≡ shown_by c.look_once-answer.result before.shown) c.args.self.now c.args.pass.now c.pass.inside.holds.items c.args.source _ _ c.pass.view_is
+    c.requires.own c.requires.source c.index_mut.ensures.value c.look_once-answer.ensures.shown
+
+pub returns-clause-took : goal.returns-clause-took
+returns-clause-took g c = changed_there (λ before after. TookTurn before.pass.1 after.pass.1) c.args.self.now c.args.pass.now c.pass.inside.holds.items c.args.source _ _ c.pass.view_is
+    c.requires.own c.requires.source c.index_mut.ensures.value c.look_once-answer.ensures.took
+
+pub returns-clause-within : goal.returns-clause-within
+returns-clause-within g c = changed_there (λ before after. IsWithin before → IsWithin after) c.args.self.now c.args.pass.now c.pass.inside.holds.items c.args.source _ _ c.pass.view_is
+    c.requires.own c.requires.source c.index_mut.ensures.value c.look_once-answer.ensures.within
