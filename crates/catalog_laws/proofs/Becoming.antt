@@ -41,7 +41,7 @@ use Rattle.catalog_open.specs.Entries.{entry_at}
 use Rattle.catalog_open.specs.Openings.{TroubleAt}
 use Rattle.catalog_admission.specs.Wanted.{IsWanted}
 use Rattle.catalog_open.proofs.Moving.{moves_at, trouble_from}
-use Rattle.catalog_run.specs.declared.outcome.LineOutcome.{LineOutcome}
+use Rattle.query_admission.specs.declared.line_outcome.LineOutcome.{LineOutcome}
 use Rattle.catalog_run.specs.Outcomes.{ended_outcome}
 use Rattle.catalog_run.specs.Runs.{CatalogRun, IsRun, IsLineRefused, IsLineRun, AreOutcomes}
 use Rattle.catalog_laws.specs.Told.{view_told, ShelfTellsTables, AllBecome}

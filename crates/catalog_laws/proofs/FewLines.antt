@@ -42,7 +42,7 @@ use Rattle.catalog_admission.specs.Views.{view_over, nothing_told, line_over}
 use Rattle.catalog_open.specs.Entries.{entry_at}
 use Rattle.catalog_open.specs.Openings.{Used, used_at, put_back}
 use Rattle.catalog_open.proofs.Moving.{used_append}
-use Rattle.catalog_run.specs.declared.outcome.LineOutcome.{LineOutcome}
+use Rattle.query_admission.specs.declared.line_outcome.LineOutcome.{LineOutcome}
 use Rattle.catalog_run.specs.Outcomes.{ended_outcome}
 use Rattle.catalog_run.specs.Runs.{CatalogRun, IsRun, IsLineRefused, IsLineRun, AreOutcomes}
 use Rattle.catalog_laws.specs.Failures.{AreFew, RefusesFew, failed_list, is_place, is_refused_at, place_at, refused_at, says_failed, says_garbled}

@@ -16,7 +16,7 @@ use Rattle.batch_result.specs.declared.batch.Use.{Use}
 use Rattle.batch_result.specs.Batches.{size_at, use_at}
 use Rattle.batch_result.specs.Using.{IsNamedBy, IsUsed}
 use Rattle.catalog_open.specs.Openings.{IsUnread, added_all, put_back, used_at}
-use Rattle.catalog_run.specs.declared.outcome.LineOutcome.{LineOutcome}
+use Rattle.query_admission.specs.declared.line_outcome.LineOutcome.{LineOutcome}
 use Rattle.catalog_run.specs.Runs.{CatalogRun, IsRun}
 use Rattle.catalog_laws.specs.Giving.{GaveWhatIsAsked, RoseByGiven}
 use Rattle.catalog_laws.proofs.FewLines.{sum_turned}

@@ -40,7 +40,7 @@ use Rattle.catalog_admission.specs.Views.{place_of, said_of, listed_at, view_ove
 use Rattle.catalog_open.specs.Entries.{entry_at, opening_at, entry_told}
 use Rattle.catalog_admission.specs.Wanted.{IsWanted}
 use Rattle.catalog_open.specs.Openings.{IsOpening, IsSource, IsToldAs}
-use Rattle.catalog_run.specs.declared.outcome.LineOutcome.{LineOutcome}
+use Rattle.query_admission.specs.declared.line_outcome.LineOutcome.{LineOutcome}
 use Rattle.catalog_laws.specs.Answers.{IsOneOverTold}
 use Rattle.catalog_run.specs.Outcomes.{ended_outcome, look_refusal}
 use Rattle.catalog_run.specs.Runs.{CatalogRun, IsRun, IsLineRefused, IsLineRun, AreOutcomes}

@@ -28,7 +28,7 @@ use Rattle.catalog_admission.specs.Wanted.{IsWanted}
 use Rattle.catalog_open.specs.Openings.{Sources, IsOpening, IsSource, IsToldAs, IsNumbered}
 use Rattle.catalog_admission.proofs.Marking.{places_within}
 use Rattle.catalog_open.proofs.Moving.{moves_at, puts_moves, trouble_on}
-use Rattle.catalog_run.specs.declared.outcome.LineOutcome.{LineOutcome}
+use Rattle.query_admission.specs.declared.line_outcome.LineOutcome.{LineOutcome}
 use Rattle.catalog_run.specs.Runs.{CatalogRun, IsRun, IsReadyOf}
 use Rattle.catalog_batch.specs.OpenSources.{batch_over}
 use Rattle.catalog_laws.specs.Told.{told_listed, view_told, ShelfTellsTables}

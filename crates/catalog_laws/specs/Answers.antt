@@ -7,7 +7,7 @@ use Rattle.query_text.specs.declared.query.Query.{Query}
 use Rattle.cert_text.specs.declared.outcome.Outcome.TheVariants.{Answered}
 use Rattle.query_core.specs.OneAnswer.{IsAnswered, IsOneAnswer}
 use Rattle.query_admission.specs.View.{AreTold}
-use Rattle.catalog_run.specs.declared.outcome.LineOutcome.{LineOutcome}
+use Rattle.query_admission.specs.declared.line_outcome.LineOutcome.{LineOutcome}
 use Rattle.catalog_run.specs.Runs.{CatalogRun}
 use Rattle.catalog_laws.specs.Told.{view_told}
 

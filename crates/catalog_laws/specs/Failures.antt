@@ -14,7 +14,7 @@ use Rattle.catalog_text.specs.Catalog.{Listed as Entry}
 use Rattle.catalog_admission.specs.Views.{place_of}
 use Rattle.catalog_open.specs.Entries.{entry_at}
 use Rattle.catalog_open.specs.Openings.{Counted, TroubleAt}
-use Rattle.catalog_run.specs.declared.outcome.LineOutcome.{LineOutcome}
+use Rattle.query_admission.specs.declared.line_outcome.LineOutcome.{LineOutcome}
 use Rattle.catalog_run.specs.Runs.{CatalogRun}
 
 -- the place on the shelf of a list of a query, by the entry of its name

@@ -14,7 +14,7 @@ use Rattle.catalog_admission.specs.Views.{place_of, line_over}
 use Rattle.catalog_open.specs.Entries.{entry_at, entry_told}
 use Rattle.catalog_admission.specs.Wanted.{IsWanted}
 use Rattle.catalog_open.specs.Openings.{TroubleAt}
-use Rattle.catalog_run.specs.declared.outcome.LineOutcome.{LineOutcome}
+use Rattle.query_admission.specs.declared.line_outcome.LineOutcome.{LineOutcome}
 use Rattle.catalog_run.specs.Runs.{CatalogRun}
 
 -- what the list at a place of a catalog says of itself, by its rows: it has as many objects as rows

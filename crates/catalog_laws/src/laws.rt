@@ -5,7 +5,7 @@ ghost use Rattle.query_turns.specs.Causes.{HasCause};
 ghost use Rattle.batch_result.specs.Batches.{size_at};
 ghost use Rattle.batch_result.specs.Numbered.{counts_at};
 ghost use Rattle.catalog_open.specs.Openings.{put_back, used_at};
-ghost use Rattle.catalog_run.specs.declared.outcome.LineOutcome.{LineOutcome as AnyOutcome};
+ghost use Rattle.query_admission.specs.declared.line_outcome.LineOutcome.{LineOutcome as AnyOutcome};
 ghost use Rattle.catalog_run.specs.Runs.{CatalogRun, IsRun};
 ghost use Rattle.catalog_laws.specs.Told.{AllBecome, ShelfTellsTables, view_told};
 ghost use Rattle.catalog_laws.specs.Answers.{IsOneOverTold, IsRightLine};

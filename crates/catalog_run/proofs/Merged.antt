@@ -6,7 +6,7 @@ use Rattle.query_turns.specs.declared.ended.Ended.{Ended}
 use Rattle.catalog_admission.specs.declared.admissions.Stage.{Stage}
 use Rattle.catalog_admission.specs.declared.admissions.Stage.TheVariants.{Refused, Ready}
 use Rattle.catalog_batch.proofs.Turned.{popped, one_on}
-use Rattle.catalog_run.specs.declared.outcome.LineOutcome.{LineOutcome}
+use Rattle.query_admission.specs.declared.line_outcome.LineOutcome.{LineOutcome}
 use Rattle.catalog_run.specs.Merging.{Fit, Merges, Nexts, IsEndedAs}
 
 -- what was merged so far, and what is left, the last one first

@@ -16,7 +16,7 @@ use Rattle.catalog_admission.specs.declared.admissions.Stage.{Stage}
 use Rattle.catalog_admission.specs.declared.admissions.Stage.TheVariants.{Refused, Ready}
 use Rattle.catalog_admission.specs.Admissions.{AreAdmitted}
 use Rattle.catalog_admission.specs.Views.{line_over}
-use Rattle.catalog_run.specs.declared.outcome.LineOutcome.{LineOutcome}
+use Rattle.query_admission.specs.declared.line_outcome.LineOutcome.{LineOutcome}
 use Rattle.catalog_run.specs.Merging.{Fit, Merges}
 use Rattle.catalog_run.specs.Runs.{AreOutcomes, IsLineRefused, IsLineRun}
 

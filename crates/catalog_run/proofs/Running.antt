@@ -13,7 +13,7 @@ use Rattle.batch_result.specs.Batches.{BatchState, IsBatch}
 use Rattle.catalog_admission.specs.declared.admissions.Stage.{Stage}
 use Rattle.catalog_admission.specs.Admissions.{AreAdmitted}
 use Rattle.catalog_open.specs.Openings.{Sources}
-use Rattle.catalog_run.specs.declared.outcome.LineOutcome.{LineOutcome}
+use Rattle.query_admission.specs.declared.line_outcome.LineOutcome.{LineOutcome}
 use Rattle.catalog_run.specs.Merging.{Fit, Merges}
 use Rattle.catalog_run.specs.Runs.{CanBeWritten, RanOver}
 use Rattle.catalog_batch.specs.OpenSources.{batch_over}

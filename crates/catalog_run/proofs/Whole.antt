@@ -10,7 +10,7 @@ use Rattle.catalog_admission.specs.Views.{view_over, nothing_told}
 use Rattle.catalog_open.specs.Entries.{opening_at, IsMarked}
 use Rattle.query_admission.specs.View.{View}
 use Rattle.batch_result.specs.declared.settings.Settings.{Settings}
-use Rattle.catalog_run.specs.declared.outcome.LineOutcome.{LineOutcome}
+use Rattle.query_admission.specs.declared.line_outcome.LineOutcome.{LineOutcome}
 use Rattle.catalog_run.specs.Runs.{IsRun, RanOver}
 use Rattle.catalog_admission.specs.Wanted.{IsWanted, AreMarked}
 use Rattle.catalog_open.specs.Openings.{Counted, Used, IsUnread, GivesNothing, Moves, PutsBack, KeepsOthers, Sources, IsOpening, AreOpened, put_back}

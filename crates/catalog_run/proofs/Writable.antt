@@ -32,7 +32,7 @@ use Rattle.query_core.specs.Machines.{state_of}
 use Rattle.ranked_list.specs.declared.need.Need.{Need}
 use Rattle.ranked_list.specs.declared.need.Need.TheVariants as need
 use Rattle.catalog_admission.specs.Views.{line_over}
-use Rattle.catalog_run.specs.declared.outcome.LineOutcome.{LineOutcome}
+use Rattle.query_admission.specs.declared.line_outcome.LineOutcome.{LineOutcome}
 use Rattle.catalog_run.specs.Outcomes.{ended_outcome, source_refusal}
 use Rattle.catalog_run.specs.Runs.{AreOutcomes, CanBeWritten, IsLineRefused, IsLineRun}
 

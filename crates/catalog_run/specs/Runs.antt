@@ -23,7 +23,7 @@ use Rattle.catalog_admission.specs.Views.{view_over, line_over, nothing_told}
 use Rattle.catalog_admission.specs.Wanted.{IsWanted}
 use Rattle.catalog_open.specs.Openings.{Counted, IsUnread, GivesNothing, PutsBack, Sources, AreOpened, put_back}
 use Rattle.catalog_batch.specs.OpenSources.{batch_over}
-use Rattle.catalog_run.specs.declared.outcome.LineOutcome.{LineOutcome}
+use Rattle.query_admission.specs.declared.line_outcome.LineOutcome.{LineOutcome}
 use Rattle.catalog_run.specs.Merging.{IsEndedAs}
 
 -- the line is refused before it runs, for the first of the causes that holds

@@ -9,7 +9,7 @@ mod run;
 
 pub use batch_run::Settings;
 pub use lines::run_lines;
-pub use outcome::LineOutcome;
+pub use query_admission::LineOutcome;
 
 /// No memory was left.
 #[derive(Clone, Copy, Debug, PartialEq, Eq)]

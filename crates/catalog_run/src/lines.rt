@@ -12,12 +12,12 @@ ghost use Rattle.catalog_open.specs.Openings.{AreOpened, Counted, GivesNothing, 
 ghost use Rattle.catalog_run.specs.Runs.{CanBeWritten, IsRun, RanOver};
 
 use super::Memory;
-use super::outcome::LineOutcome;
 use super::run::run_admitted;
 use batch_run::Settings;
 use catalog_admission::{Catalogued, admit_all, mark_wanted};
 use catalog_open::{Opened, open_wanted, put_back_all};
 use catalog_text::Catalog;
+use query_admission::LineOutcome;
 use source_api::{Shelf, Source};
 use std::alloc::Global;
 use std::sync::Wait;

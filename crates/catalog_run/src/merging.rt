@@ -6,9 +6,10 @@ ghost use Rattle.catalog_admission.specs.declared.admissions.Stage.TheVariants a
 ghost use Rattle.catalog_run.specs.Merging.{Fit, Merges, Nexts};
 
 use super::Memory;
-use super::outcome::{LineOutcome, ended_outcome};
+use super::outcome::ended_outcome;
 use catalog_admission::{Admissions, Stage};
 use cert_text::Outcome;
+use query_admission::LineOutcome;
 use query_core::Ready;
 use query_turns::Ended;
 use std::alloc::Global;

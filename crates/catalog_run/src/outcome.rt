@@ -1,22 +1,12 @@
-//! The outcomes of query lines.
+//! The outcomes of queries that ended.
 
 ghost use Rattle.std.specs.Prelude.{◌≡◌};
 ghost use Rattle.catalog_run.specs.Outcomes.{core_refusal, source_refusal, look_refusal, ended_outcome};
 
 use access_log::CoreFault;
 use cert_text::{Outcome, Refusal};
-use query_text::Query;
 use query_turns::Ended;
 use source_state::{LookFault, SourceFault};
-
-/// What became of a query line: its query, where the line spells one and that was read; how many objects its lists have, 0 where it
-/// wasn't ready to run; and the outcome.
-#[derive(Drop)]
-pub struct LineOutcome {
-    pub query: Option<Query>,
-    pub count: u32,
-    pub outcome: Outcome,
-}
 
 /// The refusal of a query that has no room for an object.
 fn core_refusal(fault: CoreFault) -> Refusal

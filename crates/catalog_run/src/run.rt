@@ -9,11 +9,11 @@ ghost use Rattle.catalog_run.specs.Runs.{CanBeWritten, RanOver};
 
 use super::Memory;
 use super::merging::merge;
-use super::outcome::LineOutcome;
 use batch_run::Settings;
 use catalog_admission::Admissions;
 use catalog_batch::run_queries;
 use limits::MAX_OBJECTS;
+use query_admission::LineOutcome;
 use source_api::Source;
 use std::alloc::Global;
 use std::sync::Wait;

@@ -3,12 +3,14 @@
 
 mod admission;
 mod admitted;
+mod line_outcome;
 mod lists;
 mod screen;
 mod seek;
 
 pub use admission::admit;
 pub use admitted::Admitted;
+pub use line_outcome::LineOutcome;
 pub use lists::{Listed, Lists};
 
 /// No memory was left.

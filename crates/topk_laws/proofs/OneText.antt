@@ -9,7 +9,7 @@ use Rattle.query_admission.specs.View.{View}
 use Rattle.query_admission.specs.Causes.{QueryLine, Cause, admission_causes, line_causes, Gives, NoneOf}
 use Rattle.catalog_admission.specs.Views.{line_over}
 use Rattle.catalog_open.specs.Entries.{entry_told}
-use Rattle.catalog_run.specs.declared.outcome.LineOutcome.{LineOutcome}
+use Rattle.query_admission.specs.declared.line_outcome.LineOutcome.{LineOutcome}
 use Rattle.catalog_run.specs.Runs.{CatalogRun}
 use Rattle.catalog_laws.specs.Told.{AllBecome, ShelfTellsTables, told_listed, view_told}
 use Rattle.catalog_laws.proofs.ToldLists.{rows_of, known_places, named_wanted, admitted_few, names_told}

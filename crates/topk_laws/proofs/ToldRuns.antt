@@ -14,7 +14,7 @@ use Rattle.catalog_open.specs.Entries.{entry_at}
 use Rattle.command_words.specs.declared.running.RunOptions.{RunOptions}
 use Rattle.command_words.specs.declared.running.RunSettings.{RunSettings}
 use Rattle.catalog_laws.specs.Told.{AllBecome, ShelfTellsTables, view_told}
-use Rattle.catalog_run.specs.declared.outcome.LineOutcome.{LineOutcome}
+use Rattle.query_admission.specs.declared.line_outcome.LineOutcome.{LineOutcome}
 use Rattle.catalog_run.specs.Runs.{CatalogRun, IsRun}
 use Rattle.topk_top.specs.Calls.{Call, WroteWhole}
 use Rattle.topk_top.specs.Shelves.{Shelf, AsksText, GivesText}

@@ -13,7 +13,7 @@ use Rattle.command_words.specs.declared.running.RunSettings.{RunSettings}
 use Rattle.batch_result.specs.Numbered.{counts_at}
 use Rattle.batch_result.specs.Batches.{size_at}
 use Rattle.catalog_open.specs.Openings.{used_at, put_back}
-use Rattle.catalog_run.specs.declared.outcome.LineOutcome.{LineOutcome}
+use Rattle.query_admission.specs.declared.line_outcome.LineOutcome.{LineOutcome}
 use Rattle.catalog_laws.specs.Told.{AllBecome, ShelfTellsTables, view_told}
 use Rattle.catalog_laws.specs.Failures.{RefusesFew}
 use Rattle.catalog_laws.specs.Giving.{GaveWhatIsAsked, RoseByGiven}

@@ -9,7 +9,7 @@ use Rattle.tk_io.proofs.Putting.{puts_then, puts_as}
 use Rattle.topk_theory.proofs.AgreementLists.{front_next}
 use Rattle.query_text.specs.declared.query.Query.{Query}
 use Rattle.cert_text.specs.Outcome.{outcome_text}
-use Rattle.catalog_run.specs.declared.outcome.LineOutcome.{LineOutcome}
+use Rattle.query_admission.specs.declared.line_outcome.LineOutcome.{LineOutcome}
 use Rattle.topk_top.specs.Running.{is_answer, run_status, outcomes_text}
 use Rattle.topk_top.specs.declared.status.Status.TheVariants.{Done, Partial}
 

@@ -6,7 +6,7 @@ use Rattle.source_api.specs.declared.source.Trouble.TheVariants.{Failed}
 use Rattle.source_api.specs.Places.{CountsTexts, HasTextCause, SameAtEach, SameElsewhere, text_limit}
 use Rattle.catalog_text.specs.Catalog.{Listed as Entry}
 use Rattle.catalog_open.proofs.Moving.{moves_none}
-use Rattle.catalog_run.specs.declared.outcome.LineOutcome.{LineOutcome}
+use Rattle.query_admission.specs.declared.line_outcome.LineOutcome.{LineOutcome}
 use Rattle.command_words.specs.declared.bulking.BulkOptions.{BulkOptions}
 use Rattle.command_words.specs.declared.running.RunOptions.{RunOptions}
 use Rattle.command_words.specs.declared.running.RunSettings.{RunSettings}

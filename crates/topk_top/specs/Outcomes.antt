@@ -5,7 +5,7 @@ use Rattle.line_text.specs.Lines.{lines}
 use Rattle.bundle_text.specs.Bundle.{Content, Spells, IsFirstFault}
 use Rattle.cert_text.specs.declared.outcome.Outcome.{Outcome}
 use Rattle.cert_text.specs.Outcome.{IsOutcome, outcome_text}
-use Rattle.catalog_run.specs.declared.outcome.LineOutcome.{LineOutcome}
+use Rattle.query_admission.specs.declared.line_outcome.LineOutcome.{LineOutcome}
 use Rattle.query_core.specs.declared.ready.Ready.{Ready}
 use Rattle.query_admission.specs.Becomes.{Becomes}
 use Rattle.topk_top.specs.declared.status.Status.{Status}

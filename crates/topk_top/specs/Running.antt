@@ -13,7 +13,7 @@ use Rattle.cert_text.specs.declared.outcome.Outcome.TheVariants.{Answered, Refus
 use Rattle.cert_text.specs.Outcome.{outcome_text}
 use Rattle.command_words.specs.declared.running.RunSettings.{RunSettings}
 use Rattle.batch_result.specs.declared.settings.Settings.{Settings}
-use Rattle.catalog_run.specs.declared.outcome.LineOutcome.{LineOutcome}
+use Rattle.query_admission.specs.declared.line_outcome.LineOutcome.{LineOutcome}
 use Rattle.catalog_run.specs.Runs.{CatalogRun, IsRun}
 use Rattle.topk_top.specs.declared.status.Status.{Status}
 use Rattle.topk_top.specs.declared.status.Status.TheVariants.{Done, Partial}

@@ -1,0 +1,13 @@
+//! What became of a query line.
+
+use cert_text::Outcome;
+use query_text::Query;
+
+/// What became of a query line: its query, where the line spells one and that was read; how many objects its lists have, 0 where it
+/// wasn't ready to run; and the outcome.
+#[derive(Drop)]
+pub struct LineOutcome {
+    pub query: Option<Query>,
+    pub count: u32,
+    pub outcome: Outcome,
+}
