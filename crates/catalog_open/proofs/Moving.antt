@@ -10,7 +10,7 @@ use Rattle.source_api.specs.declared.ledger.PlaceCounts.{PlaceCounts}
 use Rattle.source_api.specs.declared.source.Trouble.{Trouble}
 use Rattle.source_api.specs.declared.source.Trouble.TheVariants.{Failed, Garbled, Memory}
 use Rattle.source_api.specs.Counting.{HasCause, added, no_counts, raised}
-use Rattle.source_api.specs.Places.{SameElsewhere, put_back_at}
+use Rattle.source_api.specs.Places.{CountsTakes, HasTakeCause, SameElsewhere, put_back_at}
 use Rattle.catalog_text.specs.Catalog.{Listed as Entry}
 use Rattle.catalog_open.specs.Openings.{Counted, Used, used_at, added_all, AddsSources, Moves, MovesAt, PutsBack, KeepsOthers, TroubleAt}
 use Rattle.catalog_open.specs.Entries.{entry_at}
@@ -171,3 +171,43 @@ put_troubled before now knows first counts Garbled is known fresh cause other =
     let none : first.garbles ≡ 0 = ap (λ (c : Counts). c.garbles) fresh in
     inr (inr (omega (arith, here, none, cause)))
 put_troubled before now knows first counts Memory is known fresh cause other = absurd (other refl)
+
+failed_not : Failed ≡ Memory → ⊥
+failed_not e = cc
+
+garbled_not : Garbled ≡ Memory → ⊥
+garbled_not e = cc
+
+-- the same, where the trouble is known
+pub put_failed : (before now : PlaceCounts) (knows : Bool) (first counts : Counts) (trouble : Trouble) → now ≡ put_back_at knows counts before → knows ≡ true
+    → first ≡ no_counts → HasCause first counts trouble → trouble ≡ Failed → TroubleAt before now
+put_failed before now knows first counts trouble is known fresh cause failed = put_troubled before now knows first counts Failed is known fresh (subst (HasCause first counts) failed cause) failed_not
+
+pub put_garbled : (before now : PlaceCounts) (knows : Bool) (first counts : Counts) (trouble : Trouble) → now ≡ put_back_at knows counts before → knows ≡ true
+    → first ≡ no_counts → HasCause first counts trouble → trouble ≡ Garbled → TroubleAt before now
+put_garbled before now knows first counts trouble is known fresh cause garbled = put_troubled before now knows first counts Garbled is known fresh (subst (HasCause first counts) garbled cause) garbled_not
+
+-- a call that takes a source moves so, and so does one after which the source was put back
+pub take_moves : (before now : PlaceCounts) → CountsTakes before now → MovesAt before now
+take_moves before now takes = record {
+  texts = ap (λ (c : PlaceCounts). c.text_faults) takes.others;
+  takes = takes.later;
+  counts = [];
+  sources = ap (λ (c : PlaceCounts). c.sources) takes.others;
+}
+
+pub take_then : (before mid now : PlaceCounts) → CountsTakes before mid → AddsSources mid now → MovesAt before now
+take_then before mid now takes adds =
+    let same : now.take_faults ≡ mid.take_faults = ap (λ (c : PlaceCounts). c.take_faults) adds.here in
+    record {
+      texts = ap (λ (c : PlaceCounts). c.text_faults) adds.here ∙ ap (λ (c : PlaceCounts). c.text_faults) takes.others;
+      takes = omega (arith, same, takes.later);
+      counts = adds.counts;
+      sources = ap (λ (c : PlaceCounts). c.sources) adds.here ∙ ap (λ (c : PlaceCounts). added_all c.sources adds.counts) takes.others;
+    }
+
+-- a take that failed or was answered by garbled data is trouble at its place
+pub take_trouble : (before now : PlaceCounts) (trouble : Trouble) → HasTakeCause before now trouble → (trouble ≡ Memory → ⊥) → TroubleAt before now
+take_trouble before now Failed cause other = inl cause
+take_trouble before now Garbled cause other = inl cause
+take_trouble before now Memory cause other = absurd (other refl)

@@ -1,10 +1,11 @@
 -- What became of the sources of the first entries of a catalog, with one more.
-use Rattle.std.proofs.Common.{◌≡◌, ◌⊎◌, ℕ, ◌+◌, ◌<◌, ◌≤◌, Bool, true, false, cond, nat_le, List, [], ◌∷◌, ◌++◌, All, length, length-append, slice_index_or, inl, inr, slice_get, MatchOption, Option, None, Some, Result, Ok, Err, OnOk, OnErr, refl, sym, ap, ◌∙◌, subst, arith}
+use Rattle.std.proofs.Common.{◌≡◌, ◌⊎◌, ℕ, ◌+◌, ◌<◌, ◌≤◌, Bool, true, false, cond, nat_le, List, [], ◌∷◌, ◌++◌, All, length, length-append, slice_index_or, inl, inr, slice_get, MatchOption, Option, None, Some, Result, Ok, Err, IfOk, IfSome, OnOk, OnErr, refl, sym, ap, ◌∙◌, subst, arith}
 use Rattle.std.proofs.lemmas.List.{get_or_append_left, get_or_past, get_or_push}
 use Rattle.std.proofs.lemmas.Bool.{cases_lt, leb-true}
 use Rattle.std.proofs.lemmas.List.Elements.{All-push, All-from_recursion, All-weaker}
 use Rattle.std.proofs.lemmas.Option.{get_or_from_slice_get, same_Some}
 use Rattle.ranked_list.specs.declared.row.Row.{Row}
+use Rattle.source_api.specs.declared.ledger.PlaceCounts.{PlaceCounts}
 use Rattle.source_api.specs.Places.{SameElsewhere}
 use Rattle.catalog_text.specs.Catalog.{Listed as Entry}
 use Rattle.catalog_open.specs.declared.opened.Opening.{Opening}
@@ -250,3 +251,41 @@ opened_passed (Ok x) lists catalog Wanted before now place os os_now told places
     (opened_closed lists catalog Wanted before now os (sources_of told places counts) place are long (λ wanted. absurd (un wanted)))
 opened_passed (Err e) lists catalog Wanted before now place os os_now told places places_now counts counts_now ok err p c long un are =
     opened_as lists catalog Wanted before now os os_now told told places places_now counts counts_now err refl p c are
+
+-- lists with one more
+pub one_longer : {X : Type 0} (xs same more : List X) (x : X) (n : ℕ) → same ≡ xs → more ≡ same ++ x ∷ [] → length xs ≡ n → length more ≡ n + 1
+one_longer {X} xs same more x n is put long =
+    let first : length same ≡ length xs = ap (length {A = X}) is in
+    let second : length more ≡ length (same ++ x ∷ []) = ap (length {A = X}) put in
+    omega (arith, first, second, length-append same (x ∷ []), long)
+
+pub both_longer : {X Y : Type 0} (xs xs_same xs_more : List X) (x : X) (ys ys_same ys_more : List Y) (y : Y) → xs_same ≡ xs → xs_more ≡ xs_same ++ x ∷ []
+    → ys_same ≡ ys → ys_more ≡ ys_same ++ y ∷ [] → length xs ≡ length ys → length xs_more ≡ length ys_more
+both_longer xs xs_same xs_more x ys ys_same ys_more y x_is x_put y_is y_put long =
+    one_longer xs xs_same xs_more x (length ys) x_is x_put long ∙ sym (one_longer ys ys_same ys_more y (length ys) y_is y_put refl)
+
+-- what was told of places that are the same
+pub known_same : (catalog : List Entry) (before now : List ℕ → Bool) (places same : List ℕ) → ((other : List ℕ) → before other ≡ true → now other ≡ true)
+    → same ≡ places → All (IsKnownAt catalog before) places → All (IsKnownAt catalog now) same
+known_same catalog before now places same on is all = subst (All (IsKnownAt catalog now)) (sym is) (known_on catalog before now places on all)
+
+-- one source more was passed, unless memory was refused
+pub passed_next : {A E : Type 0} (r : Result A E) (os os_now : List Opening) (place : ℕ) → OnOk r (os_now ≡ os ++ Closed ∷ []) → length os ≡ place
+    → OnOk r (length os_now ≡ place + 1)
+passed_next (Ok x) os os_now place put long = one_longer os os os_now Closed place refl put long
+passed_next (Err e) os os_now place put long = tt
+
+told_as : (told one tells : Option (List Row)) (size : ℕ) → IfSome told (λ rows. one ≡ Some rows) → tells ≡ one → IfSome one (λ rows. size ≡ length rows)
+    → IsToldAs told tells size
+told_as None one tells size list same stated = tt
+told_as (Some rows) one tells size list same stated = (same ∙ list, subst (λ o. IfSome o (λ rows. size ≡ length rows)) list stated)
+
+-- a source that was taken, and asked for its size
+pub asked : {S E : Type 0} (r : Result (Option S) E) (list_of : S → Option (List Row)) (size_of : S → ℕ) (before mid now : PlaceCounts) (Known : Type 0)
+    (told one : Option (List Row))
+    → MovesAt before mid → Known → IfSome told (λ rows. one ≡ Some rows)
+    → IfOk r (λ found. MatchOption found (TroubleAt mid now) (λ taken. (list_of taken ≡ one) × IfSome one (λ rows. size_of taken ≡ length rows)))
+    → IfOk r (λ found. MatchOption found (TroubleAt before now) (λ taken. Known × IsToldAs told (list_of taken) (size_of taken)))
+asked (Ok None) list_of size_of before mid now Known told one moves known list found = trouble_from before mid now moves found
+asked (Ok (Some taken)) list_of size_of before mid now Known told one moves known list found = (known, told_as told one (list_of taken) (size_of taken) list found.0 found.1)
+asked (Err e) list_of size_of before mid now Known told one moves known list found = tt

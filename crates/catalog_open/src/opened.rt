@@ -13,7 +13,7 @@ pub enum Opening {
 
 /// What became of the sources of a catalog, in its order, and of each open source, in the order of their numbers, where it stands
 /// in the catalog and how many objects it has, 0 where it states more than a list may have.
-#[derive(Debug, Drop)]
+#[derive(Drop)]
 pub struct Opened {
     pub openings: Vec<Opening>,
     pub places: Vec<u32>,

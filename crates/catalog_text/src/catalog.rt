@@ -14,10 +14,9 @@ use limits::MAX_SOURCES;
 use std::alloc::Global;
 use std::marker::Model;
 use std::slice::Iter;
-use thiserror::Error;
 
 /// A source of a catalog.
-#[derive(Debug, Drop)]
+#[derive(Drop)]
 pub struct Entry {
     /// The name of its list: 1 to 32 bytes, a letter and then letters, digits and `_`.
     pub name: Vec<u8>,
@@ -28,16 +27,13 @@ pub struct Entry {
 }
 
 /// Why a text is no catalog.
-#[derive(Clone, Copy, Debug, PartialEq, Eq, Error)]
+#[derive(Clone, Copy, Debug)]
 pub enum CatalogFault {
     /// This record, counted from 1, is the first at fault, and its form is wrong.
-    #[error("record {line} of the catalog has a wrong form")]
     CatalogLine { line: u64 },
     /// This record, counted from 1, is the first at fault, and has the name of an earlier one.
-    #[error("record {line} of the catalog repeats a name")]
     SameName { line: u64 },
     /// No memory was left.
-    #[error("no memory was left")]
     Memory,
 }
 

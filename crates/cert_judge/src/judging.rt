@@ -102,7 +102,11 @@ fn told_of(alloc: Global, certificate: &Certificate) -> Result<Told, Memory>
     ensures { IfOk result (TellsOfCertificate certificate.now) }
 {
     match transcript_of(alloc, certificate) {
-        Ok(transcript) => told_over(alloc, certificate, &transcript),
+        Ok(transcript) => {
+            let told = told_over(alloc, certificate, &transcript);
+            drop(transcript);
+            told
+        }
         Err(PushFault::Inconsistent { at, kind }) => Ok(Told::Inconsistent { at, kind }),
         Err(PushFault::Memory) => Err(Memory),
     }

@@ -19,5 +19,5 @@ pub use told::Told;
 pub use writing::write_told;
 
 /// No memory was left.
-#[derive(Clone, Copy, Debug, PartialEq, Eq)]
+#[derive(Clone, Copy, Debug)]
 pub struct Memory;

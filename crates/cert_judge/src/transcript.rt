@@ -35,6 +35,9 @@ pub(crate) fn transcript_of(
     };
     match push_all(&mut transcript, &certificate.accesses) {
         Ok(()) => Ok(transcript),
-        Err(fault) => Err(fault),
+        Err(fault) => {
+            drop(transcript);
+            Err(fault)
+        }
     }
 }

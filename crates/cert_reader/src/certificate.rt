@@ -34,6 +34,9 @@ fn read_lines(alloc: Global, bytes: &[u8]) -> Result<Certificate, CertFault>
         accesses,
     } = results;
     if items.len() > u32::MAX as usize {
+        drop(query);
+        drop(items);
+        drop(accesses);
         return Err(CertFault::Memory);
     }
     Ok(Certificate {

@@ -153,6 +153,11 @@ pub(crate) fn read_queried(
         Ok(None) => return Err(CertFault::BadLine { line: first }),
         Err(_) => return Err(CertFault::Memory),
     };
-    let (count, results) = read_counted(alloc, &query.names, first + 1, rest)?;
-    Ok((query, count, results))
+    match read_counted(alloc, &query.names, first + 1, rest) {
+        Ok((count, results)) => Ok((query, count, results)),
+        Err(fault) => {
+            drop(query);
+            Err(fault)
+        }
+    }
 }

@@ -5,7 +5,7 @@ use std::slice::Iter;
 use topk_theory::Access;
 
 /// Accesses in order, which contracts see as their list.
-#[derive(Debug, Drop)]
+#[derive(Drop)]
 pub struct Accesses {
     items: Vec<Access>,
 }

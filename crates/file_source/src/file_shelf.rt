@@ -3,7 +3,7 @@
 ghost use Rattle.std.specs.Prelude.{◌≡◌, ◌≤◌, [], true, ℕ, List, vec_len, IfOk};
 ghost use Rattle.source_api.specs.declared.source.Trouble.TheVariants.{Garbled};
 ghost use Rattle.source_api.specs.Counting.{no_counts};
-ghost use Rattle.source_api.specs.Places.{counts_at, is_known, text_limit};
+ghost use Rattle.source_api.specs.Places.{counts_at, is_known, SameElsewhere, CountsTexts, CountsTakes, HasTextCause, HasTakeCause, text_limit};
 
 use super::FileSource;
 use limits::MAX_LIST_TEXT;
@@ -62,11 +62,7 @@ impl<'a, R: Files> Shelf for FileShelf<'a, R> {
     fn text(&mut self, alloc: Global, place: &str) -> Result<Vec<u8>, Trouble> {
         match read_file(alloc, self.files, place) {
             Ok(text) => Ok(text),
-            Err(Trouble::Memory) => Err(Trouble::Memory),
-            Err(_) => match self.ledger.count_text_fault(alloc, place) {
-                Ok(()) => Err(Trouble::Failed),
-                Err(_) => Err(Trouble::Memory),
-            },
+            Err(trouble) => Err(count_text(&mut self.ledger, alloc, place, trouble)),
         }
     }
 
@@ -74,18 +70,49 @@ impl<'a, R: Files> Shelf for FileShelf<'a, R> {
         match read_source(alloc, self.files, place) {
             Ok(source) => match self.ledger.know(alloc, place) {
                 Ok(()) => Ok(source),
-                Err(_) => Err(Trouble::Memory),
+                Err(_) => {
+                    drop(source);
+                    Err(Trouble::Memory)
+                }
             },
-            Err(Trouble::Memory) => Err(Trouble::Memory),
-            Err(_) => match self.ledger.count_take_fault(alloc, place) {
-                Ok(()) => Err(Trouble::Failed),
-                Err(_) => Err(Trouble::Memory),
-            },
+            Err(trouble) => Err(count_take(&mut self.ledger, alloc, place, trouble)),
         }
     }
 
     fn put_back(&mut self, place: &str, item: FileSource) {
         self.ledger.add_source(place, item.counts());
+    }
+}
+
+/// Counts a call for a text that ended so, and says how it ends. Want of memory isn't counted.
+fn count_text(ledger: &mut Ledger, alloc: Global, place: &str, trouble: Trouble) -> Trouble
+    ensures known { (other : List ℕ) → is_known ledger.old other ≡ true → is_known ledger.new other ≡ true }
+    ensures elsewhere { SameElsewhere place.now (counts_at ledger.old) (counts_at ledger.new) }
+    ensures counts { CountsTexts (counts_at ledger.old place.now) (counts_at ledger.new place.now) }
+    ensures cause { HasTextCause (counts_at ledger.old place.now) (counts_at ledger.new place.now) result }
+{
+    if let Trouble::Memory = trouble {
+        return Trouble::Memory;
+    }
+    match ledger.count_text_fault(alloc, place) {
+        Ok(()) => Trouble::Failed,
+        Err(_) => Trouble::Memory,
+    }
+}
+
+/// Counts a call for a source that ended so, and says how it ends. Want of memory isn't counted.
+fn count_take(ledger: &mut Ledger, alloc: Global, place: &str, trouble: Trouble) -> Trouble
+    ensures known { (other : List ℕ) → is_known ledger.old other ≡ true → is_known ledger.new other ≡ true }
+    ensures elsewhere { SameElsewhere place.now (counts_at ledger.old) (counts_at ledger.new) }
+    ensures counts { CountsTakes (counts_at ledger.old place.now) (counts_at ledger.new place.now) }
+    ensures cause { HasTakeCause (counts_at ledger.old place.now) (counts_at ledger.new place.now) result }
+{
+    if let Trouble::Memory = trouble {
+        return Trouble::Memory;
+    }
+    match ledger.count_take_fault(alloc, place) {
+        Ok(()) => Trouble::Failed,
+        Err(_) => Trouble::Memory,
     }
 }
 

@@ -112,10 +112,20 @@ impl MemSource {
         }) }
     {
         self.stated = other.stated;
-        self.fail_pages = Vec::from_slice(alloc, &other.fail_pages)?;
-        self.garble_pages = Vec::from_slice(alloc, &other.garble_pages)?;
-        self.fail_grades = Vec::from_slice(alloc, &other.fail_grades)?;
-        self.garble_grades = Vec::from_slice(alloc, &other.garble_grades)?;
+        put_calls(
+            alloc,
+            &mut self.fail_pages,
+            &mut self.garble_pages,
+            &other.fail_pages,
+            &other.garble_pages,
+        )?;
+        put_calls(
+            alloc,
+            &mut self.fail_grades,
+            &mut self.garble_grades,
+            &other.fail_grades,
+            &other.garble_grades,
+        )?;
         self.lies = Vec::from_slice(alloc, &other.lies)?;
         Ok(())
     }
@@ -206,6 +216,21 @@ impl Source for MemSource {
     }
 
     ghost distinct = { told_has_each_once };
+}
+
+/// Puts the numbers of calls that fail and of those that garble in place of what was there.
+fn put_calls(
+    alloc: Global,
+    fails: &mut Vec<u64>,
+    garbles: &mut Vec<u64>,
+    new_fails: &[u64],
+    new_garbles: &[u64],
+) -> Result<(), Memory>
+    ensures { OnOk result ((fails.new.items ≡ new_fails.now) × (garbles.new.items ≡ new_garbles.now)) }
+{
+    *fails = Vec::from_slice(alloc, new_fails)?;
+    *garbles = Vec::from_slice(alloc, new_garbles)?;
+    Ok(())
 }
 
 /// How the call with this number is to end, where it isn't to be answered.

@@ -9,7 +9,7 @@ use Rattle.query_words.specs.Words.{Class, opened_by, begins, is_whole, class_at
 use Rattle.query_words.specs.Front.{Front, Frame, stage_of, frames_of, is_inside, class_of, next, shape_at, pieces_before, is_weighted, operand_read, argument_read, begun, opened, all_done, IsFine}
 use Rattle.query_words.specs.Course.{course_view, standing_of, is_open, at, argument_stage, behind_word, behind_operand, standing_next, may_end}
 use Rattle.query_reading.specs.Draft.{names_of, unopened, IsDraftPlain}
-use Rattle.query_reading.specs.Reached.{front_text, Follows, IsState, Reached, IsDraftOf, IsPieceFault, StepTakes, WordsRead}
+use Rattle.query_reading.specs.Reached.{front_text, Follows, Drafts, IsState, Reached, IsDraftOf, IsPieceFault, StepTakes, WordsRead}
 use Rattle.query_words.specs.declared.course.Course.{Course}
 use Rattle.query_reading.specs.declared.draft.Draft.{Draft}
 use Rattle.query_text.specs.declared.operator.Operator.{Operator}
@@ -21,6 +21,7 @@ use Rattle.query_words.proofs.WordLaws.{Stops, empty_not_whole}
 use Rattle.query_words.proofs.FrontLaws.{text-next, fine-next, whole_at}
 use Rattle.query_reading.proofs.ReachLaws.{ends_at, follows-next, Fits, refused, take-more}
 use Rattle.query_reading.proofs.StateLaws.{drafts-next, fault-next, fault-new}
+use Rattle.limits.specs.declared.TheConstants.{MAX_LISTS}
 
 begun_standing : (k : List ℕ) (f : Frame) (fs : List Frame)
     → standing_of (begun k f fs) ≡ at (argument_stage f.operator) (f.operator ∷ map (λ frame. frame.operator) fs)
@@ -112,6 +113,13 @@ take_nothing (x ∷ xs) = refl
 pub whole_has_byte : (s : Stage) (inside : Bool) (count : ℕ) (rest : List ℕ) → is_whole (class_at s inside) (take count rest) ≡ true → 0 < count
 whole_has_byte s inside zero rest h = absurd (false≢true (sym (empty_not_whole s inside) ∙ (ap (is_whole (class_at s inside)) (sym (take_nothing rest)) ∙ h)))
 whole_has_byte s inside (suc n) rest h = omega arith
+
+-- a draft without a fault has few names
+pub reach_few : (line : List ℕ) (place : ℕ) (course : Course) (draft : Draft) (before : Option QueryFault) → Reached line place course draft before → before ≡ None
+    → length (names_of draft) ≤ MAX_LISTS
+reach_few line place course draft before r none =
+    let state : Drafts draft r.front = subst (λ fault. IsState fault draft r.front) none r.state in
+    subst (λ names. length names ≤ MAX_LISTS) (sym state.names) state.fine.few
 
 -- a reader's step
 pub reach-next : (line : List ℕ) (place count : ℕ) (course new_course : Course) (draft new_draft : Draft) (before now : Option QueryFault) (word : List ℕ)

@@ -5,7 +5,7 @@ ghost use Rattle.std.specs.Str.{bytes_eq};
 ghost use Rattle.query_words.specs.Words.{opened_by};
 ghost use Rattle.query_reading.specs.Draft.{names_of, Takes, Misses, IsDraftPlain};
 
-use super::frame::Frame;
+use super::frame::{Frame, push};
 use limits::{MAX_LISTS, MAX_WEIGHT};
 use monotone_fn::{Costs, Node};
 use query_text::{Algorithm, QueryFault};
@@ -161,9 +161,7 @@ impl Draft {
         let Some(operator) = opened_by(word) else {
             return self.take_name(alloc, word, at);
         };
-        let Ok(()) = self.frames.push(Frame::new(alloc, operator)) else {
-            return Err(QueryFault::Memory);
-        };
+        push(&mut self.frames, Frame::new(alloc, operator))?;
         Ok(())
     }
 
@@ -175,13 +173,10 @@ impl Draft {
         let Some(frame) = self.frames.pop() else {
             return Ok(());
         };
-        let mut frame = frame;
         let node = mem::replace(&mut self.operand, Node::List(0));
         if is_comma(word) {
-            frame.add(node)?;
-            let Ok(()) = self.frames.push(frame) else {
-                return Err(QueryFault::Memory);
-            };
+            let longer = frame.longer(node)?;
+            push(&mut self.frames, longer)?;
             return Ok(());
         }
         self.operand = frame.close(node)?;
@@ -198,9 +193,7 @@ impl Draft {
         };
         let mut frame = frame;
         frame.weight = Some(self.weight);
-        let Ok(()) = self.frames.push(frame) else {
-            return Err(QueryFault::Memory);
-        };
+        push(&mut self.frames, frame)?;
         Ok(())
     }
 

@@ -1,6 +1,6 @@
 //! Operators whose arguments are being read.
 
-ghost use Rattle.std.specs.Prelude.{◌≡◌, ℕ, List, OnOk, IfOk, IfErr, false};
+ghost use Rattle.std.specs.Prelude.{◌≡◌, ◌<◌, ◌^◌, ℕ, [], ◌∷◌, ◌++◌, List, OnOk, IfOk, IfErr, false, vec_len};
 ghost use Rattle.monotone_fn.specs.Shown.{tree_of};
 ghost use Rattle.monotone_fn.specs.Tree.{trees};
 ghost use Rattle.query_text.specs.Written.{Written};
@@ -40,22 +40,28 @@ impl Frame {
     }
 
     /// Adds an argument, with the weight that was read before it.
-    pub(crate) fn add(&mut self, node: Node) -> Result<(), QueryFault>
+    fn add(&mut self, node: Node) -> Result<(), QueryFault>
         ensures ok { OnOk result (AddsArgument self.old self.new (tree_of node)) }
         ensures err { IfErr result (λ fault. fault ≡ QueryFault.Memory) }
     {
         let weight = self.weight.take();
         if is_weighted(self.operator) {
             let weight = weight.unwrap_or(0);
-            let Ok(()) = self.terms.push(Term { weight, node }) else {
-                return Err(QueryFault::Memory);
-            };
-        } else {
-            let Ok(()) = self.nodes.push(node) else {
-                return Err(QueryFault::Memory);
-            };
+            push(&mut self.terms, Term { weight, node })?;
+            return Ok(());
         }
+        push(&mut self.nodes, node)?;
         Ok(())
+    }
+
+    /// The operator with one more argument.
+    pub(crate) fn longer(self, node: Node) -> Result<Frame, QueryFault>
+        ensures ok { IfOk result (λ longer. AddsArgument self longer (tree_of node)) }
+        ensures err { IfErr result (λ fault. fault ≡ QueryFault.Memory) }
+    {
+        let mut frame = self;
+        frame.add(node)?;
+        Ok(frame)
     }
 
     /// The expression of the operator over its arguments and one more, which comes last.
@@ -66,31 +72,52 @@ impl Frame {
         let Frame {
             operator,
             weight,
-            mut nodes,
-            mut terms,
+            nodes,
+            terms,
         } = self;
         if is_weighted(operator) {
+            drop(nodes);
             let weight = weight.unwrap_or(0);
-            let Ok(()) = terms.push(Term { weight, node }) else {
-                return Err(QueryFault::Memory);
-            };
-            if terms.len() > MAX_ARGUMENTS {
-                return Err(QueryFault::Memory);
-            }
+            let terms = with_last(terms, Term { weight, node })?;
             return Ok(Node::Wsum(Terms::from_vec(terms)));
         }
-        let Ok(()) = nodes.push(node) else {
-            return Err(QueryFault::Memory);
-        };
-        if nodes.len() > MAX_ARGUMENTS {
-            return Err(QueryFault::Memory);
-        }
+        drop(terms);
+        let nodes = with_last(nodes, node)?;
         Ok(over(operator, Nodes::from_vec(nodes)))
     }
 }
 
 /// How many arguments are kept at most. A line that fits has fewer.
 const MAX_ARGUMENTS: usize = 0xffff_ffff;
+
+/// Adds a value at the end. Where memory is refused, the value is dropped.
+pub(crate) fn push<T: Drop>(values: &mut Vec<T>, value: T) -> Result<(), QueryFault>
+    ensures ok { OnOk result (values.new.items ≡ values.old.items ++ value ∷ []) }
+    ensures err { IfErr result (λ fault. fault ≡ QueryFault.Memory) }
+{
+    match values.push(value) {
+        Ok(()) => Ok(()),
+        Err(refused) => {
+            drop(refused);
+            Err(QueryFault::Memory)
+        }
+    }
+}
+
+/// The arguments and one more, which comes last.
+fn with_last<T: Drop>(arguments: Vec<T>, last: T) -> Result<Vec<T>, QueryFault>
+    ensures ok { IfOk result (λ all. all.items ≡ arguments.items ++ last ∷ []) }
+    ensures some { IfOk result (λ all. 0 < vec_len all) }
+    ensures few { IfOk result (λ all. vec_len all < 2 ^ 32) }
+    ensures err { IfErr result (λ fault. fault ≡ QueryFault.Memory) }
+{
+    let mut all = arguments;
+    push(&mut all, last)?;
+    if all.len() > MAX_ARGUMENTS {
+        return Err(QueryFault::Memory);
+    }
+    Ok(all)
+}
 
 /// An operator without weights over its arguments.
 fn over(operator: Operator, nodes: Nodes) -> Node

@@ -96,7 +96,11 @@ fn run_all<R: Threads + Wait + Sync>(
         { fetch_side(rt, alloc, pool, first, one, given, sign) },
         &mut ||
             requires { (MayRun pool.now pass.now ready.now) × IsIdleOf pool.now second.now }
-        { ask_beside(rt, alloc, pool, pass, ready, second, other, expected, found, sign) },
+        {
+            ask_beside(
+                rt, alloc, pool, pass, ready, second, other, expected, found, sign,
+            )
+        },
     );
     so
 }

@@ -88,7 +88,7 @@ pub fn is_ended_so(ended: &Ended, expected: &Expected) -> bool {
     }
 }
 
-/// The same of what a run gave, which is let go. Without memory it didn't end.
+/// Whether a run ended so. What it gave is let go; without memory it didn't end.
 pub fn has_ended_so(ended: Result<Ended, Memory>, expected: &Expected) -> bool {
     let Ok(ended) = ended else {
         return false;

@@ -100,7 +100,7 @@ pub fn readies_of(alloc: Global, counts: &[u32], asked: &[Asked]) -> Result<Vec<
     Ok(readies)
 }
 
-/// Lets queries go, for who would prove that anew.
+/// Lets queries go. Who owns some lets them go by this call, so that it is proved once.
 pub fn let_go(readies: Vec<Ready>) {
     drop(readies);
 }

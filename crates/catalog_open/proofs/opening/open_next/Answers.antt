@@ -1,57 +1,86 @@
-use Rattle.std.proofs.Common.{◌∷◌, [], ◌++◌, length, map, ap, ◌∙◌, sym, subst}
+use Rattle.std.proofs.Common.{◌∷◌, [], ◌++◌, length, map, ap, ◌∙◌, refl, sym, subst, arith}
 use Rattle.std.proofs.lemmas.List.{map-append}
+use Rattle.ranked_list.proofs.Members.{past_end}
 use Rattle.catalog_text.specs.Listed.{listed}
 use Rattle.catalog_open.specs.Entries.{IsMarked}
 use Rattle.catalog_open.specs.Openings.{IsToldAs}
-use Rattle.catalog_open.proofs.Opens.{entry_place, match_none, match_some, opened_as, opened_tried, opened_not, opened_some, known_more}
-use Rattle.catalog_open.proofs.Unread.{if_some, reads_here, reads_more}
+use Rattle.catalog_open.proofs.Opens.{both_longer, entry_place, known_more, known_same, match_none, match_some, one_longer, opened_as, opened_tried, opened_not, opened_some}
+use Rattle.catalog_open.proofs.Unread.{if_some, reads_here, reads_more, reads_nothing}
 use Rattle.catalog_open.proofs.opening.open_next.Goals as goal
 
-pub returns-in_default-open_source-clause-opened : goal.returns-in_default-open_source-clause-opened
-returns-in_default-open_source-clause-opened g c =
-    λ lists marks before same marked are.
-    let at = entry_place c.args.catalog.now c.args.place (listed c.in-Some.entry.now) c.as_str.result.now c.in-Some.ensures c.as_str.ensures.value in
-    let made = opened_as lists c.args.catalog.now (IsMarked marks) before (g.H.Shelf.at c.args.shelf.now) _ _ _ _ _ _ _ _ c.make_room.ensures.openings (ap (map g.H.Item.Source.list) c.make_room.ensures.sources) c.make_room.ensures.places c.make_room.ensures.counts are in
-    opened_tried lists c.args.catalog.now (IsMarked marks) before (g.H.Shelf.at c.args.shelf.now) (g.H.Shelf.at c.open_source.new.shelf) c.args.place c.as_str.result.now _ _ marked at c.open_source.ensures.elsewhere c.open_source.ensures.moves made
+pub unreachable-requires : goal.unreachable-requires
+unreachable-requires g c =
+    let past = past_end c.args.catalog.now c.args.place (sym c.in_default.ensures) in
+    omega (arith, past, c.requires.place)
 
-pub returns-in-Some-found-clause-known : goal.returns-in-Some-found-clause-known
-returns-in-Some-found-clause-known g c =
+pub returns-in_default-make_room : goal.returns-in_default-make_room
+returns-in_default-make_room g c = record {
+  texts = λ place. refl;
+  lists = λ place. refl;
+  next = tt;
+  many = ap length c.make_room.ensures.sources ∙ c.requires.many ∙ ap length (sym c.make_room.ensures.places);
+  few = let same = ap length c.make_room.ensures.sources in let few = c.requires.few in omega (arith, same, few);
+  known = λ all. known_same c.args.catalog.now (g.H.Shelf.knows c.args.shelf.now) (g.H.Shelf.knows c.args.shelf.now) c.args.opened.now.places.items c.make_room.new.opened.places.items (λ other is. is) c.make_room.ensures.places all;
+  unread = reads_nothing (g.H.Shelf.at c.args.shelf.now) _ _ (ap (map g.H.Item.Source.counts) c.make_room.ensures.sources);
+  opened = λ lists marks before same marked are. opened_as lists c.args.catalog.now (IsMarked marks) before (g.H.Shelf.at c.args.shelf.now) _ _ _ _ _ _ _ _ c.make_room.ensures.openings (ap (map g.H.Item.Source.list) c.make_room.ensures.sources) c.make_room.ensures.places c.make_room.ensures.counts are;
+}
+
+pub returns-in_default-open_source : goal.returns-in_default-open_source
+returns-in_default-open_source g c = record {
+  texts = c.open_source.ensures.texts;
+  lists = c.open_source.ensures.lists;
+  next = tt;
+  many = ap length c.make_room.ensures.sources ∙ c.requires.many ∙ ap length (sym c.make_room.ensures.places);
+  few = let same = ap length c.make_room.ensures.sources in let few = c.requires.few in omega (arith, same, few);
+  known = λ all. known_same c.args.catalog.now (g.H.Shelf.knows c.args.shelf.now) (g.H.Shelf.knows c.open_source.new.shelf) c.args.opened.now.places.items c.make_room.new.opened.places.items c.open_source.ensures.known c.make_room.ensures.places all;
+  unread = reads_here c.as_str.result.now (g.H.Shelf.at c.args.shelf.now) (g.H.Shelf.at c.open_source.new.shelf) _ _ c.open_source.ensures.elsewhere c.open_source.ensures.back
+      (ap (map g.H.Item.Source.counts) c.make_room.ensures.sources);
+  opened = λ lists marks before same marked are.
+      let at = entry_place c.args.catalog.now c.args.place (listed c.in-Some.entry.now) c.as_str.result.now c.in-Some.ensures c.as_str.ensures.value in
+      let made = opened_as lists c.args.catalog.now (IsMarked marks) before (g.H.Shelf.at c.args.shelf.now) _ _ _ _ _ _ _ _ c.make_room.ensures.openings (ap (map g.H.Item.Source.list) c.make_room.ensures.sources) c.make_room.ensures.places c.make_room.ensures.counts are in
+      opened_tried lists c.args.catalog.now (IsMarked marks) before (g.H.Shelf.at c.args.shelf.now) (g.H.Shelf.at c.open_source.new.shelf) c.args.place c.as_str.result.now _ _ marked at c.open_source.ensures.elsewhere c.open_source.ensures.moves made;
+}
+
+pub returns-in-Some-found : goal.returns-in-Some-found
+returns-in-Some-found g c =
     let at = entry_place c.args.catalog.now c.args.place (listed c.in-Some.entry.now) c.as_str.result.now c.in-Some.ensures c.as_str.ensures.value in
     let opens = match_some c.in-Ok-open_source.found _ _ c.in-Some-found.taken c.in-Ok-open_source.ensures.opens c.in-Some-found.is in
-    λ all. known_more c.args.catalog.now (g.H.Shelf.knows c.args.shelf.now) (g.H.Shelf.knows c.open_source.new.shelf) c.args.opened.now.places.items _ _ c.args.place c.as_str.result.now c.open_source.ensures.known c.requires.place at opens.0 c.make_room.ensures.places c.put_open.ensures.places all
+    record {
+      texts = c.open_source.ensures.texts;
+      lists = c.open_source.ensures.lists;
+      next = one_longer c.args.opened.now.openings.items c.make_room.new.opened.openings.items c.put_open.new.opened.openings.items _ c.args.place c.make_room.ensures.openings c.put_open.ensures.openings c.requires.next;
+      many = both_longer c.args.sources.now.items c.make_room.new.sources.items c.put_open.new.sources.items _ c.args.opened.now.places.items c.make_room.new.opened.places.items c.put_open.new.opened.places.items _ c.make_room.ensures.sources c.put_open.ensures.sources c.make_room.ensures.places c.put_open.ensures.places c.requires.many;
+      few =
+          let long = one_longer c.args.sources.now.items c.make_room.new.sources.items c.put_open.new.sources.items _ _ c.make_room.ensures.sources c.put_open.ensures.sources refl in
+          let few = c.requires.few in
+          omega (arith, long, few);
+      known = λ all. known_more c.args.catalog.now (g.H.Shelf.knows c.args.shelf.now) (g.H.Shelf.knows c.open_source.new.shelf) c.args.opened.now.places.items _ _ c.args.place c.as_str.result.now c.open_source.ensures.known c.requires.place at opens.0 c.make_room.ensures.places c.put_open.ensures.places all;
+      unread =
+          let unread = if_some c.in-Ok-open_source.found _ c.in-Some-found.taken c.in-Ok-open_source.ensures.unread c.in-Some-found.is in
+          reads_more c.as_str.result.now (g.H.Shelf.at c.args.shelf.now) (g.H.Shelf.at c.open_source.new.shelf) _ _ (g.H.Item.Source.counts c.in-Some-found.taken.source) c.open_source.ensures.elsewhere c.open_source.ensures.back unread
+          (ap (map g.H.Item.Source.counts) c.put_open.ensures.sources ∙ map-append g.H.Item.Source.counts c.make_room.new.sources.items (c.in-Some-found.taken.source ∷ [])
+          ∙ ap (λ xs. map g.H.Item.Source.counts xs ++ g.H.Item.Source.counts c.in-Some-found.taken.source ∷ []) c.make_room.ensures.sources);
+      opened = λ lists marks before same marked are.
+          let told = subst (λ l. IsToldAs l (g.H.Item.Source.list c.in-Some-found.taken.source) c.in-Some-found.taken.size) (same c.as_str.result.now) opens.1 in
+          let made = opened_as lists c.args.catalog.now (IsMarked marks) before (g.H.Shelf.at c.args.shelf.now) _ _ _ _ _ _ _ _ c.make_room.ensures.openings (ap (map g.H.Item.Source.list) c.make_room.ensures.sources) c.make_room.ensures.places c.make_room.ensures.counts are in
+          opened_some lists c.args.catalog.now (IsMarked marks) before (g.H.Shelf.at c.args.shelf.now) (g.H.Shelf.at c.open_source.new.shelf) c.args.place c.in-Some-found.taken.size _ c.as_str.result.now _ _ _ _ (g.H.Item.Source.list c.in-Some-found.taken.source) _ _ _ _
+          marked c.requires.place (ap length c.make_room.ensures.openings ∙ c.requires.next) (ap length c.make_room.ensures.sources ∙ c.requires.many ∙ ap length (sym c.make_room.ensures.places)) at c.open_source.ensures.elsewhere c.open_source.ensures.moves told
+          c.put_open.ensures.openings (ap (map g.H.Item.Source.list) c.put_open.ensures.sources ∙ map-append g.H.Item.Source.list c.make_room.new.sources.items (c.in-Some-found.taken.source ∷ [])) c.put_open.ensures.places c.put_open.ensures.counts made;
+    }
 
-pub returns-in-Some-found-clause-opened : goal.returns-in-Some-found-clause-opened
-returns-in-Some-found-clause-opened g c =
-    λ lists marks before same marked are.
-    let at = entry_place c.args.catalog.now c.args.place (listed c.in-Some.entry.now) c.as_str.result.now c.in-Some.ensures c.as_str.ensures.value in
-    let opens = match_some c.in-Ok-open_source.found _ _ c.in-Some-found.taken c.in-Ok-open_source.ensures.opens c.in-Some-found.is in
-    let told = subst (λ l. IsToldAs l (g.H.Item.Source.list c.in-Some-found.taken.source) c.in-Some-found.taken.size) (same c.as_str.result.now) opens.1 in
-    let made = opened_as lists c.args.catalog.now (IsMarked marks) before (g.H.Shelf.at c.args.shelf.now) _ _ _ _ _ _ _ _ c.make_room.ensures.openings (ap (map g.H.Item.Source.list) c.make_room.ensures.sources) c.make_room.ensures.places c.make_room.ensures.counts are in
-    opened_some lists c.args.catalog.now (IsMarked marks) before (g.H.Shelf.at c.args.shelf.now) (g.H.Shelf.at c.open_source.new.shelf) c.args.place c.in-Some-found.taken.size _ c.as_str.result.now _ _ _ _ (g.H.Item.Source.list c.in-Some-found.taken.source) _ _ _ _
-    marked c.requires.place (ap length c.make_room.ensures.openings ∙ c.requires.next) (ap length c.make_room.ensures.sources ∙ c.requires.many ∙ ap length (sym c.make_room.ensures.places)) at c.open_source.ensures.elsewhere c.open_source.ensures.moves told
-    c.put_open.ensures.openings (ap (map g.H.Item.Source.list) c.put_open.ensures.sources ∙ map-append g.H.Item.Source.list c.make_room.new.sources.items (c.in-Some-found.taken.source ∷ [])) c.put_open.ensures.places c.put_open.ensures.counts made
-
-pub returns-in-None-clause-opened : goal.returns-in-None-clause-opened
-returns-in-None-clause-opened g c =
-    λ lists marks before same marked are.
-    let at = entry_place c.args.catalog.now c.args.place (listed c.in-Some.entry.now) c.as_str.result.now c.in-Some.ensures c.as_str.ensures.value in
-    let trouble = match_none c.in-Ok-open_source.found _ _ c.in-Ok-open_source.ensures.opens c.in-None.is in
-    let made = opened_as lists c.args.catalog.now (IsMarked marks) before (g.H.Shelf.at c.args.shelf.now) _ _ _ _ _ _ _ _ c.make_room.ensures.openings (ap (map g.H.Item.Source.list) c.make_room.ensures.sources) c.make_room.ensures.places c.make_room.ensures.counts are in
-    opened_not lists c.args.catalog.now (IsMarked marks) before (g.H.Shelf.at c.args.shelf.now) (g.H.Shelf.at c.open_source.new.shelf) c.args.place c.as_str.result.now _ _ _ marked (ap length c.make_room.ensures.openings ∙ c.requires.next) at c.open_source.ensures.elsewhere c.open_source.ensures.moves trouble c.push_reserved.ensures.items made
-
-pub returns-in_default-open_source-clause-unread : goal.returns-in_default-open_source-clause-unread
-returns-in_default-open_source-clause-unread g c =
-    reads_here c.as_str.result.now (g.H.Shelf.at c.args.shelf.now) (g.H.Shelf.at c.open_source.new.shelf) _ _ c.open_source.ensures.elsewhere c.open_source.ensures.back
-    (ap (map g.H.Item.Source.counts) c.make_room.ensures.sources)
-
-pub returns-in-Some-found-clause-unread : goal.returns-in-Some-found-clause-unread
-returns-in-Some-found-clause-unread g c =
-    let unread = if_some c.in-Ok-open_source.found _ c.in-Some-found.taken c.in-Ok-open_source.ensures.unread c.in-Some-found.is in
-    reads_more c.as_str.result.now (g.H.Shelf.at c.args.shelf.now) (g.H.Shelf.at c.open_source.new.shelf) _ _ (g.H.Item.Source.counts c.in-Some-found.taken.source) c.open_source.ensures.elsewhere c.open_source.ensures.back unread
-    (ap (map g.H.Item.Source.counts) c.put_open.ensures.sources ∙ map-append g.H.Item.Source.counts c.make_room.new.sources.items (c.in-Some-found.taken.source ∷ [])
-    ∙ ap (λ xs. map g.H.Item.Source.counts xs ++ g.H.Item.Source.counts c.in-Some-found.taken.source ∷ []) c.make_room.ensures.sources)
-
-pub returns-in-None-clause-unread : goal.returns-in-None-clause-unread
-returns-in-None-clause-unread g c =
-    reads_here c.as_str.result.now (g.H.Shelf.at c.args.shelf.now) (g.H.Shelf.at c.open_source.new.shelf) _ _ c.open_source.ensures.elsewhere c.open_source.ensures.back
-    (ap (map g.H.Item.Source.counts) c.make_room.ensures.sources)
+pub returns-in-None : goal.returns-in-None
+returns-in-None g c = record {
+  texts = c.open_source.ensures.texts;
+  lists = c.open_source.ensures.lists;
+  next = one_longer c.args.opened.now.openings.items c.make_room.new.opened.openings.items _ _ c.args.place c.make_room.ensures.openings c.push_reserved.ensures.items c.requires.next;
+  many = ap length c.make_room.ensures.sources ∙ c.requires.many ∙ ap length (sym c.make_room.ensures.places);
+  few = let same = ap length c.make_room.ensures.sources in let few = c.requires.few in omega (arith, same, few);
+  known = λ all. known_same c.args.catalog.now (g.H.Shelf.knows c.args.shelf.now) (g.H.Shelf.knows c.open_source.new.shelf) c.args.opened.now.places.items c.make_room.new.opened.places.items c.open_source.ensures.known c.make_room.ensures.places all;
+  unread = reads_here c.as_str.result.now (g.H.Shelf.at c.args.shelf.now) (g.H.Shelf.at c.open_source.new.shelf) _ _ c.open_source.ensures.elsewhere c.open_source.ensures.back
+      (ap (map g.H.Item.Source.counts) c.make_room.ensures.sources);
+  opened = λ lists marks before same marked are.
+      let at = entry_place c.args.catalog.now c.args.place (listed c.in-Some.entry.now) c.as_str.result.now c.in-Some.ensures c.as_str.ensures.value in
+      let trouble = match_none c.in-Ok-open_source.found _ _ c.in-Ok-open_source.ensures.opens c.in-None.is in
+      let made = opened_as lists c.args.catalog.now (IsMarked marks) before (g.H.Shelf.at c.args.shelf.now) _ _ _ _ _ _ _ _ c.make_room.ensures.openings (ap (map g.H.Item.Source.list) c.make_room.ensures.sources) c.make_room.ensures.places c.make_room.ensures.counts are in
+      opened_not lists c.args.catalog.now (IsMarked marks) before (g.H.Shelf.at c.args.shelf.now) (g.H.Shelf.at c.open_source.new.shelf) c.args.place c.as_str.result.now _ _ _ marked (ap length c.make_room.ensures.openings ∙ c.requires.next) at c.open_source.ensures.elsewhere c.open_source.ensures.moves trouble c.push_reserved.ensures.items made;
+}

@@ -1,7 +1,26 @@
-use Rattle.std.proofs.Common.{false, ◌∙◌, arith}
+use Rattle.std.proofs.Common.{All, [], false, length, map, ap, refl, sym, subst, ◌∙◌, arith}
 use Rattle.std.proofs.lemmas.List.{get_or_default}
-use Rattle.catalog_open.proofs.Unread.{gives_then}
+use Rattle.std.proofs.lemmas.List.Elements.{All-from_recursion}
+use Rattle.catalog_open.specs.Entries.{IsMarked}
+use Rattle.catalog_open.specs.Openings.{IsKnownAt, IsUnread}
+use Rattle.catalog_open.proofs.Opens.{opened_as, opened_none}
+use Rattle.catalog_open.proofs.Unread.{gives_then, none_unread, still}
 use Rattle.catalog_open.proofs.opening.open_wanted.Goals as goal
+
+pub loop-place-init : goal.loop-place-init
+loop-place-init g c = record {
+  next = ap length c.requires.openings;
+  many = ap length c.requires.sources ∙ ap length (sym c.requires.places);
+  few = let none = ap length c.requires.sources in omega (arith, none);
+  texts = λ place. refl;
+  lists = λ place. refl;
+  known = subst (All (IsKnownAt c.args.catalog.now (g.H.Shelf.knows c.args.shelf.now))) (sym c.requires.places) (All-from_recursion (IsKnownAt c.args.catalog.now (g.H.Shelf.knows c.args.shelf.now)) [] tt);
+  back = λ place. still (g.H.Shelf.at c.args.shelf.now place);
+  unread = subst (All IsUnread) (sym (ap (map g.H.Item.Source.counts) c.requires.sources)) none_unread;
+  opened = opened_as (g.H.Shelf.lists c.args.shelf.now) c.args.catalog.now (IsMarked c.args.marks.now) (g.H.Shelf.at c.args.shelf.now) (g.H.Shelf.at c.args.shelf.now) [] c.args.opened.now.openings.items [] (map g.H.Item.Source.list c.args.sources.now.items) [] c.args.opened.now.places.items [] c.args.opened.now.counts.items
+      c.requires.openings (ap (map g.H.Item.Source.list) c.requires.sources) c.requires.places c.requires.counts
+      (opened_none (g.H.Shelf.lists c.args.shelf.now) c.args.catalog.now (IsMarked c.args.marks.now) (g.H.Shelf.at c.args.shelf.now));
+}
 
 pub loop-place-preserved : goal.loop-place-preserved
 loop-place-preserved g c =
@@ -18,3 +37,41 @@ loop-place-preserved g c =
       unread = c.visit_next.ensures.unread.open_ones inv.unread;
       opened = c.visit_next.ensures.opened (g.H.Shelf.lists c.args.shelf.now) c.args.marks.now (g.H.Shelf.at c.args.shelf.now) inv.lists (get_or_default c.args.marks.now c.loop-place.place false _ (omega arith)) inv.opened;
     }
+
+pub returns-in_err-visit_next-clause-texts : goal.returns-in_err-visit_next-clause-texts
+returns-in_err-visit_next-clause-texts g c = λ place. c.visit_next.ensures.texts place ∙ c.loop-place.invariant.texts place
+
+pub returns-in_err-visit_next-clause-lists : goal.returns-in_err-visit_next-clause-lists
+returns-in_err-visit_next-clause-lists g c = λ place. c.visit_next.ensures.lists place ∙ c.loop-place.invariant.lists place
+
+pub returns-in_err-visit_next-clause-known : goal.returns-in_err-visit_next-clause-known
+returns-in_err-visit_next-clause-known g c = c.visit_next.ensures.known c.loop-place.invariant.known
+
+pub returns-in_err-visit_next-clause-back : goal.returns-in_err-visit_next-clause-back
+returns-in_err-visit_next-clause-back g c = λ place. gives_then _ _ _ (c.loop-place.invariant.back place) (c.visit_next.ensures.unread.back place)
+
+pub returns-in_err-visit_next-clause-unread : goal.returns-in_err-visit_next-clause-unread
+returns-in_err-visit_next-clause-unread g c = c.visit_next.ensures.unread.open_ones c.loop-place.invariant.unread
+
+pub returns-in_err-visit_next-clause-opened : goal.returns-in_err-visit_next-clause-opened
+returns-in_err-visit_next-clause-opened g c =
+    let marks = c.requires.marks in
+    c.visit_next.ensures.opened (g.H.Shelf.lists c.args.shelf.now) c.args.marks.now (g.H.Shelf.at c.args.shelf.now) c.loop-place.invariant.lists (get_or_default c.args.marks.now c.loop-place.place false _ (omega arith)) c.loop-place.invariant.opened
+
+pub returns-clause-texts : goal.returns-clause-texts
+returns-clause-texts g c = c.loop-place.invariant.texts
+
+pub returns-clause-lists : goal.returns-clause-lists
+returns-clause-lists g c = c.loop-place.invariant.lists
+
+pub returns-clause-known : goal.returns-clause-known
+returns-clause-known g c = c.loop-place.invariant.known
+
+pub returns-clause-back : goal.returns-clause-back
+returns-clause-back g c = c.loop-place.invariant.back
+
+pub returns-clause-unread : goal.returns-clause-unread
+returns-clause-unread g c = c.loop-place.invariant.unread
+
+pub returns-clause-opened : goal.returns-clause-opened
+returns-clause-opened g c = c.loop-place.invariant.opened

@@ -1,5 +1,4 @@
 use Rattle.std.proofs.Common.{ℕ, ◌+◌, Ok, refl}
-use Rattle.std.proofs.lemmas.Result.{err_from_is_err_and}
 use Rattle.line_text.specs.Lines.{lines}
 use Rattle.query_text.specs.declared.query.Query.{Query}
 use Rattle.cert_reader.specs.declared.reader.Results.{Results}
@@ -23,18 +22,17 @@ returns-in-Ok-None c =
 pub read_counted-requires-clause-names : goal.read_counted-requires-clause-names
 read_counted-requires-clause-names c = names_of_found c.in-Some.line.now c.in-Ok-Some.query (rw c.in-Ok-Some.field-0-is at c.in-Ok-Some.ensures)
 
-pub returns-in_err-count : goal.returns-in_err-count
-returns-in_err-count c =
+pub returns-in-Err-read_counted : goal.returns-in-Err-read_counted
+returns-in-Err-read_counted c =
     let query = c.in-Ok-Some.query in
     let found = rw c.in-Ok-Some.field-0-is at c.in-Ok-Some.ensures in
-    let p = err_from_is_err_and c.from_residual.result c.from_residual.ensures.1 in
-    rw (p.1, p.2) (finds_fault (SpellsCounted query.names) SpellsQueried (lines c.in-Some.rest.now) (lines c.args.text.now) (λ counted. (query, counted.0, counted.1)) 1 c.args.first (c.args.first + 1) (λ (counted : ℕ × Results). (counted.0, found_of counted.1)) (λ (queried : Query × ℕ × Results). (queried.0, queried.1, found_of queried.2)) c.in_err-count.field-0.0
+    finds_fault (SpellsCounted query.names) SpellsQueried (lines c.in-Some.rest.now) (lines c.args.text.now) (λ counted. (query, counted.0, counted.1)) 1 c.args.first (c.args.first + 1) (λ (counted : ℕ × Results). (counted.0, found_of counted.1)) (λ (queried : Query × ℕ × Results). (queried.0, queried.1, found_of queried.2)) c.in-Err-read_counted.fault
     (carries_line (SpellsCounted query.names) SpellsQueried c.in-Some.line.now (lines c.in-Some.rest.now) (lines c.args.text.now) (λ counted. (query, counted.0, counted.1)) c.in-Some.ensures.0 (steps_query c.in-Some.line.now query found))
-    refl c.in_err-count.ensures)
+    refl c.in-Err-read_counted.ensures
 
-pub returns : goal.returns
-returns c =
+pub returns-in-Ok : goal.returns-in-Ok
+returns-in-Ok c =
     let query = c.in-Ok-Some.query in
     let found = rw c.in-Ok-Some.field-0-is at c.in-Ok-Some.ensures in
     carries_line (SpellsCounted query.names) SpellsQueried c.in-Some.line.now (lines c.in-Some.rest.now) (lines c.args.text.now) (λ counted. (query, counted.0, counted.1)) c.in-Some.ensures.0 (steps_query c.in-Some.line.now query found)
-    (Ok (c.in_ok-count.count, found_of c.in_ok-count.results)) c.in_ok-count.ensures
+    (Ok (c.in-Ok.count, found_of c.in-Ok.results)) c.in-Ok.ensures

@@ -1,8 +1,11 @@
-use Rattle.std.proofs.Common.{sym, ap, subst, ◌∙◌, arith, take, drop}
+use Rattle.std.proofs.Common.{◌≡◌, ℕ, List, Err, sym, ap, subst, ◌∙◌, arith, take, drop}
 use Rattle.std.proofs.lemmas.List.{length-drop}
 use Rattle.query_words.specs.Course.{course_view, is_open}
-use Rattle.query_reading.specs.Reached.{Reached}
-use Rattle.query_reading.proofs.ReadLaws.{whole_has_byte, reach-next, reach_refused, reach_draft, reach_fault}
+use Rattle.std.proofs.lemmas.Result.{err_from_is_err_and}
+use Rattle.query_reading.specs.Reached.{Reached, WordsRead}
+use Rattle.query_text.specs.declared.fault.QueryFault.{QueryFault}
+use Rattle.query_text.specs.declared.fault.QueryFault.TheVariants as faults
+use Rattle.query_reading.proofs.ReadLaws.{whole_has_byte, reach_few, reach-next, reach_refused, reach_draft, reach_fault}
 use Rattle.query_reading.proofs.reading.take_words.Goals as goal
 use Rattle.query_reading.proofs.reading.take_words.Goals.{then-at-bytes, else-at-bytes+then-not-may_end}
 
@@ -34,3 +37,20 @@ pub returns-in-Some-clause-err : goal.returns-in-Some-clause-err
 returns-in-Some-clause-err c =
     reach_fault c.args.bytes.now c.loop-at.at c.loop-at.course c.loop-at.draft c.in-Some.fault
     (subst (Reached c.args.bytes.now c.loop-at.at c.loop-at.course c.loop-at.draft) c.in-Some.is c.loop-at.invariant) (omega arith) (sym c.may_end.ensures ∙ c.if-not-may_end.false)
+
+-- want of memory is free
+memory_read : (line : List ℕ) (fault : QueryFault) → fault ≡ faults.Memory → WordsRead line (Err fault)
+memory_read line fault e = subst (λ f. WordsRead line (Err f)) (sym e) tt
+
+pub take_word-requires : goal.take_word-requires
+take_word-requires c = reach_few c.args.bytes.now c.loop-at.at c.loop-at.course c.loop-at.draft c.loop-at.fault c.loop-at.invariant
+
+pub returns-in_err-fault-clause-err : goal.returns-in_err-fault-clause-err
+returns-in_err-fault-clause-err c =
+    let p = err_from_is_err_and c.from_residual.result c.from_residual.ensures.1 in
+    rw (p.1, p.2) (memory_read c.args.bytes.now _ c.in_err-fault.ensures.err)
+
+pub returns-in_err-advance-clause-err : goal.returns-in_err-advance-clause-err
+returns-in_err-advance-clause-err c =
+    let p = err_from_is_err_and c.from_residual-in_err-advance.result c.from_residual-in_err-advance.ensures.1 in
+    rw (p.1, p.2) (memory_read c.args.bytes.now _ c.in_err-advance.ensures.err)

@@ -6,9 +6,9 @@ use Rattle.query_reading.proofs.draft.Draft.take_behind.Goals as goal
 
 pub returns-then-is_comma-clause-taken : goal.returns-then-is_comma-clause-taken
 returns-then-is_comma-clause-taken c =
-    takes_comma c.args.self.now _ c.pop.new.self.items c.in-Some.frame c.add.new.self c.args.word.now (sym c.is_comma.ensures ∙ c.if-is_comma.true) c.in-Some.ensures.items
-    c.in-Ok.ensures.items
-    (subst (λ n. AddsArgument c.in-Some.frame c.add.new.self (tree_of n)) c.replace-node.ensures.value c.in_ok-add.ensures.ok)
+    takes_comma c.args.self.now _ c.pop.new.self.items c.in-Some.frame c.in_ok-longer.longer c.args.word.now (sym c.is_comma.ensures ∙ c.if-is_comma.true) c.in-Some.ensures.items
+    c.in_ok-push.ensures.ok
+    (subst (λ n. AddsArgument c.in-Some.frame c.in_ok-longer.longer (tree_of n)) c.replace-node.ensures.value c.in_ok-longer.ensures.ok)
     refl refl c.replace-node.ensures.after refl c.requires
 
 pub returns-clause-taken : goal.returns-clause-taken

@@ -5,5 +5,5 @@ use Rattle.query_reading.proofs.draft.Draft.take_operand.Goals as goal
 pub returns-clause-taken : goal.returns-clause-taken
 returns-clause-taken c =
     takes_opened c.args.self.now _ _ c.in-Some.operator c.args.word.now (sym c.in-Some.ensures)
-    c.in-Ok.ensures.items refl refl refl refl
+    c.in_ok-push.ensures.ok refl refl refl refl
     c.new.ensures.shows c.new.ensures.plain c.requires

@@ -5,4 +5,4 @@ use Rattle.query_reading.proofs.draft.Draft.take_times.Goals as goal
 pub returns-clause-taken : goal.returns-clause-taken
 returns-clause-taken c = λ w.
     takes_times c.args.self.now _ c.pop.new.self.items c.in-Some.frame w c.in-Some.ensures.items
-    c.in-Ok.ensures.items refl refl refl refl c.requires
+    c.in_ok-push.ensures.ok refl refl refl refl c.requires

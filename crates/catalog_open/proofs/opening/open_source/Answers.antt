@@ -1,0 +1,37 @@
+use Rattle.std.proofs.Common.{◌≡◌, true, ◌∙◌}
+use Rattle.catalog_open.proofs.Moving.{take_moves, take_then}
+use Rattle.catalog_open.proofs.Opens.{asked}
+use Rattle.catalog_open.proofs.Unread.{gives_then, took_nothing}
+use Rattle.catalog_open.proofs.opening.open_source.Goals as goal
+
+pub returns-in-Ok : goal.returns-in-Ok
+returns-in-Ok g c =
+    let before = g.H.Shelf.at c.args.shelf.now c.args.place.now in
+    let mid = g.H.Shelf.at c.take.new.self c.args.place.now in
+    let now = g.H.Shelf.at c.ask_size.new.shelf c.args.place.now in
+    record {
+      texts = λ other. c.ask_size.ensures.texts other ∙ c.take.ensures.texts other;
+      lists = λ other. c.ask_size.ensures.lists other ∙ c.take.ensures.lists other;
+      known = λ other is. c.ask_size.ensures.known other (c.take.ensures.known other is);
+      elsewhere = λ other apart. c.ask_size.ensures.elsewhere other apart ∙ c.take.ensures.elsewhere other apart;
+      moves = take_then before mid now c.take.ensures.counts c.ask_size.ensures.used;
+      back = gives_then before mid now (took_nothing before mid c.take.ensures.counts) c.ask_size.ensures.back;
+      unread = c.ask_size.ensures.unread;
+      opens = asked c.ask_size.result (λ taken. g.H.Item.Source.list taken.source) (λ taken. taken.size) before mid now (g.H.Shelf.knows c.ask_size.new.shelf c.args.place.now ≡ true) (g.H.Shelf.lists c.args.shelf.now c.args.place.now) (g.H.Item.Source.list c.in-Ok.source)
+          (take_moves before mid c.take.ensures.counts) (c.ask_size.ensures.known c.args.place.now c.in-Ok.ensures.knows) c.in-Ok.ensures.list c.ask_size.ensures.opens;
+    }
+
+pub returns-in-Err-Memory : goal.returns-in-Err-Memory
+returns-in-Err-Memory g c =
+    let before = g.H.Shelf.at c.args.shelf.now c.args.place.now in
+    let mid = g.H.Shelf.at c.take.new.self c.args.place.now in
+    record {
+      texts = c.take.ensures.texts;
+      lists = c.take.ensures.lists;
+      known = c.take.ensures.known;
+      elsewhere = c.take.ensures.elsewhere;
+      moves = take_moves before mid c.take.ensures.counts;
+      back = took_nothing before mid c.take.ensures.counts;
+      unread = tt;
+      opens = tt;
+    }
