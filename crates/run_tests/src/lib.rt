@@ -1,4 +1,4 @@
-//! Tests of the commands `run` and `bulk` through the top call: rows that were worked out by hand, each fault in turn, and made queries over list files.
+//! Tests of the commands `run` and `bulk` through the top call: rows that were worked out by hand, each fault in turn, and made queries over list files; and of words.
 #![tactic(auto)]
 
 #[cfg(test)]
@@ -16,6 +16,10 @@ mod made_runs;
 #[cfg(test)]
 mod numbers;
 #[cfg(test)]
+mod processes;
+#[cfg(test)]
 mod refusals;
 #[cfg(test)]
 mod shelves;
+#[cfg(test)]
+mod words;

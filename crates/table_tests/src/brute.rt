@@ -3,13 +3,11 @@
 use super::aggregates::Aggregate;
 use super::answers::{Answered, accesses_in, answers_of, are_first};
 use super::tables::{Table, table_of};
+use bundle_support::{Status, one_of};
 use std::alloc::Global;
 use std::str::from_utf8;
-use std::sync::Wait;
 use std::test::Fail;
-use std::thread::Threads;
 use test_support::Numbers;
-use top_support::{Status, end_of};
 
 /// How many objects are asked for, and by which aggregate.
 type Asked = (u32, Aggregate);
@@ -76,14 +74,8 @@ fn is_right(alloc: Global, table: &Table, asked: Asked, certificate: &str) -> Re
 }
 
 /// Whether `one` writes such a certificate of an input.
-fn writes_right<W: Threads + Wait + Sync>(
-    rt: &W,
-    alloc: Global,
-    table: &Table,
-    asked: Asked,
-    input: &str,
-) -> Result<bool, Fail> {
-    let (status, out) = end_of(rt, alloc, &["one"], input.as_bytes(), 4_000_000)?;
+fn writes_right(alloc: Global, table: &Table, asked: Asked, input: &str) -> Result<bool, Fail> {
+    let (status, out) = one_of(alloc, input.as_bytes(), 4_000_000)?;
     let is_so = match from_utf8(out.taken()) {
         Ok(certificate) => is_right(alloc, table, asked, certificate),
         Err(_) => Ok(false),
@@ -93,8 +85,7 @@ fn writes_right<W: Threads + Wait + Sync>(
 }
 
 /// Whether `one` answers a query over a table, by these lists and this algorithm.
-fn answers_right<W: Threads + Wait + Sync>(
-    rt: &W,
+fn answers_right(
     alloc: Global,
     table: &Table,
     asked: Asked,
@@ -108,21 +99,20 @@ fn answers_right<W: Threads + Wait + Sync>(
     let input = format!(in alloc;
         "{sections}query top {k} by {word}({names}) using {algorithm}\n"
     )?;
-    let is_so = writes_right(rt, alloc, table, asked, &input);
+    let is_so = writes_right(alloc, table, asked, &input);
     drop(input);
     is_so
 }
 
 /// The number of the first aggregate by which a table is answered otherwise.
-fn first_wrong_of<W: Threads + Wait + Sync>(
-    rt: &W,
+fn first_wrong_of(
     alloc: Global,
     table: &Table,
     lists: (&str, &str),
     algorithm: &str,
 ) -> Result<Option<usize>, Fail> {
     for (number, asked) in ASKED.iter().enumerate() {
-        if !answers_right(rt, alloc, table, *asked, lists, algorithm)? {
+        if !answers_right(alloc, table, *asked, lists, algorithm)? {
             return Ok(Some(number));
         }
     }
@@ -130,8 +120,7 @@ fn first_wrong_of<W: Threads + Wait + Sync>(
 }
 
 /// The same of a table of this size over so many objects.
-fn first_wrong_at<W: Threads + Wait + Sync>(
-    rt: &W,
+fn first_wrong_at(
     alloc: Global,
     numbers: &mut Numbers,
     size: &Size,
@@ -143,21 +132,16 @@ fn first_wrong_at<W: Threads + Wait + Sync>(
         return Err("steps".into());
     }
     let table = table_of(alloc, numbers, lists, count, step)?;
-    let wrong = first_wrong_of(rt, alloc, &table, (plain, weighted), algorithm);
+    let wrong = first_wrong_of(alloc, &table, (plain, weighted), algorithm);
     drop(table);
     wrong
 }
 
 /// How many lists the first table has that is answered otherwise, and the number of the first such aggregate.
-fn first_wrong<W: Threads + Wait + Sync>(
-    rt: &W,
-    alloc: Global,
-    count: u32,
-    algorithm: &str,
-) -> Result<Option<(usize, usize)>, Fail> {
+fn first_wrong(alloc: Global, count: u32, algorithm: &str) -> Result<Option<(usize, usize)>, Fail> {
     let mut numbers = Numbers::from_start(1);
     for size in &SIZES {
-        let wrong = first_wrong_at(rt, alloc, &mut numbers, size, count, algorithm)?;
+        let wrong = first_wrong_at(alloc, &mut numbers, size, count, algorithm)?;
         if let Some(number) = wrong {
             return Ok(Some((size.0, number)));
         }
@@ -167,13 +151,13 @@ fn first_wrong<W: Threads + Wait + Sync>(
 
 #[test]
 fn threshold_algorithm(rt: HostRuntime) -> Result<(), Fail> {
-    assert_eq!(rt; first_wrong(&rt, rt.alloc(), 2_000, "ta")?, None);
+    assert_eq!(rt; first_wrong(rt.alloc(), 2_000, "ta")?, None);
     Ok(())
 }
 
 #[test]
 fn without_random_access(rt: HostRuntime) -> Result<(), Fail> {
-    assert_eq!(rt; first_wrong(&rt, rt.alloc(), 2_000, "nra")?, None);
+    assert_eq!(rt; first_wrong(rt.alloc(), 2_000, "nra")?, None);
     Ok(())
 }
 
@@ -181,9 +165,9 @@ fn without_random_access(rt: HostRuntime) -> Result<(), Fail> {
 #[test]
 fn combined_algorithm(rt: HostRuntime) -> Result<(), Fail> {
     let wrong = [
-        first_wrong(&rt, rt.alloc(), 500, "ca cost 2 7")?,
-        first_wrong(&rt, rt.alloc(), 500, "ca cost 10 3")?,
-        first_wrong(&rt, rt.alloc(), 500, "ca cost 1 40")?,
+        first_wrong(rt.alloc(), 500, "ca cost 2 7")?,
+        first_wrong(rt.alloc(), 500, "ca cost 10 3")?,
+        first_wrong(rt.alloc(), 500, "ca cost 1 40")?,
     ];
     assert_eq!(rt; wrong, [None, None, None]);
     Ok(())

@@ -1,17 +1,11 @@
-//! Tests of what `top` answers over tables: against the aggregates of all objects, and against the plain program on random tables.
+//! Tests of what `one` answers over tables, against the aggregates of all objects.
 #![tactic(auto)]
 
-#[cfg(test)]
-mod against_plain;
 #[cfg(test)]
 mod aggregates;
 #[cfg(test)]
 mod answers;
 #[cfg(test)]
 mod brute;
-#[cfg(test)]
-mod bundles;
-#[cfg(test)]
-mod plain;
 #[cfg(test)]
 mod tables;

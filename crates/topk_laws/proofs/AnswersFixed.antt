@@ -15,11 +15,11 @@ use Rattle.cert_judge.specs.declared.told.Told.TheVariants.{BadLine, Inconsisten
 use Rattle.cert_judge.specs.Judging.{Tells}
 use Rattle.cert_judge.specs.Text.{told_text}
 use Rattle.cert_judge.proofs.Telling.{told_result}
-use Rattle.topk_top.specs.Bundled.{bundle_line}
-use Rattle.topk_top.specs.Judge.{told_status}
+use Rattle.bundle_calls.specs.Bundled.{bundle_line}
+use Rattle.bundle_calls.specs.Judge.{told_status}
 use Rattle.topk_laws.specs.Laws.{IsFixedText, AnswersAreFixed}
-use Rattle.topk_top.specs.Reply.{outcome_status}
-use Rattle.topk_top.specs.declared.status.Status.TheVariants.{Done}
+use Rattle.bundle_calls.specs.Reply.{outcome_status}
+use Rattle.call_ends.specs.declared.status.Status.TheVariants.{Done}
 use Rattle.topk_laws.proofs.Certifying.{certified}
 use Rattle.topk_laws.proofs.OneCertificate.{spells_one}
 use Rattle.topk_laws.proofs.Fixing.{IsFixedBy, only_fixed, fixed_by, fixed_of}

@@ -13,10 +13,10 @@ use Rattle.query_admission.specs.declared.line_outcome.LineOutcome.{LineOutcome}
 use Rattle.catalog_run.specs.Runs.{CatalogRun}
 use Rattle.catalog_laws.specs.Told.{AllBecome, ShelfTellsTables, told_listed, view_told}
 use Rattle.catalog_laws.proofs.ToldLists.{rows_of, known_places, named_wanted, admitted_few, names_told}
-use Rattle.topk_top.specs.Running.{is_answer, outcomes_text, run_status}
+use Rattle.catalog_calls.specs.Running.{is_answer, outcomes_text, run_status}
 use Rattle.topk_laws.specs.RunLaws.{ComeTo}
-use Rattle.topk_top.specs.declared.status.Status.{Status}
-use Rattle.topk_top.specs.declared.status.Status.TheVariants.{Done, Partial}
+use Rattle.call_ends.specs.declared.status.Status.{Status}
+use Rattle.call_ends.specs.declared.status.Status.TheVariants.{Done, Partial}
 use Rattle.topk_laws.proofs.OneBecoming.{HasRows, becomes_once}
 
 -- the rows of the lists of each of some lines are told, where nothing refuses it

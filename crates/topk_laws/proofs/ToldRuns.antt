@@ -16,14 +16,14 @@ use Rattle.command_words.specs.declared.running.RunSettings.{RunSettings}
 use Rattle.catalog_laws.specs.Told.{AllBecome, ShelfTellsTables, view_told}
 use Rattle.query_admission.specs.declared.line_outcome.LineOutcome.{LineOutcome}
 use Rattle.catalog_run.specs.Runs.{CatalogRun, IsRun}
-use Rattle.topk_top.specs.Calls.{Call, WroteWhole}
-use Rattle.topk_top.specs.Shelves.{Shelf, AsksText, GivesText}
-use Rattle.topk_top.specs.Running.{lines_run}
-use Rattle.topk_top.specs.RunEnds.{EndsRunning, LinesReplied, from_shelf}
+use Rattle.call_ends.specs.Calls.{Call, WroteWhole}
+use Rattle.call_ends.specs.Shelves.{Shelf, AsksText, GivesText}
+use Rattle.catalog_calls.specs.Running.{lines_run}
+use Rattle.catalog_calls.specs.RunEnds.{EndsRunning, LinesReplied, from_shelf}
 use Rattle.topk_laws.specs.RunLaws.{TellsAll, ComeTo, WritesTheOne, ToldRunsWriteTheOne, TellTheSame, WroteTheSame, SettingsChangeNothing}
 use Rattle.topk_top.specs.Ends.{CommandEnds}
-use Rattle.topk_top.specs.declared.status.Status.{Status}
-use Rattle.topk_top.specs.declared.status.Status.TheVariants.{Done, Partial, BadWords, BadCatalog, ReadFault, WriteFault, OpenFault, PortFault, Memory, LongInput, BadInput}
+use Rattle.call_ends.specs.declared.status.Status.{Status}
+use Rattle.call_ends.specs.declared.status.Status.TheVariants.{Done, Partial, BadWords, BadCatalog, ReadFault, WriteFault, OpenFault, PortFault, Memory, LongInput, BadInput}
 use Rattle.topk_laws.proofs.OneText.{come_to_one}
 use Rattle.topk_laws.proofs.ToldText.{gives_told, refuses_none, one_catalog, gave_told, gave_no_more}
 

@@ -6,14 +6,14 @@ use Rattle.csv_records.specs.Records.{records_of}
 use Rattle.catalog_text.specs.Catalog.{Listed as Entry, IsCatalog, spelled, yes_or_no}
 use Rattle.catalog_text.proofs.Exclusion.{broken_is_none, repeated_is_none}
 use Rattle.command_words.specs.declared.running.RunOptions.{RunOptions}
-use Rattle.topk_top.specs.Calls.{Call}
-use Rattle.topk_top.specs.Shelves.{Shelf, GivesText}
-use Rattle.topk_top.specs.Running.{RefusesCatalog}
-use Rattle.topk_top.specs.RunEnds.{EndsRunning}
+use Rattle.call_ends.specs.Calls.{Call}
+use Rattle.call_ends.specs.Shelves.{Shelf, GivesText}
+use Rattle.catalog_calls.specs.Running.{RefusesCatalog}
+use Rattle.catalog_calls.specs.RunEnds.{EndsRunning}
 use Rattle.topk_laws.specs.RunLaws.{TurnsAway, WrongCatalogsAreRefused}
 use Rattle.topk_top.specs.Ends.{CommandEnds}
-use Rattle.topk_top.specs.declared.status.Status.{Status}
-use Rattle.topk_top.specs.declared.status.Status.TheVariants.{Done, Partial, BadWords, BadCatalog, ReadFault, WriteFault, OpenFault, PortFault, Memory, LongInput, BadInput}
+use Rattle.call_ends.specs.declared.status.Status.{Status}
+use Rattle.call_ends.specs.declared.status.Status.TheVariants.{Done, Partial, BadWords, BadCatalog, ReadFault, WriteFault, OpenFault, PortFault, Memory, LongInput, BadInput}
 
 -- the text that is given where one is told
 given_told : (given told : List ℕ) (o : Option (List ℕ)) → o ≡ Some told → IfSome o (λ t. given ≡ t) → given ≡ told

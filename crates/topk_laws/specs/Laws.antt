@@ -8,10 +8,10 @@ use Rattle.cert_reader.specs.Reading.{Spells}
 use Rattle.cert_judge.specs.declared.told.Told.TheVariants.{Fixes, Beaten}
 use Rattle.cert_judge.specs.Figures.{HasItsFigures}
 use Rattle.cert_judge.specs.Judging.{Tells}
-use Rattle.topk_top.specs.declared.status.Status.{Status}
-use Rattle.topk_top.specs.declared.status.Status.TheVariants.{Done}
-use Rattle.topk_top.specs.Reply.{Replies}
-use Rattle.topk_top.specs.Judge.{JudgeReplies}
+use Rattle.call_ends.specs.declared.status.Status.{Status}
+use Rattle.call_ends.specs.declared.status.Status.TheVariants.{Done}
+use Rattle.bundle_calls.specs.Reply.{Replies}
+use Rattle.bundle_calls.specs.Judge.{JudgeReplies}
 
 -- the text spells a certificate in which each figure is the one that its accesses give; a judge tells of it that its answer is fixed, and nothing else
 pub record IsFixedText (text : List ℕ) : Type 0 where

@@ -17,13 +17,13 @@ use Rattle.query_admission.specs.declared.line_outcome.LineOutcome.{LineOutcome}
 use Rattle.catalog_laws.specs.Told.{AllBecome, ShelfTellsTables, view_told}
 use Rattle.catalog_laws.specs.Failures.{RefusesFew}
 use Rattle.catalog_laws.specs.Giving.{GaveWhatIsAsked, RoseByGiven}
-use Rattle.topk_top.specs.Calls.{Call, WroteWhole, input_limit}
-use Rattle.topk_top.specs.Shelves.{Shelf, TextFailed}
-use Rattle.topk_top.specs.Running.{RefusesCatalog, RepliesToLines, outcomes_text, lines_run, run_status, settings_by}
+use Rattle.call_ends.specs.Calls.{Call, WroteWhole, input_limit}
+use Rattle.call_ends.specs.Shelves.{Shelf, TextFailed}
+use Rattle.catalog_calls.specs.Running.{RefusesCatalog, RepliesToLines, outcomes_text, lines_run, run_status, settings_by}
 use Rattle.topk_top.specs.Ends.{CallEnds}
-use Rattle.topk_top.specs.declared.status.Status.{Status}
-use Rattle.topk_top.specs.declared.status.Status.TheVariants.{Done, Partial, BadWords, BadCatalog, BadInput, LongInput, Memory}
-use Rattle.topk_top.specs.declared.status.Status.TheVariants.{ReadFault, WriteFault, OpenFault, PortFault}
+use Rattle.call_ends.specs.declared.status.Status.{Status}
+use Rattle.call_ends.specs.declared.status.Status.TheVariants.{Done, Partial, BadWords, BadCatalog, BadInput, LongInput, Memory}
+use Rattle.call_ends.specs.declared.status.Status.TheVariants.{ReadFault, WriteFault, OpenFault, PortFault}
 
 -- the words are those of this run, and the shelf tells this text of its catalog's place
 pub record TellsCatalog (o : RunOptions) (c : Call) (text : List ℕ) : Type 0 where

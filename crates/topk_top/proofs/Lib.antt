@@ -1,7 +1,3 @@
--- Lemmas on calls, and on the lists of a bundle.
-mod LineTexts
-mod RunEnding
+-- Lemmas on calls.
+mod Settings
 mod Ending
-pub mod Bundling
-mod Replying
-mod MadeLaws

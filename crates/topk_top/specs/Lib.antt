@@ -1,13 +1,3 @@
--- How a top call ends, and what it writes.
-pub mod Codes
-pub mod Made
+-- How a top call ends.
 pub mod Bulk
-pub mod Bundled
-pub mod Reply
-pub mod Judge
-pub mod Shelves
-pub mod Running
-pub mod Calls
-pub mod RunEnds
 pub mod Ends
-pub mod Outcomes

@@ -2,21 +2,14 @@
 #![tactic(auto)]
 
 mod bulking;
-mod bundled;
 mod call;
-mod judging;
-mod line_outcomes;
-mod made;
-mod one;
 mod real;
-mod running;
-mod status;
 
 pub use call::top;
+pub use call_ends::Status;
 pub use command_words::{Words, WordsFault, read_words};
 pub use real::{run_process, run_streams};
-pub use status::Status;
 
 /// No memory was left.
-#[derive(Clone, Copy, Debug, PartialEq, Eq)]
-pub struct Memory;
+#[derive(Clone, Copy)]
+pub(crate) struct Memory;

@@ -1,11 +1,11 @@
 //! The top call over std's readers and writers.
 
 ghost use Rattle.std.specs.Prelude.{List, ℕ};
-ghost use Rattle.topk_top.specs.Calls.{call_of};
+ghost use Rattle.call_ends.specs.Calls.{call_of};
 ghost use Rattle.topk_top.specs.Ends.{ExitsBy};
 
 use super::call::top;
-use super::status::Status;
+use call_ends::Status;
 use command_words::{Words, WordsFault, read_words};
 use source_api::Shelf;
 use std::alloc::Global;

@@ -1,9 +1,8 @@
 use Rattle.std.proofs.Common.{ap, refl}
 use Rattle.std.proofs.KnownBytes.{Keeps-refl}
 use Rattle.bulk_run.specs.Text.{sums_text}
-use Rattle.topk_top.specs.declared.status.Status.TheVariants.{Done}
-use Rattle.topk_top.proofs.Ending.{said, said_as}
-use Rattle.topk_top.proofs.MadeLaws.{ends_written}
+use Rattle.call_ends.specs.declared.status.Status.TheVariants.{Done}
+use Rattle.call_ends.proofs.Ending.{said, said_as, ends_written}
 use Rattle.topk_top.proofs.bulking.bulk.Goals as goal
 
 pub returns-clause-ends : goal.returns-clause-ends

@@ -2,10 +2,11 @@ use Rattle.std.proofs.Common.{Some, None, Err, refl, ap, ◌∙◌}
 use Rattle.std.proofs.KnownBytes.{Keeps-refl}
 use Rattle.command_words.specs.Commands.{command_of}
 use Rattle.command_words.specs.declared.command.Command.TheVariants.{One, Judge, Make, Run, Bulk}
-use Rattle.topk_top.specs.Calls.{Input, Outside, call_at}
-use Rattle.topk_top.specs.Shelves.{Shelf}
-use Rattle.topk_top.specs.declared.status.Status.TheVariants.{Memory}
-use Rattle.topk_top.proofs.Ending.{outside_at, shelf_at, ends_as, ends_refused, ends_without_memory}
+use Rattle.call_ends.specs.Calls.{Input, Outside, call_at}
+use Rattle.call_ends.specs.Shelves.{Shelf}
+use Rattle.call_ends.specs.declared.status.Status.TheVariants.{Memory}
+use Rattle.call_ends.proofs.Ending.{outside_at, shelf_at}
+use Rattle.topk_top.proofs.Ending.{ends_as, ends_refused, ends_without_memory}
 use Rattle.topk_top.proofs.call.top.Goals as goal
 
 pub returns-in-Ok-One-clause-ends : goal.returns-in-Ok-One-clause-ends

@@ -1,10 +1,11 @@
 use Rattle.std.proofs.Common.{[], refl}
 use Rattle.std.proofs.KnownBytes.{Keeps-refl}
 use Rattle.command_words.specs.Commands.{command_of}
-use Rattle.topk_top.specs.Calls.{Outside, call_at}
-use Rattle.topk_top.specs.Shelves.{Shelf}
-use Rattle.topk_top.specs.declared.status.Status.TheVariants.{Memory}
-use Rattle.topk_top.proofs.Ending.{outside_at, shelf_at, ends_without_memory}
+use Rattle.call_ends.specs.Calls.{Outside, call_at}
+use Rattle.call_ends.specs.Shelves.{Shelf}
+use Rattle.call_ends.specs.declared.status.Status.TheVariants.{Memory}
+use Rattle.call_ends.proofs.Ending.{outside_at, shelf_at}
+use Rattle.topk_top.proofs.Ending.{ends_without_memory}
 use Rattle.topk_top.proofs.real.run_process.Goals as goal
 
 -- nothing was read or written, so the call ends as one without words does

@@ -1,0 +1,6 @@
+-- What the commands over one input text reply.
+pub mod Made
+pub mod Bundled
+pub mod Reply
+pub mod Judge
+pub mod Outcomes

@@ -1,0 +1,46 @@
+-- What is replied to an input.
+use Rattle.std.specs.Prelude.{◌≡◌, ◌⊎◌, ℕ, List, [], ◌∷◌, codes, Option}
+use Rattle.std.specs.List.{concat}
+use Rattle.std.specs.Fmt.{decimal}
+use Rattle.line_text.specs.Lines.{lines}
+use Rattle.bundle_text.specs.Bundle.{Content, Spells, IsFirstFault}
+use Rattle.query_text.specs.declared.query.Query.{Query}
+use Rattle.cert_text.specs.declared.outcome.Outcome.{Outcome}
+use Rattle.cert_text.specs.declared.outcome.Outcome.TheVariants.{Answered, Refused}
+use Rattle.cert_text.specs.Outcome.{outcome_text}
+use Rattle.call_ends.specs.declared.status.Status.{Status}
+use Rattle.call_ends.specs.declared.status.Status.TheVariants.{Done, Partial, BadInput}
+use Rattle.query_admission.specs.Becomes.{Becomes}
+use Rattle.bundle_calls.specs.Bundled.{bundle_line}
+
+-- `refused bundle LINE`
+abbrev pub bundle_refused_text : ℕ → List ℕ
+bundle_refused_text line = concat (codes "refused bundle " ∷ decimal line ∷ codes "\n" ∷ [])
+
+-- the status of an outcome: done exactly where the query is answered
+abbrev pub outcome_status : Outcome → Status
+outcome_status (Answered answer) = Done
+outcome_status (Refused refusal) = Partial
+
+-- the bytes are no bundle, and the text names the first line with which no bundle begins
+pub record RefusesBundle (bytes : List ℕ) (status : Status) (text : List ℕ) : Type 0 where
+  pub no_bundle : (content : Content) → ¬ Spells (lines bytes) content
+  pub line : ℕ
+  pub fault : IsFirstFault (lines bytes) line
+  pub status_is : status ≡ BadInput
+  pub text_is : text ≡ bundle_refused_text line
+
+-- the bytes are a bundle, and the text is that of what becomes of its query line, as line 1
+pub record RepliesToBundle (bytes : List ℕ) (status : Status) (text : List ℕ) : Type 0 where
+  pub content : Content
+  pub spelled : Spells (lines bytes) content
+  pub query : Option Query
+  pub count : ℕ
+  pub outcome : Outcome
+  pub becomes : Becomes (bundle_line content) query count outcome
+  pub status_is : status ≡ outcome_status outcome
+  pub text_is : text ≡ outcome_text 1 query count outcome
+
+-- the status and the text that an input of these bytes is replied to with
+abbrev pub Replies : List ℕ → Status → List ℕ → Type 0
+Replies bytes status text = RefusesBundle bytes status text ⊎ RepliesToBundle bytes status text

@@ -1,0 +1,87 @@
+//! What is replied to an input: what becomes of the query of the bundle that it is.
+
+ghost use Rattle.std.specs.Prelude.{◌≡◌, IfOk};
+ghost use Rattle.bundle_text.specs.Bundle.{content, IsBundle};
+ghost use Rattle.query_admission.specs.Admission.{IsAdmitted};
+ghost use Rattle.bundle_calls.specs.Bundled.{bundle_line};
+ghost use Rattle.bundle_calls.specs.Outcomes.{BecomesOf, IsLineOf, IsReply};
+
+use super::Memory;
+use super::bundled::{Bundled, told_lists};
+use bundle_text::{Bundle, BundleFault, read_bundle};
+use cert_text::{Outcome, Refusal};
+use query_admission::{Admitted, LineOutcome, admit};
+use query_core::{DriveFault, Ready};
+use std::alloc::Global;
+use told_run::answer_over;
+
+/// What is replied to an input.
+#[derive(Drop)]
+pub(crate) enum Reply {
+    /// It is no bundle: with this line none begins.
+    NoBundle { line: u64 },
+    /// It is a bundle, and this became of its query line.
+    Line(LineOutcome),
+}
+
+/// The number of a bundle's query line.
+const QUERY_LINE: u64 = 1;
+
+/// The reply to an input.
+pub(crate) fn reply_to(alloc: Global, bytes: &[u8]) -> Result<Reply, Memory>
+    ensures { IfOk result (IsReply bytes.now) }
+{
+    match read_bundle(alloc, bytes) {
+        Ok(bundle) => Ok(Reply::Line(line_of(alloc, &bundle)?)),
+        Err(BundleFault::BadBundle { line }) => Ok(Reply::NoBundle { line }),
+        Err(BundleFault::Memory) => Err(Memory),
+    }
+}
+
+/// What becomes of a bundle's query line.
+fn line_of(alloc: Global, bundle: &Bundle) -> Result<LineOutcome, Memory>
+    requires { IsBundle (content bundle.now) }
+    ensures { IfOk result (IsLineOf (content bundle.now)) }
+{
+    match admit(alloc, &Bundled::of(bundle), QUERY_LINE, &bundle.query) {
+        Ok(Admitted::Ready(ready)) => run_ready(alloc, bundle, ready),
+        Ok(Admitted::Refused { refusal, query }) => Ok(LineOutcome {
+            query,
+            count: 0,
+            outcome: Outcome::Refused(refusal),
+        }),
+        Err(_) => Err(Memory),
+    }
+}
+
+/// What becomes of a query that is ready.
+fn run_ready(alloc: Global, bundle: &Bundle, ready: Ready) -> Result<LineOutcome, Memory>
+    requires bundle { IsBundle (content bundle.now) }
+    requires admitted { IsAdmitted (bundle_line (content bundle.now)) ready }
+    ensures { IfOk result (IsLineOf (content bundle.now)) }
+{
+    match outcome_of(alloc, bundle, &ready) {
+        Ok(outcome) => Ok(LineOutcome {
+            query: Some(ready.query),
+            count: ready.count,
+            outcome,
+        }),
+        Err(_) => Err(Memory),
+    }
+}
+
+/// The outcome of a query over the lists of a bundle.
+fn outcome_of(alloc: Global, bundle: &Bundle, ready: &Ready) -> Result<Outcome, Memory>
+    requires bundle { IsBundle (content bundle.now) }
+    requires admitted { IsAdmitted (bundle_line (content bundle.now)) ready.now }
+    ensures { IfOk result (BecomesOf (content bundle.now) ready.now) }
+{
+    let Ok(mut lists) = told_lists(alloc, bundle, &ready.sources) else {
+        return Err(Memory);
+    };
+    match answer_over(alloc, ready, &mut lists) {
+        Ok(answer) => Ok(Outcome::Answered(answer)),
+        Err(DriveFault::RoomFull { room }) => Ok(Outcome::Refused(Refusal::RoomFull { room })),
+        Err(DriveFault::Memory) => Err(Memory),
+    }
+}

@@ -1,0 +1,11 @@
+//! Drives of `one`, `judge` and `make` over streams in memory, for the tests of several crates.
+#![tactic(auto)]
+
+mod answers;
+mod drives;
+mod outcomes;
+
+pub use answers::{Answer, first_other};
+pub use call_ends::Status;
+pub use drives::{judge_into, one_into, one_of};
+pub use outcomes::{Streams, judge_ends, make_ends, one_ends, one_ends_over};

@@ -1,0 +1,124 @@
+//! Each fault of the streams in turn, on the first example.
+
+use bundle_support::{Status, Streams, one_ends_over, one_into};
+use std::alloc::Global;
+use std::test::Fail;
+use test_support::{FIRST_TEXT, Unmade};
+use tk_io::{Failed, MemSink, Sink};
+
+/// The bundle of the first example.
+const BUNDLE: &[u8] =
+    b"list A\n1,900\n2,800\n3,100\nlist B\n2,700\n3,600\n1,500\nquery top 1 by sum(A,B) using ta";
+
+/// How many bytes the certificate has.
+const LENGTH: u64 = 186;
+
+/// Whether `one` ends so where these calls of the input fail and there is room for so many bytes, and
+/// writes the first bytes of the certificate, so many.
+fn ends_so(
+    alloc: Global,
+    failing: &[u64],
+    room: u32,
+    expected: (Status, usize),
+) -> Result<bool, Unmade> {
+    let Some(front) = FIRST_TEXT.as_bytes().get(..expected.1) else {
+        return Ok(false);
+    };
+    let streams = Streams {
+        input: BUNDLE,
+        failing_reads: failing,
+        failing_writes: &[],
+        room,
+    };
+    one_ends_over(alloc, &streams, (expected.0, front))
+}
+
+/// The first call of the input that may fail without a fault of reading, or after which something is written.
+fn first_unread(alloc: Global) -> Result<Option<u64>, Unmade> {
+    for call in 1..4 {
+        if !ends_so(alloc, &[call], 200, (Status::ReadFault, 0))? {
+            return Ok(Some(call));
+        }
+    }
+    Ok(None)
+}
+
+#[test]
+fn ends_where_nothing_is_read(rt: HostRuntime) -> Result<(), Fail> {
+    assert_eq!(rt; first_unread(rt.alloc())?, None);
+    Ok(())
+}
+
+/// Rooms that are less than the certificate.
+const ROOMS: [u32; 5] = [0, 1, 13, 14, 185];
+
+/// The first room that isn't filled, or doesn't end in a fault of writing.
+fn first_unfilled(alloc: Global, rooms: &[u32]) -> Result<Option<u32>, Unmade> {
+    for room in rooms {
+        let expected = (Status::WriteFault, *room as usize);
+        if !ends_so(alloc, &[], *room, expected)? {
+            return Ok(Some(*room));
+        }
+    }
+    Ok(None)
+}
+
+#[test]
+fn ends_where_the_room_does(rt: HostRuntime) -> Result<(), Fail> {
+    assert_eq!(rt; first_unfilled(rt.alloc(), &ROOMS)?, None);
+    Ok(())
+}
+
+/// A sink that takes one byte in each call.
+#[derive(Drop)]
+struct ByteSink {
+    sink: MemSink,
+}
+
+impl Sink for ByteSink {
+    ghost use Rattle.std.specs.Prelude.{Some};
+
+    ghost held = { λ b. Some b.sink.held };
+
+    ghost faults = { λ b. b.sink.faults };
+
+    fn write(&mut self, bytes: &[u8]) -> Result<usize, Failed> {
+        match bytes {
+            [first, ..] => self.sink.write(&[*first]),
+            [] => self.sink.write(bytes),
+        }
+    }
+}
+
+/// Whether `one` ends in a fault of writing where the call behind so many bytes fails, and writes these; or in none, where
+/// these are all.
+fn ends_behind(alloc: Global, written: u64) -> Result<bool, Unmade> {
+    let sink = MemSink::make(alloc, 186, &[written.saturating_add(1)])?;
+    let mut out = ByteSink { sink };
+    let status = one_into(alloc, BUNDLE, &[], &mut out);
+    let taken = out.sink.taken();
+    let is_front = FIRST_TEXT.as_bytes().starts_with(taken) && taken.len() as u64 == written;
+    drop(out);
+    let expected = if written == LENGTH {
+        Status::Done
+    } else {
+        Status::WriteFault
+    };
+    Ok(status? == expected && is_front)
+}
+
+/// The first number of bytes behind which the failing call ends otherwise.
+fn first_behind(alloc: Global) -> Result<Option<u64>, Unmade> {
+    for written in 0..LENGTH + 1 {
+        if !ends_behind(alloc, written)? {
+            return Ok(Some(written));
+        }
+    }
+    Ok(None)
+}
+
+#[test]
+fn ends_at_each_failing_write(rt: HostRuntime) -> Result<(), Fail> {
+    assert_eq!(rt; first_behind(rt.alloc())?, None);
+    Ok(())
+}

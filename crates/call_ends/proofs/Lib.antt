@@ -1,0 +1,2 @@
+-- Lemmas on how calls end.
+pub mod Ending

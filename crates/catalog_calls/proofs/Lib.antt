@@ -1,0 +1,3 @@
+-- Lemmas on runs of query lines.
+mod LineTexts
+pub mod RunEnding

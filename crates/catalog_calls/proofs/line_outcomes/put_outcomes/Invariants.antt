@@ -1,0 +1,12 @@
+use Rattle.std.proofs.Common.{◌≡◌, ◌+◌, take}
+use Rattle.tk_io.specs.Pieces.{Puts}
+use Rattle.catalog_calls.specs.Running.{outcomes_text}
+use Rattle.catalog_calls.proofs.line_outcomes.put_outcomes.Given as goal
+
+-- the texts of the outcomes so far were put
+abbrev pub invariant-loop-line : goal.invariant-loop-line
+invariant-loop-line g l = record {
+  number : l.number ≡ l.line-index + 1;
+  put : Puts (g.K.Sink.held l.fn.out) (g.K.Sink.held l.out) (g.K.Sink.faults l.fn.out)
+      (g.K.Sink.faults l.out) l.fn.pieces l.pieces (outcomes_text 1 (take l.line-index l.outcomes));
+}

@@ -1,0 +1,11 @@
+//! The command `run`: query lines over the lists of a catalog, whose sources are taken of a shelf.
+#![tactic(auto)]
+
+mod line_outcomes;
+mod running;
+
+pub use running::{run, settings_of};
+
+/// No memory was left.
+#[derive(Clone, Copy)]
+pub(crate) struct Memory;
