@@ -1,5 +1,6 @@
 -- What lines come to, with one line more.
-use Rattle.std.proofs.Common.{◌≡◌, ℕ, ◌+◌, List, [], ◌∷◌, ◌++◌, length, Option, Result, Ok, Err, IfOk, OnOk, refl, sym, subst, arith}
+use Rattle.std.proofs.Common.{◌≡◌, ℕ, ◌+◌, ◌<◌, List, [], ◌∷◌, ◌++◌, map, take, get_or, length, length-take-le, Bor, Option, Result, Ok, Err, IfOk, OnOk, refl, sym, ap, ◌∙◌, subst, arith}
+use Rattle.std.proofs.lemmas.List.{length-map, map-append, take_more}
 use Rattle.cert_text.specs.declared.refusal.Refusal.{Refusal}
 use Rattle.query_text.specs.declared.query.Query.{Query}
 use Rattle.query_core.specs.declared.ready.Ready.{Ready as ReadyQuery}
@@ -71,3 +72,14 @@ ready_more view number before bytes stages now readies more a ready is are admit
     subst (λ rs. AreAdmitted view 1 (before ++ bytes ∷ []) now rs) (sym put.1)
     (subst (λ ss. AreAdmitted view 1 (before ++ bytes ∷ []) ss (readies ++ ready ∷ [])) (sym put.0)
     (ready_next view 1 before stages readies bytes ready are (subst (λ n. IsAdmitted (line_over view n bytes) ready) e admitted_so)))
+
+-- the next of some lines
+pub admitted_next : (view : View) (lines : List (Bor (List ℕ))) (i : ℕ) (d : Bor (List ℕ)) (number : ℕ) (stages now : List Stage) (readies more : List ReadyQuery)
+    → number ≡ i → i < length lines
+    → ((before : List (List ℕ)) → number + 1 ≡ length before + 1 → AreAdmitted view 1 before stages readies → AreAdmitted view 1 (before ++ (get_or lines i d).now ∷ []) now more)
+    → AreAdmitted view 1 (map (λ line. line.now) (take i lines)) stages readies → AreAdmitted view 1 (map (λ line. line.now) (take (i + 1) lines)) now more
+admitted_next view lines i d number stages now readies more is within step are =
+    let front = map (λ (line : Bor (List ℕ)). line.now) (take i lines) in
+    let long : length front ≡ i = length-map (take i lines) (λ (line : Bor (List ℕ)). line.now) ∙ length-take-le i lines (omega (arith, within)) in
+    let next : map (λ (line : Bor (List ℕ)). line.now) (take (i + 1) lines) ≡ front ++ (get_or lines i d).now ∷ [] = ap (map (λ (line : Bor (List ℕ)). line.now)) (take_more lines i d within) ∙ map-append (λ (line : Bor (List ℕ)). line.now) (take i lines) (get_or lines i d ∷ []) in
+    subst (λ ls. AreAdmitted view 1 ls now more) (sym next) (step front (omega (arith, is, long)) are)

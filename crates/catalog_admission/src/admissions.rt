@@ -45,12 +45,33 @@ pub fn admit_all(
         stages: Vec::new(alloc),
         readies: Vec::new(alloc),
     };
+    match admit_lines(alloc, lists, lines, &mut admissions) {
+        Ok(()) => Ok(admissions),
+        Err(_) => {
+            drop(admissions);
+            Err(Memory)
+        }
+    }
+}
+
+/// Admits lines, the first of which is the first of all.
+fn admit_lines(
+    alloc: Global,
+    lists: &Catalogued<'_>,
+    lines: &[&[u8]],
+    admissions: &mut Admissions,
+) -> Result<(), Memory>
+    requires stages { admissions.old.stages.items ≡ [] }
+    requires readies { admissions.old.readies.items ≡ [] }
+    ensures { OnOk result (AreAdmitted (view_over lists.now.catalog.now lists.now.openings.now nothing_told) 1
+        (map (λ line. line.now) lines.now) admissions.new.stages.items admissions.new.readies.items) }
+{
     let mut number: u64 = 0;
     for line in lines {
         number += 1;
-        admit_next(alloc, lists, number, line, &mut admissions)?;
+        admit_next(alloc, lists, number, line, admissions)?;
     }
-    Ok(admissions)
+    Ok(())
 }
 
 /// Admits one line more.
@@ -83,10 +104,13 @@ fn put_ready(admissions: &mut Admissions, ready: Ready) -> Result<(), Memory>
     ensures { OnOk result ((admissions.new.stages.items ≡ admissions.old.stages.items ++ Stage.Ready ∷ [])
         × (admissions.new.readies.items ≡ admissions.old.readies.items ++ ready ∷ [])) }
 {
-    let Ok(()) = admissions.readies.push(ready) else {
-        return Err(Memory);
-    };
-    put_stage(admissions, Stage::Ready)
+    match admissions.readies.push(ready) {
+        Ok(()) => put_stage(admissions, Stage::Ready),
+        Err(refused) => {
+            drop(refused);
+            Err(Memory)
+        }
+    }
 }
 
 /// Puts what a line comes to behind the others.
@@ -96,6 +120,9 @@ fn put_stage(admissions: &mut Admissions, stage: Stage) -> Result<(), Memory>
 {
     match admissions.stages.push(stage) {
         Ok(()) => Ok(()),
-        Err(_) => Err(Memory),
+        Err(refused) => {
+            drop(refused);
+            Err(Memory)
+        }
     }
 }

@@ -1,5 +1,5 @@
 -- What the combined algorithm reads has no grade above the greatest.
-use Rattle.std.proofs.Common.{◌≡◌, ◌≢◌, ◌≤◌, ◌%◌, ◌&&◌, nat_lt, ◌==◌, ℕ, zero, suc, true, false, cond, Bool, List, [], ◌∷◌, ◌++◌, length, map, All, Option, Some, None, refl, sym, ap, ap₂, subst, ◌∙◌, arith}
+use Rattle.std.proofs.Common.{◌≡◌, ◌≢◌, ◌≤◌, ◌+◌, ◌%◌, ◌&&◌, nat_lt, ◌==◌, ℕ, zero, suc, true, false, cond, Bool, List, [], ◌∷◌, ◌++◌, length, map, All, Option, Some, None, refl, sym, ap, ap₂, subst, ◌∙◌, arith}
 use Rattle.std.proofs.lemmas.List.Elements.{All-append, All-nil}
 use Rattle.std.proofs.lemmas.List.Kept.{AllPairs-filter}
 use Rattle.ranked_list.specs.declared.row.Row.{Row}
@@ -57,6 +57,15 @@ blocks_capped V k phase D (suc depth) h =
     let row : List Access = ca_run_to V k phase D depth ++ sorted_block 0 (suc depth) D in
     All-append (λ (access : Access). grade_of access ≤ top_grade) row (phase_after V k phase (suc depth) D row)
     (row_capped D (ca_run_to V k phase D depth) (suc depth) h (blocks_capped V k phase D depth h)) (phase_capped V k phase (suc depth) D row h)
+
+-- one more depth
+pub blocks_more : (V : List ℕ → ℕ) (k phase : ℕ) (D : List (List Row)) (old new : List Access) (depth : ℕ)
+    → new ≡ (old ++ sorted_block 0 (depth + 1) D) ++ phase_after V k phase (depth + 1) D (old ++ sorted_block 0 (depth + 1) D)
+    → old ≡ ca_run_to V k phase D depth → new ≡ ca_run_to V k phase D (depth + 1)
+blocks_more V k phase D old new depth e h =
+    let next : depth + 1 ≡ suc depth = omega arith in
+    subst (λ n. new ≡ ca_run_to V k phase D n) (sym next)
+    (e ∙ ap₂ (λ (A : List Access) (n : ℕ). (A ++ sorted_block 0 n D) ++ phase_after V k phase n D (A ++ sorted_block 0 n D)) h next)
 
 pub row_read_capped : (D : List (List Row)) (e : Tree) (A accesses : List Access) (depth : ℕ) → IsPosed D e → AreCapped A
     → accesses ≡ A ++ sorted_block 0 depth D → AreCapped accesses

@@ -60,8 +60,8 @@ pub random_all : (D : List (List Row)) (accesses whole : List Access) (list dept
 random_all D accesses whole list depth object l h =
     sym (append-nil accesses) ∙ ap (λ rs. accesses ++ random_block list depth object rs) (sym (drop_all list D l)) ∙ h
 
--- one more object's accesses
-pub flat_more : (f : ℕ → List Access) (xs : List ℕ) (i d : ℕ) (before old new : List Access) → i < length xs → new ≡ old ++ f (get_or xs i d)
+-- the accesses of one more of those that are asked for
+pub flat_more : {X : Type 0} → (f : X → List Access) (xs : List X) (i : ℕ) (d : X) (before old new : List Access) → i < length xs → new ≡ old ++ f (get_or xs i d)
     → old ≡ before ++ flat_map f (take i xs) → new ≡ before ++ flat_map f (take (i + 1) xs)
 flat_more f xs i d before old new l e h =
     let last : flat_map f (get_or xs i d ∷ []) ≡ f (get_or xs i d) = flat_map-cons f (get_or xs i d) [] ∙ append-nil (f (get_or xs i d)) in
