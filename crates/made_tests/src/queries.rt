@@ -1,9 +1,10 @@
 //! Made queries.
 
+use super::none_is_wrong;
 use made_queries::made_query;
 use query_text::print;
 use std::alloc::Global;
-use std::test::Fail;
+use test_support::Unmade;
 
 /// A query's number, the objects and lists that it is made over, and its text.
 type Row = (u32, u32, u8, &'static str);
@@ -36,19 +37,23 @@ const ROWS: [Row; 9] = [
 ];
 
 /// Whether the query of a row is made with its text.
-fn is_made(alloc: Global, row: &Row) -> Result<bool, Fail> {
+fn is_made(alloc: Global, row: &Row) -> Result<bool, Unmade> {
     let (number, count, lists, text) = *row;
-    let query = made_query(alloc, number, count.max(1), lists.max(1).min(8))?;
+    let Ok(query) = made_query(alloc, number, count.max(1), lists.max(1).min(8)) else {
+        return Err(Unmade::Memory);
+    };
     let printed = print(alloc, &query);
     drop(query);
-    let printed = printed?;
+    let Ok(printed) = printed else {
+        return Err(Unmade::Memory);
+    };
     let is_so = printed.as_slice() == text.as_bytes();
     drop(printed);
     Ok(is_so)
 }
 
 /// The number of the first row whose query is made otherwise.
-fn first_wrong(alloc: Global, rows: &[Row]) -> Result<Option<usize>, Fail> {
+fn first_wrong(alloc: Global, rows: &[Row]) -> Result<Option<usize>, Unmade> {
     for (number, row) in rows.iter().enumerate() {
         if !is_made(alloc, row)? {
             return Ok(Some(number));
@@ -58,7 +63,6 @@ fn first_wrong(alloc: Global, rows: &[Row]) -> Result<Option<usize>, Fail> {
 }
 
 #[test]
-fn makes_queries(rt: HostRuntime) -> Result<(), Fail> {
-    assert_eq!(rt; first_wrong(rt.alloc(), &ROWS)?, None);
-    Ok(())
+fn makes_queries(rt: HostRuntime) {
+    none_is_wrong(&rt, first_wrong(rt.alloc(), &ROWS));
 }

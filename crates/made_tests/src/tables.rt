@@ -1,10 +1,11 @@
 //! Made tables, and their text.
 
+use super::none_is_wrong;
 use ranked_list::MemList;
 use std::alloc::Global;
-use std::test::Fail;
 use table_make::make_table;
 use table_text::write_table;
+use test_support::Unmade;
 use tk_io::MemSink;
 
 /// A start, how many objects and lists, and the text of the table.
@@ -28,7 +29,7 @@ const ROWS: [Row; 7] = [
 ];
 
 /// Whether a table is written with this text.
-fn is_written(alloc: Global, lists: &[MemList], text: &str) -> Result<bool, Fail> {
+fn is_written(alloc: Global, lists: &[MemList], text: &str) -> Result<bool, Unmade> {
     let mut out = MemSink::make(alloc, 1000, &[])?;
     let is_done = write_table(&mut out, lists).is_ok();
     let is_so = is_done && out.taken() == text.as_bytes();
@@ -37,16 +38,18 @@ fn is_written(alloc: Global, lists: &[MemList], text: &str) -> Result<bool, Fail
 }
 
 /// Whether the table of a row is made with its text.
-fn is_made(alloc: Global, row: &Row) -> Result<bool, Fail> {
+fn is_made(alloc: Global, row: &Row) -> Result<bool, Unmade> {
     let (start, count, lists, text) = *row;
-    let table = make_table(alloc, start, count, lists)?;
+    let Ok(table) = make_table(alloc, start, count, lists) else {
+        return Err(Unmade::Memory);
+    };
     let is_so = is_written(alloc, &table, text);
     drop(table);
     is_so
 }
 
 /// The number of the first row whose table is made otherwise.
-fn first_wrong(alloc: Global, rows: &[Row]) -> Result<Option<usize>, Fail> {
+fn first_wrong(alloc: Global, rows: &[Row]) -> Result<Option<usize>, Unmade> {
     for (number, row) in rows.iter().enumerate() {
         if !is_made(alloc, row)? {
             return Ok(Some(number));
@@ -56,7 +59,6 @@ fn first_wrong(alloc: Global, rows: &[Row]) -> Result<Option<usize>, Fail> {
 }
 
 #[test]
-fn makes_tables(rt: HostRuntime) -> Result<(), Fail> {
-    assert_eq!(rt; first_wrong(rt.alloc(), &ROWS)?, None);
-    Ok(())
+fn makes_tables(rt: HostRuntime) {
+    none_is_wrong(&rt, first_wrong(rt.alloc(), &ROWS));
 }

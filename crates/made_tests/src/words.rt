@@ -1,26 +1,26 @@
 //! The words of `make`.
 
+use super::none_is_wrong;
 use command_words::{Command, WordsFault, read_command};
 use std::alloc::Global;
-use std::test::Fail;
-use test_support::words_of;
+use test_support::{Unmade, words_of};
 
 /// Words, and the start, the objects and the lists that they tell.
 type Row = (&'static [&'static str], (u64, u32, u8));
 
-/// What these words of `make` tell, or None where they are refused.
-fn told_by(alloc: Global, texts: &[&str]) -> Result<Option<(u64, u32, u8)>, Fail> {
+/// Whether these words of `make` tell this, or are refused where nothing is told.
+fn is_told(alloc: Global, texts: &[&str], told: Option<(u64, u32, u8)>) -> Result<bool, Unmade> {
     let words = words_of(alloc, texts)?;
     let command = read_command(alloc, &words);
     drop(words);
     match command {
-        Ok(Command::Make(options)) => Ok(Some((options.start, options.count, options.lists))),
+        Ok(Command::Make(made)) => Ok(told == Some((made.start, made.count, made.lists))),
         Ok(other) => {
             drop(other);
-            Err("the command make".into())
+            Ok(false)
         }
-        Err(WordsFault::BadWords) => Ok(None),
-        Err(WordsFault::Memory) => Err("memory".into()),
+        Err(WordsFault::BadWords) => Ok(told.is_none()),
+        Err(WordsFault::Memory) => Err(Unmade::Memory),
     }
 }
 
@@ -57,9 +57,9 @@ const READ: [Row; 5] = [
 ];
 
 /// The number of the first row that tells something else.
-fn first_wrong(alloc: Global, rows: &[Row]) -> Result<Option<usize>, Fail> {
-    for (number, (words, made)) in rows.iter().enumerate() {
-        if told_by(alloc, words)? != Some(*made) {
+fn first_wrong(alloc: Global, rows: &[Row]) -> Result<Option<usize>, Unmade> {
+    for (number, (words, told)) in rows.iter().enumerate() {
+        if !is_told(alloc, words, Some(*told))? {
             return Ok(Some(number));
         }
     }
@@ -67,9 +67,8 @@ fn first_wrong(alloc: Global, rows: &[Row]) -> Result<Option<usize>, Fail> {
 }
 
 #[test]
-fn reads_what_is_to_be_made(rt: HostRuntime) -> Result<(), Fail> {
-    assert_eq!(rt; first_wrong(rt.alloc(), &READ)?, None);
-    Ok(())
+fn reads_what_is_to_be_made(rt: HostRuntime) {
+    none_is_wrong(&rt, first_wrong(rt.alloc(), &READ));
 }
 
 /// Words that are refused.
@@ -115,9 +114,9 @@ const REFUSED: [&[&str]; 18] = [
 ];
 
 /// The number of the first words that aren't refused.
-fn first_taken(alloc: Global, rows: &[&[&str]]) -> Result<Option<usize>, Fail> {
+fn first_taken(alloc: Global, rows: &[&[&str]]) -> Result<Option<usize>, Unmade> {
     for (number, words) in rows.iter().enumerate() {
-        if told_by(alloc, words)?.is_some() {
+        if !is_told(alloc, words, None)? {
             return Ok(Some(number));
         }
     }
@@ -125,7 +124,6 @@ fn first_taken(alloc: Global, rows: &[&[&str]]) -> Result<Option<usize>, Fail> {
 }
 
 #[test]
-fn refuses_other_words(rt: HostRuntime) -> Result<(), Fail> {
-    assert_eq!(rt; first_taken(rt.alloc(), &REFUSED)?, None);
-    Ok(())
+fn refuses_other_words(rt: HostRuntime) {
+    none_is_wrong(&rt, first_taken(rt.alloc(), &REFUSED));
 }
