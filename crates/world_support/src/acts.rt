@@ -1,5 +1,8 @@
 //! Steps as plain data, taken where they are lawful.
 
+ghost use Rattle.std.specs.Prelude.{◌≡◌, true, All, OnOk};
+ghost use Rattle.query_turns.specs.Inquiries.{is_ended};
+
 use query_world::{Step, World};
 use ranked_list::{PageRows, Row};
 use source_state::{FailKind, Plan};
@@ -154,7 +157,9 @@ pub fn end_by_rounds(
     world: &mut World,
     sources: &Sources,
     workers: u32,
-) -> Result<(), Fail> {
+) -> Result<(), Fail>
+    ensures { OnOk result (All (λ query. is_ended query ≡ true) world.new.queries) }
+{
     let mut sources = *sources;
     for _round in 0..1000 {
         if world.all_ended() {

@@ -4,11 +4,10 @@ ghost use Rattle.std.specs.Prelude.{◌<◌, ◌≤◌, ◌^◌, All, length};
 ghost use Rattle.query_turns.specs.Made.{IsReadyFor};
 
 use super::acts::{Act, Sources, take_act};
-use super::outcomes::{are_ended_so, ends_of, world_of};
+use super::outcomes::{ends_of, let_world_go, world_of};
 use limits::MAX_OBJECTS;
 use query_core::Ready;
-use query_support::{Asked, Expected, are_small, readies_of};
-use query_turns::Endings;
+use query_support::{Asked, Expected, are_small, let_go, readies_of};
 use query_world::World;
 use std::alloc::Global;
 use std::test::Fail;
@@ -33,8 +32,8 @@ fn take_all(alloc: Global, world: &mut World, case: &Case) -> Result<(), Fail> {
     Ok(())
 }
 
-/// How the queries of a case end.
-fn endings_of(alloc: Global, case: &Case, readies: &[Ready]) -> Result<Endings, Fail>
+/// Whether the queries of a case, which are ready, end as they are to.
+fn end_so(alloc: Global, case: &Case, readies: &[Ready]) -> Result<bool, Fail>
     requires sources { length case.now.counts.now < 2 ^ 32 }
     requires counts { All (λ count. count ≤ MAX_OBJECTS) case.now.counts.now }
     requires queries { length readies.now < 2 ^ 32 }
@@ -42,9 +41,9 @@ fn endings_of(alloc: Global, case: &Case, readies: &[Ready]) -> Result<Endings, 
 {
     let mut world = world_of(alloc, case.counts, readies)?;
     match take_all(alloc, &mut world, case) {
-        Ok(()) => ends_of(alloc, world, &case.sources, case.workers),
+        Ok(()) => Ok(ends_of(alloc, world, &case.sources, case.workers, case.ends)?.so),
         Err(fault) => {
-            drop(world);
+            let_world_go(world);
             Err(fault)
         }
     }
@@ -54,15 +53,12 @@ fn endings_of(alloc: Global, case: &Case, readies: &[Ready]) -> Result<Endings, 
 fn ends_so(alloc: Global, case: &Case) -> Result<bool, Fail> {
     let readies = readies_of(alloc, case.counts, case.asked)?;
     if !are_small(case.counts) || case.counts.len() > 100 || readies.len() > 100 {
-        drop(readies);
+        let_go(readies);
         return Err("a few small sources".into());
     }
-    let endings = endings_of(alloc, case, &readies);
-    drop(readies);
-    let endings = endings?;
-    let so = are_ended_so(&endings, case.ends);
-    drop(endings);
-    Ok(so)
+    let so = end_so(alloc, case, &readies);
+    let_go(readies);
+    so
 }
 
 /// The number of the first case whose queries end otherwise.

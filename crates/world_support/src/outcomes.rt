@@ -1,19 +1,30 @@
 //! How the queries of a world end.
 
-ghost use Rattle.std.specs.Prelude.{◌≡◌, ◌<◌, ◌≤◌, ◌^◌, All, length};
+ghost use Rattle.std.specs.Prelude.{◌≡◌, ◌<◌, ◌≤◌, ◌^◌, true, All, length};
+ghost use Rattle.query_turns.specs.Inquiries.{is_ended};
 ghost use Rattle.query_turns.specs.Made.{IsReadyFor};
 
 use super::acts::{Sources, end_by_rounds};
 use limits::MAX_OBJECTS;
 use query_core::Ready;
 use query_support::{Expected, is_ended_so};
-use query_turns::Endings;
+use query_turns::{Ended, Endings};
 use query_world::World;
+use source_state::LookFault;
 use std::alloc::Global;
 use std::test::Fail;
 
+/// How the queries of a world ended.
+#[derive(Clone, Copy)]
+pub struct Ends {
+    /// Whether each ended as it was to.
+    pub so: bool,
+    /// The list of the first query for which a call failed, where that refused it.
+    pub failed: Option<u8>,
+}
+
 /// Whether the queries ended so, in their order.
-pub fn are_ended_so(endings: &Endings, expected: &[Expected]) -> bool {
+fn are_ended_so(endings: &Endings, expected: &[Expected]) -> bool {
     if endings.len() as usize != expected.len() {
         return false;
     }
@@ -25,6 +36,19 @@ pub fn are_ended_so(endings: &Endings, expected: &[Expected]) -> bool {
         }
     }
     true
+}
+
+/// The list of the first query for which a call failed, where that refused it.
+fn first_failed(endings: &Endings) -> Option<u8> {
+    match endings.get(0) {
+        Some(
+            Ended::Look {
+                list,
+                fault: LookFault::Failed,
+            },
+        ) => Some(*list),
+        _ => None,
+    }
 }
 
 /// A world of queries that are ready.
@@ -40,31 +64,40 @@ pub fn world_of(alloc: Global, counts: &[u32], readies: &[Ready]) -> Result<Worl
     }
 }
 
+/// Lets a world go. Who owns one lets it go by this call, so that it is proved once.
+pub fn let_world_go(world: World) {
+    drop(world);
+}
+
 /// How the queries of a world end, after rounds of so many turns.
 pub fn ends_of(
     alloc: Global,
     world: World,
     sources: &Sources,
     workers: u32,
-) -> Result<Endings, Fail> {
+    expected: &[Expected],
+) -> Result<Ends, Fail> {
     let mut world = world;
     match end_by_rounds(alloc, &mut world, sources, workers) {
-        Ok(()) => finish(world),
-        Err(fail) => {
-            drop(world);
-            Err(fail)
+        Ok(()) => finish(world, expected),
+        Err(fault) => {
+            let_world_go(world);
+            Err(fault)
         }
     }
 }
 
-/// How the queries of a world end, all of which have ended.
-fn finish(world: World) -> Result<Endings, Fail> {
-    if !world.all_ended() {
-        drop(world);
-        return Err("an end".into());
-    }
-    match world.finish() {
-        Ok(endings) => Ok(endings),
-        Err(_) => Err("memory".into()),
-    }
+/// How the queries of a world ended, all of which have ended.
+fn finish(world: World, expected: &[Expected]) -> Result<Ends, Fail>
+    requires { All (λ query. is_ended query ≡ true) world.queries }
+{
+    let Ok(endings) = world.finish() else {
+        return Err("memory".into());
+    };
+    let ends = Ends {
+        so: are_ended_so(&endings, expected),
+        failed: first_failed(&endings),
+    };
+    drop(endings);
+    Ok(ends)
 }
