@@ -90,6 +90,11 @@ pub if_ran : {A E : Type 0} (r : Result A E) (P Q : A → Type 0) (R : Type 0) �
 if_ran (Ok x) P Q R h k f = f x h k
 if_ran (Err e) P Q R h k f = tt
 
+-- what holds in any case
+pub holds_so : {A E : Type 0} (r : Result A E) (P : Type 0) → P → OnOk r P
+holds_so (Ok x) P h = h
+holds_so (Err e) P h = tt
+
 -- what the shelf counted
 pub run_moves : (lists : List ℕ → Option (List Row)) (catalog : List Entry) (W : ℕ
     → Type 0) (before mid after : Counted) (openings : List Opening) (s : Sources) (back : List Used) → AreOpened lists catalog W before mid openings s

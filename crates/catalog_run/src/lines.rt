@@ -112,9 +112,9 @@ fn open_and_run<W: Threads + Wait + Sync, H: Shelf>(
         (map (λ line. line.now) lines.now) outcomes.items) }
     ensures writable { IfOk result (λ outcomes. All CanBeWritten outcomes.items) }
 {
-    if open_wanted(alloc, shelf, catalog, marks, opened, sources).is_err() {
+    let Ok(()) = open_wanted(alloc, shelf, catalog, marks, opened, sources) else {
         return Err(Memory);
-    }
+    };
     run_opened(rt, alloc, catalog, opened, sources, lines, settings)
 }
 

@@ -1,6 +1,6 @@
 //! The outcomes of lines from what they came to before they ran and how their queries ended.
 
-ghost use Rattle.std.specs.Prelude.{◌<◌, ◌∷◌, List, IfOk, length, reverse};
+ghost use Rattle.std.specs.Prelude.{◌≡◌, ◌<◌, ◌++◌, ◌∷◌, [], List, IfOk, OnOk, length, reverse};
 ghost use Rattle.catalog_admission.specs.declared.admissions.Stage.{Stage as AnyStage};
 ghost use Rattle.catalog_admission.specs.declared.admissions.Stage.TheVariants as stage;
 ghost use Rattle.catalog_run.specs.Merging.{Fit, Merges, Nexts};
@@ -17,27 +17,62 @@ use std::alloc::Global;
 /// The outcomes of lines in their order: what refused a line before it ran, and how the queries ended that were ready, in theirs.
 pub(crate) fn merge(
     alloc: Global,
-    admissions: Admissions,
+    mut admissions: Admissions,
     mut endings: Vec<Ended>,
 ) -> Result<Vec<LineOutcome>, Memory>
     requires { Fit admissions.stages.items admissions.readies.items endings.items }
     ensures { IfOk result (λ outcomes. Merges admissions.stages.items admissions.readies.items endings.items outcomes.items) }
 {
-    let Admissions {
-        mut stages,
-        mut readies,
-    } = admissions;
+    let mut outcomes = Vec::new(alloc);
+    let merged = merge_into(
+        &mut admissions.stages,
+        &mut admissions.readies,
+        &mut endings,
+        &mut outcomes,
+    );
+    drop(admissions);
+    drop(endings);
+    match merged {
+        Ok(()) => Ok(outcomes),
+        Err(_) => {
+            drop(outcomes);
+            Err(Memory)
+        }
+    }
+}
+
+/// Puts the outcomes of lines into an empty list, in their order; the lines, the queries and their endings are taken out of theirs.
+fn merge_into(
+    stages: &mut Vec<Stage>,
+    readies: &mut Vec<Ready>,
+    endings: &mut Vec<Ended>,
+    outcomes: &mut Vec<LineOutcome>,
+) -> Result<(), Memory>
+    requires fit { Fit stages.old.items readies.old.items endings.old.items }
+    requires none { outcomes.old.items ≡ [] }
+    ensures { OnOk result (Merges stages.old.items readies.old.items endings.old.items outcomes.new.items) }
+{
     stages.reverse();
     readies.reverse();
     endings.reverse();
-    let mut outcomes = Vec::new(alloc);
     while let Some(stage) = stages.pop() {
-        let outcome = next_outcome(stage, &mut readies, &mut endings)?;
-        let Ok(()) = outcomes.push(outcome) else {
-            return Err(Memory);
-        };
+        let outcome = next_outcome(stage, readies, endings)?;
+        put_outcome(outcomes, outcome)?;
     }
-    Ok(outcomes)
+    Ok(())
+}
+
+/// Puts an outcome behind the others.
+fn put_outcome(outcomes: &mut Vec<LineOutcome>, outcome: LineOutcome) -> Result<(), Memory>
+    ensures { OnOk result (outcomes.new.items ≡ outcomes.old.items ++ outcome ∷ []) }
+{
+    match outcomes.push(outcome) {
+        Ok(()) => Ok(()),
+        Err(refused) => {
+            drop(refused);
+            Err(Memory)
+        }
+    }
 }
 
 /// The outcome of a line that came to this before it ran; the queries that were ready, and how they ended, stand in the opposite

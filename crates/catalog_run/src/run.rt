@@ -43,6 +43,7 @@ pub(crate) fn run_admitted<W: Threads + Wait + Sync, S: Source>(
     ensures writable { IfOk result (λ outcomes. All CanBeWritten outcomes.items) }
 {
     let Ok(batch) = run_queries(rt, alloc, counts, sources, &admissions.readies, settings) else {
+        drop(admissions);
         return Err(Memory);
     };
     merge(alloc, admissions, batch.into_endings())

@@ -6,13 +6,11 @@ ghost use Rattle.query_turns.specs.Made.{IsReadyFor};
 use super::trials::{TRIALS, Trial};
 use limits::MAX_OBJECTS;
 use query_core::Ready;
-use query_support::{are_small, readies_of};
-use query_turns::{Ended, Endings};
+use query_support::{are_small, let_go, readies_of};
 use query_world::World;
-use source_state::LookFault;
 use std::alloc::Global;
 use std::test::Fail;
-use world_support::{Act, are_ended_so, ends_of, take_act, world_of};
+use world_support::{Act, Ends, ends_of, let_world_go, take_act, world_of};
 
 /// What comes of an order, which has for each step the place of its act among those of the trial.
 enum Outcome {
@@ -102,19 +100,6 @@ fn failed_after_turn(trial: &Trial, order: &[u8], source: u8) -> bool {
     false
 }
 
-/// Whether the first query is refused because a call failed, which did after one of its turns.
-fn is_refused_late(trial: &Trial, order: &[u8], endings: &Endings) -> bool {
-    match endings.get(0) {
-        Some(
-            Ended::Look {
-                list,
-                fault: LookFault::Failed,
-            },
-        ) => failed_after_turn(trial, order, *list),
-        _ => false,
-    }
-}
-
 /// What comes of an order that took so many steps of a world.
 fn outcome_of(
     alloc: Global,
@@ -124,21 +109,29 @@ fn outcome_of(
     taken: usize,
 ) -> Result<Outcome, Fail> {
     if taken == 0 || order.get(taken).is_some_and(|place| *place > 0) {
-        drop(world);
+        let_world_go(world);
         return Ok(if taken == 0 {
             Outcome::Past
         } else {
             Outcome::Unlawful
         });
     }
-    let endings = ends_of(alloc, world, &trial.sources, 1)?;
-    let alike = are_ended_so(&endings, trial.ends) || is_refused_late(trial, order, &endings);
-    drop(endings);
-    Ok(if alike {
+    let ends = ends_of(alloc, world, &trial.sources, 1, trial.ends)?;
+    Ok(outcome_by(ends, trial, order))
+}
+
+/// What comes of an order after which the queries ended so: where they ended otherwise than they are to, the first query may be refused
+/// because a call failed after one of its turns.
+fn outcome_by(ends: Ends, trial: &Trial, order: &[u8]) -> Outcome {
+    let late = match ends.failed {
+        Some(list) => failed_after_turn(trial, order, list),
+        None => false,
+    };
+    if ends.so || late {
         Outcome::Alike
     } else {
         Outcome::Otherwise
-    })
+    }
 }
 
 /// Tries an order, and makes the next one of it.
@@ -161,7 +154,7 @@ fn try_order(
             Ok(outcome)
         }
         Err(fault) => {
-            drop(world);
+            let_world_go(world);
             Err(fault)
         }
     }
@@ -195,12 +188,12 @@ fn try_orders(
 fn is_alike(alloc: Global, trial: &Trial) -> Result<bool, Fail> {
     let readies = readies_of(alloc, trial.counts, trial.asked)?;
     if !are_small(trial.counts) || trial.counts.len() > 100 || readies.len() > 100 {
-        drop(readies);
+        let_go(readies);
         return Err("a few small sources".into());
     }
     let mut order: [u8; 8] = [0; 8];
     let counted = try_orders(alloc, trial, &readies, &mut order);
-    drop(readies);
+    let_go(readies);
     Ok(counted? == Some(trial.orders))
 }
 

@@ -45,6 +45,8 @@ const PAGES: Trial = Trial {
 
 /// Two queries that share both sources.
 const SHARED: Trial = Trial {
+    sources: THREE,
+    counts: &[3, 3],
     asked: &[FIRST, SORTED],
     acts: &[
         Act::Turn(0),
@@ -58,11 +60,13 @@ const SHARED: Trial = Trial {
     steps: 6,
     orders: 3_791,
     ends: &[FIRST_ENDS, SORTED_ENDS],
-    ..PAGES
 };
 
 /// Calls that fail, also between a want and its page.
 const FAILS: Trial = Trial {
+    sources: THREE,
+    counts: &[3, 3],
+    asked: &[FIRST],
     acts: &[
         Act::Turn(0),
         Act::Fail(0),
@@ -75,14 +79,16 @@ const FAILS: Trial = Trial {
     ],
     steps: 5,
     orders: 3_065,
-    ..PAGES
+    ends: &[FIRST_ENDS],
 };
 
 /// A row out of order, which one of two queries needs.
 const OUT_OF_ORDER: Trial = Trial {
     sources: Sources {
         lists: &[&[(1, 500), (2, 600)], &[(1, 400), (2, 300)]],
-        ..THREE
+        grades: &[],
+        page: 1,
+        fails: None,
     },
     counts: &[2, 2],
     asked: &[FIRST, ("top 2 by sum(A,B) using ta", &[0, 1])],
@@ -121,7 +127,9 @@ const OUT_OF_ORDER: Trial = Trial {
 const MISSING: Trial = Trial {
     sources: Sources {
         lists: &[&[(1, 9), (2, 8)], &[(3, 7), (1, 6)]],
-        ..THREE
+        grades: &[],
+        page: 1,
+        fails: None,
     },
     counts: &[2, 2],
     asked: &[FIRST],

@@ -1,8 +1,28 @@
-use Rattle.std.proofs.Common.{◌≡◌, Contains, length, map, reverse, subst}
+use Rattle.std.proofs.Common.{◌≡◌, ◌∙◌, [], Contains, length, map, refl, reverse, subst}
 use Rattle.catalog_open.specs.Openings.{AreOpened, KeepsOthers, PutsBack, put_back}
 use Rattle.catalog_open.specs.Entries.{IsMarked}
+use Rattle.catalog_open.proofs.Moving.{moves_none}
 use Rattle.catalog_run.proofs.Whole.{if_ran, is_run, run_moves, run_others}
 use Rattle.catalog_run.proofs.lines.run_lines.Goals as goal
+
+pub returns-in_default : goal.returns-in_default
+returns-in_default g c = record {
+  texts = λ place. refl;
+  lists = λ place. refl;
+  others = λ place apart. refl;
+  moves = ([], moves_none (g.H.Shelf.at c.args.shelf.now));
+  run = tt;
+  writable = tt;
+}
+
+pub returns-clause-texts : goal.returns-clause-texts
+returns-clause-texts g c = λ place. c.put_back_all.ensures.texts place ∙ c.open_and_run-result.ensures.texts place
+
+pub returns-clause-lists : goal.returns-clause-lists
+returns-clause-lists g c = λ place. c.put_back_all.ensures.lists place ∙ c.open_and_run-result.ensures.lists place
+
+pub returns-clause-writable : goal.returns-clause-writable
+returns-clause-writable g c = c.open_and_run-result.ensures.writable
 
 pub returns-clause-others : goal.returns-clause-others
 returns-clause-others g c =

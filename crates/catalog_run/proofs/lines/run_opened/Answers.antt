@@ -1,9 +1,11 @@
-use Rattle.std.proofs.Common.{rules, All, map, sym, subst}
+use Rattle.std.proofs.Common.{rules, All, map, refl, sym, subst}
 use Rattle.query_turns.specs.Made.{IsReadyFor}
 use Rattle.catalog_admission.specs.Admissions.{AreAdmitted}
 use Rattle.catalog_admission.specs.Views.{view_over, nothing_told}
 use Rattle.catalog_open.specs.Entries.{IsMarked}
+use Rattle.catalog_run.specs.Runs.{RanOver}
 use Rattle.catalog_run.proofs.Readies.{all_ready}
+use Rattle.catalog_run.proofs.Running.{if_then}
 use Rattle.catalog_run.proofs.lines.run_opened.Goals as goal
 
 pub run_admitted-requires-clause-ready : goal.run_admitted-requires-clause-ready
@@ -15,3 +17,20 @@ run_admitted-requires-clause-ready g c =
     (all_ready o.0 nothing_told c.args.catalog.now (IsMarked o.1) o.2 o.3 c.args.opened.now.openings.items _ o.4 1 _ stages readies
     (subst (λ os. AreAdmitted (view_over c.args.catalog.now os nothing_told) 1 (map (λ line. line.now) c.args.lines.now) stages readies) c.deref.ensures.value c.in-Ok.ensures)) in
     search rules
+
+pub returns-in_default : goal.returns-in_default
+returns-in_default g c = record { many = refl; lists = refl; ran = tt; writable = tt }
+
+pub returns : goal.returns
+returns g c =
+    let openings = c.args.opened.now.openings.items in
+    let lines = map (λ line. line.now) c.args.lines.now in
+    let are = subst (λ os. AreAdmitted (view_over c.args.catalog.now os nothing_told) 1 (map (λ line. line.now) c.args.lines.now) c.in-Ok.admissions.stages.items c.in-Ok.admissions.readies.items) c.deref.ensures.value c.in-Ok.ensures in
+    record {
+      many = c.run_admitted.ensures.many;
+      lists = c.run_admitted.ensures.lists;
+      ran = if_then c.run_admitted.result _ _ c.run_admitted.ensures.ran
+          (λ outcomes ran. subst (λ cs. RanOver c.args.settings (record { told = map g.S.Source.list c.args.sources.now.items; places = c.args.opened.now.places.items; counts = cs }) (map g.S.Source.counts c.args.sources.now.items) (map g.S.Source.counts c.run_admitted.new.sources.items) (view_over c.args.catalog.now openings nothing_told) lines outcomes.items) c.deref-2.ensures.value
+          (ran (view_over c.args.catalog.now openings nothing_told) lines c.args.opened.now.places.items are));
+      writable = c.run_admitted.ensures.writable;
+    }

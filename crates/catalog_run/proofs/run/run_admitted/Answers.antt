@@ -32,3 +32,12 @@ run_queries-requires-clause-few_queries g c =
     let few = readies_few a.0 1 a.1 c.args.admissions.stages.items c.args.admissions.readies.items a.2 in
     let same = ap length c.deref.ensures.value in
     omega (arith, few, same)
+
+pub returns-in_default : goal.returns-in_default
+returns-in_default g c = record { many = c.run_queries.ensures.many; lists = c.run_queries.ensures.lists; ran = tt; writable = tt }
+
+pub returns-clause-many : goal.returns-clause-many
+returns-clause-many g c = c.run_queries.ensures.many
+
+pub returns-clause-lists : goal.returns-clause-lists
+returns-clause-lists g c = c.run_queries.ensures.lists
