@@ -4,7 +4,7 @@ use Rattle.tk_io.specs.Faults.{Rose}
 use Rattle.ranked_list.specs.declared.row.Row.{Row}
 use Rattle.ranked_list.specs.Table.{IsTable}
 use Rattle.topk_theory.specs.Transcript.{list_at}
-use Rattle.access_log.specs.declared.core_fault.CoreFault.TheVariants.{Strangers, RoomFull}
+use Rattle.access_log.specs.declared.core_fault.CoreFault.TheVariants.{RoomFull}
 use Rattle.source_api.specs.declared.counts.Counts.{Counts}
 use Rattle.query_core.specs.declared.ready.Ready.{Ready}
 use Rattle.query_core.specs.Driving.{AnswersOver}
@@ -33,5 +33,4 @@ pub record TellsTables (run : BatchRun) (lists : List (List Row)) : Type 0 where
 abbrev pub EndsOver : List (List Row) → Ready → Ended → Type 0
 EndsOver D ready (ended.Answered answer) = AnswersOver ready D answer
 EndsOver D ready (ended.Core (RoomFull room)) = IsOverRoom ready.query ready.count D room
-EndsOver D ready (ended.Core (Strangers object count)) = ⊥
-EndsOver D ready (ended.Look list fault) = ⊥
+EndsOver _ _ _ = ⊥

@@ -5,8 +5,8 @@ use Rattle.tk_io.specs.Faults.{Rose}
 use Rattle.tk_io.specs.Whole.{TookFront}
 use Rattle.call_ends.specs.Calls.{Call, Output, LeftAlone, ReadSome, ReadWhole, ReadFailed, ReadLong, WroteNothing, WroteWhole, WroteFront}
 use Rattle.call_ends.specs.declared.status.Status.{Status}
-use Rattle.call_ends.specs.declared.status.Status.TheVariants.{Done, Partial, BadWords, BadCatalog, BadInput, LongInput, Memory}
-use Rattle.call_ends.specs.declared.status.Status.TheVariants.{ReadFault, WriteFault, OpenFault, PortFault}
+use Rattle.call_ends.specs.declared.status.Status.TheVariants.{Done, Partial, BadInput, LongInput, Memory}
+use Rattle.call_ends.specs.declared.status.Status.TheVariants.{ReadFault, WriteFault}
 
 -- what a command replies to the bytes of its input: the status and the text
 abbrev pub Replying : Type 1
@@ -25,24 +25,14 @@ EndsReading replies c WriteFault = (bytes : List ℕ) × (status : Status) × (t
 EndsReading replies c ReadFault = ReadFailed c × WroteNothing c
 EndsReading replies c LongInput = ReadLong c × WroteNothing c
 EndsReading replies c Memory = ReadSome c × WroteNothing c
-EndsReading replies c BadWords = ⊥
-EndsReading replies c BadCatalog = ⊥
-EndsReading replies c OpenFault = ⊥
-EndsReading replies c PortFault = ⊥
+EndsReading _ _ _ = ⊥
 
 -- how a command ends that writes a text and leaves its input as it was
 abbrev pub EndsWriting : List ℕ → Call → Status → Type 0
 EndsWriting text c Done = LeftAlone c × WroteWhole c text
 EndsWriting text c WriteFault = LeftAlone c × WroteFront c text
 EndsWriting text c Memory = LeftAlone c × WroteNothing c
-EndsWriting text c Partial = ⊥
-EndsWriting text c BadWords = ⊥
-EndsWriting text c BadCatalog = ⊥
-EndsWriting text c ReadFault = ⊥
-EndsWriting text c OpenFault = ⊥
-EndsWriting text c PortFault = ⊥
-EndsWriting text c LongInput = ⊥
-EndsWriting text c BadInput = ⊥
+EndsWriting _ _ _ = ⊥
 
 -- a text was written whole with its status, or a front of it with a write fault
 abbrev pub Says : Output → Output → List ℕ → Status → Status → Type 0

@@ -11,10 +11,8 @@ use Rattle.catalog_admission.specs.Views.{line_over}
 -- each of some lines, numbered from this number on, is refused, or its query is ready: the next of these
 abbrev pub AreAdmitted : View → ℕ → List (List ℕ) → List Stage → List ReadyQuery → Type 0
 AreAdmitted view number [] [] readies = readies ≡ []
-AreAdmitted view number [] (stage ∷ stages) readies = ⊥
-AreAdmitted view number (bytes ∷ lines) [] readies = ⊥
 AreAdmitted view number (bytes ∷ lines) (Refused refusal query ∷ stages) readies =
     RefusesLine admission_causes (line_over view number bytes) refusal query × AreAdmitted view (number + 1) lines stages readies
-AreAdmitted view number (bytes ∷ lines) (Ready ∷ stages) [] = ⊥
 AreAdmitted view number (bytes ∷ lines) (Ready ∷ stages) (ready ∷ readies) =
     IsAdmitted (line_over view number bytes) ready × AreAdmitted view (number + 1) lines stages readies
+AreAdmitted _ _ _ _ _ = ⊥

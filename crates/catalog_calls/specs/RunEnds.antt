@@ -10,8 +10,8 @@ use Rattle.call_ends.specs.Shelves.{Shelf, AsksText, GivesText, TextFailed}
 use Rattle.catalog_calls.specs.Taking.{TakesSources}
 use Rattle.catalog_calls.specs.Running.{RefusesCatalog, RepliesToLines}
 use Rattle.call_ends.specs.declared.status.Status.{Status}
-use Rattle.call_ends.specs.declared.status.Status.TheVariants.{Done, Partial, BadWords, BadCatalog, BadInput, LongInput, Memory}
-use Rattle.call_ends.specs.declared.status.Status.TheVariants.{ReadFault, WriteFault, OpenFault, PortFault}
+use Rattle.call_ends.specs.declared.status.Status.TheVariants.{Done, Partial, BadCatalog, LongInput, Memory}
+use Rattle.call_ends.specs.declared.status.Status.TheVariants.{ReadFault, WriteFault, OpenFault}
 
 -- the text is no catalog, and this is said; no source was taken, and the input wasn't read
 pub record CatalogRefused (text : List ℕ) (c : Call) (said : List ℕ) : Type 0 where
@@ -53,10 +53,7 @@ RunsOverCatalog s text c WriteFault =
 RunsOverCatalog s text c ReadFault = CatalogStands text c × ReadFailed c × WroteNothing c
 RunsOverCatalog s text c LongInput = CatalogStands text c × ReadLong c × WroteNothing c
 RunsOverCatalog s text c Memory = WantsMemory text c × WroteNothing c
-RunsOverCatalog s text c BadWords = ⊥
-RunsOverCatalog s text c OpenFault = ⊥
-RunsOverCatalog s text c PortFault = ⊥
-RunsOverCatalog s text c BadInput = ⊥
+RunsOverCatalog _ _ _ _ = ⊥
 
 -- what is left of a call from the moment on at which the shelf stood so
 abbrev pub from_shelf : Shelf → Call → Call
@@ -77,6 +74,4 @@ EndsRunning o c ReadFault = RunsOn o c ReadFault
 EndsRunning o c LongInput = RunsOn o c LongInput
 EndsRunning o c OpenFault = TextFailed o.catalog c.before.shelf c.after.shelf × LeftAlone c × WroteNothing c
 EndsRunning o c Memory = (AsksText o.catalog c.before.shelf c.after.shelf × LeftAlone c × WroteNothing c) ⊎ RunsOn o c Memory
-EndsRunning o c BadWords = ⊥
-EndsRunning o c PortFault = ⊥
-EndsRunning o c BadInput = ⊥
+EndsRunning _ _ _ = ⊥

@@ -79,10 +79,7 @@ pub record IsAboveFront (rows : List Row) (object grade bottom : ℕ) : Type 0 w
 abbrev pub IsFaultOfGrade : List Row → ℕ → SourceFault → Type 0
 IsFaultOfGrade rows object (Clash other sorted random) = (other ≡ object) × Contains rows (record { object = object; grade = sorted }) × (sorted ≢ random)
 IsFaultOfGrade rows object (Above other grade bottom) = (other ≡ object) × IsAboveFront rows object grade bottom
-IsFaultOfGrade rows object (OutOfOrder place above below) = ⊥
-IsFaultOfGrade rows object (TooHigh place grade) = ⊥
-IsFaultOfGrade rows object (Repeated other place) = ⊥
-IsFaultOfGrade rows object (ShortList stated got) = ⊥
+IsFaultOfGrade _ _ _ = ⊥
 
 -- a log comes of the rows that a source of `count` stated rows gave: it keeps the first ones, and all of them unless a row fault stands;
 -- a row fault and each bad grade have their cause

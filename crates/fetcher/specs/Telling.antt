@@ -8,7 +8,7 @@ use Rattle.source_log.specs.declared.entry.LogEntry.{LogEntry}
 use Rattle.source_log.specs.declared.entry.Settling.{Settling}
 use Rattle.source_log.specs.declared.entry.Settling.TheVariants.{Graded, Bad, Missed}
 use Rattle.source_log.specs.declared.entry.SourceFault.{SourceFault}
-use Rattle.source_log.specs.declared.entry.SourceFault.TheVariants.{OutOfOrder, TooHigh, Repeated, Clash, Above, ShortList}
+use Rattle.source_log.specs.declared.entry.SourceFault.TheVariants.{Above}
 use Rattle.source_log.specs.Log.{rows_in, settling_in, fault_in}
 use Rattle.fetcher.specs.Causes.{IsAboveFront, IsFaultOf}
 
@@ -16,11 +16,7 @@ use Rattle.fetcher.specs.Causes.{IsAboveFront, IsFaultOf}
 abbrev pub IsGradeAtFault : List Row → ℕ → SourceFault → Type 0
 IsGradeAtFault list object (Above other grade bottom) =
     (other ≡ object) × Contains list (record { object = object; grade = grade }) × IsAboveFront list object grade bottom
-IsGradeAtFault list object (Clash other sorted random) = ⊥
-IsGradeAtFault list object (OutOfOrder place above below) = ⊥
-IsGradeAtFault list object (TooHigh place grade) = ⊥
-IsGradeAtFault list object (Repeated other place) = ⊥
-IsGradeAtFault list object (ShortList stated got) = ⊥
+IsGradeAtFault _ _ _ = ⊥
 
 -- what an object settled as is true of the list: a grade is the list's, and the list hasn't an object that was missed
 abbrev pub IsTrueSettling : List Row → ℕ → Settling → Type 0

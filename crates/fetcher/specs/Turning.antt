@@ -175,9 +175,8 @@ failed_by trouble.Memory = turned.Memory
 
 -- an event that comes of the source, and not of a query
 abbrev pub IsOfSource : Event → Type 0
-IsOfSource (event.Want depth) = ⊥
-IsOfSource (event.Ask object) = ⊥
 IsOfSource (event.Page rows) = Unit {0}
 IsOfSource (event.Grade object grade) = Unit {0}
 IsOfSource (event.Miss object) = Unit {0}
 IsOfSource (event.Fail what) = Unit {0}
+IsOfSource _ = ⊥

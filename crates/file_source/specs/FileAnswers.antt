@@ -21,8 +21,7 @@ abbrev pub AnswersGrade : List (Option Row) → ℕ → Result (Option ℕ) Trou
 AnswersGrade records object (Ok (Some grade)) = first_grade (rows_among records) object ≡ Some grade
 AnswersGrade records object (Ok None) = (first_grade (rows_among records) object ≡ None) × ¬ Contains records None
 AnswersGrade records object (Err Garbled) = (first_grade (rows_among records) object ≡ None) × Contains records None
-AnswersGrade records object (Err Failed) = ⊥
-AnswersGrade records object (Err Memory) = ⊥
+AnswersGrade _ _ _ = ⊥
 
 -- after a call for a page that ended so
 abbrev pub after_page : Result (Vec Row) Trouble → Filed → Filed

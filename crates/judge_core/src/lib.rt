@@ -1,5 +1,5 @@
-//! Whether a transcript fixes an answer, on every table that agrees with it; and where it doesn't, a table on
-//! which another object beats the answer.
+//! Whether a transcript fixes an answer, on every table that agrees with it; and where it does not, two objects of which one beats the
+//! other on a table that agrees.
 #![tactic(auto)]
 
 mod bound;

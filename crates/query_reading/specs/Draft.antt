@@ -128,9 +128,8 @@ pub record Takes (stage : Stage) (old new : Draft) (word : List ℕ) : Type 0 wh
 
 -- the piece is a number out of its range
 abbrev pub IsOutside : Piece → Type 0
-IsOutside (Piece.fixed text) = ⊥
 IsOutside (Piece.number least most digits) = is_number digits ≡ true → IsInRange (Piece.number least most digits) → ⊥
-IsOutside (Piece.name text) = ⊥
+IsOutside _ = ⊥
 
 -- why a draft doesn't take a word
 abbrev pub Misses : Stage → Draft → List ℕ → ℕ → QueryFault → Type 0

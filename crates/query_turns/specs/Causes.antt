@@ -48,6 +48,7 @@ pub record IsUnasked (s : State) (object kept : ℕ) : Type 0 where
   pub all : kept ≡ s.count
   pub absent : ¬ Contains s.asks object
 
+-- the need is a grade, and the source can't be asked for its object any more
 abbrev pub AreAsksFull : State → Need → ℕ → Type 0
 AreAsksFull s (Grade list object) kept = IsUnasked s object kept
 AreAsksFull _ _ _ = ⊥

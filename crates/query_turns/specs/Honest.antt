@@ -5,7 +5,7 @@ use Rattle.ranked_list.specs.Table.{IsTable, objects}
 use Rattle.topk_theory.specs.Transcript.{Begins, list_at}
 use Rattle.access_log.specs.Log.{AgreesWith}
 use Rattle.access_log.specs.Machine.{asked_of}
-use Rattle.access_log.specs.declared.core_fault.CoreFault.TheVariants.{Strangers, RoomFull}
+use Rattle.access_log.specs.declared.core_fault.CoreFault.TheVariants.{RoomFull}
 use Rattle.source_log.specs.declared.entry.Settling.{Settling}
 use Rattle.source_log.specs.declared.entry.Settling.TheVariants.{Graded}
 use Rattle.source_state.specs.declared.look.LookFault.TheVariants as why
@@ -50,15 +50,12 @@ pub record IsTrueFor (lists : List (List Row)) (states : List State) (q : Inquir
 -- why a query over its own table may be refused: its room is less than the count and than the objects that its run sees, or a call failed
 abbrev pub MayRefuse : List (List Row) → Inquiry → Option Refusal → Type 0
 MayRefuse D q None = Unit {0}
-MayRefuse D q (Some (Core (Strangers object count))) = ⊥
 MayRefuse D q (Some (Core (RoomFull room))) =
     (room < (state_of q.machine).log.count) × (room < length (run_sees (algorithm_of q.machine) D (state_of q.machine)))
-MayRefuse D q (Some (Look list (why.Source fault))) = ⊥
-MayRefuse D q (Some (Look list (why.Missing object))) = ⊥
-MayRefuse D q (Some (Look list (why.AsksFull kept))) = ⊥
 MayRefuse D q (Some (Look list why.Failed)) = Unit {0}
 MayRefuse D q (Some (Look list why.Garbled)) = Unit {0}
 MayRefuse D q (Some (Look list why.Memory)) = Unit {0}
+MayRefuse _ _ _ = ⊥
 
 -- the lists of a query agree with its transcript, which is how its run on its own table begins, and it is refused for its room or for a
 -- fail alone

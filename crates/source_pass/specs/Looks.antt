@@ -38,10 +38,10 @@ pub record IsLeftOut (known : Known LogEntry) (object : ℕ) : Type 0 where
   pub all : length known.met ≡ known.name.1
   pub absent : ¬ Contains known.met object
 
+-- the need is a grade that the source can't be asked for any more
 abbrev pub HasNoRoom : Known LogEntry → Need → Type 0
-HasNoRoom known (need.Row list depth) = ⊥
 HasNoRoom known (need.Grade list object) = IsLeftOut known object
-HasNoRoom known need.Done = ⊥
+HasNoRoom _ _ = ⊥
 
 -- the first kind of fail of which the pass now knows more than it noted, where it waited for the need
 abbrev pub told_of : Need → Hold → Hold → Option FailKind

@@ -22,8 +22,8 @@ use Rattle.call_ends.specs.Shelves.{Shelf, TextFailed}
 use Rattle.catalog_calls.specs.Running.{RefusesCatalog, RepliesToLines, outcomes_text, lines_run, run_status, settings_by}
 use Rattle.topk_top.specs.Ends.{CallEnds}
 use Rattle.call_ends.specs.declared.status.Status.{Status}
-use Rattle.call_ends.specs.declared.status.Status.TheVariants.{Done, Partial, BadWords, BadCatalog, BadInput, LongInput, Memory}
-use Rattle.call_ends.specs.declared.status.Status.TheVariants.{ReadFault, WriteFault, OpenFault, PortFault}
+use Rattle.call_ends.specs.declared.status.Status.TheVariants.{BadCatalog, Memory}
+use Rattle.call_ends.specs.declared.status.Status.TheVariants.{WriteFault, OpenFault}
 
 -- the words are those of this run, and the shelf tells this text of its catalog's place
 pub record TellsCatalog (o : RunOptions) (c : Call) (text : List ℕ) : Type 0 where
@@ -36,13 +36,7 @@ TurnsAway text o c BadCatalog = (said : List ℕ) × RefusesCatalog text said ×
 TurnsAway text o c OpenFault = TextFailed o.catalog c.before.shelf c.after.shelf
 TurnsAway text o c WriteFault = Rose c.before.output.faults c.after.output.faults
 TurnsAway text o c Memory = Unit {0}
-TurnsAway text o c Done = ⊥
-TurnsAway text o c Partial = ⊥
-TurnsAway text o c BadWords = ⊥
-TurnsAway text o c ReadFault = ⊥
-TurnsAway text o c PortFault = ⊥
-TurnsAway text o c LongInput = ⊥
-TurnsAway text o c BadInput = ⊥
+TurnsAway _ _ _ _ = ⊥
 
 -- a told text that is no catalog is refused
 abbrev pub WrongCatalogsAreRefused : Type 0

@@ -42,19 +42,17 @@ IsOfKind m n A access above_top = top_grade < grade_of access
 IsOfKind m n A access too_many_objects = (n ≤ length (named_objects A)) × (¬ Contains (named_objects A) (object_of access))
 -- the grade is above the last one that the list gave
 IsOfKind m n A (Sorted list object grade) rises = bottom_of list A < grade
-IsOfKind m n A (Random list object grade) rises = ⊥
 -- the list gave the object before
 IsOfKind m n A (Sorted list object grade) repeats = Contains (objects (sorted_rows list A)) object
-IsOfKind m n A (Random list object grade) repeats = ⊥
 -- the object is known to have another grade in the list
 IsOfKind m n A (Sorted list object grade) clashes = HasOther (random_rows list A) object grade
 IsOfKind m n A (Random list object grade) clashes = HasOther (given_rows list A) object grade
 -- an object that the list hasn't given yet is known to have a greater grade there
 IsOfKind m n A (Sorted list object grade) falls_short = HasAbove (random_rows list A) (sorted_rows list A) object grade
-IsOfKind m n A (Random list object grade) falls_short = ⊥
 -- the list hasn't given the object, and the grade is above its bottom
-IsOfKind m n A (Sorted list object grade) above_bottom = ⊥
 IsOfKind m n A (Random list object grade) above_bottom = (¬ Contains (objects (sorted_rows list A)) object) × (bottom_of list A < grade)
+-- an access of the other way is none of these
+IsOfKind _ _ _ _ _ = ⊥
 
 -- the first kind that holds
 pub record IsFirstKind (m n : ℕ) (A : List Access) (access : Access) (kind : Kind) : Type 0 where

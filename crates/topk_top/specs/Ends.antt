@@ -11,8 +11,8 @@ use Rattle.bundle_calls.specs.Made.{made_text}
 use Rattle.bundle_calls.specs.Reply.{Replies}
 use Rattle.bundle_calls.specs.Judge.{JudgeReplies}
 use Rattle.call_ends.specs.declared.status.Status.{Status}
-use Rattle.call_ends.specs.declared.status.Status.TheVariants.{Done, Partial, BadWords, BadCatalog, BadInput, LongInput, Memory}
-use Rattle.call_ends.specs.declared.status.Status.TheVariants.{ReadFault, WriteFault, OpenFault, PortFault}
+use Rattle.call_ends.specs.declared.status.Status.TheVariants.{BadWords, Memory}
+use Rattle.call_ends.specs.declared.status.Status.TheVariants.{WriteFault}
 use Rattle.call_ends.specs.Ends.{EndsReading, EndsWriting}
 
 -- `refused words`
@@ -24,14 +24,7 @@ abbrev pub EndsRefused : Call → Status → Type 0
 EndsRefused c BadWords = LeftAlone c × WroteWhole c words_refused_text
 EndsRefused c WriteFault = LeftAlone c × WroteFront c words_refused_text
 EndsRefused c Memory = LeftAlone c × WroteNothing c
-EndsRefused c Done = ⊥
-EndsRefused c Partial = ⊥
-EndsRefused c BadCatalog = ⊥
-EndsRefused c ReadFault = ⊥
-EndsRefused c OpenFault = ⊥
-EndsRefused c PortFault = ⊥
-EndsRefused c LongInput = ⊥
-EndsRefused c BadInput = ⊥
+EndsRefused _ _ = ⊥
 
 -- how each command ends, and words that are none
 abbrev pub CommandEnds : Option Command → Call → Status → Type 0
