@@ -1,15 +1,16 @@
 -- Workers that are hired, and what they leave.
-use Rattle.std.proofs.Common.{◌≡◌, ◌≤◌, ◌<◌, ◌-◌, inl, inr, ℕ, None, List, [], length, All, Contains, slice_index_or, refl, sym, ap, subst, ◌∙◌, arith}
+use Rattle.std.proofs.Common.{◌≡◌, ◌≤◌, ◌<◌, ◌-◌, inl, inr, ℕ, None, List, [], ◌∷◌, ◌++◌, length, All, Contains, slice_index_or, refl, sym, ap, subst, ◌∙◌, arith}
 use Rattle.std.proofs.lemmas.Bool.{cases_lt}
-use Rattle.std.proofs.lemmas.List.{get_or_past}
+use Rattle.std.proofs.lemmas.List.{get_or_append_left, get_or_at, get_or_past, length_push}
 use Rattle.topk_theory.proofs.AgreementLists.{contains_nil}
 use Rattle.atomic_table.specs.Seated.{TableId}
 use Rattle.turn_lock.specs.Known.{all_parts}
 use Rattle.source_pass.specs.declared.hold.Hold.{Hold}
 use Rattle.source_pass.specs.Passes.{no_hold}
-use Rattle.source_locks.specs.Passes.{Feed, hold_at}
+use Rattle.source_pass.specs.Sharing.{kept_hold, new_hold}
+use Rattle.source_locks.specs.Passes.{Feed, hold_at, IsPassOf}
 use Rattle.source_pass.specs.Looks.{IsWithin}
-use Rattle.source_locks.specs.Sharing.{IsOpened}
+use Rattle.source_locks.specs.Sharing.{IsOpened, IsSplit, MaySplit}
 use Rattle.query_core.specs.declared.ready.Ready.{Ready}
 use Rattle.query_turns.specs.Made.{IsReadyFor}
 use Rattle.batch_result.specs.declared.settings.Settings.{Settings}
@@ -101,10 +102,57 @@ hiring_none counts pool holds feeds opened = record {
     high = λ source l. ap (λ (hold : Hold). hold.pass.1.high) (opened.held source l);
     asked = λ source l. ap (λ (hold : Hold). hold.pass.1.asked) (opened.held source l);
     mine = λ source l. ap (λ (hold : Hold). hold.pass.1.mine) (opened.held source l);
-    gives = λ source l. ap Rattle.source_pass.specs.Sharing.new_hold (opened.held source l);
+    gives = λ source l. ap new_hold (opened.held source l);
   };
   each = λ i d l. absurd (omega (arith, l));
 }
+
+-- one more pass may be split off
+pub may_split : (pool : List TableId) (counts : List ℕ) (holds : List Hold) (workers : List Worker) → length workers < 32
+    → IsHiring pool counts holds workers → MaySplit pool holds
+may_split pool counts holds workers few h = record {
+  parts = λ source l.
+      let size = h.base.size in
+      let parts = h.base.parts source (omega (arith, l, size)) in
+      omega (arith, parts, few);
+}
+
+-- a worker more, with a pass that was split off
+pub hired_more : (pool : List TableId) (counts : List ℕ) (before after : List Hold) (workers now : List Worker) (worker : Worker)
+    → length workers < 32 → now ≡ workers ++ worker ∷ [] → IsPassOf pool after → IsPassOf pool worker.pass → IsSplit pool before after worker.pass
+    → worker.number ≡ length workers → worker.ended.items ≡ [] → IsHiring pool counts before workers → IsHiring pool counts after now
+hired_more pool counts before after workers now worker few push own its split number none h =
+    let within : (source : ℕ) → source < length counts → source < length pool = λ source l. let size = h.base.size in omega (arith, l, size) in
+    let kept : (source : ℕ) → source < length counts → hold_at after source ≡ kept_hold (hold_at before source) = λ source l. split.kept source (within source l) in
+    subst (IsHiring pool counts after) (sym push)
+    (record {
+      base = subst (λ n. IsBase pool counts n after) (sym (length_push workers worker))
+          (record {
+            size = h.base.size;
+            own = own;
+            parts = λ source l.
+                let e : (hold_at after source).pass.1.parts ≡ (hold_at before source).pass.1.parts - 1 = ap (λ (hold : Hold). hold.pass.1.parts) (kept source l) in
+                let was = h.base.parts source l in
+                omega (arith, e, was, few);
+            high = λ source l. ap (λ (hold : Hold). hold.pass.1.high) (kept source l) ∙ h.base.high source l;
+            asked = λ source l. ap (λ (hold : Hold). hold.pass.1.asked) (kept source l) ∙ h.base.asked source l;
+            mine = λ source l. ap (λ (hold : Hold). hold.pass.1.mine) (kept source l) ∙ h.base.mine source l;
+            gives = λ source l. ap new_hold (kept source l) ∙ h.base.gives source l;
+          });
+      each = λ i d l. elim (cases_lt i (length workers)) [
+        | inl front ↦ subst (IsHired pool counts i) (sym (get_or_append_left workers (worker ∷ []) d i front)) (h.each i d front)
+        | inr past ↦
+            let long = length_push workers worker in
+            let here : length workers ≡ i = omega (arith, past, l, long) in
+            subst (IsHired pool counts i) (sym (get_or_at workers worker [] d i here))
+            (record {
+              number_is = number ∙ here;
+              own = its;
+              fresh = λ source s. split.given source (within source s) ∙ h.base.gives source s;
+              none = none;
+            })
+      ];
+    })
 
 -- the workers of a crew that has run
 pub record RanParts (settings : Settings) (counts : List ℕ) (readies : List Ready) (pool : List TableId) (holds : List Hold) (workers : List Worker) : Type 0 where

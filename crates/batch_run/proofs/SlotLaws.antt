@@ -1,11 +1,13 @@
 -- What fetchers did of the slots of a batch.
-use Rattle.std.proofs.Common.{◌≡◌, ◌<◌, ℕ, Option, Some, None, List, length, slice_index, slice_index_or, sym, ap, subst, ◌∙◌, arith}
-use Rattle.std.proofs.lemmas.List.{length-map}
+use Rattle.std.proofs.Common.{◌≡◌, ◌<◌, ◌+◌, inl, inr, ℕ, true, Option, Some, None, is_some, List, [], ◌∷◌, ◌++◌, All, length, slice_index, slice_index_or, sym, ap, subst, ◌∙◌, arith}
+use Rattle.std.proofs.lemmas.Bool.{cases_lt}
+use Rattle.std.proofs.lemmas.List.{get_or_append_left, get_or_at, length-map}
 use Rattle.std.proofs.lemmas.Option.{same_Some}
 use Rattle.ranked_list.specs.declared.row.Row.{Row}
 use Rattle.atomic_table.specs.Seated.{TableId}
 use Rattle.source_api.specs.declared.counts.Counts.{Counts}
 use Rattle.source_api.specs.Counting.{NoneFell}
+use Rattle.source_state.specs.State.{State, state_at}
 use Rattle.source_locks.specs.Passes.{Feed, lock_at, feed_at, IsIdleOf, AreFeedersOf}
 use Rattle.source_locks.specs.Sharing.{first_feed}
 use Rattle.fetcher.specs.declared.slot.Slot.{Slot}
@@ -14,9 +16,15 @@ use Rattle.fetcher.specs.Turning.{Feeds}
 use Rattle.fetcher.specs.Chaining.{moment, IsFetched}
 use Rattle.fetcher.specs.Metering.{IsMetered}
 use Rattle.batch_result.specs.declared.settings.Settings.{Settings}
-use Rattle.batch_slots.specs.Slots.{SlotState, state_of, states_of, slot_at, Fetches, AllFetch, AreLent, AreTakenBack}
-use Rattle.batch_run.specs.Crews.{HasFetched}
+use Rattle.batch_result.specs.declared.batch.Use.{Use}
+use Rattle.batch_result.specs.Batches.{use_at}
+use Rattle.batch_slots.specs.Slots.{SlotState, state_of, states_of, slot_at, HasFeeder, Fetches, AllFetch, AreLent, AreTakenBack}
+use Rattle.batch_run.specs.Crews.{HasFetched, UsedOf}
 use Rattle.batch_result.proofs.Places.{map_at, stands_at}
+
+-- nothing was used
+abbrev no_use : Use
+no_use = record { rows = 0; grades = 0; want = 0; asks = 0 }
 
 -- what one fetcher did, and that its feeder is idle
 record FetchedOne (pool : List TableId) (settings : Settings) (source count : ℕ) (before after : SlotState) (feed : Feed) : Type 0 where
@@ -117,3 +125,48 @@ module _ {S : Type 0} (list : S → Option (List Row)) (counts : S → Counts) w
       let there : source < length lent = let e = given.size in omega (arith, e, l) in
       let then_ : source < length fetched = let e = fetch.size in omega (arith, e, there) in
       ap (λ (s : SlotState). s.told) (back.each source d then_) ∙ ((fetch.each source d there).told ∙ ap (λ (s : SlotState). s.told) (given.each source d l))
+
+  -- the slots have feeders of the pool once all were lent
+  pub all_fed : (pool : List TableId) (feeds : List Feed) (before lent : List (Slot S)) → length feeds ≡ length before → AreFeedersOf pool feeds
+      → AreLent list counts feeds before lent → All (λ (slot : Slot S). HasFeeder pool slot.feeder) lent
+  all_fed pool feeds before lent many own given i d l =
+      let size = given.size in
+      let there : i < length before = omega (arith, l, size) in
+      let long = own.size in
+      let within : i < length pool = omega (arith, there, many, long) in
+      let free = own.each i within in
+      let number = own.sources i within in
+      record {
+        feed = feed_at feeds i;
+        is = ap (λ (s : SlotState). s.feeder) (given.each i d there);
+        idle = record { of = record { source = omega (arith, number, within); own = free.own ∙ ap (lock_at pool) (sym number) }; rests = free.rests };
+      }
+
+  -- and have them once all fetchers have fetched
+  pub all_full : (pool : List TableId) (settings : Settings) (lent fetched : List (Slot S)) → AllFetch list counts pool settings lent fetched
+      → All (λ (slot : Slot S). is_some slot.feeder ≡ true) fetched
+  all_full pool settings lent fetched fetch i d l =
+      let size = fetch.size in
+      let one = fetch.each i d (omega (arith, l, size)) in
+      ap (λ (feeder : Option Feed). is_some feeder) one.has
+
+  -- what was used of the sources before a place, and of the one there
+  pub uses_more : (states : List State) (slots : List (Slot S)) (uses now : List Use) (source : ℕ) (d : Slot S) (used : Use) → length uses ≡ source
+      → source < length slots
+      → ((i : ℕ) → i < source → UsedOf (state_at states i) (slot_at (states_of list counts slots) i).fetched (use_at uses i))
+      → UsedOf (state_at states source) (slice_index_or slots source d).fetched used → now ≡ uses ++ used ∷ []
+      → (i : ℕ) → i < source + 1 → UsedOf (state_at states i) (slot_at (states_of list counts slots) i).fetched (use_at now i)
+  uses_more states slots uses now source d used filled l before one push i m =
+      subst (λ us. UsedOf (state_at states i) (slot_at (states_of list counts slots) i).fetched (use_at us i)) (sym push)
+      (elim (cases_lt i source) [
+        | inl front ↦
+            subst (UsedOf (state_at states i) (slot_at (states_of list counts slots) i).fetched) (sym (get_or_append_left uses (used ∷ []) no_use i (omega (arith, front, filled)))) (before i front)
+        | inr past ↦
+            let here : source ≡ i = omega (arith, past, m) in
+            let fetched : (slice_index_or slots source d).fetched ≡ (slot_at (states_of list counts slots) source).fetched =
+            ap (λ (s : SlotState). s.fetched) (sym (slot_is slots source d l)) in
+            let there : UsedOf (state_at states source) (slot_at (states_of list counts slots) source).fetched (use_at (uses ++ used ∷ []) source) =
+            subst (UsedOf (state_at states source) (slot_at (states_of list counts slots) source).fetched) (sym (get_or_at uses used [] no_use source filled))
+            (subst (λ (f : Fetched). UsedOf (state_at states source) f used) fetched one) in
+            subst (λ n. UsedOf (state_at states n) (slot_at (states_of list counts slots) n).fetched (use_at (uses ++ used ∷ []) n)) here there
+      ])

@@ -108,6 +108,7 @@ impl Crew {
         } = self;
         gather(&mut workers, queries, &mut endings);
         rejoin(&pool, &mut pass, &mut workers);
+        drop(workers);
         let states = pool.close(pass, Feeders::from_vec(feeders));
         use_all(&states, slots, &mut uses);
         drop(states);

@@ -52,20 +52,28 @@ fn hire_next(
     Ok(())
 }
 
-/// So many workers.
-fn hire(alloc: Global, pool: &Pool, pass: &mut PoolPass, count: u32) -> Result<Vec<Worker>, Memory>
+/// So many workers, for whom there is room.
+fn hire(
+    alloc: Global,
+    pool: &Pool,
+    pass: &mut PoolPass,
+    workers: &mut Vec<Worker>,
+    count: u32,
+) -> Result<(), Memory>
     requires few { count ≤ 32 }
-    requires own { (counts : List ℕ) × IsHiring pool.now counts pass.old [] }
-    ensures hired { IfOk result (λ workers. (counts : List ℕ) → IsHiring pool.now counts pass.old [] → IsHiring pool.now counts pass.new workers.items) }
-    ensures size { IfOk result (λ workers. vec_len workers ≡ count) }
+    requires none { workers.old.items ≡ [] }
+    requires room { count ≤ vec_capacity workers.old }
+    requires own { (counts : List ℕ) × IsHiring pool.now counts pass.old workers.old.items }
+    ensures hired { OnOk result ((counts : List ℕ) → IsHiring pool.now counts pass.old workers.old.items
+        → IsHiring pool.now counts pass.new workers.new.items) }
+    ensures size { OnOk result (vec_len workers.new ≡ count) }
 {
-    let Ok(mut workers) = Vec::with_capacity(alloc, count as usize) else {
-        return Err(Memory);
-    };
     for number in 0..count {
-        hire_next(alloc, pool, pass, &mut workers, number)?;
+        let Ok(()) = hire_next(alloc, pool, pass, workers, number) else {
+            return Err(Memory);
+        };
     }
-    Ok(workers)
+    Ok(())
 }
 
 impl Crew {
@@ -85,19 +93,36 @@ impl Crew {
             return Err(Memory);
         };
         let Ok(uses) = Vec::with_capacity(alloc, counts.len()) else {
+            drop(endings);
             return Err(Memory);
         };
-        let Ok((pool, mut pass, feeders)) = Pool::open(alloc, counts) else {
+        let Ok(room) = Vec::with_capacity(alloc, workers as usize) else {
+            drop(endings);
             return Err(Memory);
         };
-        let workers = hire(alloc, &pool, &mut pass, workers)?;
-        Ok(Crew {
+        let Ok((pool, pass, feeders)) = Pool::open(alloc, counts) else {
+            drop(endings);
+            drop(room);
+            return Err(Memory);
+        };
+        let mut crew = Crew {
             pool,
             pass,
             feeders: feeders.into_vec(),
-            workers,
+            workers: room,
             endings,
             uses,
-        })
+        };
+        let Ok(()) = hire(
+            alloc,
+            &crew.pool,
+            &mut crew.pass,
+            &mut crew.workers,
+            workers,
+        ) else {
+            drop(crew);
+            return Err(Memory);
+        };
+        Ok(crew)
     }
 }

@@ -16,13 +16,15 @@ use Rattle.source_pass.specs.declared.hold.Hold.{Hold}
 use Rattle.source_locks.specs.Passes.{hold_at}
 use Rattle.source_pass.specs.Looks.{shown_fault}
 use Rattle.query_core.specs.declared.ready.Ready.{Ready}
+use Rattle.query_turns.specs.declared.ended.Ended.{Ended}
 use Rattle.query_turns.specs.declared.ended.Refusal.{Refusal}
 use Rattle.query_turns.specs.declared.ended.Refusal.TheVariants.{Core, Look}
 use Rattle.query_turns.specs.declared.inquiry.Inquiry.{Inquiry}
+use Rattle.query_turns.specs.Endings.{IsRight}
 use Rattle.query_turns.specs.Inquiries.{source_of}
 use Rattle.query_run.specs.Advancing.{HasSourcesIn, IsSourceIn, KnowsMore, Advances}
 use Rattle.query_run.specs.Asking.{Wanted, grades_asked}
-use Rattle.query_run.specs.Ran.{shown_to}
+use Rattle.query_run.specs.Ran.{Ran, shown_to}
 use Rattle.query_run.proofs.Stops.{knows_more}
 use Rattle.batch_sides.specs.declared.work.Worker.{Worker}
 use Rattle.batch_sides.specs.Shares.{share, share_from}
@@ -161,6 +163,32 @@ end_on before after knows ready end h = record {
   then_held = h.then_held;
   served = h.served;
   since = knows_on h.then_held before after h.since knows;
+}
+
+-- after one query more, which ended, or for which memory was wanted
+pub ran_one : (ready : Ready) (before after : Worker) (pass : List Hold) (ended : Ended) → after.number ≡ before.number → after.pass ≡ pass
+    → (after.short ≡ false → after.ended.items ≡ before.ended.items ++ ended ∷ []) → Advances ready.sources.items before.pass pass
+    → Ran ready before.pass pass ended → IsRight ready ended → RanOne ready before after
+ran_one ready before after pass ended number is kept advances ran right = record {
+  number = number;
+  knows = subst (KnowsAll before.pass) (sym is) (knows_advanced ready.sources.items before.pass pass advances);
+  ran = λ long. (ended, kept long, subst (λ holds. Ran ready before.pass holds ended) (sym is) ran, right);
+}
+
+pub ran_short : (ready : Ready) (before after : Worker) → after.number ≡ before.number → after.short ≡ true
+    → Advances ready.sources.items before.pass after.pass → RanOne ready before after
+ran_short ready before after number short advances = record {
+  number = number;
+  knows = knows_advanced ready.sources.items before.pass after.pass advances;
+  ran = λ long. absurd (cc);
+}
+
+pub ran_nothing : (ready : Ready) (before after : Worker) → after.number ≡ before.number → after.pass ≡ before.pass → after.short ≡ true
+    → RanOne ready before after
+ran_nothing ready before after number same short = record {
+  number = number;
+  knows = subst (KnowsAll before.pass) (sym same) (knows_same before.pass);
+  ran = λ long. absurd (cc);
 }
 
 -- before any query

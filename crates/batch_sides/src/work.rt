@@ -25,18 +25,7 @@ pub struct Worker {
     pub short: bool,
 }
 
-/// Keeps how a query ended.
-fn keep(worker: &mut Worker, ended: Ended)
-    ensures kept { worker.new.short ≡ false → worker.new.ended.items ≡ worker.old.ended.items ++ ended ∷ [] }
-    ensures number { worker.new.number ≡ worker.old.number }
-    ensures pass { worker.new.pass ≡ worker.old.pass }
-{
-    if worker.ended.push(ended).is_err() {
-        worker.short = true;
-    }
-}
-
-/// Runs a query, and keeps how it ended.
+/// Runs a query, and keeps how it ended. Room for its ending is taken first.
 fn run_one(rt: &impl Wait, alloc: Global, pool: &Pool, worker: &mut Worker, ready: &Ready)
     requires ready { IsReady ready.now }
     requires own { IsPassOf pool.now worker.old.pass }
@@ -46,8 +35,12 @@ fn run_one(rt: &impl Wait, alloc: Global, pool: &Pool, worker: &mut Worker, read
     ensures rests { WaitsForNothing worker.new.pass }
     ensures ran { RanOne ready.now worker.old worker.new }
 {
+    if worker.ended.reserve(1).is_err() {
+        worker.short = true;
+        return;
+    }
     match run_query(rt, alloc, pool, &mut worker.pass, ready) {
-        Ok(ended) => keep(worker, ended),
+        Ok(ended) => worker.ended.push_reserved(ended),
         Err(_) => worker.short = true,
     }
 }

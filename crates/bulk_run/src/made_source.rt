@@ -110,11 +110,3 @@ impl Source for MadeSource {
 
     ghost distinct = { told_once };
 }
-
-/// Takes what may go to another thread.
-fn may_go<T: Send>(_: &T) {}
-
-/// That a made source may go to another thread.
-fn source_may_go(source: &MadeSource) {
-    may_go(source);
-}

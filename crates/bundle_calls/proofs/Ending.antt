@@ -1,18 +1,17 @@
 -- A call that comes to its text ends with it, or with a write fault.
-use Rattle.std.proofs.Common.{◌≡◌, ℕ, List, inl, inr, refl, sym, subst}
-use Rattle.line_text.specs.Lines.{lines}
+use Rattle.std.proofs.Common.{◌≡◌, ℕ, List, inl, inr, sym, subst}
 use Rattle.cert_judge.specs.declared.told.Told.{Told}
 use Rattle.cert_judge.specs.declared.told.Told.TheVariants.{BadLine, Inconsistent, WildGuess, WrongSize, UnseenAnswer, Figure, Fixes, Beaten}
-use Rattle.cert_judge.specs.Judging.{Tells}
-use Rattle.cert_judge.specs.Text.{told_text}
 use Rattle.cert_text.specs.declared.outcome.Outcome.{Outcome}
 use Rattle.cert_text.specs.declared.outcome.Outcome.TheVariants.{Answered, Refused}
 use Rattle.bundle_calls.specs.Judge.{JudgeReplies, told_status}
 use Rattle.bundle_calls.specs.Reply.{Replies, outcome_status}
+use Rattle.bundle_calls.specs.Outcomes.{SaysReply}
 use Rattle.call_ends.specs.Calls.{Call, ReadWhole, WroteWhole}
 use Rattle.call_ends.specs.Ends.{EndsReading, Says}
 use Rattle.call_ends.specs.declared.status.Status.{Status}
 use Rattle.call_ends.specs.declared.status.Status.TheVariants.{Done, Partial}
+use Rattle.call_ends.proofs.Ending.{read_all}
 
 -- the status of an outcome is Done or Partial
 is_outcome_status : {A : Type 0} (outcome : Outcome) (status : Status) → status ≡ outcome_status outcome → (status ≡ Done → A) → (status ≡ Partial → A) → A
@@ -56,11 +55,24 @@ ends_told c bytes status text read replied wrote = is_told_status replied.told s
     (λ is. subst (λ s. EndsReading JudgeReplies c s) (sym is) (bytes, text, read, subst (λ s. JudgeReplies bytes s text) is replied, wrote))
 
 -- what is told of the whole input ends so
-pub ends_judged : (c : Call) (bytes : List ℕ) (told : Told) (result : Status) → ReadWhole c bytes → Tells (lines bytes) told
-    → Says c.before.output c.after.output (told_text told) (told_status told) result → EndsReading JudgeReplies c result
-ends_judged c bytes told result read tells said =
-    let replied : JudgeReplies bytes (told_status told) (told_text told) = record { told = told; tells = tells; status_is = refl; text_is = refl } in
-    elim said [
-      | inl whole ↦ subst (λ s. EndsReading JudgeReplies c s) (sym whole.0) (ends_told c bytes (told_status told) (told_text told) read replied (record { held = whole.1; faults = whole.2 }))
-      | inr front ↦ subst (λ s. EndsReading JudgeReplies c s) (sym front.0) (bytes, told_status told, told_text told, read, replied, record { held = front.1; faults = front.2 })
-    ]
+pub ends_judged : (c : Call) (bytes : List ℕ) (status result : Status) (text : List ℕ) → ReadWhole c bytes → JudgeReplies bytes status text
+    → Says c.before.output c.after.output text status result → EndsReading JudgeReplies c result
+ends_judged c bytes status result text read replied said = elim said [
+  | inl whole ↦ subst (λ s. EndsReading JudgeReplies c s) (sym whole.0) (ends_told c bytes status text read replied (record { held = whole.1; faults = whole.2 }))
+  | inr front ↦ subst (λ s. EndsReading JudgeReplies c s) (sym front.0) (bytes, status, text, read, replied, record { held = front.1; faults = front.2 })
+]
+
+-- the reply to the whole input ends so, or nothing was said of it for want of memory
+pub ends_one : (c : Call) (bytes : List ℕ) (result : Status) → ReadWhole c bytes → SaysReply Replies bytes c.before.output c.after.output result
+    → EndsReading Replies c result
+ends_one c bytes result read said = elim said [
+  | inl none ↦ subst (λ s. EndsReading Replies c s) (sym none.0) (read_all c bytes read, record { held = none.1; faults = none.2 })
+  | inr reply ↦ ends_replied c bytes reply.0 result reply.1 read reply.2 reply.3
+]
+
+pub ends_judge : (c : Call) (bytes : List ℕ) (result : Status) → ReadWhole c bytes → SaysReply JudgeReplies bytes c.before.output c.after.output result
+    → EndsReading JudgeReplies c result
+ends_judge c bytes result read said = elim said [
+  | inl none ↦ subst (λ s. EndsReading JudgeReplies c s) (sym none.0) (read_all c bytes read, record { held = none.1; faults = none.2 })
+  | inr reply ↦ ends_judged c bytes reply.0 result reply.1 read reply.2 reply.3
+]

@@ -1,5 +1,6 @@
 -- Replies as the code keeps them.
-use Rattle.std.specs.Prelude.{ℕ, List, Some}
+use Rattle.std.specs.Prelude.{◌≡◌, ◌⊎◌, ℕ, List, Some}
+use Rattle.std.specs.Io.KnownBytes.{Keeps}
 use Rattle.line_text.specs.Lines.{lines}
 use Rattle.bundle_text.specs.Bundle.{Content, Spells, IsFirstFault}
 use Rattle.cert_text.specs.declared.outcome.Outcome.{Outcome}
@@ -7,8 +8,10 @@ use Rattle.cert_text.specs.Outcome.{IsOutcome, outcome_text}
 use Rattle.query_admission.specs.declared.line_outcome.LineOutcome.{LineOutcome}
 use Rattle.query_core.specs.declared.ready.Ready.{Ready}
 use Rattle.query_admission.specs.Becomes.{Becomes}
+use Rattle.call_ends.specs.Calls.{Output}
+use Rattle.call_ends.specs.Ends.{Replying, Says}
 use Rattle.call_ends.specs.declared.status.Status.{Status}
-use Rattle.call_ends.specs.declared.status.Status.TheVariants.{BadInput}
+use Rattle.call_ends.specs.declared.status.Status.TheVariants.{BadInput, Memory}
 use Rattle.bundle_calls.specs.declared.replies.Reply.{Reply}
 use Rattle.bundle_calls.specs.declared.replies.Reply.TheVariants.{NoBundle, Line}
 use Rattle.bundle_calls.specs.Bundled.{bundle_line}
@@ -42,3 +45,9 @@ reply_status (Line line) = outcome_status line.outcome
 abbrev pub IsWritable : Reply → Type 0
 IsWritable (NoBundle line) = Unit {0}
 IsWritable (Line line) = IsOutcome line.query line.outcome
+
+-- the reply to these bytes was said, or nothing for want of memory
+abbrev pub SaysReply : Replying → List ℕ → Output → Output → Status → Type 0
+SaysReply replies bytes before now end =
+    ((end ≡ Memory) × Keeps before.held now.held × (now.faults ≡ before.faults))
+    ⊎ ((status : Status) × (text : List ℕ) × replies bytes status text × Says before now text status end)

@@ -6,7 +6,7 @@ ghost use Rattle.call_ends.specs.Shelves.{Shelf};
 ghost use Rattle.call_ends.specs.Calls.{input_as, output_as, outside_of, call_at};
 ghost use Rattle.call_ends.specs.Ends.{EndsReading, Says};
 ghost use Rattle.bundle_calls.specs.Reply.{Replies, bundle_refused_text, outcome_status};
-ghost use Rattle.bundle_calls.specs.Outcomes.{reply_text, reply_status, IsWritable};
+ghost use Rattle.bundle_calls.specs.Outcomes.{reply_text, reply_status, IsWritable, SaysReply};
 
 use super::replies::{Reply, reply_to};
 use call_ends::{Status, ended};
@@ -36,13 +36,21 @@ pub fn one<R: Intake, K: Sink>(alloc: Global, input: &mut R, out: &mut K) -> Sta
         (outside_of (input_as R.left R.faults input.new) (output_as K.held K.faults out.new) shelf)) result }
 {
     match read_text(alloc, input, MAX_INPUT) {
-        Ok(text) => match reply_to(alloc, &text) {
-            Ok(reply) => write_reply(out, &reply),
-            Err(_) => Status::Memory,
-        },
+        Ok(text) => answer_text(alloc, &text, out),
         Err(ReadError::Failed) => Status::ReadFault,
         Err(ReadError::Long) => Status::LongInput,
         Err(ReadError::Memory) => Status::Memory,
+    }
+}
+
+/// Writes the reply to these bytes and ends so, or with a write fault; or nothing, where no memory was left.
+fn answer_text<K: Sink>(alloc: Global, bytes: &[u8], out: &mut K) -> Status
+    ensures counts { K.faults out.old ≤ K.faults out.new }
+    ensures says { SaysReply Replies bytes.now (output_as K.held K.faults out.old) (output_as K.held K.faults out.new) result }
+{
+    match reply_to(alloc, bytes) {
+        Ok(reply) => write_reply(out, &reply),
+        Err(_) => Status::Memory,
     }
 }
 

@@ -1,11 +1,12 @@
 //! The command `judge`: a certificate and what is told of it.
 
-ghost use Rattle.std.specs.Prelude.{◌≡◌, ◌≤◌, ℕ, List};
+ghost use Rattle.std.specs.Prelude.{◌≡◌, ◌≤◌, ◌<◌, ◌^◌, ℕ, List, length};
 ghost use Rattle.cert_judge.specs.Text.{told_text};
 ghost use Rattle.call_ends.specs.Shelves.{Shelf};
 ghost use Rattle.call_ends.specs.Calls.{input_as, output_as, outside_of, call_at};
 ghost use Rattle.call_ends.specs.Ends.{EndsReading, Says};
 ghost use Rattle.bundle_calls.specs.Judge.{JudgeReplies, told_status};
+ghost use Rattle.bundle_calls.specs.Outcomes.{SaysReply};
 
 use call_ends::{Status, ended};
 use cert_judge::{Told, judge_text, write_told};
@@ -31,13 +32,22 @@ pub fn judge<R: Intake, K: Sink>(alloc: Global, input: &mut R, out: &mut K) -> S
         (outside_of (input_as R.left R.faults input.new) (output_as K.held K.faults out.new) shelf)) result }
 {
     match read_text(alloc, input, MAX_INPUT) {
-        Ok(text) => match judge_text(alloc, &text) {
-            Ok(told) => write_judged(out, &told),
-            Err(_) => Status::Memory,
-        },
+        Ok(text) => judge_bytes(alloc, &text, out),
         Err(ReadError::Failed) => Status::ReadFault,
         Err(ReadError::Long) => Status::LongInput,
         Err(ReadError::Memory) => Status::Memory,
+    }
+}
+
+/// Writes what is told of these bytes, and ends so, or with a write fault; or nothing, where no memory was left.
+fn judge_bytes<K: Sink>(alloc: Global, bytes: &[u8], out: &mut K) -> Status
+    requires { length bytes.now < 2 ^ 40 }
+    ensures counts { K.faults out.old ≤ K.faults out.new }
+    ensures says { SaysReply JudgeReplies bytes.now (output_as K.held K.faults out.old) (output_as K.held K.faults out.new) result }
+{
+    match judge_text(alloc, bytes) {
+        Ok(told) => write_judged(out, &told),
+        Err(_) => Status::Memory,
     }
 }
 

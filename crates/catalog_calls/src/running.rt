@@ -16,7 +16,7 @@ ghost use Rattle.catalog_calls.specs.Running.{lines_run, settings_by, catalog_re
 use super::Memory;
 use super::line_outcomes::write_outcomes;
 use call_ends::{Status, ended};
-use catalog_run::{LineOutcome, Settings, run_lines};
+use catalog_run::{LineOutcome, Settings, let_go, run_lines};
 use catalog_text::{Catalog, CatalogFault, read_catalog};
 use command_words::{RunOptions, RunSettings};
 use limits::MAX_INPUT;
@@ -134,7 +134,11 @@ fn run_input<W: Threads + Wait + Sync, H: Shelf, R: Intake, K: Sink>(
 {
     match read_text(alloc, input, MAX_INPUT) {
         Ok(text) => match run_text(rt, alloc, catalog, settings, shelf, &text) {
-            Ok(outcomes) => write_outcomes(out, &outcomes),
+            Ok(outcomes) => {
+                let status = write_outcomes(out, &outcomes);
+                let_go(outcomes);
+                status
+            }
             Err(_) => Status::Memory,
         },
         Err(ReadError::Failed) => Status::ReadFault,

@@ -9,6 +9,7 @@ mod run;
 
 pub use batch_run::Settings;
 pub use lines::run_lines;
+pub use merging::let_go;
 pub use query_admission::LineOutcome;
 
 /// No memory was left.

@@ -14,6 +14,11 @@ use query_core::Ready;
 use query_turns::Ended;
 use std::alloc::Global;
 
+/// Lets the outcomes of lines go. Who owns some lets them go by this call, so that it is proved once.
+pub fn let_go(outcomes: Vec<LineOutcome>) {
+    drop(outcomes);
+}
+
 /// The outcomes of lines in their order: what refused a line before it ran, and how the queries ended that were ready, in theirs.
 pub(crate) fn merge(
     alloc: Global,

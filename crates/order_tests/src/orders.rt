@@ -10,7 +10,7 @@ use query_support::{are_small, let_go, readies_of};
 use query_world::World;
 use std::alloc::Global;
 use std::test::Fail;
-use world_support::{Act, Ends, ends_of, let_world_go, take_act, world_of};
+use world_support::{Act, Ends, ends_of, take_act, world_of};
 
 /// What comes of an order, which has for each step the place of its act among those of the trial.
 enum Outcome {
@@ -109,7 +109,7 @@ fn outcome_of(
     taken: usize,
 ) -> Result<Outcome, Fail> {
     if taken == 0 || order.get(taken).is_some_and(|place| *place > 0) {
-        let_world_go(world);
+        world.close();
         return Ok(if taken == 0 {
             Outcome::Past
         } else {
@@ -154,7 +154,7 @@ fn try_order(
             Ok(outcome)
         }
         Err(fault) => {
-            let_world_go(world);
+            world.close();
             Err(fault)
         }
     }

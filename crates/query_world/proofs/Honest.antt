@@ -1,5 +1,5 @@
 -- Honest steps, and what comes of them.
-use Rattle.std.proofs.Common.{◌≡◌, ◌-◌, ℕ, false, Option, Some, List, [], ◌∷◌, slice_get, All, Contains, refl, sym, subst}
+use Rattle.std.proofs.Common.{◌≡◌, ℕ, false, Option, Some, List, [], ◌∷◌, slice_get, All, Contains, refl, sym, subst}
 use Rattle.std.specs.List.{slice_set}
 use Rattle.std.proofs.lemmas.List.Elements.{All-set}
 use Rattle.ranked_list.specs.declared.row.Row.{Row}

@@ -1,14 +1,13 @@
 //! Worlds.
 
-ghost use Rattle.std.specs.Prelude.{◌≡◌, ◌<◌, ◌≤◌, ◌^◌, ◌∷◌, [], ◌++◌, ℕ, true, List, All, length, slice_get, slice_set, take, IfOk, OnOk, vec_len};
+ghost use Rattle.std.specs.Prelude.{◌≡◌, ◌<◌, ◌≤◌, ◌^◌, ◌∷◌, [], ◌++◌, ℕ, true, List, All, length, slice_get, slice_set, take, IfOk, OnOk};
 ghost use Rattle.std.specs.List.{AllZip};
 ghost use Rattle.std.specs.Option.{option_map};
 ghost use Rattle.ranked_list.specs.declared.row.Row.{Row};
-ghost use Rattle.source_state.specs.State.{opened, state_at};
+ghost use Rattle.source_state.specs.State.{state_at};
 ghost use Rattle.source_state.specs.Events.{after, MayCome};
 ghost use Rattle.query_core.specs.declared.ready.Ready.{Ready as AnyReady};
 ghost use Rattle.query_core.specs.Ready.{IsReady};
-ghost use Rattle.query_turns.specs.declared.inquiry.Inquiry.{Inquiry as AnyInquiry};
 ghost use Rattle.query_turns.specs.Inquiries.{is_ended};
 ghost use Rattle.query_world.specs.Worlds.{world_of};
 ghost use Rattle.query_world.specs.Steps.{IsTestOf, MayStep, MayComeTo, Steps, with_event};
@@ -53,17 +52,11 @@ impl Model for World {
         × (vec_len a.states < 2 ^ 32) × (vec_len a.queries < 2 ^ 32) × (a.endings.items ≡ []) };
 }
 
-/// Opens one more source, with the number of those that there are.
-fn open_next(alloc: Global, states: &mut Vec<SourceState>, count: u32) -> Result<(), Memory>
-    requires few { vec_len states.old < 2 ^ 32 }
-    requires count { count ≤ MAX_OBJECTS }
-    ensures { OnOk result (states.new.items ≡ states.old.items ++ opened (length states.old.items) count ∷ []) }
+/// Adds a value at the end. Where memory is refused, the value is dropped.
+fn push<T: Drop>(values: &mut Vec<T>, value: T) -> Result<(), Memory>
+    ensures { OnOk result (values.new.items ≡ values.old.items ++ value ∷ []) }
 {
-    let source = states.len() as u32;
-    let Ok(state) = SourceState::open(alloc, source, count) else {
-        return Err(Memory);
-    };
-    match states.push(state) {
+    match values.push(value) {
         Ok(()) => Ok(()),
         Err(refused) => {
             drop(refused);
@@ -72,45 +65,33 @@ fn open_next(alloc: Global, states: &mut Vec<SourceState>, count: u32) -> Result
     }
 }
 
-/// The sources with these counts, before any event.
-fn open_all(alloc: Global, counts: &[u32]) -> Result<Vec<SourceState>, Memory>
+/// Opens the sources with these counts, before any event.
+fn open_all(alloc: Global, counts: &[u32], states: &mut Vec<SourceState>) -> Result<(), Memory>
+    requires none { states.old.items ≡ [] }
     requires few { length counts.now < 2 ^ 32 }
     requires counts { All (λ count. count ≤ MAX_OBJECTS) counts.now }
-    ensures { IfOk result (λ states. states.items ≡ opened_from 0 counts.now) }
+    ensures { OnOk result (states.new.items ≡ opened_from 0 counts.now) }
 {
-    let mut states = Vec::new(alloc);
     for place in 0..counts.len() {
-        open_next(alloc, &mut states, counts[place])?;
+        let Ok(state) = SourceState::open(alloc, place as u32, counts[place]) else {
+            return Err(Memory);
+        };
+        push(states, state)?;
     }
-    Ok(states)
+    Ok(())
 }
 
-/// One more query.
-fn make_next(alloc: Global, queries: &mut Vec<Inquiry>, ready: &Ready) -> Result<(), Memory>
-    requires { IsReady ready.now }
-    ensures { OnOk result ((readies : List AnyReady) → AllZip IsFresh readies queries.old.items
-        → AllZip IsFresh (readies ++ ready.now ∷ []) queries.new.items) }
+/// Makes the queries, before any access.
+fn make_all(alloc: Global, readies: &[Ready], queries: &mut Vec<Inquiry>) -> Result<(), Memory>
+    requires none { queries.old.items ≡ [] }
+    requires ready { All IsReady readies.now }
+    ensures { OnOk result (AllZip IsFresh readies.now queries.new.items) }
 {
-    let query = Inquiry::make(alloc, ready)?;
-    match queries.push(query) {
-        Ok(()) => Ok(()),
-        Err(refused) => {
-            drop(refused);
-            Err(Memory)
-        }
-    }
-}
-
-/// The queries, before any access.
-fn make_all(alloc: Global, readies: &[Ready]) -> Result<Vec<Inquiry>, Memory>
-    requires { All IsReady readies.now }
-    ensures { IfOk result (λ queries. AllZip IsFresh readies.now queries.items) }
-{
-    let mut queries = Vec::new(alloc);
     for place in 0..readies.len() {
-        make_next(alloc, &mut queries, &readies[place])?;
+        let query = Inquiry::make(alloc, &readies[place])?;
+        push(queries, query)?;
     }
-    Ok(queries)
+    Ok(())
 }
 
 /// An event comes to a source.
@@ -140,28 +121,6 @@ fn take(states: &mut Vec<SourceState>, queries: &mut Vec<Inquiry>, step: Step)
     }
 }
 
-/// Whether all queries have ended.
-fn all_ended(queries: &[Inquiry]) -> bool
-    ensures { IsTestOf result (All (λ query. is_ended query ≡ true) queries.now) }
-{
-    queries.iter().all(|query| query.is_ended())
-}
-
-/// How one more query ends.
-fn end_next(query: Inquiry, endings: &mut Vec<Ended>) -> Result<(), Memory>
-    requires { is_ended query ≡ true }
-    ensures { OnOk result ((queries : List AnyInquiry) → AllZip EndsAs queries endings.old.items → AllZip EndsAs (queries ++ query ∷ []) endings.new.items) }
-{
-    let ended = query.end()?;
-    match endings.push(ended) {
-        Ok(()) => Ok(()),
-        Err(refused) => {
-            drop(refused);
-            Err(Memory)
-        }
-    }
-}
-
 /// How queries end, in their order. They are taken out.
 fn end_all(queries: &mut Vec<Inquiry>, endings: &mut Vec<Ended>) -> Result<(), Memory>
     requires none { endings.old.items ≡ [] }
@@ -170,7 +129,8 @@ fn end_all(queries: &mut Vec<Inquiry>, endings: &mut Vec<Ended>) -> Result<(), M
 {
     queries.reverse();
     while let Some(query) = queries.pop() {
-        end_next(query, endings)?;
+        let ended = query.end()?;
+        push(endings, ended)?;
     }
     Ok(())
 }
@@ -187,9 +147,20 @@ impl World {
         ensures world { IfOk result IsWorld }
         ensures queries { IfOk result (AreOf queries.now) }
     {
-        let states = open_all(alloc, counts)?;
-        let inquiries = make_all(alloc, queries)?;
+        let mut states = Vec::new(alloc);
+        let Ok(()) = open_all(alloc, counts, &mut states) else {
+            drop(states);
+            return Err(Memory);
+        };
+        let mut inquiries = Vec::new(alloc);
+        let Ok(()) = make_all(alloc, queries, &mut inquiries) else {
+            drop(states);
+            drop(inquiries);
+            return Err(Memory);
+        };
         let Ok(endings) = Vec::with_capacity(alloc, queries.len()) else {
+            drop(states);
+            drop(inquiries);
             return Err(Memory);
         };
         Ok(World {
@@ -254,7 +225,19 @@ impl World {
     pub fn all_ended(&self) -> bool
         ensures { IsTestOf result (All (λ query. is_ended query ≡ true) self.now.queries) }
     {
-        all_ended(&self.queries)
+        self.queries.iter().all(|query| query.is_ended())
+    }
+
+    /// Lets the world go, before its queries have ended or after.
+    pub fn close(self) {
+        let World {
+            states,
+            queries,
+            endings,
+        } = self;
+        drop(states);
+        drop(queries);
+        drop(endings);
     }
 
     /// How the queries ended, in their order, once all have.
@@ -271,7 +254,11 @@ impl World {
             mut endings,
         } = self;
         drop(states);
-        end_all(&mut queries, &mut endings)?;
+        let Ok(()) = end_all(&mut queries, &mut endings) else {
+            drop(queries);
+            drop(endings);
+            return Err(Memory);
+        };
         drop(queries);
         Ok(Endings::from_vec(endings))
     }

@@ -120,24 +120,29 @@ pub fn take_act(
     }
 }
 
+/// The step of a call that a source plans, None where it is idle.
+fn act_of(sources: &Sources, source: u32, plan: Plan) -> Option<Act> {
+    match plan {
+        Plan::Idle => None,
+        Plan::Page { from, .. } if sources.fails == Some((source, from)) => Some(Act::Fail(source)),
+        Plan::Page { count, .. } => Some(Act::Page(source, count)),
+        Plan::Grade { object } => Some(Act::Grade(source, object)),
+    }
+}
+
 /// One call of a source that isn't idle, and its step.
 fn serve(alloc: Global, world: &mut World, sources: &mut Sources, source: u32) -> Result<(), Fail> {
     if source >= world.sources() || sources.page == 0 || sources.page > 1000 {
         return Err("a source and a page".into());
     }
-    match world.state(source).plan(sources.page, 0) {
-        Plan::Idle => {}
-        Plan::Page { from, .. } if sources.fails == Some((source, from)) => {
-            sources.fails = None;
-            take_act(alloc, world, sources, Act::Fail(source))?;
-        }
-        Plan::Page { count, .. } => {
-            take_act(alloc, world, sources, Act::Page(source, count))?;
-        }
-        Plan::Grade { object } => {
-            take_act(alloc, world, sources, Act::Grade(source, object))?;
-        }
+    let plan = world.state(source).plan(sources.page, 0);
+    let Some(act) = act_of(sources, source, plan) else {
+        return Ok(());
+    };
+    if let Act::Fail(_) = act {
+        sources.fails = None;
     }
+    take_act(alloc, world, sources, act)?;
     Ok(())
 }
 

@@ -4,7 +4,7 @@ ghost use Rattle.std.specs.Prelude.{◌<◌, ◌≤◌, ◌^◌, All, length};
 ghost use Rattle.query_turns.specs.Made.{IsReadyFor};
 
 use super::acts::{Act, Sources, take_act};
-use super::outcomes::{ends_of, let_world_go, world_of};
+use super::outcomes::{ends_of, world_of};
 use limits::MAX_OBJECTS;
 use query_core::Ready;
 use query_support::{Asked, Expected, are_small, let_go, readies_of};
@@ -43,7 +43,7 @@ fn end_so(alloc: Global, case: &Case, readies: &[Ready]) -> Result<bool, Fail>
     match take_all(alloc, &mut world, case) {
         Ok(()) => Ok(ends_of(alloc, world, &case.sources, case.workers, case.ends)?.so),
         Err(fault) => {
-            let_world_go(world);
+            world.close();
             Err(fault)
         }
     }

@@ -9,5 +9,5 @@ mod three;
 
 pub use acts::{Act, Sources, take_act};
 pub use cases::{Case, first_wrong};
-pub use outcomes::{Ends, ends_of, let_world_go, world_of};
+pub use outcomes::{Ends, ends_of, world_of};
 pub use three::{THREE, THREE_LISTS};

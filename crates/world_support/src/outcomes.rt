@@ -64,11 +64,6 @@ pub fn world_of(alloc: Global, counts: &[u32], readies: &[Ready]) -> Result<Worl
     }
 }
 
-/// Lets a world go. Who owns one lets it go by this call, so that it is proved once.
-pub fn let_world_go(world: World) {
-    drop(world);
-}
-
 /// How the queries of a world end, after rounds of so many turns.
 pub fn ends_of(
     alloc: Global,
@@ -81,7 +76,7 @@ pub fn ends_of(
     match end_by_rounds(alloc, &mut world, sources, workers) {
         Ok(()) => finish(world, expected),
         Err(fault) => {
-            let_world_go(world);
+            world.close();
             Err(fault)
         }
     }

@@ -1,6 +1,15 @@
-use Rattle.std.proofs.Common.{◌∙◌}
-use Rattle.batch_sides.proofs.WorkLaws.{all_sources_stay, knows_on}
+use Rattle.std.proofs.Common.{◌∙◌, refl, arith}
+use Rattle.batch_sides.proofs.WorkLaws.{all_sources_stay, has_worked, knows_on, knows_same, ran_none}
 use Rattle.batch_sides.proofs.work.work.Goals as goal
+
+pub loop-place-init : goal.loop-place-init
+loop-place-init g c = record {
+  own = c.requires.own;
+  rests = c.requires.rests;
+  number = refl;
+  knows = knows_same c.args.worker.now.pass;
+  ran = λ long. ran_none c.args.workers c.args.worker.now c.requires.none c.requires.idle;
+}
 
 pub run_at-requires-clause-sources : goal.run_at-requires-clause-sources
 run_at-requires-clause-sources g c =
@@ -14,3 +23,14 @@ loop-place-preserved g c = record {
   knows = knows_on c.args.worker.now.pass c.loop-place.worker.pass c.run_at.new.worker.pass c.loop-place.invariant.knows c.run_at.ensures.knows;
   ran = λ long. let r = c.run_at.ensures.ran long in r.1 (c.loop-place.invariant.ran r.0);
 }
+
+pub returns : goal.returns
+returns g c =
+    let inv = c.loop-place.invariant in
+    record {
+      number = inv.number;
+      own = inv.own;
+      knows = inv.knows;
+      worked = λ long.
+          has_worked c.args.workers c.loop-place.place c.args.queries.now c.loop-place.worker _ (omega (arith, c.loop-place-test.false)) refl refl c.reverse.ensures.items (inv.ran long);
+    }

@@ -1,12 +1,13 @@
 use Rattle.std.proofs.Common.{subst}
-use Rattle.bundle_calls.specs.Outcomes.{IsReply}
-use Rattle.bundle_calls.proofs.Ending.{ends_replied}
-use Rattle.bundle_calls.proofs.Replying.{replies_to}
+use Rattle.call_ends.specs.Calls.{output_as}
+use Rattle.bundle_calls.specs.Reply.{Replies}
+use Rattle.bundle_calls.specs.Outcomes.{SaysReply}
+use Rattle.bundle_calls.proofs.Ending.{ends_one}
 use Rattle.bundle_calls.proofs.answering.one.Goals as goal
 
-pub returns-in-Ok-reply_to-clause-ends : goal.returns-in-Ok-reply_to-clause-ends
-returns-in-Ok-reply_to-clause-ends g c = λ words shelf.
-    ends_replied _ c.in-Ok.text.items _ _ _
+pub returns-in-Ok-clause-ends : goal.returns-in-Ok-clause-ends
+returns-in-Ok-clause-ends g c = λ words shelf.
+    ends_one _ c.in-Ok.text.items c.answer_text.result
     (record { given = c.in-Ok.ensures.whole; faults = c.in-Ok.ensures.quiet })
-    (replies_to c.in-Ok.text.items c.in-Ok-reply_to.reply (subst (λ bytes. IsReply bytes c.in-Ok-reply_to.reply) c.deref.ensures.value c.in-Ok-reply_to.ensures))
-    c.write_reply.ensures.says
+    (subst (λ bytes. SaysReply Replies bytes (output_as g.K.Sink.held g.K.Sink.faults c.args.out.now) (output_as g.K.Sink.held g.K.Sink.faults c.answer_text.new.out) c.answer_text.result)
+    c.deref.ensures.value c.answer_text.ensures.says)

@@ -16,9 +16,9 @@ returns-in-Ok-run_text-clause-ends g c = λ words text is.
     let bytes = c.in-Ok.text.items in
     let before : Shelf = shelf_at (g.H.Shelf.texts c.args.shelf.now) (g.H.Shelf.lists c.args.shelf.now) (g.H.Shelf.at c.args.shelf.now) in
     let after : Shelf = shelf_at (g.H.Shelf.texts c.run_text.new.shelf) (g.H.Shelf.lists c.run_text.new.shelf) (g.H.Shelf.at c.run_text.new.shelf) in
-    let call : Call = call_at words (outside_at (g.R.Intake.left c.args.input.now) (g.R.Intake.faults c.args.input.now) (g.K.Sink.held c.args.out.now) (g.K.Sink.faults c.args.out.now) before) (outside_at (g.R.Intake.left c.read_text.new.input) (g.R.Intake.faults c.read_text.new.input) (g.K.Sink.held c.write_outcomes.new.out) (g.K.Sink.faults c.write_outcomes.new.out) after) in
+    let call : Call = call_at words (outside_at (g.R.Intake.left c.args.input.now) (g.R.Intake.faults c.args.input.now) (g.K.Sink.held c.args.out.now) (g.K.Sink.faults c.args.out.now) before) (outside_at (g.R.Intake.left c.read_text.new.input) (g.R.Intake.faults c.read_text.new.input) (g.K.Sink.held c.write_outcomes-status.new.out) (g.K.Sink.faults c.write_outcomes-status.new.out) after) in
     let outcomes = c.in-Ok-run_text.outcomes.items in
-    ends_lines c.args.settings text (outcomes_text 1 outcomes) call outcomes c.write_outcomes.result
+    ends_lines c.args.settings text (outcomes_text 1 outcomes) call outcomes c.write_outcomes-status.result
     (record {
       bytes = bytes;
       read = record { given = c.in-Ok.ensures.whole; faults = c.in-Ok.ensures.quiet };
@@ -32,4 +32,4 @@ returns-in-Ok-run_text-clause-ends g c = λ words text is.
         said_is = refl;
       };
     })
-    (subst (λ os. Says (output_as g.K.Sink.held g.K.Sink.faults c.args.out.now) (output_as g.K.Sink.held g.K.Sink.faults c.write_outcomes.new.out) (outcomes_text 1 os) (run_status os) c.write_outcomes.result) c.deref-in-Ok-run_text.ensures.value c.write_outcomes.ensures.says)
+    (subst (λ os. Says (output_as g.K.Sink.held g.K.Sink.faults c.args.out.now) (output_as g.K.Sink.held g.K.Sink.faults c.write_outcomes-status.new.out) (outcomes_text 1 os) (run_status os) c.write_outcomes-status.result) c.deref-in-Ok-run_text.ensures.value c.write_outcomes-status.ensures.says)

@@ -1,19 +1,20 @@
 use Rattle.std.proofs.Common.{◌++◌, ◌∷◌, [], take, ap, sym, subst, ◌∙◌}
 use Rattle.std.specs.List.{AllZip}
+use Rattle.std.proofs.lemmas.Slice.Zip.{all_zipped_more}
 use Rattle.query_turns.specs.Made.{IsFresh}
 use Rattle.query_turns.proofs.Lists.{take_more, take_whole}
 use Rattle.query_world.proofs.world.make_all.Goals as goal
 
 pub loop-place-init : goal.loop-place-init
-loop-place-init c = subst (AllZip IsFresh []) (sym c.new-queries.ensures.items) tt
+loop-place-init c = subst (AllZip IsFresh []) (sym c.requires.none) tt
 
 pub loop-place-preserved : goal.loop-place-preserved
 loop-place-preserved c =
     let ready = c.index-readies-place.result in
     let front = take c.loop-place.place c.args.readies.now in
-    subst (λ xs. AllZip IsFresh xs c.make_next.new.queries.items)
+    subst (λ xs. AllZip IsFresh xs c.push.new.values.items)
     (ap (λ x. front ++ x ∷ []) c.index-readies-place.is ∙ sym (take_more c.args.readies.now c.loop-place.place ready c.loop-place-test.true))
-    (c.in_ok-make_next.ensures front c.loop-place.invariant)
+    (subst (AllZip IsFresh (front ++ ready ∷ [])) (sym c.in_ok-push.ensures) (all_zipped_more IsFresh front c.loop-place.queries.items ready c.in_ok-query.query c.loop-place.invariant c.in_ok-query.ensures))
 
 pub returns : goal.returns
 returns c = subst (λ xs. AllZip IsFresh xs c.loop-place.queries.items) (take_whole c.args.readies.now c.loop-place.place c.loop-place-test.false) c.loop-place.invariant

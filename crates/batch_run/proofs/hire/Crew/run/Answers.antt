@@ -2,7 +2,7 @@ use Rattle.std.proofs.Common.{◌++◌, All, length, take, drop, sym, ap, subst,
 use Rattle.batch_sides.specs.Working.{IsAtWork, AllWorked}
 use Rattle.batch_run.proofs.CrewLaws.{all_at_work, ran_parts}
 use Rattle.batch_result.proofs.Places.{lent_back}
-use Rattle.batch_run.proofs.SlotLaws.{all_fetched}
+use Rattle.batch_run.proofs.SlotLaws.{all_fed, all_fetched, all_full}
 use Rattle.batch_run.proofs.hire.Crew.run.Goals as goal
 
 pub run_sides-requires-clause-workers : goal.run_sides-requires-clause-workers
@@ -12,6 +12,18 @@ run_sides-requires-clause-workers g c κs within =
     let one = c.requires.settings.some_workers in
     subst (λ ws. All (IsAtWork c.args.self.now.pool (length ws) c.args.queries.now) ws) (sym c.deref_mut.ensures.value)
     (all_at_work c.args.self.now.pool new.0 c.args.self.now.pass c.args.self.now.workers.items c.args.queries.now (omega (arith, size, one)) new.1.hiring new.3)
+
+pub run_sides-requires-clause-feeders : goal.run_sides-requires-clause-feeders
+run_sides-requires-clause-feeders g c κs within =
+    let new = c.requires.new in
+    let feeders = new.1.feeders.size in
+    let size = new.1.hiring.base.size in
+    let many = new.2 in
+    all_fed g.S.Source.list g.S.Source.counts c.args.self.now.pool c.args.self.now.feeders.items c.args.slots.now c.lend.new.slots (omega (arith, feeders, size, many)) new.1.feeders c.lend.ensures.lent
+
+pub take_back-requires-clause-full : goal.take_back-requires-clause-full
+take_back-requires-clause-full g c κs within =
+    all_full g.S.Source.list g.S.Source.counts c.args.self.now.pool c.args.settings c.lend.new.slots c.run_sides.new.slots c.run_sides.ensures.fetched
 
 pub returns-clause-ran : goal.returns-clause-ran
 returns-clause-ran g c counts new ready =

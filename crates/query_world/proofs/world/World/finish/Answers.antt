@@ -9,21 +9,21 @@ use Rattle.query_world.proofs.Ending.{ended_right}
 use Rattle.query_world.proofs.Making.{ending_count}
 use Rattle.query_world.proofs.world.World.finish.Goals as goal
 
-pub returns-in_err-end_all-clause-honest : goal.returns-in_err-end_all-clause-honest
-returns-in_err-end_all-clause-honest c =
+pub returns-in_default-clause-honest : goal.returns-in_default-clause-honest
+returns-in_default-clause-honest c =
     λ lists is.
     all_on_run lists c.args.self (subst IsWorld c.self.view_is c.self.invariant.0) is
 
 pub from_vec-requires : goal.from_vec-requires
 from_vec-requires c =
-    let many = ending_count c.self.inside.queries.items c.end_all.new.endings.items c.in_ok-end_all.ensures in
+    let many = ending_count c.self.inside.queries.items c.end_all.new.endings.items c.in-Ok.ensures in
     omega (arith, many, c.self.invariant.2, c.self.inside.queries.ok.0, c.end_all.new.endings.ok.0)
 
 pub returns-clause-right : goal.returns-clause-right
 returns-clause-right c =
     λ readies are.
     subst (AllZip IsRight readies) (sym c.from_vec.ensures)
-    (ended_right readies (world_of c.self.inside.states.items c.self.inside.queries.items) c.end_all.new.endings.items c.self.invariant.0 (subst (AreOf readies) (sym c.self.view_is) are) c.in_ok-end_all.ensures)
+    (ended_right readies (world_of c.self.inside.states.items c.self.inside.queries.items) c.end_all.new.endings.items c.self.invariant.0 (subst (AreOf readies) (sym c.self.view_is) are) c.in-Ok.ensures)
 
 pub returns-clause-honest : goal.returns-clause-honest
 returns-clause-honest c =
