@@ -1,7 +1,7 @@
-# topk: `make try` answers the query lines of crates/hotels without proving anything, `make run` proves the program first,
+# topk: `make try` answers the query lines of crates/topk without proving anything, `make run` proves the program first,
 # `make test` passes all proofs and tests, `make bench` tells how long queries take, and `make threads` that workers change no answer.
 
-HOTELS = crates/hotels/data
+HOTELS = crates/topk/data
 
 .PHONY: topk try run test bench threads
 
@@ -15,9 +15,9 @@ run: topk
 	cd $(HOTELS) && ../../../topk run catalog.csv < ../stdin; test $$? -eq 1
 	./topk one < crates/examples/data/two_lists.bundle
 
-# The same answers from the unproved code, in about a minute: nothing is proved, and nothing is left behind.
+# The same answers from the unproved code, in one to two minutes: nothing is proved, and nothing is left behind.
 try:
-	cd crates/hotels && rt try $(foreach list,price rating centre quiet,--data hotels/$(list).csv=data/hotels/$(list).csv) \
+	cd crates/topk && rt try $(foreach list,price rating centre quiet,--data hotels/$(list).csv=data/hotels/$(list).csv) \
 		--data catalog.csv=data/catalog.csv -- run catalog.csv < stdin; test $$? -eq 1
 
 test:

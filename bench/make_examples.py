@@ -1,5 +1,5 @@
 #!/usr/bin/env python3
-"""Writes the data and the expected texts of crates/hotels and of many_queries in crates/examples/data. Run it at the top of the repository."""
+"""Writes the data and the expected texts of crates/topk and of many_queries in crates/examples/data. Run it at the top of the repository."""
 
 import os
 import random
@@ -57,10 +57,10 @@ def hotels():
         "centre": ranked((h[0], 1_000_000 - 100 * h[4]) for h in HOTELS),
         "quiet": ranked((h[0], 1_000_000 - 10_000 * h[5]) for h in HOTELS),
     }
-    write_lists("crates/hotels/data/hotels", lists)
-    write("crates/hotels/stdin", "".join(line + "\n" for line in HOTEL_LINES))
+    write_lists("crates/topk/data/hotels", lists)
+    write("crates/topk/stdin", "".join(line + "\n" for line in HOTEL_LINES))
     texts = [HOTEL_REFUSALS.get(n) or outcome(n, line, lists) for n, line in enumerate(HOTEL_LINES, 1)]
-    write("crates/hotels/stdout", "".join(texts))
+    write("crates/topk/stdout", "".join(texts))
 
 
 def made_query(draw, names):

@@ -1,6 +1,6 @@
 """What topk writes of a query line, from the rules alone: a slow program that shares no code with topk.
 
-The expected texts of crates/hotels and of many_queries in crates/examples/data were computed with it (see make_examples.py).
+The expected texts of crates/topk and of many_queries in crates/examples/data were computed with it (see make_examples.py).
 Lists are (object, grade) pairs in the order of their grades; places count from 0 here, depths from 1.
 """
 

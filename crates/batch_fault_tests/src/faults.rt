@@ -2,7 +2,7 @@
 
 use access_log::CoreFault;
 use batch_run::Settings;
-use batch_support::{A, B, Case, PLAIN, first_wrong};
+use batch_support::{A, B, Case, PLAIN, ROWS_A, ROWS_B, first_wrong};
 use query_support::{Asked, Expected, FIRST, FIRST_ENDS, Figures};
 use source_state::{LookFault, SourceFault};
 use source_support::{Held, Kind};
@@ -10,13 +10,15 @@ use std::test::*;
 
 /// The second row's grade rises.
 const RISING: Held = Held {
+    place: "a",
     rows: &[(1, 500), (2, 600)],
-    ..A
+    kind: Kind::Honest,
 };
 
 const FALLING: Held = Held {
+    place: "b",
     rows: &[(1, 400), (2, 300)],
-    ..B
+    kind: Kind::Honest,
 };
 
 /// Both objects of two lists.
@@ -69,8 +71,9 @@ const ROWS: [Case; 5] = [
     // a row of the second page repeats an object
     Case {
         held: &[Held {
+            place: "a",
             rows: &[(7, 9), (8, 8), (7, 7)],
-            ..A
+            kind: Kind::Honest,
         }],
         counts: &[3],
         asked: &[("top 3 by A using nra", &[0])],
@@ -100,12 +103,14 @@ const ROWS: [Case; 5] = [
     Case {
         held: &[
             Held {
+                place: "a",
                 rows: &[(1, 9), (2, 8)],
-                ..A
+                kind: Kind::Honest,
             },
             Held {
+                place: "b",
                 rows: &[(1, 7), (3, 6)],
-                ..B
+                kind: Kind::Honest,
             },
         ],
         counts: &[2, 2],
@@ -130,8 +135,9 @@ const CALLS: [Case; 2] = [
     Case {
         held: &[
             Held {
+                place: "a",
+                rows: ROWS_A,
                 kind: Kind::FailsAtPage(2),
-                ..A
             },
             B,
         ],
@@ -145,8 +151,9 @@ const CALLS: [Case; 2] = [
         held: &[
             A,
             Held {
+                place: "b",
+                rows: ROWS_B,
                 kind: Kind::FailsAtGrade(1),
-                ..B
             },
         ],
         counts: &[3, 3],

@@ -1,6 +1,6 @@
 //! Batches over sources that give other grades than their rows have, or no grade.
 
-use batch_support::{A, B, Case, PLAIN, first_wrong};
+use batch_support::{A, B, Case, PLAIN, ROWS_A, first_wrong};
 use query_support::{Expected, FIRST};
 use source_state::{LookFault, SourceFault};
 use source_support::{Held, Kind};
@@ -8,13 +8,15 @@ use std::test::*;
 
 /// Two lists that have one object each that the other one lacks.
 const ONE: Held = Held {
+    place: "a",
     rows: &[(1, 9), (2, 8)],
-    ..A
+    kind: Kind::Honest,
 };
 
 const OTHER: Held = Held {
+    place: "b",
     rows: &[(3, 7), (1, 6)],
-    ..B
+    kind: Kind::Honest,
 };
 
 const CASES: [Case; 3] = [
@@ -22,8 +24,9 @@ const CASES: [Case; 3] = [
     Case {
         held: &[
             Held {
+                place: "a",
+                rows: ROWS_A,
                 kind: Kind::Lies(2, 850),
-                ..A
             },
             B,
         ],
@@ -44,8 +47,9 @@ const CASES: [Case; 3] = [
     Case {
         held: &[
             Held {
+                place: "a",
+                rows: ROWS_A,
                 kind: Kind::Lies(2, 950),
-                ..A
             },
             B,
         ],

@@ -57,7 +57,8 @@ const CASES: [Case; 5] = [
         asked: &[FIRST, FIRST, FIRST, FIRST],
         settings: Settings {
             workers: 8,
-            ..PLAIN
+            page: 1,
+            ahead: 0,
         },
         ends: &[FIRST_ENDS, FIRST_ENDS, FIRST_ENDS, FIRST_ENDS],
         used: FIRST_USES,
@@ -69,7 +70,8 @@ const CASES: [Case; 5] = [
         asked: &[FIRST, SORTED, ALL, SMALL, COMBINED],
         settings: Settings {
             workers: 2,
-            ..PLAIN
+            page: 1,
+            ahead: 0,
         },
         ends: &[FIRST_ENDS, SORTED_ENDS, ALL_ENDS, SMALL_ENDS, COMBINED_ENDS],
         used: &[],
@@ -93,8 +95,9 @@ const CASES: [Case; 5] = [
         counts: &[3, 3],
         asked: &[],
         settings: Settings {
+            workers: 1,
+            page: 1,
             ahead: 100,
-            ..PLAIN
         },
         ends: &[],
         used: &[(0, 0, 0, 0), (0, 0, 0, 0)],

@@ -24,15 +24,20 @@ pub struct Case {
 }
 
 /// Two lists of three objects.
+pub const ROWS_A: &[(u32, u32)] = &[(1, 900), (2, 800), (3, 100)];
+
+pub const ROWS_B: &[(u32, u32)] = &[(2, 700), (3, 600), (1, 500)];
+
+/// The same as honest sources.
 pub const A: Held = Held {
     place: "a",
-    rows: &[(1, 900), (2, 800), (3, 100)],
+    rows: ROWS_A,
     kind: Kind::Honest,
 };
 
 pub const B: Held = Held {
     place: "b",
-    rows: &[(2, 700), (3, 600), (1, 500)],
+    rows: ROWS_B,
     kind: Kind::Honest,
 };
 

@@ -1,9 +1,11 @@
 //! What fetchers read ahead, beside a query that doesn't need it.
 
 use batch_run::Settings;
-use gated_support::{A, B, Call, Case, GATE, Gate, end_so, goes_so, no_calls, slots_of};
+use batch_support::{A, B};
+use gated_support::{Call, Case, Gate, goes_so};
 use query_support::{Expected, FIRST, FIRST_ENDS, Figures};
-use source_support::Held;
+use source_api::Trouble;
+use source_support::{Held, Kind};
 use std::test::*;
 
 /// The query needs a grade of the second list before a second row of the first one, and the call for it waits until the first list is
@@ -15,8 +17,10 @@ const AHEAD: Case = Case {
             B,
             Some(Gate {
                 call: Call::Grade(1),
+                source: 0,
                 until: 3,
-                ..GATE
+                patience: 1_000_000_000,
+                trouble: Trouble::Failed,
             }),
         ),
     ],
@@ -28,18 +32,14 @@ const AHEAD: Case = Case {
         ahead: 2,
     },
     ends: &[FIRST_ENDS],
+    faults: 0,
 };
-
-#[test]
-fn reads_ahead_of_the_query(rt: HostRuntime) -> Result<(), Fail> {
-    assert_eq!(rt; goes_so(&rt, rt.alloc(), &AHEAD)?, true);
-    Ok(())
-}
 
 /// A list whose first row is enough beside that of the same list.
 const SAME: Held = Held {
+    place: "a",
     rows: &[(1, 9), (2, 8)],
-    ..A
+    kind: Kind::Honest,
 };
 
 /// The call for the second page of the first list, which nobody needs, is under way when the query ends, and fails.
@@ -49,12 +49,22 @@ const UNDER_WAY: Case = Case {
             SAME,
             Some(Gate {
                 call: Call::Page(2),
+                source: 0,
                 until: u64::MAX,
                 patience: 20_000_000,
-                ..GATE
+                trouble: Trouble::Failed,
             }),
         ),
-        (SAME, Some(Gate { until: 2, ..GATE })),
+        (
+            SAME,
+            Some(Gate {
+                call: Call::Page(1),
+                source: 0,
+                until: 2,
+                patience: 1_000_000_000,
+                trouble: Trouble::Failed,
+            }),
+        ),
     ],
     counts: &[2, 2],
     asked: &[FIRST],
@@ -72,15 +82,15 @@ const UNDER_WAY: Case = Case {
             cost: 2,
         },
     )],
+    faults: 1,
 };
 
 #[test]
-fn ends_after_its_fetchers(rt: HostRuntime) -> Result<(), Fail> {
-    let pages = no_calls();
-    let mut slots = slots_of(rt.alloc(), UNDER_WAY.waiters, &pages)?;
-    let so = end_so(&rt, rt.alloc(), &mut slots, &UNDER_WAY);
-    let faults = slots.first().map(|slot| slot.source.counts().faults);
-    drop(slots);
-    assert_eq!(rt; (so?, faults), (true, Some(1)));
+fn reads_ahead_and_ends_after_the_fetchers(rt: HostRuntime) -> Result<(), Fail> {
+    let so = [
+        goes_so(&rt, rt.alloc(), &AHEAD)?,
+        goes_so(&rt, rt.alloc(), &UNDER_WAY)?,
+    ];
+    assert_eq!(rt; so, [true, true]);
     Ok(())
 }

@@ -1,9 +1,11 @@
 //! Queries beside queries.
 
 use batch_run::Settings;
-use gated_support::{A, B, Case, GATE, Gate, goes_so};
+use batch_support::{A, B};
+use gated_support::{Call, Case, GATE, Gate, goes_so};
 use query_support::{Expected, Figures};
-use source_support::Held;
+use source_api::Trouble;
+use source_support::{Held, Kind};
 use std::test::*;
 
 /// A row a page, nothing read ahead.
@@ -27,15 +29,28 @@ const B_ENDS: Expected = Expected::Answered(&[(2, 700, 700)], ONE_ROW);
 
 /// A third list.
 const C: Held = Held {
+    place: "a",
     rows: &[(3, 300), (1, 200), (2, 100)],
-    ..A
+    kind: Kind::Honest,
 };
 
 const C_ENDS: Expected = Expected::Answered(&[(3, 300, 300)], ONE_ROW);
 
 /// Each of two queries needs a call that waits for the call that the other one needs.
 const BOTH: Case = Case {
-    waiters: &[(A, Some(Gate { source: 1, ..GATE })), (B, Some(GATE))],
+    waiters: &[
+        (
+            A,
+            Some(Gate {
+                call: Call::Page(1),
+                source: 1,
+                until: 1,
+                patience: 1_000_000_000,
+                trouble: Trouble::Failed,
+            }),
+        ),
+        (B, Some(GATE)),
+    ],
     counts: &[3, 3],
     asked: &[
         ("top 1 by A using nra", &[0]),
@@ -43,18 +58,26 @@ const BOTH: Case = Case {
     ],
     settings: TWO_WORKERS,
     ends: &[A_ENDS, B_ENDS],
+    faults: 0,
 };
-
-#[test]
-fn runs_queries_beside_queries(rt: HostRuntime) -> Result<(), Fail> {
-    assert_eq!(rt; goes_so(&rt, rt.alloc(), &BOTH)?, true);
-    Ok(())
-}
 
 /// The first query ends after the second one: it needs a call that waits for the call that the fourth one needs, which the worker
 /// of the second one runs.
 const LATE: Case = Case {
-    waiters: &[(A, Some(Gate { source: 2, ..GATE })), (B, None), (C, None)],
+    waiters: &[
+        (
+            A,
+            Some(Gate {
+                call: Call::Page(1),
+                source: 2,
+                until: 1,
+                patience: 1_000_000_000,
+                trouble: Trouble::Failed,
+            }),
+        ),
+        (B, None),
+        (C, None),
+    ],
     counts: &[3, 3, 3],
     asked: &[
         ("top 1 by A using nra", &[0]),
@@ -64,10 +87,15 @@ const LATE: Case = Case {
     ],
     settings: TWO_WORKERS,
     ends: &[A_ENDS, B_ENDS, B_ENDS, C_ENDS],
+    faults: 0,
 };
 
 #[test]
-fn keeps_the_order_of_the_queries(rt: HostRuntime) -> Result<(), Fail> {
-    assert_eq!(rt; goes_so(&rt, rt.alloc(), &LATE)?, true);
+fn runs_queries_beside_queries_and_keeps_their_order(rt: HostRuntime) -> Result<(), Fail> {
+    let so = [
+        goes_so(&rt, rt.alloc(), &BOTH)?,
+        goes_so(&rt, rt.alloc(), &LATE)?,
+    ];
+    assert_eq!(rt; so, [true, true]);
     Ok(())
 }

@@ -6,25 +6,48 @@ ghost use Rattle.bulk_run.specs.Sums.{IsInput};
 use batch_run::Settings;
 use bulk_run::{BulkInput, run_bulk, write_sums};
 use std::alloc::Global;
+use std::process::Abort;
 use std::sync::Wait;
-use std::test::*;
 use std::thread::Threads;
 use tk_io::{MemSink, Sink};
 
-/// What is written of an input that is run with these settings.
+/// What is written of an input that is run with these settings. None where there is no memory.
 fn written<R: Threads + Wait + Sync>(
     rt: &R,
     alloc: Global,
     input: BulkInput,
     settings: Settings,
-) -> Result<MemSink, Fail>
+) -> Option<MemSink>
     requires input { IsInput input }
     requires settings { AreSettings settings }
 {
-    let sums = run_bulk(rt, alloc, input, settings)?;
-    let mut out = MemSink::make(alloc, 1000, &[])?;
-    write_sums(&mut out, &sums)?;
-    Ok(out)
+    let sums = run_bulk(rt, alloc, input, settings).ok()?;
+    let mut out = MemSink::make(alloc, 1000, &[]).ok()?;
+    match write_sums(&mut out, &sums) {
+        Ok(()) => Some(out),
+        Err(_) => {
+            drop(out);
+            None
+        }
+    }
+}
+
+/// An input that is run with these settings comes to this line.
+fn comes_to<R: Threads + Wait + Abort + Sync>(
+    rt: &R,
+    alloc: Global,
+    input: BulkInput,
+    settings: Settings,
+    line: &str,
+)
+    requires input { IsInput input }
+    requires settings { AreSettings settings }
+{
+    let Some(out) = written(rt, alloc, input, settings) else {
+        panic!(rt; "there was memory");
+    };
+    assert_eq!(rt; out.taken(), line.as_bytes());
+    drop(out);
 }
 
 /// One query after another, over pages of 100 rows.
@@ -59,10 +82,8 @@ const NONE: BulkInput = BulkInput {
 const NONE_LINE: &str = "bulk queries 0 answered 0 depth 0 sorted 0 random 0 values 0\n";
 
 #[test]
-fn no_query(rt: HostRuntime) -> Result<(), Fail> {
-    let out = written(&rt, rt.alloc(), NONE, EIGHT)?;
-    assert_eq!(rt; out.taken(), NONE_LINE.as_bytes());
-    Ok(())
+fn no_query(rt: HostRuntime) {
+    comes_to(&rt, rt.alloc(), NONE, EIGHT, NONE_LINE);
 }
 
 const ONE_ROW: BulkInput = BulkInput {
@@ -75,10 +96,8 @@ const ONE_ROW: BulkInput = BulkInput {
 const ONE_ROW_LINE: &str = "bulk queries 1 answered 1 depth 1 sorted 1 random 0 values 951640\n";
 
 #[test]
-fn one_row(rt: HostRuntime) -> Result<(), Fail> {
-    let out = written(&rt, rt.alloc(), ONE_ROW, MOST)?;
-    assert_eq!(rt; out.taken(), ONE_ROW_LINE.as_bytes());
-    Ok(())
+fn one_row(rt: HostRuntime) {
+    comes_to(&rt, rt.alloc(), ONE_ROW, MOST, ONE_ROW_LINE);
 }
 
 const THREE_LISTS: BulkInput = BulkInput {
@@ -92,24 +111,18 @@ const THREE_LISTS_LINE: &str =
     "bulk queries 6 answered 6 depth 164 sorted 492 random 196 values 43899669\n";
 
 #[test]
-fn queries_alone(rt: HostRuntime) -> Result<(), Fail> {
-    let out = written(&rt, rt.alloc(), THREE_LISTS, ALONE)?;
-    assert_eq!(rt; out.taken(), THREE_LISTS_LINE.as_bytes());
-    Ok(())
+fn queries_alone(rt: HostRuntime) {
+    comes_to(&rt, rt.alloc(), THREE_LISTS, ALONE, THREE_LISTS_LINE);
 }
 
 #[test]
-fn queries_on_eight_workers(rt: HostRuntime) -> Result<(), Fail> {
-    let out = written(&rt, rt.alloc(), THREE_LISTS, EIGHT)?;
-    assert_eq!(rt; out.taken(), THREE_LISTS_LINE.as_bytes());
-    Ok(())
+fn queries_on_eight_workers(rt: HostRuntime) {
+    comes_to(&rt, rt.alloc(), THREE_LISTS, EIGHT, THREE_LISTS_LINE);
 }
 
 #[test]
-fn more_workers_than_queries(rt: HostRuntime) -> Result<(), Fail> {
-    let out = written(&rt, rt.alloc(), THREE_LISTS, MOST)?;
-    assert_eq!(rt; out.taken(), THREE_LISTS_LINE.as_bytes());
-    Ok(())
+fn more_workers_than_queries(rt: HostRuntime) {
+    comes_to(&rt, rt.alloc(), THREE_LISTS, MOST, THREE_LISTS_LINE);
 }
 
 /// Eight lists of five rows, so that five objects are the most that a query asks for.
@@ -124,10 +137,8 @@ const EIGHT_LISTS_LINE: &str =
     "bulk queries 12 answered 12 depth 41 sorted 328 random 156 values 172080129\n";
 
 #[test]
-fn eight_fetchers(rt: HostRuntime) -> Result<(), Fail> {
-    let out = written(&rt, rt.alloc(), EIGHT_LISTS, EIGHT)?;
-    assert_eq!(rt; out.taken(), EIGHT_LISTS_LINE.as_bytes());
-    Ok(())
+fn eight_fetchers(rt: HostRuntime) {
+    comes_to(&rt, rt.alloc(), EIGHT_LISTS, EIGHT, EIGHT_LISTS_LINE);
 }
 
 /// Four lists of 200 rows, and queries whose k, expression, algorithm and costs differ.
@@ -142,15 +153,11 @@ const FOUR_LISTS_LINE: &str =
     "bulk queries 20 answered 20 depth 1126 sorted 4504 random 2800 values 358564775\n";
 
 #[test]
-fn twenty_queries_alone(rt: HostRuntime) -> Result<(), Fail> {
-    let out = written(&rt, rt.alloc(), FOUR_LISTS, ALONE)?;
-    assert_eq!(rt; out.taken(), FOUR_LISTS_LINE.as_bytes());
-    Ok(())
+fn twenty_queries_alone(rt: HostRuntime) {
+    comes_to(&rt, rt.alloc(), FOUR_LISTS, ALONE, FOUR_LISTS_LINE);
 }
 
 #[test]
-fn twenty_queries_on_eight_workers(rt: HostRuntime) -> Result<(), Fail> {
-    let out = written(&rt, rt.alloc(), FOUR_LISTS, EIGHT)?;
-    assert_eq!(rt; out.taken(), FOUR_LISTS_LINE.as_bytes());
-    Ok(())
+fn twenty_queries_on_eight_workers(rt: HostRuntime) {
+    comes_to(&rt, rt.alloc(), FOUR_LISTS, EIGHT, FOUR_LISTS_LINE);
 }

@@ -26,11 +26,11 @@ fn answers_on(alloc: Global, input: &str, answer: &Answer) -> Result<bool, Unmad
     answers
 }
 
-/// The query of the first row that is answered otherwise.
-pub fn first_other(alloc: Global, rows: &[Answer]) -> Result<Option<&'static str>, Unmade> {
-    for answer in rows {
+/// The number of the first row that is answered otherwise.
+pub fn first_wrong(alloc: Global, rows: &[Answer]) -> Result<Option<usize>, Unmade> {
+    for (number, answer) in rows.iter().enumerate() {
         if !is_answered(alloc, answer)? {
-            return Ok(Some(answer.1));
+            return Ok(Some(number));
         }
     }
     Ok(None)

@@ -5,7 +5,7 @@ mod answers;
 mod drives;
 mod outcomes;
 
-pub use answers::{Answer, first_other};
+pub use answers::{Answer, first_wrong};
 pub use call_ends::Status;
 pub use drives::{judge_into, one_into, one_of};
 pub use outcomes::{Streams, judge_ends, make_ends, one_ends, one_ends_over};

@@ -1,7 +1,7 @@
 //! Queries that are answered. Each row has a bundle's lists, a query, and its certificate from the third line on.
 
-use bundle_support::{Answer, first_other};
-use std::test::Fail;
+use super::none_is_wrong;
+use bundle_support::{Answer, first_wrong};
 
 const LISTS: &str = "list A\n1,900\n2,800\n3,100\nlist B\n2,700\n3,600\n1,500\n";
 
@@ -70,9 +70,8 @@ const BY_THRESHOLD: [Answer; 11] = [
 ];
 
 #[test]
-fn answers_queries(rt: HostRuntime) -> Result<(), Fail> {
-    assert_eq!(rt; first_other(rt.alloc(), &BY_THRESHOLD)?, None);
-    Ok(())
+fn answers_queries(rt: HostRuntime) {
+    none_is_wrong(&rt, first_wrong(rt.alloc(), &BY_THRESHOLD));
 }
 
 /// By sorted access alone.
@@ -95,7 +94,6 @@ const BY_SORTED: [Answer; 3] = [
 ];
 
 #[test]
-fn answers_without_random_access(rt: HostRuntime) -> Result<(), Fail> {
-    assert_eq!(rt; first_other(rt.alloc(), &BY_SORTED)?, None);
-    Ok(())
+fn answers_without_random_access(rt: HostRuntime) {
+    none_is_wrong(&rt, first_wrong(rt.alloc(), &BY_SORTED));
 }

@@ -1,8 +1,8 @@
 //! Rows of the combined algorithm, worked out by hand. Each has a bundle's lists, a query, and its certificate from the
 //! third line on.
 
-use bundle_support::{Answer, first_other};
-use std::test::Fail;
+use super::none_is_wrong;
+use bundle_support::{Answer, first_wrong};
 
 const LISTS: &str = "list A\n1,900\n2,800\n3,100\nlist B\n2,700\n3,600\n1,500\n";
 
@@ -59,9 +59,8 @@ const CHOSEN: [Answer; 6] = [
 ];
 
 #[test]
-fn chooses_an_object(rt: HostRuntime) -> Result<(), Fail> {
-    assert_eq!(rt; first_other(rt.alloc(), &CHOSEN)?, None);
-    Ok(())
+fn chooses_an_object(rt: HostRuntime) {
+    none_is_wrong(&rt, first_wrong(rt.alloc(), &CHOSEN));
 }
 
 /// All objects asked for, the finish, and one list.
@@ -93,7 +92,6 @@ const FINISHED: [Answer; 4] = [
 ];
 
 #[test]
-fn finishes_an_answer(rt: HostRuntime) -> Result<(), Fail> {
-    assert_eq!(rt; first_other(rt.alloc(), &FINISHED)?, None);
-    Ok(())
+fn finishes_an_answer(rt: HostRuntime) {
+    none_is_wrong(&rt, first_wrong(rt.alloc(), &FINISHED));
 }

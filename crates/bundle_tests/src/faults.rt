@@ -1,8 +1,8 @@
 //! Each fault of the streams in turn, on the first example.
 
+use super::none_is_wrong;
 use bundle_support::{Status, Streams, one_ends_over, one_into};
 use std::alloc::Global;
-use std::test::Fail;
 use test_support::{FIRST_TEXT, Unmade};
 use tk_io::{Failed, MemSink, Sink};
 
@@ -11,7 +11,7 @@ const BUNDLE: &[u8] =
     b"list A\n1,900\n2,800\n3,100\nlist B\n2,700\n3,600\n1,500\nquery top 1 by sum(A,B) using ta";
 
 /// How many bytes the certificate has.
-const LENGTH: u64 = 186;
+const LENGTH: usize = 186;
 
 /// Whether `one` ends so where these calls of the input fail and there is room for so many bytes, and
 /// writes the first bytes of the certificate, so many.
@@ -34,9 +34,9 @@ fn ends_so(
 }
 
 /// The first call of the input that may fail without a fault of reading, or after which something is written.
-fn first_unread(alloc: Global) -> Result<Option<u64>, Unmade> {
+fn first_unread(alloc: Global) -> Result<Option<usize>, Unmade> {
     for call in 1..4 {
-        if !ends_so(alloc, &[call], 200, (Status::ReadFault, 0))? {
+        if !ends_so(alloc, &[call as u64], 200, (Status::ReadFault, 0))? {
             return Ok(Some(call));
         }
     }
@@ -44,29 +44,27 @@ fn first_unread(alloc: Global) -> Result<Option<u64>, Unmade> {
 }
 
 #[test]
-fn ends_where_nothing_is_read(rt: HostRuntime) -> Result<(), Fail> {
-    assert_eq!(rt; first_unread(rt.alloc())?, None);
-    Ok(())
+fn ends_where_nothing_is_read(rt: HostRuntime) {
+    none_is_wrong(&rt, first_unread(rt.alloc()));
 }
 
 /// Rooms that are less than the certificate.
 const ROOMS: [u32; 5] = [0, 1, 13, 14, 185];
 
-/// The first room that isn't filled, or doesn't end in a fault of writing.
-fn first_unfilled(alloc: Global, rooms: &[u32]) -> Result<Option<u32>, Unmade> {
-    for room in rooms {
+/// The number of the first room that isn't filled, or doesn't end in a fault of writing.
+fn first_unfilled(alloc: Global, rooms: &[u32]) -> Result<Option<usize>, Unmade> {
+    for (number, room) in rooms.iter().enumerate() {
         let expected = (Status::WriteFault, *room as usize);
         if !ends_so(alloc, &[], *room, expected)? {
-            return Ok(Some(*room));
+            return Ok(Some(number));
         }
     }
     Ok(None)
 }
 
 #[test]
-fn ends_where_the_room_does(rt: HostRuntime) -> Result<(), Fail> {
-    assert_eq!(rt; first_unfilled(rt.alloc(), &ROOMS)?, None);
-    Ok(())
+fn ends_where_the_room_does(rt: HostRuntime) {
+    none_is_wrong(&rt, first_unfilled(rt.alloc(), &ROOMS));
 }
 
 /// A sink that takes one byte in each call.
@@ -92,12 +90,12 @@ impl Sink for ByteSink {
 
 /// Whether `one` ends in a fault of writing where the call behind so many bytes fails, and writes these; or in none, where
 /// these are all.
-fn ends_behind(alloc: Global, written: u64) -> Result<bool, Unmade> {
-    let sink = MemSink::make(alloc, 186, &[written.saturating_add(1)])?;
+fn ends_behind(alloc: Global, written: usize) -> Result<bool, Unmade> {
+    let sink = MemSink::make(alloc, 186, &[(written as u64).saturating_add(1)])?;
     let mut out = ByteSink { sink };
     let status = one_into(alloc, BUNDLE, &[], &mut out);
     let taken = out.sink.taken();
-    let is_front = FIRST_TEXT.as_bytes().starts_with(taken) && taken.len() as u64 == written;
+    let is_front = FIRST_TEXT.as_bytes().starts_with(taken) && taken.len() == written;
     drop(out);
     let expected = if written == LENGTH {
         Status::Done
@@ -108,7 +106,7 @@ fn ends_behind(alloc: Global, written: u64) -> Result<bool, Unmade> {
 }
 
 /// The first number of bytes behind which the failing call ends otherwise.
-fn first_behind(alloc: Global) -> Result<Option<u64>, Unmade> {
+fn first_behind(alloc: Global) -> Result<Option<usize>, Unmade> {
     for written in 0..LENGTH + 1 {
         if !ends_behind(alloc, written)? {
             return Ok(Some(written));
@@ -118,7 +116,6 @@ fn first_behind(alloc: Global) -> Result<Option<u64>, Unmade> {
 }
 
 #[test]
-fn ends_at_each_failing_write(rt: HostRuntime) -> Result<(), Fail> {
-    assert_eq!(rt; first_behind(rt.alloc())?, None);
-    Ok(())
+fn ends_at_each_failing_write(rt: HostRuntime) {
+    none_is_wrong(&rt, first_behind(rt.alloc()));
 }

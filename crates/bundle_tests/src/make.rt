@@ -1,8 +1,8 @@
 //! The command `make`.
 
-use bundle_support::{Status, first_other, make_ends};
+use super::none_is_wrong;
+use bundle_support::{Answer, Status, first_wrong, make_ends};
 use std::alloc::Global;
-use std::test::Fail;
 use test_support::Unmade;
 
 /// The sections of the table of 2 lists over 4 objects that is made from 7.
@@ -15,21 +15,32 @@ const QUERY: &str = "top 1 by sum(l1,l2) using ta";
 const REST: &str =
     "count 4\nanswer 4 1333161 1333161\nstop depth 2 sorted 4 random 3 cost 7\ns l1 3 854807\ns l2 4 615073\nr l2 3 188999\nr l1 4 718088\ns l1 4 718088\ns l2 2 256922\nr l1 2 261179\nend\n";
 
-/// Whether `make` ends so for that table where these calls can't write, and writes this text.
-fn makes(alloc: Global, fails: &[u64], expected: (Status, &str)) -> Result<bool, Unmade> {
-    make_ends(alloc, 7, 4, 2, fails, expected)
+/// Which calls can't write, how `make` ends for that table, and what it writes.
+const ROWS: [(&[u64], Status, &str); 2] = [
+    (&[], Status::Done, MADE),
+    (&[1], Status::WriteFault, ""),
+];
+
+/// The number of the first row that ends otherwise.
+fn first_unmade(alloc: Global, rows: &[(&[u64], Status, &str)]) -> Result<Option<usize>, Unmade> {
+    for (number, row) in rows.iter().enumerate() {
+        let (fails, status, text) = *row;
+        if !make_ends(alloc, 7, 4, 2, fails, (status, text))? {
+            return Ok(Some(number));
+        }
+    }
+    Ok(None)
 }
 
 #[test]
-fn writes_what_one_reads(rt: HostRuntime) -> Result<(), Fail> {
-    let is_made = makes(rt.alloc(), &[], (Status::Done, MADE))?;
-    let is_answered = first_other(rt.alloc(), &[(MADE, QUERY, REST)])?.is_none();
-    assert!(rt; is_made && is_answered);
-    Ok(())
+fn writes_a_table(rt: HostRuntime) {
+    none_is_wrong(&rt, first_unmade(rt.alloc(), &ROWS));
 }
 
+/// What `one` answers over that table.
+const ANSWERED: [Answer; 1] = [(MADE, QUERY, REST)];
+
 #[test]
-fn ends_where_no_byte_is_taken(rt: HostRuntime) -> Result<(), Fail> {
-    assert!(rt; makes(rt.alloc(), &[1], (Status::WriteFault, ""))?);
-    Ok(())
+fn writes_what_one_reads(rt: HostRuntime) {
+    none_is_wrong(&rt, first_wrong(rt.alloc(), &ANSWERED));
 }

@@ -1,8 +1,8 @@
 //! The outcomes of lines.
 
+use super::none_is_wrong;
 use catalog_support::{Case, first_wrong};
 use source_support::{Held, Kind};
-use std::test::Fail;
 
 /// The first lists: their objects' grades don't rise.
 const A: &[(u32, u32)] = &[(1, 900), (2, 800), (3, 100)];
@@ -96,9 +96,8 @@ const BEFORE: &[Case] = &[
 ];
 
 #[test]
-fn refuses_before_running(rt: HostRuntime) -> Result<(), Fail> {
-    assert_eq!(rt; first_wrong(&rt, rt.alloc(), BEFORE), 0);
-    Ok(())
+fn refuses_before_running(rt: HostRuntime) {
+    none_is_wrong(&rt, first_wrong(&rt, rt.alloc(), BEFORE));
 }
 
 /// Lists whose rows or sizes are at fault.
@@ -155,9 +154,8 @@ const ROWS: &[Case] = &[
 ];
 
 #[test]
-fn refuses_by_the_rows(rt: HostRuntime) -> Result<(), Fail> {
-    assert_eq!(rt; first_wrong(&rt, rt.alloc(), ROWS), 0);
-    Ok(())
+fn refuses_by_the_rows(rt: HostRuntime) {
+    none_is_wrong(&rt, first_wrong(&rt, rt.alloc(), ROWS));
 }
 
 /// Lists over objects that differ, a room that is too small, and one place under two names.
@@ -236,9 +234,8 @@ const OBJECTS: &[Case] = &[
 ];
 
 #[test]
-fn refuses_by_the_objects(rt: HostRuntime) -> Result<(), Fail> {
-    assert_eq!(rt; first_wrong(&rt, rt.alloc(), OBJECTS), 0);
-    Ok(())
+fn refuses_by_the_objects(rt: HostRuntime) {
+    none_is_wrong(&rt, first_wrong(&rt, rt.alloc(), OBJECTS));
 }
 
 /// Calls that fail, are garbled or answered by another grade than before.
@@ -306,9 +303,8 @@ const CALLS: &[Case] = &[
 ];
 
 #[test]
-fn refuses_by_calls_that_fail(rt: HostRuntime) -> Result<(), Fail> {
-    assert_eq!(rt; first_wrong(&rt, rt.alloc(), CALLS), 0);
-    Ok(())
+fn refuses_by_calls_that_fail(rt: HostRuntime) {
+    none_is_wrong(&rt, first_wrong(&rt, rt.alloc(), CALLS));
 }
 
 /// Sources that give another grade for an object by random access.
@@ -346,7 +342,6 @@ const GRADES: &[Case] = &[
 ];
 
 #[test]
-fn refuses_by_the_grades(rt: HostRuntime) -> Result<(), Fail> {
-    assert_eq!(rt; first_wrong(&rt, rt.alloc(), GRADES), 0);
-    Ok(())
+fn refuses_by_the_grades(rt: HostRuntime) {
+    none_is_wrong(&rt, first_wrong(&rt, rt.alloc(), GRADES));
 }

@@ -40,21 +40,48 @@ fn run_example<R: Files + AllocGlobal + Threads + Wait + Sync>(
     let Some((input, command)) = example.split_once(' ') else {
         return Err(io::Error::from(ErrorKind::InvalidInput));
     };
-    let name = input.rsplit_once('.').unwrap_or((input, "")).0;
-    let text = fs::read(rt, format!(in rt.alloc(); "{name}.text")?)?;
     let words = words_of(rt.alloc(), command)?;
+    let ended = run_words(rt, input, &words);
+    drop(words);
+    ended
+}
+
+/// How a command over a file ends, and whether what it wrote is the file's text.
+fn run_words<R: Files + AllocGlobal + Threads + Wait + Sync>(
+    rt: &R,
+    input: &str,
+    words: &Words,
+) -> io::Result<(Status, bool)> {
+    let text = text_of(rt, input)?;
+    let ended = write_by(rt, input, words, &text);
+    drop(text);
+    ended
+}
+
+/// What a command over a file is to write: the file under the same name with the ending `.text`.
+fn text_of<R: Files + AllocGlobal>(rt: &R, input: &str) -> io::Result<Vec<u8>> {
+    let name = input.rsplit_once('.').unwrap_or((input, "")).0;
+    fs::read(rt, format!(in rt.alloc(); "{name}.text")?)
+}
+
+/// How a command over a file ends, and whether it wrote this text.
+fn write_by<R: Files + AllocGlobal + Threads + Wait + Sync>(
+    rt: &R,
+    input: &str,
+    words: &Words,
+    text: &[u8],
+) -> io::Result<(Status, bool)> {
+    let mut input = StdIntake::make(fs::open(rt, input)?);
     let Ok(mut out) = MemSink::make(rt.alloc(), ROOM, &[]) else {
         return Err(io::Error::from(ErrorKind::OutOfMemory));
     };
-    let mut input = StdIntake::make(fs::open(rt, input)?);
     let mut shelf = FileShelf::make(rt.alloc(), rt);
-    let status = top(rt, rt.alloc(), &words, &mut shelf, &mut input, &mut out);
-    Ok((status, out.taken() == text.as_slice()))
+    let status = top(rt, rt.alloc(), words, &mut shelf, &mut input, &mut out);
+    Ok((status, out.taken() == text))
 }
 
-/// The words of a command, with one space between them.
-fn words_of(alloc: Global, command: &str) -> io::Result<Words> {
-    let mut words = Words::make(alloc);
+/// Adds the words of a command, with one space between them.
+fn add_words(command: &str, words: &mut Words) -> io::Result<()> {
     for word in command.split(' ') {
         if words.len() >= MOST_WORDS {
             return Err(io::Error::from(ErrorKind::InvalidInput));
@@ -63,5 +90,17 @@ fn words_of(alloc: Global, command: &str) -> io::Result<Words> {
             return Err(io::Error::from(ErrorKind::OutOfMemory));
         };
     }
-    Ok(words)
+    Ok(())
+}
+
+/// The words of a command.
+fn words_of(alloc: Global, command: &str) -> io::Result<Words> {
+    let mut words = Words::make(alloc);
+    match add_words(command, &mut words) {
+        Ok(()) => Ok(words),
+        Err(fault) => {
+            drop(words);
+            Err(fault)
+        }
+    }
 }

@@ -4,5 +4,5 @@
 mod runs;
 mod waiting;
 
-pub use runs::{A, B, Case, GATE, Waiter, end_so, goes_so, no_calls, slots_of};
+pub use runs::{Case, GATE, Waiter, goes_again, goes_so};
 pub use waiting::{Call, Gate, Gated};

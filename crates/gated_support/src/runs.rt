@@ -8,7 +8,7 @@ use batch_support::{are_ended_so, run_of};
 use fetcher::Slot;
 use query_support::{Asked, Expected};
 use source_api::Trouble;
-use source_support::{Held, Kind, source_of};
+use source_support::{Held, source_of};
 use std::alloc::Global;
 use std::sync::Wait;
 use std::sync::atomic::AtomicU64;
@@ -18,7 +18,8 @@ use std::thread::Threads;
 /// A source, and its call that waits.
 pub type Waiter = (Held, Option<Gate>);
 
-/// A batch: sources, how many objects each has, queries, settings, and how the queries end.
+/// A batch: sources, how many objects each has, queries, settings, how the queries end, and how many calls of the first source have
+/// failed by then.
 #[derive(Clone, Copy)]
 pub struct Case {
     pub waiters: &'static [Waiter],
@@ -26,20 +27,8 @@ pub struct Case {
     pub asked: &'static [Asked],
     pub settings: Settings,
     pub ends: &'static [Expected],
+    pub faults: u64,
 }
-
-/// Two lists of three objects.
-pub const A: Held = Held {
-    place: "a",
-    rows: &[(1, 900), (2, 800), (3, 100)],
-    kind: Kind::Honest,
-};
-
-pub const B: Held = Held {
-    place: "b",
-    rows: &[(2, 700), (3, 600), (1, 500)],
-    kind: Kind::Honest,
-};
 
 /// The first call for a page waits for that of the first source, and fails if it waits in vain.
 pub const GATE: Gate = Gate {
@@ -51,7 +40,7 @@ pub const GATE: Gate = Gate {
 };
 
 /// No call made of any of three sources.
-pub fn no_calls() -> [AtomicU64; 3] {
+fn no_calls() -> [AtomicU64; 3] {
     [AtomicU64::new(0), AtomicU64::new(0), AtomicU64::new(0)]
 }
 
@@ -81,7 +70,7 @@ fn add_slot<'a>(slots: &mut Vec<Slot<Gated<'a>>>, source: Gated<'a>) -> Result<(
 }
 
 /// A slot of each source. The calls for their pages are counted in `pages`, by their numbers.
-pub fn slots_of<'a>(
+fn slots_of<'a>(
     alloc: Global,
     waiters: &[Waiter],
     pages: &'a [AtomicU64],
@@ -96,23 +85,23 @@ pub fn slots_of<'a>(
     Ok(slots)
 }
 
-/// Whether the queries of a batch end so over its sources.
-pub fn end_so<R: Threads + Wait + Sync>(
+/// Whether the queries of a batch end so over its sources, None where there is no batch for want of memory.
+fn end_so<R: Threads + Wait + Sync>(
     rt: &R,
     alloc: Global,
     slots: &mut [Slot<Gated>],
     case: &Case,
-) -> Result<bool, Fail>
+) -> Result<Option<bool>, Fail>
     requires { All (λ slot. slot.feeder ≡ None) slots.old }
     ensures { All (λ slot. slot.feeder ≡ None) slots.new }
 {
     let ran = run_of(rt, alloc, slots, case.counts, case.asked, case.settings)?;
     let Ok(batch) = ran else {
-        return Ok(false);
+        return Ok(None);
     };
     let so = are_ended_so(&batch, case.ends);
     drop(batch);
-    Ok(so)
+    Ok(Some(so))
 }
 
 /// Whether a batch goes as it is to.
@@ -120,6 +109,35 @@ pub fn goes_so<R: Threads + Wait + Sync>(rt: &R, alloc: Global, case: &Case) -> 
     let pages = no_calls();
     let mut slots = slots_of(alloc, case.waiters, &pages)?;
     let so = end_so(rt, alloc, &mut slots, case);
+    let faults = slots.first().map(|slot| slot.source.counts().faults);
+    drop(slots);
+    Ok(so? == Some(true) && faults == Some(case.faults))
+}
+
+/// Whether there is no batch at first, for want of memory, and the queries end as they are to where they are run again over the same
+/// slots.
+fn end_again<R: Threads + Wait + Sync>(
+    rt: &R,
+    alloc: Global,
+    slots: &mut [Slot<Gated>],
+    case: &Case,
+) -> Result<bool, Fail>
+    requires { All (λ slot. slot.feeder ≡ None) slots.old }
+{
+    let first = end_so(rt, alloc, slots, case)?;
+    let second = end_so(rt, alloc, slots, case)?;
+    Ok(first == None && second == Some(true))
+}
+
+/// Whether a batch wants memory at first, and goes as it is to where it is run again.
+pub fn goes_again<R: Threads + Wait + Sync>(
+    rt: &R,
+    alloc: Global,
+    case: &Case,
+) -> Result<bool, Fail> {
+    let pages = no_calls();
+    let mut slots = slots_of(alloc, case.waiters, &pages)?;
+    let so = end_again(rt, alloc, &mut slots, case);
     drop(slots);
     so
 }

@@ -1,10 +1,9 @@
 //! What `one` writes of random tables, and what the plain program computes.
 
-use super::bundles::bundle_of;
-use super::plain::expected;
+use super::none_is_wrong;
 use bundle_support::{Status, one_ends};
+use plain_answer_support::{bundle_of, expected};
 use std::alloc::Global;
-use std::test::Fail;
 use test_support::Numbers;
 
 /// Expressions over one, two and three lists.
@@ -20,11 +19,11 @@ const EXPRESSIONS: [(usize, &str); 8] = [
 ];
 
 /// Whether `one` writes of a bundle what the plain program computes.
-fn is_plain(alloc: Global, input: &str, asked: (&str, u32)) -> Result<bool, Fail> {
+fn is_plain(alloc: Global, input: &str, asked: (&str, u32)) -> Option<bool> {
     let wanted = expected(alloc, input, asked)?;
     let is_so = one_ends(alloc, input.as_bytes(), (Status::Done, &wanted));
     drop(wanted);
-    Ok(is_so?)
+    is_so.ok()
 }
 
 /// The same of a random bundle of so many lists.
@@ -33,7 +32,7 @@ fn is_plain_at_random(
     numbers: &mut Numbers,
     lists: usize,
     asked: (&str, u32),
-) -> Result<bool, Fail> {
+) -> Option<bool> {
     let input = bundle_of(alloc, numbers, lists, asked.1, asked.0)?;
     let is_so = is_plain(alloc, &input, asked);
     drop(input);
@@ -46,13 +45,13 @@ fn are_plain(
     numbers: &mut Numbers,
     lists: usize,
     asked: (&str, u32),
-) -> Result<bool, Fail> {
+) -> Option<bool> {
     for _table in 0..3 {
         if !is_plain_at_random(alloc, numbers, lists, asked)? {
-            return Ok(false);
+            return Some(false);
         }
     }
-    Ok(true)
+    Some(true)
 }
 
 /// The same of a query for k of so many objects by an expression.
@@ -62,39 +61,46 @@ fn are_plain_for(
     by: (usize, &str, &str),
     k: u32,
     count: u32,
-) -> Result<bool, Fail> {
+) -> Option<bool> {
     let (lists, expression, algorithm) = by;
-    let query = format!(in alloc; "top {k} by {expression} using {algorithm}")?;
+    let query = format!(in alloc; "top {k} by {expression} using {algorithm}").ok()?;
     let are_so = are_plain(alloc, numbers, lists, (&query, count));
     drop(query);
     are_so
 }
 
 /// The same for each number of objects and of answers up to four.
-fn is_plain_by(
-    alloc: Global,
-    numbers: &mut Numbers,
-    by: (usize, &str, &str),
-) -> Result<bool, Fail> {
+fn is_plain_by(alloc: Global, numbers: &mut Numbers, by: (usize, &str, &str)) -> Option<bool> {
     for count in 1..5 {
         for k in 1..count + 1 {
             if !are_plain_for(alloc, numbers, by, k, count)? {
-                return Ok(false);
+                return Some(false);
             }
         }
     }
-    Ok(true)
+    Some(true)
 }
 
-/// The first expression by which something else is written than the plain program computes, by an algorithm.
-fn first_other(alloc: Global, algorithm: &str) -> Result<Option<&'static str>, Fail> {
+/// The number of the first expression by which something else is written than the plain program computes, by an algorithm.
+fn first_other(alloc: Global, algorithm: &str) -> Option<usize> {
     let mut numbers = Numbers::from_start(1);
-    for (lists, expression) in &EXPRESSIONS {
-        if !is_plain_by(alloc, &mut numbers, (*lists, *expression, algorithm))? {
-            return Ok(Some(*expression));
+    for (number, (lists, expression)) in EXPRESSIONS.iter().enumerate() {
+        let by = (*lists, *expression, algorithm);
+        if !is_plain_by(alloc, &mut numbers, by).unwrap_or(false) {
+            return Some(number);
         }
     }
-    Ok(None)
+    None
+}
+
+/// The numbers of the first of these algorithms by which something else is written, and of the first such expression.
+fn first_wrong(alloc: Global, algorithms: &[&str]) -> Option<(usize, usize)> {
+    for (number, algorithm) in algorithms.iter().enumerate() {
+        if let Some(expression) = first_other(alloc, *algorithm) {
+            return Some((number, expression));
+        }
+    }
+    None
 }
 
 /// Costs whose ratio is less than 1, 1, between 1 and 2, 2, and more than there are depths.
@@ -106,33 +112,17 @@ const COMBINED: [&str; 5] = [
     "ca cost 3 100",
 ];
 
-/// The first of these algorithms by which something else is written, and the first such expression.
-fn first_other_by(
-    alloc: Global,
-    algorithms: &[&'static str],
-) -> Result<Option<(&'static str, &'static str)>, Fail> {
-    for algorithm in algorithms {
-        if let Some(expression) = first_other(alloc, algorithm)? {
-            return Ok(Some((*algorithm, expression)));
-        }
-    }
-    Ok(None)
+#[test]
+fn combined_algorithm(rt: HostRuntime) {
+    none_is_wrong(&rt, first_wrong(rt.alloc(), &COMBINED));
 }
 
 #[test]
-fn combined_algorithm(rt: HostRuntime) -> Result<(), Fail> {
-    assert_eq!(rt; first_other_by(rt.alloc(), &COMBINED)?, None);
-    Ok(())
+fn threshold_algorithm(rt: HostRuntime) {
+    none_is_wrong(&rt, first_wrong(rt.alloc(), &["ta"]));
 }
 
 #[test]
-fn threshold_algorithm(rt: HostRuntime) -> Result<(), Fail> {
-    assert_eq!(rt; first_other(rt.alloc(), "ta")?, None);
-    Ok(())
-}
-
-#[test]
-fn without_random_access(rt: HostRuntime) -> Result<(), Fail> {
-    assert_eq!(rt; first_other(rt.alloc(), "nra")?, None);
-    Ok(())
+fn without_random_access(rt: HostRuntime) {
+    none_is_wrong(&rt, first_wrong(rt.alloc(), &["nra"]));
 }

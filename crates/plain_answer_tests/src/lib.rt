@@ -3,7 +3,12 @@
 
 #[cfg(test)]
 mod against_plain;
+
 #[cfg(test)]
-mod bundles;
+use std::process::Abort;
+
+/// What is written is what the plain program computes: there is no first algorithm and expression by which it isn't.
 #[cfg(test)]
-mod plain;
+fn none_is_wrong(rt: &impl Abort, first_wrong: Option<(usize, usize)>) {
+    assert_eq!(rt; first_wrong, None);
+}

@@ -1,6 +1,7 @@
 //! One query over a pool of two sources, beside fetchers on threads that really run, for tests.
 #![tactic(auto)]
 
+mod cases;
 mod sides;
 
-pub use sides::ends_beside;
+pub use cases::{Case, first_wrong};

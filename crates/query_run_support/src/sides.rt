@@ -107,7 +107,7 @@ fn run_all<R: Threads + Wait + Sync>(
 
 /// Runs a query over two sources of so many objects, each with a fetcher in a thread of its own that reads a row a page, and tells whether
 /// it ended as it is to. Without memory it didn't.
-pub fn ends_beside<R: Threads + Wait + Sync>(
+pub(crate) fn ends_beside<R: Threads + Wait + Sync>(
     rt: &R,
     alloc: Global,
     count: u32,

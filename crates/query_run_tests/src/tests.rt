@@ -1,21 +1,11 @@
 //! Rows that were worked out by hand.
 
-ghost use Rattle.std.specs.Prelude.{◌≤◌, ◌∷◌, [], All};
-ghost use Rattle.query_turns.specs.Made.{IsReadyFor};
-
 use access_log::CoreFault;
-use mem_source::MemSource;
-use query_core::Ready;
-use query_run_support::ends_beside;
-use query_support::{
-    Asked, Expected, FIRST, FIRST_ENDS, Figures, SORTED, SORTED_ENDS, let_go, readies_of,
-};
+use query_run_support::{Case, first_wrong};
+use query_support::{Expected, FIRST, FIRST_ENDS, Figures, SORTED, SORTED_ENDS};
 use source_state::{LookFault, SourceFault};
-use source_support::{Held, Kind, source_of};
-use std::alloc::Global;
-use std::sync::Wait;
+use source_support::{Held, Kind};
 use std::test::*;
-use std::thread::Threads;
 
 /// Two lists of three objects.
 const ROWS_A: &[(u32, u32)] = &[(1, 900), (2, 800), (3, 100)];
@@ -55,33 +45,25 @@ const FALLING: Held = Held {
     kind: Kind::Honest,
 };
 
-/// A query over two sources that are to have so many objects each, and how it ends.
-#[derive(Clone, Copy)]
-struct Case {
-    asked: Asked,
-    held: [Held; 2],
-    count: u32,
-    ends: Expected,
-}
-
+/// Queries that are answered.
 const ANSWERED: [Case; 3] = [
     Case {
         asked: FIRST,
-        held: [A, B],
+        held: (&A, &B),
         count: 3,
         ends: FIRST_ENDS,
     },
     // at depth 2 object 2 is known whole, and nothing else can have more than 1500
     Case {
         asked: SORTED,
-        held: [A, B],
+        held: (&A, &B),
         count: 3,
         ends: SORTED_ENDS,
     },
     // the row out of order isn't reached
     Case {
         asked: FIRST,
-        held: [RISING, FALLING],
+        held: (&RISING, &FALLING),
         count: 2,
         ends: Expected::Answered(
             &[(1, 900, 900)],
@@ -95,18 +77,19 @@ const ANSWERED: [Case; 3] = [
     },
 ];
 
-const REFUSED: [Case; 10] = [
+/// A room that is too small, an object too many, an object that a list lacks.
+const OBJECTS: [Case; 3] = [
     // there is room for object 1, and the first row of B has another
     Case {
         asked: ("top 1 by sum(A,B) using ta room 1", &[0, 1]),
-        held: [A, B],
+        held: (&A, &B),
         count: 3,
         ends: Expected::Core(CoreFault::RoomFull { room: 1 }),
     },
     // of three objects the second row of B is the fourth
     Case {
         asked: SORTED,
-        held: [A, OTHERS],
+        held: (&A, &OTHERS),
         count: 3,
         ends: Expected::Core(CoreFault::Strangers {
             object: 5,
@@ -116,21 +99,25 @@ const REFUSED: [Case; 10] = [
     // B hasn't the object of A's first row, whose grade is asked for first
     Case {
         asked: FIRST,
-        held: [A, OTHERS],
+        held: (&A, &OTHERS),
         count: 3,
         ends: Expected::Look(1, LookFault::Missing { object: 1 }),
     },
+];
+
+/// Random access gives another grade than the row has.
+const GRADES: [Case; 2] = [
     // the grade of object 2 in A is above that of the row that was read
     Case {
         asked: FIRST,
-        held: [
-            Held {
+        held: (
+            &Held {
                 place: "a",
                 rows: ROWS_A,
                 kind: Kind::Lies(2, 950),
             },
-            B,
-        ],
+            &B,
+        ),
         count: 3,
         ends: Expected::Look(
             0,
@@ -144,14 +131,14 @@ const REFUSED: [Case; 10] = [
     // it isn't that of the row which is read next
     Case {
         asked: FIRST,
-        held: [
-            Held {
+        held: (
+            &Held {
                 place: "a",
                 rows: ROWS_A,
                 kind: Kind::Lies(2, 850),
             },
-            B,
-        ],
+            &B,
+        ),
         count: 3,
         ends: Expected::Look(
             0,
@@ -162,9 +149,13 @@ const REFUSED: [Case; 10] = [
             }),
         ),
     },
+];
+
+/// Rows out of order, an object twice, fewer rows than are stated.
+const ROWS: [Case; 3] = [
     Case {
         asked: ("top 2 by sum(A,B) using ta", &[0, 1]),
-        held: [RISING, FALLING],
+        held: (&RISING, &FALLING),
         count: 2,
         ends: Expected::Look(
             0,
@@ -178,14 +169,14 @@ const REFUSED: [Case; 10] = [
     // the second row of A has the object of the first one
     Case {
         asked: SORTED,
-        held: [
-            Held {
+        held: (
+            &Held {
                 place: "a",
                 rows: &[(1, 9), (1, 8), (2, 7)],
                 kind: Kind::Honest,
             },
-            B,
-        ],
+            &B,
+        ),
         count: 3,
         ends: Expected::Look(
             0,
@@ -198,118 +189,57 @@ const REFUSED: [Case; 10] = [
     // A has two rows of the three that are stated
     Case {
         asked: ("top 3 by sum(A,B) using ta", &[0, 1]),
-        held: [
-            Held {
+        held: (
+            &Held {
                 place: "a",
                 rows: &[(1, 900), (2, 800)],
                 kind: Kind::Honest,
             },
-            Held {
+            &Held {
                 place: "b",
                 rows: &[(2, 700), (1, 600)],
                 kind: Kind::Honest,
             },
-        ],
+        ),
         count: 3,
         ends: Expected::Look(
             0,
             LookFault::Source(SourceFault::ShortList { stated: 3, got: 2 }),
         ),
     },
+];
+
+/// Calls that fail, and answers that cannot be read.
+const CALLS: [Case; 2] = [
     // the first page of B fails
     Case {
         asked: FIRST,
-        held: [
-            A,
-            Held {
+        held: (
+            &A,
+            &Held {
                 place: "b",
                 rows: ROWS_B,
                 kind: Kind::FailsAtPage(1),
             },
-        ],
+        ),
         count: 3,
         ends: Expected::Look(1, LookFault::Failed),
     },
     // the second page of A can't be read
     Case {
         asked: FIRST,
-        held: [
-            Held {
+        held: (
+            &Held {
                 place: "a",
                 rows: ROWS_A,
                 kind: Kind::GarblesAtPage(2),
             },
-            B,
-        ],
+            &B,
+        ),
         count: 3,
         ends: Expected::Look(0, LookFault::Garbled),
     },
 ];
-
-/// Whether the first of these queries ends over its sources as it is to.
-fn first_ends_so<R: Threads + Wait + Sync>(
-    rt: &R,
-    alloc: Global,
-    count: u32,
-    sources: &mut (MemSource, MemSource),
-    readies: &[Ready],
-    ends: &Expected,
-) -> bool
-    requires count { count ≤ 200000 }
-    requires ready { All (IsReadyFor (count ∷ count ∷ [])) readies.now }
-{
-    !readies.is_empty() && ends_beside(rt, alloc, count, sources, &readies[0], ends)
-}
-
-/// Whether the query of a case ends as it is to over its sources.
-fn ends_over<R: Threads + Wait + Sync>(
-    rt: &R,
-    alloc: Global,
-    case: &Case,
-    sources: &mut (MemSource, MemSource),
-) -> Result<bool, Fail> {
-    let count = case.count.min(200_000);
-    let readies = readies_of(alloc, &[count, count], &[case.asked])?;
-    let so = first_ends_so(rt, alloc, count, sources, &readies, &case.ends);
-    let_go(readies);
-    Ok(so)
-}
-
-/// The sources of a case. None without memory.
-fn sources_of(alloc: Global, case: &Case) -> Option<(MemSource, MemSource)> {
-    let first = source_of(alloc, &case.held[0])?;
-    match source_of(alloc, &case.held[1]) {
-        Some(second) => Some((first, second)),
-        None => {
-            drop(first);
-            None
-        }
-    }
-}
-
-/// The same, with the sources.
-fn ends_so<R: Threads + Wait + Sync>(rt: &R, alloc: Global, case: &Case) -> Result<bool, Fail> {
-    let Some(mut sources) = sources_of(alloc, case) else {
-        return Ok(false);
-    };
-    let so = ends_over(rt, alloc, case, &mut sources);
-    drop(sources);
-    so
-}
-
-/// The place of the first query that ends otherwise.
-fn first_wrong<R: Threads + Wait + Sync>(
-    rt: &R,
-    alloc: Global,
-    cases: &[Case],
-) -> Result<Option<usize>, Fail> {
-    for (place, case) in cases.iter().enumerate() {
-        if !ends_so(rt, alloc, case)? {
-            return Ok(Some(place));
-        }
-    }
-    Ok(None)
-}
 
 #[test]
 fn answers_beside_two_fetchers(rt: HostRuntime) -> Result<(), Fail> {
@@ -319,6 +249,12 @@ fn answers_beside_two_fetchers(rt: HostRuntime) -> Result<(), Fail> {
 
 #[test]
 fn refuses_beside_two_fetchers(rt: HostRuntime) -> Result<(), Fail> {
-    assert_eq!(rt; first_wrong(&rt, rt.alloc(), &REFUSED)?, None);
+    let wrong = [
+        first_wrong(&rt, rt.alloc(), &OBJECTS)?,
+        first_wrong(&rt, rt.alloc(), &GRADES)?,
+        first_wrong(&rt, rt.alloc(), &ROWS)?,
+        first_wrong(&rt, rt.alloc(), &CALLS)?,
+    ];
+    assert_eq!(rt; wrong, [None, None, None, None]);
     Ok(())
 }

@@ -10,7 +10,6 @@ use mem_source::MemShelf;
 use query_text::print;
 use std::alloc::Global;
 use std::sync::Wait;
-use std::test::*;
 use std::thread::Threads;
 use test_support::Unmade;
 use tk_io::MemSink;
@@ -36,39 +35,56 @@ fn line_of(alloc: Global, made: Made, number: u32) -> Option<Vec<u8>> {
     let count = made.count.max(1);
     let lists = made.lists.max(1).min(8);
     let query = made_query(alloc, number, count, lists).ok()?;
-    print(alloc, &query).ok()
+    let line = print(alloc, &query);
+    drop(query);
+    line.ok()
 }
 
-/// The made queries, a line each.
-fn lines_of(alloc: Global, made: Made) -> Option<Vec<u8>> {
-    let mut lines = Vec::new(alloc);
+/// Adds the line of a made query.
+fn add_line(alloc: Global, made: Made, number: u32, lines: &mut Vec<u8>) -> Option<()> {
+    let line = line_of(alloc, made, number)?;
+    let added = lines.extend_from_slice(&line);
+    drop(line);
+    added.ok()?;
+    lines.push(b'\n').ok()
+}
+
+/// Adds the made queries, a line each.
+fn add_lines(alloc: Global, made: Made, lines: &mut Vec<u8>) -> Option<()> {
     for number in 0..made.queries {
-        let line = line_of(alloc, made, number)?;
-        lines.extend_from_slice(&line).ok()?;
-        lines.push(b'\n').ok()?;
+        add_line(alloc, made, number, lines)?;
     }
-    Some(lines)
+    Some(())
+}
+
+/// The lists of a text that `make` wrote, on a shelf, with their catalog.
+fn shelf_with_catalog(alloc: Global, text: &[u8], made: Made) -> Option<MemShelf> {
+    let mut shelf = shelf_of(alloc, text, made.lists, made.count)?;
+    match shelf.add_text("cat.csv", CATALOG) {
+        Ok(()) => Some(shelf),
+        Err(_) => {
+            drop(shelf);
+            None
+        }
+    }
 }
 
 /// The lists that `make` writes, on a shelf, with their catalog.
 fn made_shelf<R: Threads + Wait + Sync>(rt: &R, alloc: Global, made: Made) -> Option<MemShelf> {
     let (_, text) = end_of(rt, alloc, made.words, b"", ROOM).ok()?;
-    let mut shelf = shelf_of(alloc, text.taken(), made.lists, made.count)?;
-    match shelf.add_text("cat.csv", CATALOG) {
-        Ok(()) => Some(shelf),
-        Err(_) => None,
-    }
+    let shelf = shelf_with_catalog(alloc, text.taken(), made);
+    drop(text);
+    shelf
 }
 
-/// How `run` ends over a shelf of the lists, with so many workers, and what it writes.
-fn run_over<R: Threads + Wait + Sync>(
+/// How `run` ends on these lines over a shelf, with so many workers, and what it writes.
+fn run_on<R: Threads + Wait + Sync>(
     rt: &R,
     alloc: Global,
     shelf: &mut MemShelf,
-    made: Made,
+    lines: &[u8],
     workers: &str,
 ) -> Option<(Status, MemSink)> {
-    let lines = lines_of(alloc, made)?;
     let words = [
         "run",
         "cat.csv",
@@ -79,7 +95,24 @@ fn run_over<R: Threads + Wait + Sync>(
         "--workers",
         workers,
     ];
-    end_over(rt, alloc, &words, shelf, &lines, ROOM).ok()
+    end_over(rt, alloc, &words, shelf, lines, ROOM).ok()
+}
+
+/// How `run` ends on the made queries over a shelf of the lists, with so many workers, and what it writes.
+fn run_over<R: Threads + Wait + Sync>(
+    rt: &R,
+    alloc: Global,
+    shelf: &mut MemShelf,
+    made: Made,
+    workers: &str,
+) -> Option<(Status, MemSink)> {
+    let mut lines = Vec::new(alloc);
+    let ended = match add_lines(alloc, made, &mut lines) {
+        Some(()) => run_on(rt, alloc, shelf, &lines, workers),
+        None => None,
+    };
+    drop(lines);
+    ended
 }
 
 /// Whether no list gave more rows than are to be read for this depth.
@@ -91,7 +124,24 @@ fn are_within_reach(shelf: &MemShelf, depth: u32, count: u32) -> bool {
         .all(|place| shelf.rows_given_at(*place) <= u64::from(rows))
 }
 
-/// The figures of a run. None where a list gave more rows than are to be read for the greatest depth that is written.
+/// The figures of a run over a shelf. None where a list gave more rows than are to be read for the greatest depth that is written.
+fn figures_on<R: Threads + Wait + Sync>(
+    rt: &R,
+    alloc: Global,
+    shelf: &mut MemShelf,
+    made: Made,
+    workers: &str,
+) -> Option<Figures> {
+    let (status, out) = run_over(rt, alloc, shelf, made, workers)?;
+    let (figures, deepest) = figures_of(out.taken());
+    drop(out);
+    if status == Status::Done && are_within_reach(shelf, deepest, made.count) {
+        return Some(figures);
+    }
+    None
+}
+
+/// The same over the lists that `make` writes.
 fn figures_over<R: Threads + Wait + Sync>(
     rt: &R,
     alloc: Global,
@@ -99,18 +149,9 @@ fn figures_over<R: Threads + Wait + Sync>(
     workers: &str,
 ) -> Option<Figures> {
     let mut shelf = made_shelf(rt, alloc, made)?;
-    let Some((status, out)) = run_over(rt, alloc, &mut shelf, made, workers) else {
-        drop(shelf);
-        return None;
-    };
-    let (figures, deepest) = figures_of(out.taken());
-    let within = are_within_reach(&shelf, deepest, made.count);
+    let figures = figures_on(rt, alloc, &mut shelf, made, workers);
     drop(shelf);
-    drop(out);
-    if within && status == Status::Done {
-        return Some(figures);
-    }
-    None
+    figures
 }
 
 const SMALL: Made = Made {
@@ -143,16 +184,12 @@ const LARGE_FIGURES: Figures = Figures {
     values: 800007208,
 };
 
+/// What `bulk` comes to of the same, on four workers and on eight: each list is read once for all queries.
 #[test]
-fn comes_to_what_bulk_does(rt: HostRuntime) -> Result<(), Fail> {
-    let figures = figures_over(&rt, rt.alloc(), SMALL, "4");
-    assert_eq!(rt; figures, Some(SMALL_FIGURES));
-    Ok(())
-}
-
-#[test]
-fn reads_each_list_once_for_all(rt: HostRuntime) -> Result<(), Fail> {
-    let figures = figures_over(&rt, rt.alloc(), LARGE, "8");
-    assert_eq!(rt; figures, Some(LARGE_FIGURES));
-    Ok(())
+fn comes_to_what_bulk_does(rt: HostRuntime) {
+    let figures = [
+        figures_over(&rt, rt.alloc(), SMALL, "4"),
+        figures_over(&rt, rt.alloc(), LARGE, "8"),
+    ];
+    assert_eq!(rt; figures, [Some(SMALL_FIGURES), Some(LARGE_FIGURES)]);
 }

@@ -1,16 +1,11 @@
 //! Answers of each algorithm against the aggregates of all objects.
 
-use super::aggregates::Aggregate;
-use super::answers::{Answered, accesses_in, answers_of, are_first};
-use super::tables::{Table, table_of};
+use super::none_is_wrong;
 use bundle_support::{Status, one_of};
 use std::alloc::Global;
 use std::str::from_utf8;
-use std::test::Fail;
+use table_support::{Aggregate, Asked, Table, is_right, table_of};
 use test_support::Numbers;
-
-/// How many objects are asked for, and by which aggregate.
-type Asked = (u32, Aggregate);
 
 /// Each aggregate.
 const ASKED: [Asked; 5] = [
@@ -31,57 +26,15 @@ const SIZES: [Size; 3] = [
     (8, 500, "A,B,C,D,E,F,G,H", "1*A,2*B,3*C,4*D,5*E,6*F,7*G,8*H"),
 ];
 
-/// Adds the aggregate of each object.
-fn add_aggregates(
-    alloc: Global,
-    table: &Table,
-    aggregate: Aggregate,
-    aggregates: &mut Vec<u64>,
-) -> Result<(), Fail> {
-    for object in 0..table.count {
-        let grades = table.of_object(object as usize)?;
-        aggregates.push(aggregate.of(alloc, grades)?)?;
-    }
-    Ok(())
-}
-
-/// Whether these are the first k objects of a table, with their bounds.
-fn are_answered(
-    alloc: Global,
-    table: &Table,
-    asked: Asked,
-    answers: &[Answered],
-) -> Result<bool, Fail> {
-    let (k, aggregate) = asked;
-    let mut aggregates = Vec::new(alloc);
-    let added = add_aggregates(alloc, table, aggregate, &mut aggregates);
-    let are_so = answers.len() == k as usize && are_first(&aggregates, answers);
-    drop(aggregates);
-    added?;
-    Ok(are_so)
-}
-
-/// Whether a certificate has accesses, which the table agrees with, and such an answer.
-fn is_right(alloc: Global, table: &Table, asked: Asked, certificate: &str) -> Result<bool, Fail> {
-    match accesses_in(table, certificate)? {
-        Some(0) | None => return Ok(false),
-        Some(_) => {}
-    }
-    let answers = answers_of(alloc, certificate)?;
-    let are_so = are_answered(alloc, table, asked, &answers);
-    drop(answers);
-    are_so
-}
-
 /// Whether `one` writes such a certificate of an input.
-fn writes_right(alloc: Global, table: &Table, asked: Asked, input: &str) -> Result<bool, Fail> {
-    let (status, out) = one_of(alloc, input.as_bytes(), 4_000_000)?;
+fn writes_right(alloc: Global, table: &Table, asked: Asked, input: &str) -> Option<bool> {
+    let (status, out) = one_of(alloc, input.as_bytes(), 4_000_000).ok()?;
     let is_so = match from_utf8(out.taken()) {
         Ok(certificate) => is_right(alloc, table, asked, certificate),
-        Err(_) => Ok(false),
+        Err(_) => None,
     };
     drop(out);
-    Ok(is_so? && status == Status::Done)
+    Some(is_so? && status == Status::Done)
 }
 
 /// Whether `one` answers a query over a table, by these lists and this algorithm.
@@ -91,14 +44,14 @@ fn answers_right(
     asked: Asked,
     lists: (&str, &str),
     algorithm: &str,
-) -> Result<bool, Fail> {
+) -> Option<bool> {
     let (k, aggregate) = asked;
     let (word, has_weights) = aggregate.word();
     let names = if has_weights { lists.1 } else { lists.0 };
     let sections = table.sections.as_str();
     let input = format!(in alloc;
         "{sections}query top {k} by {word}({names}) using {algorithm}\n"
-    )?;
+    ).ok()?;
     let is_so = writes_right(alloc, table, asked, &input);
     drop(input);
     is_so
@@ -110,65 +63,57 @@ fn first_wrong_of(
     table: &Table,
     lists: (&str, &str),
     algorithm: &str,
-) -> Result<Option<usize>, Fail> {
+) -> Option<usize> {
     for (number, asked) in ASKED.iter().enumerate() {
-        if !answers_right(alloc, table, *asked, lists, algorithm)? {
-            return Ok(Some(number));
+        if !answers_right(alloc, table, *asked, lists, algorithm).unwrap_or(false) {
+            return Some(number);
         }
     }
-    Ok(None)
+    None
 }
 
-/// The same of a table of this size over so many objects.
+/// The same of a table of this size over so many objects. It is none of them where no table is made.
 fn first_wrong_at(
     alloc: Global,
     numbers: &mut Numbers,
     size: &Size,
     count: u32,
     algorithm: &str,
-) -> Result<Option<usize>, Fail> {
+) -> Option<usize> {
     let (lists, step, plain, weighted) = *size;
-    if step == 0 {
-        return Err("steps".into());
-    }
-    let table = table_of(alloc, numbers, lists, count, step)?;
+    let Some(table) = table_of(alloc, numbers, lists, count, step.max(1)) else {
+        return Some(ASKED.len());
+    };
     let wrong = first_wrong_of(alloc, &table, (plain, weighted), algorithm);
     drop(table);
     wrong
 }
 
 /// How many lists the first table has that is answered otherwise, and the number of the first such aggregate.
-fn first_wrong(alloc: Global, count: u32, algorithm: &str) -> Result<Option<(usize, usize)>, Fail> {
+fn first_wrong(alloc: Global, count: u32, algorithm: &str) -> Option<(usize, usize)> {
     let mut numbers = Numbers::from_start(1);
     for size in &SIZES {
-        let wrong = first_wrong_at(alloc, &mut numbers, size, count, algorithm)?;
-        if let Some(number) = wrong {
-            return Ok(Some((size.0, number)));
+        if let Some(number) = first_wrong_at(alloc, &mut numbers, size, count, algorithm) {
+            return Some((size.0, number));
         }
     }
-    Ok(None)
+    None
 }
 
 #[test]
-fn threshold_algorithm(rt: HostRuntime) -> Result<(), Fail> {
-    assert_eq!(rt; first_wrong(rt.alloc(), 2_000, "ta")?, None);
-    Ok(())
+fn threshold_algorithm(rt: HostRuntime) {
+    none_is_wrong(&rt, first_wrong(rt.alloc(), 2_000, "ta"));
 }
 
 #[test]
-fn without_random_access(rt: HostRuntime) -> Result<(), Fail> {
-    assert_eq!(rt; first_wrong(rt.alloc(), 2_000, "nra")?, None);
-    Ok(())
+fn without_random_access(rt: HostRuntime) {
+    none_is_wrong(&rt, first_wrong(rt.alloc(), 2_000, "nra"));
 }
 
 /// A random phase at each third depth, at each, and at each fortieth.
 #[test]
-fn combined_algorithm(rt: HostRuntime) -> Result<(), Fail> {
-    let wrong = [
-        first_wrong(rt.alloc(), 500, "ca cost 2 7")?,
-        first_wrong(rt.alloc(), 500, "ca cost 10 3")?,
-        first_wrong(rt.alloc(), 500, "ca cost 1 40")?,
-    ];
-    assert_eq!(rt; wrong, [None, None, None]);
-    Ok(())
+fn combined_algorithm(rt: HostRuntime) {
+    none_is_wrong(&rt, first_wrong(rt.alloc(), 500, "ca cost 2 7"));
+    none_is_wrong(&rt, first_wrong(rt.alloc(), 500, "ca cost 10 3"));
+    none_is_wrong(&rt, first_wrong(rt.alloc(), 500, "ca cost 1 40"));
 }

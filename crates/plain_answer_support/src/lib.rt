@@ -1,0 +1,8 @@
+//! Random bundles, and the certificates of what the plain program computes of them.
+#![tactic(auto)]
+
+mod bundles;
+mod plain;
+
+pub use bundles::bundle_of;
+pub use plain::expected;

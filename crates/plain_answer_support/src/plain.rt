@@ -1,0 +1,208 @@
+//! The certificate of what the plain program computes.
+
+ghost use Rattle.std.specs.Prelude.{◌≤◌};
+ghost use Rattle.plain_ta.specs.Posed.{IsPosed};
+
+use super::bundles::NAMES;
+use bundle_text::read_bundle;
+use plain_ca::{ca_answer, ca_run};
+use plain_nra::{nra_answer, nra_run};
+use plain_ta::{ta_answer, ta_run};
+use query_reading::read;
+use query_text::{Algorithm, Costs, Query};
+use ranked_list::{Item, MemList, is_table};
+use std::alloc::Global;
+use topk_theory::Access;
+
+/// What the plain program answers to a query.
+fn plain_items(alloc: Global, lists: &[MemList], query: &Query, costs: Costs) -> Option<Vec<Item>>
+    requires posed { IsPosed lists.now query.now.expr }
+    requires costs { 1 ≤ costs.sorted }
+{
+    let expr = &query.expr;
+    match query.algorithm {
+        Algorithm::Ta => ta_answer(alloc, lists, expr, query.k).ok(),
+        Algorithm::Nra => nra_answer(alloc, lists, expr, query.k).ok(),
+        Algorithm::Ca => ca_answer(alloc, lists, expr, query.k, costs).ok(),
+    }
+}
+
+/// What it reads.
+fn plain_accesses(
+    alloc: Global,
+    lists: &[MemList],
+    query: &Query,
+    costs: Costs,
+) -> Option<Vec<Access>>
+    requires posed { IsPosed lists.now query.now.expr }
+    requires costs { 1 ≤ costs.sorted }
+{
+    let expr = &query.expr;
+    match query.algorithm {
+        Algorithm::Ta => ta_run(alloc, lists, expr, query.k).ok(),
+        Algorithm::Nra => nra_run(alloc, lists, expr, query.k).ok(),
+        Algorithm::Ca => ca_run(alloc, lists, expr, query.k, costs).ok(),
+    }
+}
+
+/// Adds a line, and drops it.
+fn add_line(text: &mut String, line: String) -> Option<()> {
+    let added = text.push_str(&line);
+    drop(line);
+    added.ok()
+}
+
+/// Adds the first lines of a certificate, and its answer.
+fn add_answer(
+    alloc: Global,
+    query: &str,
+    count: u32,
+    items: &[Item],
+    text: &mut String,
+) -> Option<()> {
+    add_line(
+        text,
+        format!(in alloc; "certificate 1\nquery {query}\ncount {count}\n").ok()?,
+    )?;
+    for item in items {
+        let (object, low, high) = (item.object, item.low, item.high);
+        add_line(
+            text,
+            format!(in alloc; "answer {object} {low} {high}\n").ok()?,
+        )?;
+    }
+    Some(())
+}
+
+/// Adds the line of an access.
+fn add_access(alloc: Global, access: &Access, text: &mut String) -> Option<()> {
+    let name = NAMES.get(access.list() as usize)?;
+    let sort = if access.is_sorted() { 's' } else { 'r' };
+    let (object, grade) = (access.object(), access.grade());
+    add_line(
+        text,
+        format!(in alloc; "{sort} {name} {object} {grade}\n").ok()?,
+    )
+}
+
+/// What so many accesses cost.
+fn cost_of(sorted: usize, random: usize, costs: Costs) -> Option<u64> {
+    let sorted = u64::from(costs.sorted).checked_mul(sorted as u64)?;
+    let random = u64::from(costs.random).checked_mul(random as u64)?;
+    sorted.checked_add(random)
+}
+
+/// Adds the stop line: the depth of list A, which is as deep as any, and what was read at these costs.
+fn add_stop(alloc: Global, accesses: &[Access], costs: Costs, text: &mut String) -> Option<()> {
+    let sorted = accesses.iter().filter(|access| access.is_sorted()).count();
+    let depth = accesses
+        .iter()
+        .filter(|access| access.is_sorted() && access.list() == 0)
+        .count();
+    let random = accesses.iter().filter(|access| !access.is_sorted()).count();
+    let cost = cost_of(sorted, random, costs)?;
+    add_line(
+        text,
+        format!(in alloc; "stop depth {depth} sorted {sorted} random {random} cost {cost}\n").ok()?,
+    )
+}
+
+/// Adds the stop line and the accesses, to the end of a certificate.
+fn add_accesses(alloc: Global, accesses: &[Access], costs: Costs, text: &mut String) -> Option<()> {
+    add_stop(alloc, accesses, costs, text)?;
+    for access in accesses {
+        add_access(alloc, access, text)?;
+    }
+    text.push_str("end\n").ok()
+}
+
+/// Adds the answer of the plain program.
+fn add_plain_answer(
+    alloc: Global,
+    lists: &[MemList],
+    query: &Query,
+    costs: Costs,
+    asked: (&str, u32),
+    text: &mut String,
+) -> Option<()>
+    requires posed { IsPosed lists.now query.now.expr }
+    requires costs { 1 ≤ costs.sorted }
+{
+    let items = plain_items(alloc, lists, query, costs)?;
+    let added = add_answer(alloc, asked.0, asked.1, &items, text);
+    drop(items);
+    added
+}
+
+/// Adds what the plain program reads.
+fn add_plain_accesses(
+    alloc: Global,
+    lists: &[MemList],
+    query: &Query,
+    costs: Costs,
+    text: &mut String,
+) -> Option<()>
+    requires posed { IsPosed lists.now query.now.expr }
+    requires costs { 1 ≤ costs.sorted }
+{
+    let accesses = plain_accesses(alloc, lists, query, costs)?;
+    let added = add_accesses(alloc, &accesses, costs, text);
+    drop(accesses);
+    added
+}
+
+/// Adds the certificate of a query, whose text is asked over so many objects.
+fn add_certificate(
+    alloc: Global,
+    lists: &[MemList],
+    query: &Query,
+    asked: (&str, u32),
+    text: &mut String,
+) -> Option<()> {
+    if !is_table(alloc, lists).ok()? {
+        return None;
+    }
+    if lists.len() != query.expr.lists() as usize || lists.len() > 8 {
+        return None;
+    }
+    let costs = query.costs_in_force();
+    if costs.sorted < 1 {
+        return None;
+    }
+    add_plain_answer(alloc, lists, query, costs, asked, text)?;
+    add_plain_accesses(alloc, lists, query, costs, text)
+}
+
+/// Adds the certificate of a query's text.
+fn add_asked(
+    alloc: Global,
+    lists: &[MemList],
+    asked: (&str, u32),
+    text: &mut String,
+) -> Option<()> {
+    let query = read(alloc, asked.0.as_bytes()).ok()?;
+    let added = add_certificate(alloc, lists, &query, asked, text);
+    drop(query);
+    added
+}
+
+/// Adds the certificate of a query's text over the lists of a bundle.
+fn add_over(alloc: Global, input: &str, asked: (&str, u32), text: &mut String) -> Option<()> {
+    let bundle = read_bundle(alloc, input.as_bytes()).ok()?;
+    let added = add_asked(alloc, &bundle.lists, asked, text);
+    drop(bundle);
+    added
+}
+
+/// The certificate of a query over the lists of a bundle, by the plain program. The query is told by its text, over so many
+/// objects. None where the text is no such bundle and query, or there is no memory.
+pub fn expected(alloc: Global, input: &str, asked: (&str, u32)) -> Option<String> {
+    let mut text = String::new(alloc);
+    match add_over(alloc, input, asked, &mut text) {
+        Some(()) => Some(text),
+        None => {
+            drop(text);
+            None
+        }
+    }
+}

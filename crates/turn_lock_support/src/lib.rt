@@ -1,0 +1,14 @@
+//! Drives of the turn lock on threads that really run: a journal which one pass writes and others read.
+#![tactic(auto)]
+
+mod journal;
+mod readers;
+mod runs;
+mod turns;
+
+pub use journal::Journal;
+pub use readers::{
+    Reader, ask_at_once, ask_often, join_readers, run_at_once, split_readers, write_often,
+};
+pub use runs::{Outcome, bench, join_late, open_journal, split_to_the_last_part};
+pub use turns::{ask, catch_up, write};
