@@ -85,6 +85,11 @@ pub fn turn(states: &mut Vec<SourceState>, query: &mut Inquiry)
     query.answer(list, look);
 }
 
+/// Lets queries go, before they have ended or after. Who owns some lets them go by this call, so that it is proved once.
+pub fn let_go(queries: Vec<Inquiry>) {
+    drop(queries);
+}
+
 impl Inquiry {
     /// A query that is ready, before any access. Its expression and the numbers of its sources are copied.
     pub fn make(alloc: Global, ready: &Ready) -> Result<Inquiry, Memory>

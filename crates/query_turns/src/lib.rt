@@ -7,7 +7,7 @@ mod ended;
 mod inquiry;
 
 pub use ended::{Ended, Endings, Refusal};
-pub use inquiry::{Inquiry, list_needed, turn};
+pub use inquiry::{Inquiry, let_go, list_needed, turn};
 
 /// No memory was left.
 #[derive(Clone, Copy, Debug, PartialEq, Eq)]

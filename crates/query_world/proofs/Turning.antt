@@ -1,12 +1,18 @@
--- The turn of the query of a number.
-use Rattle.std.proofs.Common.{◌≡◌, ℕ, Option, Some, None, List, slice_get, slice_index_or, refl, subst, ◌∙◌}
+-- What a step does: an event of a source, and the turn of the query of a number.
+use Rattle.std.proofs.Common.{◌≡◌, ℕ, Option, Some, None, List, slice_get, slice_index_or, refl, ap, subst, ◌∙◌}
 use Rattle.std.specs.List.{slice_set}
 use Rattle.topk_theory.proofs.AgreementLists.{slice_get_reads}
 use Rattle.source_state.specs.State.{State}
+use Rattle.source_state.specs.declared.event.Event.{Event}
 use Rattle.query_turns.specs.declared.inquiry.Inquiry.{Inquiry}
 use Rattle.query_world.specs.Worlds.{world_of}
 use Rattle.query_turns.specs.Turns.{Turns}
-use Rattle.query_world.specs.Steps.{IsOpen, TakesTurn}
+use Rattle.query_world.specs.Steps.{with_event, IsOpen, TakesTurn}
+
+-- an event of a source
+pub take_event : (states laters : List State) (queries : List Inquiry) (source : ℕ) (e : Event) → laters ≡ with_event states source e
+    → world_of laters queries ≡ world_of (with_event states source e) queries
+take_event states laters queries source e is = ap (λ ss. world_of ss queries) is
 
 -- the turn of the query of a number
 pub take_turn : (states laters : List State) (queries : List Inquiry) (query : ℕ) (q r : Inquiry) → IsOpen (slice_get queries query)

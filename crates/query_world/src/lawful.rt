@@ -1,12 +1,15 @@
 //! Which steps are lawful.
 
-ghost use Rattle.std.specs.Prelude.{◌≡◌, ◌<◌, Some, length, slice_get};
+ghost use Rattle.std.specs.Prelude.{◌≡◌, ◌<◌, true, Some, All, length, slice_get};
 ghost use Rattle.source_log.specs.declared.entry.Asked.TheVariants.{Pending};
 ghost use Rattle.source_state.specs.declared.event.Event.TheVariants.{Page};
 ghost use Rattle.source_state.specs.State.{asked_in, state_at};
 ghost use Rattle.source_state.specs.Events.{MayPage};
-ghost use Rattle.query_world.specs.Steps.{IsTestOf, MayComeTo, IsOpen};
+ghost use Rattle.query_turns.specs.Inquiries.{is_ended};
+ghost use Rattle.query_world.specs.Worlds.{world_of};
+ghost use Rattle.query_world.specs.Steps.{IsTestOf, MayComeTo, IsOpen, MayStep};
 
+use super::step::Step;
 use query_turns::Inquiry;
 use ranked_list::PageRows;
 use source_state::{Asked, SourceState};
@@ -24,7 +27,7 @@ fn fits(state: &SourceState, rows: &PageRows) -> bool
 }
 
 /// Whether a page may come to a source.
-pub(crate) fn may_page(states: &[SourceState], source: u32, rows: &PageRows) -> bool
+fn may_page(states: &[SourceState], source: u32, rows: &PageRows) -> bool
     ensures { IsTestOf result (MayComeTo states.now source (Page rows.now)) }
 {
     match states.get(source as usize) {
@@ -34,7 +37,7 @@ pub(crate) fn may_page(states: &[SourceState], source: u32, rows: &PageRows) -> 
 }
 
 /// Whether what an object settles as may come to a source: its ask is pending.
-pub(crate) fn may_settle(states: &[SourceState], source: u32, object: u32) -> bool
+fn may_settle(states: &[SourceState], source: u32, object: u32) -> bool
     ensures { IsTestOf result ((source < length states.now) × (asked_in (state_at states.now source) object ≡ Some Pending)) }
 {
     match states.get(source as usize) {
@@ -44,11 +47,32 @@ pub(crate) fn may_settle(states: &[SourceState], source: u32, object: u32) -> bo
 }
 
 /// Whether a query may take a turn.
-pub(crate) fn may_turn(queries: &[Inquiry], query: u32) -> bool
+fn may_turn(queries: &[Inquiry], query: u32) -> bool
     ensures { IsTestOf result (IsOpen (slice_get queries.now query)) }
 {
     match queries.get(query as usize) {
         Some(query) => !query.is_ended(),
         None => false,
     }
+}
+
+/// Whether a step of these sources and queries is lawful.
+pub(crate) fn may_take(states: &[SourceState], queries: &[Inquiry], step: &Step) -> bool
+    ensures { IsTestOf result (MayStep (world_of states.now queries.now) step.now) }
+{
+    match step {
+        Step::Page { source, rows } => may_page(states, *source, rows),
+        Step::Grade { source, object, .. } | Step::Miss { source, object } => {
+            may_settle(states, *source, *object)
+        }
+        Step::Fail { source, .. } => (*source as usize) < states.len(),
+        Step::Turn { query } => may_turn(queries, *query),
+    }
+}
+
+/// Whether all of these queries have ended.
+pub(crate) fn are_ended(queries: &[Inquiry]) -> bool
+    ensures { IsTestOf result (All (λ query. is_ended query ≡ true) queries.now) }
+{
+    queries.iter().all(|query| query.is_ended())
 }

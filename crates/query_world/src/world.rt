@@ -1,11 +1,9 @@
 //! Worlds.
 
-ghost use Rattle.std.specs.Prelude.{◌≡◌, ◌<◌, ◌≤◌, ◌^◌, ◌∷◌, [], ◌++◌, ℕ, true, List, All, length, slice_get, slice_set, take, IfOk, OnOk};
+ghost use Rattle.std.specs.Prelude.{◌≡◌, ◌<◌, ◌≤◌, ◌^◌, ◌∷◌, [], ◌++◌, true, List, All, length, IfOk, OnOk};
 ghost use Rattle.std.specs.List.{AllZip};
-ghost use Rattle.std.specs.Option.{option_map};
 ghost use Rattle.ranked_list.specs.declared.row.Row.{Row};
 ghost use Rattle.source_state.specs.State.{state_at};
-ghost use Rattle.source_state.specs.Events.{after, MayCome};
 ghost use Rattle.query_core.specs.declared.ready.Ready.{Ready as AnyReady};
 ghost use Rattle.query_core.specs.Ready.{IsReady};
 ghost use Rattle.query_turns.specs.Inquiries.{is_ended};
@@ -18,11 +16,11 @@ ghost use Rattle.query_turns.specs.Honest.{IsOnItsRun};
 ghost use Rattle.query_world.specs.Honest.{IsHonest, IsTrueWorld};
 ghost use Rattle.query_turns.specs.Endings.{EndsAs, IsRight};
 
-use super::lawful::{may_page, may_settle, may_turn};
+use super::lawful::{are_ended, may_take};
 use super::step::Step;
 use limits::MAX_OBJECTS;
 use query_core::Ready;
-use query_turns::{Ended, Endings, Inquiry, Memory, turn};
+use query_turns::{Ended, Endings, Inquiry, Memory, let_go, turn};
 use source_state::{Event, SourceState};
 use std::alloc::Global;
 use std::marker::Model;
@@ -81,17 +79,46 @@ fn open_all(alloc: Global, counts: &[u32], states: &mut Vec<SourceState>) -> Res
     Ok(())
 }
 
-/// Makes the queries, before any access.
+/// Makes the queries, before any access. Room for each is taken before it is made.
 fn make_all(alloc: Global, readies: &[Ready], queries: &mut Vec<Inquiry>) -> Result<(), Memory>
     requires none { queries.old.items ≡ [] }
     requires ready { All IsReady readies.now }
     ensures { OnOk result (AllZip IsFresh readies.now queries.new.items) }
 {
     for place in 0..readies.len() {
+        let Ok(()) = queries.reserve(1) else {
+            return Err(Memory);
+        };
         let query = Inquiry::make(alloc, &readies[place])?;
-        push(queries, query)?;
+        queries.push_reserved(query);
     }
     Ok(())
+}
+
+/// Opens the sources, makes the queries, and takes room for how these end.
+fn fill(
+    alloc: Global,
+    counts: &[u32],
+    readies: &[Ready],
+    states: &mut Vec<SourceState>,
+    queries: &mut Vec<Inquiry>,
+    endings: &mut Vec<Ended>,
+) -> Result<(), Memory>
+    requires sources { length counts.now < 2 ^ 32 }
+    requires counts { All (λ count. count ≤ MAX_OBJECTS) counts.now }
+    requires ready { All (IsReadyFor counts.now) readies.now }
+    requires no_states { states.old.items ≡ [] }
+    requires no_queries { queries.old.items ≡ [] }
+    requires no_endings { endings.old.items ≡ [] }
+    ensures made { OnOk result (IsMade counts.now readies.now (world_of states.new.items queries.new.items)) }
+    ensures empty { endings.new.items ≡ [] }
+{
+    open_all(alloc, counts, states)?;
+    make_all(alloc, readies, queries)?;
+    match endings.reserve(readies.len()) {
+        Ok(()) => Ok(()),
+        Err(_) => Err(Memory),
+    }
 }
 
 /// An event comes to a source.
@@ -148,19 +175,19 @@ impl World {
         ensures queries { IfOk result (AreOf queries.now) }
     {
         let mut states = Vec::new(alloc);
-        let Ok(()) = open_all(alloc, counts, &mut states) else {
-            drop(states);
-            return Err(Memory);
-        };
         let mut inquiries = Vec::new(alloc);
-        let Ok(()) = make_all(alloc, queries, &mut inquiries) else {
+        let mut endings = Vec::new(alloc);
+        let Ok(()) = fill(
+            alloc,
+            counts,
+            queries,
+            &mut states,
+            &mut inquiries,
+            &mut endings,
+        ) else {
             drop(states);
-            drop(inquiries);
-            return Err(Memory);
-        };
-        let Ok(endings) = Vec::with_capacity(alloc, queries.len()) else {
-            drop(states);
-            drop(inquiries);
+            let_go(inquiries);
+            drop(endings);
             return Err(Memory);
         };
         Ok(World {
@@ -174,14 +201,7 @@ impl World {
     pub fn may_step(&self, step: &Step) -> bool
         ensures { IsTestOf result (MayStep self.now step.now) }
     {
-        match step {
-            Step::Page { source, rows } => may_page(&self.states, *source, rows),
-            Step::Grade { source, object, .. } | Step::Miss { source, object } => {
-                may_settle(&self.states, *source, *object)
-            }
-            Step::Fail { source, .. } => (*source as usize) < self.states.len(),
-            Step::Turn { query } => may_turn(&self.queries, *query),
-        }
+        may_take(&self.states, &self.queries, step)
     }
 
     /// Takes a step, and no memory.
@@ -225,7 +245,7 @@ impl World {
     pub fn all_ended(&self) -> bool
         ensures { IsTestOf result (All (λ query. is_ended query ≡ true) self.now.queries) }
     {
-        self.queries.iter().all(|query| query.is_ended())
+        are_ended(&self.queries)
     }
 
     /// Lets the world go, before its queries have ended or after.
@@ -236,7 +256,7 @@ impl World {
             endings,
         } = self;
         drop(states);
-        drop(queries);
+        let_go(queries);
         drop(endings);
     }
 
@@ -255,11 +275,11 @@ impl World {
         } = self;
         drop(states);
         let Ok(()) = end_all(&mut queries, &mut endings) else {
-            drop(queries);
+            let_go(queries);
             drop(endings);
             return Err(Memory);
         };
-        drop(queries);
+        let_go(queries);
         Ok(Endings::from_vec(endings))
     }
 }

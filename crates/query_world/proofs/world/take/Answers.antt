@@ -1,9 +1,25 @@
 use Rattle.std.proofs.Common.{sym, subst}
 use Rattle.std.specs.List.{slice_set}
+use Rattle.source_state.specs.declared.event.Event.TheVariants as event
 use Rattle.query_world.specs.Worlds.{world_of}
 use Rattle.query_world.specs.Steps.{MayStep, Steps}
-use Rattle.query_world.proofs.Turning.{take_turn}
+use Rattle.query_world.proofs.Turning.{take_event, take_turn}
 use Rattle.query_world.proofs.world.take.Goals as goal
+
+pub returns-in-Page : goal.returns-in-Page
+returns-in-Page c =
+    subst (λ step. Steps step (world_of c.args.states.now.items c.args.queries.now.items) (world_of c.come.new.states.items c.args.queries.now.items)) (sym c.in-Page.is)
+    (take_event c.args.states.now.items c.come.new.states.items c.args.queries.now.items c.in-Page.source (event.Page c.in-Page.rows) c.come.ensures)
+
+pub returns-in-Grade : goal.returns-in-Grade
+returns-in-Grade c =
+    subst (λ step. Steps step (world_of c.args.states.now.items c.args.queries.now.items) (world_of c.come-in-Grade.new.states.items c.args.queries.now.items)) (sym c.in-Grade.is)
+    (take_event c.args.states.now.items c.come-in-Grade.new.states.items c.args.queries.now.items c.in-Grade.source (event.Grade c.in-Grade.object c.in-Grade.grade) c.come-in-Grade.ensures)
+
+pub returns-in-Miss : goal.returns-in-Miss
+returns-in-Miss c =
+    subst (λ step. Steps step (world_of c.args.states.now.items c.args.queries.now.items) (world_of c.come-in-Miss.new.states.items c.args.queries.now.items)) (sym c.in-Miss.is)
+    (take_event c.args.states.now.items c.come-in-Miss.new.states.items c.args.queries.now.items c.in-Miss.source (event.Miss c.in-Miss.object) c.come-in-Miss.ensures)
 
 pub returns-in-Turn : goal.returns-in-Turn
 returns-in-Turn c =
