@@ -44,7 +44,8 @@ use Rattle.batch_result.specs.Using.{is_refused_for, IsWantedBy, IsNamedBy, all_
 use Rattle.batch_result.specs.Batches.{batch_of, use_at, IsClosing, IsSpared, IsBatch}
 use Rattle.batch_sides.specs.Working.{End, IsEndOf, DidOf, RanAll}
 use Rattle.batch_slots.specs.Slots.{SlotState, slot_at}
-use Rattle.batch_run.specs.Crews.{IsBase, HasLeft, HasFetched, Rejoins, AreShares, UsedOf, slots_run}
+use Rattle.batch_crew.specs.Crews.{IsBase, HasLeft, HasFetched, Rejoins}
+use Rattle.batch_run.specs.Finishing.{AreShares, UsedOf, slots_run}
 use Rattle.batch_sides.proofs.SumLaws.{sum_up, sum_up_bound, sum_by_most}
 use Rattle.batch_sides.proofs.ShareLaws.{HasShares, whole_of, shares_add}
 use Rattle.batch_result.proofs.Places.{map_at, stands_at}
@@ -52,7 +53,7 @@ use Rattle.batch_sides.proofs.Picks.{Picked, picked, sum_ones, share_member, sha
 use Rattle.batch_result.proofs.TruthLaws.{told_honest}
 use Rattle.batch_result.proofs.ShutLaws.{Shut, fetched_shut}
 use Rattle.batch_result.proofs.LaterLaws.{begins_on, at_most_on, IsAhead, ahead_of, all_later, served_later}
-use Rattle.batch_run.proofs.JoinLaws.{passes}
+use Rattle.batch_crew.proofs.JoinLaws.{passes}
 use Rattle.batch_sides.proofs.Zips.{zip_map, zip_part, all_seconds, both_parts}
 
 -- the pass of a worker among the passes

@@ -7,7 +7,7 @@ use Rattle.std.proofs.lemmas.List.{get_or-set_same, get_or-set_other, length-set
 use Rattle.query_turns.specs.declared.ended.Ended.{Ended}
 use Rattle.batch_sides.specs.declared.work.Worker.{Worker}
 use Rattle.batch_sides.specs.Shares.{share_from}
-use Rattle.batch_run.specs.Crews.{AreShares}
+use Rattle.batch_run.specs.Finishing.{AreShares}
 use Rattle.batch_sides.proofs.ShareLaws.{share_here, share_else}
 use Rattle.batch_result.proofs.Places.{stands_at}
 

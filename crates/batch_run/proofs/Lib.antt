@@ -1,7 +1,5 @@
--- Lemmas on the run of a batch, from its crew to what it gives.
-pub mod JoinLaws
+-- Lemmas on what a crew that has run gives.
 pub mod GatherLaws
-pub mod CrewLaws
-pub mod SlotLaws
+pub mod UseLaws
 pub mod FinishLaws
 pub mod RunLaws

@@ -14,10 +14,11 @@ use Rattle.query_core.specs.declared.ready.Ready.{Ready}
 use Rattle.batch_sides.specs.declared.work.Worker.{Worker}
 use Rattle.batch_slots.specs.Slots.{SlotState, states_of, slot_at}
 use Rattle.batch_result.specs.Batches.{BatchRun, run_of}
-use Rattle.batch_run.specs.declared.hire.Crew.{Crew}
-use Rattle.batch_run.specs.Crews.{slots_run, HasLeft, HasRun}
+use Rattle.batch_crew.specs.declared.hire.Crew.{Crew}
+use Rattle.batch_crew.specs.Crews.{HasLeft, HasRun}
+use Rattle.batch_run.specs.Finishing.{slots_run}
 use Rattle.batch_result.proofs.Places.{stands_at, map_at}
-use Rattle.batch_run.proofs.JoinLaws.{passes}
+use Rattle.batch_crew.proofs.JoinLaws.{passes}
 
 module _ {S : Type 0} (list : S → Option (List Row)) (counts : S → Counts) where
   -- the parts of the slots, at once and by their states

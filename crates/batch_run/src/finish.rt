@@ -1,22 +1,21 @@
 //! What a crew gives once it has run.
 
 ghost use Rattle.std.specs.Prelude.{◌≡◌, ◌≤◌, ◌<◌, [], ◌∷◌, ◌++◌, ℕ, List, All, length, map, vec_len, vec_capacity};
-ghost use Rattle.source_locks.specs.Passes.{IsPassOf};
 ghost use Rattle.source_state.specs.State.{state_at};
 ghost use Rattle.query_core.specs.declared.ready.Ready.{Ready};
 ghost use Rattle.query_turns.specs.declared.ended.Ended.{Ended as EndedOf};
 ghost use Rattle.batch_result.specs.declared.settings.Settings.{Settings};
 ghost use Rattle.batch_slots.specs.Slots.{SlotState, states_of, slot_at};
 ghost use Rattle.batch_result.specs.Batches.{IsBatch, use_at};
-ghost use Rattle.batch_run.specs.Crews.{slots_run, CanFinish, AreShares, Rejoins, UsedOf};
+ghost use Rattle.batch_run.specs.Finishing.{slots_run, CanFinish, AreShares, UsedOf};
 
-use super::hire::Crew;
+use batch_crew::{Crew, let_states_go, rejoin};
 use batch_result::{Batch, Use};
 use batch_sides::Worker;
 use fetcher::{Fetched, Slot};
 use query_run::Ended;
 use source_api::Source;
-use source_pool::{Feeders, Pool, PoolPass, States};
+use source_pool::{Feeders, States};
 
 /// Takes how the next query of a worker ended.
 fn next_of(worker: &mut Worker) -> Ended
@@ -41,23 +40,6 @@ fn gather(workers: &mut Vec<Worker>, count: usize, endings: &mut Vec<Ended>)
     for place in 0..count {
         let ended = next_of(&mut workers[place % all]);
         endings.push_reserved(ended);
-    }
-}
-
-/// Joins the passes of the workers to the first one.
-fn rejoin(pool: &Pool, pass: &mut PoolPass, workers: &mut Vec<Worker>)
-    requires own { IsPassOf pool.now pass.old }
-    requires others { All (λ worker. IsPassOf pool.now worker.pass) workers.old.items }
-    ensures { Rejoins pool.now (map (λ worker. worker.pass) workers.old.items) pass.old pass.new }
-{
-    while let Some(worker) = workers.pop() {
-        let Worker {
-            pass: other,
-            ended,
-            ..
-        } = worker;
-        drop(ended);
-        pool.join(pass, other);
     }
 }
 
@@ -89,29 +71,26 @@ fn use_all<S: Source>(states: &States, slots: &[Slot<S>], uses: &mut Vec<Use>)
     }
 }
 
-impl Crew {
-    /// What the batch gives, once it has run and no worker wanted memory.
-    pub(crate) fn finish<S: Source>(self, slots: &[Slot<S>], queries: usize) -> Batch
-        requires { (settings : Settings) × (counts : List ℕ) × (readies : List Ready) × (before : List SlotState)
-            × CanFinish settings counts readies before (states_of S.list S.counts slots.now) queries self }
-        ensures { (settings : Settings) (counts : List ℕ) (readies : List Ready) (before : List SlotState)
-            → CanFinish settings counts readies before (states_of S.list S.counts slots.now) queries self
-            → IsBatch (slots_run settings counts readies before (states_of S.list S.counts slots.now)) result }
-    {
-        let Crew {
-            pool,
-            mut pass,
-            feeders,
-            mut workers,
-            mut endings,
-            mut uses,
-        } = self;
-        gather(&mut workers, queries, &mut endings);
-        rejoin(&pool, &mut pass, &mut workers);
-        drop(workers);
-        let states = pool.close(pass, Feeders::from_vec(feeders));
-        use_all(&states, slots, &mut uses);
-        drop(states);
-        Batch::make(endings, uses)
-    }
+/// What the batch gives, once its crew has run and no worker wanted memory.
+pub(crate) fn finish<S: Source>(crew: Crew, slots: &[Slot<S>], queries: usize) -> Batch
+    requires { (settings : Settings) × (counts : List ℕ) × (readies : List Ready) × (before : List SlotState)
+        × CanFinish settings counts readies before (states_of S.list S.counts slots.now) queries crew }
+    ensures { (settings : Settings) (counts : List ℕ) (readies : List Ready) (before : List SlotState)
+        → CanFinish settings counts readies before (states_of S.list S.counts slots.now) queries crew
+        → IsBatch (slots_run settings counts readies before (states_of S.list S.counts slots.now)) result }
+{
+    let Crew {
+        pool,
+        mut pass,
+        feeders,
+        mut workers,
+        mut endings,
+        mut uses,
+    } = crew;
+    gather(&mut workers, queries, &mut endings);
+    rejoin(&pool, &mut pass, workers);
+    let states = pool.close(pass, Feeders::from_vec(feeders));
+    use_all(&states, slots, &mut uses);
+    let_states_go(states);
+    Batch::make(endings, uses)
 }

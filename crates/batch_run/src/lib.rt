@@ -2,9 +2,7 @@
 //! Each query ends as it would alone on the tables that agree with what it read.
 #![tactic(auto)]
 
-mod crew;
 mod finish;
-mod hire;
 mod run;
 
 pub use batch_result::{Batch, Settings, Use};

@@ -8,7 +8,8 @@ ghost use Rattle.query_turns.specs.Endings.{IsRight};
 ghost use Rattle.batch_result.specs.Ranges.{AreSettings};
 ghost use Rattle.batch_result.specs.Batches.{run_of, IsBatch};
 
-use super::hire::Crew;
+use super::finish::finish;
+use batch_crew::Crew;
 use batch_result::{Batch, Settings};
 use fetcher::Slot;
 use limits::MAX_OBJECTS;
@@ -48,8 +49,8 @@ pub fn run_all<W: Threads + Wait + Sync, S: Source>(
     let mut crew = Crew::make(alloc, counts, queries.len(), settings.workers)?;
     crew.run(rt, alloc, sources, queries, settings);
     if crew.is_short() {
-        drop(crew);
+        crew.let_go();
         return Err(Memory);
     }
-    Ok(crew.finish(sources, queries.len()))
+    Ok(finish(crew, sources, queries.len()))
 }

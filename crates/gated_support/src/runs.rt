@@ -1,6 +1,6 @@
 //! Batches over sources that wait, as plain data.
 
-ghost use Rattle.std.specs.Prelude.{◌≡◌, None, All, IfOk, OnOk};
+ghost use Rattle.std.specs.Prelude.{◌≡◌, None, All, OnOk};
 
 use super::waiting::{Call, Gate, Gated};
 use batch_run::Settings;
@@ -63,26 +63,30 @@ fn add_slot<'a>(slots: &mut Vec<Slot<Gated<'a>>>, source: Gated<'a>) -> Result<(
     ensures { OnOk result (All (λ slot. slot.feeder ≡ None) slots.new.items) }
 {
     let slot = Slot::make(source);
-    let Ok(()) = slots.push(slot) else {
-        return Err("memory".into());
-    };
-    Ok(())
+    match slots.push(slot) {
+        Ok(()) => Ok(()),
+        Err(refused) => {
+            drop(refused);
+            Err("memory".into())
+        }
+    }
 }
 
-/// A slot of each source. The calls for their pages are counted in `pages`, by their numbers.
-fn slots_of<'a>(
+/// Adds a slot of each source. The calls for their pages are counted in `pages`, by their numbers.
+fn add_slots<'a>(
     alloc: Global,
     waiters: &[Waiter],
     pages: &'a [AtomicU64],
-) -> Result<Vec<Slot<Gated<'a>>>, Fail>
-    ensures { IfOk result (λ slots. All (λ slot. slot.feeder ≡ None) slots.items) }
+    slots: &mut Vec<Slot<Gated<'a>>>,
+) -> Result<(), Fail>
+    requires { All (λ slot. slot.feeder ≡ None) slots.old.items }
+    ensures { OnOk result (All (λ slot. slot.feeder ≡ None) slots.new.items) }
 {
-    let mut slots = Vec::new(alloc);
     for (number, waiter) in waiters.iter().enumerate() {
         let source = waiting(alloc, waiter, pages, number)?;
-        add_slot(&mut slots, source)?;
+        add_slot(slots, source)?;
     }
-    Ok(slots)
+    Ok(())
 }
 
 /// Whether the queries of a batch end so over its sources, None where there is no batch for want of memory.
@@ -104,29 +108,62 @@ fn end_so<R: Threads + Wait + Sync>(
     Ok(Some(so))
 }
 
-/// Whether a batch goes as it is to.
-pub fn goes_so<R: Threads + Wait + Sync>(rt: &R, alloc: Global, case: &Case) -> Result<bool, Fail> {
-    let pages = no_calls();
-    let mut slots = slots_of(alloc, case.waiters, &pages)?;
-    let so = end_so(rt, alloc, &mut slots, case);
-    let faults = slots.first().map(|slot| slot.source.counts().faults);
-    drop(slots);
-    Ok(so? == Some(true) && faults == Some(case.faults))
+/// The calls of the first source that have failed.
+fn faults_of(slots: &[Slot<Gated>]) -> u64 {
+    match slots.first() {
+        Some(slot) => slot.source.counts().faults,
+        None => 0,
+    }
 }
 
-/// Whether there is no batch at first, for want of memory, and the queries end as they are to where they are run again over the same
-/// slots.
-fn end_again<R: Threads + Wait + Sync>(
+/// How often a batch runs over the same slots.
+#[derive(Clone, Copy)]
+enum Runs {
+    /// Once, and it goes as it is to.
+    Once,
+    /// Twice: there is no batch at first, for want of memory, and then the queries end as they are to.
+    Twice,
+}
+
+/// Whether a batch goes so over its sources, for which the slots are added.
+fn go_so<'a, R: Threads + Wait + Sync>(
     rt: &R,
     alloc: Global,
-    slots: &mut [Slot<Gated>],
+    pages: &'a [AtomicU64],
+    slots: &mut Vec<Slot<Gated<'a>>>,
     case: &Case,
+    runs: Runs,
 ) -> Result<bool, Fail>
-    requires { All (λ slot. slot.feeder ≡ None) slots.old }
+    requires { All (λ slot. slot.feeder ≡ None) slots.old.items }
 {
+    add_slots(alloc, case.waiters, pages, slots)?;
     let first = end_so(rt, alloc, slots, case)?;
-    let second = end_so(rt, alloc, slots, case)?;
-    Ok(first == None && second == Some(true))
+    match runs {
+        Runs::Once => Ok(first == Some(true) && faults_of(slots) == case.faults),
+        Runs::Twice => {
+            let second = end_so(rt, alloc, slots, case)?;
+            Ok(first == None && second == Some(true))
+        }
+    }
+}
+
+/// Whether a batch goes so over its sources.
+fn goes<R: Threads + Wait + Sync>(
+    rt: &R,
+    alloc: Global,
+    case: &Case,
+    runs: Runs,
+) -> Result<bool, Fail> {
+    let pages = no_calls();
+    let mut slots = Vec::new(alloc);
+    let so = go_so(rt, alloc, &pages, &mut slots, case, runs);
+    drop(slots);
+    so
+}
+
+/// Whether a batch goes as it is to.
+pub fn goes_so<R: Threads + Wait + Sync>(rt: &R, alloc: Global, case: &Case) -> Result<bool, Fail> {
+    goes(rt, alloc, case, Runs::Once)
 }
 
 /// Whether a batch wants memory at first, and goes as it is to where it is run again.
@@ -135,9 +172,5 @@ pub fn goes_again<R: Threads + Wait + Sync>(
     alloc: Global,
     case: &Case,
 ) -> Result<bool, Fail> {
-    let pages = no_calls();
-    let mut slots = slots_of(alloc, case.waiters, &pages)?;
-    let so = end_again(rt, alloc, &mut slots, case);
-    drop(slots);
-    so
+    goes(rt, alloc, case, Runs::Twice)
 }

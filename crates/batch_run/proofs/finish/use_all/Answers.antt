@@ -1,5 +1,5 @@
 use Rattle.std.proofs.Common.{arith}
-use Rattle.batch_run.proofs.SlotLaws.{uses_more}
+use Rattle.batch_run.proofs.UseLaws.{uses_more}
 use Rattle.batch_run.proofs.finish.use_all.Goals as goal
 
 pub loop-source-preserved : goal.loop-source-preserved

@@ -2,7 +2,7 @@ use Rattle.std.proofs.Common.{◌≡◌, ◌≤◌, ◌<◌, ℕ, length, vec_le
 use Rattle.source_state.specs.State.{state_at}
 use Rattle.batch_slots.specs.Slots.{states_of, slot_at}
 use Rattle.batch_result.specs.Batches.{use_at}
-use Rattle.batch_run.specs.Crews.{UsedOf}
+use Rattle.batch_run.specs.Finishing.{UsedOf}
 use Rattle.batch_run.proofs.finish.use_all.Given as goal
 
 abbrev pub invariant-loop-source : goal.invariant-loop-source

@@ -16,7 +16,7 @@ use Rattle.query_turns.specs.Made.{IsReadyFor}
 use Rattle.batch_result.specs.declared.settings.Settings.{Settings}
 use Rattle.batch_sides.specs.declared.work.Worker.{Worker}
 use Rattle.batch_sides.specs.Working.{DidOf, IsAtWork, Worked, AllWorked}
-use Rattle.batch_run.specs.Crews.{fresh_hold, IsHired, IsBase, IsHiring, HasLeft}
+use Rattle.batch_crew.specs.Crews.{fresh_hold, IsHired, IsBase, IsHiring, HasLeft}
 
 -- what a fresh pass holds of a source
 fresh_within : (hold : Hold) → hold.shown ≡ record { failed = 0; garbled = 0; memory = 0 } → hold.waiting.need ≡ None → IsWithin hold

@@ -5,7 +5,7 @@ ghost use Rattle.std.specs.List.{list_any};
 ghost use Rattle.batch_result.specs.Ranges.{AreSettings};
 ghost use Rattle.query_turns.specs.Made.{IsReadyFor};
 ghost use Rattle.batch_slots.specs.Slots.{states_of};
-ghost use Rattle.batch_run.specs.Crews.{IsNewCrew, HasRun};
+ghost use Rattle.batch_crew.specs.Crews.{IsNewCrew, HasRun};
 
 use super::hire::Crew;
 use batch_result::Settings;
@@ -20,7 +20,7 @@ use std::thread::Threads;
 
 impl Crew {
     /// Runs the queries over the sources. The feeders stand in the slots meanwhile.
-    pub(crate) fn run<W: Threads + Wait + Sync, S: Source>(
+    pub fn run<W: Threads + Wait + Sync, S: Source>(
         &mut self,
         rt: &W,
         alloc: Global,
@@ -49,9 +49,14 @@ impl Crew {
     }
 
     /// Whether a worker wanted memory.
-    pub(crate) fn is_short(&self) -> bool
+    pub fn is_short(&self) -> bool
         ensures { result ≡ list_any (λ worker. worker.short) self.now.workers.items }
     {
         self.workers.iter().any(|worker| worker.short)
+    }
+
+    /// Lets the crew go.
+    pub fn let_go(self) {
+        drop(self);
     }
 }

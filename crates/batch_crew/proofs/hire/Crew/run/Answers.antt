@@ -1,9 +1,9 @@
 use Rattle.std.proofs.Common.{◌++◌, All, length, take, drop, sym, ap, subst, ◌∙◌, arith}
 use Rattle.batch_sides.specs.Working.{IsAtWork, AllWorked}
-use Rattle.batch_run.proofs.CrewLaws.{all_at_work, ran_parts}
+use Rattle.batch_crew.proofs.CrewLaws.{all_at_work, ran_parts}
 use Rattle.batch_result.proofs.Places.{lent_back}
-use Rattle.batch_run.proofs.SlotLaws.{all_fed, all_fetched, all_full}
-use Rattle.batch_run.proofs.hire.Crew.run.Goals as goal
+use Rattle.batch_crew.proofs.SlotLaws.{all_fed, all_fetched, all_full}
+use Rattle.batch_crew.proofs.hire.Crew.run.Goals as goal
 
 pub run_sides-requires-clause-workers : goal.run_sides-requires-clause-workers
 run_sides-requires-clause-workers g c κs within =

@@ -1,27 +1,20 @@
 -- What a crew is before it runs and after it, and how its passes come together.
-use Rattle.std.specs.Prelude.{◌≡◌, ◌≤◌, ◌<◌, ◌+◌, ◌^◌, ◌⊎◌, [], ℕ, false, List, Contains, length, map, reverse, slice_index, vec_capacity}
-use Rattle.std.specs.List.{slice_index_or, sum_by, list_any}
+use Rattle.std.specs.Prelude.{◌≡◌, ◌≤◌, ◌<◌, ◌+◌, ◌⊎◌, [], ℕ, false, List, Contains, length, slice_index, vec_capacity}
+use Rattle.std.specs.List.{slice_index_or, sum_by}
 use Rattle.atomic_table.specs.Seated.{TableId}
 use Rattle.turn_lock.specs.Known.{all_parts, Follows}
-use Rattle.source_state.specs.State.{State}
 use Rattle.source_pass.specs.declared.hold.Hold.{Hold}
 use Rattle.source_locks.specs.Passes.{Feed, lock_at, hold_at, feed_at, IsPassOf, AreFeedersOf}
 use Rattle.source_pass.specs.Sharing.{new_hold}
 use Rattle.source_locks.specs.Sharing.{first_hold, first_feed}
 use Rattle.query_core.specs.declared.ready.Ready.{Ready}
-use Rattle.query_turns.specs.declared.ended.Ended.{Ended}
 use Rattle.source_api.specs.Counting.{NoneFell}
-use Rattle.fetcher.specs.declared.turned.Fetched.{Fetched}
 use Rattle.fetcher.specs.Turning.{Feeds}
 use Rattle.fetcher.specs.Chaining.{moment, IsFetched}
 use Rattle.fetcher.specs.Metering.{IsMetered}
 use Rattle.batch_result.specs.declared.settings.Settings.{Settings}
-use Rattle.batch_result.specs.Ranges.{AreSettings}
-use Rattle.batch_result.specs.declared.batch.Use.{Use}
 use Rattle.batch_sides.specs.declared.work.Worker.{Worker}
-use Rattle.batch_run.specs.declared.hire.Crew.{Crew}
-use Rattle.batch_sides.specs.Shares.{share}
-use Rattle.batch_result.specs.Batches.{BatchRun}
+use Rattle.batch_crew.specs.declared.hire.Crew.{Crew}
 use Rattle.batch_sides.specs.Working.{HasWorked}
 use Rattle.batch_slots.specs.Slots.{SlotState, slot_at}
 
@@ -105,33 +98,3 @@ pub record Rejoins (pool : List TableId) (others : List (List Hold)) (before aft
       ⊎ ((other : List Hold) × Contains others other × Contains (hold_at other source).pass.1.mine object)
   pub high : (source : ℕ) → source < length pool → ((hold_at after source).pass.1.high ≡ (hold_at before source).pass.1.high)
       ⊎ ((other : List Hold) × Contains others other × ((hold_at after source).pass.1.high ≡ (hold_at other source).pass.1.high))
-
--- the workers have the shares of the whole, each the last one first
-pub record AreShares (whole : List Ended) (workers : List Worker) : Type 0 where
-  pub each : (i : ℕ) (d : Worker) → i < length workers → (slice_index_or workers i d).ended.items ≡ reverse (share (length workers) i whole)
-
--- what was used of a source, by its closing state and what was fetched
-pub record UsedOf (s : State) (fetched : Fetched) (used : Use) : Type 0 where
-  pub rows : used.rows ≡ fetched.rows
-  pub grades : used.grades ≡ fetched.grades
-  pub want : used.want ≡ s.want
-  pub asks : used.asks ≡ length s.asks
-
--- the run of a batch on slots that stood so before and stand so now
-abbrev pub slots_run : Settings → List ℕ → List Ready → List SlotState → List SlotState → BatchRun
-slots_run settings counts readies before after = record {
-  settings = settings;
-  sizes = counts;
-  readies = readies;
-  told = map (λ slot. slot.told) before;
-  before = map (λ slot. slot.counts) before;
-  now = map (λ slot. slot.counts) after;
-}
-
--- a crew has run as many queries as are stated, and no worker wanted memory
-pub record CanFinish (settings : Settings) (counts : List ℕ) (readies : List Ready) (before after : List SlotState) (queries : ℕ) (crew : Crew) : Type 0 where
-  pub settings_are : AreSettings settings
-  pub ran : HasRun settings counts readies before after crew
-  pub many : length readies ≡ queries
-  pub few : (queries < 2 ^ 32) × (length counts < 2 ^ 32)
-  pub enough : list_any (λ (worker : Worker). worker.short) crew.workers.items ≡ false

@@ -1,5 +1,5 @@
 use Rattle.std.proofs.Common.{◌≡◌, All, None}
-use Rattle.gated_support.proofs.runs.slots_of.Given as goal
+use Rattle.gated_support.proofs.runs.add_slots.Given as goal
 
 -- no slot so far has a feeder
 abbrev pub invariant-loop-number : goal.invariant-loop-number

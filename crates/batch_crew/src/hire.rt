@@ -2,7 +2,7 @@
 
 ghost use Rattle.std.specs.Prelude.{◌≡◌, ◌≤◌, ◌<◌, ◌+◌, ◌^◌, [], ℕ, List, All, length, IfOk, OnOk, vec_len, vec_capacity};
 ghost use Rattle.source_locks.specs.Passes.{IsPassOf};
-ghost use Rattle.batch_run.specs.Crews.{IsHiring, IsNewCrew};
+ghost use Rattle.batch_crew.specs.Crews.{IsHiring, IsNewCrew};
 
 use batch_result::Use;
 use batch_sides::Worker;
@@ -13,13 +13,19 @@ use std::alloc::Global;
 
 /// The pool of a batch with its first pass and its feeders, the workers, and room for what the batch gives.
 #[derive(Drop)]
-pub(crate) struct Crew {
-    pub(crate) pool: Pool,
-    pub(crate) pass: PoolPass,
-    pub(crate) feeders: Vec<Feeder>,
-    pub(crate) workers: Vec<Worker>,
-    pub(crate) endings: Vec<Ended>,
-    pub(crate) uses: Vec<Use>,
+pub struct Crew {
+    /// The sources, each behind a lock of its own.
+    pub pool: Pool,
+    /// The first pass, of which the workers' passes were split off.
+    pub pass: PoolPass,
+    /// The feeder of each source.
+    pub feeders: Vec<Feeder>,
+    /// The workers, each at the place of its number.
+    pub workers: Vec<Worker>,
+    /// Room for how the queries end.
+    pub endings: Vec<Ended>,
+    /// Room for what is used of the sources.
+    pub uses: Vec<Use>,
 }
 
 /// One more worker, for whom there is room. The first pass gives it a pass of its own.
@@ -69,21 +75,14 @@ fn hire(
     ensures size { OnOk result (vec_len workers.new ≡ count) }
 {
     for number in 0..count {
-        let Ok(()) = hire_next(alloc, pool, pass, workers, number) else {
-            return Err(Memory);
-        };
+        hire_next(alloc, pool, pass, workers, number)?;
     }
     Ok(())
 }
 
 impl Crew {
     /// The pool of sources with these counts of objects, with so many workers, and room for the endings of so many queries.
-    pub(crate) fn make(
-        alloc: Global,
-        counts: &[u32],
-        queries: usize,
-        workers: u32,
-    ) -> Result<Crew, Memory>
+    pub fn make(alloc: Global, counts: &[u32], queries: usize, workers: u32) -> Result<Crew, Memory>
         requires few { length counts.now < 2 ^ 32 }
         requires counts { All (λ count. count ≤ MAX_OBJECTS) counts.now }
         requires workers { workers ≤ 32 }

@@ -1,6 +1,6 @@
 use Rattle.std.proofs.Common.{◌∙◌, arith, rules}
-use Rattle.batch_run.proofs.CrewLaws.{hired_more, may_split}
-use Rattle.batch_run.proofs.hire.hire_next.Goals as goal
+use Rattle.batch_crew.proofs.CrewLaws.{hired_more, may_split}
+use Rattle.batch_crew.proofs.hire.hire_next.Goals as goal
 
 pub split-requires-clause-parts : goal.split-requires-clause-parts
 split-requires-clause-parts c =

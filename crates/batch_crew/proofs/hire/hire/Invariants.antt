@@ -1,6 +1,6 @@
 use Rattle.std.proofs.Common.{◌≡◌, ◌≤◌, ℕ, List, vec_len, vec_capacity}
-use Rattle.batch_run.specs.Crews.{IsHiring}
-use Rattle.batch_run.proofs.hire.hire.Given as goal
+use Rattle.batch_crew.specs.Crews.{IsHiring}
+use Rattle.batch_crew.proofs.hire.hire.Given as goal
 
 abbrev pub invariant-loop-number : goal.invariant-loop-number
 invariant-loop-number l = record {

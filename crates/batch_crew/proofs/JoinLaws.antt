@@ -10,7 +10,7 @@ use Rattle.source_pass.specs.declared.hold.Hold.{Hold}
 use Rattle.source_locks.specs.Passes.{hold_at, IsPassOf}
 use Rattle.source_locks.specs.Sharing.{IsJoined}
 use Rattle.batch_sides.specs.declared.work.Worker.{Worker}
-use Rattle.batch_run.specs.Crews.{Rejoins}
+use Rattle.batch_crew.specs.Crews.{Rejoins}
 use Rattle.batch_result.proofs.LaterLaws.{follows_on}
 
 rejoins_none : (pool : List TableId) (before : List Hold) → IsPassOf pool before → Rejoins pool [] before before

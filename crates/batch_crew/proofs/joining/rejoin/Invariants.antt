@@ -1,7 +1,7 @@
 use Rattle.std.proofs.Common.{length}
 use Rattle.source_locks.specs.Passes.{IsPassOf}
-use Rattle.batch_run.proofs.JoinLaws.{RejoinedSo}
-use Rattle.batch_run.proofs.finish.rejoin.Given as goal
+use Rattle.batch_crew.proofs.JoinLaws.{RejoinedSo}
+use Rattle.batch_crew.proofs.joining.rejoin.Given as goal
 
 abbrev pub invariant-loop-worker : goal.invariant-loop-worker
 invariant-loop-worker l = record {

@@ -1,8 +1,8 @@
 use Rattle.std.proofs.Common.{List, ap, sym, subst, ◌∙◌, arith}
 use Rattle.source_locks.specs.Passes.{AreFeedersOf, Feed, feed_at}
-use Rattle.batch_run.specs.Crews.{IsHiring}
-use Rattle.batch_run.proofs.CrewLaws.{hiring_none}
-use Rattle.batch_run.proofs.hire.Crew.make.Goals as goal
+use Rattle.batch_crew.specs.Crews.{IsHiring}
+use Rattle.batch_crew.proofs.CrewLaws.{hiring_none}
+use Rattle.batch_crew.proofs.hire.Crew.make.Goals as goal
 
 pub hire-requires-clause-own : goal.hire-requires-clause-own
 hire-requires-clause-own c = (
