@@ -30,7 +30,7 @@ use Rattle.query_turns.specs.declared.ended.Ended.TheVariants.{Answered, Core, L
 use Rattle.bulk_run.specs.declared.input.BulkInput.{BulkInput}
 use Rattle.bulk_run.specs.Sums.{IsInput, table_of, query_of}
 use Rattle.bulk_run.specs.Endings.{EndsInOne, AllEndInOne, IsSmall}
-use Rattle.bulk_run.proofs.Readying.{table_long}
+use Rattle.made_sources.proofs.TableLaws.{table_long}
 
 -- ---- the values of made trees
 
@@ -102,7 +102,8 @@ made_low number lists some few =
 -- the aggregate of an object on the table is no greater
 aggregate_low : (input : BulkInput) (number object : ℕ) → IsInput input → aggregate (value (query_of input number).expr) (table_of input) object ≤ most_value
 aggregate_low input number object within =
-    let long : length (grades_of (table_of input) object) ≡ input.lists = length-map (table_of input) (λ (rows : List Row). grade_in rows object) ∙ table_long input in
+    let long : length (grades_of (table_of input) object) ≡ input.lists =
+    length-map (table_of input) (λ (rows : List Row). grade_in rows object) ∙ table_long input.start input.count input.lists in
     let few = within.few_lists in
     let top = value-le-top_value (made_tree number input.lists) (grades_of (table_of input) object) (omega (arith, long, few))
     (grades_capped input.count (table_of input) object (is_table input.start input.count input.lists)) in
@@ -130,7 +131,7 @@ answer_low input number answer within one =
 run_few : (input : BulkInput) (number : ℕ) → IsInput input → length (one_run (query_of input number) (table_of input)) < 2 ^ 24
 run_few input number within =
     let q = query_of input number in
-    let long = table_long input in
+    let long = table_long input.start input.count input.lists in
     let some = within.some_objects in
     let lists = within.some_lists in
     let few = within.few_lists in

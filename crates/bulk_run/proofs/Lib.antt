@@ -1,5 +1,4 @@
--- Lemmas on made sources, ready queries, and how they end.
-mod HeldLaws
+-- Lemmas on ready queries, and how they end.
 mod Readying
 mod OneAnswers
 mod Summing

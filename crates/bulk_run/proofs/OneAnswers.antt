@@ -11,15 +11,16 @@ use Rattle.query_core.specs.OneAnswer.{IsOneAnswer}
 use Rattle.query_turns.specs.declared.ended.Ended.{Ended}
 use Rattle.query_turns.specs.declared.ended.Ended.TheVariants.{Answered, Core, Look}
 use Rattle.fetcher.specs.declared.slot.Slot.{Slot}
+use Rattle.made_sources.proofs.TableLaws.{table_told}
 use Rattle.batch_result.specs.declared.settings.Settings.{Settings}
 use Rattle.batch_result.specs.Numbered.{counts_at}
 use Rattle.batch_result.specs.Batches.{BatchState, BatchRun, run_of, IsBatch}
 use Rattle.batch_result.specs.Tables.{lists_for, TellsTables, EndsOver}
 use Rattle.bulk_run.specs.declared.input.BulkInput.{BulkInput}
-use Rattle.bulk_run.specs.Held.{Held, fresh_slot, told_rows, counts_of}
+use Rattle.made_sources.specs.Held.{Held, fresh_slot, told_rows, counts_of}
 use Rattle.bulk_run.specs.Sums.{table_of, query_of}
 use Rattle.bulk_run.specs.Endings.{IsMadeReady, AreMadeReady, EndsInOne, AllEndInOne}
-use Rattle.bulk_run.proofs.Readying.{table_told, made_lists, all_have_tables}
+use Rattle.bulk_run.proofs.Readying.{made_lists, all_have_tables}
 
 -- ---- no call failed
 
@@ -41,7 +42,7 @@ tells_tables : (input : BulkInput) (settings : Settings) (counts : List ℕ) (re
     → AreMadeReady input readies → before ≡ map fresh_slot (table_of input)
     → TellsTables (run_of told_rows counts_of settings counts readies before now) (table_of input)
 tells_tables input settings counts readies before now are fresh = record {
-  told = ap (λ (slots : List (Slot Held)). map (λ slot. told_rows slot.source) slots) fresh ∙ table_told input;
+  told = ap (λ (slots : List (Slot Held)). map (λ slot. told_rows slot.source) slots) fresh ∙ table_told input.start input.count input.lists;
   tables = all_have_tables input readies are;
   untroubled = λ source l. record { faults = not_rose _ _ (no_faults now source); garbles = not_rose _ _ (no_garbles now source) };
 }

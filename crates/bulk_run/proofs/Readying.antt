@@ -1,80 +1,30 @@
 -- Made queries are ready to run over the made table.
-use Rattle.std.proofs.Common.{◌≡◌, ◌≤◌, ◌<◌, ◌+◌, ℕ, suc, min, Option, Some, None, List, [], ◌∷◌, ◌++◌, length, map, replicate, All, refl, sym, ap, subst, ◌∙◌, arith}
+use Rattle.std.proofs.Common.{◌≡◌, ◌≤◌, ◌<◌, ◌+◌, ℕ, min, List, [], ◌∷◌, ◌++◌, length, map, replicate, All, refl, sym, ap, subst, ◌∙◌, arith}
 use Rattle.std.specs.Prelude.{◌%◌}
 use Rattle.std.specs.List.{AllZip, range_with_len, slice_index_or}
 use Rattle.std.proofs.Math.Nat.{mod-lt}
-use Rattle.std.proofs.lemmas.List.{get_or-replicate, length-replicate, length-map}
+use Rattle.std.proofs.lemmas.List.{get_or-replicate, length-replicate}
 use Rattle.std.proofs.lemmas.List.Elements.{All-replicate}
-use Rattle.std.proofs.lemmas.List.FromFn.{length-range_with_len, length-map-range_with_len, get_or-range_with_len, fill_by_all}
+use Rattle.std.proofs.lemmas.List.FromFn.{length-range_with_len, length-map-range_with_len, fill_by_all}
 use Rattle.std.proofs.lemmas.Slice.Zip.{all_zipped_more, AllZip-long}
 use Rattle.monotone_fn.specs.Limits.{IsExpr}
 use Rattle.ranked_list.specs.declared.row.Row.{Row}
-use Rattle.ranked_list.specs.Table.{IsTable, IsRanked}
+use Rattle.ranked_list.specs.Table.{IsTable}
 use Rattle.topk_theory.specs.Transcript.{list_at, list_numbers}
-use Rattle.topk_theory.proofs.AgreementLists.{all_from_members, member_of_all, contains_map, contains_map_from}
+use Rattle.topk_theory.proofs.AgreementLists.{all_from_members}
 use Rattle.topk_theory.proofs.ListNumbers.{number_below, range_more}
-use Rattle.source_api.specs.Told.{HasEachOnce}
-use Rattle.table_make.specs.Made.{made_list}
-use Rattle.table_make.proofs.Making.{is_table, list_objects}
+use Rattle.table_make.proofs.Making.{is_table}
 use Rattle.table_text.specs.Numbered.{list_name}
 use Rattle.query_text.specs.declared.query.Query.{Query}
 use Rattle.query_text.specs.Query.{IsLawful}
 use Rattle.query_core.specs.declared.ready.Ready.{Ready}
 use Rattle.query_turns.specs.Made.{IsReadyFor}
 use Rattle.query_turns.proofs.Lists.{zip_member}
-use Rattle.fetcher.specs.declared.slot.Slot.{Slot}
 use Rattle.batch_result.specs.Tables.{lists_for}
 use Rattle.bulk_run.specs.declared.input.BulkInput.{BulkInput}
-use Rattle.bulk_run.specs.Held.{Held, AreSmall, fresh_slot, told_rows}
+use Rattle.made_sources.proofs.TableLaws.{table_long}
 use Rattle.bulk_run.specs.Sums.{IsInput, table_of, query_of}
 use Rattle.bulk_run.specs.Endings.{IsMadeReady, AreMadeReady}
-use Rattle.bulk_run.proofs.HeldLaws.{told_whole}
-
--- ---- the table
-
-pub table_long : (input : BulkInput) → length (table_of input) ≡ input.lists
-table_long input = length-map-range_with_len (made_list input.start input.count) 0 input.lists
-
--- no object of a made list is above the number of its rows
-list_small : (start count list : ℕ) → length (made_list start count list) ≡ count → AreSmall (made_list start count list)
-list_small start count list long =
-    all_from_members (λ (row : Row). row.object ≤ length (made_list start count list)) (made_list start count list) (λ row c.
-    let among = list_objects start count list row.object (contains_map (λ (r : Row). r.object) (made_list start count list) row c) in
-    let many : length (range_with_len 1 count) ≡ count = length-range_with_len 1 count in
-    let at : row.object ≡ 1 + among.0 = sym among.2 ∙ get_or-range_with_len 1 count among.0 row.object (omega (arith, among.1, many)) in
-    omega (arith, at, long, among.1, many))
-
-pub table_small : (input : BulkInput) → All AreSmall (table_of input)
-table_small input =
-    let table = is_table input.start input.count input.lists in
-    all_from_members AreSmall (table_of input) (λ list c.
-    let from = contains_map_from (made_list input.start input.count) (list_numbers input.lists) list c in
-    let long : length list ≡ input.count = member_of_all (λ (rows : List Row). length rows ≡ input.count) (table_of input) list table.sized c in
-    subst AreSmall from.2 (list_small input.start input.count from.0 (ap length from.2 ∙ long)))
-
--- the sources in slots tell the table
-told_all : (lists : List (List Row)) → All HasEachOnce lists → map (λ slot. told_rows slot.source) (map fresh_slot lists) ≡ map Some lists
-told_all [] h = refl
-told_all (list ∷ lists) h =
-    ap (λ (told : Option (List Row)). told ∷ map (λ slot. told_rows slot.source) (map fresh_slot lists)) (told_whole list (h 0 list (omega arith)))
-    ∙ ap (λ (told : List (Option (List Row))). Some list ∷ told) (told_all lists (λ k d l. h (suc k) d (omega arith)))
-
-pub table_told : (input : BulkInput) → map (λ slot. told_rows slot.source) (map fresh_slot (table_of input)) ≡ map Some (table_of input)
-table_told input =
-    told_all (table_of input)
-    (all_from_members HasEachOnce (table_of input) (λ list c. (member_of_all IsRanked (table_of input) list (is_table input.start input.count input.lists).ranked c).distinct))
-
--- there are as many slots as lists, and none has a feeder yet
-pub slots_long : (input : BulkInput) (slots : List (Slot Held)) → slots ≡ map fresh_slot (table_of input) → length slots ≡ input.lists
-slots_long input slots are = ap length are ∙ length-map (table_of input) fresh_slot ∙ table_long input
-
-none_in : (lists : List (List Row)) → All (λ (slot : Slot Held). slot.feeder ≡ None) (map fresh_slot lists)
-none_in lists =
-    all_from_members (λ (slot : Slot Held). slot.feeder ≡ None) (map fresh_slot lists) (λ slot c.
-    let from = contains_map_from fresh_slot lists slot c in sym (ap (λ (one : Slot Held). one.feeder) from.2))
-
-pub none_fed : (input : BulkInput) (slots : List (Slot Held)) → slots ≡ map fresh_slot (table_of input) → All (λ (slot : Slot Held). slot.feeder ≡ None) slots
-none_fed input slots are = subst (All (λ (slot : Slot Held). slot.feeder ≡ None)) (sym are) (none_in (table_of input))
 
 -- the lists of the table, in their order
 pub in_order : (D : List (List Row)) → map (list_at D) (list_numbers (length D)) ≡ D
@@ -138,7 +88,7 @@ counts_long input counts is = ap length is ∙ length-replicate input.lists inpu
 -- the lists of each are the made table
 pub made_lists : (input : BulkInput) (sources : List ℕ) → sources ≡ list_numbers input.lists → map (list_at (table_of input)) sources ≡ table_of input
 made_lists input sources is =
-    ap (map (list_at (table_of input))) (is ∙ ap list_numbers (sym (table_long input))) ∙ in_order (table_of input)
+    ap (map (list_at (table_of input))) (is ∙ ap list_numbers (sym (table_long input.start input.count input.lists))) ∙ in_order (table_of input)
 
 has_table : (input : BulkInput) (number : ℕ) (ready : Ready) → IsMadeReady input number ready → IsTable ready.count (lists_for (table_of input) ready)
 has_table input number ready made =

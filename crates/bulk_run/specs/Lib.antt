@@ -1,5 +1,4 @@
 -- What many made queries over a made table come to.
-pub mod Held
 pub mod Sums
 pub mod Endings
 pub mod Text

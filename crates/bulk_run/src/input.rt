@@ -1,7 +1,7 @@
 //! What is made and run.
 
 /// The numbers from which a table and queries over it are made.
-#[derive(Clone, Copy, Debug, PartialEq, Eq)]
+#[derive(Clone, Copy)]
 pub struct BulkInput {
     /// The number that the table is made from.
     pub start: u64,

@@ -2,19 +2,18 @@
 
 ghost use Rattle.std.specs.Prelude.{◌≡◌, IfOk, map, replicate};
 ghost use Rattle.batch_result.specs.Ranges.{AreSettings};
-ghost use Rattle.bulk_run.specs.Held.{fresh_slot};
+ghost use Rattle.made_sources.specs.Held.{fresh_slot};
 ghost use Rattle.bulk_run.specs.Sums.{IsInput, table_of, bulk_sums};
 ghost use Rattle.bulk_run.specs.Endings.{AreMadeReady, AllEndInOne};
 
 use super::Memory;
 use super::input::BulkInput;
-use super::made_source::MadeSource;
 use super::readies::made_readies;
-use super::slots::table_slots;
 use super::sums::{BulkSums, sums_of};
 use batch_result::told_tables_give_the_one_ending;
 use batch_run::{Ended, Settings, run_all};
 use fetcher::Slot;
+use made_sources::{MadeSource, let_go, table_slots};
 use query_core::Ready;
 use std::alloc::Global;
 use std::sync::Wait;
@@ -38,9 +37,25 @@ pub fn run_bulk<W: Threads + Wait + Sync>(
     requires settings { AreSettings settings }
     ensures { IfOk result (λ sums. sums ≡ bulk_sums input) }
 {
-    let mut slots = table_slots(alloc, input)?;
-    let endings = run_over(rt, alloc, input, &mut slots, settings)?;
+    let endings = run_made(rt, alloc, input, settings)?;
     Ok(sums_of(&endings))
+}
+
+/// Makes the sources of the table and the queries, runs these, and gives how they ended.
+fn run_made<W: Threads + Wait + Sync>(
+    rt: &W,
+    alloc: Global,
+    input: BulkInput,
+    settings: Settings,
+) -> Result<Vec<Ended>, Memory>
+    requires input { IsInput input }
+    requires settings { AreSettings settings }
+    ensures { IfOk result (λ endings. AllEndInOne input endings.items) }
+{
+    let mut slots = table_slots(alloc, input.start, input.count, input.lists)?;
+    let endings = run_over(rt, alloc, input, &mut slots, settings);
+    let_go(slots);
+    endings
 }
 
 /// How many objects each list of the table has.

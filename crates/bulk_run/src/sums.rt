@@ -11,7 +11,7 @@ use cert_text::depth_of;
 use query_turns::Ended;
 
 /// What queries came to, in sums over those that were answered.
-#[derive(Clone, Copy, Debug, PartialEq, Eq)]
+#[derive(Clone, Copy)]
 pub struct BulkSums {
     /// How many queries there were.
     pub queries: u64,

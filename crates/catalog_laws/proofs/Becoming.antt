@@ -42,7 +42,7 @@ use Rattle.catalog_open.specs.Openings.{TroubleAt}
 use Rattle.catalog_admission.specs.Wanted.{IsWanted}
 use Rattle.catalog_open.proofs.Moving.{moves_at, trouble_from}
 use Rattle.query_admission.specs.declared.line_outcome.LineOutcome.{LineOutcome}
-use Rattle.catalog_run.specs.Outcomes.{ended_outcome}
+use Rattle.catalog_outcomes.specs.Outcomes.{ended_outcome}
 use Rattle.catalog_run.specs.Runs.{CatalogRun, IsRun, IsLineRefused, IsLineRun, AreOutcomes}
 use Rattle.catalog_laws.specs.Told.{view_told, ShelfTellsTables, AllBecome}
 use Rattle.catalog_laws.proofs.Alike.{Alike, SameTold, becomes_alike, late_refused, none_alike, refused_alike, unseen_rows}

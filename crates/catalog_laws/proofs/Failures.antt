@@ -48,7 +48,7 @@ use Rattle.catalog_admission.specs.Wanted.{IsWanted}
 use Rattle.catalog_open.specs.Openings.{IsOpening, IsSource, TroubleAt}
 use Rattle.catalog_admission.proofs.Marking.{places_within}
 use Rattle.query_admission.specs.declared.line_outcome.LineOutcome.{LineOutcome}
-use Rattle.catalog_run.specs.Outcomes.{ended_outcome, source_refusal}
+use Rattle.catalog_outcomes.specs.Outcomes.{ended_outcome, source_refusal}
 use Rattle.catalog_run.specs.Runs.{CatalogRun, IsRun, IsLineRefused, IsLineRun, AreOutcomes}
 use Rattle.catalog_laws.specs.Failures.{place_at, failed_list, HasRisen, HasFailedAt, HasFailure}
 use Rattle.catalog_laws.proofs.Alike.{first_is_many}

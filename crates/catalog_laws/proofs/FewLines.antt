@@ -43,7 +43,7 @@ use Rattle.catalog_open.specs.Entries.{entry_at}
 use Rattle.catalog_open.specs.Openings.{Used, used_at, put_back}
 use Rattle.catalog_open.proofs.Moving.{used_append}
 use Rattle.query_admission.specs.declared.line_outcome.LineOutcome.{LineOutcome}
-use Rattle.catalog_run.specs.Outcomes.{ended_outcome}
+use Rattle.catalog_outcomes.specs.Outcomes.{ended_outcome}
 use Rattle.catalog_run.specs.Runs.{CatalogRun, IsRun, IsLineRefused, IsLineRun, AreOutcomes}
 use Rattle.catalog_laws.specs.Failures.{AreFew, RefusesFew, failed_list, is_place, is_refused_at, place_at, refused_at, says_failed, says_garbled}
 use Rattle.catalog_laws.proofs.Becoming.{served_all, source_there, still_many, text_for}

@@ -42,7 +42,7 @@ use Rattle.catalog_admission.specs.Wanted.{IsWanted}
 use Rattle.catalog_open.specs.Openings.{IsOpening, IsSource, IsToldAs}
 use Rattle.query_admission.specs.declared.line_outcome.LineOutcome.{LineOutcome}
 use Rattle.catalog_laws.specs.Answers.{IsOneOverTold}
-use Rattle.catalog_run.specs.Outcomes.{ended_outcome, look_refusal}
+use Rattle.catalog_outcomes.specs.Outcomes.{ended_outcome, look_refusal}
 use Rattle.catalog_run.specs.Runs.{CatalogRun, IsRun, IsLineRefused, IsLineRun, AreOutcomes}
 use Rattle.catalog_batch.specs.OpenSources.{batch_over}
 use Rattle.catalog_laws.specs.Told.{view_told}

@@ -16,7 +16,7 @@ use Rattle.query_turns.specs.declared.inquiry.Inquiry.{Inquiry}
 use Rattle.query_turns.specs.Endings.{IsRight}
 use Rattle.query_admission.specs.declared.line_outcome.LineOutcome.{LineOutcome}
 use Rattle.catalog_laws.specs.Answers.{IsRightLine}
-use Rattle.catalog_run.specs.Outcomes.{ended_outcome, look_refusal}
+use Rattle.catalog_outcomes.specs.Outcomes.{ended_outcome, look_refusal}
 use Rattle.catalog_run.specs.Runs.{IsLineRefused, IsLineRun, AreOutcomes}
 
 pub refused_answered : (refusal : Refusal) (answer : Answer) → Refused refusal ≡ Answered answer → ⊥

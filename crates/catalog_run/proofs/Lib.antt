@@ -1,5 +1,4 @@
 -- Lemmas on the outcomes of lines.
-pub mod Merged
 pub mod Outcomes
 pub mod Readies
 pub mod Writable

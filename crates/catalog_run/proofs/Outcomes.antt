@@ -17,7 +17,7 @@ use Rattle.catalog_admission.specs.declared.admissions.Stage.TheVariants.{Refuse
 use Rattle.catalog_admission.specs.Admissions.{AreAdmitted}
 use Rattle.catalog_admission.specs.Views.{line_over}
 use Rattle.query_admission.specs.declared.line_outcome.LineOutcome.{LineOutcome}
-use Rattle.catalog_run.specs.Merging.{Fit, Merges}
+use Rattle.catalog_outcomes.specs.Merging.{Fit, Merges}
 use Rattle.catalog_run.specs.Runs.{AreOutcomes, IsLineRefused, IsLineRun}
 
 -- as many endings as queries fit the lines

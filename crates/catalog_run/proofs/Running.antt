@@ -14,7 +14,7 @@ use Rattle.catalog_admission.specs.declared.admissions.Stage.{Stage}
 use Rattle.catalog_admission.specs.Admissions.{AreAdmitted}
 use Rattle.catalog_open.specs.Openings.{Sources}
 use Rattle.query_admission.specs.declared.line_outcome.LineOutcome.{LineOutcome}
-use Rattle.catalog_run.specs.Merging.{Fit, Merges}
+use Rattle.catalog_outcomes.specs.Merging.{Fit, Merges}
 use Rattle.catalog_run.specs.Runs.{CanBeWritten, RanOver}
 use Rattle.catalog_batch.specs.OpenSources.{batch_over}
 use Rattle.catalog_run.proofs.Outcomes.{outcomes_are, right_fit}

@@ -33,7 +33,7 @@ use Rattle.ranked_list.specs.declared.need.Need.{Need}
 use Rattle.ranked_list.specs.declared.need.Need.TheVariants as need
 use Rattle.catalog_admission.specs.Views.{line_over}
 use Rattle.query_admission.specs.declared.line_outcome.LineOutcome.{LineOutcome}
-use Rattle.catalog_run.specs.Outcomes.{ended_outcome, source_refusal}
+use Rattle.catalog_outcomes.specs.Outcomes.{ended_outcome, source_refusal}
 use Rattle.catalog_run.specs.Runs.{AreOutcomes, CanBeWritten, IsLineRefused, IsLineRun}
 
 line_refused : (view : View) (number : ℕ) (bytes : List ℕ) (o : LineOutcome) → IsLineRefused view number bytes o → CanBeWritten o

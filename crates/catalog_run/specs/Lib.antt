@@ -1,4 +1,2 @@
 -- What query lines over the lists of a catalog come to.
-pub mod Outcomes
-pub mod Merging
 pub mod Runs

@@ -24,7 +24,7 @@ use Rattle.catalog_admission.specs.Wanted.{IsWanted}
 use Rattle.catalog_open.specs.Openings.{Counted, IsUnread, GivesNothing, PutsBack, Sources, AreOpened, put_back}
 use Rattle.catalog_batch.specs.OpenSources.{batch_over}
 use Rattle.query_admission.specs.declared.line_outcome.LineOutcome.{LineOutcome}
-use Rattle.catalog_run.specs.Merging.{IsEndedAs}
+use Rattle.catalog_outcomes.specs.Merging.{IsEndedAs}
 
 -- the line is refused before it runs, for the first of the causes that holds
 pub record IsLineRefused (view : View) (number : ℕ) (bytes : List ℕ) (o : LineOutcome) : Type 0 where

@@ -3,15 +3,9 @@
 #![tactic(auto)]
 
 mod lines;
-mod merging;
-mod outcome;
 mod run;
 
 pub use batch_run::Settings;
+pub use catalog_outcomes::{Memory, let_go};
 pub use lines::run_lines;
-pub use merging::let_go;
 pub use query_admission::LineOutcome;
-
-/// No memory was left.
-#[derive(Clone, Copy, Debug, PartialEq, Eq)]
-pub struct Memory;

@@ -8,10 +8,10 @@ ghost use Rattle.catalog_admission.specs.Admissions.{AreAdmitted};
 ghost use Rattle.catalog_run.specs.Runs.{CanBeWritten, RanOver};
 
 use super::Memory;
-use super::merging::merge;
 use batch_run::Settings;
 use catalog_admission::Admissions;
 use catalog_batch::run_queries;
+use catalog_outcomes::{let_admissions_go, merge};
 use limits::MAX_OBJECTS;
 use query_admission::LineOutcome;
 use source_api::Source;
@@ -43,7 +43,7 @@ pub(crate) fn run_admitted<W: Threads + Wait + Sync, S: Source>(
     ensures writable { IfOk result (λ outcomes. All CanBeWritten outcomes.items) }
 {
     let Ok(batch) = run_queries(rt, alloc, counts, sources, &admissions.readies, settings) else {
-        drop(admissions);
+        let_admissions_go(admissions);
         return Err(Memory);
     };
     merge(alloc, admissions, batch.into_endings())

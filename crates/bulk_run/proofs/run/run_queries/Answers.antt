@@ -1,12 +1,14 @@
 use Rattle.std.proofs.Common.{sym, subst, ◌∙◌, arith}
 use Rattle.bulk_run.specs.Endings.{AllEndInOne}
-use Rattle.bulk_run.proofs.Readying.{all_counted, all_ready_for, counts_long, readies_long, slots_long, none_fed}
+use Rattle.made_sources.proofs.TableLaws.{slots_long, none_fed}
+use Rattle.bulk_run.proofs.Readying.{all_counted, all_ready_for, counts_long, readies_long}
 use Rattle.bulk_run.proofs.OneAnswers.{ran_in_one}
 use Rattle.bulk_run.proofs.run.run_queries.Goals as goal
 
 pub run_all-requires-clause-sources : goal.run_all-requires-clause-sources
 run_all-requires-clause-sources g c κs within =
-    counts_long c.args.input c.args.counts.now c.requires.counts ∙ sym (slots_long c.args.input c.args.slots.now c.requires.slots)
+    let input = c.args.input in
+    counts_long input c.args.counts.now c.requires.counts ∙ sym (slots_long input.start input.count input.lists c.args.slots.now c.requires.slots)
 
 pub run_all-requires-clause-few_sources : goal.run_all-requires-clause-few_sources
 run_all-requires-clause-few_sources g c κs within =
@@ -27,7 +29,7 @@ pub run_all-requires-clause-ready : goal.run_all-requires-clause-ready
 run_all-requires-clause-ready g c κs within = all_ready_for c.args.input c.args.readies.now c.args.counts.now c.requires.counts c.requires.readies
 
 pub run_all-requires-clause-empty : goal.run_all-requires-clause-empty
-run_all-requires-clause-empty g c κs within = none_fed c.args.input c.args.slots.now c.requires.slots
+run_all-requires-clause-empty g c κs within = none_fed c.args.input.start c.args.input.count c.args.input.lists c.args.slots.now c.requires.slots
 
 pub returns : goal.returns
 returns g c =

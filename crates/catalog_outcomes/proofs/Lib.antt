@@ -1,0 +1,2 @@
+-- Lemmas on outcomes that are put together.
+pub mod Merged

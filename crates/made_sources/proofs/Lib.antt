@@ -1,0 +1,3 @@
+-- Lemmas on made lists as sources.
+pub mod HeldLaws
+pub mod TableLaws

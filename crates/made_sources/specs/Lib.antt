@@ -1,0 +1,2 @@
+-- What a made list is as a source.
+pub mod Held
