@@ -1,18 +1,12 @@
 //! Runs of query lines as plain data, and what they write.
 
-ghost use Rattle.std.specs.Prelude.{All, IfSome};
-ghost use Rattle.catalog_run.specs.Runs.{CanBeWritten};
-ghost use Rattle.batch_result.specs.Ranges.{AreSettings};
-
-use catalog_run::{LineOutcome, Settings, run_lines};
-use catalog_text::{Catalog, read_catalog};
-use cert_text::put_outcome;
+use super::drives::{run_into, settings_of};
 use mem_source::MemShelf;
 use source_support::{Held, shelf_of};
 use std::alloc::Global;
 use std::sync::Wait;
 use std::thread::Threads;
-use tk_io::{MemSink, Pieces};
+use tk_io::MemSink;
 
 /// A run with one worker that reads no page ahead: the catalog's text, the sources on the shelf, the lines, how many rows a page has,
 /// and the call for a source that fails; and the text that it is to write, in pieces.
@@ -35,74 +29,6 @@ fn bytes_of(alloc: Global, lines: &[&'static str]) -> Option<Vec<&'static [u8]>>
     Some(bytes)
 }
 
-/// Settings of one worker that reads no page ahead.
-fn settings_of(page: u32) -> Settings
-    ensures { AreSettings result }
-{
-    Settings {
-        workers: 1,
-        page: page.max(1).min(10_000),
-        ahead: 0,
-    }
-}
-
-/// The outcomes of a run over a shelf and a catalog.
-fn outcomes_by<W: Threads + Wait + Sync>(
-    rt: &W,
-    alloc: Global,
-    shelf: &mut MemShelf,
-    catalog: &Catalog,
-    case: &Case,
-) -> Option<Vec<LineOutcome>>
-    ensures { IfSome result (λ outcomes. All CanBeWritten outcomes.items) }
-{
-    let Some(lines) = bytes_of(alloc, case.lines) else {
-        return None;
-    };
-    let settings = settings_of(case.page);
-    match run_lines(rt, alloc, shelf, catalog, &lines, settings) {
-        Ok(outcomes) => Some(outcomes),
-        Err(_) => None,
-    }
-}
-
-/// The outcomes of a run over a shelf.
-fn outcomes_of<W: Threads + Wait + Sync>(
-    rt: &W,
-    alloc: Global,
-    shelf: &mut MemShelf,
-    case: &Case,
-) -> Option<Vec<LineOutcome>>
-    ensures { IfSome result (λ outcomes. All CanBeWritten outcomes.items) }
-{
-    let Ok(catalog) = read_catalog(alloc, case.catalog.as_bytes()) else {
-        return None;
-    };
-    let outcomes = outcomes_by(rt, alloc, shelf, &catalog, case);
-    drop(catalog);
-    outcomes
-}
-
-/// Writes outcomes, whose lines are numbered from 1.
-fn write_all(out: &mut MemSink, outcomes: &[LineOutcome]) -> Option<()>
-    requires { All CanBeWritten outcomes.now }
-{
-    let mut pieces = Pieces::make();
-    let mut number: u64 = 0;
-    for outcome in outcomes {
-        number = number.saturating_add(1);
-        put_outcome(
-            out,
-            &mut pieces,
-            number,
-            outcome.query.as_ref(),
-            outcome.count,
-            &outcome.outcome,
-        );
-    }
-    pieces.end(out).ok()
-}
-
 /// Whether the bytes are these pieces, one after another.
 fn is_text(bytes: &[u8], pieces: &[&'static str]) -> bool {
     let mut rest = bytes;
@@ -123,10 +49,19 @@ fn writes_so<W: Threads + Wait + Sync>(
     case: &Case,
     out: &mut MemSink,
 ) -> Option<bool> {
-    let outcomes = outcomes_of(rt, alloc, shelf, case)?;
-    let wrote = write_all(out, &outcomes);
-    drop(outcomes);
-    wrote?;
+    let lines = bytes_of(alloc, case.lines)?;
+    let settings = settings_of(1, case.page, 0);
+    let ran = run_into(
+        rt,
+        alloc,
+        shelf,
+        case.catalog.as_bytes(),
+        &lines,
+        settings,
+        out,
+    );
+    drop(lines);
+    ran?;
     Some(is_text(out.taken(), case.text))
 }
 

@@ -2,5 +2,7 @@
 #![tactic(auto)]
 
 mod cases;
+mod drives;
 
 pub use cases::{Case, first_wrong};
+pub use drives::{run_into, settings_of};

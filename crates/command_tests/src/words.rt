@@ -39,7 +39,7 @@ fn reads_commands(rt: HostRuntime) -> Result<(), Fail> {
 }
 
 /// Words that are no command.
-const REFUSED: [&[&str]; 15] = [
+const REFUSED: [&[&str]; 18] = [
     &[],
     &[""],
     &["--help"],
@@ -55,6 +55,15 @@ const REFUSED: [&[&str]; 15] = [
     &["one", "-h"],
     &["one", "--x"],
     &["judge", "one"],
+    &["judge", "x"],
+    &["run"],
+    &[
+        "bulk",
+        "--start=0",
+        "--count=1",
+        "--lists=1",
+        "--queries=65",
+    ],
 ];
 
 #[test]

@@ -1,13 +1,14 @@
 //! One drive of `run`, and rows of drives with what they are to come to.
 
+use super::outcomes::{Streams, ends_over};
 use super::shelves::shelf_of;
+use call_ends::Status;
 use mem_source::MemShelf;
 use source_support::Held;
 use std::alloc::Global;
 use std::sync::Wait;
 use std::thread::Threads;
 use test_support::Unmade;
-use top_support::{Status, Streams, ends_over};
 
 /// The place of the catalog on the shelf.
 pub const CATALOG: &str = "cat.csv";

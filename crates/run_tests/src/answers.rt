@@ -1,8 +1,7 @@
 //! Query lines that are answered, and those beside them.
 
-use run_support::{Case, Held, Kind, Row, first_wrong};
-use std::test::Fail;
-use top_support::Status;
+use super::none_is_wrong;
+use run_support::{Case, Held, Kind, Row, Status, first_wrong};
 
 /// Two lists of the same objects.
 const A: &[(u32, u32)] = &[(1, 900), (2, 800), (3, 100)];
@@ -145,7 +144,6 @@ const ANSWERED: &[Row] = &[
 ];
 
 #[test]
-fn answers_lines_in_their_order(rt: HostRuntime) -> Result<(), Fail> {
-    assert_eq!(rt; first_wrong(&rt, rt.alloc(), ANSWERED)?, None);
-    Ok(())
+fn answers_lines_in_their_order(rt: HostRuntime) {
+    none_is_wrong(&rt, first_wrong(&rt, rt.alloc(), ANSWERED));
 }

@@ -1,21 +1,13 @@
 //! Each fault in turn: the catalog's text, the input, the output.
 
-use mem_source::MemShelf;
-use run_support::{CATALOG, Held, Kind, shelf_of};
-use std::alloc::Global;
-use std::sync::Wait;
-use std::test::Fail;
-use std::thread::Threads;
-use test_support::Unmade;
-use top_support::{Status, Streams, ends_over};
+use super::none_is_wrong;
+use run_support::{FaultyRun, FaultyShelf, Held, Kind, Status, first_wrong_fault};
 
-const SHELF: &[Held] = &[Held {
+const SOURCE: &Held = &Held {
     place: "a",
     rows: &[(1, 900), (2, 800)],
     kind: Kind::Honest,
-}];
-
-const WORDS: [&str; 2] = ["run", CATALOG];
+};
 
 /// A catalog of that source.
 const ONE: Option<&str> = Some("name,place,random\nA,a,yes\n");
@@ -29,116 +21,83 @@ const TEXT: &[u8] =
 /// Its first bytes, as many as there is room for.
 const FRONT: &[u8] = b"certificate 1\nquery ";
 
-/// Which calls of the input fail, for how many bytes there is room, how a run ends, what it writes, and how many rows the source has
-/// given then.
-type Run = (&'static [u64], u32, Status, &'static [u8], u64);
+const DONE: FaultyRun = FaultyRun {
+    failing_reads: &[],
+    room: 1000,
+    status: Status::Done,
+    text: TEXT,
+    given: 2,
+};
 
-/// The catalog's text, if there is one, the call for it that fails, and runs over the same shelf.
-type Tried = (Option<&'static str>, Option<u64>, &'static [Run]);
+/// The catalog can't be read, whether or not a read would fail.
+const NOT_OPENED: FaultyRun = FaultyRun {
+    failing_reads: &[1],
+    room: 1000,
+    status: Status::OpenFault,
+    text: b"",
+    given: 0,
+};
 
-/// Puts the catalog's text on the shelf, where there is one, and the number of the call for it that fails.
-fn add_catalog(
-    shelf: &mut MemShelf,
-    catalog: Option<&str>,
-    failing: Option<u64>,
-) -> Result<(), Unmade> {
-    if let Some(text) = catalog {
-        if shelf.add_text(CATALOG, text.as_bytes()).is_err() {
-            return Err(Unmade::Memory);
-        }
-    }
-    if let Some(call) = failing {
-        if shelf.fail_texts.push(call).is_err() {
-            return Err(Unmade::Memory);
-        }
-    }
-    Ok(())
-}
+const REFUSED: FaultyRun = FaultyRun {
+    failing_reads: &[1],
+    room: 1000,
+    status: Status::BadCatalog,
+    text: b"refused catalog CatalogLine 1\n",
+    given: 0,
+};
 
-/// Whether each run over a shelf ends as it is to.
-fn are_so<W: Threads + Wait + Sync>(
-    rt: &W,
-    alloc: Global,
-    shelf: &mut MemShelf,
-    runs: &[Run],
-) -> Result<bool, Unmade> {
-    for (failing, room, status, text, given) in runs {
-        let streams = Streams {
-            input: LINE,
-            failing_reads: failing,
-            failing_writes: &[],
-            room: *room,
-        };
-        let ends = ends_over(rt, alloc, &WORDS, shelf, &streams, (*status, *text))?;
-        if !ends || shelf.rows_given_at("a") != *given {
-            return Ok(false);
-        }
-    }
-    Ok(true)
-}
+/// Nothing is asked of the source where the lines can't be read.
+const NOT_READ: FaultyRun = FaultyRun {
+    failing_reads: &[2],
+    room: 1000,
+    status: Status::ReadFault,
+    text: b"",
+    given: 0,
+};
 
-/// Whether the runs of a row go as they are to.
-fn goes_so<W: Threads + Wait + Sync>(rt: &W, alloc: Global, tried: &Tried) -> Result<bool, Unmade> {
-    let (catalog, failing, runs) = *tried;
-    let mut shelf = shelf_of(alloc, SHELF)?;
-    let goes = match add_catalog(&mut shelf, catalog, failing) {
-        Ok(()) => are_so(rt, alloc, &mut shelf, runs),
-        Err(unmade) => Err(unmade),
-    };
-    drop(shelf);
-    goes
-}
+const NOT_WRITTEN: FaultyRun = FaultyRun {
+    failing_reads: &[],
+    room: 20,
+    status: Status::WriteFault,
+    text: FRONT,
+    given: 2,
+};
 
-/// The number of the first row that goes otherwise.
-fn first_wrong<W: Threads + Wait + Sync>(
-    rt: &W,
-    alloc: Global,
-    rows: &[Tried],
-) -> Result<Option<usize>, Unmade> {
-    for (number, tried) in rows.iter().enumerate() {
-        if !goes_so(rt, alloc, tried)? {
-            return Ok(Some(number));
-        }
-    }
-    Ok(None)
-}
-
-const ROWS: [Tried; 4] = [
+const ROWS: &[FaultyShelf] = &[
     // the catalog comes before the input: it is missed, or refused, before a read can fail
-    (None, None, &[(&[1], 1000, Status::OpenFault, b"", 0)]),
-    (
-        Some("name,place\n"),
-        None,
-        &[(
-            &[1],
-            1000,
-            Status::BadCatalog,
-            b"refused catalog CatalogLine 1\n",
-            0,
-        )],
-    ),
+    FaultyShelf {
+        catalog: None,
+        failing_text: None,
+        source: SOURCE,
+        line: LINE,
+        runs: &[NOT_OPENED],
+    },
+    FaultyShelf {
+        catalog: Some("name,place\n"),
+        failing_text: None,
+        source: SOURCE,
+        line: LINE,
+        runs: &[REFUSED],
+    },
     // one failed call for the catalog's text isn't for ever, and the source is put back with what it gave
-    (
-        ONE,
-        Some(1),
-        &[
-            (&[], 1000, Status::OpenFault, b"", 0),
-            (&[], 1000, Status::Done, TEXT, 2),
-        ],
-    ),
-    // faults of the streams: nothing is asked of the source where the lines can't be read
-    (
-        ONE,
-        None,
-        &[
-            (&[2], 1000, Status::ReadFault, b"", 0),
-            (&[], 20, Status::WriteFault, FRONT, 2),
-        ],
-    ),
+    FaultyShelf {
+        catalog: ONE,
+        failing_text: Some(1),
+        source: SOURCE,
+        line: LINE,
+        runs: &[NOT_OPENED, DONE],
+    },
+    // faults of the streams
+    FaultyShelf {
+        catalog: ONE,
+        failing_text: None,
+        source: SOURCE,
+        line: LINE,
+        runs: &[NOT_READ, NOT_WRITTEN],
+    },
 ];
 
 #[test]
-fn ends_at_each_fault(rt: HostRuntime) -> Result<(), Fail> {
-    assert_eq!(rt; first_wrong(&rt, rt.alloc(), &ROWS)?, None);
-    Ok(())
+fn ends_at_each_fault(rt: HostRuntime) {
+    none_is_wrong(&rt, first_wrong_fault(&rt, rt.alloc(), ROWS));
 }

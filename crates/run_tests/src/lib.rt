@@ -1,25 +1,22 @@
-//! Tests of the commands `run` and `bulk` through the top call: rows that were worked out by hand, each fault in turn, and made queries over list files; and of words.
+//! Tests of the command `run` over catalogs and sources in memory: rows that were worked out by hand, and each fault in turn.
 #![tactic(auto)]
 
 #[cfg(test)]
 mod answers;
 #[cfg(test)]
-mod bulk;
-#[cfg(test)]
 mod catalogs;
 #[cfg(test)]
 mod faults;
 #[cfg(test)]
-mod figures;
-#[cfg(test)]
-mod made_runs;
-#[cfg(test)]
-mod numbers;
-#[cfg(test)]
-mod processes;
-#[cfg(test)]
 mod refusals;
+
 #[cfg(test)]
-mod shelves;
+use std::process::Abort;
 #[cfg(test)]
-mod words;
+use test_support::Unmade;
+
+/// Every run of a table goes as it says: there is no first one that doesn't.
+#[cfg(test)]
+fn none_is_wrong(rt: &impl Abort, first_wrong: Result<Option<usize>, Unmade>) {
+    assert_eq!(rt; first_wrong, Ok(None));
+}

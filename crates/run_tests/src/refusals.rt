@@ -1,8 +1,7 @@
 //! Query lines that are refused.
 
-use run_support::{Case, Held, Kind, Row, first_wrong};
-use std::test::Fail;
-use top_support::Status;
+use super::none_is_wrong;
+use run_support::{Case, Held, Kind, Row, Status, first_wrong};
 
 const TWO: &str = "name,place,random\nA,a,yes\nB,b,yes\n";
 
@@ -181,19 +180,16 @@ const BY_GRADES: &[Row] = &[
 ];
 
 #[test]
-fn refuses_by_text_and_catalog(rt: HostRuntime) -> Result<(), Fail> {
-    assert_eq!(rt; first_wrong(&rt, rt.alloc(), BY_TEXT)?, None);
-    Ok(())
+fn refuses_by_text_and_catalog(rt: HostRuntime) {
+    none_is_wrong(&rt, first_wrong(&rt, rt.alloc(), BY_TEXT));
 }
 
 #[test]
-fn refuses_by_rows(rt: HostRuntime) -> Result<(), Fail> {
-    assert_eq!(rt; first_wrong(&rt, rt.alloc(), BY_ROWS)?, None);
-    Ok(())
+fn refuses_by_rows(rt: HostRuntime) {
+    none_is_wrong(&rt, first_wrong(&rt, rt.alloc(), BY_ROWS));
 }
 
 #[test]
-fn refuses_by_grades(rt: HostRuntime) -> Result<(), Fail> {
-    assert_eq!(rt; first_wrong(&rt, rt.alloc(), BY_GRADES)?, None);
-    Ok(())
+fn refuses_by_grades(rt: HostRuntime) {
+    none_is_wrong(&rt, first_wrong(&rt, rt.alloc(), BY_GRADES));
 }

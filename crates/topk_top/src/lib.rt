@@ -3,12 +3,12 @@
 
 mod bulking;
 mod call;
-mod real;
+mod process;
 
 pub use call::top;
 pub use call_ends::Status;
 pub use command_words::{Words, WordsFault, read_words};
-pub use real::{run_process, run_streams};
+pub use process::run_process;
 
 /// No memory was left.
 #[derive(Clone, Copy)]

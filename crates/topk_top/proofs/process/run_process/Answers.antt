@@ -6,15 +6,15 @@ use Rattle.call_ends.specs.Shelves.{Shelf}
 use Rattle.call_ends.specs.declared.status.Status.TheVariants.{Memory}
 use Rattle.call_ends.proofs.Ending.{outside_at, shelf_at}
 use Rattle.topk_top.proofs.Ending.{ends_without_memory}
-use Rattle.topk_top.proofs.real.run_process.Goals as goal
+use Rattle.topk_top.proofs.process.run_process.Goals as goal
 
 -- nothing was read or written, so the call ends as one without words does
 pub returns-in-Err-Memory : goal.returns-in-Err-Memory
 returns-in-Err-Memory g c =
-    let left = g.R.Read.remaining c.args.input.now.stream in
-    let held = g.W.Write.contents c.args.out.now.stream in
+    let left = g.R.Intake.left c.args.input.now in
+    let held = g.K.Sink.held c.args.out.now in
     let shelf : Shelf = shelf_at (g.H.Shelf.texts c.args.shelf.now) (g.H.Shelf.lists c.args.shelf.now) (g.H.Shelf.at c.args.shelf.now) in
-    let outside : Outside = outside_at left c.args.input.now.faults held c.args.out.now.faults shelf in
+    let outside : Outside = outside_at left (g.R.Intake.faults c.args.input.now) held (g.K.Sink.faults c.args.out.now) shelf in
     let ends = ends_without_memory (command_of []) (call_at [] outside outside) refl
     (record { left = Keeps-refl left; faults = refl }) (record { held = Keeps-refl held; faults = refl }) in
     ([], (Memory, ends, c.code.ensures))

@@ -3,7 +3,7 @@
 use line_text::{first_line, number_front, rest_after};
 
 /// Sums over printed answers: how many there are, their depths, sorted and random accesses, and the lower bounds of their objects.
-#[derive(Clone, Copy, Debug, PartialEq, Eq)]
+#[derive(Clone, Copy, PartialEq, Eq)]
 pub struct Figures {
     pub answered: u64,
     pub depth: u64,

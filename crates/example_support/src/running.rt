@@ -1,0 +1,77 @@
+//! One example, and whether it writes its text.
+
+use super::given::Given;
+use file_source::FileShelf;
+use std::io::ErrorKind;
+use std::rt::Files;
+use std::sync::Wait;
+use std::thread::Threads;
+use std::{fs, io};
+use tk_io::{MemSink, StdIntake};
+use topk_top::run_process;
+
+/// The most bytes that an example writes.
+const ROOM: u32 = 40_000;
+
+/// The exit status of an example, a line with a file and the words of a command, and whether what it wrote is the text that stands beside the
+/// file, under its name with the ending `.text`. An error where the line is none, or a file can't be read.
+pub fn run_example<R: Files + AllocGlobal + Threads + Wait + Sync>(
+    rt: &R,
+    example: &str,
+) -> io::Result<(u8, bool)> {
+    let Some((input, command)) = example.split_once(' ') else {
+        return Err(io::Error::from(ErrorKind::InvalidInput));
+    };
+    let text = text_of(rt, input)?;
+    let ended = run_over(rt, input, Given { command }, &text);
+    drop(text);
+    ended
+}
+
+/// What a command over a file is to write: the file under the same name with the ending `.text`.
+fn text_of<R: Files + AllocGlobal>(rt: &R, input: &str) -> io::Result<Vec<u8>> {
+    let name = input.rsplit_once('.').unwrap_or((input, "")).0;
+    fs::read(rt, format!(in rt.alloc(); "{name}.text")?)
+}
+
+/// The exit status of a process over a file, and whether it wrote this text.
+fn run_over<R: Files + AllocGlobal + Threads + Wait + Sync>(
+    rt: &R,
+    input: &str,
+    given: Given<'_>,
+    text: &[u8],
+) -> io::Result<(u8, bool)> {
+    let mut input = StdIntake::make(fs::open(rt, input)?);
+    let ended = write_by(rt, given, &mut input, text);
+    drop(input);
+    ended
+}
+
+/// The exit status of a process over an input, and whether it wrote this text.
+fn write_by<R: Files + AllocGlobal + Threads + Wait + Sync>(
+    rt: &R,
+    given: Given<'_>,
+    input: &mut StdIntake<R::File>,
+    text: &[u8],
+) -> io::Result<(u8, bool)> {
+    let Ok(mut out) = MemSink::make(rt.alloc(), ROOM, &[]) else {
+        return Err(io::Error::from(ErrorKind::OutOfMemory));
+    };
+    let code = code_of(rt, given, input, &mut out);
+    let is_its_text = out.taken() == text;
+    drop(out);
+    Ok((code, is_its_text))
+}
+
+/// The exit status of a process over an input and the files beside it.
+fn code_of<R: Files + AllocGlobal + Threads + Wait + Sync>(
+    rt: &R,
+    given: Given<'_>,
+    input: &mut StdIntake<R::File>,
+    out: &mut MemSink,
+) -> u8 {
+    let mut shelf = FileShelf::make(rt.alloc(), rt);
+    let code = run_process(rt, &given, rt.alloc(), &mut shelf, input, out);
+    drop(shelf);
+    code
+}

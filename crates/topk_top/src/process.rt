@@ -1,0 +1,40 @@
+//! The top call by the words of a process.
+
+ghost use Rattle.std.specs.Prelude.{List, ℕ};
+ghost use Rattle.call_ends.specs.Calls.{call_of};
+ghost use Rattle.topk_top.specs.Ends.{ExitsBy};
+
+use super::call::top;
+use call_ends::Status;
+use command_words::{Words, WordsFault, read_words};
+use source_api::Shelf;
+use std::alloc::Global;
+use std::env::Env;
+use std::sync::Wait;
+use std::thread::Threads;
+use tk_io::{Intake, Sink};
+
+/// Calls `top` with the words of a process, which `env` has, and gives the exit status; `rt` runs its
+/// threads. A word that isn't UTF-8 makes the words no command, as no words are none.
+///
+/// What the words are is the process's own: the clause says that the call ends as some words do.
+pub fn run_process<W: Threads + Wait + Sync, E: Env, H: Shelf, R: Intake, K: Sink>(
+    rt: &W,
+    env: &E,
+    alloc: Global,
+    shelf: &mut H,
+    input: &mut R,
+    out: &mut K,
+) -> u8
+    ensures { (words : List (List ℕ)) × ExitsBy (call_of R.left R.faults K.held K.faults H.texts H.lists H.at words
+        (input.old, out.old, shelf.old) (input.new, out.new, shelf.new)) result }
+{
+    let words = match read_words(env, alloc) {
+        Ok(words) => words,
+        Err(WordsFault::BadWords) => Words::make(alloc),
+        Err(WordsFault::Memory) => return Status::Memory.code(),
+    };
+    let status = top(rt, alloc, &words, shelf, input, out);
+    drop(words);
+    status.code()
+}
