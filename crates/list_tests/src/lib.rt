@@ -1,8 +1,6 @@
-//! Tests of lines, numbers, names, rows, tables and bundles.
+//! Tests of lines, numbers, names, rows and tables.
 #![tactic(auto)]
 
-#[cfg(test)]
-mod bundles;
 #[cfg(test)]
 mod cuts;
 #[cfg(test)]
@@ -17,3 +15,18 @@ mod rows_in_order;
 mod small_types;
 #[cfg(test)]
 mod tables;
+
+#[cfg(test)]
+use std::process::Abort;
+
+/// Every text of a table is told as it says: there is no first one that isn't.
+#[cfg(test)]
+fn no_text_is_wrong(rt: &impl Abort, first_wrong: Option<&'static str>) {
+    assert_eq!(rt; first_wrong, None);
+}
+
+/// Every row of a table is as it says: the number of the first one that isn't is none.
+#[cfg(test)]
+fn none_is_wrong(rt: &impl Abort, first_wrong: Option<usize>) {
+    assert_eq!(rt; first_wrong, None);
+}

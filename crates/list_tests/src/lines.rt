@@ -1,5 +1,6 @@
 //! First lines.
 
+use super::no_text_is_wrong;
 use line_text::first_line;
 
 /// A text, its first line, and the rest.
@@ -34,6 +35,6 @@ fn first_wrong(rows: &[(&'static str, &'static str, &'static str)]) -> Option<&'
 
 #[test]
 fn cuts_the_first_line(rt: HostRuntime) {
-    assert_eq!(rt; first_wrong(&CUT), None);
+    no_text_is_wrong(&rt, first_wrong(&CUT));
     assert!(rt; first_line(b"").is_none());
 }

@@ -1,5 +1,6 @@
 //! Names.
 
+use super::no_text_is_wrong;
 use line_text::{is_name, is_name_byte};
 
 /// Texts, and whether each is a name.
@@ -27,6 +28,6 @@ fn first_wrong(rows: &[(&'static str, bool)]) -> Option<&'static str> {
 
 #[test]
 fn tells_names(rt: HostRuntime) {
-    assert_eq!(rt; first_wrong(&TEXTS), None);
+    no_text_is_wrong(&rt, first_wrong(&TEXTS));
     assert!(rt; is_name_byte(b'_') && !is_name_byte(b'-'));
 }

@@ -1,5 +1,6 @@
 //! The fault of a row after the last one.
 
+use super::none_is_wrong;
 use ranked_list::{Row, RowFault, check_next};
 
 const OUT_OF_ORDER: Result<(), RowFault> = Err(RowFault::OutOfOrder {
@@ -41,5 +42,5 @@ fn first_wrong(rows: &[(Option<u32>, u32, Result<(), RowFault>)]) -> Option<usiz
 
 #[test]
 fn finds_each_fault(rt: HostRuntime) {
-    assert_eq!(rt; first_wrong(&ROWS), None);
+    none_is_wrong(&rt, first_wrong(&ROWS));
 }

@@ -1,5 +1,6 @@
 //! Tables and what is none.
 
+use super::none_is_wrong;
 use ranked_list::{MemList, is_table};
 use std::alloc::Global;
 use std::test::Fail;
@@ -42,6 +43,6 @@ fn first_wrong(alloc: Global, tables: &[(Lists<'static>, bool)]) -> Result<Optio
 
 #[test]
 fn tells_tables(rt: HostRuntime) -> Result<(), Fail> {
-    assert_eq!(rt; first_wrong(rt.alloc(), &TABLES)?, None);
+    none_is_wrong(&rt, first_wrong(rt.alloc(), &TABLES)?);
     Ok(())
 }

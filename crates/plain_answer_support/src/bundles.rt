@@ -1,5 +1,6 @@
 //! Random bundles, with ties everywhere among their lists.
 
+use super::texts::{add_line, add_pieces};
 use std::alloc::Global;
 use test_support::{Numbers, shuffled};
 
@@ -8,10 +9,7 @@ pub(crate) const NAMES: [&str; 3] = ["A", "B", "C"];
 
 /// Adds the line of a row.
 fn add_row(alloc: Global, text: &mut String, object: u32, grade: u32) -> Option<()> {
-    let line = format!(in alloc; "{object},{grade}\n").ok()?;
-    let added = text.push_str(&line);
-    drop(line);
-    added.ok()
+    add_line(text, format!(in alloc; "{object},{grade}\n"))
 }
 
 /// Adds rows of these objects, whose grades fall from the first on, often by 0.
@@ -39,9 +37,7 @@ fn add_list(
     count: u32,
     text: &mut String,
 ) -> Option<()> {
-    text.push_str("list ").ok()?;
-    text.push_str(name).ok()?;
-    text.push_str("\n").ok()?;
+    add_pieces(text, &["list ", name, "\n"])?;
     let first = numbers.below(5);
     let objects = shuffled(alloc, numbers, count).ok()?;
     let added = add_rows(alloc, numbers, &objects, first, text);
@@ -61,10 +57,7 @@ fn add_all(
     for name in NAMES.iter().take(lists) {
         add_list(alloc, numbers, name, count, text)?;
     }
-    text.push_str("query ").ok()?;
-    text.push_str(query).ok()?;
-    text.push_str("\n").ok()?;
-    Some(())
+    add_pieces(text, &["query ", query, "\n"])
 }
 
 /// A bundle of so many lists of `count` objects, and a query. None where there is no memory.

@@ -3,6 +3,7 @@
 
 mod bundles;
 mod plain;
+mod texts;
 
 pub use bundles::bundle_of;
 pub use plain::expected;

@@ -4,6 +4,7 @@ ghost use Rattle.std.specs.Prelude.{◌≤◌};
 ghost use Rattle.plain_ta.specs.Posed.{IsPosed};
 
 use super::bundles::NAMES;
+use super::texts::add_line;
 use bundle_text::read_bundle;
 use plain_ca::{ca_answer, ca_run};
 use plain_nra::{nra_answer, nra_run};
@@ -45,11 +46,10 @@ fn plain_accesses(
     }
 }
 
-/// Adds a line, and drops it.
-fn add_line(text: &mut String, line: String) -> Option<()> {
-    let added = text.push_str(&line);
-    drop(line);
-    added.ok()
+/// Adds the line of an item.
+fn add_item(alloc: Global, item: &Item, text: &mut String) -> Option<()> {
+    let (object, low, high) = (item.object, item.low, item.high);
+    add_line(text, format!(in alloc; "answer {object} {low} {high}\n"))
 }
 
 /// Adds the first lines of a certificate, and its answer.
@@ -62,14 +62,10 @@ fn add_answer(
 ) -> Option<()> {
     add_line(
         text,
-        format!(in alloc; "certificate 1\nquery {query}\ncount {count}\n").ok()?,
+        format!(in alloc; "certificate 1\nquery {query}\ncount {count}\n"),
     )?;
     for item in items {
-        let (object, low, high) = (item.object, item.low, item.high);
-        add_line(
-            text,
-            format!(in alloc; "answer {object} {low} {high}\n").ok()?,
-        )?;
+        add_item(alloc, item, text)?;
     }
     Some(())
 }
@@ -79,10 +75,7 @@ fn add_access(alloc: Global, access: &Access, text: &mut String) -> Option<()> {
     let name = NAMES.get(access.list() as usize)?;
     let sort = if access.is_sorted() { 's' } else { 'r' };
     let (object, grade) = (access.object(), access.grade());
-    add_line(
-        text,
-        format!(in alloc; "{sort} {name} {object} {grade}\n").ok()?,
-    )
+    add_line(text, format!(in alloc; "{sort} {name} {object} {grade}\n"))
 }
 
 /// What so many accesses cost.
@@ -92,18 +85,31 @@ fn cost_of(sorted: usize, random: usize, costs: Costs) -> Option<u64> {
     sorted.checked_add(random)
 }
 
-/// Adds the stop line: the depth of list A, which is as deep as any, and what was read at these costs.
+/// How deep list A is read, which is as deep as any, and how many accesses are sorted and random.
+fn figures_of(accesses: &[Access]) -> (usize, usize, usize) {
+    let mut depth: usize = 0;
+    let mut sorted: usize = 0;
+    let mut random: usize = 0;
+    for access in accesses {
+        if !access.is_sorted() {
+            random = random.saturating_add(1);
+            continue;
+        }
+        sorted = sorted.saturating_add(1);
+        if access.list() == 0 {
+            depth = depth.saturating_add(1);
+        }
+    }
+    (depth, sorted, random)
+}
+
+/// Adds the stop line: the depth, and what was read at these costs.
 fn add_stop(alloc: Global, accesses: &[Access], costs: Costs, text: &mut String) -> Option<()> {
-    let sorted = accesses.iter().filter(|access| access.is_sorted()).count();
-    let depth = accesses
-        .iter()
-        .filter(|access| access.is_sorted() && access.list() == 0)
-        .count();
-    let random = accesses.iter().filter(|access| !access.is_sorted()).count();
+    let (depth, sorted, random) = figures_of(accesses);
     let cost = cost_of(sorted, random, costs)?;
     add_line(
         text,
-        format!(in alloc; "stop depth {depth} sorted {sorted} random {random} cost {cost}\n").ok()?,
+        format!(in alloc; "stop depth {depth} sorted {sorted} random {random} cost {cost}\n"),
     )
 }
 

@@ -2,11 +2,11 @@
 
 ghost use Rattle.std.specs.Prelude.{◌≡◌, ◌≤◌, ◌∷◌, []};
 ghost use Rattle.source_locks.specs.Passes.{IsIdleOf};
+ghost use Rattle.pool_support.specs.Pairs.{IsPair};
 ghost use Rattle.query_turns.specs.Made.{IsReadyFor};
 ghost use Rattle.query_run_support.specs.Running.{MayRun};
 
-use fetcher::{Fetched, Stop};
-use fetcher_support::fetch_side;
+use fetcher::{Stop, fetch_loop};
 use mem_source::MemSource;
 use pool_support::Pair;
 use query_core::Ready;
@@ -16,9 +16,6 @@ use source_pool::{Feeder, Pool, PoolPass};
 use std::alloc::Global;
 use std::sync::Wait;
 use std::thread::{Threads, join_mut};
-
-/// Nothing fetched yet.
-const NOTHING: Fetched = Fetched { rows: 0, grades: 0 };
 
 /// The query's side: it runs the query, tells whether it ended as it is to, and sets the sign.
 fn ask(
@@ -37,36 +34,46 @@ fn ask(
     stop.set(pool);
 }
 
-/// The query's side with the second source's fetcher beside it.
-fn ask_beside<R: Threads + Wait + Sync>(
+/// A source's side: it is fetched a row a page until the sign is set.
+fn fetch(
+    rt: &impl Wait,
+    alloc: Global,
+    pool: &Pool,
+    feeder: &mut Feeder,
+    source: &mut MemSource,
+    stop: &Stop,
+)
+    requires { IsIdleOf pool.now feeder.old }
+{
+    fetch_loop(rt, alloc, pool, feeder, source, 1, 0, stop);
+}
+
+/// Both sources' sides.
+fn fetch_both<R: Threads + Wait + Sync>(
     rt: &R,
     alloc: Global,
     pool: &Pool,
-    pass: &mut PoolPass,
-    ready: &Ready,
-    feeder: &mut Feeder,
-    source: &mut MemSource,
-    expected: &Expected,
-    so: &mut bool,
+    first: &mut Feeder,
+    second: &mut Feeder,
+    sources: &mut (MemSource, MemSource),
     stop: &Stop,
 )
-    requires may { MayRun pool.now pass.old ready.now }
-    requires feeder { IsIdleOf pool.now feeder.old }
+    requires first { IsIdleOf pool.now first.old }
+    requires second { IsIdleOf pool.now second.old }
 {
-    let mut fetched = NOTHING;
-    let given = &mut fetched;
+    let (one, other) = sources;
     join_mut(
         rt,
         &mut ||
-            requires { IsIdleOf pool.now feeder.now }
-        { fetch_side(rt, alloc, pool, feeder, source, given, stop) },
+            requires { IsIdleOf pool.now first.now }
+        { fetch(rt, alloc, pool, first, one, stop) },
         &mut ||
-            requires { MayRun pool.now pass.now ready.now }
-        { ask(rt, alloc, pool, pass, ready, expected, so, stop) },
+            requires { IsIdleOf pool.now second.now }
+        { fetch(rt, alloc, pool, second, other, stop) },
     );
 }
 
-/// All sides.
+/// All sides: whether the query ended as it is to.
 fn run_all<R: Threads + Wait + Sync>(
     rt: &R,
     alloc: Global,
@@ -86,24 +93,26 @@ fn run_all<R: Threads + Wait + Sync>(
     let sign = &stop;
     let mut so = false;
     let found = &mut so;
-    let mut fetched = NOTHING;
-    let given = &mut fetched;
-    let (one, other) = sources;
     join_mut(
         rt,
         &mut ||
-            requires { IsIdleOf pool.now first.now }
-        { fetch_side(rt, alloc, pool, first, one, given, sign) },
+            requires { (IsIdleOf pool.now first.now) × IsIdleOf pool.now second.now }
+        { fetch_both(rt, alloc, pool, first, second, sources, sign) },
         &mut ||
-            requires { (MayRun pool.now pass.now ready.now) × IsIdleOf pool.now second.now }
-        {
-            ask_beside(
-                rt, alloc, pool, pass, ready, second, other, expected, found, sign,
-            )
-        },
+            requires { MayRun pool.now pass.now ready.now }
+        { ask(rt, alloc, pool, pass, ready, expected, found, sign) },
     );
     so
 }
+
+/// Over a pool that was just opened a query that is ready for its sources may run, and both its feeders are idle.
+fn opened_may_run(count: u32, pair: &Pair, ready: &Ready)
+    requires pair { IsPair count pair.now }
+    requires ready { IsReadyFor (count ∷ count ∷ []) ready.now }
+    ensures may { MayRun pair.now.pool pair.now.pass ready.now }
+    ensures first { IsIdleOf pair.now.pool pair.now.first }
+    ensures second { IsIdleOf pair.now.pool pair.now.second }
+{}
 
 /// Runs a query over two sources of so many objects, each with a fetcher in a thread of its own that reads a row a page, and tells whether
 /// it ended as it is to. Without memory it didn't.
@@ -121,6 +130,7 @@ pub(crate) fn ends_beside<R: Threads + Wait + Sync>(
     let Some(mut pair) = Pair::open(alloc, count) else {
         return false;
     };
+    opened_may_run(count, &pair, ready);
     let so = run_all(
         rt,
         alloc,

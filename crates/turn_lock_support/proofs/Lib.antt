@@ -1,0 +1,2 @@
+-- Lemmas on the passes of a lock.
+mod PassLaws

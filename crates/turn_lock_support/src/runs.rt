@@ -73,11 +73,25 @@ pub fn split_to_the_last_part(rt: &impl Wait, alloc: Global) -> Option<Journal> 
     let written = write(rt, &lock, &mut pass, 7);
     let seen = ask(rt, &lock, &mut other, 5);
     lock.join(&mut pass, other);
-    let journal = lock.close(pass);
-    if written.is_err() || seen.is_err() {
-        return None;
-    }
-    Some(journal)
+    (written.is_ok() && seen.is_ok()).then_some(lock.close(pass))
+}
+
+// An entry, and then a turn of a reader: how many entries it saw.
+fn write_and_ask(
+    rt: &impl Wait,
+    lock: &TurnLock<Journal>,
+    writer: &mut Pass<Journal>,
+    reader: &mut Pass<Journal>,
+    entry: u32,
+) -> Result<u64, AllocError>
+    requires writer { IsWriter lock.now writer.old }
+    requires reader { IsReader lock.now reader.old }
+    ensures writer { IsWriter lock.now writer.new × (writer.new.1.parts ≡ writer.old.1.parts) }
+    ensures reader { IsReader lock.now reader.new }
+    ensures saw { IfOk result (λ n. n ≡ length reader.new.1.seen) }
+{
+    write(rt, lock, writer, entry)?;
+    ask(rt, lock, reader, 0)
 }
 
 // An entry and a turn of one reader, then an entry and a turn of the other: how many entries each saw.
@@ -94,10 +108,8 @@ fn look_in_turn(
     ensures readers { IsReader lock.now early.new × IsReader lock.now late.new }
     ensures saw { IfOk result (λ n. (n.0 ≡ length early.new.1.seen) × (n.1 ≡ length late.new.1.seen)) }
 {
-    write(rt, lock, writer, 0)?;
-    let fewer = ask(rt, lock, early, 0)?;
-    write(rt, lock, writer, 1)?;
-    let more = ask(rt, lock, late, 0)?;
+    let fewer = write_and_ask(rt, lock, writer, early, 0)?;
+    let more = write_and_ask(rt, lock, writer, late, 1)?;
     Ok((fewer, more))
 }
 
