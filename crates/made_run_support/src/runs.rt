@@ -1,7 +1,5 @@
 //! Made queries through `run`: what `bulk` comes to of them, and how many rows the lists gave.
 
-ghost use Rattle.std.specs.Prelude.{◌≤◌};
-
 use super::figures::{Figures, figures_of};
 use super::shelves::{PLACES, shelf_of};
 use catalog_support::{run_into, settings_of};

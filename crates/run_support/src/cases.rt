@@ -11,7 +11,7 @@ use std::thread::Threads;
 use test_support::Unmade;
 
 /// The place of the catalog on the shelf.
-pub const CATALOG: &str = "cat.csv";
+pub(crate) const CATALOG: &str = "cat.csv";
 
 /// The most bytes that are written.
 const ROOM: u32 = 4000;
@@ -47,7 +47,6 @@ fn ends_on<W: Threads + Wait + Sync>(
     let streams = Streams {
         input: case.lines.as_bytes(),
         failing_reads: &[],
-        failing_writes: &[],
         room: ROOM,
     };
     let expected = (expected.0, expected.1.as_bytes());
@@ -58,7 +57,7 @@ fn ends_on<W: Threads + Wait + Sync>(
 }
 
 /// Whether a run ends so, and writes this text.
-pub fn run_ends<W: Threads + Wait + Sync>(
+fn run_ends<W: Threads + Wait + Sync>(
     rt: &W,
     alloc: Global,
     case: &Case,

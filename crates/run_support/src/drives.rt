@@ -11,7 +11,7 @@ use std::alloc::Global;
 use std::sync::Wait;
 use std::thread::Threads;
 use test_support::{Unmade, words_of};
-use tk_io::{MemIntake, MemSink, Sink};
+use tk_io::{MemIntake, Sink};
 
 /// The bytes of each piece in which the input is given.
 const PIECE: u32 = 50;
@@ -55,7 +55,7 @@ fn end_by<W: Threads + Wait + Sync, K: Sink>(
 }
 
 /// The same by these words. None where they are no run.
-pub fn end_into<W: Threads + Wait + Sync, K: Sink>(
+pub(crate) fn end_into<W: Threads + Wait + Sync, K: Sink>(
     rt: &W,
     alloc: Global,
     words: &[&str],
@@ -70,24 +70,4 @@ pub fn end_into<W: Threads + Wait + Sync, K: Sink>(
     let ended = end_by(rt, alloc, &options, shelf, input, failing, out);
     drop(options);
     ended
-}
-
-/// How `run` ends by these words on this input over a shelf, and what it writes, where there is room for so
-/// many bytes. None as the status where the words are no run.
-pub fn end_over<W: Threads + Wait + Sync>(
-    rt: &W,
-    alloc: Global,
-    words: &[&str],
-    shelf: &mut MemShelf,
-    input: &[u8],
-    room: u32,
-) -> Result<(Option<Status>, MemSink), Unmade> {
-    let mut out = MemSink::make(alloc, room, &[])?;
-    match end_into(rt, alloc, words, shelf, input, &[], &mut out) {
-        Ok(status) => Ok((status, out)),
-        Err(unmade) => {
-            drop(out);
-            Err(unmade)
-        }
-    }
 }

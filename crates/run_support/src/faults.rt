@@ -58,7 +58,6 @@ fn goes_on<W: Threads + Wait + Sync>(
     let streams = Streams {
         input: row.line,
         failing_reads: run.failing_reads,
-        failing_writes: &[],
         room: run.room,
     };
     let expected = (run.status, run.text);

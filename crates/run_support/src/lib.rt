@@ -1,4 +1,4 @@
-//! Runs of query lines over a shelf in memory, as plain data, for the tests of several crates.
+//! Runs of query lines over a shelf in memory, as plain data, for tests of the command `run`.
 #![tactic(auto)]
 
 mod cases;
@@ -8,9 +8,6 @@ mod outcomes;
 mod shelves;
 
 pub use call_ends::Status;
-pub use cases::{CATALOG, Case, Row, first_wrong, run_ends};
-pub use drives::{end_into, end_over};
+pub use cases::{Case, Row, first_wrong};
 pub use faults::{FaultyRun, FaultyShelf, first_wrong_fault};
-pub use outcomes::{Streams, ends_over};
-pub use shelves::shelf_of;
 pub use source_support::{Held, Kind};

@@ -9,17 +9,16 @@ use std::thread::Threads;
 use test_support::Unmade;
 use tk_io::MemSink;
 
-/// The input, the calls of both streams that fail, and for how many bytes there is room.
+/// The input, the calls of it that fail, and for how many bytes of output there is room.
 #[derive(Clone, Copy)]
-pub struct Streams<'a> {
-    pub input: &'a [u8],
-    pub failing_reads: &'a [u64],
-    pub failing_writes: &'a [u64],
-    pub room: u32,
+pub(crate) struct Streams<'a> {
+    pub(crate) input: &'a [u8],
+    pub(crate) failing_reads: &'a [u64],
+    pub(crate) room: u32,
 }
 
 /// Whether `run` ends so by these words, over a shelf and these streams, and writes these bytes.
-pub fn ends_over<W: Threads + Wait + Sync>(
+pub(crate) fn ends_over<W: Threads + Wait + Sync>(
     rt: &W,
     alloc: Global,
     words: &[&str],
@@ -27,7 +26,7 @@ pub fn ends_over<W: Threads + Wait + Sync>(
     streams: &Streams<'_>,
     expected: (Status, &[u8]),
 ) -> Result<bool, Unmade> {
-    let mut out = MemSink::make(alloc, streams.room, streams.failing_writes)?;
+    let mut out = MemSink::make(alloc, streams.room, &[])?;
     let (input, failing) = (streams.input, streams.failing_reads);
     let status = end_into(rt, alloc, words, shelf, input, failing, &mut out);
     let is_written = out.taken() == expected.1;
