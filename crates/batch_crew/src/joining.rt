@@ -5,7 +5,7 @@ ghost use Rattle.source_locks.specs.Passes.{IsPassOf};
 ghost use Rattle.batch_crew.specs.Crews.{Rejoins};
 
 use batch_sides::Worker;
-use source_pool::{Pool, PoolPass, States};
+use source_pool::{Pool, PoolPass};
 
 /// Joins the passes of the workers to the first one.
 pub fn rejoin(pool: &Pool, pass: &mut PoolPass, mut workers: Vec<Worker>)
@@ -22,9 +22,4 @@ pub fn rejoin(pool: &Pool, pass: &mut PoolPass, mut workers: Vec<Worker>)
         drop(ended);
         pool.join(pass, other);
     }
-}
-
-/// Lets the closing states of the sources go.
-pub fn let_states_go(states: States) {
-    drop(states);
 }

@@ -7,4 +7,4 @@ mod hire;
 mod joining;
 
 pub use hire::Crew;
-pub use joining::{let_states_go, rejoin};
+pub use joining::rejoin;

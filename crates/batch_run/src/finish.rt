@@ -1,6 +1,6 @@
 //! What a crew gives once it has run.
 
-ghost use Rattle.std.specs.Prelude.{◌≡◌, ◌≤◌, ◌<◌, [], ◌∷◌, ◌++◌, ℕ, List, All, length, map, vec_len, vec_capacity};
+ghost use Rattle.std.specs.Prelude.{◌≡◌, ◌≤◌, ◌<◌, [], ◌∷◌, ◌++◌, ℕ, List, length, map, vec_len, vec_capacity};
 ghost use Rattle.source_state.specs.State.{state_at};
 ghost use Rattle.query_core.specs.declared.ready.Ready.{Ready};
 ghost use Rattle.query_turns.specs.declared.ended.Ended.{Ended as EndedOf};
@@ -9,7 +9,7 @@ ghost use Rattle.batch_slots.specs.Slots.{SlotState, states_of, slot_at};
 ghost use Rattle.batch_result.specs.Batches.{IsBatch, use_at};
 ghost use Rattle.batch_run.specs.Finishing.{slots_run, CanFinish, AreShares, UsedOf};
 
-use batch_crew::{Crew, let_states_go, rejoin};
+use batch_crew::{Crew, rejoin};
 use batch_result::{Batch, Use};
 use batch_sides::Worker;
 use fetcher::{Fetched, Slot};
@@ -91,6 +91,6 @@ pub(crate) fn finish<S: Source>(crew: Crew, slots: &[Slot<S>], queries: usize) -
     rejoin(&pool, &mut pass, workers);
     let states = pool.close(pass, Feeders::from_vec(feeders));
     use_all(&states, slots, &mut uses);
-    let_states_go(states);
+    drop(states);
     Batch::make(endings, uses)
 }

@@ -1,7 +1,6 @@
 //! A made list as a source.
 
-ghost use Rattle.std.specs.Prelude.{◌≡◌, ◌≤◌, ◌+◌, [], All, length, IfOk};
-ghost use Rattle.std.specs.List.{slice_index_or};
+ghost use Rattle.std.specs.Prelude.{◌≡◌, ◌+◌, [], All, length, IfOk};
 ghost use Rattle.made_sources.specs.Held.{fresh, grade_at, AreSmall, AreGradesOf};
 
 use super::Memory;
