@@ -67,3 +67,8 @@ takes_record before now records fields h p other = record {
 pub not_skipped : (started header skipped : Bool) → skipped ≡ (not started && header) → skipped ≡ false → started ≡ false → header ≡ false
 not_skipped true header skipped is off new = absurd (cc)
 not_skipped false header skipped is off new = sym is ∙ off
+
+-- what is skipped is a header, and no record was read before it
+pub skipped_first : (started header skipped : Bool) → skipped ≡ (not started && header) → skipped ≡ true → (started ≡ false) × (header ≡ true)
+skipped_first true header skipped is on = absurd (cc)
+skipped_first false header skipped is on = (refl, sym is ∙ on)

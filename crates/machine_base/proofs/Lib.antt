@@ -3,3 +3,5 @@ pub mod Held
 pub mod Makes
 pub mod Reserve
 pub mod Rows
+mod Begins
+mod RoomTest

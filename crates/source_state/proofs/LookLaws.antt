@@ -1,8 +1,8 @@
 -- What a look answers is one of its cases, and what is planned is pending or missing.
-use Rattle.std.proofs.Common.{◌≡◌, ◌<◌, ◌≤◌, ◌-◌, ◌==◌, ◌&&◌, inl, inr, ℕ, Bool, true, false, cond, not, Option, Some, None, List, [], ◌∷◌, length, is_none, slice_get, Contains, refl, sym, ap, subst, ◌∙◌, arith}
+use Rattle.std.proofs.Common.{◌≡◌, ◌<◌, ◌≤◌, ◌-◌, ◌==◌, ◌&&◌, ◌||◌, inl, inr, ℕ, min, Bool, true, false, cond, not, Option, Some, None, List, [], ◌∷◌, length, is_none, is_some, nat_le, slice_get, Contains, refl, sym, ap, subst, ◌∙◌, arith}
 use Rattle.std.specs.List.{find}
 use Rattle.std.specs.Option.{option_map}
-use Rattle.std.proofs.lemmas.Bool.{cases_Bool, eqb-false}
+use Rattle.std.proofs.lemmas.Bool.{cases_Bool, eqb-false, lt-leb}
 use Rattle.ranked_list.specs.declared.row.Row.{Row}
 use Rattle.ranked_list.specs.declared.need.Need.{Need}
 use Rattle.ranked_list.specs.declared.need.Need.TheVariants as need
@@ -21,10 +21,12 @@ use Rattle.source_state.specs.declared.look.Waiting.{Waiting}
 use Rattle.source_state.specs.declared.look.Look.{Look}
 use Rattle.source_state.specs.declared.look.Look.TheVariants as look
 use Rattle.source_state.specs.declared.look.LookFault.TheVariants as why
+use Rattle.source_state.specs.declared.plan.Plan.{Plan}
+use Rattle.source_state.specs.declared.plan.Plan.TheVariants as plan
 use Rattle.source_log.specs.Log.{rows_in, fault_in}
 use Rattle.source_log.specs.Asks.{ask_in, first_due, is_due}
 use Rattle.source_state.specs.State.{State, asks_of, asked_in, asked_as, first_pending}
-use Rattle.source_state.specs.Looking.{row_or_fault, grade_or, decided, told, refusal_of, Ends, Looks}
+use Rattle.source_state.specs.Looking.{row_or_fault, grade_or, decided, told, refusal_of, state_reach, is_idle, fetched, plan_of, Ends, Looks}
 use Rattle.source_log.proofs.Lists.{none_not_some}
 use Rattle.source_state.proofs.AskLaws.{ask_is_found}
 
@@ -132,6 +134,24 @@ pending_is s object e =
           let settling : (ask_in s.log object).settling ≡ None = subst (λ o. (ask_in s.log o).settling ≡ None) same (ap (λ (one : Ask). one.settling) from.2 ∙ none) in
           ap (option_map (λ (one : Ask). asked_as one.settling)) (ask_is_found s.log s.asks object there) ∙ ap (λ o. Some (asked_as o)) settling
     ]
+
+-- where no ask is due and rows are missing, a page is to be fetched
+pub page_is : (s : State) (page ahead from reach count : ℕ) → s.paused ≡ false → first_pending s ≡ None → from ≡ length (rows_in s.log)
+    → reach ≡ state_reach s page ahead → is_some (fault_in s.log) ≡ false → from < reach → count ≡ min page (reach - from)
+    → plan.Page from count ≡ plan_of s page ahead
+page_is s page ahead from reach count going none at to whole short counts =
+    let here = length (rows_in s.log) in
+    let all = state_reach s page ahead in
+    let missing : nat_le all here ≡ false = lt-leb all here (omega arith) in
+    let goes : is_idle s page ahead ≡ false =
+    ap (λ b. b || (is_none (first_pending s) && (nat_le all here || is_some (fault_in s.log)))) going
+    ∙ ap (λ (o : Option ℕ). is_none o && (nat_le all here || is_some (fault_in s.log))) none
+    ∙ ap (λ b. b || is_some (fault_in s.log)) missing ∙ whole in
+    let planned : plan_of s page ahead ≡ plan.Page here (min page (all - here)) =
+    ap (λ b. cond {A = Plan} b plan.Idle (fetched (first_pending s) here (min page (all - here)))) goes
+    ∙ ap (λ (o : Option ℕ). fetched o here (min page (all - here))) none in
+    let more : count ≡ min page (all - here) = omega arith in
+    ap (λ n. plan.Page n count) at ∙ ap (λ n. plan.Page here n) more ∙ sym planned
 
 -- a grade that is answered of what is held is held
 pub held_there : (held : Option ℕ) (grade : ℕ) → option_map look.Grade held ≡ Some (look.Grade grade) → held ≡ Some grade

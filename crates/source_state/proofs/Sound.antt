@@ -1,14 +1,15 @@
 -- A state stays sound under each event.
-use Rattle.std.proofs.Common.{◌≡◌, ◌≢◌, ◌<◌, ◌≤◌, ◌==◌, ◌+◌, ◌*◌, inl, inr, ℕ, false, cond, Option, Some, None, List, [], ◌∷◌, ◌++◌, length, is_some, nat_lt, slice_index_or, All, AllPairs, Contains, refl, sym, ap, subst, ◌∙◌, arith, eqb-true}
+use Rattle.std.proofs.Common.{◌≡◌, ◌≢◌, ◌<◌, ◌≤◌, ◌==◌, ◌+◌, ◌*◌, inl, inr, ℕ, Bool, true, false, cond, Option, Some, None, List, [], ◌∷◌, ◌++◌, length, is_some, nat_lt, slice_index_or, All, AllPairs, Contains, refl, sym, ap, subst, ◌∙◌, arith, eqb-true}
 use Rattle.std.specs.List.{cons_option}
 use Rattle.std.specs.Option.{option_map}
-use Rattle.std.proofs.lemmas.Bool.{cases_Bool, ltb-false}
+use Rattle.std.proofs.lemmas.Bool.{cases_Bool, ltb-false, le-ltb}
 use Rattle.std.proofs.lemmas.List.{length-append}
 use Rattle.std.proofs.lemmas.List.Elements.{All-push, All-append, All-nil, All-contains, Contains-append_left, Contains-append_cases}
 use Rattle.std.proofs.lemmas.List.Quantifiers.{all_pairs_push}
 use Rattle.ranked_list.specs.declared.row.Row.{Row}
 use Rattle.ranked_list.specs.Table.{IsRanked, objects, top_grade}
 use Rattle.ranked_list.proofs.OptionLaws.{none_unless_some, option_cases}
+use Rattle.ranked_list.proofs.RankLaws.{IsRanked-nil}
 use Rattle.topk_theory.specs.Transcript.{last_grade}
 use Rattle.topk_theory.specs.Bounds.{grade_among}
 use Rattle.topk_theory.proofs.AgreementLists.{contains_at, contains_cases, contains_nil, contains_map, all_from_members, distinct_fits}
@@ -22,11 +23,12 @@ use Rattle.source_log.specs.declared.entry.Settling.{Settling}
 use Rattle.source_log.specs.declared.entry.Settling.TheVariants.{Graded, Bad, Missed}
 use Rattle.source_log.specs.declared.entry.Asked.TheVariants as became
 use Rattle.source_log.specs.declared.entry.SourceFault.{SourceFault}
-use Rattle.source_log.specs.declared.entry.SourceFault.TheVariants.{Clash, Above}
+use Rattle.source_log.specs.declared.entry.SourceFault.TheVariants.{OutOfOrder, TooHigh, Repeated, Clash, Above}
 use Rattle.source_log.specs.Log.{rows_in, settling_in, settled_in, graded_in, graded_as, faults_in, fault_in}
 use Rattle.source_log.specs.Asks.{ask_in, ask_of, good_grade, open_row, open_rows, first_above}
-use Rattle.source_state.specs.State.{State, asks_of, asked_in, clash_or, above_fault, grade_asked, row_fault, settle, settle_by, GoesWith, SettlesWell, IsSoundLog, IsSound}
+use Rattle.source_state.specs.State.{State, opened, asks_of, asked_in, clash_or, above_fault, grade_asked, fault_by_grades, row_fault, settle, settle_by, GoesWith, SettlesWell, IsSoundLog, IsSound}
 use Rattle.source_state.specs.Events.{logged, one_asked, with_ask}
+use Rattle.limits.specs.declared.TheConstants.{MAX_OBJECTS}
 use Rattle.source_log.proofs.Lists.{cond_none, none_not_some, none_found, no_first}
 use Rattle.source_log.proofs.LogLaws.{kept_rows, kept_settled, kept_graded, kept_faults, settled_rows, settled_settled, settled_graded, settled_faults, fault_rows, fault_settled, fault_graded, fault_faults, log_length, not_settled, graded_settled, graded_settling}
 use Rattle.source_state.proofs.AskLaws.{pending_parts, ask_missing, ask_is_found}
@@ -78,6 +80,50 @@ follows rows asks row e =
       same = fourth.0;
       above = map_none (above_fault row.grade) (first_above row.grade asks) fourth.1;
     }
+
+-- what is at fault with a row that is no higher than it may be
+fault_by : (rows : List Row) (asks : List Ask) (row : Row) (held : Bool) → row.grade ≤ top_grade → row.grade ≤ last_grade top_grade rows
+    → is_some (grade_among rows row.object) ≡ held
+    → row_fault rows asks row ≡ cond held (Some (Repeated row.object (length rows + 1))) (fault_by_grades asks row)
+fault_by rows asks row held capped falls is =
+    let third : Option SourceFault = cond (is_some (grade_among rows row.object)) (Some (Repeated row.object (length rows + 1))) (fault_by_grades asks row) in
+    let bottom = last_grade top_grade rows in
+    let second : Option SourceFault = cond (nat_lt bottom row.grade) (Some (OutOfOrder (length rows + 1) bottom row.grade)) third in
+    ap (λ b. cond b (Some (TooHigh (length rows + 1) row.grade)) second) (le-ltb top_grade row.grade capped)
+    ∙ ap (λ b. cond b (Some (OutOfOrder (length rows + 1) bottom row.grade)) third) (le-ltb bottom row.grade falls)
+    ∙ ap (λ b. cond b (Some (Repeated row.object (length rows + 1))) (fault_by_grades asks row)) is
+
+-- that its object came before, and else what the grades that were asked for say
+pub repeated_fault : (rows seen : List Row) (asks : List Ask) (row : Row) (bottom count : ℕ) → rows ≡ seen → row.grade ≤ top_grade
+    → bottom ≡ last_grade top_grade seen → row.grade ≤ bottom → is_some (grade_among seen row.object) ≡ true → count ≡ length seen
+    → Some (Repeated row.object (count + 1)) ≡ row_fault rows asks row
+repeated_fault rows seen asks row bottom count same capped last falls held counts =
+    ap (λ n. Some (Repeated row.object (n + 1))) counts
+    ∙ sym (ap (λ (all : List Row). row_fault all asks row) same ∙ fault_by seen asks row true capped (omega arith) held)
+
+pub fault_of_grades : (rows seen : List Row) (asks : List Ask) (row : Row) (bottom : ℕ) (fault : Option SourceFault) → rows ≡ seen → row.grade ≤ top_grade
+    → bottom ≡ last_grade top_grade seen → row.grade ≤ bottom → is_some (grade_among seen row.object) ≡ false → fault ≡ fault_by_grades asks row
+    → fault ≡ row_fault rows asks row
+fault_of_grades rows seen asks row bottom fault same capped last falls held is =
+    is ∙ sym (ap (λ (all : List Row). row_fault all asks row) same ∙ fault_by seen asks row false capped (omega arith) held)
+
+-- a state before any event is sound
+pub sound_opened : (list count : ℕ) → count ≤ MAX_OBJECTS → IsSound (opened list count)
+sound_opened list count small = record {
+  log = record {
+    ranked = IsRanked-nil;
+    fits = omega arith;
+    good = All-nil (GoesWith []);
+    once = λ i j d l m. absurd (omega arith);
+    asked = λ object h. h;
+    one_fault = omega arith;
+  };
+  distinct = λ i j d l m. absurd (omega arith);
+  fits = omega arith;
+  small = small;
+  want = omega arith;
+  tally = record { failed = omega arith; garbled = omega arith; memory = omega arith };
+}
 
 -- ranked rows with one more that follows
 ranked_more : (rows : List Row) (asks : List Ask) (row : Row) → IsRanked rows → Follows rows asks row → IsRanked (rows ++ row ∷ [])

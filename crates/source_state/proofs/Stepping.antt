@@ -12,13 +12,14 @@ use Rattle.source_log.specs.declared.entry.Asked.TheVariants as became
 use Rattle.source_log.specs.declared.entry.SourceFault.{SourceFault}
 use Rattle.source_log.specs.Log.{rows_in, settling_in, fault_in, first_of}
 use Rattle.source_log.specs.Asks.{ask_in, ask_of, new_ask, with_one_more, held_asks, settled_asks}
-use Rattle.source_state.specs.State.{State, asks_of, asked_in, row_fault, SettlesWell, IsSound}
+use Rattle.source_state.specs.State.{State, opened, asks_of, asked_in, row_fault, SettlesWell, IsSound}
 use Rattle.source_state.specs.Events.{logged, one_asked, with_ask}
 use Rattle.source_log.specs.Keeping.{RowList, AskList, ask_objects}
 use Rattle.source_state.specs.Keeping.{KeepsState}
+use Rattle.limits.specs.declared.TheConstants.{MAX_OBJECTS}
 use Rattle.source_log.proofs.LogLaws.{kept_rows, kept_faults, settled_rows, settled_faults, fault_rows, fault_first, settled_there}
 use Rattle.source_state.proofs.AskLaws.{asks_kept, asks_settled, asks_fault, objects_of_asks, pending_parts, ask_missing, not_asked}
-use Rattle.source_state.proofs.Sound.{log_fits, sound_row, sound_fault, sound_settling, sound_ask}
+use Rattle.source_state.proofs.Sound.{log_fits, sound_opened, sound_row, sound_fault, sound_settling, sound_ask}
 
 -- the fields show the state after an event
 pub record Stepped (shown after : State) (rows : RowList) (asks : AskList) (fault : Option SourceFault) (capacity : ℕ) : Type 0 where
@@ -31,6 +32,15 @@ stepped after shown rows asks fault capacity k e =
     let objects : ask_objects asks.asks ≡ after.asks = ap (λ (list : AskList). ask_objects list.asks) k.asks ∙ objects_of_asks after.log after.asks in
     let same : shown ≡ after = e ∙ ap (λ os. let s : State = record after { asks = os } in s) objects in
     record { keeps = subst (λ s. KeepsState s rows asks fault capacity) (sym same) k; same = same }
+
+-- no event yet
+pub state_opened : (list count capacity : ℕ) (log : List LogEntry) (rows : RowList) (asks : AskList) → count ≤ MAX_OBJECTS → log ≡ []
+    → rows ≡ record { room = count; rows = [] } → asks ≡ record { room = count; asks = [] } → 2 * count + 1 ≤ capacity
+    → Stepped (record (opened list count) { log = log; asks = ask_objects asks.asks }) (opened list count) rows asks None capacity
+state_opened list count capacity log rows asks small none row_is ask_is room =
+    subst (λ entries. Stepped (record (opened list count) { log = entries; asks = ask_objects asks.asks }) (opened list count) rows asks None capacity) (sym none)
+    (stepped (opened list count) _ rows asks None capacity
+    (record { rows = row_is; asks = ask_is; fault = refl; reserved = room; sound = sound_opened list count small }) refl)
 
 -- an entry has room where the state is sound with it
 pub entry_room : (s : State) (entry : LogEntry) (rows : RowList) (asks : AskList) (fault : Option SourceFault) (capacity : ℕ)

@@ -5,6 +5,8 @@ use Rattle.std.proofs.Math.ListN.{drop_of_length-le}
 use Rattle.std.proofs.lemmas.List.{take-append-drop, length-take-le, length-drop, drop-drop, take_rest}
 use Rattle.std.specs.Io.KnownBytes.{Consumes}
 use Rattle.std.proofs.KnownBytes.{Consumes-kept, Consumes-trans}
+use Rattle.tk_io.specs.Faults.{counted}
+use Rattle.tk_io.specs.InMemory.{Incoming, failed_read, read_of}
 use Rattle.tk_io.specs.Whole.{StopsPiece, StopsReading}
 use Rattle.tk_io.specs.declared.whole.ReadError.{ReadError}
 use Rattle.tk_io.specs.declared.whole.ReadError.TheVariants.{Failed, Long, Memory}
@@ -53,3 +55,27 @@ reads_left seen bytes into new at piece least count same within some first count
     let copy_is : new ≡ take count (drop at bytes) ++ drop (length (take count (drop at bytes))) into =
     copied ∙ ap (λ xs. take count xs ++ drop (length (take count xs)) into) rest in
     reads_front bytes into new at piece count within some count_is copy_is kept
+
+-- how many a slice of what a vector holds gives, and what it leaves
+pub reads_least : (seen bytes into : List ℕ) (at piece least count : ℕ) → seen ≡ bytes
+    → least ≡ min (length (take (length seen - at) (drop at seen))) (length into) → count ≡ min least piece
+    → count ≡ min (min piece (length into)) (length (drop at bytes))
+reads_least seen bytes into at piece least count same first counts =
+    let rest : take (length seen - at) (drop at seen) ≡ drop at bytes = take_rest seen at ∙ ap (drop at) same in
+    let least_is : least ≡ min (length (drop at bytes)) (length into) = first ∙ ap (λ (xs : List ℕ). min (length xs) (length into)) rest in
+    omega arith
+
+pub reads_on : (bytes fails : List ℕ) (at count piece calls called faults : ℕ) → called ≡ counted calls
+    → (let m : Incoming = record { left = drop (at + count) bytes; piece = piece; fails = fails; calls = called; faults = faults } in m)
+    ≡ read_of count (record { left = drop at bytes; piece = piece; fails = fails; calls = calls; faults = faults })
+reads_on bytes fails at count piece calls called faults once =
+    ap (λ (xs : List ℕ). let m : Incoming = record { left = xs; piece = piece; fails = fails; calls = called; faults = faults } in m) (sym (drop-drop count at bytes))
+    ∙ ap (λ (n : ℕ). let m : Incoming = record { left = drop count (drop at bytes); piece = piece; fails = fails; calls = n; faults = faults } in m) once
+
+-- a call that failed
+pub reads_none : (left fails : List ℕ) (piece calls called faults failed : ℕ) → called ≡ counted calls → failed ≡ counted faults
+    → (let m : Incoming = record { left = left; piece = piece; fails = fails; calls = called; faults = failed } in m)
+    ≡ failed_read (record { left = left; piece = piece; fails = fails; calls = calls; faults = faults })
+reads_none left fails piece calls called faults failed once more =
+    ap (λ (n : ℕ). let m : Incoming = record { left = left; piece = piece; fails = fails; calls = n; faults = failed } in m) once
+    ∙ ap (λ (n : ℕ). let m : Incoming = record { left = left; piece = piece; fails = fails; calls = counted calls; faults = n } in m) more

@@ -25,6 +25,14 @@ module _ {V E : Type 0} (facts : V → Facts E) where
       → Allows (Ruled facts) slots id m 1 (λ n. n) (Watches facts (step slots 1 0 0 slot.none) m)
   watches_at slots id ticket m h = watches facts slots id m h.drawn h.free h.idle h.live h.empty
 
+  -- the ticket that was found is the one that was waited for
+  pub took_now : (m m₀ m' : PassState V E) (ticket found : ℕ) → Waits ticket m → m₀ ≡ m → Watches facts no_step m₀ found m' → found ≡ ticket
+      → Took facts m m'
+  took_now m m₀ m' ticket found h same w e =
+      let seen = (subst (λ (z : PassState V E). Watches facts no_step z found m') same w) h.drawn h.free in
+      let t = seen.0 (h.is ∙ sym e) in
+      record { value = t.0; has = t.1; agrees = t.2 }
+
   -- the value is taken out of the hand, after a ticket was drawn and served
   pub entered : (m m₁ m₂ m₃ : PassState V E) (ticket : ℕ) (r : Option V) (y : V) → Rests m → Draws no_step m ticket m₁ → (t : Took facts m₁ m₂)
       → m₂.1 ≡ (0, r) ∷ rest m₂.1 → r ≡ Some y → m₃ ≡ (m₂.0, (0, None) ∷ rest m₂.1)

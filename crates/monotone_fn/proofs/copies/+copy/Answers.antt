@@ -1,8 +1,8 @@
-use Rattle.std.proofs.Common.{ap, sym, ◌∙◌, arith}
+use Rattle.std.proofs.Common.{map, ap, sym, ◌∙◌, arith}
 use Rattle.monotone_fn.specs.Tree.{Tree, trees, terms}
 use Rattle.monotone_fn.specs.Shown.{tree_of, term_of}
 use Rattle.monotone_fn.specs.declared.node.Term.{Term}
-use Rattle.monotone_fn.proofs.Copied.{copied_next}
+use Rattle.monotone_fn.proofs.Copied.{copied_next, copied_all}
 use Rattle.monotone_fn.proofs.copies.+copy.Goals as goal
 
 pub copy_nodes-loop-node-preserved : goal.copy_nodes-loop-node-preserved
@@ -39,3 +39,22 @@ copy_node-returns-in_ok-copy_nodes-in-Median t c =
 pub copy_node-returns-in_ok-copy_terms-in-Wsum : goal.copy_node-returns-in_ok-copy_terms-in-Wsum
 copy_node-returns-in_ok-copy_terms-in-Wsum t c =
     ap (λ us. Tree.Wsum (terms us)) c.in_ok-copy_terms-in-Wsum.ensures ∙ sym (ap tree_of c.in-Wsum.is)
+
+pub copy_node-returns-in-List : goal.copy_node-returns-in-List
+copy_node-returns-in-List t c = sym (ap tree_of c.in-List.is)
+
+pub copy_nodes-loop-node-init : goal.copy_nodes-loop-node-init
+copy_nodes-loop-node-init t c = record { many = omega (arith, c.in_ok-items.ensures.len); trees = ap (map tree_of) c.in_ok-items.ensures.items }
+
+pub copy_terms-loop-term-init : goal.copy_terms-loop-term-init
+copy_terms-loop-term-init t c = record { many = omega (arith, c.in_ok-items.ensures.len); terms = ap (map term_of) c.in_ok-items.ensures.items }
+
+pub copy_nodes-returns : goal.copy_nodes-returns
+copy_nodes-returns t c =
+    copied_all tree_of c.loop-node.items.items c.deref-node-items.result.now c.nodes.inside.items.items c.loop-node.node-index c.args.nodes.now
+    c.loop-node-test.false c.loop-node.invariant.trees c.deref-node-items.ensures.value c.nodes.view_is
+
+pub copy_terms-returns : goal.copy_terms-returns
+copy_terms-returns t c =
+    copied_all term_of c.loop-term.items.items c.deref-term-items.result.now c.weighted.inside.items.items c.loop-term.term-index c.args.weighted.now
+    c.loop-term-test.false c.loop-term.invariant.terms c.deref-term-items.ensures.value c.weighted.view_is

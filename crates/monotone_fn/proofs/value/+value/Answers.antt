@@ -1,7 +1,7 @@
 -- Each step of a walk over nodes.
-use Rattle.std.proofs.Common.{◌≡◌, ◌+◌, ◌*◌, ◌-◌, ◌^◌, ◌≤◌, ◌++◌, min, List, length, map, drop, sum, ap, ◌∙◌, subst, arith}
-use Rattle.std.proofs.lemmas.List.{drop_all}
-use Rattle.monotone_fn.specs.Tree.{trees, terms}
+use Rattle.std.proofs.Common.{◌≡◌, ℕ, [], ◌+◌, ◌*◌, ◌-◌, ◌^◌, ◌≤◌, ◌++◌, min, List, length, map, drop, sum, sym, ap, ◌∙◌, subst, arith}
+use Rattle.std.proofs.lemmas.List.{drop_all, append-nil}
+use Rattle.monotone_fn.specs.Tree.{Tree, trees, terms}
 use Rattle.monotone_fn.specs.Shape.{nodes_of, nodes_in, nodes_under, list_count_in, list_count_under}
 use Rattle.monotone_fn.specs.Value.{value, values, products}
 use Rattle.monotone_fn.specs.Shown.{tree_of, term_of}
@@ -9,7 +9,7 @@ use Rattle.monotone_fn.specs.declared.node.Node.{Node}
 use Rattle.monotone_fn.specs.declared.node.Term.{Term}
 use Rattle.monotone_fn.proofs.Extremes.{least_kept, greatest_kept}
 use Rattle.monotone_fn.proofs.Summaries.{SummarizesSoFar, summarizes_more, summarizes_all}
-use Rattle.monotone_fn.proofs.Walks.{Walking, Walking-some, Walking-none, Passes-below_none, Passes-checked, drop-item, values-room, values-step, products-step}
+use Rattle.monotone_fn.proofs.Walks.{Walking, Walking-start, Walking-end, Walking-some, Walking-none, Passes-below_none, Passes-checked, drop-item, values-room, values-step, products-step}
 use Rattle.monotone_fn.proofs.value.+value.Goals as goal
 
 pub value_at-returns-in_err-value-clause-passes : goal.value_at-returns-in_err-value-clause-passes
@@ -147,3 +147,68 @@ weighted_at-returns-clause-total t c =
     let none = drop_all c.loop-term.term-index items (omega arith) in
     let total = subst (λ (us : List Term). min (c.loop-term.total + sum (products (terms (map term_of us)) x)) (2 ^ 64 - 1) ≡ min (sum (products (terms c.args.weighted.now) x)) (2 ^ 64 - 1)) none c.loop-term.invariant.total in
     omega (arith, total)
+
+pub values_at-loop-node-init : goal.values_at-loop-node-init
+values_at-loop-node-init t c =
+    let x = c.args.grades.now in
+    let all = trees c.args.nodes.now in
+    let shown : map tree_of c.deref-node-items.result.now ≡ c.args.nodes.now = ap (map tree_of) c.deref-node-items.ensures.value ∙ c.nodes.view_is in
+    record {
+      lists = subst (λ (ts : List Tree). list_count_in (trees ts) ≤ length x) (sym shown) c.requires.lists;
+      walking = subst (λ (ts : List Tree). Walking x (nodes_in all) (nodes_in (trees ts)) c.args.ended.now c.args.ended.now) (sym shown) (Walking-start x (nodes_in all) c.args.ended.now);
+      values = ap (λ (vs : List ℕ). vs ++ values (trees (map tree_of c.deref-node-items.result.now)) x) c.new-values.ensures ∙ ap (λ (ts : List Tree). values (trees ts) x) shown;
+    }
+
+pub values_at-returns-clause-values : goal.values_at-returns-clause-values
+values_at-returns-clause-values t c =
+    let x = c.args.grades.now in
+    let none = drop_all c.loop-node.node-index c.deref-node-items.result.now (omega arith) in
+    let at = subst (λ (ns : List Node). c.loop-node.values ++ values (trees (map tree_of ns)) x ≡ values (trees c.args.nodes.now) x) none c.loop-node.invariant.values in
+    sym (append-nil c.loop-node.values) ∙ at
+
+pub values_at-returns-clause-passes : goal.values_at-returns-clause-passes
+values_at-returns-clause-passes t c =
+    let x = c.args.grades.now in
+    let all = nodes_in (trees c.args.nodes.now) in
+    let none = drop_all c.loop-node.node-index c.deref-node-items.result.now (omega arith) in
+    Walking-end {A = ℕ} x all c.args.ended.now c.loop-node.ended 0
+    (subst (λ (ns : List Node). Walking x all (nodes_in (trees (map tree_of ns))) c.args.ended.now c.loop-node.ended) none c.loop-node.invariant.walking)
+
+pub summary_at-loop-node-init : goal.summary_at-loop-node-init
+summary_at-loop-node-init t c =
+    let x = c.args.grades.now in
+    let all = trees c.args.nodes.now in
+    let shown : map tree_of c.deref-node-items.result.now ≡ c.args.nodes.now = ap (map tree_of) c.deref-node-items.ensures.value ∙ c.nodes.view_is in
+    record {
+      lists = subst (λ (ts : List Tree). list_count_in (trees ts) ≤ length x) (sym shown) c.requires.lists;
+      walking = subst (λ (ts : List Tree). Walking x (nodes_in all) (nodes_in (trees ts)) c.args.ended.now c.args.ended.now) (sym shown) (Walking-start x (nodes_in all) c.args.ended.now);
+      so_far = record { done = []; parts = ap (λ (ts : List Tree). values (trees ts) x) shown; of = c.start-summary.ensures };
+    }
+
+pub summary_at-returns-clause-passes : goal.summary_at-returns-clause-passes
+summary_at-returns-clause-passes t c =
+    let x = c.args.grades.now in
+    let all = nodes_in (trees c.args.nodes.now) in
+    let none = drop_all c.loop-node.node-index c.deref-node-items.result.now (omega arith) in
+    Walking-end {A = ℕ} x all c.args.ended.now c.loop-node.ended 0
+    (subst (λ (ns : List Node). Walking x all (nodes_in (trees (map tree_of ns))) c.args.ended.now c.loop-node.ended) none c.loop-node.invariant.walking)
+
+pub weighted_at-loop-term-init : goal.weighted_at-loop-term-init
+weighted_at-loop-term-init t c =
+    let x = c.args.grades.now in
+    let all = terms c.args.weighted.now in
+    let shown : map term_of c.deref-term-items.result.now ≡ c.args.weighted.now = ap (map term_of) c.deref-term-items.ensures.value ∙ c.weighted.view_is in
+    record {
+      lists = subst (λ (us : List (ℕ × Tree)). list_count_under (terms us) ≤ length x) (sym shown) c.requires.lists;
+      walking = subst (λ (us : List (ℕ × Tree)). Walking x (nodes_under all) (nodes_under (terms us)) c.args.ended.now c.args.ended.now) (sym shown) (Walking-start x (nodes_under all) c.args.ended.now);
+      fits = omega arith;
+      total = omega (arith, ap (λ (us : List (ℕ × Tree)). sum (products (terms us) x)) shown);
+    }
+
+pub weighted_at-returns-clause-passes : goal.weighted_at-returns-clause-passes
+weighted_at-returns-clause-passes t c =
+    let x = c.args.grades.now in
+    let all = nodes_under (terms c.args.weighted.now) in
+    let none = drop_all c.loop-term.term-index c.deref-term-items.result.now (omega arith) in
+    Walking-end {A = ℕ} x all c.args.ended.now c.loop-term.ended 0
+    (subst (λ (us : List Term). Walking x all (nodes_under (terms (map term_of us))) c.args.ended.now c.loop-term.ended) none c.loop-term.invariant.walking)

@@ -1,5 +1,7 @@
-use Rattle.std.proofs.Common.{arith}
+use Rattle.std.proofs.Common.{ℕ, List, length, length-append, refl, sym, ap, subst, ◌∙◌, arith}
 use Rattle.std.proofs.lemmas.Result.{err_from_is_err_and}
+use Rattle.std.specs.Io.KnownBytes.{Consumes}
+use Rattle.std.proofs.KnownBytes.{Consumes-nil, Consumes-trans}
 use Rattle.tk_io.proofs.Reading.{stops_reading}
 use Rattle.tk_io.proofs.whole.read_text.Goals as goal
 
@@ -12,3 +14,35 @@ returns-in_err-read_piece-clause-stopped g c =
     let given = c.in_err-read_piece.ensures.given in
     rw (p.1, p.2) (stops_reading c.args.limit c.asked-most.result _ _ _ c.loop-text.text.items given.0 _ _ _ _ c.loop-text.invariant.0 c.loop-text.invariant.1
     (omega arith) (omega (arith, c.asked-most.ensures.within)) given.1 given.2 c.in_err-read_piece.ensures.stopped)
+
+pub returns-clause-stopped : goal.returns-clause-stopped
+returns-clause-stopped g c =
+    let text = c.loop-text.text in
+    ((text.items, omega (arith, text.ok.0, c.loop-text.invariant.2), c.loop-text.invariant.1), c.loop-text.invariant.0)
+
+pub loop-text-init : goal.loop-text-init
+loop-text-init g c = (
+  refl,
+  subst (λ (text : List ℕ). Consumes (g.R.Intake.left c.args.input.now) (g.R.Intake.left c.args.input.now) text) (sym c.new-text.ensures.items) (Consumes-nil (g.R.Intake.left c.args.input.now)),
+  omega (arith, c.new-text.ensures.len),
+)
+
+pub loop-text-preserved : goal.loop-text-preserved
+loop-text-preserved g c =
+    let given = c.in_ok-read_piece.ensures.given in
+    let text = c.loop-text.text in
+    let now = c.read_piece.new.text in (
+      c.in_ok-read_piece.ensures.quiet ∙ c.loop-text.invariant.0,
+      subst (λ (all : List ℕ). Consumes (g.R.Intake.left c.args.input.now) (g.R.Intake.left c.read_piece.new.input) all) (sym given.3.1) (Consumes-trans _ _ _ text.items given.0 c.loop-text.invariant.1 given.1),
+      omega (arith, ap (length {A = ℕ}) given.3.1, length-append text.items given.0, given.2, c.asked-most.ensures.within, now.ok.0, text.ok.0),
+    )
+
+pub returns-then-branch-eq0-clause-whole : goal.returns-then-branch-eq0-clause-whole
+returns-then-branch-eq0-clause-whole g c =
+    let given = c.in_ok-read_piece.ensures.given in
+    let text = c.loop-text.text in
+    record {
+      within = omega (arith, ap (length {A = ℕ}) given.3.1, length-append text.items given.0, given.3.0, text.ok.0);
+      given = subst (λ (all : List ℕ). Consumes (g.R.Intake.left c.args.input.now) (g.R.Intake.left c.read_piece.new.input) all) (sym given.3.1) (Consumes-trans _ _ _ text.items given.0 c.loop-text.invariant.1 given.1);
+      ended = c.in_ok-read_piece.ensures.ended c.if-branch-eq0.true;
+    }

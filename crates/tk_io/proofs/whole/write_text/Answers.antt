@@ -1,6 +1,7 @@
-use Rattle.std.proofs.Common.{◌-◌, length, drop, arith, ◌∙◌}
+use Rattle.std.proofs.Common.{ℕ, ◌-◌, List, length, drop, subst, arith, ◌∙◌}
 use Rattle.std.proofs.lemmas.Result.{err_from_is_err_and}
-use Rattle.std.proofs.lemmas.List.{length-take, length-drop}
+use Rattle.std.proofs.lemmas.List.{length-take, length-drop, take_all}
+use Rattle.std.specs.Io.KnownBytes.{Appends}
 use Rattle.tk_io.proofs.Writing.{took_more, took_front}
 use Rattle.tk_io.proofs.whole.write_text.Goals as goal
 
@@ -15,3 +16,7 @@ loop-done-preserved g c = (
   c.in_ok-done.ensures.cause.stays ∙ c.loop-done.invariant.1,
   took_more _ _ _ c.args.text.now c.loop-done.done c.in_ok-done.field-0 c.loop-done.invariant.2 c.in_ok-done.ensures.taken,
 )
+
+pub returns-clause-whole : goal.returns-clause-whole
+returns-clause-whole g c =
+    subst (λ (front : List ℕ). Appends (g.K.Sink.held c.args.out.now) (g.K.Sink.held c.loop-done.out) front) (take_all c.loop-done.done c.args.text.now (omega arith)) c.loop-done.invariant.2

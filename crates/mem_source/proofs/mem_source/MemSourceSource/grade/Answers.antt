@@ -34,6 +34,11 @@ returns-clause-due c =
     rw (← c.self.view_is)
     (answered_as_due _ _ _ _ _ _ c.deref.ensures.value c.deref-2.ensures.value c.saturating_add-call.ensures c.in_default.ensures)
 
+pub returns-clause-answer : goal.returns-clause-answer
+returns-clause-answer c =
+    rw (← c.self.view_is)
+    (c.grade_of.ensures ∙ rw (c.deref-3.ensures.value) (ap (or_else (first_grade c.self.inside.lies.items c.args.object)) (c.self.invariant c.args.object)))
+
 pub returns-clause-after : goal.returns-clause-after
 returns-clause-after c = grade_given _ _ _ _ c.grade_of.result c.self.view_is c.saturating_add-call.ensures c.count_grade.ensures
 
