@@ -1,11 +1,18 @@
--- What the reader keeps, one row on.
-use Rattle.std.proofs.Common.{◌≡◌, ◌≤◌, ◌⊎◌, inl, inr, ℕ, Bool, true, false, cond, eqb, ◌||◌, List, [], ◌∷◌, ◌++◌, map, Option, Some, is_some, refl, sym, ap, ◌∙◌, subst, arith, eq-eqb, eqb-true}
+-- What the reader keeps, one row on and one list on.
+use Rattle.std.proofs.Common.{◌≡◌, ◌+◌, ◌≤◌, ◌⊎◌, inl, inr, ℕ, Bool, true, false, cond, eqb, nat_eq, ◌||◌, List, [], ◌∷◌, ◌++◌, length, map, Option, Some, None, is_some, refl, sym, ap, ◌∙◌, subst, arith, eq-eqb, eqb-true, length-append}
 use Rattle.std.specs.List.{list_any}
 use Rattle.std.specs.Option.{IfSome}
+use Rattle.std.specs.Set.{is_member}
+use Rattle.std.specs.Global.{Vec}
+use Rattle.std.proofs.lemmas.Bool.{false_from_ne_true}
+use Rattle.std.proofs.lemmas.List.{map-append}
+use Rattle.object_map.specs.Values.{value_of}
 use Rattle.ranked_list.specs.declared.row.Row.{Row}
 use Rattle.ranked_list.specs.Table.{objects}
-use Rattle.ranked_list.specs.Rows.{TellsObjects}
-use Rattle.bundle_text.specs.Tracking.{has_number, TellsFirst}
+use Rattle.ranked_list.specs.Rows.{last_row, TellsObjects}
+use Rattle.bundle_text.specs.Reading.{InsideList, with_list}
+use Rattle.bundle_text.specs.Tracking.{front_of, has_number, IsTracked, TellsFirst}
+use Rattle.bundle_text.specs.declared.reader.Reader.{Reader}
 use Rattle.ranked_list.proofs.RowLaws.{TellsObjects-push}
 
 pub list_any-map : {A B : Type 0} (p : B → Bool) (f : A → B) (xs : List A) → list_any p (map f xs) ≡ list_any (λ x. p (f x)) xs
@@ -45,3 +52,62 @@ module _ (number : ℕ) (before after : ℕ → Option ℕ) (row : Row) (marks :
       by_test : (t : Bool) (own : Option ℕ) → IfSome own (λ n. n ≤ number) → IfSome (cond t (Some number) own) (λ n. n ≤ number)
       by_test true own past = omega arith
       by_test false own past = past
+
+-- no object has the number of the list that begins
+not_next : (number : ℕ) (own : Option ℕ) → IfSome own (λ m. m ≤ number) → has_number (number + 1) own ≡ false
+not_next number None past = refl
+not_next number (Some own) past = false_from_ne_true _ (λ e. let is : own ≡ number + 1 = eqb-true own (number + 1) e in omega arith)
+
+-- in the first list an object has its number, or none
+first_number : (own : Option ℕ) → IfSome own (λ m. m ≤ 0) → is_some own ≡ has_number 0 own
+first_number None past = refl
+first_number (Some own) past = sym (eq-eqb own 0 (omega arith))
+
+next_first : (number : ℕ) (given : ℕ → Option ℕ) (closed : List (List Row)) (rows : List Row) → number ≡ length closed
+    → TellsFirst (λ object. is_some (given object)) closed → TellsObjects (λ object. has_number number (given object)) rows
+    → ((object : ℕ) → IfSome (given object) (λ m. m ≤ number)) → TellsFirst (λ object. is_some (given object)) (closed ++ rows ∷ [])
+next_first number given [] rows is first seen past = λ object.
+    first_number (given object) (subst (λ k. IfSome (given object) (λ m. m ≤ k)) is (past object))
+    ∙ subst (λ k. has_number k (given object) ≡ is_member nat_eq (objects rows) object) is (seen object)
+next_first number given (list ∷ more) rows is first seen past = first
+
+later : (number : ℕ) (own : Option ℕ) → IfSome own (λ m. m ≤ number) → IfSome own (λ m. m ≤ number + 1)
+later number None past = tt
+later number (Some own) past = omega arith
+
+-- the reader keeps what it kept where the next list begins
+pub next_tracked : (before after : Reader) → IsTracked before → after.last ≡ None → after.number ≡ before.number + 1 → after.rows ≡ []
+    → after.closed.items ≡ before.closed.items ++ before.rows ∷ [] → ((object : ℕ) → value_of after.given object ≡ value_of before.given object) → IsTracked after
+next_tracked before after tracked last number rows closed given = record {
+  last = last ∙ sym (ap last_row rows);
+  number =
+      number ∙ ap (λ k. k + 1) tracked.number ∙ sym (ap length closed ∙ length-append before.closed.items (before.rows ∷ []));
+  seen = λ object.
+      ap (λ own. has_number after.number own) (given object) ∙ ap (λ k. has_number k (value_of before.given object)) number
+      ∙ not_next before.number (value_of before.given object) (tracked.past object) ∙ sym (ap (λ rows. is_member nat_eq (objects rows) object) rows);
+  first = subst (TellsFirst (λ object. is_some (value_of after.given object))) (sym closed)
+      (next_first before.number (value_of after.given) before.closed.items before.rows tracked.number
+      (tells_first before.closed.items tracked.first)
+      (λ object. ap (has_number before.number) (given object) ∙ tracked.seen object)
+      (λ object. subst (λ own. IfSome own (λ m. m ≤ before.number)) (sym (given object)) (tracked.past object)));
+  past = λ object.
+      subst (λ k. IfSome (value_of after.given object) (λ m. m ≤ k)) (sym number)
+      (later before.number (value_of after.given object) (subst (λ own. IfSome own (λ m. m ≤ before.number)) (sym (given object)) (tracked.past object)));
+}
+  where
+    tells_first : (closed : List (List Row)) → TellsFirst (λ object. is_some (value_of before.given object)) closed
+        → TellsFirst (λ object. is_some (value_of after.given object)) closed
+    tells_first [] first = tt
+    tells_first (list ∷ more) first = λ object. ap is_some (given object) ∙ first object
+
+abbrev inside : List (List ℕ) → List (List Row) → List ℕ → List Row → InsideList
+inside names closed name rows = record { names = names; closed = closed; name = name; rows = rows }
+
+-- and then its front is the one with the list
+pub next_front : (before after : Reader) (name : List ℕ) → after.names.items ≡ before.names.items ++ before.name ∷ []
+    → after.closed.items ≡ before.closed.items ++ before.rows ∷ [] → after.name.items ≡ name → after.rows ≡ [] → front_of after ≡ with_list (front_of before) name
+next_front before after name names closed is rows =
+    ap (λ ns. inside ns after.closed.items after.name.items after.rows) (ap (map (λ (n : Vec ℕ). n.items)) names ∙ map-append (λ (n : Vec ℕ). n.items) before.names.items (before.name ∷ []))
+    ∙ ap (λ cs. inside ((front_of before).names ++ before.name.items ∷ []) cs after.name.items after.rows) closed
+    ∙ ap (λ n. inside ((front_of before).names ++ before.name.items ∷ []) (before.closed.items ++ before.rows ∷ []) n after.rows) is
+    ∙ ap (inside ((front_of before).names ++ before.name.items ∷ []) (before.closed.items ++ before.rows ∷ []) name) rows

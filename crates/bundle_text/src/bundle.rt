@@ -16,7 +16,7 @@ use std::alloc::Global;
 use thiserror::Error;
 
 /// Lists under their names, with the text of a query over them.
-#[derive(Debug, Drop)]
+#[derive(Drop)]
 pub struct Bundle {
     /// The names of the lists, in their order.
     pub names: Vec<Vec<u8>>,
@@ -61,12 +61,21 @@ fn read_rest(alloc: Global, mut reader: Reader, bytes: &[u8]) -> Result<Bundle, 
         if let Line::Query(query) = line {
             return read_end(alloc, reader, query, number, more);
         }
-        if !reader.take_line(alloc, line)? {
+        let took = match reader.take_line(alloc, line) {
+            Ok(took) => took,
+            Err(_) => {
+                drop(reader);
+                return Err(BundleFault::Memory);
+            }
+        };
+        if !took {
+            drop(reader);
             return Err(BundleFault::BadBundle { line: number });
         }
         number += 1;
         rest = more;
     }
+    drop(reader);
     Err(BundleFault::BadBundle { line: number })
 }
 
@@ -82,9 +91,11 @@ fn read_end(
     ensures { Gives result (read_part (front_of reader) number (lines rest.now) (λ front. Err number) (query_part query.now)) }
 {
     if !reader.is_whole() {
+        drop(reader);
         return Err(BundleFault::BadBundle { line: number });
     }
     if let Some(_) = first_line(rest) {
+        drop(reader);
         return Err(BundleFault::BadBundle { line: number + 1 });
     }
     Ok(reader.end(alloc, query)?)

@@ -14,7 +14,9 @@ use Rattle.access_log.specs.Log.{Log, IsConsistent}
 use Rattle.query_text.specs.Bytes.{bytes_of}
 use Rattle.cert_text.specs.declared.certificate.Certificate.{Certificate}
 use Rattle.cert_text.specs.Certificate.{answer_line, access_line, access_lines, stop_line}
-use Rattle.cert_reader.specs.Reading.{Spells}
+use Rattle.cert_reader.specs.Reading.{Spells, IsReadAs, IsCause}
+use Rattle.cert_reader.specs.declared.fault.CertFault.{CertFault}
+use Rattle.cert_reader.specs.declared.fault.CertFault.TheVariants as cert_fault
 use Rattle.judge_core.specs.declared.verdict.Verdict.{Verdict}
 use Rattle.judge_core.specs.declared.verdict.Verdict.TheVariants as verdict
 use Rattle.judge_core.specs.declared.verdict.JudgeFault.{JudgeFault}
@@ -102,3 +104,8 @@ pub told_result : (ls : List (List ℕ)) (c : Certificate) (r : Result Told Memo
     → IfOk r (TellsOfCertificate c) → IfOk r (Tells ls)
 told_result ls c (Ok told) spells same h = tells_lines ls c told spells same h
 told_result ls c (Err memory) spells same h = tt
+
+-- a line at fault is told of lines that are no certificate's
+pub told_no_certificate : (ls : List (List ℕ)) (fault : CertFault) (line : ℕ) → fault ≡ cert_fault.BadLine line
+    → ((c : Certificate) → Spells ls c → IsReadAs c (Err fault)) → IsCause ls fault → Tells ls (BadLine line)
+told_no_certificate ls fault line is reads cause = (λ c s. subst (λ f. IsReadAs c (Err f)) is (reads c s), subst (IsCause ls) is cause)

@@ -1,8 +1,12 @@
 -- Commands by their name and what follows it.
-use Rattle.std.proofs.Common.{◌≡◌, ℕ, List, [], ◌∷◌, Option, Some, None, Bool, true, false, drop, refl, ap, ◌∙◌}
-use Rattle.std.specs.Prelude.{slice_get, option_and_then, if◌then◌else◌}
-use Rattle.command_words.specs.Commands.{are_no_words, command_named, bare_command, without_words}
+use Rattle.std.proofs.Common.{◌≡◌, ℕ, List, [], ◌∷◌, Option, Some, None, Bool, true, false, codes, drop, refl, ap, ◌∙◌}
+use Rattle.std.specs.Prelude.{slice_get, option_and_then, option_map, if◌then◌else◌}
+use Rattle.command_words.specs.Bulking.{bulk_options}
+use Rattle.command_words.specs.Commands.{are_no_words, command_named, command_of, bare_command, is_named, without_words}
+use Rattle.command_words.specs.Making.{make_options}
+use Rattle.command_words.specs.Running.{run_options}
 use Rattle.command_words.specs.declared.command.Command.{Command}
+use Rattle.command_words.specs.declared.command.Command.TheVariants.{Make, Run, Bulk}
 
 abbrev no_command : Option Command
 no_command = None
@@ -31,3 +35,31 @@ pub command_refused : (words : List (List ℕ)) (command : Command) → named_fi
     → bare_command words ≡ None
 command_refused [] command named some = absurd cc
 command_refused (name ∷ rest) command named some = ap (λ t. if t then command_named name else None) some
+
+-- the command by the name that the words begin with, where the names before it are tried
+abbrev from_bulk : List (List ℕ) → Option Command
+from_bulk words = if is_named (codes "bulk") words then option_map Bulk (bulk_options words) else bare_command words
+
+abbrev from_run : List (List ℕ) → Option Command
+from_run words = if is_named (codes "run") words then option_map Run (run_options words) else from_bulk words
+
+not_make : (words : List (List ℕ)) → is_named (codes "make") words ≡ false → command_of words ≡ from_run words
+not_make words other = ap (λ t. if t then option_map Make (make_options words) else from_run words) other
+
+not_run : (words : List (List ℕ)) → is_named (codes "make") words ≡ false → is_named (codes "run") words ≡ false → command_of words ≡ from_bulk words
+not_run words no_make other = not_make words no_make ∙ ap (λ t. if t then option_map Run (run_options words) else from_bulk words) other
+
+pub make_named : (words : List (List ℕ)) → is_named (codes "make") words ≡ true → command_of words ≡ option_map Make (make_options words)
+make_named words named = ap (λ t. if t then option_map Make (make_options words) else from_run words) named
+
+pub run_named : (words : List (List ℕ)) → is_named (codes "make") words ≡ false → is_named (codes "run") words ≡ true
+    → command_of words ≡ option_map Run (run_options words)
+run_named words no_make named = not_make words no_make ∙ ap (λ t. if t then option_map Run (run_options words) else from_bulk words) named
+
+pub bulk_named : (words : List (List ℕ)) → is_named (codes "make") words ≡ false → is_named (codes "run") words ≡ false → is_named (codes "bulk") words ≡ true
+    → command_of words ≡ option_map Bulk (bulk_options words)
+bulk_named words no_make no_run named = not_run words no_make no_run ∙ ap (λ t. if t then option_map Bulk (bulk_options words) else bare_command words) named
+
+pub none_named : (words : List (List ℕ)) → is_named (codes "make") words ≡ false → is_named (codes "run") words ≡ false → is_named (codes "bulk") words ≡ false
+    → command_of words ≡ bare_command words
+none_named words no_make no_run other = not_run words no_make no_run ∙ ap (λ t. if t then option_map Bulk (bulk_options words) else bare_command words) other

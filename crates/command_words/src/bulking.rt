@@ -39,7 +39,11 @@ pub(crate) fn read_bulk(alloc: Global, words: &Words) -> Result<BulkOptions, Wor
         Argument::Free("ahead"),
     ];
     match found_in(alloc, &arguments, words) {
-        Ok(matches) => asked_of(&matches),
+        Ok(matches) => {
+            let options = asked_of(&matches);
+            drop(matches);
+            options
+        }
         Err(fault) => Err(fault),
     }
 }

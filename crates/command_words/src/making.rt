@@ -34,7 +34,11 @@ pub(crate) fn read_make(alloc: Global, words: &Words) -> Result<MakeOptions, Wor
         Argument::Needed("lists"),
     ];
     match found_in(alloc, &arguments, words) {
-        Ok(matches) => options_of(&matches).ok_or(WordsFault::BadWords),
+        Ok(matches) => {
+            let options = options_of(&matches);
+            drop(matches);
+            options.ok_or(WordsFault::BadWords)
+        }
         Err(fault) => Err(fault),
     }
 }

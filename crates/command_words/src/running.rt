@@ -104,7 +104,11 @@ pub(crate) fn read_run(alloc: Global, words: &Words) -> Result<RunOptions, Words
         Argument::Free("ahead"),
     ];
     match found_in(alloc, &arguments, words) {
-        Ok(matches) => options_of(alloc, &matches),
+        Ok(matches) => {
+            let options = options_of(alloc, &matches);
+            drop(matches);
+            options
+        }
         Err(fault) => Err(fault),
     }
 }

@@ -51,8 +51,15 @@ fn distinct_objects(alloc: Global, answer: &[u32]) -> Result<Option<Objects>, Me
 {
     let mut objects = Objects::make(alloc);
     for object in answer {
-        let is_new = objects.add(*object)?;
+        let is_new = match objects.add(*object) {
+            Ok(is_new) => is_new,
+            Err(fault) => {
+                drop(objects);
+                return Err(fault);
+            }
+        };
         if !is_new {
+            drop(objects);
             return Ok(None);
         }
     }

@@ -4,7 +4,7 @@ use std::marker::Model;
 use std::slice::Iter;
 
 /// The names of the lists of a query, in order. Contracts see the list of the names' bytes.
-#[derive(Debug, Drop)]
+#[derive(Drop)]
 pub struct Names {
     items: Vec<Vec<u8>>,
 }

@@ -1,7 +1,7 @@
 //! The operators of an expression.
 
 /// An operator over the values of expressions.
-#[derive(Clone, Copy, Debug, PartialEq, Eq)]
+#[derive(Clone, Copy)]
 pub enum Operator {
     /// The least of the values, `min`.
     Min,

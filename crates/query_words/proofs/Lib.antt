@@ -3,3 +3,4 @@ pub mod FrontLaws
 pub mod ViableLaws
 pub mod CompleteLaws
 pub mod LongestLaws
+pub mod NamedLaws

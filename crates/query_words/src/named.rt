@@ -18,6 +18,13 @@ use std::alloc::Global;
 /// The algorithms that a query may name.
 const ALGORITHMS: [Algorithm; 3] = [Algorithm::Ta, Algorithm::Nra, Algorithm::Ca];
 
+/// Whether a word is this text.
+pub(crate) fn is_text(word: &[u8], text: &[u8]) -> bool
+    ensures { result ≡ bytes_eq word.now text.now }
+{
+    word == text
+}
+
 /// The algorithm of a word, if it is the word of one.
 pub fn algorithm_of(word: &[u8]) -> Option<Algorithm>
     ensures { result ≡ find (λ algorithm. bytes_eq word.now (algorithm_word algorithm)) algorithms }
@@ -31,19 +38,19 @@ pub fn algorithm_of(word: &[u8]) -> Option<Algorithm>
 pub fn opened_by(word: &[u8]) -> Option<Operator>
     ensures { result ≡ opened_by word.now }
 {
-    if word == b"min(".as_slice() {
+    if is_text(word, b"min(") {
         return Some(Operator::Min);
     }
-    if word == b"max(".as_slice() {
+    if is_text(word, b"max(") {
         return Some(Operator::Max);
     }
-    if word == b"sum(".as_slice() {
+    if is_text(word, b"sum(") {
         return Some(Operator::Sum);
     }
-    if word == b"median(".as_slice() {
+    if is_text(word, b"median(") {
         return Some(Operator::Median);
     }
-    if word == b"wsum(".as_slice() {
+    if is_text(word, b"wsum(") {
         return Some(Operator::Wsum);
     }
     None

@@ -4,7 +4,7 @@ ghost use Rattle.std.specs.Prelude.{◌≡◌};
 ghost use Rattle.query_words.specs.Course.{may_end};
 
 /// Which piece of a query line comes next.
-#[derive(Clone, Copy, Debug)]
+#[derive(Clone, Copy)]
 pub enum Stage {
     /// `top `
     Top,

@@ -6,7 +6,7 @@ ghost use Rattle.std.specs.Char.{is_ascii_digit};
 ghost use Rattle.line_text.specs.Names.{is_name_byte};
 ghost use Rattle.query_words.specs.Words.{Class, begins, is_whole, class_at, IsLongest, IsLongestName};
 
-use super::named::{algorithm_of, opened_by};
+use super::named::{algorithm_of, is_text, opened_by};
 use super::stage::Stage;
 use line_text::is_name_byte;
 use query_text::Algorithm;
@@ -124,14 +124,14 @@ pub fn is_whole(stage: Stage, inside: bool, word: &[u8]) -> bool
     ensures { result ≡ is_whole (class_at stage inside) word.now }
 {
     match stage {
-        Stage::Top => word == b"top ".as_slice(),
-        Stage::By => word == b" by ".as_slice(),
+        Stage::Top => is_text(word, b"top "),
+        Stage::By => is_text(word, b" by "),
         Stage::Behind => is_whole_behind(inside, word),
-        Stage::Times => word == b"*".as_slice(),
+        Stage::Times => is_text(word, b"*"),
         Stage::Algorithm => algorithm_of(word).is_some(),
-        Stage::Options => word == b" cost ".as_slice() || word == b" room ".as_slice(),
-        Stage::Between => word == b" ".as_slice(),
-        Stage::Priced => word == b" room ".as_slice(),
+        Stage::Options => is_text(word, b" cost ") || is_text(word, b" room "),
+        Stage::Between => is_text(word, b" "),
+        Stage::Priced => is_text(word, b" room "),
         Stage::Operand
         | Stage::Count
         | Stage::Weight
@@ -147,8 +147,8 @@ fn is_whole_behind(inside: bool, word: &[u8]) -> bool
     ensures { result ≡ is_whole (class_at Stage.Behind inside) word.now }
 {
     if inside {
-        word == b",".as_slice() || word == b")".as_slice()
+        is_text(word, b",") || is_text(word, b")")
     } else {
-        word == b" using ".as_slice()
+        is_text(word, b" using ")
     }
 }

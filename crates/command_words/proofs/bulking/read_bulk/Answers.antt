@@ -8,12 +8,12 @@ use Rattle.command_words.proofs.bulking.read_bulk.Goals as goal
 pub returns-in-Ok-clause-read : goal.returns-in-Ok-clause-read
 returns-in-Ok-clause-read c =
     let is = asked bulk_takes bulk_app bulk_given bulk_in bulk_asks c.args.words.now _ c.in-Ok.ensures.found in
-    answer_read _ _ c.asked_of.result is c.asked_of.ensures.read
+    answer_read _ _ c.asked_of-options.result is c.asked_of-options.ensures.read
 
 pub returns-in-Ok-clause-refused : goal.returns-in-Ok-clause-refused
 returns-in-Ok-clause-refused c =
     let is = asked bulk_takes bulk_app bulk_given bulk_in bulk_asks c.args.words.now _ c.in-Ok.ensures.found in
-    λ e. is ∙ c.asked_of.ensures.refused e
+    λ e. is ∙ c.asked_of-options.ensures.refused e
 
 pub returns-in-Err-clause-refused : goal.returns-in-Err-clause-refused
 returns-in-Err-clause-refused c =

@@ -7,12 +7,12 @@ use Rattle.command_words.proofs.making.read_make.Goals as goal
 pub returns-in-Ok-clause-read : goal.returns-in-Ok-clause-read
 returns-in-Ok-clause-read c =
     let is = asked make_takes make_app options_given options_in make_asks c.args.words.now _ c.in-Ok.ensures.found in
-    answer_read c.args.words.now c.options_of.result c.ok_or.result (is ∙ sym c.options_of.ensures.found) c.ok_or.ensures.value
+    answer_read c.args.words.now c.options_of-options.result c.ok_or.result (is ∙ sym c.options_of-options.ensures.found) c.ok_or.ensures.value
 
 pub returns-in-Ok-clause-refused : goal.returns-in-Ok-clause-refused
 returns-in-Ok-clause-refused c =
     let is = asked make_takes make_app options_given options_in make_asks c.args.words.now _ c.in-Ok.ensures.found in
-    answer_refused c.args.words.now c.options_of.result c.ok_or.result (is ∙ sym c.options_of.ensures.found) c.ok_or.ensures.value
+    answer_refused c.args.words.now c.options_of-options.result c.ok_or.result (is ∙ sym c.options_of-options.ensures.found) c.ok_or.ensures.value
 
 pub returns-in-Err-clause-refused : goal.returns-in-Err-clause-refused
 returns-in-Err-clause-refused c =

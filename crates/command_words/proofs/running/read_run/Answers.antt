@@ -7,12 +7,12 @@ use Rattle.command_words.proofs.running.read_run.Goals as goal
 pub returns-in-Ok-clause-read : goal.returns-in-Ok-clause-read
 returns-in-Ok-clause-read c =
     let is = asked run_takes run_app run_given run_in run_asks c.args.words.now _ c.in-Ok.ensures.found in
-    answer_read _ _ c.options_of.result is c.options_of.ensures.read
+    answer_read _ _ c.options_of-options.result is c.options_of-options.ensures.read
 
 pub returns-in-Ok-clause-refused : goal.returns-in-Ok-clause-refused
 returns-in-Ok-clause-refused c =
     let is = asked run_takes run_app run_given run_in run_asks c.args.words.now _ c.in-Ok.ensures.found in
-    λ e. is ∙ c.options_of.ensures.refused e
+    λ e. is ∙ c.options_of-options.ensures.refused e
 
 pub returns-in-Err-clause-refused : goal.returns-in-Err-clause-refused
 returns-in-Err-clause-refused c =

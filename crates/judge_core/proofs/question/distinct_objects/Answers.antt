@@ -5,12 +5,12 @@ use Rattle.judge_core.proofs.question.distinct_objects.Goals as goal
 
 pub returns-then-not-is_new : goal.returns-then-not-is_new
 returns-then-not-is_new c =
-    repeats c.args.answer.now c.loop-object.object-index c.in_ok-is_new.is_new c.loop-object.objects c.loop-object-test.true c.loop-object.invariant.kept c.in_ok-is_new.ensures.is_new c.if-not-is_new.true
+    repeats c.args.answer.now c.loop-object.object-index c.in-Ok.is_new c.loop-object.objects c.loop-object-test.true c.loop-object.invariant.kept c.in-Ok.ensures.is_new c.if-not-is_new.true
 
 pub loop-object-preserved : goal.loop-object-preserved
 loop-object-preserved c =
-    let r = keeps_new c.args.answer.now c.loop-object.object-index c.in_ok-is_new.is_new c.loop-object.objects c.add.new.self c.loop-object-test.true c.loop-object.invariant.kept c.loop-object.invariant.distinct
-    c.in_ok-is_new.ensures.is_new c.if-not-is_new.false c.in_ok-is_new.ensures.added in
+    let r = keeps_new c.args.answer.now c.loop-object.object-index c.in-Ok.is_new c.loop-object.objects c.add.new.self c.loop-object-test.true c.loop-object.invariant.kept c.loop-object.invariant.distinct
+    c.in-Ok.ensures.is_new c.if-not-is_new.false c.in-Ok.ensures.added in
     record { kept = r.0; distinct = r.1 }
 
 pub returns : goal.returns

@@ -8,6 +8,12 @@ use Rattle.limits.specs.declared.TheConstants.{MAX_LINE}
 pub finish-requires-clause-numbered : goal.finish-requires-clause-numbered
 finish-requires-clause-numbered c = draft_numbered c.args.bytes.now c.in-Ok.draft c.in-Ok.ensures
 
+pub returns-then-bytes-clause-reads : goal.returns-then-bytes-clause-reads
+returns-then-bytes-clause-reads c = (c.if-bytes.true, refl)
+
+pub returns-in-Err-clause-reads : goal.returns-in-Err-clause-reads
+returns-in-Err-clause-reads c = reads_fault c.args.bytes.now c.in-Err.fault (omega arith) c.in-Err.ensures
+
 pub returns-clause-reads : goal.returns-clause-reads
 returns-clause-reads c = reads_finish c.args.bytes.now c.in-Ok.draft c.finish.result (omega arith) c.in-Ok.ensures c.finish.ensures.small c.finish.ensures.made
 

@@ -1,9 +1,12 @@
-use Rattle.std.proofs.Common.{◌++◌, [], ◌∷◌, refl, sym, ap, ◌∙◌, arith}
+use Rattle.std.proofs.Common.{◌≡◌, ◌++◌, [], ◌∷◌, List, ℕ, length, refl, sym, ap, ◌∙◌, arith}
 use Rattle.std.specs.List.{position}
+use Rattle.std.specs.Global.{Vec}
 use Rattle.std.specs.Str.{bytes_eq}
 use Rattle.std.proofs.lemmas.List.{map-append}
 use Rattle.query_text.specs.Bytes.{bytes_of}
 use Rattle.query_text.proofs.ListLaws.{known_member, known_name, new_member, new_longer}
+use Rattle.query_text.specs.Query.{name_of}
+use Rattle.query_words.proofs.NamedLaws.{last_name}
 use Rattle.query_words.proofs.named.list_of.Goals as goal
 
 pub returns-in-Some-clause-names : goal.returns-in-Some-clause-names
@@ -29,3 +32,10 @@ returns-clause-names c =
     ap bytes_of c.in-Ok-push.ensures.items
     ∙ (map-append (λ x. x.items) c.args.names.now.items (c.in-Ok.name ∷ [])
     ∙ (ap (λ z. bytes_of c.args.names.now.items ++ z ∷ []) c.in-Ok.ensures.items ∙ sym e))
+
+pub returns-clause-number : goal.returns-clause-number
+returns-clause-number c = λ more.
+    let place : c.len-count.result ≡ length c.args.names.now.items = omega (arith, c.len-count.ensures, c.args.names.now.ok.0) in
+    ap (name_of (bytes_of c.push.new.self.items ++ more)) place
+    ∙ (ap (λ (names : List (Vec ℕ)). name_of (bytes_of names ++ more) (length c.args.names.now.items)) c.in-Ok-push.ensures.items
+    ∙ (last_name c.args.names.now.items c.in-Ok.name more ∙ c.in-Ok.ensures.items))
