@@ -1,11 +1,11 @@
 -- Which sources lines want, with one line more.
-use Rattle.std.proofs.Common.{◌≡◌, ◌≢◌, ℕ, ◌+◌, ◌<◌, ◌≤◌, zero, suc, Bool, false, List, [], ◌∷◌, ◌++◌, All, Contains, map, take, length, length-append, replicate, get_or, slice_get, inl, inr, None, Some, Ok, Err, refl, sym, ap, ◌∙◌, subst, length-take-le, Bor, arith}
+use Rattle.std.proofs.Common.{◌≡◌, ◌≢◌, ℕ, ◌+◌, ◌<◌, ◌≤◌, zero, suc, Bool, false, List, [], ◌∷◌, ◌++◌, All, Contains, map, take, length, length-append, replicate, get_or, slice_get, slice_set, true, inl, inr, None, Some, Ok, Err, refl, sym, ap, ◌∙◌, subst, length-take-le, Bor, arith}
 use Rattle.std.specs.List.{AllByRecursion}
 use Rattle.std.specs.Str.{bytes_eq}
-use Rattle.std.proofs.lemmas.Bool.{cases_lt, false≢true}
+use Rattle.std.proofs.lemmas.Bool.{cases_eq, cases_lt, false≢true}
 use Rattle.std.proofs.lemmas.Option.{slice_get-get_or, slice_get_within, get_or_from_slice_get, slice_get_past, same_Some}
-use Rattle.std.proofs.lemmas.List.{get_or_past, get_or_push, get_or-replicate, length-map, length-replicate, map-append, take_more}
-use Rattle.std.proofs.lemmas.List.Elements.{All-from_recursion}
+use Rattle.std.proofs.lemmas.List.{get_or-set_other, get_or-set_same, get_or_past, get_or_push, get_or-replicate, length-map, length-replicate, map-append, take_more}
+use Rattle.std.proofs.lemmas.List.Elements.{All-from_recursion, Contains-append_left, Contains-push, Contains-push_cases}
 use Rattle.std.proofs.lemmas.List.Quantifiers.{position-Some}
 use Rattle.topk_theory.proofs.AgreementLists.{get_front}
 use Rattle.query_text.specs.declared.query.Query.{Query}
@@ -160,6 +160,27 @@ places_next catalog names list name place places now found at so_far pushed =
     ∙ ap (λ o. map Some places ++ o ∷ []) (ap (place_of catalog) read ∙ at)
     ∙ sym (map-append Some places (place ∷ []))
     ∙ ap (map Some) (sym pushed)
+
+-- one place more is marked
+pub mark_more : (places : List ℕ) (i d : ℕ) (before now : List Bool) → i < length places → get_or places i d < length now
+    → MarksMore (Contains (take i places)) before now → MarksMore (Contains (take (i + 1) places)) before (slice_set now (get_or places i d) true)
+mark_more places i d before now within fits more =
+    let p : ℕ = get_or places i d in
+    let marks : List Bool = slice_set now p true in
+    let there : (q : ℕ) → q ≡ p → is_marked marks q ≡ true = λ q same. subst (λ x. is_marked marks x ≡ true) (sym same) (get_or-set_same now p true false fits) in
+    let other : (q : ℕ) → (q ≡ p → ⊥) → is_marked marks q ≡ is_marked now q = λ q apart. get_or-set_other now p q true false apart in
+    let all : MarksMore (Contains (take i places ++ p ∷ [])) before marks = record {
+      kept = λ q is. elim (cases_eq q p) [ inl same ↦ there q same | inr apart ↦ other q apart ∙ more.kept q is ];
+      marked = λ q c. elim (cases_eq q p) [
+        | inl same ↦ there q same
+        | inr apart ↦ other q apart ∙ more.marked q (elim (Contains-push_cases (take i places) p q c) [ inl old ↦ old | inr new ↦ absurd (apart (sym new)) ])
+      ];
+      others = λ q is. elim (cases_eq q p) [
+        | inl same ↦ inr (subst (Contains (take i places ++ p ∷ [])) (sym same) (Contains-push (take i places) p))
+        | inr apart ↦ elim (more.others q (sym (other q apart) ∙ is)) [ inl old ↦ inl old | inr new ↦ inr (Contains-append_left (take i places) (p ∷ []) q new) ]
+      ];
+    } in
+    subst (λ ps. MarksMore (Contains ps) before marks) (sym (take_more places i d within)) all
 
 -- the next of some lines
 pub marked_next : (catalog : List Entry) (lines : List (Bor (List ℕ))) (i : ℕ) (d : Bor (List ℕ)) (number : ℕ) (before now : List Bool) → number ≡ i

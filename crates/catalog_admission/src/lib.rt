@@ -7,8 +7,5 @@ mod wanted;
 
 pub use admissions::{Admissions, Stage, admit_all};
 pub use catalogued::Catalogued;
+pub use query_admission::Memory;
 pub use wanted::mark_wanted;
-
-/// No memory was left.
-#[derive(Clone, Copy, Debug, PartialEq, Eq)]
-pub struct Memory;

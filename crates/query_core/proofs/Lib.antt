@@ -4,3 +4,4 @@ pub mod Runs
 pub mod RunLength
 pub mod Feeding
 pub mod Answering
+mod Making

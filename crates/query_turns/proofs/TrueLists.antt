@@ -19,7 +19,7 @@ use Rattle.topk_theory.proofs.ConsistentRows.{ranked_capped, ranked_parts_below,
 use Rattle.source_log.specs.declared.ask.Ask.{Ask as Asking}
 use Rattle.source_log.specs.declared.entry.LogEntry.TheVariants as entry
 use Rattle.source_log.specs.declared.entry.Settling.{Settling}
-use Rattle.source_log.specs.declared.entry.Settling.TheVariants.{Graded, Bad, Missed}
+use Rattle.source_log.specs.declared.entry.Settling.TheVariants.{Graded, Bad}
 use Rattle.source_log.specs.declared.entry.SourceFault.{SourceFault}
 use Rattle.source_log.specs.declared.entry.SourceFault.TheVariants.{Clash, Above}
 use Rattle.source_log.specs.declared.entry.Asked.TheVariants as became

@@ -6,9 +6,6 @@
 mod ended;
 mod inquiry;
 
+pub use access_log::Memory;
 pub use ended::{Ended, Endings, Refusal};
 pub use inquiry::{Inquiry, let_go, list_needed, turn};
-
-/// No memory was left.
-#[derive(Clone, Copy, Debug, PartialEq, Eq)]
-pub struct Memory;

@@ -5,14 +5,5 @@ mod drive;
 mod told;
 
 pub use drive::answer_over;
+pub use object_map::Memory;
 pub use told::ToldList;
-
-/// No memory was left.
-#[derive(Clone, Copy, Debug)]
-pub struct Memory;
-
-impl From<object_map::Memory> for Memory {
-    fn from(_: object_map::Memory) -> Memory {
-        Memory
-    }
-}

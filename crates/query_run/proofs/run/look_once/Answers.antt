@@ -1,6 +1,20 @@
-use Rattle.std.proofs.Common.{sym, ◌∙◌}
-use Rattle.query_run.proofs.Steps.{at_need, looked_may, looks_once}
+use Rattle.std.proofs.Common.{ℕ, sym, ap, subst, ◌∙◌}
+use Rattle.ranked_list.specs.declared.need.Need.{Need}
+use Rattle.source_pass.specs.Looks.{MayLookFor}
+use Rattle.source_locks.specs.Passes.{hold_at}
+use Rattle.query_turns.specs.Inquiries.{list_needed}
+use Rattle.query_run.proofs.Steps.{place_of, source_read, at_need, looked_may, looks_once}
 use Rattle.query_run.proofs.run.look_once.Goals as goal
+
+pub look-look-requires-clause-need : goal.look-look-requires-clause-need
+look-look-requires-clause-need g c =
+    let place = place_of c.args.pass.now c.args.query.now c.requires.reading c.requires.going in
+    let at = source_read c.args.pass.now c.args.query.now c.need-need.result c.from.result c.index-source.result.now place
+    c.need-need.ensures.need (c.from.ensures ∙ c.list_needed-list.ensures) c.index-source.ensures in
+    subst (λ (z : ℕ × Need). MayLookFor (hold_at c.args.pass.now z.0).pass.1 z.1) (λ i. (sym at i, sym c.need-need.ensures.need i)) place.may
+
+pub answer-requires-clause-list : goal.answer-requires-clause-list
+answer-requires-clause-list g c = c.list_needed-list.ensures ∙ ap list_needed c.need-need.ensures.need
 
 pub answer-requires-clause-may : goal.answer-requires-clause-may
 answer-requires-clause-may g c =
