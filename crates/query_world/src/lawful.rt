@@ -74,5 +74,10 @@ pub(crate) fn may_take(states: &[SourceState], queries: &[Inquiry], step: &Step)
 pub(crate) fn are_ended(queries: &[Inquiry]) -> bool
     ensures { IsTestOf result (All (λ query. is_ended query ≡ true) queries.now) }
 {
-    queries.iter().all(|query| query.is_ended())
+    for place in 0..queries.len() {
+        if !queries[place].is_ended() {
+            return false;
+        }
+    }
+    true
 }

@@ -1,6 +1,6 @@
 //! Worlds.
 
-ghost use Rattle.std.specs.Prelude.{◌≡◌, ◌<◌, ◌≤◌, ◌^◌, ◌∷◌, [], ◌++◌, true, List, All, length, IfOk, OnOk};
+ghost use Rattle.std.specs.Prelude.{◌≡◌, ◌<◌, ◌≤◌, ◌^◌, [], true, List, All, length, IfOk, OnOk};
 ghost use Rattle.std.specs.List.{AllZip};
 ghost use Rattle.ranked_list.specs.declared.row.Row.{Row};
 ghost use Rattle.source_state.specs.State.{state_at};
@@ -30,11 +30,10 @@ use std::marker::Model;
 pub struct World {
     states: Vec<SourceState>,
     queries: Vec<Inquiry>,
-    endings: Vec<Ended>,
 }
 
 impl Model for World {
-    ghost use Rattle.std.specs.Prelude.{◌≡◌, ◌<◌, ◌^◌, [], vec_len};
+    ghost use Rattle.std.specs.Prelude.{◌<◌, ◌^◌, vec_len};
     ghost use Rattle.query_world.specs.Worlds.{WorldState, world_of};
     ghost use Rattle.query_world.specs.Kept.{IsWorld};
     ghost use Rattle.std.specs.Coded.{codes};
@@ -47,23 +46,10 @@ impl Model for World {
     ghost view = { λ a. world_of a.states.items a.queries.items };
 
     ghost invariant = { λ a. IsWorld (world_of a.states.items a.queries.items)
-        × (vec_len a.states < 2 ^ 32) × (vec_len a.queries < 2 ^ 32) × (a.endings.items ≡ []) };
+        × (vec_len a.states < 2 ^ 32) × (vec_len a.queries < 2 ^ 32) };
 }
 
-/// Adds a value at the end. Where memory is refused, the value is dropped.
-fn push<T: Drop>(values: &mut Vec<T>, value: T) -> Result<(), Memory>
-    ensures { OnOk result (values.new.items ≡ values.old.items ++ value ∷ []) }
-{
-    match values.push(value) {
-        Ok(()) => Ok(()),
-        Err(refused) => {
-            drop(refused);
-            Err(Memory)
-        }
-    }
-}
-
-/// Opens the sources with these counts, before any event.
+/// Opens the sources with these counts, before any event. Room for each is taken before it is opened.
 fn open_all(alloc: Global, counts: &[u32], states: &mut Vec<SourceState>) -> Result<(), Memory>
     requires none { states.old.items ≡ [] }
     requires few { length counts.now < 2 ^ 32 }
@@ -71,10 +57,13 @@ fn open_all(alloc: Global, counts: &[u32], states: &mut Vec<SourceState>) -> Res
     ensures { OnOk result (states.new.items ≡ opened_from 0 counts.now) }
 {
     for place in 0..counts.len() {
+        let Ok(()) = states.reserve(1) else {
+            return Err(Memory);
+        };
         let Ok(state) = SourceState::open(alloc, place as u32, counts[place]) else {
             return Err(Memory);
         };
-        push(states, state)?;
+        states.push_reserved(state);
     }
     Ok(())
 }
@@ -95,30 +84,24 @@ fn make_all(alloc: Global, readies: &[Ready], queries: &mut Vec<Inquiry>) -> Res
     Ok(())
 }
 
-/// Opens the sources, makes the queries, and takes room for how these end.
+/// Opens the sources and makes the queries.
 fn fill(
     alloc: Global,
     counts: &[u32],
     readies: &[Ready],
     states: &mut Vec<SourceState>,
     queries: &mut Vec<Inquiry>,
-    endings: &mut Vec<Ended>,
 ) -> Result<(), Memory>
     requires sources { length counts.now < 2 ^ 32 }
     requires counts { All (λ count. count ≤ MAX_OBJECTS) counts.now }
     requires ready { All (IsReadyFor counts.now) readies.now }
     requires no_states { states.old.items ≡ [] }
     requires no_queries { queries.old.items ≡ [] }
-    requires no_endings { endings.old.items ≡ [] }
-    ensures made { OnOk result (IsMade counts.now readies.now (world_of states.new.items queries.new.items)) }
-    ensures empty { endings.new.items ≡ [] }
+    ensures { OnOk result (IsMade counts.now readies.now (world_of states.new.items queries.new.items)) }
 {
     open_all(alloc, counts, states)?;
     make_all(alloc, readies, queries)?;
-    match endings.reserve(readies.len()) {
-        Ok(()) => Ok(()),
-        Err(_) => Err(Memory),
-    }
+    Ok(())
 }
 
 /// An event comes to a source.
@@ -148,16 +131,19 @@ fn take(states: &mut Vec<SourceState>, queries: &mut Vec<Inquiry>, step: Step)
     }
 }
 
-/// How queries end, in their order. They are taken out.
+/// How queries end, in their order. They are taken out. Room for the endings is taken first.
 fn end_all(queries: &mut Vec<Inquiry>, endings: &mut Vec<Ended>) -> Result<(), Memory>
     requires none { endings.old.items ≡ [] }
     requires ended { All (λ query. is_ended query ≡ true) queries.old.items }
     ensures { OnOk result (AllZip EndsAs queries.old.items endings.new.items) }
 {
     queries.reverse();
+    let Ok(()) = endings.reserve(queries.len()) else {
+        return Err(Memory);
+    };
     while let Some(query) = queries.pop() {
         let ended = query.end()?;
-        push(endings, ended)?;
+        endings.push_reserved(ended);
     }
     Ok(())
 }
@@ -176,24 +162,14 @@ impl World {
     {
         let mut states = Vec::new(alloc);
         let mut inquiries = Vec::new(alloc);
-        let mut endings = Vec::new(alloc);
-        let Ok(()) = fill(
-            alloc,
-            counts,
-            queries,
-            &mut states,
-            &mut inquiries,
-            &mut endings,
-        ) else {
+        let Ok(()) = fill(alloc, counts, queries, &mut states, &mut inquiries) else {
             drop(states);
             let_go(inquiries);
-            drop(endings);
             return Err(Memory);
         };
         Ok(World {
             states,
             queries: inquiries,
-            endings,
         })
     }
 
@@ -250,14 +226,9 @@ impl World {
 
     /// Lets the world go, before its queries have ended or after.
     pub fn close(self) {
-        let World {
-            states,
-            queries,
-            endings,
-        } = self;
+        let World { states, queries } = self;
         drop(states);
         let_go(queries);
-        drop(endings);
     }
 
     /// How the queries ended, in their order, once all have.
@@ -271,9 +242,9 @@ impl World {
         let World {
             states,
             mut queries,
-            mut endings,
         } = self;
         drop(states);
+        let mut endings = Vec::new(*queries.allocator());
         let Ok(()) = end_all(&mut queries, &mut endings) else {
             let_go(queries);
             drop(endings);

@@ -12,8 +12,9 @@ pub loop-place-preserved : goal.loop-place-preserved
 loop-place-preserved c =
     let count = slice_index_or c.args.counts.now c.loop-place.place 0 in
     let long = opened_so_far c.loop-place.states.items c.args.counts.now c.loop-place.place c.loop-place.auto.place-end c.loop-place.invariant in
-    opened_more c.loop-place.states.items c.push.new.values.items c.args.counts.now c.loop-place.place count c.loop-place-test.true refl c.loop-place.invariant
-    (c.in_ok-push.ensures ∙ ap (λ s. c.loop-place.states.items ++ s ∷ []) (c.in-Ok.ensures ∙ ap (λ number. opened number count) (sym long)))
+    let added = c.push_reserved.ensures.items ∙ ap (λ ss. ss ++ c.in-Ok-open.state ∷ []) c.reserve.ensures.items in
+    opened_more c.loop-place.states.items c.push_reserved.new.self.items c.args.counts.now c.loop-place.place count c.loop-place-test.true refl c.loop-place.invariant
+    (added ∙ ap (λ s. c.loop-place.states.items ++ s ∷ []) (c.in-Ok-open.ensures ∙ ap (λ number. opened number count) (sym long)))
 
 pub returns : goal.returns
 returns c = c.loop-place.invariant ∙ ap (opened_from 0) (take_whole c.args.counts.now c.loop-place.place c.loop-place-test.false)

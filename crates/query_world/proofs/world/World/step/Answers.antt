@@ -23,7 +23,7 @@ step c = stepped c.args.step (before c) (later c) c.self.invariant.0 (may c) c.t
 pub invariant_of-self : goal.invariant_of-self
 invariant_of-self c =
     let h = step c in
-    (h.world, omega (arith, h.later.sources, c.self.invariant.1, c.self.inside.states.ok.0, c.take.new.states.ok.0), omega (arith, h.later.queries, c.self.invariant.2, c.self.inside.queries.ok.0, c.take.new.queries.ok.0), c.self.invariant.3)
+    (h.world, omega (arith, h.later.sources, c.self.invariant.1, c.self.inside.states.ok.0, c.take.new.states.ok.0), omega (arith, h.later.queries, c.self.invariant.2, c.self.inside.queries.ok.0, c.take.new.queries.ok.0))
 
 pub returns-clause-world : goal.returns-clause-world
 returns-clause-world c = (step c).world
