@@ -1,5 +1,7 @@
-//! Tests of answers that are written as certificates.
+//! Tests of what is written of a query line: the certificate of an answer, and each refusal as its line.
 #![tactic(auto)]
 
 #[cfg(test)]
-mod tests;
+mod answers;
+#[cfg(test)]
+mod refusals;

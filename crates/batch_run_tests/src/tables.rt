@@ -2,9 +2,8 @@
 
 use access_log::CoreFault;
 use batch_run::Settings;
-use batch_support::{A, B, Case, PLAIN, Used, first_wrong};
+use batch_support::{A, B, Case, PLAIN, Used};
 use query_support::{Asked, Expected, FIRST, FIRST_ENDS, Figures, SORTED, SORTED_ENDS};
-use std::test::*;
 
 /// Two rows of each list, the grades of both other objects of the first, and of one of the second.
 const FIRST_USES: &[Used] = &[(2, 2, 2, 2), (2, 1, 2, 1)];
@@ -40,7 +39,8 @@ const COMBINED_ENDS: Expected = Expected::Answered(
     },
 );
 
-const CASES: [Case; 5] = [
+/// Batches over lists that are a table.
+pub static CASES: [Case; 5] = [
     // what three queries need is read of the sources once
     Case {
         held: &[A, B],
@@ -103,9 +103,3 @@ const CASES: [Case; 5] = [
         used: &[(0, 0, 0, 0), (0, 0, 0, 0)],
     },
 ];
-
-#[test]
-fn answers_over_a_table(rt: HostRuntime) -> Result<(), Fail> {
-    assert_eq!(rt; first_wrong(&rt, rt.alloc(), &CASES)?, None);
-    Ok(())
-}

@@ -1,16 +1,17 @@
 //! Batches as plain data, and whether they go as they are to.
 
-use super::runs::{are_ended_so, run_of, slots_of};
-use batch_run::{Batch, Settings};
+ghost use Rattle.std.specs.Prelude.{◌≡◌, None, All};
+
+use super::runs::{Used, add_slots, run_ends_so};
+use batch_run::Settings;
+use fetcher::Slot;
+use mem_source::MemSource;
 use query_support::{Asked, Expected};
 use source_support::{Held, Kind};
 use std::alloc::Global;
 use std::sync::Wait;
 use std::test::Fail;
 use std::thread::Threads;
-
-/// What is used of a source: the rows and the grades that it gave, the greatest depth that was wanted, and how many objects were asked for.
-pub type Used = (u32, u32, u32, u32);
 
 /// A batch: sources, how many objects each is to have, queries, settings, how the queries end, and what is used of the first sources.
 #[derive(Clone, Copy)]
@@ -48,38 +49,35 @@ pub const PLAIN: Settings = Settings {
     ahead: 0,
 };
 
-/// Whether the uses of the first sources are these.
-fn are_used_so(batch: &Batch, expected: &[Used]) -> bool {
-    for (source, used) in expected.iter().enumerate() {
-        if source > 100 {
-            return false;
-        }
-        match batch.used(source as u32) {
-            Some(one) if (one.rows, one.grades, one.want, one.asks) == *used => {}
-            _ => return false,
-        }
-    }
-    true
+/// Whether a batch goes so over its sources, for which the slots are added.
+fn go_so<R: Threads + Wait + Sync>(
+    rt: &R,
+    alloc: Global,
+    slots: &mut Vec<Slot<MemSource>>,
+    case: &Case,
+) -> Result<bool, Fail>
+    requires { All (λ slot. slot.feeder ≡ None) slots.old.items }
+{
+    add_slots(alloc, case.held, slots)?;
+    let expected = (case.ends, case.used);
+    let so = run_ends_so(
+        rt,
+        alloc,
+        slots,
+        case.counts,
+        case.asked,
+        case.settings,
+        expected,
+    )?;
+    Ok(so == Some(true))
 }
 
 /// Whether a batch goes as it is to.
 fn goes_so<R: Threads + Wait + Sync>(rt: &R, alloc: Global, case: &Case) -> Result<bool, Fail> {
-    let mut slots = slots_of(alloc, case.held)?;
-    let ran = run_of(
-        rt,
-        alloc,
-        &mut slots,
-        case.counts,
-        case.asked,
-        case.settings,
-    );
+    let mut slots = Vec::new(alloc);
+    let so = go_so(rt, alloc, &mut slots, case);
     drop(slots);
-    let Ok(batch) = ran? else {
-        return Ok(false);
-    };
-    let goes = are_ended_so(&batch, case.ends) && are_used_so(&batch, case.used);
-    drop(batch);
-    Ok(goes)
+    so
 }
 
 /// The place of the first batch that goes otherwise.

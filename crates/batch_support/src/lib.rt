@@ -4,5 +4,5 @@
 mod cases;
 mod runs;
 
-pub use cases::{A, B, Case, PLAIN, ROWS_A, ROWS_B, Used, first_wrong};
-pub use runs::{are_ended_so, run_of, slots_of};
+pub use cases::{A, B, Case, PLAIN, ROWS_A, ROWS_B, first_wrong};
+pub use runs::{Used, run_ends_so};

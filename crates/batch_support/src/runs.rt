@@ -1,12 +1,12 @@
 //! One run of a batch over slots of sources, and what it came to.
 
-ghost use Rattle.std.specs.Prelude.{◌≡◌, true, None, All, IfOk, OnOk};
+ghost use Rattle.std.specs.Prelude.{◌≡◌, true, None, All, OnOk};
 ghost use Rattle.batch_result.specs.Ranges.{AreSettings};
 
 use batch_run::{Batch, Memory, Settings, run_all};
 use fetcher::Slot;
 use mem_source::MemSource;
-use query_support::{Asked, Expected, are_small, is_ended_so, readies_of};
+use query_support::{Asked, Expected, are_small, is_ended_so, let_go, readies_of};
 use source_api::Source;
 use source_support::{Held, source_of};
 use std::alloc::Global;
@@ -14,30 +14,40 @@ use std::sync::Wait;
 use std::test::Fail;
 use std::thread::Threads;
 
+/// What is used of a source: the rows and the grades that it gave, the greatest depth that was wanted, and how many objects were asked for.
+pub type Used = (u32, u32, u32, u32);
+
 /// Adds a slot of a source.
 fn add_slot(slots: &mut Vec<Slot<MemSource>>, source: MemSource) -> Result<(), Fail>
     requires { All (λ slot. slot.feeder ≡ None) slots.old.items }
     ensures { OnOk result (All (λ slot. slot.feeder ≡ None) slots.new.items) }
 {
     let slot = Slot::make(source);
-    let Ok(()) = slots.push(slot) else {
-        return Err("memory".into());
-    };
-    Ok(())
+    match slots.push(slot) {
+        Ok(()) => Ok(()),
+        Err(refused) => {
+            drop(refused);
+            Err("memory".into())
+        }
+    }
 }
 
-/// A slot of each source.
-pub fn slots_of(alloc: Global, held: &[Held]) -> Result<Vec<Slot<MemSource>>, Fail>
-    ensures { IfOk result (λ slots. All (λ slot. slot.feeder ≡ None) slots.items) }
+/// Adds a slot of each source.
+pub(crate) fn add_slots(
+    alloc: Global,
+    held: &[Held],
+    slots: &mut Vec<Slot<MemSource>>,
+) -> Result<(), Fail>
+    requires { All (λ slot. slot.feeder ≡ None) slots.old.items }
+    ensures { OnOk result (All (λ slot. slot.feeder ≡ None) slots.new.items) }
 {
-    let mut slots = Vec::new(alloc);
     for one in held {
         let Some(source) = source_of(alloc, one) else {
             return Err("memory".into());
         };
-        add_slot(&mut slots, source)?;
+        add_slot(slots, source)?;
     }
-    Ok(slots)
+    Ok(())
 }
 
 /// Whether the settings are within their limits.
@@ -52,7 +62,7 @@ fn are_within(settings: Settings) -> bool
 }
 
 /// Runs queries over sources that have so many objects each.
-pub fn run_of<R: Threads + Wait + Sync, S: Source>(
+fn run_of<R: Threads + Wait + Sync, S: Source>(
     rt: &R,
     alloc: Global,
     slots: &mut [Slot<S>],
@@ -70,16 +80,16 @@ pub fn run_of<R: Threads + Wait + Sync, S: Source>(
         || counts.len() != slots.len()
         || readies.len() > 100
     {
-        drop(readies);
+        let_go(readies);
         return Err("a few small sources".into());
     }
     let batch = run_all(rt, alloc, slots, counts, &readies, settings);
-    drop(readies);
+    let_go(readies);
     Ok(batch)
 }
 
 /// Whether the queries ended so, in their order.
-pub fn are_ended_so(batch: &Batch, expected: &[Expected]) -> bool {
+fn are_ended_so(batch: &Batch, expected: &[Expected]) -> bool {
     if batch.len() as usize != expected.len() {
         return false;
     }
@@ -93,4 +103,42 @@ pub fn are_ended_so(batch: &Batch, expected: &[Expected]) -> bool {
         }
     }
     true
+}
+
+/// Whether the uses of the first sources are these.
+fn are_used_so(batch: &Batch, expected: &[Used]) -> bool {
+    for (source, used) in expected.iter().enumerate() {
+        if source > 100 {
+            return false;
+        }
+        match batch.used(source as u32) {
+            Some(one) if (one.rows, one.grades, one.want, one.asks) == *used => {}
+            _ => return false,
+        }
+    }
+    true
+}
+
+/// Whether queries that run over sources end so, and so much is used of the first sources. None where there is no batch for want of
+/// memory.
+pub fn run_ends_so<R: Threads + Wait + Sync, S: Source>(
+    rt: &R,
+    alloc: Global,
+    slots: &mut [Slot<S>],
+    counts: &[u32],
+    asked: &[Asked],
+    settings: Settings,
+    expected: (&[Expected], &[Used]),
+) -> Result<Option<bool>, Fail>
+    requires { All (λ slot. slot.feeder ≡ None) slots.old }
+    ensures { All (λ slot. slot.feeder ≡ None) slots.new }
+{
+    let ran = run_of(rt, alloc, slots, counts, asked, settings)?;
+    let Ok(batch) = ran else {
+        return Ok(None);
+    };
+    let (ends, used) = expected;
+    let so = are_ended_so(&batch, ends) && are_used_so(&batch, used);
+    drop(batch);
+    Ok(Some(so))
 }

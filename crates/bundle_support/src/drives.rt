@@ -3,41 +3,40 @@
 use bundle_calls::{judge, one};
 use call_ends::Status;
 use std::alloc::Global;
-use test_support::Unmade;
 use tk_io::{MemIntake, MemSink, Sink};
 
 /// The bytes of each piece in which the input is given.
 const PIECE: u32 = 50;
 
-/// How `one` ends on this input, of which these calls fail, into a stream.
+/// How `one` ends on this input, of which these calls fail, into a stream. None where there is no memory for the input.
 pub fn one_into<K: Sink>(
     alloc: Global,
     input: &[u8],
     failing: &[u64],
     out: &mut K,
-) -> Result<Status, Unmade> {
-    let mut input = MemIntake::make(alloc, input, PIECE, failing)?;
+) -> Option<Status> {
+    let mut input = MemIntake::make(alloc, input, PIECE, failing).ok()?;
     let status = one(alloc, &mut input, out);
     drop(input);
-    Ok(status)
+    Some(status)
 }
 
-/// How `judge` ends on this input, into a stream.
-pub fn judge_into<K: Sink>(alloc: Global, input: &[u8], out: &mut K) -> Result<Status, Unmade> {
-    let mut input = MemIntake::make(alloc, input, PIECE, &[])?;
+/// How `judge` ends on this input, into a stream. None where there is no memory for the input.
+pub fn judge_into<K: Sink>(alloc: Global, input: &[u8], out: &mut K) -> Option<Status> {
+    let mut input = MemIntake::make(alloc, input, PIECE, &[]).ok()?;
     let status = judge(alloc, &mut input, out);
     drop(input);
-    Ok(status)
+    Some(status)
 }
 
-/// How `one` ends on this input, and what it writes. There is room for so many bytes.
-pub fn one_of(alloc: Global, input: &[u8], room: u32) -> Result<(Status, MemSink), Unmade> {
-    let mut out = MemSink::make(alloc, room, &[])?;
+/// How `one` ends on this input, and what it writes. There is room for so many bytes. None where there is no memory.
+pub fn one_of(alloc: Global, input: &[u8], room: u32) -> Option<(Status, MemSink)> {
+    let mut out = MemSink::make(alloc, room, &[]).ok()?;
     match one_into(alloc, input, &[], &mut out) {
-        Ok(status) => Ok((status, out)),
-        Err(unmade) => {
+        Some(status) => Some((status, out)),
+        None => {
             drop(out);
-            Err(unmade)
+            None
         }
     }
 }

@@ -4,7 +4,6 @@ use super::drives::{judge_into, one_into};
 use bundle_calls::make;
 use call_ends::Status;
 use std::alloc::Global;
-use test_support::Unmade;
 use tk_io::MemSink;
 
 /// The most bytes that are written where no other number is told.
@@ -20,20 +19,18 @@ pub struct Streams<'a> {
 }
 
 /// Whether `one` ends so over these streams, and writes these bytes.
-pub fn one_ends_over(
-    alloc: Global,
-    streams: &Streams<'_>,
-    expected: (Status, &[u8]),
-) -> Result<bool, Unmade> {
-    let mut out = MemSink::make(alloc, streams.room, streams.failing_writes)?;
+pub fn one_ends_over(alloc: Global, streams: &Streams<'_>, expected: (Status, &[u8])) -> bool {
+    let Ok(mut out) = MemSink::make(alloc, streams.room, streams.failing_writes) else {
+        return false;
+    };
     let status = one_into(alloc, streams.input, streams.failing_reads, &mut out);
     let is_written = out.taken() == expected.1;
     drop(out);
-    Ok(status? == expected.0 && is_written)
+    status == Some(expected.0) && is_written
 }
 
 /// Whether `one` ends so on this input, and writes this text.
-pub fn one_ends(alloc: Global, input: &[u8], expected: (Status, &str)) -> Result<bool, Unmade> {
+pub fn one_ends(alloc: Global, input: &[u8], expected: (Status, &str)) -> bool {
     let streams = Streams {
         input,
         failing_reads: &[],
@@ -44,12 +41,14 @@ pub fn one_ends(alloc: Global, input: &[u8], expected: (Status, &str)) -> Result
 }
 
 /// Whether `judge` ends so on this input, and writes this text.
-pub fn judge_ends(alloc: Global, input: &[u8], expected: (Status, &str)) -> Result<bool, Unmade> {
-    let mut out = MemSink::make(alloc, ROOM, &[])?;
+pub fn judge_ends(alloc: Global, input: &[u8], expected: (Status, &str)) -> bool {
+    let Ok(mut out) = MemSink::make(alloc, ROOM, &[]) else {
+        return false;
+    };
     let status = judge_into(alloc, input, &mut out);
     let is_written = out.taken() == expected.1.as_bytes();
     drop(out);
-    Ok(status? == expected.0 && is_written)
+    status == Some(expected.0) && is_written
 }
 
 /// Whether `make` ends so for the table of so many lists over `count` objects that is made from `start`, where these calls can't write, and
@@ -61,10 +60,12 @@ pub fn make_ends(
     lists: u8,
     fails: &[u64],
     expected: (Status, &str),
-) -> Result<bool, Unmade> {
-    let mut out = MemSink::make(alloc, ROOM, fails)?;
+) -> bool {
+    let Ok(mut out) = MemSink::make(alloc, ROOM, fails) else {
+        return false;
+    };
     let status = make(alloc, start, count, lists, &mut out);
     let is_written = out.taken() == expected.1.as_bytes();
     drop(out);
-    Ok(status == expected.0 && is_written)
+    status == expected.0 && is_written
 }

@@ -69,11 +69,6 @@ const BY_THRESHOLD: [Answer; 11] = [
     ),
 ];
 
-#[test]
-fn answers_queries(rt: HostRuntime) {
-    none_is_wrong(&rt, first_wrong(rt.alloc(), &BY_THRESHOLD));
-}
-
 /// By sorted access alone.
 const BY_SORTED: [Answer; 3] = [
     (
@@ -94,6 +89,7 @@ const BY_SORTED: [Answer; 3] = [
 ];
 
 #[test]
-fn answers_without_random_access(rt: HostRuntime) {
+fn answers_queries(rt: HostRuntime) {
+    none_is_wrong(&rt, first_wrong(rt.alloc(), &BY_THRESHOLD));
     none_is_wrong(&rt, first_wrong(rt.alloc(), &BY_SORTED));
 }

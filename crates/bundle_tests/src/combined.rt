@@ -58,11 +58,6 @@ const CHOSEN: [Answer; 6] = [
     ),
 ];
 
-#[test]
-fn chooses_an_object(rt: HostRuntime) {
-    none_is_wrong(&rt, first_wrong(rt.alloc(), &CHOSEN));
-}
-
 /// All objects asked for, the finish, and one list.
 const FINISHED: [Answer; 4] = [
     // as many as there are: all is quiet once all are seen
@@ -92,6 +87,7 @@ const FINISHED: [Answer; 4] = [
 ];
 
 #[test]
-fn finishes_an_answer(rt: HostRuntime) {
+fn chooses_objects_and_finishes_answers(rt: HostRuntime) {
+    none_is_wrong(&rt, first_wrong(rt.alloc(), &CHOSEN));
     none_is_wrong(&rt, first_wrong(rt.alloc(), &FINISHED));
 }

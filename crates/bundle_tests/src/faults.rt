@@ -3,7 +3,7 @@
 use super::none_is_wrong;
 use bundle_support::{Status, Streams, one_ends_over, one_into};
 use std::alloc::Global;
-use test_support::{FIRST_TEXT, Unmade};
+use test_support::FIRST_TEXT;
 use tk_io::{Failed, MemSink, Sink};
 
 /// The bundle of the first example.
@@ -15,14 +15,9 @@ const LENGTH: usize = 186;
 
 /// Whether `one` ends so where these calls of the input fail and there is room for so many bytes, and
 /// writes the first bytes of the certificate, so many.
-fn ends_so(
-    alloc: Global,
-    failing: &[u64],
-    room: u32,
-    expected: (Status, usize),
-) -> Result<bool, Unmade> {
+fn ends_so(alloc: Global, failing: &[u64], room: u32, expected: (Status, usize)) -> bool {
     let Some(front) = FIRST_TEXT.as_bytes().get(..expected.1) else {
-        return Ok(false);
+        return false;
     };
     let streams = Streams {
         input: BUNDLE,
@@ -34,37 +29,27 @@ fn ends_so(
 }
 
 /// The first call of the input that may fail without a fault of reading, or after which something is written.
-fn first_unread(alloc: Global) -> Result<Option<usize>, Unmade> {
+fn first_unread(alloc: Global) -> Option<usize> {
     for call in 1..4 {
-        if !ends_so(alloc, &[call as u64], 200, (Status::ReadFault, 0))? {
-            return Ok(Some(call));
+        if !ends_so(alloc, &[call as u64], 200, (Status::ReadFault, 0)) {
+            return Some(call);
         }
     }
-    Ok(None)
-}
-
-#[test]
-fn ends_where_nothing_is_read(rt: HostRuntime) {
-    none_is_wrong(&rt, first_unread(rt.alloc()));
+    None
 }
 
 /// Rooms that are less than the certificate.
 const ROOMS: [u32; 5] = [0, 1, 13, 14, 185];
 
 /// The number of the first room that isn't filled, or doesn't end in a fault of writing.
-fn first_unfilled(alloc: Global, rooms: &[u32]) -> Result<Option<usize>, Unmade> {
+fn first_unfilled(alloc: Global, rooms: &[u32]) -> Option<usize> {
     for (number, room) in rooms.iter().enumerate() {
         let expected = (Status::WriteFault, *room as usize);
-        if !ends_so(alloc, &[], *room, expected)? {
-            return Ok(Some(number));
+        if !ends_so(alloc, &[], *room, expected) {
+            return Some(number);
         }
     }
-    Ok(None)
-}
-
-#[test]
-fn ends_where_the_room_does(rt: HostRuntime) {
-    none_is_wrong(&rt, first_unfilled(rt.alloc(), &ROOMS));
+    None
 }
 
 /// A sink that takes one byte in each call.
@@ -90,8 +75,11 @@ impl Sink for ByteSink {
 
 /// Whether `one` ends in a fault of writing where the call behind so many bytes fails, and writes these; or in none, where
 /// these are all.
-fn ends_behind(alloc: Global, written: usize) -> Result<bool, Unmade> {
-    let sink = MemSink::make(alloc, 186, &[(written as u64).saturating_add(1)])?;
+fn ends_behind(alloc: Global, written: usize) -> bool {
+    let failing = [(written as u64).saturating_add(1)];
+    let Ok(sink) = MemSink::make(alloc, 186, &failing) else {
+        return false;
+    };
     let mut out = ByteSink { sink };
     let status = one_into(alloc, BUNDLE, &[], &mut out);
     let taken = out.sink.taken();
@@ -102,20 +90,23 @@ fn ends_behind(alloc: Global, written: usize) -> Result<bool, Unmade> {
     } else {
         Status::WriteFault
     };
-    Ok(status? == expected && is_front)
+    status == Some(expected) && is_front
 }
 
 /// The first number of bytes behind which the failing call ends otherwise.
-fn first_behind(alloc: Global) -> Result<Option<usize>, Unmade> {
+fn first_behind(alloc: Global) -> Option<usize> {
     for written in 0..LENGTH + 1 {
-        if !ends_behind(alloc, written)? {
-            return Ok(Some(written));
+        if !ends_behind(alloc, written) {
+            return Some(written);
         }
     }
-    Ok(None)
+    None
 }
 
+/// Where nothing is read, where the room ends, and at each failing write.
 #[test]
-fn ends_at_each_failing_write(rt: HostRuntime) {
+fn ends_at_each_fault(rt: HostRuntime) {
+    none_is_wrong(&rt, first_unread(rt.alloc()));
+    none_is_wrong(&rt, first_unfilled(rt.alloc(), &ROOMS));
     none_is_wrong(&rt, first_behind(rt.alloc()));
 }

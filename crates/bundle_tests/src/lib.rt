@@ -1,4 +1,4 @@
-//! Tests of the commands `one` and `make`: rows from outside, and each fault of the streams in turn.
+//! Tests of the commands `one`, `make` and `judge`: rows from outside, and each fault of the streams in turn.
 #![tactic(auto)]
 
 #[cfg(test)]
@@ -11,14 +11,14 @@ mod faults;
 mod make;
 #[cfg(test)]
 mod refusals;
+#[cfg(test)]
+mod verdicts;
 
 #[cfg(test)]
 use std::process::Abort;
-#[cfg(test)]
-use test_support::Unmade;
 
 /// Every row of a table is as it says: there is no first one that isn't.
 #[cfg(test)]
-fn none_is_wrong(rt: &impl Abort, first_wrong: Result<Option<usize>, Unmade>) {
-    assert_eq!(rt; first_wrong, Ok(None));
+fn none_is_wrong(rt: &impl Abort, first_wrong: Option<usize>) {
+    assert_eq!(rt; first_wrong, None);
 }

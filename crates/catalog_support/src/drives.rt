@@ -4,7 +4,7 @@ ghost use Rattle.std.specs.Prelude.{All, IfSome};
 ghost use Rattle.catalog_run.specs.Runs.{CanBeWritten};
 ghost use Rattle.batch_result.specs.Ranges.{AreSettings};
 
-use catalog_run::{LineOutcome, Settings, run_lines};
+use catalog_run::{LineOutcome, Settings, let_go, run_lines};
 use catalog_text::{Catalog, read_catalog};
 use cert_text::put_outcome;
 use mem_source::MemShelf;
@@ -97,6 +97,6 @@ pub fn run_into<W: Threads + Wait + Sync>(
 {
     let outcomes = outcomes_of(rt, alloc, shelf, catalog, lines, settings)?;
     let wrote = write_all(out, &outcomes);
-    drop(outcomes);
+    let_go(outcomes);
     wrote
 }

@@ -1,24 +1,25 @@
 //! Texts that are read: the first example, and texts with the line at fault.
 
+use super::none_is_wrong;
 use access_log::Items;
 use cert_reader::{CertFault, read_certificate};
 use cert_text::{Accesses, Certificate};
 use query_text::{Query, print};
 use std::alloc::Global;
-use std::process::Abort;
-use std::test::Fail;
 use test_support::{FIRST_ACCESSES, FIRST_ITEM, FIRST_QUERY, FIRST_TEXT};
 
 /// Whether a query has this text.
-fn is_printed(alloc: Global, query: &Query, expected: &[u8]) -> Result<bool, Fail> {
-    let text = print(alloc, query)?;
+fn is_printed(alloc: Global, query: &Query, expected: &[u8]) -> bool {
+    let Ok(text) = print(alloc, query) else {
+        return false;
+    };
     let is_so = text.as_slice() == expected;
     drop(text);
-    Ok(is_so)
+    is_so
 }
 
-/// Compares the numbers of a certificate with those of the first example.
-fn has_numbers(rt: &impl Abort, certificate: &Certificate) {
+/// Whether the numbers of a certificate are those of the first example.
+fn has_numbers(certificate: &Certificate) -> bool {
     let figures = [
         certificate.line,
         u64::from(certificate.count),
@@ -27,7 +28,7 @@ fn has_numbers(rt: &impl Abort, certificate: &Certificate) {
         certificate.random,
         certificate.cost,
     ];
-    assert_eq!(rt; figures, [1, 3, 2, 4, 3, 7]);
+    figures == [1, 3, 2, 4, 3, 7]
 }
 
 /// Whether an answer is that of the first example.
@@ -46,11 +47,10 @@ fn has_accesses(made: Accesses) -> bool {
     are_so
 }
 
-/// A text is read as the certificate of the first example.
-fn is_first_example(rt: &impl Abort, alloc: Global, text: &[u8]) -> Result<(), Fail> {
-    let certificate = read_certificate(alloc, text)?;
-    has_numbers(rt, &certificate);
-    let printed = is_printed(alloc, &certificate.query, FIRST_QUERY);
+/// Whether a certificate is that of the first example.
+fn is_first(alloc: Global, certificate: Certificate) -> bool {
+    let is_printed = is_printed(alloc, &certificate.query, FIRST_QUERY);
+    let is_so = is_printed && has_numbers(&certificate);
     let Certificate {
         query,
         items,
@@ -59,54 +59,69 @@ fn is_first_example(rt: &impl Abort, alloc: Global, text: &[u8]) -> Result<(), F
     } = certificate;
     drop(query);
     let are_so = has_item(items) & has_accesses(accesses);
-    assert!(rt; printed? && are_so);
-    Ok(())
+    is_so && are_so
 }
 
-#[test]
-fn reads_the_first_example(rt: HostRuntime) -> Result<(), Fail> {
-    is_first_example(&rt, rt.alloc(), FIRST_TEXT.as_bytes())
-}
-
-#[test]
-fn reads_lines_that_end_by_two_bytes(rt: HostRuntime) -> Result<(), Fail> {
-    let text = FIRST_TEXT.replace(rt.alloc(), "\n", "\r\n")?;
-    let outcome = is_first_example(&rt, rt.alloc(), text.as_bytes());
-    drop(text);
-    outcome
-}
-
-/// The line of a text at fault, or None where it is read.
-fn line_at_fault(alloc: Global, text: &str) -> Result<Option<u64>, Fail> {
-    match read_certificate(alloc, text.as_bytes()) {
-        Ok(certificate) => {
-            drop(certificate);
-            Ok(None)
-        }
-        Err(CertFault::BadLine { line }) => Ok(Some(line)),
-        Err(CertFault::Memory) => Err("memory".into()),
+/// Whether a text is read as the certificate of the first example.
+fn is_read_as_first(alloc: Global, text: &[u8]) -> bool {
+    match read_certificate(alloc, text) {
+        Ok(certificate) => is_first(alloc, certificate),
+        Err(_) => false,
     }
 }
 
-/// The line at fault of the first example with one text in place of another, or None where it is read.
-fn other_at_fault(alloc: Global, old: &str, new: &str) -> Result<Option<u64>, Fail> {
-    let text = FIRST_TEXT.replace(alloc, old, new)?;
-    let line = line_at_fault(alloc, &text);
+/// The same of the first example where each line ends by two bytes.
+fn is_read_by_two_bytes(alloc: Global) -> bool {
+    let Ok(text) = FIRST_TEXT.replace(alloc, "\n", "\r\n") else {
+        return false;
+    };
+    let is_so = is_read_as_first(alloc, text.as_bytes());
     drop(text);
-    line
+    is_so
+}
+
+/// Its lines may end by one byte or by two.
+#[test]
+fn reads_the_first_example(rt: HostRuntime) {
+    let is_read = is_read_as_first(rt.alloc(), FIRST_TEXT.as_bytes());
+    let is_read_so_too = is_read_by_two_bytes(rt.alloc());
+    assert!(rt; is_read && is_read_so_too);
+}
+
+/// Whether this line of a text is at fault, or the text is read where it is none.
+fn is_at_fault(alloc: Global, text: &str, expected: Option<u64>) -> bool {
+    match read_certificate(alloc, text.as_bytes()) {
+        Ok(certificate) => {
+            drop(certificate);
+            expected.is_none()
+        }
+        Err(CertFault::BadLine { line }) => expected == Some(line),
+        Err(CertFault::Memory) => false,
+    }
 }
 
 /// A text of the first example, another in its place, and the line at fault, or None where it is read.
 type Row = (&'static str, &'static str, Option<u64>);
 
+/// Whether the first example comes to this with one text in place of another.
+fn is_changed_so(alloc: Global, row: &Row) -> bool {
+    let (old, new, line) = *row;
+    let Ok(text) = FIRST_TEXT.replace(alloc, old, new) else {
+        return false;
+    };
+    let is_so = is_at_fault(alloc, &text, line);
+    drop(text);
+    is_so
+}
+
 /// The number of the first row that comes to something else.
-fn first_wrong(alloc: Global, rows: &[Row]) -> Result<Option<usize>, Fail> {
-    for (number, (old, new, line)) in rows.iter().enumerate() {
-        if other_at_fault(alloc, old, new)? != *line {
-            return Ok(Some(number));
+fn first_wrong(alloc: Global, rows: &[Row]) -> Option<usize> {
+    for (number, row) in rows.iter().enumerate() {
+        if !is_changed_so(alloc, row) {
+            return Some(number);
         }
     }
-    Ok(None)
+    None
 }
 
 /// Each kind of fault, on each kind of line.
@@ -145,12 +160,6 @@ const AT_FAULT: [Row; 32] = [
     ("end\n", "end\nend\n", Some(14)),
 ];
 
-#[test]
-fn names_the_first_line_at_fault(rt: HostRuntime) -> Result<(), Fail> {
-    assert_eq!(rt; first_wrong(rt.alloc(), &AT_FAULT)?, None);
-    Ok(())
-}
-
 /// Each number at the end of its range, and lines that a certificate need not have.
 const READ: [Row; 14] = [
     ("certificate 1", "certificate 9223372036854775807", None),
@@ -173,31 +182,28 @@ const READ: [Row; 14] = [
     ("end\n", "end", None),
 ];
 
-#[test]
-fn reads_what_is_no_answer(rt: HostRuntime) -> Result<(), Fail> {
-    assert_eq!(rt; first_wrong(rt.alloc(), &READ)?, None);
-    Ok(())
-}
-
-/// The first line of the first example that isn't named where the text ends before it.
-fn first_unnamed(alloc: Global) -> Result<Option<u64>, Fail> {
+/// How many lines stand before the first line of the first example that isn't named where the text ends before it.
+fn first_unnamed(alloc: Global) -> Option<usize> {
     let mut end: usize = 0;
-    for (line, own) in (1..).zip(FIRST_TEXT.lines()) {
-        let front = FIRST_TEXT.get(..end).ok_or("a front")?;
-        if line_at_fault(alloc, front)? != Some(line) {
-            return Ok(Some(line));
+    for (before, own) in FIRST_TEXT.lines().enumerate() {
+        let line = (before as u64).saturating_add(1);
+        let front = FIRST_TEXT.get(..end).unwrap_or("");
+        if !is_at_fault(alloc, front, Some(line)) {
+            return Some(before);
         }
         end = end.saturating_add(own.len()).saturating_add(1);
     }
     if end == FIRST_TEXT.len() {
-        Ok(None)
+        None
     } else {
-        Err("the whole text".into())
+        Some(end)
     }
 }
 
+/// Each line at fault, what is read though it is no answer, and each line that is missing.
 #[test]
-fn names_the_missing_line(rt: HostRuntime) -> Result<(), Fail> {
-    assert_eq!(rt; first_unnamed(rt.alloc())?, None);
-    Ok(())
+fn names_the_first_line_at_fault(rt: HostRuntime) {
+    none_is_wrong(&rt, first_wrong(rt.alloc(), &AT_FAULT));
+    none_is_wrong(&rt, first_wrong(rt.alloc(), &READ));
+    none_is_wrong(&rt, first_unnamed(rt.alloc()));
 }

@@ -3,76 +3,86 @@
 use command_words::{Command, Words, WordsFault, read_command, read_words};
 use std::alloc::Global;
 use std::env::{Env, FillError};
-use std::process::Abort;
-use std::test::Fail;
-use test_support::words_of;
+use test_support::{Unmade, words_of};
 
-/// Words are read as this.
-fn are_read_as(
-    rt: &impl Abort,
-    alloc: Global,
-    texts: &[&str],
-    expected: &Result<Command, WordsFault>,
-) -> Result<(), Fail> {
+/// What words are read as.
+#[derive(Clone, Copy)]
+enum Told {
+    One,
+    Judge,
+    BadWords,
+}
+
+/// Whether this came of words.
+fn is_told(command: &Result<Command, WordsFault>, told: Told) -> bool {
+    match (command, told) {
+        (Ok(Command::One), Told::One)
+        | (Ok(Command::Judge), Told::Judge)
+        | (Err(WordsFault::BadWords), Told::BadWords) => true,
+        _ => false,
+    }
+}
+
+/// Whether words are read as this.
+fn are_read_as(alloc: Global, texts: &[&str], told: Told) -> Result<bool, Unmade> {
     let words = words_of(alloc, texts)?;
     let command = read_command(alloc, &words);
     drop(words);
-    assert_eq!(rt; command, *expected, "{texts:?}");
+    let are_so = is_told(&command, told);
     drop(command);
-    Ok(())
+    Ok(are_so)
 }
 
-/// Words, and their command.
-const COMMANDS: [(&[&str], Result<Command, WordsFault>); 4] = [
-    (&["one"], Ok(Command::One)),
-    (&["one", "--"], Ok(Command::One)),
-    (&["judge"], Ok(Command::Judge)),
-    (&["judge", "--"], Ok(Command::Judge)),
+/// Words, and what they are read as.
+type Row = (&'static [&'static str], Told);
+
+const ROWS: [Row; 22] = [
+    (&["one"], Told::One),
+    (&["one", "--"], Told::One),
+    (&["judge"], Told::Judge),
+    (&["judge", "--"], Told::Judge),
+    (&[], Told::BadWords),
+    (&[""], Told::BadWords),
+    (&["--help"], Told::BadWords),
+    (&["two"], Told::BadWords),
+    (&["One"], Told::BadWords),
+    (&["--", "one"], Told::BadWords),
+    (&["one", "extra"], Told::BadWords),
+    (&["one", ""], Told::BadWords),
+    (&["one", "-"], Told::BadWords),
+    (&["one", "--", "x"], Told::BadWords),
+    (&["one", "--", "--"], Told::BadWords),
+    (&["one", "--help"], Told::BadWords),
+    (&["one", "-h"], Told::BadWords),
+    (&["one", "--x"], Told::BadWords),
+    (&["judge", "one"], Told::BadWords),
+    (&["judge", "x"], Told::BadWords),
+    (&["run"], Told::BadWords),
+    (
+        &[
+            "bulk",
+            "--start=0",
+            "--count=1",
+            "--lists=1",
+            "--queries=65",
+        ],
+        Told::BadWords,
+    ),
 ];
 
-#[test]
-fn reads_commands(rt: HostRuntime) -> Result<(), Fail> {
-    for (words, command) in &COMMANDS {
-        are_read_as(&rt, rt.alloc(), words, command)?;
+/// The number of the first row that is read otherwise.
+fn first_wrong(alloc: Global, rows: &[Row]) -> Result<Option<usize>, Unmade> {
+    for (number, (words, told)) in rows.iter().enumerate() {
+        if !are_read_as(alloc, words, *told)? {
+            return Ok(Some(number));
+        }
     }
-    Ok(())
+    Ok(None)
 }
 
-/// Words that are no command.
-const REFUSED: [&[&str]; 18] = [
-    &[],
-    &[""],
-    &["--help"],
-    &["two"],
-    &["One"],
-    &["--", "one"],
-    &["one", "extra"],
-    &["one", ""],
-    &["one", "-"],
-    &["one", "--", "x"],
-    &["one", "--", "--"],
-    &["one", "--help"],
-    &["one", "-h"],
-    &["one", "--x"],
-    &["judge", "one"],
-    &["judge", "x"],
-    &["run"],
-    &[
-        "bulk",
-        "--start=0",
-        "--count=1",
-        "--lists=1",
-        "--queries=65",
-    ],
-];
-
 #[test]
-fn refuses_words(rt: HostRuntime) -> Result<(), Fail> {
-    let refused = Err(WordsFault::BadWords);
-    for words in &REFUSED {
-        are_read_as(&rt, rt.alloc(), words, &refused)?;
-    }
-    Ok(())
+fn reads_commands_and_refuses_words(rt: HostRuntime) {
+    assert_eq!(rt; first_wrong(rt.alloc(), &ROWS), Ok(None));
 }
 
 /// A process whose own name isn't UTF-8, with these words.
@@ -104,30 +114,34 @@ impl Env for Given {
 
 const LONG: &[u8] = &[b'x'; 5000];
 
-/// The words behind the process's name are two, the second of which is long.
-fn are_one_and_long(rt: &impl Abort, words: &Words) -> Result<(), Fail> {
-    assert_eq!(rt; (words.len(), words.get(0)), (2, Some("one")));
-    let last = words.get(1).ok_or("last")?;
-    assert_eq!(rt; last.as_bytes(), LONG);
-    Ok(())
+/// Whether the words behind a process's name are two, the second of which is long.
+fn are_one_and_long(words: &Words) -> bool {
+    let Some(last) = words.get(1) else {
+        return false;
+    };
+    words.len() == 2 && words.get(0) == Some("one") && last.as_bytes() == LONG
 }
 
+/// Whether a process gives these two words.
+fn gives_one_and_long(alloc: Global, given: &Given) -> Result<bool, WordsFault> {
+    let words = read_words(given, alloc)?;
+    let are_so = are_one_and_long(&words);
+    drop(words);
+    Ok(are_so)
+}
+
+/// The words behind the name are read, and a word that is no text is refused.
 #[test]
-fn reads_the_words_behind_the_name(rt: HostRuntime) -> Result<(), Fail> {
-    let given = Given {
+fn reads_the_words_of_a_process(rt: HostRuntime) {
+    let long = Given {
         words: [b"\xFF", b"one", LONG],
     };
-    let words = read_words(&given, rt.alloc())?;
-    let outcome = are_one_and_long(&rt, &words);
-    drop(words);
-    outcome
-}
-
-#[test]
-fn refuses_a_word_that_is_no_text(rt: HostRuntime) {
-    let given = Given {
+    let no_text = Given {
         words: [b"topk", b"one", b"\xC3"],
     };
-    let fault = read_words(&given, rt.alloc()).err();
-    assert_eq!(rt; fault, Some(WordsFault::BadWords));
+    let gives = [
+        gives_one_and_long(rt.alloc(), &long),
+        gives_one_and_long(rt.alloc(), &no_text),
+    ];
+    assert_eq!(rt; gives, [Ok(true), Err(WordsFault::BadWords)]);
 }

@@ -65,6 +65,9 @@ pub trait Driven: Sized {
     /// The answer, or None where no memory is left.
     fn finish(self) -> Option<Answer>
         requires { (state self).need ≡ Need.Done };
+
+    /// Lets a machine go that gives no answer.
+    fn let_go(self);
 }
 
 impl Driven for Ta {
@@ -100,6 +103,10 @@ impl Driven for Ta {
     fn finish(self) -> Option<Answer> {
         self.answer().ok()
     }
+
+    fn let_go(self) {
+        drop(self);
+    }
 }
 
 impl Driven for Nra {
@@ -133,6 +140,10 @@ impl Driven for Nra {
 
     fn finish(self) -> Option<Answer> {
         self.answer().ok()
+    }
+
+    fn let_go(self) {
+        drop(self);
     }
 }
 
@@ -168,5 +179,9 @@ impl Driven for Ca {
 
     fn finish(self) -> Option<Answer> {
         self.answer().ok()
+    }
+
+    fn let_go(self) {
+        drop(self);
     }
 }

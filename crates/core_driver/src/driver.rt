@@ -18,9 +18,17 @@ fn row_at(lists: Lists<'_>, list: u8, depth: u32) -> Option<Row> {
     Some(Row { object, grade })
 }
 
+fn grade_in(rows: &[(u32, u32)], object: u32) -> Option<u32> {
+    for row in rows {
+        if row.0 == object {
+            return Some(row.1);
+        }
+    }
+    None
+}
+
 fn grade_of(lists: Lists<'_>, list: u8, object: u32) -> Option<u32> {
-    let rows = lists.get(list as usize)?;
-    rows.iter().find(|row| row.0 == object).map(|row| row.1)
+    grade_in(lists.get(list as usize)?, object)
 }
 
 /// Feeds a machine what it needs from the lists, and says why it refused it. What is fed is tried first
@@ -93,7 +101,7 @@ fn feed_all<M: Driven>(
 }
 
 /// Feeds a machine from the lists until it answers or refuses a row.
-fn drive<M: Driven + Drop>(
+fn drive<M: Driven>(
     alloc: Global,
     machine: M,
     lists: Lists<'_>,
@@ -107,11 +115,11 @@ fn drive<M: Driven + Drop>(
             None => Err("memory".into()),
         },
         Ok(Some(fault)) => {
-            drop(machine);
+            machine.let_go();
             Ok(Err(fault))
         }
         Err(fail) => {
-            drop(machine);
+            machine.let_go();
             Err(fail)
         }
     }
@@ -139,7 +147,7 @@ fn terms_of(query: &Query, lists: Lists<'_>) -> Option<Terms>
 }
 
 /// The outcome of a query's text over lists, the first of which has as many objects as are counted, by a machine.
-pub fn run<M: Driven + Drop>(
+pub fn run<M: Driven>(
     alloc: Global,
     text: &str,
     lists: Lists<'_>,
@@ -155,4 +163,9 @@ pub fn run<M: Driven + Drop>(
             Err("a query over a few objects".into())
         }
     }
+}
+
+/// Lets an answer go.
+pub fn let_go(answer: Answer) {
+    drop(answer);
 }

@@ -5,4 +5,4 @@ mod driven;
 mod driver;
 
 pub use driven::{Driven, Terms};
-pub use driver::run;
+pub use driver::{let_go, run};

@@ -1,7 +1,7 @@
 //! Queries with what is wanted of them.
 
 use access_log::{Access, Answer, CoreFault, Transcript};
-use core_driver::{Driven, run};
+use core_driver::{Driven, let_go, run};
 use monotone_fn::Costs;
 use ranked_list::{Item, Items};
 use std::alloc::Global;
@@ -136,11 +136,11 @@ fn is_as(answer: &Answer, case: &Case) -> bool {
 }
 
 /// Whether a machine answers a query as it is wanted.
-fn is_answered<M: Driven + Drop>(alloc: Global, case: &Case) -> Result<bool, Fail> {
+fn is_answered<M: Driven>(alloc: Global, case: &Case) -> Result<bool, Fail> {
     match run::<M>(alloc, case.text, case.lists)? {
         Ok(answer) => {
             let is_so = is_as(&answer, case);
-            drop(answer);
+            let_go(answer);
             Ok(is_so)
         }
         Err(_) => Ok(false),
@@ -148,7 +148,7 @@ fn is_answered<M: Driven + Drop>(alloc: Global, case: &Case) -> Result<bool, Fai
 }
 
 /// The number of the first query that a machine answers otherwise.
-pub fn first_wrong<M: Driven + Drop>(alloc: Global, cases: &[Case]) -> Result<Option<usize>, Fail> {
+pub fn first_wrong<M: Driven>(alloc: Global, cases: &[Case]) -> Result<Option<usize>, Fail> {
     for (number, case) in cases.iter().enumerate() {
         if !is_answered::<M>(alloc, case)? {
             return Ok(Some(number));
@@ -157,17 +157,33 @@ pub fn first_wrong<M: Driven + Drop>(alloc: Global, cases: &[Case]) -> Result<Op
     Ok(None)
 }
 
+/// A query's text, its lists, and why a row of them is refused.
+pub type FaultCase = (&'static str, Lists<'static>, CoreFault);
+
 /// Why a machine refuses a row, if it does.
-pub fn fault_of<M: Driven + Drop>(
+fn fault_of<M: Driven>(
     alloc: Global,
     text: &str,
     lists: Lists<'_>,
 ) -> Result<Option<CoreFault>, Fail> {
     match run::<M>(alloc, text, lists)? {
         Ok(answer) => {
-            drop(answer);
+            let_go(answer);
             Ok(None)
         }
         Err(fault) => Ok(Some(fault)),
     }
+}
+
+/// The number of the first query of which a machine refuses no row, or refuses it otherwise.
+pub fn first_wrong_fault<M: Driven>(
+    alloc: Global,
+    cases: &[FaultCase],
+) -> Result<Option<usize>, Fail> {
+    for (number, (text, lists, fault)) in cases.iter().enumerate() {
+        if fault_of::<M>(alloc, text, lists)? != Some(*fault) {
+            return Ok(Some(number));
+        }
+    }
+    Ok(None)
 }

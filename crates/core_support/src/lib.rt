@@ -3,4 +3,6 @@
 
 mod cases;
 
-pub use cases::{Case, EVEN, STRANGE, STRANGERS, THREE, Wanted, fault_of, first_wrong};
+pub use cases::{
+    Case, EVEN, FaultCase, STRANGE, STRANGERS, THREE, Wanted, first_wrong, first_wrong_fault,
+};

@@ -4,7 +4,7 @@ ghost use Rattle.std.specs.Prelude.{◌≡◌, None, All, OnOk};
 
 use super::waiting::{Call, Gate, Gated};
 use batch_run::Settings;
-use batch_support::{are_ended_so, run_of};
+use batch_support::{Used, run_ends_so};
 use fetcher::Slot;
 use query_support::{Asked, Expected};
 use source_api::Trouble;
@@ -89,7 +89,7 @@ fn add_slots<'a>(
     Ok(())
 }
 
-/// Whether the queries of a batch end so over its sources, None where there is no batch for want of memory.
+/// Whether the queries of a batch end so over its sources, whatever is used of them, None where there is no batch for want of memory.
 fn end_so<R: Threads + Wait + Sync>(
     rt: &R,
     alloc: Global,
@@ -99,13 +99,16 @@ fn end_so<R: Threads + Wait + Sync>(
     requires { All (λ slot. slot.feeder ≡ None) slots.old }
     ensures { All (λ slot. slot.feeder ≡ None) slots.new }
 {
-    let ran = run_of(rt, alloc, slots, case.counts, case.asked, case.settings)?;
-    let Ok(batch) = ran else {
-        return Ok(None);
-    };
-    let so = are_ended_so(&batch, case.ends);
-    drop(batch);
-    Ok(Some(so))
+    let used: &[Used] = &[];
+    run_ends_so(
+        rt,
+        alloc,
+        slots,
+        case.counts,
+        case.asked,
+        case.settings,
+        (case.ends, used),
+    )
 }
 
 /// The calls of the first source that have failed.

@@ -2,14 +2,82 @@
 
 ghost use Rattle.std.specs.Prelude.{◌≤◌, length};
 
+use super::none_is_wrong;
 use best_k::{Board, Items, Memory};
 use std::alloc::Global;
-use std::process::Abort;
 
 /// An object with its low and its high.
 type Put = (u32, u64, u64);
 
-/// A board of `k` on which these were put; nothing of an object that has no room.
+/// A board's k, what is put on it, the k-th low then, and the first k.
+type Row = (u32, &'static [Put], Option<u64>, &'static [Put]);
+
+/// Boards from no object to more than k, of equal ranks, and of objects that are put again.
+const BOARDS: &[Row] = &[
+    // from no object to more than k
+    (3, &[], None, &[]),
+    (3, &[(7, 5, 9)], None, &[(7, 5, 9)]),
+    (3, &[(7, 5, 9), (2, 6, 6)], None, &[(2, 6, 6), (7, 5, 9)]),
+    (
+        3,
+        &[(7, 5, 9), (2, 6, 6), (4, 1, 9)],
+        Some(1),
+        &[(2, 6, 6), (7, 5, 9), (4, 1, 9)],
+    ),
+    (
+        3,
+        &[(7, 5, 9), (2, 6, 6), (4, 1, 9), (9, 3, 3)],
+        Some(3),
+        &[(2, 6, 6), (7, 5, 9), (9, 3, 3)],
+    ),
+    // the first one, and all of them
+    (
+        1,
+        &[(7, 5, 9), (2, 6, 6), (4, 1, 9), (9, 3, 3)],
+        Some(6),
+        &[(2, 6, 6)],
+    ),
+    (
+        1_000_000,
+        &[(7, 5, 9), (2, 6, 6), (4, 1, 9), (9, 3, 3)],
+        None,
+        &[(2, 6, 6), (7, 5, 9), (9, 3, 3), (4, 1, 9)],
+    ),
+    // equal lows, and equal highs too
+    (
+        2,
+        &[(1, 5, 7), (2, 5, 9), (3, 5, 8)],
+        Some(5),
+        &[(2, 5, 9), (3, 5, 8)],
+    ),
+    (
+        2,
+        &[(8, 5, 5), (3, 5, 5), (5, 5, 5)],
+        Some(5),
+        &[(3, 5, 5), (5, 5, 5)],
+    ),
+    // an object that is put again: upwards, downwards, and as it was
+    (
+        2,
+        &[(1, 9, 9), (2, 8, 8), (3, 1, 9), (3, 10, 10)],
+        Some(9),
+        &[(3, 10, 10), (1, 9, 9)],
+    ),
+    (
+        2,
+        &[(1, 9, 9), (2, 8, 8), (3, 7, 9), (1, 2, 9)],
+        Some(7),
+        &[(2, 8, 8), (3, 7, 9)],
+    ),
+    (
+        2,
+        &[(1, 9, 9), (2, 8, 8), (1, 9, 9)],
+        Some(8),
+        &[(1, 9, 9), (2, 8, 8)],
+    ),
+];
+
+/// A board of `k` on which these were put.
 fn put_all(alloc: Global, k: u32, puts: &[Put]) -> Result<Board, Memory>
     requires positive { 1 ≤ k }
     requires few { length puts.now ≤ 4 }
@@ -21,81 +89,65 @@ fn put_all(alloc: Global, k: u32, puts: &[Put]) -> Result<Board, Memory>
     Ok(board)
 }
 
-fn compare(rt: &impl Abort, items: Items, first: &[Put]) {
-    assert_eq!(rt; items.len() as usize, first.len());
-    for (place, item) in items.into_vec().iter().enumerate() {
-        let found = (item.object, item.low, item.high);
-        assert_eq!(rt; first.get(place).copied(), Some(found));
+/// Whether an object is one of these.
+fn has(puts: &[Put], object: u32) -> bool {
+    for put in puts {
+        if put.0 == object {
+            return true;
+        }
     }
+    false
 }
 
-/// Puts `puts` on a board of `k`, and compares what it answers with the k-th low and the first k.
-fn try_board(
-    rt: &impl Abort,
-    alloc: Global,
-    k: u32,
-    puts: &[Put],
-    kth: Option<u64>,
-    first: &[Put],
-) -> Result<(), Memory>
-    requires positive { 1 ≤ k }
-    requires few { length puts.now ≤ 4 }
-{
+/// Whether those that were put are among the first k where they are wanted there, and no object else.
+fn are_top(board: &Board, puts: &[Put], first: &[Put]) -> bool {
+    for put in puts {
+        if board.is_top(put.0) != has(first, put.0) {
+            return false;
+        }
+    }
+    !board.is_top(100)
+}
+
+/// Whether items are those that are wanted.
+fn are_items(items: &Items, wanted: &[Put]) -> bool {
+    if items.len() as usize != wanted.len() {
+        return false;
+    }
+    for (item, put) in items.iter().zip(wanted) {
+        if (item.object, item.low, item.high) != *put {
+            return false;
+        }
+    }
+    true
+}
+
+/// Whether a board is as its row says. Four objects at most have room on it.
+fn is_right(alloc: Global, row: &Row) -> Result<bool, Memory> {
+    let (k, puts, kth, first) = *row;
+    if k == 0 || puts.len() > 4 {
+        return Ok(false);
+    }
     let board = put_all(alloc, k, puts)?;
-    assert_eq!(rt; board.kth(), kth);
-    for &(object, _, _) in puts {
-        let wanted = first.iter().any(|put| put.0 == object);
-        assert_eq!(rt; board.is_top(object), wanted);
+    let is_so = board.kth() == kth && are_top(&board, puts, first);
+    let items = board.first()?;
+    let is_right = is_so && are_items(&items, first);
+    drop(items);
+    Ok(is_right)
+}
+
+/// The number of the first row that a board isn't as.
+fn first_wrong(alloc: Global, rows: &[Row]) -> Result<Option<usize>, Memory> {
+    for (number, row) in rows.iter().enumerate() {
+        if !is_right(alloc, row)? {
+            return Ok(Some(number));
+        }
     }
-    assert!(rt; !board.is_top(100));
-    compare(rt, board.first()?, first);
+    Ok(None)
+}
+
+#[test]
+fn boards_by_hand(rt: HostRuntime) -> Result<(), Memory> {
+    none_is_wrong(&rt, first_wrong(rt.alloc(), BOARDS)?);
     Ok(())
-}
-
-#[test]
-fn counts_of_objects(rt: HostRuntime) -> Result<(), Memory> {
-    let alloc = rt.alloc();
-    let puts = [(7, 5, 9), (2, 6, 6), (4, 1, 9), (9, 3, 3)];
-    try_board(&rt, alloc, 3, &[], None, &[])?;
-    try_board(&rt, alloc, 3, &puts[..1], None, &[(7, 5, 9)])?;
-    try_board(&rt, alloc, 3, &puts[..2], None, &[(2, 6, 6), (7, 5, 9)])?;
-    try_board(
-        &rt,
-        alloc,
-        3,
-        &puts[..3],
-        Some(1),
-        &[(2, 6, 6), (7, 5, 9), (4, 1, 9)],
-    )?;
-    try_board(
-        &rt,
-        alloc,
-        3,
-        &puts,
-        Some(3),
-        &[(2, 6, 6), (7, 5, 9), (9, 3, 3)],
-    )?;
-    try_board(&rt, alloc, 1, &puts, Some(6), &[(2, 6, 6)])?;
-    let all = [(2, 6, 6), (7, 5, 9), (9, 3, 3), (4, 1, 9)];
-    try_board(&rt, alloc, 1_000_000, &puts, None, &all)
-}
-
-#[test]
-fn ties(rt: HostRuntime) -> Result<(), Memory> {
-    let alloc = rt.alloc();
-    let highs = [(1, 5, 7), (2, 5, 9), (3, 5, 8)];
-    try_board(&rt, alloc, 2, &highs, Some(5), &[(2, 5, 9), (3, 5, 8)])?;
-    let ids = [(8, 5, 5), (3, 5, 5), (5, 5, 5)];
-    try_board(&rt, alloc, 2, &ids, Some(5), &[(3, 5, 5), (5, 5, 5)])
-}
-
-#[test]
-fn replacements(rt: HostRuntime) -> Result<(), Memory> {
-    let alloc = rt.alloc();
-    let upwards = [(1, 9, 9), (2, 8, 8), (3, 1, 9), (3, 10, 10)];
-    try_board(&rt, alloc, 2, &upwards, Some(9), &[(3, 10, 10), (1, 9, 9)])?;
-    let downwards = [(1, 9, 9), (2, 8, 8), (3, 7, 9), (1, 2, 9)];
-    try_board(&rt, alloc, 2, &downwards, Some(7), &[(2, 8, 8), (3, 7, 9)])?;
-    let itself = [(1, 9, 9), (2, 8, 8), (1, 9, 9)];
-    try_board(&rt, alloc, 2, &itself, Some(8), &[(1, 9, 9), (2, 8, 8)])
 }

@@ -1,17 +1,33 @@
 //! Heaps row by row.
 
-ghost use Rattle.std.specs.Prelude.{◌≡◌, ◌<◌, ◌≤◌, length};
+ghost use Rattle.std.specs.Prelude.{◌≤◌};
 
+use super::none_is_wrong;
 use indexed_heap::{IndexedHeap, Memory};
 use limits::MAX_OBJECTS;
 use std::alloc::Global;
-use std::process::Abort;
 
 /// A change of one key: the rank that it is given, None where its rank is taken away.
 type Change = (u32, Option<u32>);
 
 /// What a heap answers after a change: the key and the rank at hand, and how many keys have a rank.
 type Answer = (Option<(u32, u32)>, u32);
+
+/// Changes of a heap of five keys, made one after another, and what it answers after each.
+const FIVE: &[(Change, Answer)] = &[
+    ((3, Some(5)), (Some((3, 5)), 1)),
+    ((0, Some(9)), (Some((0, 9)), 2)),
+    ((4, Some(7)), (Some((0, 9)), 3)),
+    ((0, Some(6)), (Some((4, 7)), 3)),
+    ((4, None), (Some((0, 6)), 2)),
+    ((4, None), (Some((0, 6)), 2)),
+    ((0, None), (Some((3, 5)), 1)),
+    ((3, Some(2)), (Some((3, 2)), 1)),
+    ((3, None), (None, 0)),
+];
+
+/// Changes of a heap of one key.
+const ONE: &[(Change, Answer)] = &[((0, Some(0)), (Some((0, 0)), 1)), ((0, None), (None, 0))];
 
 /// Changes one key, where there is room for it.
 fn change(heap: &mut IndexedHeap<u32>, key: u32, rank: Option<u32>) {
@@ -31,62 +47,56 @@ fn answer(heap: &IndexedHeap<u32>) -> Answer {
     }
 }
 
-/// Makes the changes one after another on a heap of `room`, and compares what it has at hand after each.
-fn try_heap(
-    rt: &impl Abort,
-    alloc: Global,
-    room: u32,
-    rows: &[(Change, Answer)],
-) -> Result<(), Memory>
+/// Makes the changes one after another, and answers the number of the first one after which the heap isn't as told.
+fn first_wrong_of(heap: &mut IndexedHeap<u32>, rows: &[(Change, Answer)]) -> Option<usize> {
+    for (number, ((key, rank), wanted)) in rows.iter().enumerate() {
+        change(heap, *key, *rank);
+        let has_rank = heap.get(*key) == *rank && heap.contains(*key) == rank.is_some();
+        if !has_rank || answer(heap) != *wanted {
+            return Some(number);
+        }
+    }
+    None
+}
+
+/// The same on a heap of this room.
+fn first_wrong(alloc: Global, room: u32, rows: &[(Change, Answer)]) -> Result<Option<usize>, Memory>
     requires { room ≤ MAX_OBJECTS }
 {
-    let mut heap: IndexedHeap<u32> = IndexedHeap::make(alloc, room)?;
-    for &((key, rank), wanted) in rows {
-        change(&mut heap, key, rank);
-        assert_eq!(rt; answer(&heap), wanted);
-        assert_eq!(rt; heap.get(key), rank);
-        assert_eq!(rt; heap.contains(key), rank.is_some());
-    }
-    Ok(())
+    let mut heap = IndexedHeap::make(alloc, room)?;
+    let wrong = first_wrong_of(&mut heap, rows);
+    drop(heap);
+    Ok(wrong)
 }
 
 #[test]
 fn changes(rt: HostRuntime) -> Result<(), Memory> {
-    let rows = [
-        ((3, Some(5)), (Some((3, 5)), 1)),
-        ((0, Some(9)), (Some((0, 9)), 2)),
-        ((4, Some(7)), (Some((0, 9)), 3)),
-        ((0, Some(6)), (Some((4, 7)), 3)),
-        ((4, None), (Some((0, 6)), 2)),
-        ((4, None), (Some((0, 6)), 2)),
-        ((0, None), (Some((3, 5)), 1)),
-        ((3, Some(2)), (Some((3, 2)), 1)),
-        ((3, None), (None, 0)),
-    ];
-    try_heap(&rt, rt.alloc(), 5, &rows)
+    let alloc = rt.alloc();
+    none_is_wrong(&rt, first_wrong(alloc, 5, FIVE)?);
+    none_is_wrong(&rt, first_wrong(alloc, 1, ONE)?);
+    none_is_wrong(&rt, first_wrong(alloc, 0, &[])?);
+    Ok(())
 }
 
-#[test]
-fn room_of_one(rt: HostRuntime) -> Result<(), Memory> {
-    let rows = [((0, Some(0)), (Some((0, 0)), 1)), ((0, None), (None, 0))];
-    try_heap(&rt, rt.alloc(), 1, &rows)
-}
-
-#[test]
-fn no_room(rt: HostRuntime) -> Result<(), Memory> {
-    try_heap(&rt, rt.alloc(), 0, &[])
+/// Gives a heap of two keys a rank, widens it to fewer keys than it has and to five, and gives it a second one: whether it has room for so
+/// many keys each time, and the ranks that it was given.
+fn is_widened(heap: &mut IndexedHeap<u32>) -> Result<bool, Memory> {
+    change(heap, 1, Some(8));
+    heap.widen(1)?;
+    let narrow = heap.room();
+    heap.widen(5)?;
+    let wide = heap.room();
+    let kept = answer(heap);
+    change(heap, 4, Some(9));
+    let has_room = (narrow, wide) == (2, 5);
+    Ok(has_room && kept == (Some((1, 8)), 1) && answer(heap) == (Some((4, 9)), 2))
 }
 
 #[test]
 fn wider(rt: HostRuntime) -> Result<(), Memory> {
-    let mut heap: IndexedHeap<u32> = IndexedHeap::make(rt.alloc(), 2)?;
-    change(&mut heap, 1, Some(8));
-    heap.widen(1)?;
-    assert_eq!(rt; heap.room(), 2);
-    heap.widen(5)?;
-    assert_eq!(rt; heap.room(), 5);
-    assert_eq!(rt; answer(&heap), (Some((1, 8)), 1));
-    change(&mut heap, 4, Some(9));
-    assert_eq!(rt; answer(&heap), (Some((4, 9)), 2));
+    let mut heap = IndexedHeap::make(rt.alloc(), 2)?;
+    let is_widened = is_widened(&mut heap);
+    drop(heap);
+    assert!(rt; is_widened?);
     Ok(())
 }

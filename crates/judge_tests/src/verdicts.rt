@@ -114,9 +114,12 @@ fn sum_of(lists: &[MemList], object: u32) -> u64 {
     let mut sum: u64 = 0;
     for list in lists {
         for place in 0..list.len() {
-            let row = list.get(place);
-            let grade = row.filter(|row| row.object == object).map(|row| row.grade);
-            sum = sum.saturating_add(u64::from(grade.unwrap_or(0)));
+            match list.get(place) {
+                Some(row) if row.object == object => {
+                    sum = sum.saturating_add(u64::from(row.grade));
+                }
+                _ => {}
+            }
         }
     }
     sum
@@ -124,10 +127,12 @@ fn sum_of(lists: &[MemList], object: u32) -> u64 {
 
 /// Whether lists are a table that gives objects these sums.
 fn has_sums(alloc: Global, lists: &[MemList], sums: &[(u32, u64)]) -> Result<bool, Fail> {
-    let are_right = sums
-        .iter()
-        .all(|(object, sum)| sum_of(lists, *object) == *sum);
-    Ok(are_right && is_table(alloc, lists)?)
+    for (object, sum) in sums {
+        if sum_of(lists, *object) != *sum {
+            return Ok(false);
+        }
+    }
+    Ok(is_table(alloc, lists)?)
 }
 
 /// Whether this is told of a row's answer.
@@ -185,7 +190,7 @@ const ROWS: [Access; 2] = [sorted_row!(0, 1, 900), sorted_row!(1, 2, 700)];
 
 /// The run, and the same without its last accesses: beaten by an unseen object, fixed where there is none, and beaten by an object
 /// that was seen.
-const RUNS: [Row; 4] = [
+static RUNS: [Row; 4] = [
     (3, &RUN, 1, &[2], Ok(Verdict::Fixes)),
     (
         3,
@@ -214,14 +219,8 @@ const RUNS: [Row; 4] = [
     ),
 ];
 
-#[test]
-fn judges_a_run(rt: HostRuntime) -> Result<(), Fail> {
-    assert_eq!(rt; first_wrong(rt.alloc(), SUM, &RUNS)?, None);
-    Ok(())
-}
-
 /// The two of these that are beaten.
-const COUNTERED: [Countered; 2] = [
+static COUNTERED: [Countered; 2] = [
     (3, &FIRST, &[(2, 1500), (0, 1600), (1, 1400)]),
     (2, &ROWS, &[(2, 700), (1, 1600)]),
 ];
@@ -244,15 +243,14 @@ fn is_countered(alloc: Global, row: &Countered) -> Result<bool, Fail> {
     is_so
 }
 
-/// What beats an answer is a table. The object inside has its low there, and each other object its high.
-#[test]
-fn counters_an_answer(rt: HostRuntime) -> Result<(), Fail> {
-    let are_so = [
-        is_countered(rt.alloc(), &COUNTERED[0])?,
-        is_countered(rt.alloc(), &COUNTERED[1])?,
-    ];
-    assert_eq!(rt; are_so, [true, true]);
-    Ok(())
+/// The number of the first row that is countered otherwise.
+fn first_uncountered(alloc: Global, rows: &[Countered]) -> Result<Option<usize>, Fail> {
+    for (number, row) in rows.iter().enumerate() {
+        if !is_countered(alloc, row)? {
+            return Ok(Some(number));
+        }
+    }
+    Ok(None)
 }
 
 /// Three objects of one grade in the first of two lists.
@@ -275,18 +273,12 @@ macro_rules! beaten {
 }
 
 /// Of equal lows inside, and of equal highs outside, the object of the smallest id is named.
-const SMALLEST: [Row; 4] = [
+static SMALLEST: [Row; 4] = [
     (4, NINES, 1, &[5], beaten!(5, 0)),
     (4, NINES, 2, &[5, 4], beaten!(4, 0)),
     (3, NINES, 1, &[5], beaten!(5, 3)),
     (3, NINES, 1, &[3], beaten!(3, 4)),
 ];
-
-#[test]
-fn names_the_smallest_of_ties(rt: HostRuntime) -> Result<(), Fail> {
-    assert_eq!(rt; first_wrong(rt.alloc(), SUM, &SMALLEST)?, None);
-    Ok(())
-}
 
 /// One list.
 const ONE: Asked = (b"top 1 by A using ta", 1);
@@ -298,7 +290,7 @@ const WILD: &[Access] = &[sorted_row!(0, 9, 0), random_row!(0, 8, 0)];
 const WILD_AT_ONCE: &[Access] = &[random_row!(0, 9, 0), sorted_row!(0, 9, 0)];
 
 /// Each fault, and the first of two.
-const FAULTS: [Row; 12] = [
+static FAULTS: [Row; 12] = [
     (1, TAME, 1, &[9], Ok(Verdict::Fixes)),
     (1, &[], 1, &[9], Err(JudgeFault::UnseenAnswer { object: 9 })),
     (
@@ -355,19 +347,13 @@ const FAULTS: [Row; 12] = [
     (3, TAME, 1, &[9], Ok(Verdict::Fixes)),
 ];
 
-#[test]
-fn refuses_in_order(rt: HostRuntime) -> Result<(), Fail> {
-    assert_eq!(rt; first_wrong(rt.alloc(), ONE, &FAULTS)?, None);
-    Ok(())
-}
-
 /// The greatest aggregates of 64 bits.
 const GREATEST: Asked = (
     b"top 1 by sum(wsum(4611686018427*A),wsum(4611686018427*B)) using ta",
     2,
 );
 
-const ABOVE_ALL: [Row; 1] = [(
+static ABOVE_ALL: [Row; 1] = [(
     2,
     &[sorted_row!(0, 1, 1_000_000), sorted_row!(1, 2, 1_000_000)],
     1,
@@ -380,8 +366,17 @@ const ABOVE_ALL: [Row; 1] = [(
     }),
 )];
 
+/// A run and its beginnings, ties, each fault, and the greatest aggregates. What beats an answer is a table: the object inside has its
+/// low there, and each other object its high.
 #[test]
-fn judges_the_greatest(rt: HostRuntime) -> Result<(), Fail> {
-    assert_eq!(rt; first_wrong(rt.alloc(), GREATEST, &ABOVE_ALL)?, None);
+fn judges_each_row(rt: HostRuntime) -> Result<(), Fail> {
+    let wrong = [
+        first_wrong(rt.alloc(), SUM, &RUNS)?,
+        first_wrong(rt.alloc(), SUM, &SMALLEST)?,
+        first_wrong(rt.alloc(), ONE, &FAULTS)?,
+        first_wrong(rt.alloc(), GREATEST, &ABOVE_ALL)?,
+        first_uncountered(rt.alloc(), &COUNTERED)?,
+    ];
+    assert_eq!(rt; wrong, [None; 5]);
     Ok(())
 }

@@ -1,5 +1,7 @@
-//! Tests of list files by their public calls.
+//! Tests of list files and of the shelf of real files, by their public calls.
 #![tactic(auto)]
 
 #[cfg(test)]
 mod list_files;
+#[cfg(test)]
+mod shelf;

@@ -19,12 +19,6 @@ mod tables;
 #[cfg(test)]
 use std::process::Abort;
 
-/// Every text of a table is told as it says: there is no first one that isn't.
-#[cfg(test)]
-fn no_text_is_wrong(rt: &impl Abort, first_wrong: Option<&'static str>) {
-    assert_eq!(rt; first_wrong, None);
-}
-
 /// Every row of a table is as it says: the number of the first one that isn't is none.
 #[cfg(test)]
 fn none_is_wrong(rt: &impl Abort, first_wrong: Option<usize>) {

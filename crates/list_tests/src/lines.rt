@@ -1,6 +1,6 @@
 //! First lines.
 
-use super::no_text_is_wrong;
+use super::none_is_wrong;
 use line_text::first_line;
 
 /// A text, its first line, and the rest.
@@ -23,11 +23,11 @@ fn is_cut_into(text: &str, line: &str, rest: &str) -> bool {
     }
 }
 
-/// The first text that is cut otherwise.
-fn first_wrong(rows: &[(&'static str, &'static str, &'static str)]) -> Option<&'static str> {
-    for (text, line, rest) in rows {
+/// The number of the first text that is cut otherwise.
+fn first_wrong(rows: &[(&str, &str, &str)]) -> Option<usize> {
+    for (number, (text, line, rest)) in rows.iter().enumerate() {
         if !is_cut_into(text, line, rest) {
-            return Some(*text);
+            return Some(number);
         }
     }
     None
@@ -35,6 +35,6 @@ fn first_wrong(rows: &[(&'static str, &'static str, &'static str)]) -> Option<&'
 
 #[test]
 fn cuts_the_first_line(rt: HostRuntime) {
-    no_text_is_wrong(&rt, first_wrong(&CUT));
+    none_is_wrong(&rt, first_wrong(&CUT));
     assert!(rt; first_line(b"").is_none());
 }

@@ -1,6 +1,6 @@
 //! Names.
 
-use super::no_text_is_wrong;
+use super::none_is_wrong;
 use line_text::{is_name, is_name_byte};
 
 /// Texts, and whether each is a name.
@@ -16,11 +16,11 @@ const TEXTS: [(&str, bool); 9] = [
     ("a ", false),
 ];
 
-/// The first text that is told otherwise.
-fn first_wrong(rows: &[(&'static str, bool)]) -> Option<&'static str> {
-    for (text, named) in rows {
+/// The number of the first text that is told otherwise.
+fn first_wrong(rows: &[(&str, bool)]) -> Option<usize> {
+    for (number, (text, named)) in rows.iter().enumerate() {
         if is_name(text.as_bytes()) != *named {
-            return Some(*text);
+            return Some(number);
         }
     }
     None
@@ -28,6 +28,6 @@ fn first_wrong(rows: &[(&'static str, bool)]) -> Option<&'static str> {
 
 #[test]
 fn tells_names(rt: HostRuntime) {
-    no_text_is_wrong(&rt, first_wrong(&TEXTS));
+    none_is_wrong(&rt, first_wrong(&TEXTS));
     assert!(rt; is_name_byte(b'_') && !is_name_byte(b'-'));
 }

@@ -1,6 +1,6 @@
 //! Numbers as text.
 
-use super::no_text_is_wrong;
+use super::none_is_wrong;
 use line_text::{NumberFault, is_number, number_up_to, read_number};
 
 /// Texts, and the number that each spells.
@@ -19,12 +19,12 @@ const TEXTS: [(&str, Result<u64, NumberFault>); 12] = [
     ("1a", Err(NumberFault::NoNumber)),
 ];
 
-/// The first text that is read otherwise.
-fn first_wrong(rows: &[(&'static str, Result<u64, NumberFault>)]) -> Option<&'static str> {
-    for (text, number) in rows {
-        let is_spelled = *number != Err(NumberFault::NoNumber);
-        if read_number(text.as_bytes()) != *number || is_number(text.as_bytes()) != is_spelled {
-            return Some(*text);
+/// The number of the first text that is read otherwise.
+fn first_wrong(rows: &[(&str, Result<u64, NumberFault>)]) -> Option<usize> {
+    for (number, (text, spelled)) in rows.iter().enumerate() {
+        let is_spelled = *spelled != Err(NumberFault::NoNumber);
+        if read_number(text.as_bytes()) != *spelled || is_number(text.as_bytes()) != is_spelled {
+            return Some(number);
         }
     }
     None
@@ -32,7 +32,7 @@ fn first_wrong(rows: &[(&'static str, Result<u64, NumberFault>)]) -> Option<&'st
 
 #[test]
 fn reads_each_number_in_its_one_form(rt: HostRuntime) {
-    no_text_is_wrong(&rt, first_wrong(&TEXTS));
+    none_is_wrong(&rt, first_wrong(&TEXTS));
     let is_limited = number_up_to(b"10", 10) == Some(10) && number_up_to(b"10", 9).is_none();
     assert!(rt; is_limited);
 }

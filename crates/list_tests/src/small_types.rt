@@ -1,7 +1,7 @@
 //! The small types over vectors, each call once.
 
 use ranked_list::{Item, Items, PageRows, Row};
-use std::test::Fail;
+use std::alloc::Global;
 
 const ROW: Row = Row {
     object: 7,
@@ -22,15 +22,17 @@ fn is_twice(rows: &PageRows) -> bool {
         && rows.get(2).is_none()
 }
 
-#[test]
-fn gives_back_the_rows(rt: HostRuntime) -> Result<(), Fail> {
-    let rows = PageRows::from_vec([ROW, ROW].to_vec(rt.alloc())?);
+/// Whether a page gives back the rows that it was made of.
+fn gives_back_rows(alloc: Global) -> bool {
+    let Ok(made) = [ROW, ROW].to_vec(alloc) else {
+        return false;
+    };
+    let rows = PageRows::from_vec(made);
     let are_kept = is_twice(&rows);
     let given = rows.into_vec();
     let are_given = given.as_slice() == [ROW, ROW].as_slice();
     drop(given);
-    assert!(rt; are_kept && are_given);
-    Ok(())
+    are_kept && are_given
 }
 
 /// Whether items are this one.
@@ -41,13 +43,22 @@ fn is_one(items: &Items) -> bool {
         && items.get(1).is_none()
 }
 
-#[test]
-fn gives_back_the_items(rt: HostRuntime) -> Result<(), Fail> {
-    let items = Items::from_vec([ITEM].to_vec(rt.alloc())?);
+/// Whether items give back what they were made of.
+fn gives_back_items(alloc: Global) -> bool {
+    let Ok(made) = [ITEM].to_vec(alloc) else {
+        return false;
+    };
+    let items = Items::from_vec(made);
     let are_kept = is_one(&items);
     let given = items.into_vec();
     let are_given = given.as_slice() == [ITEM].as_slice();
     drop(given);
-    assert!(rt; are_kept && are_given);
-    Ok(())
+    are_kept && are_given
+}
+
+#[test]
+fn gives_back_rows_and_items(rt: HostRuntime) {
+    let gives_rows = gives_back_rows(rt.alloc());
+    let gives_items = gives_back_items(rt.alloc());
+    assert!(rt; gives_rows && gives_items);
 }

@@ -156,9 +156,12 @@ fn written_over<R: Threads + Wait + Sync>(
 fn are_within_reach(shelf: &MemShelf, depth: u32, count: u32) -> bool {
     let count = count.min(200_000);
     let rows = reach(depth.min(count), PAGE, AHEAD, count);
-    PLACES
-        .iter()
-        .all(|place| shelf.rows_given_at(*place) <= u64::from(rows))
+    for place in &PLACES {
+        if shelf.rows_given_at(*place) > u64::from(rows) {
+            return false;
+        }
+    }
+    true
 }
 
 /// What a run over a shelf comes to that wrote this. None where a list gave more rows than are to be read for the greatest depth that is

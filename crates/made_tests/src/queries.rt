@@ -9,7 +9,7 @@ use test_support::Unmade;
 /// A query's number, the objects and lists that it is made over, and its text.
 type Row = (u32, u32, u8, &'static str);
 
-const ROWS: [Row; 9] = [
+static ROWS: [Row; 9] = [
     (0, 100, 3, "top 1 by min(l1,l2,l3) using ta cost 1 1"),
     (1, 100, 3, "top 2 by max(l1,l2,l3) using nra cost 1 2"),
     (2, 100, 3, "top 3 by sum(l1,l2,l3) using ca cost 1 3"),

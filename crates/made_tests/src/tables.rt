@@ -11,7 +11,7 @@ use tk_io::MemSink;
 /// A start, how many objects and lists, and the text of the table.
 type Row = (u64, u32, u8, &'static str);
 
-const ROWS: [Row; 7] = [
+static ROWS: [Row; 7] = [
     (0, 1, 1, "list l1\n1,951640\n"),
     (1, 1, 1, "list l1\n1,833866\n"),
     // The greatest number of `make`.

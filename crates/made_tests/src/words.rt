@@ -5,8 +5,8 @@ use command_words::{Command, WordsFault, read_command};
 use std::alloc::Global;
 use test_support::{Unmade, words_of};
 
-/// Words, and the start, the objects and the lists that they tell.
-type Row = (&'static [&'static str], (u64, u32, u8));
+/// Words, and the start, the objects and the lists that they tell, or none where they are refused.
+type Row = (&'static [&'static str], Option<(u64, u32, u8)>);
 
 /// Whether these words of `make` tell this, or are refused where nothing is told.
 fn is_told(alloc: Global, texts: &[&str], told: Option<(u64, u32, u8)>) -> Result<bool, Unmade> {
@@ -24,19 +24,19 @@ fn is_told(alloc: Global, texts: &[&str], told: Option<(u64, u32, u8)>) -> Resul
     }
 }
 
-/// Words that tell what is to be made.
-const READ: [Row; 5] = [
+/// Words that tell what is to be made, and words that are refused.
+static ROWS: [Row; 23] = [
     (
         &["make", "--start", "7", "--count", "100", "--lists", "3"],
-        (7, 100, 3),
+        Some((7, 100, 3)),
     ),
     (
         &["make", "--lists=3", "--start=7", "--count=100"],
-        (7, 100, 3),
+        Some((7, 100, 3)),
     ),
     (
         &["make", "--count", "1", "--lists", "1", "--start", "0"],
-        (0, 1, 1),
+        Some((0, 1, 1)),
     ),
     (
         &[
@@ -48,18 +48,95 @@ const READ: [Row; 5] = [
             "--lists",
             "8",
         ],
-        (9223372036854775807, 200000, 8),
+        Some((9223372036854775807, 200000, 8)),
     ),
     (
         &["make", "--start", "0", "--count", "1", "--lists", "1", "--"],
-        (0, 1, 1),
+        Some((0, 1, 1)),
+    ),
+    (&["make"], None),
+    (&["make", "--start", "0", "--count", "1"], None),
+    (&["make", "--start", "0", "--lists", "1"], None),
+    (&["make", "--count", "1", "--lists", "1"], None),
+    (
+        &[
+            "make",
+            "--start",
+            "9223372036854775808",
+            "--count",
+            "1",
+            "--lists",
+            "1",
+        ],
+        None,
+    ),
+    (
+        &["make", "--start", "0", "--count", "0", "--lists", "1"],
+        None,
+    ),
+    (
+        &["make", "--start", "0", "--count", "200001", "--lists", "1"],
+        None,
+    ),
+    (
+        &["make", "--start", "0", "--count", "1", "--lists", "0"],
+        None,
+    ),
+    (
+        &["make", "--start", "0", "--count", "1", "--lists", "9"],
+        None,
+    ),
+    (
+        &["make", "--start", "+1", "--count", "1", "--lists", "1"],
+        None,
+    ),
+    (
+        &["make", "--start", "00", "--count", "1", "--lists", "1"],
+        None,
+    ),
+    (
+        &["make", "--start", "-1", "--count", "1", "--lists", "1"],
+        None,
+    ),
+    (&["make", "--start=", "--count", "1", "--lists", "1"], None),
+    (
+        &[
+            "make", "--start", "0", "--start", "0", "--count", "1", "--lists", "1",
+        ],
+        None,
+    ),
+    (
+        &["make", "--start", "0", "--count", "1", "--lists", "1", "x"],
+        None,
+    ),
+    (
+        &[
+            "make",
+            "--start",
+            "0",
+            "--count",
+            "1",
+            "--lists",
+            "1",
+            "--queries",
+            "1",
+        ],
+        None,
+    ),
+    (
+        &["make", "--sta", "0", "--count", "1", "--lists", "1"],
+        None,
+    ),
+    (
+        &["make", "--", "--start", "0", "--count", "1", "--lists", "1"],
+        None,
     ),
 ];
 
 /// The number of the first row that tells something else.
 fn first_wrong(alloc: Global, rows: &[Row]) -> Result<Option<usize>, Unmade> {
     for (number, (words, told)) in rows.iter().enumerate() {
-        if !is_told(alloc, words, Some(*told))? {
+        if !is_told(alloc, words, *told)? {
             return Ok(Some(number));
         }
     }
@@ -68,62 +145,5 @@ fn first_wrong(alloc: Global, rows: &[Row]) -> Result<Option<usize>, Unmade> {
 
 #[test]
 fn reads_what_is_to_be_made(rt: HostRuntime) {
-    none_is_wrong(&rt, first_wrong(rt.alloc(), &READ));
-}
-
-/// Words that are refused.
-const REFUSED: [&[&str]; 18] = [
-    &["make"],
-    &["make", "--start", "0", "--count", "1"],
-    &["make", "--start", "0", "--lists", "1"],
-    &["make", "--count", "1", "--lists", "1"],
-    &[
-        "make",
-        "--start",
-        "9223372036854775808",
-        "--count",
-        "1",
-        "--lists",
-        "1",
-    ],
-    &["make", "--start", "0", "--count", "0", "--lists", "1"],
-    &["make", "--start", "0", "--count", "200001", "--lists", "1"],
-    &["make", "--start", "0", "--count", "1", "--lists", "0"],
-    &["make", "--start", "0", "--count", "1", "--lists", "9"],
-    &["make", "--start", "+1", "--count", "1", "--lists", "1"],
-    &["make", "--start", "00", "--count", "1", "--lists", "1"],
-    &["make", "--start", "-1", "--count", "1", "--lists", "1"],
-    &["make", "--start=", "--count", "1", "--lists", "1"],
-    &[
-        "make", "--start", "0", "--start", "0", "--count", "1", "--lists", "1",
-    ],
-    &["make", "--start", "0", "--count", "1", "--lists", "1", "x"],
-    &[
-        "make",
-        "--start",
-        "0",
-        "--count",
-        "1",
-        "--lists",
-        "1",
-        "--queries",
-        "1",
-    ],
-    &["make", "--sta", "0", "--count", "1", "--lists", "1"],
-    &["make", "--", "--start", "0", "--count", "1", "--lists", "1"],
-];
-
-/// The number of the first words that aren't refused.
-fn first_taken(alloc: Global, rows: &[&[&str]]) -> Result<Option<usize>, Unmade> {
-    for (number, words) in rows.iter().enumerate() {
-        if !is_told(alloc, words, None)? {
-            return Ok(Some(number));
-        }
-    }
-    Ok(None)
-}
-
-#[test]
-fn refuses_other_words(rt: HostRuntime) {
-    none_is_wrong(&rt, first_taken(rt.alloc(), &REFUSED));
+    none_is_wrong(&rt, first_wrong(rt.alloc(), &ROWS));
 }

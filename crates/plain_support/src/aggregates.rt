@@ -17,7 +17,11 @@ fn aggregates_of(
     objects: [u32; 3],
 ) -> Result<[u64; 3], Fail> {
     check_posed(alloc, table, expr)?;
-    Ok(objects.map(|object| aggregate(table, expr, object)))
+    Ok([
+        aggregate(table, expr, objects[0]),
+        aggregate(table, expr, objects[1]),
+        aggregate(table, expr, objects[2]),
+    ])
 }
 
 /// The same over the table of these lists.

@@ -5,7 +5,7 @@ use std::test::Fail;
 use test_support::{random_row, sorted_row};
 use topk_theory::Access;
 
-const THREE: [Access; 3] = [
+const THREE: &[Access] = &[
     sorted_row!(0, 1, 900),
     sorted_row!(1, 2, 700),
     random_row!(0, 2, 800),
@@ -13,16 +13,16 @@ const THREE: [Access; 3] = [
 
 /// Accesses, an object, and its bounds by sum: object 1 with one grade open, object 2 with none, object 4 that nothing named; and
 /// before any access.
-const CASES: [BoundsCase; 4] = [
-    (&THREE, 1, (900, 1600)),
-    (&THREE, 2, (1500, 1500)),
-    (&THREE, 4, (0, 1600)),
+const CASES: &[BoundsCase] = &[
+    (THREE, 1, (900, 1600)),
+    (THREE, 2, (1500, 1500)),
+    (THREE, 4, (0, 1600)),
     (&[], 4, (0, 2_000_000)),
 ];
 
 #[test]
 fn of_objects(rt: HostRuntime) -> Result<(), Fail> {
-    let wrong = first_wrong_bounds(rt.alloc(), "top 1 by sum(A,B) using ta", &CASES)?;
+    let wrong = first_wrong_bounds(rt.alloc(), "top 1 by sum(A,B) using ta", CASES)?;
     assert_eq!(rt; wrong, None);
     Ok(())
 }

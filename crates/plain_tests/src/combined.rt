@@ -1,5 +1,6 @@
 //! The combined algorithm.
 
+use super::none_is_wrong;
 use super::tables::THREE;
 use plain_support::{Case, first_wrong};
 use std::test::Fail;
@@ -16,14 +17,14 @@ const TOPS: Lists<'static> = &[
 /// The object with the greater low has the greater number and the smaller aggregate.
 const TURNED: Lists<'static> = &[&[(7, 9), (3, 8)], &[(3, 4), (7, 1)]];
 
-const NONE_ASKED: [Access; 4] = [
+const NONE_ASKED: &[Access] = &[
     sorted_row!(0, 1, 900),
     sorted_row!(1, 2, 700),
     sorted_row!(0, 2, 800),
     sorted_row!(1, 3, 600),
 ];
 
-const ONE_ASKED: [Access; 5] = [
+const ONE_ASKED: &[Access] = &[
     sorted_row!(0, 1, 900),
     sorted_row!(1, 2, 700),
     random_row!(1, 1, 500),
@@ -31,7 +32,7 @@ const ONE_ASKED: [Access; 5] = [
     sorted_row!(1, 3, 600),
 ];
 
-const ALL_ASKED: [Access; 6] = [
+const ALL_ASKED: &[Access] = &[
     sorted_row!(0, 1, 900),
     sorted_row!(1, 2, 700),
     sorted_row!(0, 2, 800),
@@ -40,7 +41,7 @@ const ALL_ASKED: [Access; 6] = [
     random_row!(0, 3, 100),
 ];
 
-const TOPS_DEPTHS: [Access; 12] = [
+const TOPS_DEPTHS: &[Access] = &[
     sorted_row!(0, 5, 9),
     sorted_row!(1, 4, 9),
     sorted_row!(2, 6, 9),
@@ -55,7 +56,7 @@ const TOPS_DEPTHS: [Access; 12] = [
     sorted_row!(2, 5, 7),
 ];
 
-const TURNED_DEPTH: [Access; 4] = [
+const TURNED_DEPTH: &[Access] = &[
     sorted_row!(0, 7, 9),
     sorted_row!(1, 3, 4),
     random_row!(1, 7, 1),
@@ -65,26 +66,26 @@ const TURNED_DEPTH: [Access; 4] = [
 /// At depth 2 nobody may be asked, or the smaller of two objects was asked at depth 1; all three are completed
 /// in their order; of three equal highs the smallest object comes first; a finish and an answer in different
 /// orders.
-const CASES: [Case; 5] = [
+const CASES: &[Case] = &[
     Case {
         text: "top 1 by sum(A,B) using ca cost 1 2",
         lists: THREE,
         depth: 2,
-        accesses: &NONE_ASKED,
+        accesses: NONE_ASKED,
         items: &[item_row!(2, 1500, 1500)],
     },
     Case {
         text: "top 1 by sum(A,B) using ca",
         lists: THREE,
         depth: 2,
-        accesses: &ONE_ASKED,
+        accesses: ONE_ASKED,
         items: &[item_row!(2, 1500, 1500)],
     },
     Case {
         text: "top 3 by sum(A,B) using ca cost 1 9",
         lists: THREE,
         depth: 2,
-        accesses: &ALL_ASKED,
+        accesses: ALL_ASKED,
         items: &[
             item_row!(2, 1500, 1500),
             item_row!(1, 1400, 1400),
@@ -95,20 +96,20 @@ const CASES: [Case; 5] = [
         text: "top 1 by sum(A,B,C) using ca",
         lists: TOPS,
         depth: 3,
-        accesses: &TOPS_DEPTHS,
+        accesses: TOPS_DEPTHS,
         items: &[item_row!(4, 24, 24)],
     },
     Case {
         text: "top 2 by sum(A,B) using ca cost 1 9",
         lists: TURNED,
         depth: 1,
-        accesses: &TURNED_DEPTH,
+        accesses: TURNED_DEPTH,
         items: &[item_row!(3, 12, 12), item_row!(7, 10, 10)],
     },
 ];
 
 #[test]
 fn by_hand(rt: HostRuntime) -> Result<(), Fail> {
-    assert_eq!(rt; first_wrong(rt.alloc(), &CASES)?, None);
+    none_is_wrong(&rt, first_wrong(rt.alloc(), CASES)?);
     Ok(())
 }

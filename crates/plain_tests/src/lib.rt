@@ -12,3 +12,12 @@ mod no_random;
 mod tables;
 #[cfg(test)]
 mod threshold;
+
+#[cfg(test)]
+use std::process::Abort;
+
+/// Every case finds what is wanted: there is no first one that doesn't.
+#[cfg(test)]
+fn none_is_wrong(rt: &impl Abort, first_wrong: Option<usize>) {
+    assert_eq!(rt; first_wrong, None);
+}

@@ -1,5 +1,6 @@
 //! The algorithm without random access.
 
+use super::none_is_wrong;
 use super::tables::THREE;
 use plain_support::{Case, first_wrong};
 use std::test::Fail;
@@ -15,21 +16,21 @@ const OPEN: Lists<'static> = &[
 /// Two lists in opposite orders.
 const CROSSED: Lists<'static> = &[&[(1, 10), (2, 8), (3, 0)], &[(3, 10), (2, 8), (1, 0)]];
 
-const THREE_DEPTHS: [Access; 4] = [
+const THREE_DEPTHS: &[Access] = &[
     sorted_row!(0, 1, 900),
     sorted_row!(1, 2, 700),
     sorted_row!(0, 2, 800),
     sorted_row!(1, 3, 600),
 ];
 
-const OPEN_DEPTHS: [Access; 4] = [
+const OPEN_DEPTHS: &[Access] = &[
     sorted_row!(0, 1, 900),
     sorted_row!(1, 2, 300),
     sorted_row!(0, 2, 100),
     sorted_row!(1, 3, 200),
 ];
 
-const CROSSED_DEPTHS: [Access; 4] = [
+const CROSSED_DEPTHS: &[Access] = &[
     sorted_row!(0, 1, 10),
     sorted_row!(1, 3, 10),
     sorted_row!(0, 2, 8),
@@ -38,19 +39,19 @@ const CROSSED_DEPTHS: [Access; 4] = [
 
 /// Object 1, outside, has a high of 1500, no more than the best's low; all three are the answer once they
 /// were seen; a best object with an open grade; the one in the middle of two orders, by the lesser grade.
-const CASES: [Case; 4] = [
+const CASES: &[Case] = &[
     Case {
         text: "top 1 by sum(A,B) using nra",
         lists: THREE,
         depth: 2,
-        accesses: &THREE_DEPTHS,
+        accesses: THREE_DEPTHS,
         items: &[item_row!(2, 1500, 1500)],
     },
     Case {
         text: "top 3 by sum(A,B) using nra",
         lists: THREE,
         depth: 2,
-        accesses: &THREE_DEPTHS,
+        accesses: THREE_DEPTHS,
         items: &[
             item_row!(2, 1500, 1500),
             item_row!(1, 900, 1500),
@@ -61,20 +62,20 @@ const CASES: [Case; 4] = [
         text: "top 1 by sum(A,B) using nra",
         lists: OPEN,
         depth: 2,
-        accesses: &OPEN_DEPTHS,
+        accesses: OPEN_DEPTHS,
         items: &[item_row!(1, 900, 1100)],
     },
     Case {
         text: "top 1 by min(A,B) using nra",
         lists: CROSSED,
         depth: 2,
-        accesses: &CROSSED_DEPTHS,
+        accesses: CROSSED_DEPTHS,
         items: &[item_row!(2, 8, 8)],
     },
 ];
 
 #[test]
 fn by_hand(rt: HostRuntime) -> Result<(), Fail> {
-    assert_eq!(rt; first_wrong(rt.alloc(), &CASES)?, None);
+    none_is_wrong(&rt, first_wrong(rt.alloc(), CASES)?);
     Ok(())
 }

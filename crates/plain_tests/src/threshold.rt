@@ -1,5 +1,6 @@
 //! The threshold algorithm.
 
+use super::none_is_wrong;
 use super::tables::THREE;
 use plain_support::{Case, aggregates_by, first_wrong};
 use std::test::Fail;
@@ -12,7 +13,7 @@ const ALIKE: Lists<'static> = &[
 ];
 
 /// All three depths of the table of three.
-const THREE_DEPTHS: [Access; 9] = [
+const THREE_DEPTHS: &[Access] = &[
     sorted_row!(0, 1, 900),
     sorted_row!(1, 2, 700),
     random_row!(1, 1, 500),
@@ -25,7 +26,7 @@ const THREE_DEPTHS: [Access; 9] = [
 ];
 
 /// Its first two depths.
-const TWO_DEPTHS: [Access; 7] = [
+const TWO_DEPTHS: &[Access] = &[
     sorted_row!(0, 1, 900),
     sorted_row!(1, 2, 700),
     random_row!(1, 1, 500),
@@ -36,14 +37,14 @@ const TWO_DEPTHS: [Access; 7] = [
 ];
 
 /// Its first depth.
-const ONE_DEPTH: [Access; 4] = [
+const ONE_DEPTH: &[Access] = &[
     sorted_row!(0, 1, 900),
     sorted_row!(1, 2, 700),
     random_row!(1, 1, 500),
     random_row!(0, 2, 800),
 ];
 
-const ALIKE_DEPTH: [Access; 4] = [
+const ALIKE_DEPTH: &[Access] = &[
     sorted_row!(0, 3, 5),
     sorted_row!(1, 4, 5),
     random_row!(1, 3, 5),
@@ -52,19 +53,19 @@ const ALIKE_DEPTH: [Access; 4] = [
 
 /// The thresholds by sum are 1600 and 1400, and all three objects are known at the last depth; by the
 /// lesser grade the threshold is 700; of objects with equal grades that were met the lesser number wins.
-const CASES: [Case; 5] = [
+const CASES: &[Case] = &[
     Case {
         text: "top 1 by sum(A,B) using ta",
         lists: THREE,
         depth: 2,
-        accesses: &TWO_DEPTHS,
+        accesses: TWO_DEPTHS,
         items: &[item_row!(2, 1500, 1500)],
     },
     Case {
         text: "top 3 by sum(A,B) using ta",
         lists: THREE,
         depth: 3,
-        accesses: &THREE_DEPTHS,
+        accesses: THREE_DEPTHS,
         items: &[
             item_row!(2, 1500, 1500),
             item_row!(1, 1400, 1400),
@@ -75,28 +76,28 @@ const CASES: [Case; 5] = [
         text: "top 1 by min(A,B) using ta",
         lists: THREE,
         depth: 1,
-        accesses: &ONE_DEPTH,
+        accesses: ONE_DEPTH,
         items: &[item_row!(2, 700, 700)],
     },
     Case {
         text: "top 1 by sum(min(A,B),B) using ta",
         lists: THREE,
         depth: 1,
-        accesses: &ONE_DEPTH,
+        accesses: ONE_DEPTH,
         items: &[item_row!(2, 1400, 1400)],
     },
     Case {
         text: "top 1 by sum(A,B) using ta",
         lists: ALIKE,
         depth: 1,
-        accesses: &ALIKE_DEPTH,
+        accesses: ALIKE_DEPTH,
         items: &[item_row!(3, 10, 10)],
     },
 ];
 
 #[test]
 fn by_hand(rt: HostRuntime) -> Result<(), Fail> {
-    assert_eq!(rt; first_wrong(rt.alloc(), &CASES)?, None);
+    none_is_wrong(&rt, first_wrong(rt.alloc(), CASES)?);
     Ok(())
 }
 

@@ -7,9 +7,9 @@ ghost use Rattle.pool_support.specs.Ready.{IsReady, MayAsk};
 
 use fetcher::{Turned, fetch_turn};
 use mem_source::MemSource;
-use ranked_list::{Need, Row};
+use ranked_list::Need;
 use source_pool::{Feeder, Feeders, Pool, PoolPass};
-use source_state::{Look, SourceState};
+use source_state::Look;
 use std::alloc::Global;
 use std::sync::Wait;
 
@@ -34,21 +34,6 @@ pub enum Step {
     Other(Need, Look),
     /// A turn of the fetcher.
     Turn(Turned),
-}
-
-/// A source in memory of these objects with their grades.
-pub fn make_source(alloc: Global, pairs: &[(u32, u32)]) -> Option<MemSource> {
-    let mut rows = Vec::new(alloc);
-    for pair in pairs {
-        let row = Row {
-            object: pair.0,
-            grade: pair.1,
-        };
-        if rows.push(row).is_err() {
-            return None;
-        }
-    }
-    MemSource::make(alloc, rows.as_slice()).ok()
 }
 
 /// Whether a need may be looked for in a list of so many objects.
@@ -76,14 +61,20 @@ fn alone(alloc: Global, feeder: Feeder) -> Option<Feeders>
     ensures { IfSome result (λ feeders. feeders ≡ feeder ∷ []) }
 {
     let Ok(mut feeders) = Vec::with_capacity(alloc, 1) else {
+        drop(feeder);
         return None;
     };
     feeders.push_reserved(feeder);
     Some(Feeders::from_vec(feeders))
 }
 
-/// Joins one pass to the other, and closes the pool.
-fn close_by(pool: Pool, mut pass: PoolPass, late: PoolPass, feeders: Feeders) -> Option<SourceState>
+/// Joins one pass to the other, and closes the pool: the want, the number of asks and the number of rows then.
+fn close_by(
+    pool: Pool,
+    mut pass: PoolPass,
+    late: PoolPass,
+    feeders: Feeders,
+) -> Option<(u32, u32, u32)>
     requires one { length pool ≡ 1 }
     requires own { IsPassOf pool pass }
     requires late { IsPassOf pool late }
@@ -92,7 +83,13 @@ fn close_by(pool: Pool, mut pass: PoolPass, late: PoolPass, feeders: Feeders) ->
 {
     pool.join(&mut pass, late);
     let states = pool.close(pass, feeders);
-    states.into_vec().pop()
+    let closed = states.into_vec();
+    let figures = match closed.first() {
+        Some(state) => Some((state.want(), state.asks(), state.rows())),
+        None => None,
+    };
+    drop(closed);
+    figures
 }
 
 impl Desk {
@@ -107,9 +104,14 @@ impl Desk {
             return None;
         };
         let Some(feeder) = only(feeders) else {
+            drop(pass);
+            drop(pool);
             return None;
         };
         let Ok(other) = pool.split(alloc, &mut pass) else {
+            drop(feeder);
+            drop(pass);
+            drop(pool);
             return None;
         };
         Some(Desk {
@@ -173,8 +175,14 @@ impl Desk {
         }
     }
 
-    /// Joins the passes, the first to the other or the other to the first, and closes the pool. None without memory.
-    pub fn close(self, alloc: Global, to_other: bool) -> Option<SourceState>
+    /// Lets the pool go, with its passes and its feeder.
+    pub fn let_go(self) {
+        drop(self);
+    }
+
+    /// Joins the passes, the first to the other or the other to the first, and closes the pool: the want, the number of asks and the number
+    /// of rows then. None without memory.
+    pub fn close(self, alloc: Global, to_other: bool) -> Option<(u32, u32, u32)>
         requires { IsReady self }
     {
         let Desk {
@@ -184,7 +192,12 @@ impl Desk {
             feeder,
             ..
         } = self;
-        let feeders = alone(alloc, feeder)?;
+        let Some(feeders) = alone(alloc, feeder) else {
+            drop(other);
+            drop(pass);
+            drop(pool);
+            return None;
+        };
         if to_other {
             return close_by(pool, other, pass, feeders);
         }

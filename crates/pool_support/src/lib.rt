@@ -5,5 +5,5 @@
 mod desk;
 mod pair;
 
-pub use desk::{Desk, Step, first_wrong, make_source, only};
+pub use desk::{Desk, Step, first_wrong, only};
 pub use pair::Pair;

@@ -36,6 +36,8 @@ impl Pair {
             return None;
         };
         let Some((first, second)) = both(feeders) else {
+            drop(pass);
+            drop(pool);
             return None;
         };
         Some(Pair {

@@ -140,7 +140,7 @@ macro_rules! held {
     };
 }
 
-const TRIED: [Tried; 6] = [
+static TRIED: [Tried; 6] = [
     (held!(ROWS, Kind::FailsAtPage(2)), 3, &FAILED_PAGE),
     (held!(ROWS, Kind::Lies(2, 850)), 3, &CLASH),
     (held!(ROWS, Kind::Lies(2, 950)), 3, &ABOVE),
@@ -161,7 +161,7 @@ fn answers(
 {
     let mut desk = Desk::open(alloc, count, 1, 0)?;
     let wrong = first_wrong(rt, alloc, &mut desk, source, steps);
-    drop(desk);
+    desk.let_go();
     Some(wrong.is_none())
 }
 

@@ -37,7 +37,7 @@ const FIRST: Look = Look::Row(Row {
 });
 
 /// Pages of two rows with one page ahead: idle at the reach, and again after the next want. A grade comes before a page.
-const AHEAD: [Step; 9] = [
+static AHEAD: [Step; 9] = [
     Step::Turn(Turned::Idle),
     Step::Look(ROW_1, Look::NotYet),
     Step::Turn(Turned::Paged { rows: 2 }),
@@ -50,7 +50,7 @@ const AHEAD: [Step; 9] = [
 ];
 
 /// Both passes waited when a page failed, and each is told once; what one wants the other finds there.
-const SHARED: [Step; 9] = [
+static SHARED: [Step; 9] = [
     Step::Look(ROW_1, Look::NotYet),
     Step::Other(ROW_1, Look::NotYet),
     Step::Turn(Turned::Failed),
@@ -78,10 +78,8 @@ fn over_source(
 {
     let mut desk = Desk::open(alloc, 10, page, ahead)?;
     let wrong = first_wrong(rt, alloc, &mut desk, source, steps).unwrap_or(100);
-    let state = desk.close(alloc, to_other)?;
-    let figures = (wrong, state.want(), state.asks(), state.rows());
-    drop(state);
-    Some(figures)
+    let (want, asks, rows) = desk.close(alloc, to_other)?;
+    Some((wrong, want, asks, rows))
 }
 
 /// The same over the ten rows.
@@ -108,16 +106,15 @@ fn over_ten(
     figures
 }
 
+/// Nothing is read further than the reach, and one page is read for both passes.
 #[test]
-fn reads_no_further_than_the_reach(rt: HostRuntime) -> Result<(), Fail> {
-    let figures = over_ten(&rt, rt.alloc(), Kind::Honest, 2, 1, &AHEAD, false);
-    assert_eq!(rt; figures, Some((100, 5, 1, 6)));
-    Ok(())
-}
-
-#[test]
-fn reads_one_page_for_both(rt: HostRuntime) -> Result<(), Fail> {
-    let figures = over_ten(&rt, rt.alloc(), Kind::FailsAtPage(1), 1, 0, &SHARED, true);
-    assert_eq!(rt; figures, Some((100, 1, 0, 1)));
+fn reads_as_far_as_the_passes_want(rt: HostRuntime) -> Result<(), Fail> {
+    let ahead = over_ten(&rt, rt.alloc(), Kind::Honest, 2, 1, &AHEAD, false);
+    let shared = over_ten(&rt, rt.alloc(), Kind::FailsAtPage(1), 1, 0, &SHARED, true);
+    let are_so = [
+        ahead == Some((100, 5, 1, 6)),
+        shared == Some((100, 1, 0, 1)),
+    ];
+    assert_eq!(rt; are_so, [true, true]);
     Ok(())
 }

@@ -2,7 +2,7 @@
 
 use access_log::{Answer, CoreFault, Transcript};
 use query_text::Costs;
-use query_turns::{Ended, Memory};
+use query_turns::{Ended, Endings, Memory};
 use source_state::LookFault;
 
 /// What the accesses of an answer come to, where each costs 1.
@@ -96,4 +96,9 @@ pub fn has_ended_so(ended: Result<Ended, Memory>, expected: &Expected) -> bool {
     let so = is_ended_so(&ended, expected);
     drop(ended);
     so
+}
+
+/// Lets the endings of queries go. Who owns some lets them go by this call, so that it is proved once.
+pub fn let_endings_go(endings: Endings) {
+    drop(endings);
 }

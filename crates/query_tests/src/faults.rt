@@ -1,57 +1,50 @@
 //! Lines worked out by hand: each reason of a refusal at its edges, and lines that are read and printed.
 
+use super::none_is_wrong;
 use query_reading::read;
 use query_text::QueryFault::{
     LongLine, Number, Syntax, TooBig, TooDeep, TooManyLists, TooManyNodes,
 };
 use query_text::{Query, QueryFault, print};
 use std::alloc::{AllocError, Global};
-use std::process::Abort;
-use std::test::Fail;
 
 /// Whether a query is printed as this line.
-fn is_printed(alloc: Global, query: &Query, line: &[u8]) -> Result<bool, Fail> {
-    let text = print(alloc, query)?;
+fn is_printed(alloc: Global, query: &Query, line: &[u8]) -> bool {
+    let Ok(text) = print(alloc, query) else {
+        return false;
+    };
     let is_so = text.as_slice() == line;
     drop(text);
-    Ok(is_so)
+    is_so
 }
 
-/// Why a line is refused, or None where it is read, and then it is printed as it was.
-fn fault_of(rt: &impl Abort, alloc: Global, line: &[u8]) -> Result<Option<QueryFault>, Fail> {
+/// Whether a line is refused for this reason, or is read where there is none, and then it is printed as it was.
+fn comes_to(alloc: Global, line: &[u8], expected: Option<QueryFault>) -> bool {
     match read(alloc, line) {
         Ok(query) => {
-            let printed = is_printed(alloc, &query, line);
+            let is_so = is_printed(alloc, &query, line);
             drop(query);
-            assert!(rt; printed?);
-            Ok(None)
+            is_so && expected.is_none()
         }
-        Err(fault) => Ok(Some(fault)),
+        Err(fault) => expected == Some(fault),
     }
 }
 
-/// This comes of a line.
-fn comes_to(
-    rt: &impl Abort,
-    alloc: Global,
-    line: &[u8],
-    expected: Option<QueryFault>,
-) -> Result<(), Fail> {
-    let fault = fault_of(rt, alloc, line)?;
-    assert_eq!(rt; fault, expected, "{line:?}");
-    Ok(())
-}
+/// A line, and why it is refused.
+type Row = (&'static [u8], QueryFault);
 
-/// These lines are refused, each for its reason.
-fn are_refused(rt: &impl Abort, alloc: Global, rows: &[(&[u8], QueryFault)]) -> Result<(), Fail> {
-    for (line, fault) in rows {
-        comes_to(rt, alloc, line, Some(*fault))?;
+/// The number of the first line that comes to something else.
+fn first_wrong(alloc: Global, rows: &[Row]) -> Option<usize> {
+    for (number, (line, fault)) in rows.iter().enumerate() {
+        if !comes_to(alloc, line, Some(*fault)) {
+            return Some(number);
+        }
     }
-    Ok(())
+    None
 }
 
 /// Lines that aren't of the shape of query text.
-const SHAPES: [(&[u8], QueryFault); 29] = [
+const SHAPES: [Row; 29] = [
     (b"", Syntax { at: 0 }),
     (b"top 01 by A using ta", Syntax { at: 5 }),
     (b"top 1 by", Syntax { at: 8 }),
@@ -86,13 +79,8 @@ const SHAPES: [(&[u8], QueryFault); 29] = [
     ),
 ];
 
-#[test]
-fn syntax_faults(rt: HostRuntime) -> Result<(), Fail> {
-    are_refused(&rt, rt.alloc(), &SHAPES)
-}
-
 /// Lines with a number out of its range, or with a ninth list.
-const RANGES: [(&[u8], QueryFault); 13] = [
+const RANGES: [Row; 13] = [
     (b"top 0 by A using ta", Number { at: 4 }),
     (b"top 1000001 by A using ta", Number { at: 4 }),
     (b"top 1 by A using ta cost 0 1", Number { at: 25 }),
@@ -124,8 +112,9 @@ const RANGES: [(&[u8], QueryFault); 13] = [
 ];
 
 #[test]
-fn number_and_name_faults(rt: HostRuntime) -> Result<(), Fail> {
-    are_refused(&rt, rt.alloc(), &RANGES)
+fn refuses_lines(rt: HostRuntime) {
+    none_is_wrong(&rt, first_wrong(rt.alloc(), &SHAPES));
+    none_is_wrong(&rt, first_wrong(rt.alloc(), &RANGES));
 }
 
 /// Lines that are read.
@@ -143,12 +132,14 @@ const READ: [&[u8]; 11] = [
     b"top 12 by sum(zeta,A,zeta) using ta cost 7 80 room 900",
 ];
 
-#[test]
-fn reads_and_prints(rt: HostRuntime) -> Result<(), Fail> {
-    for line in &READ {
-        comes_to(&rt, rt.alloc(), line, None)?;
+/// The number of the first line that isn't read, or is printed otherwise.
+fn first_unread(alloc: Global, lines: &[&[u8]]) -> Option<usize> {
+    for (number, line) in lines.iter().enumerate() {
+        if !comes_to(alloc, line, None) {
+            return Some(number);
+        }
     }
-    Ok(())
+    None
 }
 
 /// A front, a text, how often it stands behind it, the end, and what comes of the line.
@@ -240,34 +231,29 @@ fn add(line: &mut Vec<u8>, text: &[u8], count: u32, end: &[u8]) -> Result<(), Al
     line.extend_from_slice(end)
 }
 
-/// A long line.
-fn line_of(alloc: Global, row: &Long) -> Result<Vec<u8>, Fail> {
-    let (front, text, count, end, _) = *row;
-    let mut line = front.to_vec(alloc)?;
-    match add(&mut line, text, count, end) {
-        Ok(()) => Ok(line),
-        Err(error) => {
-            drop(line);
-            Err(error.into())
+/// Whether a long line comes to what is wanted.
+fn is_long_so(alloc: Global, row: &Long) -> bool {
+    let (front, text, count, end, expected) = *row;
+    let Ok(mut line) = front.to_vec(alloc) else {
+        return false;
+    };
+    let is_so = add(&mut line, text, count, end).is_ok() && comes_to(alloc, &line, expected);
+    drop(line);
+    is_so
+}
+
+/// The number of the first long line that comes to something else.
+fn first_wrong_of_long(alloc: Global, rows: &[Long]) -> Option<usize> {
+    for (number, row) in rows.iter().enumerate() {
+        if !is_long_so(alloc, row) {
+            return Some(number);
         }
     }
+    None
 }
 
-/// Each long line comes to what is wanted.
-#[test]
-fn limits_of_lines_and_expressions(rt: HostRuntime) -> Result<(), Fail> {
-    for row in &LONG {
-        let line = line_of(rt.alloc(), row)?;
-        let outcome = comes_to(&rt, rt.alloc(), &line, row.4);
-        drop(line);
-        outcome?;
-    }
-    Ok(())
-}
-
-/// A front of a line ends at its end, but where it is a whole query.
-#[test]
-fn truncations(rt: HostRuntime) -> Result<(), Fail> {
+/// The length of the first front of a line that doesn't end at its end, where it is no whole query.
+fn first_wrong_front(alloc: Global) -> Option<usize> {
     let line = b"top 12 by wsum(3*Alpha,40*max(b_1,Alpha)) using ta cost 7 80 room 900";
     let whole = [50, 59, 60, 67, 68, 69];
     for count in 0..=line.len() {
@@ -277,7 +263,16 @@ fn truncations(rt: HostRuntime) -> Result<(), Fail> {
         } else {
             Some(Syntax { at })
         };
-        comes_to(&rt, rt.alloc(), &line[..count], expected)?;
+        if !comes_to(alloc, &line[..count], expected) {
+            return Some(count);
+        }
     }
-    Ok(())
+    None
+}
+
+#[test]
+fn reads_and_prints(rt: HostRuntime) {
+    none_is_wrong(&rt, first_unread(rt.alloc(), &READ));
+    none_is_wrong(&rt, first_wrong_of_long(rt.alloc(), &LONG));
+    none_is_wrong(&rt, first_wrong_front(rt.alloc()));
 }

@@ -1,40 +1,47 @@
 //! What a query holds.
 
+use super::none_is_wrong;
 use query_reading::read;
 use query_text::{Algorithm, Costs, Names, Query};
 use std::alloc::Global;
-use std::process::Abort;
-use std::test::Fail;
 
-/// The algorithm of a line's query.
-fn algorithm_of(alloc: Global, line: &[u8]) -> Result<Algorithm, Fail> {
-    let query = read(alloc, line)?;
-    let algorithm = query.algorithm;
+/// Whether the query of a line asks for this algorithm.
+fn is_asked_by(alloc: Global, line: &[u8], algorithm: Algorithm) -> bool {
+    let Ok(query) = read(alloc, line) else {
+        return false;
+    };
+    let is_so = query.algorithm == algorithm;
     drop(query);
-    Ok(algorithm)
+    is_so
 }
 
-#[test]
-fn a_query_names_its_algorithm(rt: HostRuntime) -> Result<(), Fail> {
-    let rows: [(&[u8], Algorithm); 3] = [
-        (b"top 1 by A using ta", Algorithm::Ta),
-        (b"top 1 by A using nra", Algorithm::Nra),
-        (b"top 1 by A using ca", Algorithm::Ca),
-    ];
-    for (line, algorithm) in rows {
-        assert!(rt; algorithm_of(rt.alloc(), line)? == algorithm);
+/// Lines, and the algorithm of each.
+const ALGORITHMS: [(&[u8], Algorithm); 3] = [
+    (b"top 1 by A using ta", Algorithm::Ta),
+    (b"top 1 by A using nra", Algorithm::Nra),
+    (b"top 1 by A using ca", Algorithm::Ca),
+];
+
+/// The number of the first line whose query asks for another algorithm.
+fn first_other(alloc: Global, rows: &[(&[u8], Algorithm)]) -> Option<usize> {
+    for (number, (line, algorithm)) in rows.iter().enumerate() {
+        if !is_asked_by(alloc, line, *algorithm) {
+            return Some(number);
+        }
     }
-    Ok(())
+    None
 }
 
-/// Compares the numbers of a query.
-fn has_numbers(rt: &impl Abort, query: &Query) {
+/// A line with all parts.
+const LINE: &[u8] = b"top 12 by sum(zeta,A,zeta) using ta cost 7 80 room 900";
+
+/// Whether a query has the numbers of that line.
+fn has_numbers(query: &Query) -> bool {
     let costs = Costs {
         sorted: 7,
         random: 80,
     };
-    let numbers = (query.k, query.cost, query.room, query.expr.lists());
-    assert_eq!(rt; numbers, (12, Some(costs), Some(900), 2));
+    query.k == 12 && query.cost == Some(costs) && query.room == Some(900) && query.expr.lists() == 2
 }
 
 /// Whether there are two names, and these.
@@ -46,17 +53,27 @@ fn are_two(names: &Names, first: &[u8], second: &[u8]) -> bool {
         && names.get(2).is_none()
 }
 
-/// Each list has one name, in the order in which the names come first.
-#[test]
-fn a_query_has_its_parts(rt: HostRuntime) -> Result<(), Fail> {
-    let line = b"top 12 by sum(zeta,A,zeta) using ta cost 7 80 room 900";
-    let query = read(rt.alloc(), line)?;
-    has_numbers(&rt, &query);
-    assert!(rt; query.algorithm == Algorithm::Ta);
+/// Whether a query has the parts of that line: each list has one name, in the order in which the names come first.
+fn has_parts(query: Query) -> bool {
+    let are_so = has_numbers(&query) && query.algorithm == Algorithm::Ta;
     let Query { names, expr, .. } = query;
     drop(expr);
     let again = Names::from_vec(names.into_vec());
-    assert!(rt; are_two(&again, b"zeta", b"A"));
+    let are_named = are_two(&again, b"zeta", b"A");
     drop(again);
-    Ok(())
+    are_so && are_named
+}
+
+/// Whether that line is read, and its query has these parts.
+fn is_read(alloc: Global) -> bool {
+    match read(alloc, LINE) {
+        Ok(query) => has_parts(query),
+        Err(_) => false,
+    }
+}
+
+#[test]
+fn a_query_has_its_parts(rt: HostRuntime) {
+    none_is_wrong(&rt, first_other(rt.alloc(), &ALGORITHMS));
+    assert!(rt; is_read(rt.alloc()));
 }

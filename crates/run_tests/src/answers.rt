@@ -70,7 +70,7 @@ const RISING_LINES: &str = "top 1 by sum(A,B) using ta\ntop 2 by sum(A,B) using 
 const RISING_TEXT: &str =
     "certificate 1\nquery top 1 by sum(A,B) using ta\ncount 2\nanswer 1 900 900\nstop depth 1 sorted 2 random 0 cost 2\ns A 1 500\ns B 1 400\nend\nrefused 2 OutOfOrder A 2 500 600\n";
 
-const ANSWERED: &[Row] = &[
+static ANSWERED: [Row; 7] = [
     Row {
         case: Case {
             options: &[],
@@ -145,5 +145,5 @@ const ANSWERED: &[Row] = &[
 
 #[test]
 fn answers_lines_in_their_order(rt: HostRuntime) {
-    none_is_wrong(&rt, first_wrong(&rt, rt.alloc(), ANSWERED));
+    none_is_wrong(&rt, first_wrong(&rt, rt.alloc(), &ANSWERED));
 }

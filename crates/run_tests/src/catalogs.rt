@@ -5,7 +5,7 @@ use run_support::{Case, Row, Status, first_wrong};
 
 const LINES: &str = "top 1 by A using ta\n";
 
-const NO_CATALOGS: &[Row] = &[
+static NO_CATALOGS: [Row; 5] = [
     Row {
         case: Case {
             options: &[],
@@ -60,5 +60,5 @@ const NO_CATALOGS: &[Row] = &[
 
 #[test]
 fn refuses_what_is_no_catalog(rt: HostRuntime) {
-    none_is_wrong(&rt, first_wrong(&rt, rt.alloc(), NO_CATALOGS));
+    none_is_wrong(&rt, first_wrong(&rt, rt.alloc(), &NO_CATALOGS));
 }

@@ -63,7 +63,7 @@ const NOT_WRITTEN: FaultyRun = FaultyRun {
     given: 2,
 };
 
-const ROWS: &[FaultyShelf] = &[
+static ROWS: [FaultyShelf; 4] = [
     // the catalog comes before the input: it is missed, or refused, before a read can fail
     FaultyShelf {
         catalog: None,
@@ -99,5 +99,5 @@ const ROWS: &[FaultyShelf] = &[
 
 #[test]
 fn ends_at_each_fault(rt: HostRuntime) {
-    none_is_wrong(&rt, first_wrong_fault(&rt, rt.alloc(), ROWS));
+    none_is_wrong(&rt, first_wrong_fault(&rt, rt.alloc(), &ROWS));
 }

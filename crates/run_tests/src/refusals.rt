@@ -16,7 +16,9 @@ const SECOND: Held = Held {
     kind: Kind::Honest,
 };
 
-const BY_TEXT: &[Row] = &[
+/// Lines that are refused by their text and the catalog, by the rows of their sources, and by the grades and sizes that sources give.
+static REFUSED: [Row; 9] = [
+    // by the text and the catalog
     Row {
         case: Case {
             options: &[],
@@ -37,9 +39,7 @@ const BY_TEXT: &[Row] = &[
         status: Status::Partial,
         text: "refused 1 NotOpened N\nrefused 2 NotOpened M\nrefused 3 UnknownList Z\n",
     },
-];
-
-const BY_ROWS: &[Row] = &[
+    // by the rows
     Row {
         case: Case {
             options: &["--page", "2"],
@@ -106,9 +106,7 @@ const BY_ROWS: &[Row] = &[
         status: Status::Partial,
         text: "refused 1 Missing A 3\nrefused 2 Missing A 4\nrefused 3 AsksFull A 2\n",
     },
-];
-
-const BY_GRADES: &[Row] = &[
+    // by the grades and sizes that are given
     Row {
         case: Case {
             options: ONE_ROW,
@@ -180,16 +178,6 @@ const BY_GRADES: &[Row] = &[
 ];
 
 #[test]
-fn refuses_by_text_and_catalog(rt: HostRuntime) {
-    none_is_wrong(&rt, first_wrong(&rt, rt.alloc(), BY_TEXT));
-}
-
-#[test]
-fn refuses_by_rows(rt: HostRuntime) {
-    none_is_wrong(&rt, first_wrong(&rt, rt.alloc(), BY_ROWS));
-}
-
-#[test]
-fn refuses_by_grades(rt: HostRuntime) {
-    none_is_wrong(&rt, first_wrong(&rt, rt.alloc(), BY_GRADES));
+fn refuses_lines(rt: HostRuntime) {
+    none_is_wrong(&rt, first_wrong(&rt, rt.alloc(), &REFUSED));
 }

@@ -7,7 +7,7 @@ use std::test::Fail;
 /// Grades that are put under places or taken away, a bound, and the first place above it.
 type Changed = (&'static [(u32, Option<u32>)], u32, Option<u32>);
 
-const ROWS: [Changed; 7] = [
+static ROWS: [Changed; 7] = [
     (&[], 0, None),
     (&[(0, Some(0))], 0, None),
     (&[(3, Some(7)), (1, Some(5)), (4, Some(9))], 4, Some(1)),

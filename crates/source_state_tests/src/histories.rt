@@ -16,7 +16,7 @@ type Paged = (
 );
 
 /// Rows at fault.
-const ROWS: [Paged; 4] = [
+static ROWS: [Paged; 4] = [
     // a row out of order ends the page
     (
         &[Step::Page(&[(1, 900), (2, 950), (3, 800)])],
@@ -68,7 +68,7 @@ const ROWS: [Paged; 4] = [
 ];
 
 /// Grades above rows.
-const ABOVE: [Paged; 5] = [
+static ABOVE: [Paged; 5] = [
     // a grade above the last row's
     (
         &[Step::Ask(2), Step::Page(&[(1, 900)]), Step::Grade(2, 950)],
@@ -183,18 +183,6 @@ fn first_wrong(alloc: Global, rows: &[Paged]) -> Result<Option<usize>, Fail> {
     Ok(None)
 }
 
-#[test]
-fn tells_rows_at_fault(rt: HostRuntime) -> Result<(), Fail> {
-    assert_eq!(rt; first_wrong(rt.alloc(), &ROWS)?, None);
-    Ok(())
-}
-
-#[test]
-fn tells_grades_above_rows(rt: HostRuntime) -> Result<(), Fail> {
-    assert_eq!(rt; first_wrong(rt.alloc(), &ABOVE)?, None);
-    Ok(())
-}
-
 /// Events, how many rows there are then, what is told of the asks of objects 2 and 1, the first pending ask, how many fails there
 /// were, and whether there is a pause.
 type Waited = (
@@ -208,7 +196,7 @@ type Waited = (
 );
 
 /// Asks and pauses.
-const ASKS: [Waited; 6] = [
+static ASKS: [Waited; 6] = [
     (&[], 0, None, None, None, 0, false),
     // an ask ends a pause
     (
@@ -297,14 +285,20 @@ fn first_other(alloc: Global, rows: &[Waited]) -> Result<Option<usize>, Fail> {
     Ok(None)
 }
 
+/// Rows at fault, grades above rows, asks and pauses.
 #[test]
-fn tells_asks_and_pauses(rt: HostRuntime) -> Result<(), Fail> {
-    assert_eq!(rt; first_other(rt.alloc(), &ASKS)?, None);
+fn tells_what_there_is_after_events(rt: HostRuntime) -> Result<(), Fail> {
+    let wrong = [
+        first_wrong(rt.alloc(), &ROWS)?,
+        first_wrong(rt.alloc(), &ABOVE)?,
+        first_other(rt.alloc(), &ASKS)?,
+    ];
+    assert_eq!(rt; wrong, [None, None, None]);
     Ok(())
 }
 
 /// Wants, an ask, a page of two rows, and fails.
-const MANY: [Step; 7] = [
+static MANY: [Step; 7] = [
     Step::Want(2),
     Step::Want(1),
     Step::Ask(9),

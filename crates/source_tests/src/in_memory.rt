@@ -57,8 +57,8 @@ const GARBLED: Trouble = Trouble::Garbled;
 /// The last two rows.
 const LAST: &[(u32, u32)] = &[(2, 800), (3, 100)];
 
-/// Sources of which no call fails.
-const ANSWERED: [Called; 3] = [
+/// Sources of which no call fails, calls for pages or for grades fail and garble, and one that lies.
+static SOURCES: [Called; 8] = [
     (
         "pages",
         NO_FAULTS,
@@ -100,10 +100,6 @@ const ANSWERED: [Called; 3] = [
             ..UNCOUNTED
         },
     ),
-];
-
-/// Sources of which calls for pages fail and garble.
-const FAULTY_PAGES: [Called; 2] = [
     (
         "the first page fails, the second garbles",
         Faults {
@@ -145,10 +141,6 @@ const FAULTY_PAGES: [Called; 2] = [
             ..UNCOUNTED
         },
     ),
-];
-
-/// Sources of which calls for grades fail and garble.
-const FAULTY_GRADES: [Called; 2] = [
     (
         "the first grade garbles, the third fails",
         Faults {
@@ -190,49 +182,49 @@ const FAULTY_GRADES: [Called; 2] = [
             ..UNCOUNTED
         },
     ),
+    (
+        "lies",
+        Faults {
+            lies: &[
+                Row {
+                    object: 2,
+                    grade: 850,
+                },
+                Row {
+                    object: 2,
+                    grade: 1,
+                },
+                Row {
+                    object: 9,
+                    grade: 7,
+                },
+            ],
+            ..NO_FAULTS
+        },
+        &[
+            Step::Size(3),
+            Step::Page(1, 5, Ok(LAST)),
+            Step::Grade(2, Ok(Some(850))),
+            Step::Grade(9, Ok(Some(7))),
+            Step::Grade(3, Ok(Some(100))),
+        ],
+        Counts {
+            rows_given: 2,
+            grades_given: 3,
+            ..UNCOUNTED
+        },
+    ),
 ];
 
-/// A source that lies.
-const LYING: [Called; 1] = [(
-    "lies",
-    Faults {
-        lies: &[
-            Row {
-                object: 2,
-                grade: 850,
-            },
-            Row {
-                object: 2,
-                grade: 1,
-            },
-            Row {
-                object: 9,
-                grade: 7,
-            },
-        ],
-        ..NO_FAULTS
-    },
-    &[
-        Step::Size(3),
-        Step::Page(1, 5, Ok(LAST)),
-        Step::Grade(2, Ok(Some(850))),
-        Step::Grade(9, Ok(Some(7))),
-        Step::Grade(3, Ok(Some(100))),
-    ],
-    Counts {
-        rows_given: 2,
-        grades_given: 3,
-        ..UNCOUNTED
-    },
-)];
-
 /// Gives a source these faults.
-fn set_up(alloc: Global, source: &mut MemSource, faults: Faults) -> Result<(), Memory> {
-    source.fail_pages = Vec::from_slice(alloc, faults.fail_pages)?;
-    source.garble_pages = Vec::from_slice(alloc, faults.garble_pages)?;
-    source.fail_grades = Vec::from_slice(alloc, faults.fail_grades)?;
-    source.garble_grades = Vec::from_slice(alloc, faults.garble_grades)?;
-    source.lies = Vec::from_slice(alloc, faults.lies)?;
+fn set_up(source: &mut MemSource, faults: &Faults) -> Result<(), Memory> {
+    source.fail_pages.extend_from_slice(faults.fail_pages)?;
+    source.garble_pages.extend_from_slice(faults.garble_pages)?;
+    source.fail_grades.extend_from_slice(faults.fail_grades)?;
+    source
+        .garble_grades
+        .extend_from_slice(faults.garble_grades)?;
+    source.lies.extend_from_slice(faults.lies)?;
     source.stated = faults.stated;
     Ok(())
 }
@@ -243,15 +235,15 @@ type Outcome = (Option<usize>, Counts);
 fn outcome_by(
     alloc: Global,
     source: &mut MemSource,
-    faults: Faults,
+    faults: &Faults,
     steps: &[Step],
 ) -> Result<Outcome, Memory> {
-    set_up(alloc, source, faults)?;
+    set_up(source, faults)?;
     let wrong = first_wrong(alloc, source, steps);
     Ok((wrong, source.counts()))
 }
 
-fn outcome_of(alloc: Global, faults: Faults, steps: &[Step]) -> Result<Outcome, Memory> {
+fn outcome_of(alloc: Global, faults: &Faults, steps: &[Step]) -> Result<Outcome, Memory> {
     let Ok(mut source) = MemSource::make(alloc, &ROWS) else {
         return Err(Memory);
     };
@@ -266,7 +258,7 @@ type Called = (&'static str, Faults, &'static [Step], Counts);
 /// The name of the first source that answers or counts otherwise.
 fn first_other(alloc: Global, sources: &[Called]) -> Result<Option<&'static str>, Memory> {
     for (name, faults, steps, counts) in sources {
-        if outcome_of(alloc, *faults, steps)? != (None, *counts) {
+        if outcome_of(alloc, faults, steps)? != (None, *counts) {
             return Ok(Some(*name));
         }
     }
@@ -275,24 +267,6 @@ fn first_other(alloc: Global, sources: &[Called]) -> Result<Option<&'static str>
 
 #[test]
 fn answers_each_call(rt: HostRuntime) -> Result<(), Fail> {
-    assert_eq!(rt; first_other(rt.alloc(), &ANSWERED), Ok(None));
-    Ok(())
-}
-
-#[test]
-fn pages_fail_in_turn(rt: HostRuntime) -> Result<(), Fail> {
-    assert_eq!(rt; first_other(rt.alloc(), &FAULTY_PAGES), Ok(None));
-    Ok(())
-}
-
-#[test]
-fn grades_fail_in_turn(rt: HostRuntime) -> Result<(), Fail> {
-    assert_eq!(rt; first_other(rt.alloc(), &FAULTY_GRADES), Ok(None));
-    Ok(())
-}
-
-#[test]
-fn lies(rt: HostRuntime) -> Result<(), Fail> {
-    assert_eq!(rt; first_other(rt.alloc(), &LYING), Ok(None));
+    assert_eq!(rt; first_other(rt.alloc(), &SOURCES), Ok(None));
     Ok(())
 }

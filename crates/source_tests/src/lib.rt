@@ -1,4 +1,4 @@
-//! Tests of sources and shelves in memory by their public calls.
+//! Tests of sources and shelves in memory, by their public calls.
 #![tactic(auto)]
 
 #[cfg(test)]

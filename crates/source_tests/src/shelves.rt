@@ -41,7 +41,7 @@ const PAIRS: &[(u32, u32)] = &[(1, 9), (2, 8)];
 /// The numbers of the calls for texts and for sources that fail, calls, and how many rows are counted at `a`, `b` and `c` then.
 type Called = (&'static [u64], &'static [u64], &'static [Call], [u64; 3]);
 
-const SHELVES: [Called; 4] = [
+static SHELVES: [Called; 4] = [
     (
         &[],
         &[],
@@ -117,8 +117,8 @@ fn fill(
     shelf.add_text("b", b"")?;
     add_source(alloc, shelf, "a", &ROWS)?;
     add_source(alloc, shelf, "b", &OTHER)?;
-    shelf.fail_texts = Vec::from_slice(alloc, fail_texts)?;
-    shelf.fail_takes = Vec::from_slice(alloc, fail_takes)?;
+    shelf.fail_texts.extend_from_slice(fail_texts)?;
+    shelf.fail_takes.extend_from_slice(fail_takes)?;
     Ok(())
 }
 
@@ -227,36 +227,45 @@ fn count_after(
 ) -> u64
     requires { 1 ≤ count }
 {
-    let page = source.page(alloc, 0, count);
-    drop(page);
+    if let Ok(rows) = source.page(alloc, 0, count) {
+        drop(rows);
+    }
     shelf.put_back(place, source);
     shelf.rows_given_at(place)
 }
 
-/// What is counted at `a` after each of two sources that were taken there, and at `c`, where none was ever taken.
+/// What is counted at `a` after each of two sources that were taken there, and at `c`, where none was ever taken. None where one can't be
+/// taken.
 fn counted_by(alloc: Global, shelf: &mut MemShelf) -> Option<[u64; 3]> {
     let Ok(first) = shelf.take(alloc, "a") else {
         return None;
     };
     let Ok(second) = shelf.take(alloc, "a") else {
+        drop(first);
         return None;
     };
+    let after_first = count_after(alloc, shelf, "a", first, 1);
+    let after_second = count_after(alloc, shelf, "a", second, 5);
     let Ok(third) = shelf.take(alloc, "b") else {
         return None;
     };
-    Some([
-        count_after(alloc, shelf, "a", first, 1),
-        count_after(alloc, shelf, "a", second, 5),
-        count_after(alloc, shelf, "c", third, 5),
-    ])
+    let elsewhere = count_after(alloc, shelf, "c", third, 5);
+    Some([after_first, after_second, elsewhere])
+}
+
+/// The same over a shelf that is filled. None without memory.
+fn counted(alloc: Global) -> Option<[u64; 3]> {
+    let mut shelf = MemShelf::make(alloc);
+    let counted = match fill(alloc, &mut shelf, &[], &[]) {
+        Ok(()) => counted_by(alloc, &mut shelf),
+        Err(_) => None,
+    };
+    drop(shelf);
+    counted
 }
 
 #[test]
 fn counts_what_is_put_back(rt: HostRuntime) -> Result<(), Fail> {
-    let mut shelf = MemShelf::make(rt.alloc());
-    let filled = fill(rt.alloc(), &mut shelf, &[], &[]);
-    let counted = counted_by(rt.alloc(), &mut shelf);
-    drop(shelf);
-    assert_eq!(rt; (filled, counted), (Ok(()), Some([1, 3, 0])));
+    assert_eq!(rt; counted(rt.alloc()), Some([1, 3, 0]));
     Ok(())
 }

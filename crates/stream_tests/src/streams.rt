@@ -6,8 +6,8 @@ use std::io::{ErrorKind, Read, Write};
 use std::test::Fail;
 use test_support::Counting;
 use tk_io::{
-    Failed, MemIntake, MemSink, Memory, PIECE, Pieces, ReadError, Sink, StdIntake, StdSink,
-    read_text, write_text,
+    Failed, MemIntake, MemSink, PIECE, Pieces, ReadError, Sink, StdIntake, StdSink, read_text,
+    write_text,
 };
 
 const TEXT: &[u8] = b"list A\n1,900\n";
@@ -50,9 +50,12 @@ fn read_in_pieces(
 
 /// The number of the first row that isn't read as it says.
 fn first_wrong(alloc: Global, rows: &[ReadRow]) -> Option<usize> {
-    rows.iter().position(|(piece, fails, limit, expected)| {
-        !is_read(read_in_pieces(alloc, *piece, fails, *limit), *expected)
-    })
+    for (number, (piece, fails, limit, expected)) in rows.iter().enumerate() {
+        if !is_read(read_in_pieces(alloc, *piece, fails, *limit), *expected) {
+            return Some(number);
+        }
+    }
+    None
 }
 
 #[test]
@@ -61,34 +64,33 @@ fn reads_whole_texts(rt: HostRuntime) {
 }
 
 /// Whether the text is written once, and then what there is room for.
-fn writes_until_full(out: &mut MemSink) -> bool {
-    let is_whole = write_text(out, TEXT).is_ok() && out.taken() == TEXT;
-    let is_full = write_text(out, TEXT).is_err();
-    is_whole && is_full && out.taken() == b"list A\n1,900\nlist A\n".as_slice()
+fn writes_until_full(alloc: Global) -> bool {
+    let Ok(mut out) = MemSink::make(alloc, 20, &[]) else {
+        return false;
+    };
+    let is_whole = write_text(&mut out, TEXT).is_ok() && out.taken() == TEXT;
+    let is_full = write_text(&mut out, TEXT).is_err();
+    let is_filled = out.taken() == b"list A\n1,900\nlist A\n".as_slice();
+    drop(out);
+    is_whole && is_full && is_filled
+}
+
+/// Whether nothing is written where the first call fails.
+fn writes_nothing(alloc: Global) -> bool {
+    let Ok(mut out) = MemSink::make(alloc, 20, &[1]) else {
+        return false;
+    };
+    let fails = write_text(&mut out, TEXT).is_err();
+    let is_empty = out.taken().is_empty() && out.write(b"").is_ok();
+    drop(out);
+    fails && is_empty
 }
 
 #[test]
-fn writes_whole_texts(rt: HostRuntime) -> Result<(), Fail> {
-    let mut out = MemSink::make(rt.alloc(), 20, &[])?;
-    let writes = writes_until_full(&mut out);
-    drop(out);
-    assert!(rt; writes);
-    Ok(())
-}
-
-/// Whether nothing is written, since the first call fails.
-fn writes_nothing(out: &mut MemSink) -> bool {
-    let fails = write_text(out, TEXT).is_err();
-    fails && out.taken().is_empty() && out.write(b"").is_ok()
-}
-
-#[test]
-fn stops_at_a_failed_write(rt: HostRuntime) -> Result<(), Fail> {
-    let mut out = MemSink::make(rt.alloc(), 20, &[1])?;
-    let stops = writes_nothing(&mut out);
-    drop(out);
-    assert!(rt; stops);
-    Ok(())
+fn writes_whole_texts(rt: HostRuntime) {
+    let writes = writes_until_full(rt.alloc());
+    let stops = writes_nothing(rt.alloc());
+    assert!(rt; writes && stops);
 }
 
 /// 60,000 words of 8 bytes and a space each.
@@ -105,8 +107,8 @@ fn put_words(out: &mut Counting) -> Result<(), Failed> {
 #[test]
 fn writes_in_pieces(rt: HostRuntime) {
     let mut out = Counting::make();
-    assert!(rt; put_words(&mut out).is_ok());
-    assert_eq!(rt; (out.bytes, out.writes), (540_000, 66));
+    let is_put = put_words(&mut out).is_ok();
+    assert!(rt; is_put && out.bytes == 540_000 && out.writes == 66);
 }
 
 /// A longer text than a piece.
@@ -121,27 +123,28 @@ fn put_all(out: &mut MemSink, texts: &[&[u8]]) -> Result<(), Failed> {
     pieces.end(out)
 }
 
-/// Whether these texts go out where such calls fail, and of them so many bytes of the long text are taken.
-fn are_put(
+/// Whether putting these texts ends so where such calls fail: with a success or not, and so many bytes of the long text.
+fn ends_so(
     alloc: Global,
     fails: &[u64],
     texts: &[&[u8]],
-    taken: usize,
-) -> Result<(bool, bool), Memory> {
-    let mut out = MemSink::make(alloc, 40_000, fails)?;
-    let is_put = put_all(&mut out, texts).is_ok();
-    let is_taken = Some(out.taken()) == LONG.get(..taken);
+    expected: (Result<(), Failed>, usize),
+) -> bool {
+    let Ok(mut out) = MemSink::make(alloc, 40_000, fails) else {
+        return false;
+    };
+    let ended = put_all(&mut out, texts);
+    let is_so = ended == expected.0 && Some(out.taken()) == LONG.get(..expected.1);
     drop(out);
-    Ok((is_put, is_taken))
+    is_so
 }
 
 /// A longer text than a piece goes out whole, and after a failed write nothing does.
 #[test]
-fn stops_after_a_failed_piece(rt: HostRuntime) -> Result<(), Fail> {
-    let stopped = are_put(rt.alloc(), &[2], &[LONG, b"y"], PIECE)?;
-    let whole = are_put(rt.alloc(), &[], &[LONG], 20_000)?;
-    assert_eq!(rt; [stopped, whole], [(false, true), (true, true)]);
-    Ok(())
+fn stops_after_a_failed_piece(rt: HostRuntime) {
+    let stops = ends_so(rt.alloc(), &[2], &[LONG, b"y"], (Err(Failed), PIECE));
+    let is_whole = ends_so(rt.alloc(), &[], &[LONG], (Ok(()), 20_000));
+    assert!(rt; stops && is_whole);
 }
 
 /// A reader and writer of one byte a call, whose every other call is interrupted, and which fails from
@@ -190,54 +193,45 @@ impl Write for Halting {
     }
 }
 
-/// What comes of reading where so many calls are good.
-fn read_of(alloc: Global, good: u32) -> Option<ReadError> {
-    let mut input = StdIntake::make(Halting { calls: 0, good });
-    let read = read_text(alloc, &mut input, 9);
-    drop(input);
-    read.err()
-}
-
-#[test]
-fn reads_on_after_interruptions(rt: HostRuntime) {
-    let reads = [read_of(rt.alloc(), 100), read_of(rt.alloc(), 6)];
-    assert_eq!(rt; reads, [Some(ReadError::Long), Some(ReadError::Failed)]);
-}
-
-/// What comes of writing where so many calls are good.
-fn write_of(good: u32) -> Result<(), Failed> {
-    let mut out = StdSink::make(Halting { calls: 0, good });
+/// Whether writing the text ends so; closes the stream.
+fn write_ends<W: Write + Drop>(writer: W, expected: Result<(), Failed>) -> bool {
+    let mut out = StdSink::make(writer);
     let wrote = write_text(&mut out, TEXT);
     drop(out);
-    wrote
+    wrote == expected
+}
+
+/// Whether reading at most so many bytes ends so; closes the stream.
+fn read_ends<R: Read + Drop>(
+    alloc: Global,
+    reader: R,
+    limit: u64,
+    expected: Option<ReadError>,
+) -> bool {
+    let mut input = StdIntake::make(reader);
+    let read = read_text(alloc, &mut input, limit);
+    drop(input);
+    is_read(read, expected)
+}
+
+/// A stream of which so many calls are good.
+fn stream_with(good: u32) -> Halting {
+    Halting { calls: 0, good }
 }
 
 #[test]
-fn writes_on_after_interruptions(rt: HostRuntime) {
-    assert_eq!(rt; [write_of(100), write_of(6)], [Ok(()), Err(Failed)]);
-}
-
-/// Whether the text is written; closes the stream.
-fn write_and_close<W: Write + Drop>(writer: W) -> bool {
-    let mut out = StdSink::make(writer);
-    let is_ok = write_text(&mut out, TEXT).is_ok();
-    drop(out);
-    is_ok
-}
-
-/// Whether the text is all that is read, and closes the stream.
-fn read_and_close<R: Read + Drop>(alloc: Global, reader: R) -> bool {
-    let mut input = StdIntake::make(reader);
-    let read = read_text(alloc, &mut input, 100);
-    drop(input);
-    is_read(read, None)
+fn goes_on_after_interruptions(rt: HostRuntime) {
+    let reads = read_ends(rt.alloc(), stream_with(100), 9, Some(ReadError::Long))
+        && read_ends(rt.alloc(), stream_with(6), 9, Some(ReadError::Failed));
+    let writes = write_ends(stream_with(100), Ok(())) && write_ends(stream_with(6), Err(Failed));
+    assert!(rt; reads && writes);
 }
 
 #[test]
 fn moves_through_a_pipe(rt: HostRuntime) -> Result<(), Fail> {
     let (reader, writer) = io::pipe(&rt)?;
-    let is_written = write_and_close(writer);
-    let is_read = read_and_close(rt.alloc(), reader);
-    assert_eq!(rt; (is_written, is_read), (true, true));
+    let is_written = write_ends(writer, Ok(()));
+    let is_read = read_ends(rt.alloc(), reader, 100, None);
+    assert!(rt; is_written && is_read);
     Ok(())
 }

@@ -52,29 +52,75 @@ fn answers_of(alloc: Global, certificate: &str) -> Option<Vec<Answered>> {
     }
 }
 
+/// The number of the list with this name.
+fn list_of(name: &str) -> Option<usize> {
+    for (list, other) in NAMES.iter().enumerate() {
+        if *other == name {
+            return Some(list);
+        }
+    }
+    None
+}
+
+/// An access that a certificate tells.
+#[derive(Clone, Copy)]
+struct Told {
+    list: usize,
+    object: usize,
+    grade: u64,
+}
+
+/// The access of a line, from what stands behind its kind.
+fn told_in(words: &mut SplitWhitespace<'_>) -> Option<Told> {
+    let list = list_of(words.next()?)?;
+    let object = next_number(words)? as usize;
+    let grade = next_number(words)?;
+    Some(Told {
+        list,
+        object,
+        grade,
+    })
+}
+
+/// Whether a table has the grade of an access.
+fn has_grade(table: &Table, told: Told) -> bool {
+    match table.of_object(told.object) {
+        Some(grades) => grades.get(told.list).copied() == Some(told.grade),
+        None => false,
+    }
+}
+
 /// Whether a line tells no access, or one whose grade the table has.
-fn agrees(table: &Table, line: &str) -> Option<bool> {
+fn agrees(table: &Table, line: &str) -> bool {
     let mut words = line.split_whitespace();
     let kind = words.next().unwrap_or("");
     if kind != "s" && kind != "r" {
-        return Some(true);
+        return true;
     }
-    let name = words.next()?;
-    let object = next_number(&mut words)? as usize;
-    let grade = next_number(&mut words)?;
-    let list = NAMES.iter().position(|other| *other == name)?;
-    let grades = table.of_object(object)?;
-    Some(grades.get(list).copied() == Some(grade))
+    match told_in(&mut words) {
+        Some(told) => has_grade(table, told),
+        None => false,
+    }
 }
 
 /// Whether a certificate tells accesses, and the table has the grade of each.
-fn has_true_accesses(table: &Table, certificate: &str) -> Option<bool> {
+fn has_true_accesses(table: &Table, certificate: &str) -> bool {
     for line in certificate.lines() {
-        if !agrees(table, line)? {
-            return Some(false);
+        if !agrees(table, line) {
+            return false;
         }
     }
-    Some(certificate.contains("\ns "))
+    certificate.contains("\ns ")
+}
+
+/// What is answered of an object, or None where it isn't among the answered.
+fn answered_of(answers: &[Answered], object: usize) -> Option<Answered> {
+    for item in answers {
+        if item.object == object {
+            return Some(*item);
+        }
+    }
+    None
 }
 
 /// Whether the answered objects are distinct, the true aggregate of each stands between its bounds, and no
@@ -84,17 +130,17 @@ fn are_first(aggregates: &[u64], answers: &[Answered]) -> bool {
     let mut greatest_outside = 0;
     let mut found: usize = 0;
     for (object, aggregate) in aggregates.iter().copied().enumerate() {
-        let mut inside = answers.iter().filter(|item| item.object == object);
-        let Some(item) = inside.next() else {
+        let Some(item) = answered_of(answers, object) else {
             greatest_outside = aggregate.max(greatest_outside);
             continue;
         };
-        if inside.next().is_some() || aggregate < item.low || item.high < aggregate {
+        if aggregate < item.low || item.high < aggregate {
             return false;
         }
         least_inside = aggregate.min(least_inside);
         found = found.saturating_add(1);
     }
+    // where an object is answered twice, fewer are found
     found == answers.len() && greatest_outside <= least_inside
 }
 
@@ -113,22 +159,24 @@ fn add_aggregates(
 }
 
 /// Whether these are the first k objects of a table, with their bounds.
-fn are_answered(alloc: Global, table: &Table, asked: Asked, answers: &[Answered]) -> Option<bool> {
+fn are_answered(alloc: Global, table: &Table, asked: Asked, answers: &[Answered]) -> bool {
     let (k, aggregate) = asked;
     let mut aggregates = Vec::new(alloc);
-    let added = add_aggregates(alloc, table, aggregate, &mut aggregates);
-    let are_so = answers.len() == k as usize && are_first(&aggregates, answers);
+    let are_so = add_aggregates(alloc, table, aggregate, &mut aggregates).is_some()
+        && answers.len() == k as usize
+        && are_first(&aggregates, answers);
     drop(aggregates);
-    added?;
-    Some(are_so)
+    are_so
 }
 
 /// Whether a certificate has accesses, which the table agrees with, and such an answer.
-pub fn is_right(alloc: Global, table: &Table, asked: Asked, certificate: &str) -> Option<bool> {
-    if !has_true_accesses(table, certificate)? {
-        return Some(false);
+pub fn is_right(alloc: Global, table: &Table, asked: Asked, certificate: &str) -> bool {
+    if !has_true_accesses(table, certificate) {
+        return false;
     }
-    let answers = answers_of(alloc, certificate)?;
+    let Some(answers) = answers_of(alloc, certificate) else {
+        return false;
+    };
     let are_so = are_answered(alloc, table, asked, &answers);
     drop(answers);
     are_so

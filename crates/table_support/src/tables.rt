@@ -26,12 +26,8 @@ impl Table {
         self.grades.get(start..end)
     }
 
-    /// Adds a row of a list.
-    fn add_row(&mut self, alloc: Global, list: usize, object: u32, grade: u32) -> Option<()> {
-        let line = format!(in alloc; "{object},{grade}\n").ok()?;
-        let added = self.sections.push_str(&line);
-        drop(line);
-        added.ok()?;
+    /// Sets the grade of an object in a list.
+    fn set_grade(&mut self, list: usize, object: u32, grade: u32) -> Option<()> {
         let place = (object as usize)
             .saturating_mul(self.lists)
             .saturating_add(list);
@@ -39,12 +35,22 @@ impl Table {
         Some(())
     }
 
+    /// Adds a row of a list.
+    fn add_row(&mut self, alloc: Global, list: usize, object: u32, grade: u32) -> Option<()> {
+        self.set_grade(list, object, grade)?;
+        let line = format!(in alloc; "{object},{grade}\n").ok()?;
+        let added = self.sections.push_str(&line);
+        drop(line);
+        added.ok()
+    }
+
     /// Adds the head of a list.
     fn add_head(&mut self, list: usize) -> Option<()> {
         let name = NAMES.get(list)?;
-        self.sections.push_str("list ").ok()?;
-        self.sections.push_str(name).ok()?;
-        self.sections.push_str("\n").ok()
+        for piece in &["list ", name, "\n"] {
+            self.sections.push_str(*piece).ok()?;
+        }
+        Some(())
     }
 }
 

@@ -27,14 +27,16 @@ const SIZES: [Size; 3] = [
 ];
 
 /// Whether `one` writes such a certificate of an input.
-fn writes_right(alloc: Global, table: &Table, asked: Asked, input: &str) -> Option<bool> {
-    let (status, out) = one_of(alloc, input.as_bytes(), 4_000_000).ok()?;
+fn writes_right(alloc: Global, table: &Table, asked: Asked, input: &str) -> bool {
+    let Some((status, out)) = one_of(alloc, input.as_bytes(), 4_000_000) else {
+        return false;
+    };
     let is_so = match from_utf8(out.taken()) {
         Ok(certificate) => is_right(alloc, table, asked, certificate),
-        Err(_) => None,
+        Err(_) => false,
     };
     drop(out);
-    Some(is_so? && status == Status::Done)
+    is_so && status == Status::Done
 }
 
 /// Whether `one` answers a query over a table, by these lists and this algorithm.
@@ -44,14 +46,16 @@ fn answers_right(
     asked: Asked,
     lists: (&str, &str),
     algorithm: &str,
-) -> Option<bool> {
+) -> bool {
     let (k, aggregate) = asked;
     let (word, has_weights) = aggregate.word();
     let names = if has_weights { lists.1 } else { lists.0 };
     let sections = table.sections.as_str();
-    let input = format!(in alloc;
+    let Ok(input) = format!(in alloc;
         "{sections}query top {k} by {word}({names}) using {algorithm}\n"
-    ).ok()?;
+    ) else {
+        return false;
+    };
     let is_so = writes_right(alloc, table, asked, &input);
     drop(input);
     is_so
@@ -65,7 +69,7 @@ fn first_wrong_of(
     algorithm: &str,
 ) -> Option<usize> {
     for (number, asked) in ASKED.iter().enumerate() {
-        if !answers_right(alloc, table, *asked, lists, algorithm).unwrap_or(false) {
+        if !answers_right(alloc, table, *asked, lists, algorithm) {
             return Some(number);
         }
     }
@@ -100,19 +104,11 @@ fn first_wrong(alloc: Global, count: u32, algorithm: &str) -> Option<(usize, usi
     None
 }
 
+/// By each algorithm; the combined one with a random phase at each third depth, at each, and at each fortieth.
 #[test]
-fn threshold_algorithm(rt: HostRuntime) {
+fn answers_as_all_aggregates_say(rt: HostRuntime) {
     none_is_wrong(&rt, first_wrong(rt.alloc(), 2_000, "ta"));
-}
-
-#[test]
-fn without_random_access(rt: HostRuntime) {
     none_is_wrong(&rt, first_wrong(rt.alloc(), 2_000, "nra"));
-}
-
-/// A random phase at each third depth, at each, and at each fortieth.
-#[test]
-fn combined_algorithm(rt: HostRuntime) {
     none_is_wrong(&rt, first_wrong(rt.alloc(), 500, "ca cost 2 7"));
     none_is_wrong(&rt, first_wrong(rt.alloc(), 500, "ca cost 10 3"));
     none_is_wrong(&rt, first_wrong(rt.alloc(), 500, "ca cost 1 40"));

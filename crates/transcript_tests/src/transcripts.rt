@@ -11,19 +11,19 @@ use std::test::Fail;
 use test_support::{random, random_row, sorted, sorted_row};
 
 /// How many objects there are, three accesses of two lists, and the kind of the third's refusal, or 0 where it is taken.
-type Row = (u32, [Access; 3], u8);
+type Row = (u32, (Access, Access, Access), u8);
 
 /// Whether the first two accesses of a row are taken, and the third is as it says.
 fn ends_so(log: &mut Transcript, row: &Row) -> Result<bool, Fail> {
-    let (_, accesses, kind) = *row;
-    log.push(accesses[0])?;
-    log.push(accesses[1])?;
+    let (_, (first, second, third), kind) = *row;
+    log.push(first)?;
+    log.push(second)?;
     let (expected, length) = if kind == 0 {
         (Ok(()), 3)
     } else {
         (Err(PushFault::Inconsistent { at: 3, kind }), 2)
     };
-    Ok(log.push(accesses[2]) == expected && log.len() == length)
+    Ok(log.push(third) == expected && log.len() == length)
 }
 
 /// The same of a new transcript of two lists.
@@ -49,228 +49,228 @@ fn first_wrong(alloc: Global, rows: &[Row]) -> Result<Option<usize>, Fail> {
 }
 
 /// Each kind with each sort of access, and with a later kind, before which it is given.
-const KINDS: [Row; 23] = [
+const KINDS: &[Row] = &[
     // taken: the grade stays, another list, a known grade again
     (
         2,
-        [
+        (
             sorted_row!(0, 5, 9),
             sorted_row!(0, 6, 8),
             random_row!(0, 6, 8),
-        ],
+        ),
         0,
     ),
     (
         2,
-        [
+        (
             sorted_row!(0, 5, 9),
             random_row!(0, 6, 9),
             sorted_row!(0, 6, 9),
-        ],
+        ),
         0,
     ),
     (
         3,
-        [
+        (
             sorted_row!(0, 5, 9),
             random_row!(0, 6, 8),
             sorted_row!(0, 7, 8),
-        ],
+        ),
         0,
     ),
     (
         2,
-        [
+        (
             random_row!(0, 5, 9),
             random_row!(1, 6, 1_000_000),
             random_row!(0, 6, 1_000_000),
-        ],
+        ),
         0,
     ),
     // no such list
     (
         2,
-        [
+        (
             sorted_row!(0, 5, 9),
             sorted_row!(1, 5, 9),
             sorted_row!(2, 5, 9),
-        ],
+        ),
         1,
     ),
     (
         2,
-        [
+        (
             sorted_row!(0, 5, 9),
             sorted_row!(1, 5, 9),
             random_row!(2, 5, 9),
-        ],
+        ),
         1,
     ),
     (
         2,
-        [
+        (
             sorted_row!(0, 5, 9),
             sorted_row!(1, 5, 9),
             sorted_row!(2, 5, 1_000_001),
-        ],
+        ),
         1,
     ),
     // above the greatest grade
     (
         2,
-        [
+        (
             sorted_row!(0, 5, 9),
             sorted_row!(1, 5, 9),
             sorted_row!(0, 6, 1_000_001),
-        ],
+        ),
         2,
     ),
     (
         2,
-        [
+        (
             sorted_row!(0, 5, 9),
             sorted_row!(1, 5, 9),
             random_row!(1, 6, 1_000_001),
-        ],
+        ),
         2,
     ),
     (
         2,
-        [
+        (
             sorted_row!(0, 5, 9),
             sorted_row!(0, 6, 8),
             random_row!(1, 7, 1_000_001),
-        ],
+        ),
         2,
     ),
     // one object too many
     (
         2,
-        [
+        (
             sorted_row!(0, 5, 9),
             sorted_row!(0, 6, 8),
             sorted_row!(0, 7, 7),
-        ],
+        ),
         3,
     ),
     (
         2,
-        [
+        (
             sorted_row!(0, 5, 9),
             random_row!(1, 6, 8),
             random_row!(1, 7, 7),
-        ],
+        ),
         3,
     ),
     (
         2,
-        [
+        (
             sorted_row!(0, 5, 9),
             sorted_row!(0, 6, 8),
             sorted_row!(0, 7, 9),
-        ],
+        ),
         3,
     ),
     // the grade rises
     (
         2,
-        [
+        (
             sorted_row!(0, 5, 9),
             sorted_row!(1, 5, 10),
             sorted_row!(0, 6, 10),
-        ],
+        ),
         4,
     ),
     (
         2,
-        [
+        (
             sorted_row!(0, 5, 9),
             sorted_row!(0, 6, 8),
             sorted_row!(0, 5, 9),
-        ],
+        ),
         4,
     ),
     // the object comes again
     (
         2,
-        [
+        (
             sorted_row!(0, 5, 9),
             sorted_row!(0, 6, 8),
             sorted_row!(0, 5, 8),
-        ],
+        ),
         5,
     ),
     // another grade
     (
         2,
-        [
+        (
             sorted_row!(0, 5, 9),
             random_row!(0, 6, 8),
             sorted_row!(0, 6, 7),
-        ],
+        ),
         6,
     ),
     (
         2,
-        [
+        (
             sorted_row!(0, 5, 9),
             sorted_row!(0, 6, 8),
             random_row!(0, 6, 9),
-        ],
+        ),
         6,
     ),
     (
         2,
-        [
+        (
             sorted_row!(0, 5, 9),
             random_row!(0, 6, 8),
             random_row!(0, 6, 7),
-        ],
+        ),
         6,
     ),
     (
         2,
-        [
+        (
             random_row!(0, 6, 8),
             random_row!(0, 7, 9),
             sorted_row!(0, 6, 7),
-        ],
+        ),
         6,
     ),
     (
         2,
-        [
+        (
             sorted_row!(0, 5, 9),
             random_row!(0, 6, 8),
             random_row!(0, 6, 10),
-        ],
+        ),
         6,
     ),
     // an object with a greater grade is passed over
     (
         3,
-        [
+        (
             sorted_row!(0, 5, 9),
             random_row!(0, 6, 8),
             sorted_row!(0, 7, 7),
-        ],
+        ),
         7,
     ),
     // above the bottom
     (
         2,
-        [
+        (
             sorted_row!(1, 5, 9),
             sorted_row!(0, 5, 9),
             random_row!(0, 6, 10),
-        ],
+        ),
         8,
     ),
 ];
 
 #[test]
 fn gives_the_first_kind(rt: HostRuntime) -> Result<(), Fail> {
-    assert_eq!(rt; first_wrong(rt.alloc(), &KINDS)?, None);
+    assert_eq!(rt; first_wrong(rt.alloc(), KINDS)?, None);
     Ok(())
 }
 
@@ -405,18 +405,19 @@ fn first_unbounded_after(
     Ok(wrong)
 }
 
-/// The bounds of a sum before any access, and after the five.
-fn bounds_of_sum(alloc: Global, sum: &Expr) -> Result<[Option<u32>; 2], Fail> {
+/// Whether the bounds by a sum are told before any access, and after the five.
+fn tells_bounds(alloc: Global, sum: &Expr) -> Result<bool, Fail> {
     let before = first_unbounded_before(alloc, sum, &[(5, 0, 2_000_000)])?;
     let expected = [(5, 13, 13), (6, 15, 15), (7, 1, 8), (8, 0, 15)];
-    Ok([before, first_unbounded_after(alloc, sum, &expected)?])
+    let after = first_unbounded_after(alloc, sum, &expected)?;
+    Ok(before.is_none() && after.is_none())
 }
 
 #[test]
 fn bounds_aggregates(rt: HostRuntime) -> Result<(), Fail> {
     let query = read(rt.alloc(), b"top 1 by sum(A,B) using ta")?;
-    let wrong = bounds_of_sum(rt.alloc(), &query.expr);
+    let are_told = tells_bounds(rt.alloc(), &query.expr);
     drop(query);
-    assert_eq!(rt; wrong?, [None, None]);
+    assert!(rt; are_told?);
     Ok(())
 }

@@ -57,17 +57,33 @@ fn page_of(alloc: Global, list: &[(u32, u32)], from: u32, count: u32) -> Result<
     Ok(PageRows::from_vec(rows))
 }
 
+/// The grade of an object of a source among those that random access gives otherwise than the rows.
+fn other_grade(grades: &[(u32, u32, u32)], source: u32, object: u32) -> Option<u32> {
+    for (of, graded, grade) in grades {
+        if *of == source && *graded == object {
+            return Some(*grade);
+        }
+    }
+    None
+}
+
+/// The grade of an object in the rows of a list.
+fn grade_in(rows: &[(u32, u32)], object: u32) -> Option<u32> {
+    for (held, grade) in rows {
+        if *held == object {
+            return Some(*grade);
+        }
+    }
+    None
+}
+
 /// The grade that random access gives.
 fn grade_of(sources: &Sources, source: u32, object: u32) -> Option<u32> {
-    let other = sources
-        .grades
-        .iter()
-        .find(|grade| grade.0 == source && grade.1 == object);
-    if let Some(grade) = other {
-        return Some(grade.2);
+    if let Some(grade) = other_grade(sources.grades, source, object) {
+        return Some(grade);
     }
-    let list = sources.lists.get(source as usize)?;
-    list.iter().find(|row| row.0 == object).map(|row| row.1)
+    let rows = sources.lists.get(source as usize)?;
+    grade_in(*rows, object)
 }
 
 /// What random access of an object brings.

@@ -7,7 +7,7 @@ ghost use Rattle.query_turns.specs.Made.{IsReadyFor};
 use super::acts::{Sources, end_by_rounds};
 use limits::MAX_OBJECTS;
 use query_core::Ready;
-use query_support::{Expected, is_ended_so};
+use query_support::{Expected, is_ended_so, let_endings_go};
 use query_turns::{Ended, Endings};
 use query_world::World;
 use source_state::LookFault;
@@ -93,6 +93,6 @@ fn finish(world: World, expected: &[Expected]) -> Result<Ends, Fail>
         so: are_ended_so(&endings, expected),
         failed: first_failed(&endings),
     };
-    drop(endings);
+    let_endings_go(endings);
     Ok(ends)
 }

@@ -2,10 +2,10 @@
 
 use query_support::{Expected, FIRST, FIRST_ENDS};
 use source_state::LookFault;
-use std::test::Fail;
-use world_support::{Act, Case, Sources, THREE, THREE_LISTS, first_wrong};
+use world_support::{Act, Case, Sources, THREE, THREE_LISTS};
 
-const CASES: [Case; 5] = [
+/// The worlds, and how their queries end.
+pub static CASES: [Case; 5] = [
     // the second page fails: one query waited for it, the other looks later
     Case {
         sources: Sources {
@@ -63,9 +63,3 @@ const CASES: [Case; 5] = [
         ends: &[FIRST_ENDS],
     },
 ];
-
-#[test]
-fn ends_after_fails(rt: HostRuntime) -> Result<(), Fail> {
-    assert_eq!(rt; first_wrong(rt.alloc(), &CASES)?, None);
-    Ok(())
-}

@@ -2,8 +2,7 @@
 
 use query_support::{Expected, FIRST, FIRST_ENDS};
 use source_state::{LookFault, SourceFault};
-use std::test::Fail;
-use world_support::{Act, Case, Sources, THREE, THREE_LISTS, first_wrong};
+use world_support::{Act, Case, Sources, THREE, THREE_LISTS};
 
 /// The first row of either source, and the grade of object 1; the query asks for that of object 2, whose row comes before it.
 const GRADE_AFTER: &[Act] = &[
@@ -42,7 +41,8 @@ const OTHER_GRADE: Sources = Sources {
     fails: None,
 };
 
-const CASES: [Case; 4] = [
+/// The worlds, and how their queries end.
+pub static CASES: [Case; 4] = [
     // a grade that clashes with the row that comes later
     Case {
         sources: OTHER_GRADE,
@@ -106,9 +106,3 @@ const CASES: [Case; 4] = [
         )],
     },
 ];
-
-#[test]
-fn ends_by_other_grades(rt: HostRuntime) -> Result<(), Fail> {
-    assert_eq!(rt; first_wrong(rt.alloc(), &CASES)?, None);
-    Ok(())
-}

@@ -2,10 +2,10 @@
 
 use access_log::CoreFault;
 use query_support::{Expected, FIRST, FIRST_ENDS, Figures, SORTED, SORTED_ENDS};
-use std::test::Fail;
-use world_support::{Act, Case, THREE, first_wrong};
+use world_support::{Act, Case, THREE};
 
-const CASES: [Case; 4] = [
+/// The worlds, and how their queries end.
+pub static CASES: [Case; 4] = [
     // the table, by both algorithms at once
     Case {
         sources: THREE,
@@ -57,9 +57,3 @@ const CASES: [Case; 4] = [
         ends: &[],
     },
 ];
-
-#[test]
-fn ends_over_a_table(rt: HostRuntime) -> Result<(), Fail> {
-    assert_eq!(rt; first_wrong(rt.alloc(), &CASES)?, None);
-    Ok(())
-}

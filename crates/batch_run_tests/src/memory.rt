@@ -1,0 +1,33 @@
+//! A source that wants memory.
+
+use batch_run::Settings;
+use batch_support::{A, B};
+use gated_support::{Call, Case, Gate};
+use query_support::{FIRST, FIRST_ENDS};
+use source_api::Trouble;
+
+/// The first call for a page wants memory, at once.
+pub static SHORT: Case = Case {
+    waiters: &[
+        (
+            A,
+            Some(Gate {
+                call: Call::Page(1),
+                source: 0,
+                until: 1,
+                patience: 0,
+                trouble: Trouble::Memory,
+            }),
+        ),
+        (B, None),
+    ],
+    counts: &[3, 3],
+    asked: &[FIRST, FIRST],
+    settings: Settings {
+        workers: 2,
+        page: 1,
+        ahead: 0,
+    },
+    ends: &[FIRST_ENDS, FIRST_ENDS],
+    faults: 0,
+};

@@ -1,5 +1,0 @@
-//! Tests of the judge on certificates' texts.
-#![tactic(auto)]
-
-#[cfg(test)]
-mod texts;

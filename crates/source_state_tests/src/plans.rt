@@ -1,0 +1,138 @@
+//! What is fetched next.
+
+use limits::MAX_OBJECTS;
+use source_state::{FailKind, Plan, SourceState, reach};
+use source_state_support::{Step, apply_all};
+use std::alloc::Global;
+use std::test::Fail;
+
+/// How many objects the list has, its events, page and ahead, and what is fetched next.
+type Planned = (u32, &'static [Step], u32, u32, Plan);
+
+static PLANS: [Planned; 14] = [
+    (3, &[], 1, 0, Plan::Idle),
+    (3, &[Step::Want(1)], 1, 0, Plan::Page { from: 0, count: 1 }),
+    (3, &[Step::Want(1)], 2, 0, Plan::Page { from: 0, count: 2 }),
+    (
+        3,
+        &[Step::Want(1)],
+        10_000,
+        100,
+        Plan::Page { from: 0, count: 3 },
+    ),
+    (
+        200_000,
+        &[Step::Want(1)],
+        10_000,
+        100,
+        Plan::Page {
+            from: 0,
+            count: 10_000,
+        },
+    ),
+    (
+        3,
+        &[Step::Want(1)],
+        10_000,
+        0,
+        Plan::Page { from: 0, count: 3 },
+    ),
+    (
+        3,
+        &[Step::Want(1)],
+        1,
+        100,
+        Plan::Page { from: 0, count: 1 },
+    ),
+    (
+        3,
+        &[Step::Want(2), Step::Page(&[(1, 5), (2, 5)])],
+        10_000,
+        100,
+        Plan::Page { from: 2, count: 1 },
+    ),
+    (3, &[Step::Want(1), Step::Page(&[(1, 5)])], 1, 0, Plan::Idle),
+    (
+        3,
+        &[Step::Want(1), Step::Page(&[(1, 5)])],
+        1,
+        1,
+        Plan::Page { from: 1, count: 1 },
+    ),
+    (
+        3,
+        &[Step::Want(3), Step::Page(&[(1, 5), (2, 5), (3, 5)])],
+        1,
+        100,
+        Plan::Idle,
+    ),
+    (
+        3,
+        &[Step::Want(3), Step::Ask(2), Step::Ask(1)],
+        1,
+        0,
+        Plan::Grade { object: 2 },
+    ),
+    (
+        3,
+        &[Step::Want(3), Step::Fail(FailKind::Failed)],
+        1,
+        0,
+        Plan::Idle,
+    ),
+    (
+        3,
+        &[Step::Want(3), Step::Page(&[(1, 5), (2, 6)])],
+        1,
+        0,
+        Plan::Idle,
+    ),
+];
+
+fn plan_after(
+    alloc: Global,
+    count: u32,
+    steps: &[Step],
+    page: u32,
+    ahead: u32,
+) -> Result<Plan, Fail> {
+    if count > MAX_OBJECTS || page == 0 || page > 10_000 || ahead > 100 {
+        return Err("no such page".into());
+    }
+    let Ok(mut state) = SourceState::open(alloc, 7, count) else {
+        return Err("no memory".into());
+    };
+    let applied = apply_all(alloc, &mut state, steps);
+    let plan = state.plan(page, ahead);
+    drop(state);
+    applied?;
+    Ok(plan)
+}
+
+/// The place of the first row of which something else is fetched.
+fn first_wrong(alloc: Global, plans: &[Planned]) -> Result<Option<usize>, Fail> {
+    for (place, (count, steps, page, ahead, plan)) in plans.iter().enumerate() {
+        if plan_after(alloc, *count, steps, *page, *ahead)? != *plan {
+            return Ok(Some(place));
+        }
+    }
+    Ok(None)
+}
+
+#[test]
+fn plans_each(rt: HostRuntime) -> Result<(), Fail> {
+    assert_eq!(rt; first_wrong(rt.alloc(), &PLANS)?, None);
+    Ok(())
+}
+
+#[test]
+fn reaches_whole_pages(rt: HostRuntime) -> Result<(), Fail> {
+    let reached = [
+        reach(0, 3, 5, 20),
+        reach(1, 3, 0, 20),
+        reach(4, 3, 1, 20),
+        reach(20, 3, 0, 20),
+    ];
+    assert_eq!(rt; reached, [0, 3, 9, 20]);
+    Ok(())
+}
