@@ -1,4 +1,5 @@
-//! A source that wants memory.
+//! A source that wants memory for the first row that a query waits for. The query is alone: another one that wanted the row after the
+//! fault would have it read again, and the first one might find it there before it learns of the fault.
 
 use batch_run::Settings;
 use batch_support::{A, B};
@@ -22,12 +23,12 @@ pub static SHORT: Case = Case {
         (B, None),
     ],
     counts: &[3, 3],
-    asked: &[FIRST, FIRST],
+    asked: &[FIRST],
     settings: Settings {
         workers: 2,
         page: 1,
         ahead: 0,
     },
-    ends: &[FIRST_ENDS, FIRST_ENDS],
+    ends: &[FIRST_ENDS],
     faults: 0,
 };
