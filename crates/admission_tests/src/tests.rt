@@ -67,7 +67,7 @@ type Row = (Under, Under, u64, &'static [u8], Told);
 const QUERY: &[u8] = b"top 4 by sum(A,BB) using ta";
 
 /// Lines in the order of their refusals.
-const ROWS: [Row; 8] = [
+const ROWS: &[Row] = &[
     (
         Under::Nothing,
         Under::Nothing,
@@ -178,7 +178,7 @@ fn first_wrong(alloc: Global, rows: &[Row]) -> Result<Option<usize>, Fail> {
 
 #[test]
 fn refuses_in_order(rt: HostRuntime) -> Result<(), Fail> {
-    assert_eq!(rt; first_wrong(rt.alloc(), &ROWS)?, None);
+    assert_eq!(rt; first_wrong(rt.alloc(), ROWS)?, None);
     Ok(())
 }
 

@@ -19,7 +19,7 @@ const QUERY: &[u8] = b"top 1 by sum(A,B) using ta";
 type Row = (Refusal, &'static str);
 
 /// What comes before a query runs, and what its machine refuses.
-const ROWS: [Row; 16] = [
+const ROWS: &[Row] = &[
     (
         Refusal::ManyQueries { limit: 64 },
         "refused 9 ManyQueries 64\n",
@@ -77,7 +77,7 @@ const ROWS: [Row; 16] = [
 ];
 
 /// What a source gives.
-const OF_SOURCES: [Row; 10] = [
+const OF_SOURCES: &[Row] = &[
     (
         Refusal::OutOfOrder {
             list: 0,
@@ -215,8 +215,8 @@ fn none_is_wrong(rt: &impl Abort, first_wrong: Option<usize>) {
 
 #[test]
 fn writes_each_refusal(rt: HostRuntime) {
-    none_is_wrong(&rt, first_wrong(rt.alloc(), &ROWS));
-    none_is_wrong(&rt, first_wrong(rt.alloc(), &OF_SOURCES));
+    none_is_wrong(&rt, first_wrong(rt.alloc(), ROWS));
+    none_is_wrong(&rt, first_wrong(rt.alloc(), OF_SOURCES));
     let without_query = Refusal::Syntax { at: 0 };
     assert!(rt; is_written(rt.alloc(), 1, None, without_query, "refused 1 Syntax 0\n"));
 }

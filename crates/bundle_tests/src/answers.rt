@@ -10,7 +10,7 @@ const TIED: &str = "list A\n3,5\n1,5\n4,5\n2,5\nlist B\n4,5\n2,5\n1,5\n3,5\n";
 const FOUR: &str = "list A\n5,10\nlist B\n5,40\nlist C\n5,20\nlist D\n5,30\n";
 
 /// By the threshold algorithm.
-const BY_THRESHOLD: [Answer; 11] = [
+const BY_THRESHOLD: &[Answer] = &[
     (
         LISTS,
         "top 1 by sum(A,B) using ta",
@@ -70,7 +70,7 @@ const BY_THRESHOLD: [Answer; 11] = [
 ];
 
 /// By sorted access alone.
-const BY_SORTED: [Answer; 3] = [
+const BY_SORTED: &[Answer] = &[
     (
         LISTS,
         "top 1 by sum(A,B) using nra",
@@ -90,6 +90,6 @@ const BY_SORTED: [Answer; 3] = [
 
 #[test]
 fn answers_queries(rt: HostRuntime) {
-    none_is_wrong(&rt, first_wrong(rt.alloc(), &BY_THRESHOLD));
-    none_is_wrong(&rt, first_wrong(rt.alloc(), &BY_SORTED));
+    none_is_wrong(&rt, first_wrong(rt.alloc(), BY_THRESHOLD));
+    none_is_wrong(&rt, first_wrong(rt.alloc(), BY_SORTED));
 }

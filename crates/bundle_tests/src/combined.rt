@@ -19,7 +19,7 @@ const JOINED: &str = "list A\n1,10\n2,6\n3,2\nlist B\n1,8\n3,5\n2,4\n";
 const TURNED: &str = "list A\n2,10\n1,9\nlist B\n1,8\n2,1\n";
 
 /// Where a random phase comes, and whom it asks for.
-const CHOSEN: [Answer; 6] = [
+const CHOSEN: &[Answer] = &[
     // at the first depth objects 1 and 2 have the same high: the smaller is chosen
     (
         LISTS,
@@ -59,7 +59,7 @@ const CHOSEN: [Answer; 6] = [
 ];
 
 /// All objects asked for, the finish, and one list.
-const FINISHED: [Answer; 4] = [
+const FINISHED: &[Answer] = &[
     // as many as there are: all is quiet once all are seen
     (
         LISTS,
@@ -88,6 +88,6 @@ const FINISHED: [Answer; 4] = [
 
 #[test]
 fn chooses_objects_and_finishes_answers(rt: HostRuntime) {
-    none_is_wrong(&rt, first_wrong(rt.alloc(), &CHOSEN));
-    none_is_wrong(&rt, first_wrong(rt.alloc(), &FINISHED));
+    none_is_wrong(&rt, first_wrong(rt.alloc(), CHOSEN));
+    none_is_wrong(&rt, first_wrong(rt.alloc(), FINISHED));
 }

@@ -15,7 +15,7 @@ const REST: &str =
     "count 4\nanswer 4 1333161 1333161\nstop depth 2 sorted 4 random 3 cost 7\ns l1 3 854807\ns l2 4 615073\nr l2 3 188999\nr l1 4 718088\ns l1 4 718088\ns l2 2 256922\nr l1 2 261179\nend\n";
 
 /// Which calls can't write, how `make` ends for that table, and what it writes.
-const ROWS: [(&[u64], Status, &str); 2] = [
+const ROWS: &[(&[u64], Status, &str)] = &[
     (&[], Status::Done, MADE),
     (&[1], Status::WriteFault, ""),
 ];
@@ -32,10 +32,10 @@ fn first_unmade(alloc: Global, rows: &[(&[u64], Status, &str)]) -> Option<usize>
 }
 
 /// What `one` answers over that table.
-const ANSWERED: [Answer; 1] = [(MADE, QUERY, REST)];
+const ANSWERED: &[Answer] = &[(MADE, QUERY, REST)];
 
 #[test]
 fn writes_a_table_that_one_reads(rt: HostRuntime) {
-    none_is_wrong(&rt, first_unmade(rt.alloc(), &ROWS));
-    none_is_wrong(&rt, first_wrong(rt.alloc(), &ANSWERED));
+    none_is_wrong(&rt, first_unmade(rt.alloc(), ROWS));
+    none_is_wrong(&rt, first_wrong(rt.alloc(), ANSWERED));
 }

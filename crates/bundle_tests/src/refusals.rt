@@ -31,7 +31,7 @@ fn first_wrong(alloc: Global, lists: &str, rows: &[Row]) -> Option<usize> {
 }
 
 /// Behind two lists of three objects.
-const BEHIND: [Row; 16] = [
+const BEHIND: &[Row] = &[
     (
         "query top 4 by sum(A,B) using ta",
         Status::Partial,
@@ -99,7 +99,7 @@ const BEHIND: [Row; 16] = [
 ];
 
 /// Whole bundles.
-const BUNDLES: [Row; 3] = [
+const BUNDLES: &[Row] = &[
     (
         "list A\n1,5\n2,6\nquery top 1 by A using ta",
         Status::BadInput,
@@ -115,6 +115,6 @@ const BUNDLES: [Row; 3] = [
 
 #[test]
 fn refuses_inputs(rt: HostRuntime) {
-    none_is_wrong(&rt, first_wrong(rt.alloc(), LISTS, &BEHIND));
-    none_is_wrong(&rt, first_wrong(rt.alloc(), "", &BUNDLES));
+    none_is_wrong(&rt, first_wrong(rt.alloc(), LISTS, BEHIND));
+    none_is_wrong(&rt, first_wrong(rt.alloc(), "", BUNDLES));
 }

@@ -35,7 +35,7 @@ fn first_other(alloc: Global, certificate: &str, rows: &[Changed]) -> Option<usi
 }
 
 /// The certificate of the first example, changed.
-const FIRST_CHANGED: [Changed; 6] = [
+const FIRST_CHANGED: &[Changed] = &[
     // a figure of the stop line is one more
     ("cost 7", "cost 8", "refused Figure 5\n"),
     // the fifth access gives another grade than the fourth
@@ -50,7 +50,7 @@ const FIRST_CHANGED: [Changed; 6] = [
 ];
 
 /// The certificate of one object, changed.
-const NINE_CHANGED: [Changed; 2] = [
+const NINE_CHANGED: &[Changed] = &[
     // no access at all, though the answer names an object
     (
         "stop depth 1 sorted 1 random 0 cost 1\ns A 9 0\n",
@@ -81,7 +81,7 @@ const COUNTERED: &str =
 type Judged = (&'static str, Status, &'static str);
 
 /// Certificates that are fixed, and a shorter one, which is beaten.
-const JUDGED: [Judged; 4] = [
+const JUDGED: &[Judged] = &[
     (FIRST_TEXT, Status::Done, "fixes\n"),
     (NINE, Status::Done, "fixes\n"),
     (SHORT, Status::Partial, BEATEN),
@@ -101,7 +101,7 @@ fn first_wrong(alloc: Global, rows: &[Judged]) -> Option<usize> {
 /// Certificates that are refused, and those that are judged.
 #[test]
 fn judges_certificates(rt: HostRuntime) {
-    none_is_wrong(&rt, first_other(rt.alloc(), FIRST_TEXT, &FIRST_CHANGED));
-    none_is_wrong(&rt, first_other(rt.alloc(), NINE, &NINE_CHANGED));
-    none_is_wrong(&rt, first_wrong(rt.alloc(), &JUDGED));
+    none_is_wrong(&rt, first_other(rt.alloc(), FIRST_TEXT, FIRST_CHANGED));
+    none_is_wrong(&rt, first_other(rt.alloc(), NINE, NINE_CHANGED));
+    none_is_wrong(&rt, first_wrong(rt.alloc(), JUDGED));
 }

@@ -14,7 +14,7 @@ enum Wrong {
 }
 
 /// Texts with the fault of the first record that is at fault.
-const TEXTS: [(&[u8], Wrong); 23] = [
+const TEXTS: &[(&[u8], Wrong)] = &[
     (b"", Wrong::Form(1)),
     (b"\n\n", Wrong::Form(1)),
     (b"name,place,random\n", Wrong::Nothing),
@@ -78,7 +78,7 @@ fn first_other(alloc: Global, texts: &[(&[u8], Wrong)]) -> Option<usize> {
 
 #[test]
 fn names_the_first_record_at_fault(rt: HostRuntime) -> Result<(), Fail> {
-    assert_eq!(rt; first_other(rt.alloc(), &TEXTS), None);
+    assert_eq!(rt; first_other(rt.alloc(), TEXTS), None);
     Ok(())
 }
 

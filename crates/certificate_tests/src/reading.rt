@@ -125,7 +125,7 @@ fn first_wrong(alloc: Global, rows: &[Row]) -> Option<usize> {
 }
 
 /// Each kind of fault, on each kind of line.
-const AT_FAULT: [Row; 32] = [
+const AT_FAULT: &[Row] = &[
     ("certificate 1", "certificate 01", Some(1)),
     ("certificate 1", "certificate 0", Some(1)),
     ("certificate 1", "certificate 9223372036854775808", Some(1)),
@@ -161,7 +161,7 @@ const AT_FAULT: [Row; 32] = [
 ];
 
 /// Each number at the end of its range, and lines that a certificate need not have.
-const READ: [Row; 14] = [
+const READ: &[Row] = &[
     ("certificate 1", "certificate 9223372036854775807", None),
     ("using ta", "using nra", None),
     ("using ta", "using ca", None),
@@ -203,7 +203,7 @@ fn first_unnamed(alloc: Global) -> Option<usize> {
 /// Each line at fault, what is read though it is no answer, and each line that is missing.
 #[test]
 fn names_the_first_line_at_fault(rt: HostRuntime) {
-    none_is_wrong(&rt, first_wrong(rt.alloc(), &AT_FAULT));
-    none_is_wrong(&rt, first_wrong(rt.alloc(), &READ));
+    none_is_wrong(&rt, first_wrong(rt.alloc(), AT_FAULT));
+    none_is_wrong(&rt, first_wrong(rt.alloc(), READ));
     none_is_wrong(&rt, first_unnamed(rt.alloc()));
 }

@@ -36,7 +36,7 @@ fn are_read_as(alloc: Global, texts: &[&str], told: Told) -> Result<bool, Unmade
 /// Words, and what they are read as.
 type Row = (&'static [&'static str], Told);
 
-const ROWS: [Row; 22] = [
+const ROWS: &[Row] = &[
     (&["one"], Told::One),
     (&["one", "--"], Told::One),
     (&["judge"], Told::Judge),
@@ -82,7 +82,7 @@ fn first_wrong(alloc: Global, rows: &[Row]) -> Result<Option<usize>, Unmade> {
 
 #[test]
 fn reads_commands_and_refuses_words(rt: HostRuntime) {
-    assert_eq!(rt; first_wrong(rt.alloc(), &ROWS), Ok(None));
+    assert_eq!(rt; first_wrong(rt.alloc(), ROWS), Ok(None));
 }
 
 /// A process whose own name isn't UTF-8, with these words.

@@ -5,3 +5,12 @@
 mod texts;
 #[cfg(test)]
 mod verdicts;
+
+#[cfg(test)]
+use std::process::Abort;
+
+/// Every row of a table is as it says: the number of the first one that isn't is none.
+#[cfg(test)]
+fn none_is_wrong(rt: &impl Abort, first_wrong: Option<usize>) {
+    assert_eq!(rt; first_wrong, None);
+}

@@ -1,9 +1,8 @@
 //! Certificates judged, by their text.
 
+use super::none_is_wrong;
 use cert_judge::{Told, judge_text, write_told};
 use std::alloc::Global;
-use std::process::Abort;
-use std::test::Fail;
 use tk_io::MemSink;
 
 /// The certificate of a run of the threshold algorithm, the accesses of its second depth apart.
@@ -26,36 +25,52 @@ const BOUNDED: &str = "certificate 1\nquery top 1 by sum(A,B) using nra\ncount 3
 const TWO_DEPTHS: &str =
     "stop depth 2 sorted 4 random 0 cost 4\ns A 1 900\ns B 2 300\ns A 2 100\ns B 3 200\nend\n";
 
-/// What is told is written so.
-fn is_told(rt: &impl Abort, alloc: Global, told: &Told, expected: &str) -> Result<(), Fail> {
-    let mut out = MemSink::make(alloc, 1000, &[])?;
-    let wrote = write_told(&mut out, told);
-    assert_eq!(rt; out.taken(), expected.as_bytes());
+/// Whether what is told is written so.
+fn is_told(alloc: Global, told: &Told, expected: &str) -> bool {
+    let Ok(mut out) = MemSink::make(alloc, 1000, &[]) else {
+        return false;
+    };
+    let is_so = write_told(&mut out, told).is_ok() && out.taken() == expected.as_bytes();
     drop(out);
-    Ok(wrote?)
+    is_so
 }
 
-/// What is told of a text, which is short.
-fn told_of(rt: &impl Abort, alloc: Global, parts: &[&str]) -> Result<Told, Fail> {
-    let text = parts.concat(alloc)?;
-    assert!(rt; text.len() < 1000);
-    let told = judge_text(alloc, text.as_bytes());
+/// What is told of a text, which is short. None without memory.
+fn told_of(alloc: Global, parts: &[&str]) -> Option<Told> {
+    let Ok(text) = parts.concat(alloc) else {
+        return None;
+    };
+    let told = if text.len() < 1000 {
+        judge_text(alloc, text.as_bytes()).ok()
+    } else {
+        None
+    };
     drop(text);
-    Ok(told?)
+    told
 }
 
 /// A certificate in parts, and what is written of it.
 type Row = (&'static [&'static str], &'static str);
 
-/// Of each text this is written.
-fn are_told(rt: &impl Abort, alloc: Global, rows: &[Row]) -> Result<(), Fail> {
-    for (parts, expected) in rows {
-        let told = told_of(rt, alloc, parts)?;
-        let outcome = is_told(rt, alloc, &told, expected);
-        drop(told);
-        outcome?;
+/// Whether this is written of a row's text.
+fn is_told_of(alloc: Global, row: &Row) -> bool {
+    let (parts, expected) = row;
+    let Some(told) = told_of(alloc, parts) else {
+        return false;
+    };
+    let is_so = is_told(alloc, &told, expected);
+    drop(told);
+    is_so
+}
+
+/// The number of the first row of whose text something else is written.
+fn first_wrong(alloc: Global, rows: &[Row]) -> Option<usize> {
+    for (number, row) in rows.iter().enumerate() {
+        if !is_told_of(alloc, row) {
+            return Some(number);
+        }
     }
-    Ok(())
+    None
 }
 
 /// A certificate, and the same with one thing changed.
@@ -97,8 +112,8 @@ static CHANGED: [Row; 8] = [
 ];
 
 #[test]
-fn judges_texts(rt: HostRuntime) -> Result<(), Fail> {
-    are_told(&rt, rt.alloc(), &CHANGED)
+fn judges_texts(rt: HostRuntime) {
+    none_is_wrong(&rt, first_wrong(rt.alloc(), &CHANGED));
 }
 
 /// Answers and figures of each kind that are wrong, beside right ones.
@@ -163,8 +178,8 @@ static FIGURES: [Row; 12] = [
 ];
 
 #[test]
-fn judges_answers_and_figures(rt: HostRuntime) -> Result<(), Fail> {
-    are_told(&rt, rt.alloc(), &FIGURES)
+fn judges_answers_and_figures(rt: HostRuntime) {
+    none_is_wrong(&rt, first_wrong(rt.alloc(), &FIGURES));
 }
 
 /// A text that ends in the middle of a line of each kind.
@@ -202,6 +217,6 @@ static ENDING: [Row; 8] = [
 ];
 
 #[test]
-fn names_the_line_that_ends(rt: HostRuntime) -> Result<(), Fail> {
-    are_told(&rt, rt.alloc(), &ENDING)
+fn names_the_line_that_ends(rt: HostRuntime) {
+    none_is_wrong(&rt, first_wrong(rt.alloc(), &ENDING));
 }

@@ -3,6 +3,7 @@
 ghost use Rattle.std.specs.Prelude.{◌≡◌};
 ghost use Rattle.monotone_fn.specs.Shape.{list_count};
 
+use super::none_is_wrong;
 use access_log::{Access, Transcript};
 use judge_core::{JudgeFault, Verdict, judge};
 use judge_counter::counter_table;
@@ -10,7 +11,6 @@ use monotone_fn::Expr;
 use query_reading::read;
 use ranked_list::{MemList, is_table};
 use std::alloc::Global;
-use std::test::Fail;
 use test_support::{random_row, sorted_row};
 
 /// The expression of a query over so many lists of so many objects, a transcript, and an answer of k objects.
@@ -43,67 +43,67 @@ struct Judged {
     against: Vec<MemList>,
 }
 
-/// Takes accesses.
-fn push_all(log: &mut Transcript, accesses: &[Access]) -> Result<(), Fail> {
+/// Takes accesses, and tells whether it took all.
+fn takes_all(log: &mut Transcript, accesses: &[Access]) -> bool {
     for access in accesses {
-        log.push(*access)?;
-    }
-    Ok(())
-}
-
-/// The accesses of a question.
-fn transcript_of(alloc: Global, question: &Question) -> Result<Transcript, Fail> {
-    let (lists, count) = (question.lists, question.count);
-    if lists == 0 || lists >= 5 || count == 0 || count >= 10 {
-        return Err("a few small lists".into());
-    }
-    let mut log = Transcript::make(alloc, lists, count)?;
-    match push_all(&mut log, question.accesses) {
-        Ok(()) => Ok(log),
-        Err(fail) => {
-            drop(log);
-            Err(fail)
+        if log.push(*access).is_err() {
+            return false;
         }
     }
+    true
 }
 
-/// What is told of a question's answer over a transcript.
-fn verdict_over(
-    alloc: Global,
-    log: &Transcript,
-    expr: &Expr,
-    question: &Question,
-) -> Result<Judged, Fail>
+/// The accesses of a question over a few small lists. None where no table agrees with them, and without memory.
+fn transcript_of(alloc: Global, question: &Question) -> Option<Transcript> {
+    let (lists, count) = (question.lists, question.count);
+    if lists == 0 || lists >= 5 || count == 0 || count >= 10 {
+        return None;
+    }
+    let Ok(mut log) = Transcript::make(alloc, lists, count) else {
+        return None;
+    };
+    if takes_all(&mut log, question.accesses) {
+        Some(log)
+    } else {
+        drop(log);
+        None
+    }
+}
+
+/// What is told of a question's small answer over a transcript. None without memory.
+fn verdict_over(alloc: Global, log: &Transcript, expr: &Expr, question: &Question) -> Option<Judged>
     requires { list_count expr.now ≡ log.now.lists }
 {
     if question.answer.len() >= 10 {
-        return Err("a small answer".into());
+        return None;
     }
     let told = judge(alloc, log, expr, question.k, question.answer);
     let against = match told {
         Ok(Verdict::Beaten { inside, .. }) if log.is_seen(inside) => {
-            counter_table(alloc, log, inside)?
+            counter_table(alloc, log, inside).ok()?
         }
         _ => Vec::new(alloc),
     };
-    Ok(Judged { told, against })
+    Some(Judged { told, against })
 }
 
-/// What is told of a question's answer by its expression.
-fn verdict_by(alloc: Global, expr: &Expr, question: &Question) -> Result<Judged, Fail> {
+/// What is told of a question's answer by its expression, of as many lists as the query names. None without memory.
+fn verdict_by(alloc: Global, expr: &Expr, question: &Question) -> Option<Judged> {
     let log = transcript_of(alloc, question)?;
     let judged = if expr.lists() == log.lists() {
         verdict_over(alloc, &log, expr, question)
     } else {
-        Err("as many lists as the query names".into())
+        None
     };
     drop(log);
     judged
 }
 
-/// What is told of a question's answer.
-fn verdict_of(alloc: Global, question: &Question) -> Result<Judged, Fail> {
-    let query = read(alloc, question.query)?;
+/// What is told of a question's answer. None without memory.
+fn verdict_of(alloc: Global, question: &Question) -> Option<Judged> {
+    let Ok(query) = read(alloc, question.query) else {
+        return None;
+    };
     let judged = verdict_by(alloc, &query.expr, question);
     drop(query);
     judged
@@ -126,17 +126,17 @@ fn sum_of(lists: &[MemList], object: u32) -> u64 {
 }
 
 /// Whether lists are a table that gives objects these sums.
-fn has_sums(alloc: Global, lists: &[MemList], sums: &[(u32, u64)]) -> Result<bool, Fail> {
+fn has_sums(alloc: Global, lists: &[MemList], sums: &[(u32, u64)]) -> bool {
     for (object, sum) in sums {
         if sum_of(lists, *object) != *sum {
-            return Ok(false);
+            return false;
         }
     }
-    Ok(is_table(alloc, lists)?)
+    is_table(alloc, lists).unwrap_or(false)
 }
 
 /// Whether this is told of a row's answer.
-fn is_so(alloc: Global, asked: Asked, row: &Row) -> Result<bool, Fail> {
+fn is_so(alloc: Global, asked: Asked, row: &Row) -> bool {
     let (query, lists) = asked;
     let (count, accesses, k, answer, told) = *row;
     let question = Question {
@@ -147,20 +147,22 @@ fn is_so(alloc: Global, asked: Asked, row: &Row) -> Result<bool, Fail> {
         k,
         answer,
     };
-    let judged = verdict_of(alloc, &question)?;
+    let Some(judged) = verdict_of(alloc, &question) else {
+        return false;
+    };
     let is_so = judged.told == told;
     drop(judged);
-    Ok(is_so)
+    is_so
 }
 
 /// The number of the first row of whose answer something else is told.
-fn first_wrong(alloc: Global, asked: Asked, rows: &[Row]) -> Result<Option<usize>, Fail> {
+fn first_wrong(alloc: Global, asked: Asked, rows: &[Row]) -> Option<usize> {
     for (number, row) in rows.iter().enumerate() {
-        if !is_so(alloc, asked, row)? {
-            return Ok(Some(number));
+        if !is_so(alloc, asked, row) {
+            return Some(number);
         }
     }
-    Ok(None)
+    None
 }
 
 /// Two lists by sum.
@@ -226,7 +228,7 @@ static COUNTERED: [Countered; 2] = [
 ];
 
 /// Whether what beats object 2 is a table that gives objects these sums.
-fn is_countered(alloc: Global, row: &Countered) -> Result<bool, Fail> {
+fn is_countered(alloc: Global, row: &Countered) -> bool {
     let (query, lists) = SUM;
     let (count, accesses, sums) = *row;
     let question = Question {
@@ -237,20 +239,22 @@ fn is_countered(alloc: Global, row: &Countered) -> Result<bool, Fail> {
         k: 1,
         answer: &[2],
     };
-    let judged = verdict_of(alloc, &question)?;
+    let Some(judged) = verdict_of(alloc, &question) else {
+        return false;
+    };
     let is_so = has_sums(alloc, &judged.against, sums);
     drop(judged);
     is_so
 }
 
 /// The number of the first row that is countered otherwise.
-fn first_uncountered(alloc: Global, rows: &[Countered]) -> Result<Option<usize>, Fail> {
+fn first_uncountered(alloc: Global, rows: &[Countered]) -> Option<usize> {
     for (number, row) in rows.iter().enumerate() {
-        if !is_countered(alloc, row)? {
-            return Ok(Some(number));
+        if !is_countered(alloc, row) {
+            return Some(number);
         }
     }
-    Ok(None)
+    None
 }
 
 /// Three objects of one grade in the first of two lists.
@@ -369,14 +373,10 @@ static ABOVE_ALL: [Row; 1] = [(
 /// A run and its beginnings, ties, each fault, and the greatest aggregates. What beats an answer is a table: the object inside has its
 /// low there, and each other object its high.
 #[test]
-fn judges_each_row(rt: HostRuntime) -> Result<(), Fail> {
-    let wrong = [
-        first_wrong(rt.alloc(), SUM, &RUNS)?,
-        first_wrong(rt.alloc(), SUM, &SMALLEST)?,
-        first_wrong(rt.alloc(), ONE, &FAULTS)?,
-        first_wrong(rt.alloc(), GREATEST, &ABOVE_ALL)?,
-        first_uncountered(rt.alloc(), &COUNTERED)?,
-    ];
-    assert_eq!(rt; wrong, [None; 5]);
-    Ok(())
+fn judges_each_row(rt: HostRuntime) {
+    none_is_wrong(&rt, first_wrong(rt.alloc(), SUM, &RUNS));
+    none_is_wrong(&rt, first_wrong(rt.alloc(), SUM, &SMALLEST));
+    none_is_wrong(&rt, first_wrong(rt.alloc(), ONE, &FAULTS));
+    none_is_wrong(&rt, first_wrong(rt.alloc(), GREATEST, &ABOVE_ALL));
+    none_is_wrong(&rt, first_uncountered(rt.alloc(), &COUNTERED));
 }

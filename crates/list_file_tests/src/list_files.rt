@@ -1,10 +1,10 @@
 //! List files: what is a row, what is a header, and what each call garbles.
 
+use super::none_is_wrong;
 use file_source::FileSource;
-use source_api::{Counts, Memory, Trouble};
+use source_api::{Counts, Trouble};
 use source_support::{Step, first_wrong};
 use std::alloc::Global;
-use std::test::Fail;
 
 const GARBLED: Trouble = Trouble::Garbled;
 
@@ -12,7 +12,7 @@ const GARBLED: Trouble = Trouble::Garbled;
 type Called = (&'static [u8], &'static [Step]);
 
 /// Headers, order marks, line ends and quotes.
-const HEADERS: [Called; 12] = [
+static HEADERS: [Called; 12] = [
     (
         b"",
         &[
@@ -86,7 +86,7 @@ const HEADERS: [Called; 12] = [
 ];
 
 /// What is a row, and what is none.
-const ROWS: [Called; 9] = [
+static ROWS: [Called; 9] = [
     (b"1\n", &[Step::Size(1), Step::Page(0, 1, Err(GARBLED))]),
     (b"1,2,3\n", &[Step::Size(1), Step::Page(0, 1, Err(GARBLED))]),
     (b"1,\n", &[Step::Size(1), Step::Page(0, 1, Err(GARBLED))]),
@@ -117,7 +117,7 @@ const ROWS: [Called; 9] = [
 ];
 
 /// What each call needs.
-const NEEDS: [Called; 3] = [
+static NEEDS: [Called; 3] = [
     // A page needs the records that are asked for alone.
     (
         b"1,9\n2,8\nthree\n3,7\n",
@@ -145,42 +145,40 @@ const NEEDS: [Called; 3] = [
     ),
 ];
 
-/// The place of the first call that is answered otherwise.
-fn wrong_in(alloc: Global, text: &[u8], steps: &[Step]) -> Result<Option<usize>, Memory> {
+/// Whether each call of a list file is answered so.
+fn answers_so(alloc: Global, file: &Called) -> bool {
+    let (text, steps) = file;
     let Ok(mut source) = FileSource::open(alloc, text) else {
-        return Err(Memory);
+        return false;
     };
     let wrong = first_wrong(alloc, &mut source, steps);
     drop(source);
-    Ok(wrong)
+    wrong.is_none()
 }
 
-/// The place of the first file of which a call is answered otherwise.
-fn first_other(alloc: Global, files: &[Called]) -> Result<Option<usize>, Memory> {
-    for (place, (text, steps)) in files.iter().enumerate() {
-        if wrong_in(alloc, text, steps)?.is_some() {
-            return Ok(Some(place));
+/// The number of the first file of which a call is answered otherwise.
+fn first_other(alloc: Global, files: &[Called]) -> Option<usize> {
+    for (number, file) in files.iter().enumerate() {
+        if !answers_so(alloc, file) {
+            return Some(number);
         }
     }
-    Ok(None)
+    None
 }
 
 #[test]
-fn drops_a_header_alone(rt: HostRuntime) -> Result<(), Fail> {
-    assert_eq!(rt; first_other(rt.alloc(), &HEADERS), Ok(None));
-    Ok(())
+fn drops_a_header_alone(rt: HostRuntime) {
+    none_is_wrong(&rt, first_other(rt.alloc(), &HEADERS));
 }
 
 #[test]
-fn tells_rows(rt: HostRuntime) -> Result<(), Fail> {
-    assert_eq!(rt; first_other(rt.alloc(), &ROWS), Ok(None));
-    Ok(())
+fn tells_rows(rt: HostRuntime) {
+    none_is_wrong(&rt, first_other(rt.alloc(), &ROWS));
 }
 
 #[test]
-fn garbles_where_needed(rt: HostRuntime) -> Result<(), Fail> {
-    assert_eq!(rt; first_other(rt.alloc(), &NEEDS), Ok(None));
-    Ok(())
+fn garbles_where_needed(rt: HostRuntime) {
+    none_is_wrong(&rt, first_other(rt.alloc(), &NEEDS));
 }
 
 /// Pages and grades, some of them garbled.
@@ -192,25 +190,26 @@ const MIXED: &[Step] = &[
     Step::Grade(3, Ok(Some(7))),
 ];
 
-/// What is counted after these calls.
-fn counted(alloc: Global) -> Result<(Option<usize>, Counts), Memory> {
+/// What is counted after these.
+const COUNTED: Counts = Counts {
+    faults: 0,
+    garbles: 2,
+    rows_given: 3,
+    grades_given: 1,
+};
+
+/// Whether these calls are answered so, and counted.
+fn counts_so(alloc: Global, steps: &[Step], counts: Counts) -> bool {
     let Ok(mut source) = FileSource::open(alloc, b"1,9\n2,8\nthree\n3,7\n") else {
-        return Err(Memory);
+        return false;
     };
-    let wrong = first_wrong(alloc, &mut source, MIXED);
-    let counts = source.counts();
+    let wrong = first_wrong(alloc, &mut source, steps);
+    let is_so = wrong.is_none() && source.counts() == counts;
     drop(source);
-    Ok((wrong, counts))
+    is_so
 }
 
 #[test]
-fn counts_its_calls(rt: HostRuntime) -> Result<(), Fail> {
-    let counts = Counts {
-        faults: 0,
-        garbles: 2,
-        rows_given: 3,
-        grades_given: 1,
-    };
-    assert_eq!(rt; counted(rt.alloc()), Ok((None, counts)));
-    Ok(())
+fn counts_its_calls(rt: HostRuntime) {
+    assert!(rt; counts_so(rt.alloc(), MIXED, COUNTED));
 }

@@ -1,6 +1,8 @@
-//! Tests of lines, numbers, names, rows and tables.
+//! Tests of lines, numbers, names, rows, tables and bundles.
 #![tactic(auto)]
 
+#[cfg(test)]
+mod bundles;
 #[cfg(test)]
 mod cuts;
 #[cfg(test)]

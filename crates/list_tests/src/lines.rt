@@ -4,7 +4,7 @@ use super::none_is_wrong;
 use line_text::first_line;
 
 /// A text, its first line, and the rest.
-const CUT: [(&str, &str, &str); 8] = [
+const CUT: &[(&str, &str, &str)] = &[
     ("a\nb\n", "a", "b\n"),
     ("a", "a", ""),
     ("\na", "", "a"),
@@ -35,6 +35,6 @@ fn first_wrong(rows: &[(&str, &str, &str)]) -> Option<usize> {
 
 #[test]
 fn cuts_the_first_line(rt: HostRuntime) {
-    none_is_wrong(&rt, first_wrong(&CUT));
+    none_is_wrong(&rt, first_wrong(CUT));
     assert!(rt; first_line(b"").is_none());
 }

@@ -4,7 +4,7 @@ use super::none_is_wrong;
 use line_text::{is_name, is_name_byte};
 
 /// Texts, and whether each is a name.
-const TEXTS: [(&str, bool); 9] = [
+const TEXTS: &[(&str, bool)] = &[
     ("a", true),
     ("Zz9_", true),
     ("A23456789012345678901234567890_2", true),
@@ -28,6 +28,6 @@ fn first_wrong(rows: &[(&str, bool)]) -> Option<usize> {
 
 #[test]
 fn tells_names(rt: HostRuntime) {
-    none_is_wrong(&rt, first_wrong(&TEXTS));
+    none_is_wrong(&rt, first_wrong(TEXTS));
     assert!(rt; is_name_byte(b'_') && !is_name_byte(b'-'));
 }

@@ -4,7 +4,7 @@ use super::none_is_wrong;
 use line_text::{NumberFault, is_number, number_up_to, read_number};
 
 /// Texts, and the number that each spells.
-const TEXTS: [(&str, Result<u64, NumberFault>); 12] = [
+const TEXTS: &[(&str, Result<u64, NumberFault>)] = &[
     ("0", Ok(0)),
     ("7", Ok(7)),
     ("10", Ok(10)),
@@ -32,7 +32,7 @@ fn first_wrong(rows: &[(&str, Result<u64, NumberFault>)]) -> Option<usize> {
 
 #[test]
 fn reads_each_number_in_its_one_form(rt: HostRuntime) {
-    none_is_wrong(&rt, first_wrong(&TEXTS));
+    none_is_wrong(&rt, first_wrong(TEXTS));
     let is_limited = number_up_to(b"10", 10) == Some(10) && number_up_to(b"10", 9).is_none();
     assert!(rt; is_limited);
 }

@@ -15,7 +15,7 @@ const TOO_HIGH: Result<(), RowFault> = Err(RowFault::TooHigh {
 });
 
 /// The grade before the third row, if there is one, its own, and what is found.
-const ROWS: [(Option<u32>, u32, Result<(), RowFault>); 7] = [
+const ROWS: &[(Option<u32>, u32, Result<(), RowFault>)] = &[
     (None, 0, Ok(())),
     (None, 1_000_000, Ok(())),
     (None, 1_000_001, TOO_HIGH),
@@ -42,5 +42,5 @@ fn first_wrong(rows: &[(Option<u32>, u32, Result<(), RowFault>)]) -> Option<usiz
 
 #[test]
 fn finds_each_fault(rt: HostRuntime) {
-    none_is_wrong(&rt, first_wrong(&ROWS));
+    none_is_wrong(&rt, first_wrong(ROWS));
 }

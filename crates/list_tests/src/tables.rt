@@ -10,7 +10,7 @@ const THREE: &[(u32, u32)] = &[(1, 9), (2, 9), (3, 0)];
 const TURNED: &[(u32, u32)] = &[(3, 8), (1, 7), (2, 6)];
 
 /// Lists, and whether they are a table.
-const TABLES: [(Lists<'static>, bool); 9] = [
+const TABLES: &[(Lists<'static>, bool)] = &[
     (&[], true),
     (&[THREE], true),
     (&[THREE, TURNED], true),
@@ -42,5 +42,5 @@ fn first_wrong(alloc: Global, tables: &[(Lists<'static>, bool)]) -> Option<usize
 
 #[test]
 fn tells_tables(rt: HostRuntime) {
-    none_is_wrong(&rt, first_wrong(rt.alloc(), &TABLES));
+    none_is_wrong(&rt, first_wrong(rt.alloc(), TABLES));
 }

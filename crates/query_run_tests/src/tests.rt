@@ -47,7 +47,7 @@ const FALLING: Held = Held {
 };
 
 /// Queries that are answered.
-const ANSWERED: [Case; 3] = [
+const ANSWERED: &[Case] = &[
     Case {
         asked: FIRST,
         held: (&A, &B),
@@ -79,7 +79,7 @@ const ANSWERED: [Case; 3] = [
 ];
 
 /// A room that is too small, an object too many, an object that a list lacks.
-const OBJECTS: [Case; 3] = [
+const OBJECTS: &[Case] = &[
     // there is room for object 1, and the first row of B has another
     Case {
         asked: ("top 1 by sum(A,B) using ta room 1", &[0, 1]),
@@ -107,7 +107,7 @@ const OBJECTS: [Case; 3] = [
 ];
 
 /// Random access gives another grade than the row has.
-const GRADES: [Case; 2] = [
+const GRADES: &[Case] = &[
     // the grade of object 2 in A is above that of the row that was read
     Case {
         asked: FIRST,
@@ -153,7 +153,7 @@ const GRADES: [Case; 2] = [
 ];
 
 /// Rows out of order, an object twice, fewer rows than are stated.
-const ROWS: [Case; 3] = [
+const ROWS: &[Case] = &[
     Case {
         asked: ("top 2 by sum(A,B) using ta", &[0, 1]),
         held: (&RISING, &FALLING),
@@ -211,7 +211,7 @@ const ROWS: [Case; 3] = [
 ];
 
 /// Calls that fail, and answers that cannot be read.
-const CALLS: [Case; 2] = [
+const CALLS: &[Case] = &[
     // the first page of B fails
     Case {
         asked: FIRST,
@@ -249,30 +249,30 @@ fn none_is_wrong(rt: &impl Abort, first_wrong: Option<usize>) {
 
 #[test]
 fn answers_beside_two_fetchers(rt: HostRuntime) -> Result<(), Fail> {
-    none_is_wrong(&rt, first_wrong(&rt, rt.alloc(), &ANSWERED)?);
+    none_is_wrong(&rt, first_wrong(&rt, rt.alloc(), ANSWERED)?);
     Ok(())
 }
 
 #[test]
 fn refuses_objects_beside_two_fetchers(rt: HostRuntime) -> Result<(), Fail> {
-    none_is_wrong(&rt, first_wrong(&rt, rt.alloc(), &OBJECTS)?);
+    none_is_wrong(&rt, first_wrong(&rt, rt.alloc(), OBJECTS)?);
     Ok(())
 }
 
 #[test]
 fn refuses_grades_beside_two_fetchers(rt: HostRuntime) -> Result<(), Fail> {
-    none_is_wrong(&rt, first_wrong(&rt, rt.alloc(), &GRADES)?);
+    none_is_wrong(&rt, first_wrong(&rt, rt.alloc(), GRADES)?);
     Ok(())
 }
 
 #[test]
 fn refuses_rows_beside_two_fetchers(rt: HostRuntime) -> Result<(), Fail> {
-    none_is_wrong(&rt, first_wrong(&rt, rt.alloc(), &ROWS)?);
+    none_is_wrong(&rt, first_wrong(&rt, rt.alloc(), ROWS)?);
     Ok(())
 }
 
 #[test]
 fn refuses_calls_beside_two_fetchers(rt: HostRuntime) -> Result<(), Fail> {
-    none_is_wrong(&rt, first_wrong(&rt, rt.alloc(), &CALLS)?);
+    none_is_wrong(&rt, first_wrong(&rt, rt.alloc(), CALLS)?);
     Ok(())
 }

@@ -44,7 +44,7 @@ fn first_wrong(alloc: Global, rows: &[Row]) -> Option<usize> {
 }
 
 /// Lines that aren't of the shape of query text.
-const SHAPES: [Row; 29] = [
+const SHAPES: &[Row] = &[
     (b"", Syntax { at: 0 }),
     (b"top 01 by A using ta", Syntax { at: 5 }),
     (b"top 1 by", Syntax { at: 8 }),
@@ -80,7 +80,7 @@ const SHAPES: [Row; 29] = [
 ];
 
 /// Lines with a number out of its range, or with a ninth list.
-const RANGES: [Row; 13] = [
+const RANGES: &[Row] = &[
     (b"top 0 by A using ta", Number { at: 4 }),
     (b"top 1000001 by A using ta", Number { at: 4 }),
     (b"top 1 by A using ta cost 0 1", Number { at: 25 }),
@@ -113,12 +113,12 @@ const RANGES: [Row; 13] = [
 
 #[test]
 fn refuses_lines(rt: HostRuntime) {
-    none_is_wrong(&rt, first_wrong(rt.alloc(), &SHAPES));
-    none_is_wrong(&rt, first_wrong(rt.alloc(), &RANGES));
+    none_is_wrong(&rt, first_wrong(rt.alloc(), SHAPES));
+    none_is_wrong(&rt, first_wrong(rt.alloc(), RANGES));
 }
 
 /// Lines that are read.
-const READ: [&[u8]; 11] = [
+const READ: &[&[u8]] = &[
     b"top 1 by A using ta",
     b"top 1 by A using nra",
     b"top 1 by A using ca",
@@ -154,7 +154,7 @@ type Long = (
 const FORTY: &[u8] = b"1111111111222222222233333333334444444444";
 
 /// Numbers of forty digits, and lines and expressions at their limits and one above.
-const LONG: [Long; 12] = [
+const LONG: &[Long] = &[
     (b"top ", FORTY, 1, b" by A using ta", Some(Number { at: 4 })),
     (
         b"top 1 by A using ta cost ",
@@ -272,7 +272,7 @@ fn first_wrong_front(alloc: Global) -> Option<usize> {
 
 #[test]
 fn reads_and_prints(rt: HostRuntime) {
-    none_is_wrong(&rt, first_unread(rt.alloc(), &READ));
-    none_is_wrong(&rt, first_wrong_of_long(rt.alloc(), &LONG));
+    none_is_wrong(&rt, first_unread(rt.alloc(), READ));
+    none_is_wrong(&rt, first_wrong_of_long(rt.alloc(), LONG));
     none_is_wrong(&rt, first_wrong_front(rt.alloc()));
 }

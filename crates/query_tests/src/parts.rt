@@ -16,7 +16,7 @@ fn is_asked_by(alloc: Global, line: &[u8], algorithm: Algorithm) -> bool {
 }
 
 /// Lines, and the algorithm of each.
-const ALGORITHMS: [(&[u8], Algorithm); 3] = [
+const ALGORITHMS: &[(&[u8], Algorithm)] = &[
     (b"top 1 by A using ta", Algorithm::Ta),
     (b"top 1 by A using nra", Algorithm::Nra),
     (b"top 1 by A using ca", Algorithm::Ca),
@@ -74,6 +74,6 @@ fn is_read(alloc: Global) -> bool {
 
 #[test]
 fn a_query_has_its_parts(rt: HostRuntime) {
-    none_is_wrong(&rt, first_other(rt.alloc(), &ALGORITHMS));
+    none_is_wrong(&rt, first_other(rt.alloc(), ALGORITHMS));
     assert!(rt; is_read(rt.alloc()));
 }

@@ -10,7 +10,7 @@ use std::alloc::Global;
 type Row = (&'static str, &'static [u32], Result<u64, QueryFault>);
 
 /// Expressions whose values were worked out by hand.
-const ROWS: [Row; 16] = [
+const ROWS: &[Row] = &[
     // each operator over the same four grades, and one inside another
     ("A", &[7], Ok(7)),
     ("min(A,B,C,D)", &[10, 40, 20, 30], Ok(10)),
@@ -100,5 +100,5 @@ fn first_wrong(alloc: Global, rows: &[Row]) -> Option<usize> {
 
 #[test]
 fn expressions_come_to_their_values(rt: HostRuntime) {
-    none_is_wrong(&rt, first_wrong(rt.alloc(), &ROWS));
+    none_is_wrong(&rt, first_wrong(rt.alloc(), ROWS));
 }

@@ -2,7 +2,6 @@
 
 use source_state::{Applied, Asked, Event, FailKind, SourceState};
 use std::alloc::Global;
-use std::test::Fail;
 use test_support::page_of;
 
 /// An event as plain data.
@@ -22,57 +21,55 @@ pub enum Step {
     Fail(FailKind),
 }
 
-/// Applies a page where it may come.
-fn apply_page(
-    alloc: Global,
-    state: &mut SourceState,
-    pairs: &[(u32, u32)],
-) -> Result<Applied, Fail> {
+/// Applies a page. None where it may not come, and without memory.
+fn apply_page(alloc: Global, state: &mut SourceState, pairs: &[(u32, u32)]) -> Option<Applied> {
     let count = state.count();
     if state.row_fault().is_some()
         || state.rows() >= count
         || pairs.len() > (count - state.rows()) as usize
     {
-        return Err("a page that may not come".into());
+        return None;
     }
-    let rows = page_of(alloc, pairs)?;
-    Ok(state.apply(Event::Page { rows }))
+    let Ok(rows) = page_of(alloc, pairs) else {
+        return None;
+    };
+    Some(state.apply(Event::Page { rows }))
 }
 
-/// Applies an event where it may come.
-fn apply(alloc: Global, state: &mut SourceState, step: Step) -> Result<Applied, Fail> {
+/// Applies an event. None where it may not come, and without memory.
+fn apply(alloc: Global, state: &mut SourceState, step: Step) -> Option<Applied> {
     match step {
         Step::Want(depth) => {
             if depth >= 1 && depth <= state.count() {
-                return Ok(state.apply(Event::Want { depth }));
+                return Some(state.apply(Event::Want { depth }));
             }
         }
         Step::Ask(object) => {
             if state.asked(object).is_some() || state.asks() < state.count() {
-                return Ok(state.apply(Event::Ask { object }));
+                return Some(state.apply(Event::Ask { object }));
             }
         }
         Step::Page(pairs) => return apply_page(alloc, state, pairs),
         Step::Grade(object, grade) => {
             if state.asked(object) == Some(Asked::Pending) {
-                return Ok(state.apply(Event::Grade { object, grade }));
+                return Some(state.apply(Event::Grade { object, grade }));
             }
         }
         Step::Miss(object) => {
             if state.asked(object) == Some(Asked::Pending) {
-                return Ok(state.apply(Event::Miss { object }));
+                return Some(state.apply(Event::Miss { object }));
             }
         }
-        Step::Fail(what) => return Ok(state.apply(Event::Fail { what })),
+        Step::Fail(what) => return Some(state.apply(Event::Fail { what })),
     }
-    Err("an event that may not come".into())
+    None
 }
 
-/// Applies events in turn, and gives what the last one answered.
-pub fn apply_all(alloc: Global, state: &mut SourceState, steps: &[Step]) -> Result<Applied, Fail> {
+/// Applies events in turn, and gives what the last one answered. None where one may not come, and without memory.
+pub fn apply_all(alloc: Global, state: &mut SourceState, steps: &[Step]) -> Option<Applied> {
     let mut last = Applied::Done;
     for step in steps {
         last = apply(alloc, state, *step)?;
     }
-    Ok(last)
+    Some(last)
 }

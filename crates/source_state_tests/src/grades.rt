@@ -1,8 +1,8 @@
 //! The first of five places with a grade above a bound.
 
+use super::none_is_wrong;
 use grade_tree::GradeTree;
 use std::alloc::Global;
-use std::test::Fail;
 
 /// Grades that are put under places or taken away, a bound, and the first place above it.
 type Changed = (&'static [(u32, Option<u32>)], u32, Option<u32>);
@@ -17,34 +17,31 @@ static ROWS: [Changed; 7] = [
     (&[(0, Some(9)), (4, Some(1)), (0, None)], 0, Some(4)),
 ];
 
-fn first_after(
-    alloc: Global,
-    changes: &[(u32, Option<u32>)],
-    bound: u32,
-) -> Result<Option<u32>, Fail> {
+/// Whether this place is told after the changes of a row.
+fn is_first_after(alloc: Global, row: &Changed) -> bool {
+    let (changes, bound, first) = *row;
     let Ok(mut tree) = GradeTree::make(alloc, 5) else {
-        return Err("no memory".into());
+        return false;
     };
     for (place, grade) in changes {
         if *place < 5 {
             tree.set(*place, *grade);
         }
     }
-    Ok(tree.first_above(bound))
+    tree.first_above(bound) == first
 }
 
 /// The number of the first row of which another place is told.
-fn first_wrong(alloc: Global, rows: &[Changed]) -> Result<Option<usize>, Fail> {
-    for (number, (changes, bound, place)) in rows.iter().enumerate() {
-        if first_after(alloc, changes, *bound)? != *place {
-            return Ok(Some(number));
+fn first_wrong(alloc: Global, rows: &[Changed]) -> Option<usize> {
+    for (number, row) in rows.iter().enumerate() {
+        if !is_first_after(alloc, row) {
+            return Some(number);
         }
     }
-    Ok(None)
+    None
 }
 
 #[test]
-fn finds_the_first_place(rt: HostRuntime) -> Result<(), Fail> {
-    assert_eq!(rt; first_wrong(rt.alloc(), &ROWS)?, None);
-    Ok(())
+fn finds_the_first_place(rt: HostRuntime) {
+    none_is_wrong(&rt, first_wrong(rt.alloc(), &ROWS));
 }

@@ -1,10 +1,10 @@
 //! What the readers tell after a few events on a list of three objects.
 
+use super::none_is_wrong;
 use ranked_list::Row;
 use source_state::{Applied, Asked, FailKind, SourceFault, SourceState, Tally};
 use source_state_support::{Step, apply_all};
 use std::alloc::Global;
-use std::test::Fail;
 
 /// Events, what the last one is answered, how many rows there are then, their fault, and what is told of the ask of object 2.
 type Paged = (
@@ -163,24 +163,23 @@ fn is_quiet(state: &SourceState, asked: Option<Asked>, pending: Option<u32>) -> 
 }
 
 /// Whether that is told after the events of a row.
-fn pages_so(alloc: Global, row: &Paged) -> Result<bool, Fail> {
+fn pages_so(alloc: Global, row: &Paged) -> bool {
     let Ok(mut state) = SourceState::open(alloc, 7, 3) else {
-        return Err("no memory".into());
+        return false;
     };
-    let applied = apply_all(alloc, &mut state, row.0);
-    let is_so = is_paged(&state, row);
+    let is_so = apply_all(alloc, &mut state, row.0) == Some(row.1) && is_paged(&state, row);
     drop(state);
-    Ok(applied? == row.1 && is_so)
+    is_so
 }
 
 /// The number of the first row of which something else is told.
-fn first_wrong(alloc: Global, rows: &[Paged]) -> Result<Option<usize>, Fail> {
+fn first_wrong(alloc: Global, rows: &[Paged]) -> Option<usize> {
     for (number, row) in rows.iter().enumerate() {
-        if !pages_so(alloc, row)? {
-            return Ok(Some(number));
+        if !pages_so(alloc, row) {
+            return Some(number);
         }
     }
-    Ok(None)
+    None
 }
 
 /// Events, how many rows there are then, what is told of the asks of objects 2 and 1, the first pending ask, how many fails there
@@ -265,36 +264,32 @@ fn is_waiting(state: &SourceState, row: &Waited) -> bool {
 }
 
 /// Whether that is told after the events of a row, of which the last one is done.
-fn waits_so(alloc: Global, row: &Waited) -> Result<bool, Fail> {
+fn waits_so(alloc: Global, row: &Waited) -> bool {
     let Ok(mut state) = SourceState::open(alloc, 7, 3) else {
-        return Err("no memory".into());
+        return false;
     };
-    let applied = apply_all(alloc, &mut state, row.0);
-    let is_so = is_waiting(&state, row);
+    let is_done = apply_all(alloc, &mut state, row.0) == Some(Applied::Done);
+    let is_so = is_done && is_waiting(&state, row);
     drop(state);
-    Ok(applied? == Applied::Done && is_so)
+    is_so
 }
 
 /// The number of the first row that waits otherwise.
-fn first_other(alloc: Global, rows: &[Waited]) -> Result<Option<usize>, Fail> {
+fn first_other(alloc: Global, rows: &[Waited]) -> Option<usize> {
     for (number, row) in rows.iter().enumerate() {
-        if !waits_so(alloc, row)? {
-            return Ok(Some(number));
+        if !waits_so(alloc, row) {
+            return Some(number);
         }
     }
-    Ok(None)
+    None
 }
 
 /// Rows at fault, grades above rows, asks and pauses.
 #[test]
-fn tells_what_there_is_after_events(rt: HostRuntime) -> Result<(), Fail> {
-    let wrong = [
-        first_wrong(rt.alloc(), &ROWS)?,
-        first_wrong(rt.alloc(), &ABOVE)?,
-        first_other(rt.alloc(), &ASKS)?,
-    ];
-    assert_eq!(rt; wrong, [None, None, None]);
-    Ok(())
+fn tells_what_there_is_after_events(rt: HostRuntime) {
+    none_is_wrong(&rt, first_wrong(rt.alloc(), &ROWS));
+    none_is_wrong(&rt, first_wrong(rt.alloc(), &ABOVE));
+    none_is_wrong(&rt, first_other(rt.alloc(), &ASKS));
 }
 
 /// Wants, an ask, a page of two rows, and fails.
@@ -327,19 +322,16 @@ fn are_counted(state: &SourceState) -> bool {
 }
 
 /// The same after events.
-fn are_counted_after(alloc: Global, steps: &[Step]) -> Result<bool, Fail> {
+fn are_counted_after(alloc: Global, steps: &[Step]) -> bool {
     let Ok(mut state) = SourceState::open(alloc, 7, 3) else {
-        return Err("no memory".into());
+        return false;
     };
-    let applied = apply_all(alloc, &mut state, steps);
-    let are_so = are_counted(&state);
+    let are_so = apply_all(alloc, &mut state, steps).is_some() && are_counted(&state);
     drop(state);
-    applied?;
-    Ok(are_so)
+    are_so
 }
 
 #[test]
-fn counts_and_names(rt: HostRuntime) -> Result<(), Fail> {
-    assert!(rt; are_counted_after(rt.alloc(), &MANY)?);
-    Ok(())
+fn counts_and_names(rt: HostRuntime) {
+    assert!(rt; are_counted_after(rt.alloc(), &MANY));
 }

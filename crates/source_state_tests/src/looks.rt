@@ -1,10 +1,10 @@
 //! Looks at the state of a list of three objects.
 
+use super::none_is_wrong;
 use ranked_list::{Need, Row};
 use source_state::{FailKind, Look, LookFault, SourceFault, SourceState, Tally, Waiting, look_at};
 use source_state_support::{Step, apply_all};
 use std::alloc::Global;
-use std::test::Fail;
 
 /// Events, a need that is looked for first, further events, and the need with what is answered then.
 type Looked = (&'static [Step], Need, &'static [Step], Need, Look);
@@ -132,91 +132,80 @@ static GRADES: [Looked; 5] = [
     ),
 ];
 
-/// Looks for a need of this list.
-fn look(state: &mut SourceState, waiting: &mut Waiting, need: Need) -> Result<Look, Fail> {
+/// Looks for a need. None where it is none of this list.
+fn look(state: &mut SourceState, waiting: &mut Waiting, need: Need) -> Option<Look> {
     match need {
-        Need::Row { depth, .. } if depth == 0 || depth > state.count() => {
-            Err("no depth of this list".into())
-        }
-        Need::Done => Err("nothing is needed".into()),
-        Need::Row { .. } | Need::Grade { .. } => Ok(look_at(state, waiting, need)),
+        Need::Row { depth, .. } if depth == 0 || depth > state.count() => None,
+        Need::Done => None,
+        Need::Row { .. } | Need::Grade { .. } => Some(look_at(state, waiting, need)),
     }
 }
 
-/// The answer to the second need, and whether it is waited for then.
-fn second_answer(
-    alloc: Global,
-    before: &[Step],
-    first: Need,
-    between: &[Step],
-    second: Need,
-) -> Result<(Look, bool), Fail> {
-    let Ok(mut state) = SourceState::open(alloc, 7, 3) else {
-        return Err("no memory".into());
-    };
-    let answer = answer_by(alloc, &mut state, before, first, between, second);
-    drop(state);
-    answer
-}
-
-fn answer_by(
+/// The same after events. None also where one may not come.
+fn look_after(
     alloc: Global,
     state: &mut SourceState,
-    before: &[Step],
-    first: Need,
-    between: &[Step],
-    second: Need,
-) -> Result<(Look, bool), Fail> {
+    waiting: &mut Waiting,
+    steps: &[Step],
+    need: Need,
+) -> Option<Look> {
+    apply_all(alloc, state, steps)?;
+    look(state, waiting, need)
+}
+
+/// Whether the second need of a row is answered as it says, and is waited for where there is no answer yet. None where an event may
+/// not come, or a need is none of this list.
+fn is_answered(alloc: Global, state: &mut SourceState, row: &Looked) -> Option<bool> {
+    let (before, first, between, second, answer) = row;
     let noted = Tally {
         failed: 0,
         garbled: 0,
         memory: 0,
     };
     let mut waiting = Waiting { need: None, noted };
-    apply_all(alloc, state, before)?;
-    look(state, &mut waiting, first)?;
-    apply_all(alloc, state, between)?;
-    let answer = look(state, &mut waiting, second)?;
-    Ok((answer, waiting.need == Some(second)))
+    look_after(alloc, state, &mut waiting, before, *first)?;
+    let told = look_after(alloc, state, &mut waiting, between, *second)?;
+    let is_waited_for = waiting.need == Some(*second);
+    Some(told == *answer && is_waited_for == (*answer == Look::NotYet))
+}
+
+/// The same of a new state.
+fn answers_so(alloc: Global, row: &Looked) -> bool {
+    let Ok(mut state) = SourceState::open(alloc, 7, 3) else {
+        return false;
+    };
+    let is_so = is_answered(alloc, &mut state, row) == Some(true);
+    drop(state);
+    is_so
 }
 
 /// The number of the first row that is answered otherwise.
-fn first_wrong(alloc: Global, looks: &[Looked]) -> Result<Option<usize>, Fail> {
-    for (number, (before, first, between, second, answer)) in looks.iter().enumerate() {
-        let told = second_answer(alloc, before, *first, between, *second)?;
-        if told != (*answer, *answer == Look::NotYet) {
-            return Ok(Some(number));
+fn first_wrong(alloc: Global, looks: &[Looked]) -> Option<usize> {
+    for (number, row) in looks.iter().enumerate() {
+        if !answers_so(alloc, row) {
+            return Some(number);
         }
     }
-    Ok(None)
+    None
 }
 
 #[test]
-fn looks_for_rows_and_grades(rt: HostRuntime) -> Result<(), Fail> {
-    let wrong = [
-        first_wrong(rt.alloc(), &ROWS)?,
-        first_wrong(rt.alloc(), &GRADES)?,
-    ];
-    assert_eq!(rt; wrong, [None, None]);
-    Ok(())
+fn looks_for_rows_and_grades(rt: HostRuntime) {
+    none_is_wrong(&rt, first_wrong(rt.alloc(), &ROWS));
+    none_is_wrong(&rt, first_wrong(rt.alloc(), &GRADES));
 }
 
-/// What a look at the first row answers after a fail of each kind, where the count of one kind was noted at its last value.
-fn answer_noted(alloc: Global, failed: u64, garbled: u64) -> Result<Look, Fail> {
-    let Ok(mut state) = SourceState::open(alloc, 7, 3) else {
-        return Err("no memory".into());
-    };
-    let answer = noted_by(alloc, &mut state, failed, garbled);
-    drop(state);
-    answer
-}
+/// A fail of each kind.
+static FAILS: [Step; 2] = [Step::Fail(FailKind::Garbled), Step::Fail(FailKind::Failed)];
 
-fn noted_by(
+/// What a look at the first row answers after these, where so many of each kind were noted. None where they may not come.
+fn answer_by(
     alloc: Global,
     state: &mut SourceState,
+    steps: &[Step],
     failed: u64,
     garbled: u64,
-) -> Result<Look, Fail> {
+) -> Option<Look> {
     let need = Need::Row { list: 0, depth: 1 };
     let mut waiting = Waiting {
         need: Some(need),
@@ -226,22 +215,26 @@ fn noted_by(
             memory: 0,
         },
     };
-    apply_all(
-        alloc,
-        state,
-        &[Step::Fail(FailKind::Garbled), Step::Fail(FailKind::Failed)],
-    )?;
-    look(state, &mut waiting, need)
+    look_after(alloc, state, &mut waiting, steps, need)
 }
 
+/// Whether that is the answer of a new state.
+fn answers_noted(alloc: Global, steps: &[Step], failed: u64, garbled: u64, answer: Look) -> bool {
+    let Ok(mut state) = SourceState::open(alloc, 7, 3) else {
+        return false;
+    };
+    let is_so = answer_by(alloc, &mut state, steps, failed, garbled) == Some(answer);
+    drop(state);
+    is_so
+}
+
+/// The count of one kind may have been noted at its last value.
 #[test]
-fn tells_no_fail_past_the_last_count(rt: HostRuntime) -> Result<(), Fail> {
-    let alloc = rt.alloc();
-    let are_so = [
-        answer_noted(alloc, 0, 0)? == Look::Fault(LookFault::Failed),
-        answer_noted(alloc, u64::MAX, 0)? == Look::Fault(LookFault::Garbled),
-        answer_noted(alloc, u64::MAX, u64::MAX)? == Look::NotYet,
-    ];
-    assert_eq!(rt; are_so, [true, true, true]);
-    Ok(())
+fn tells_no_fail_past_the_last_count(rt: HostRuntime) {
+    let failed = Look::Fault(LookFault::Failed);
+    let garbled = Look::Fault(LookFault::Garbled);
+    let are_so = answers_noted(rt.alloc(), &FAILS, 0, 0, failed)
+        && answers_noted(rt.alloc(), &FAILS, u64::MAX, 0, garbled)
+        && answers_noted(rt.alloc(), &FAILS, u64::MAX, u64::MAX, Look::NotYet);
+    assert!(rt; are_so);
 }

@@ -2,10 +2,9 @@
 
 use mem_source::MemSource;
 use ranked_list::Row;
-use source_api::{Counts, Memory, Trouble};
+use source_api::{Counts, Trouble};
 use source_support::{Step, first_wrong};
 use std::alloc::Global;
-use std::test::Fail;
 
 /// The rows of each source here.
 const ROWS: [Row; 3] = [
@@ -216,57 +215,60 @@ static SOURCES: [Called; 8] = [
     ),
 ];
 
-/// Gives a source these faults.
-fn set_up(source: &mut MemSource, faults: &Faults) -> Result<(), Memory> {
-    source.fail_pages.extend_from_slice(faults.fail_pages)?;
-    source.garble_pages.extend_from_slice(faults.garble_pages)?;
-    source.fail_grades.extend_from_slice(faults.fail_grades)?;
-    source
-        .garble_grades
-        .extend_from_slice(faults.garble_grades)?;
-    source.lies.extend_from_slice(faults.lies)?;
+/// Gives a source these faults, and tells whether there was memory.
+fn is_set_up(source: &mut MemSource, faults: &Faults) -> bool {
     source.stated = faults.stated;
-    Ok(())
-}
-
-/// The place of the first call that is answered otherwise, and what is counted then.
-type Outcome = (Option<usize>, Counts);
-
-fn outcome_by(
-    alloc: Global,
-    source: &mut MemSource,
-    faults: &Faults,
-    steps: &[Step],
-) -> Result<Outcome, Memory> {
-    set_up(source, faults)?;
-    let wrong = first_wrong(alloc, source, steps);
-    Ok((wrong, source.counts()))
-}
-
-fn outcome_of(alloc: Global, faults: &Faults, steps: &[Step]) -> Result<Outcome, Memory> {
-    let Ok(mut source) = MemSource::make(alloc, &ROWS) else {
-        return Err(Memory);
-    };
-    let outcome = outcome_by(alloc, &mut source, faults, steps);
-    drop(source);
-    outcome
+    source
+        .fail_pages
+        .extend_from_slice(faults.fail_pages)
+        .is_ok()
+        && source
+            .garble_pages
+            .extend_from_slice(faults.garble_pages)
+            .is_ok()
+        && source
+            .fail_grades
+            .extend_from_slice(faults.fail_grades)
+            .is_ok()
+        && source
+            .garble_grades
+            .extend_from_slice(faults.garble_grades)
+            .is_ok()
+        && source.lies.extend_from_slice(faults.lies).is_ok()
 }
 
 /// A source's faults, calls with their answers, and what is counted then.
 type Called = (&'static str, Faults, &'static [Step], Counts);
 
+/// Whether a source with these faults answers and counts so.
+fn answers_by(alloc: Global, source: &mut MemSource, called: &Called) -> bool {
+    let (_, faults, steps, counts) = called;
+    is_set_up(source, faults)
+        && first_wrong(alloc, source, steps).is_none()
+        && source.counts() == *counts
+}
+
+/// The same of a new source.
+fn answers_so(alloc: Global, called: &Called) -> bool {
+    let Ok(mut source) = MemSource::make(alloc, &ROWS) else {
+        return false;
+    };
+    let is_so = answers_by(alloc, &mut source, called);
+    drop(source);
+    is_so
+}
+
 /// The name of the first source that answers or counts otherwise.
-fn first_other(alloc: Global, sources: &[Called]) -> Result<Option<&'static str>, Memory> {
-    for (name, faults, steps, counts) in sources {
-        if outcome_of(alloc, faults, steps)? != (None, *counts) {
-            return Ok(Some(*name));
+fn first_other(alloc: Global, sources: &[Called]) -> Option<&'static str> {
+    for called in sources {
+        if !answers_so(alloc, called) {
+            return Some(called.0);
         }
     }
-    Ok(None)
+    None
 }
 
 #[test]
-fn answers_each_call(rt: HostRuntime) -> Result<(), Fail> {
-    assert_eq!(rt; first_other(rt.alloc(), &SOURCES), Ok(None));
-    Ok(())
+fn answers_each_call(rt: HostRuntime) {
+    assert_eq!(rt; first_other(rt.alloc(), &SOURCES), None);
 }

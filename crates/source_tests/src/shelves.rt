@@ -2,12 +2,12 @@
 
 ghost use Rattle.std.specs.Prelude.{◌≤◌};
 
+use super::none_is_wrong;
 use mem_source::{MemShelf, MemSource};
 use ranked_list::Row;
-use source_api::{Memory, Shelf, Source, Trouble};
+use source_api::{Shelf, Source, Trouble};
 use source_support::{Step, first_wrong};
 use std::alloc::Global;
-use std::test::Fail;
 
 /// The rows at `a`.
 const ROWS: [Row; 2] = [
@@ -92,34 +92,27 @@ static SHELVES: [Called; 4] = [
     ),
 ];
 
-/// Puts a source of these rows at a place.
-fn add_source(
-    alloc: Global,
-    shelf: &mut MemShelf,
-    place: &str,
-    rows: &[Row],
-) -> Result<(), Memory> {
+/// Puts a source of these rows at a place, and tells whether there was memory.
+fn is_added(alloc: Global, shelf: &mut MemShelf, place: &str, rows: &[Row]) -> bool {
     match MemSource::make(alloc, rows) {
-        Ok(source) => shelf.add_source(place, source),
-        Err(_) => Err(Memory),
+        Ok(source) => shelf.add_source(place, source).is_ok(),
+        Err(_) => false,
     }
 }
 
-/// Puts texts at `a` and `b`, that at `a` twice, and sources, and tells which calls fail.
-fn fill(
-    alloc: Global,
-    shelf: &mut MemShelf,
-    fail_texts: &[u64],
-    fail_takes: &[u64],
-) -> Result<(), Memory> {
-    shelf.add_text("a", b"old")?;
-    shelf.add_text("a", b"new")?;
-    shelf.add_text("b", b"")?;
-    add_source(alloc, shelf, "a", &ROWS)?;
-    add_source(alloc, shelf, "b", &OTHER)?;
-    shelf.fail_texts.extend_from_slice(fail_texts)?;
-    shelf.fail_takes.extend_from_slice(fail_takes)?;
-    Ok(())
+/// Puts texts at `a` and `b`, that at `a` twice, and sources, and tells whether there was memory.
+fn is_filled(alloc: Global, shelf: &mut MemShelf) -> bool {
+    shelf.add_text("a", b"old").is_ok()
+        && shelf.add_text("a", b"new").is_ok()
+        && shelf.add_text("b", b"").is_ok()
+        && is_added(alloc, shelf, "a", &ROWS)
+        && is_added(alloc, shelf, "b", &OTHER)
+}
+
+/// Tells a shelf which calls for texts and for sources fail, and tells whether there was memory.
+fn is_set_up(shelf: &mut MemShelf, fail_texts: &[u64], fail_takes: &[u64]) -> bool {
+    shelf.fail_texts.extend_from_slice(fail_texts).is_ok()
+        && shelf.fail_takes.extend_from_slice(fail_takes).is_ok()
 }
 
 /// Whether a call for a source is answered so. The source is put back.
@@ -160,26 +153,7 @@ fn holds(alloc: Global, shelf: &mut MemShelf, call: Call) -> bool {
     }
 }
 
-/// The place of the first call that is answered otherwise, and how many rows are counted at `a`, `b` and `c` then.
-type Outcome = (Option<usize>, [u64; 3]);
-
-fn outcome_by(
-    alloc: Global,
-    shelf: &mut MemShelf,
-    fail_texts: &[u64],
-    fail_takes: &[u64],
-    calls: &[Call],
-) -> Result<Outcome, Memory> {
-    fill(alloc, shelf, fail_texts, fail_takes)?;
-    let wrong = first_wrong_call(alloc, shelf, calls);
-    let given = [
-        shelf.rows_given_at("a"),
-        shelf.rows_given_at("b"),
-        shelf.rows_given_at("c"),
-    ];
-    Ok((wrong, given))
-}
-
+/// The place of the first call that is answered otherwise.
 fn first_wrong_call(alloc: Global, shelf: &mut MemShelf, calls: &[Call]) -> Option<usize> {
     for (place, call) in calls.iter().enumerate() {
         if !holds(alloc, shelf, *call) {
@@ -189,32 +163,45 @@ fn first_wrong_call(alloc: Global, shelf: &mut MemShelf, calls: &[Call]) -> Opti
     None
 }
 
-fn outcome_of(
-    alloc: Global,
-    fail_texts: &[u64],
-    fail_takes: &[u64],
-    calls: &[Call],
-) -> Result<Outcome, Memory> {
-    let mut shelf = MemShelf::make(alloc);
-    let outcome = outcome_by(alloc, &mut shelf, fail_texts, fail_takes, calls);
-    drop(shelf);
-    outcome
+/// How many rows are counted at `a`, `b` and `c`.
+fn given_at_each(shelf: &MemShelf) -> [u64; 3] {
+    [
+        shelf.rows_given_at("a"),
+        shelf.rows_given_at("b"),
+        shelf.rows_given_at("c"),
+    ]
 }
 
-/// The place of the first shelf that answers or counts otherwise.
-fn first_other(alloc: Global, shelves: &[Called]) -> Result<Option<usize>, Memory> {
-    for (place, (fail_texts, fail_takes, calls, given)) in shelves.iter().enumerate() {
-        if outcome_of(alloc, fail_texts, fail_takes, calls)? != (None, *given) {
-            return Ok(Some(place));
+/// Whether a shelf answers and counts so.
+fn answers_by(alloc: Global, shelf: &mut MemShelf, called: &Called) -> bool {
+    let (fail_texts, fail_takes, calls, given) = called;
+    is_filled(alloc, shelf)
+        && is_set_up(shelf, fail_texts, fail_takes)
+        && first_wrong_call(alloc, shelf, calls).is_none()
+        && given_at_each(shelf) == *given
+}
+
+/// The same of a new shelf.
+fn answers_so(alloc: Global, called: &Called) -> bool {
+    let mut shelf = MemShelf::make(alloc);
+    let is_so = answers_by(alloc, &mut shelf, called);
+    drop(shelf);
+    is_so
+}
+
+/// The number of the first shelf that answers or counts otherwise.
+fn first_other(alloc: Global, shelves: &[Called]) -> Option<usize> {
+    for (number, called) in shelves.iter().enumerate() {
+        if !answers_so(alloc, called) {
+            return Some(number);
         }
     }
-    Ok(None)
+    None
 }
 
 #[test]
-fn answers_each_place(rt: HostRuntime) -> Result<(), Fail> {
-    assert_eq!(rt; first_other(rt.alloc(), &SHELVES), Ok(None));
-    Ok(())
+fn answers_each_place(rt: HostRuntime) {
+    none_is_wrong(&rt, first_other(rt.alloc(), &SHELVES));
 }
 
 /// Reads a page of a source, puts it back at a place, and tells how many rows are counted there.
@@ -256,16 +243,16 @@ fn counted_by(alloc: Global, shelf: &mut MemShelf) -> Option<[u64; 3]> {
 /// The same over a shelf that is filled. None without memory.
 fn counted(alloc: Global) -> Option<[u64; 3]> {
     let mut shelf = MemShelf::make(alloc);
-    let counted = match fill(alloc, &mut shelf, &[], &[]) {
-        Ok(()) => counted_by(alloc, &mut shelf),
-        Err(_) => None,
+    let counted = if is_filled(alloc, &mut shelf) {
+        counted_by(alloc, &mut shelf)
+    } else {
+        None
     };
     drop(shelf);
     counted
 }
 
 #[test]
-fn counts_what_is_put_back(rt: HostRuntime) -> Result<(), Fail> {
-    assert_eq!(rt; counted(rt.alloc()), Some([1, 3, 0]));
-    Ok(())
+fn counts_what_is_put_back(rt: HostRuntime) {
+    assert!(rt; counted(rt.alloc()) == Some([1, 3, 0]));
 }

@@ -15,7 +15,7 @@ const TEXT: &[u8] = b"list A\n1,900\n";
 /// The most bytes of a piece, the calls that fail, the most bytes that are read, and what comes of it.
 type ReadRow = (u32, &'static [u64], u64, Option<ReadError>);
 
-const READS: [ReadRow; 7] = [
+const READS: &[ReadRow] = &[
     (1, &[], 13, None),
     (5, &[], 13, None),
     (100, &[], 13, None),
@@ -60,7 +60,7 @@ fn first_wrong(alloc: Global, rows: &[ReadRow]) -> Option<usize> {
 
 #[test]
 fn reads_whole_texts(rt: HostRuntime) {
-    assert_eq!(rt; first_wrong(rt.alloc(), &READS), None);
+    assert_eq!(rt; first_wrong(rt.alloc(), READS), None);
 }
 
 /// Whether the text is written once, and then what there is room for.

@@ -4,18 +4,17 @@ ghost use Rattle.std.specs.Prelude.{◌≡◌, []};
 
 use access_log::Transcript;
 use room_map::RoomMap;
-use std::test::Fail;
+use std::alloc::Global;
 use test_support::{random, sorted};
 
-/// Takes three accesses, for which room is reserved.
-fn push_three(log: &mut Transcript) -> Result<(), Fail>
+/// Whether three accesses are taken, for which room is reserved.
+fn takes_three(log: &mut Transcript) -> bool
     requires { log.old.accesses ≡ [] }
 {
-    log.reserve(2, 3)?;
-    log.push(random(1, 7, 4))?;
-    log.push(sorted(0, 5, 9))?;
-    log.push(sorted(1, 7, 4))?;
-    Ok(())
+    log.reserve(2, 3).is_ok()
+        && log.push(random(1, 7, 4)).is_ok()
+        && log.push(sorted(0, 5, 9)).is_ok()
+        && log.push(sorted(1, 7, 4)).is_ok()
 }
 
 /// Whether the objects are kept in the order of first sight.
@@ -32,38 +31,53 @@ fn keeps_grades(log: &Transcript) -> bool {
         && log.bottoms() == [9, 4].as_slice()
 }
 
-/// A transcript of two lists, for which room was reserved.
-#[test]
-fn keeps_what_came_into_reserved_room(rt: HostRuntime) -> Result<(), Fail> {
-    let mut log = Transcript::make(rt.alloc(), 2, 3)?;
-    let pushed = push_three(&mut log);
-    let are_kept = keeps_objects(&log) && keeps_grades(&log);
+/// Whether a transcript of two lists keeps what came into the room that was reserved.
+fn keeps_three(alloc: Global) -> bool {
+    let Ok(mut log) = Transcript::make(alloc, 2, 3) else {
+        return false;
+    };
+    let are_kept = takes_three(&mut log) && keeps_objects(&log) && keeps_grades(&log);
     drop(log);
-    pushed?;
-    assert!(rt; are_kept);
-    Ok(())
+    are_kept
 }
 
-/// Whether a map of room for one key keeps the places of keys where it is widened.
-fn keeps_places(map: &mut RoomMap) -> Result<bool, Fail>
+#[test]
+fn keeps_what_came_into_reserved_room(rt: HostRuntime) {
+    assert!(rt; keeps_three(rt.alloc()));
+}
+
+/// Whether a map of room for one key takes it, is widened, and takes another.
+fn takes_two(map: &mut RoomMap) -> bool
     requires { map.old ≡ record { room = 1; keys = [] } }
 {
     let was_empty = map.is_empty();
     let first = map.add(30);
-    map.widen(2)?;
+    let Ok(()) = map.widen(2) else {
+        return false;
+    };
     let was_absent = map.place(20).is_none();
     let second = map.add(20);
-    let are_added = was_empty && was_absent && [first, second] == [0, 1];
-    let are_placed = map.place(30) == Some(0) && map.place(20) == Some(1);
-    let are_keys = [map.key(0), map.key(1)] == [30, 20];
-    Ok(are_added && are_placed && are_keys && map.len() == 2)
+    was_empty && was_absent && [first, second] == [0, 1]
+}
+
+/// Whether the two keys stand at their places.
+fn has_two(map: &RoomMap) -> bool {
+    map.len() == 2
+        && [map.place(30), map.place(20)] == [Some(0), Some(1)]
+        && [map.key(0), map.key(1)] == [30, 20]
+}
+
+/// Whether a map keeps the places of keys where it is widened.
+fn keeps_places(alloc: Global) -> bool {
+    let Ok(mut map) = RoomMap::make(alloc, 1) else {
+        return false;
+    };
+    let are_kept = takes_two(&mut map) && has_two(&map);
+    drop(map);
+    are_kept
 }
 
 #[test]
-fn keeps_places_of_keys(rt: HostRuntime) -> Result<(), Fail> {
-    let mut map = RoomMap::make(rt.alloc(), 1)?;
-    let outcome = keeps_places(&mut map);
-    drop(map);
-    assert!(rt; outcome?);
-    Ok(())
+fn keeps_places_of_keys(rt: HostRuntime) {
+    assert!(rt; keeps_places(rt.alloc()));
 }

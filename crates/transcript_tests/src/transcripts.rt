@@ -1,51 +1,53 @@
 //! Transcripts worked out by hand: what is taken, what is refused and why, and what the readers say.
 
-ghost use Rattle.std.specs.Prelude.{◌≡◌, ◌+◌, length, IfOk, OnOk};
+ghost use Rattle.std.specs.Prelude.{◌≡◌, ◌+◌, length, IfSome, OnOk};
 ghost use Rattle.monotone_fn.specs.Shape.{list_count};
 
 use access_log::{Access, PushFault, Transcript};
 use monotone_fn::{Costs, Expr};
 use query_reading::read;
 use std::alloc::Global;
-use std::test::Fail;
 use test_support::{random, random_row, sorted, sorted_row};
 
 /// How many objects there are, three accesses of two lists, and the kind of the third's refusal, or 0 where it is taken.
 type Row = (u32, (Access, Access, Access), u8);
 
 /// Whether the first two accesses of a row are taken, and the third is as it says.
-fn ends_so(log: &mut Transcript, row: &Row) -> Result<bool, Fail> {
+fn ends_so(log: &mut Transcript, row: &Row) -> bool {
     let (_, (first, second, third), kind) = *row;
-    log.push(first)?;
-    log.push(second)?;
     let (expected, length) = if kind == 0 {
         (Ok(()), 3)
     } else {
         (Err(PushFault::Inconsistent { at: 3, kind }), 2)
     };
-    Ok(log.push(third) == expected && log.len() == length)
+    log.push(first).is_ok()
+        && log.push(second).is_ok()
+        && log.push(third) == expected
+        && log.len() == length
 }
 
 /// The same of a new transcript of two lists.
-fn is_so(alloc: Global, row: &Row) -> Result<bool, Fail> {
+fn is_so(alloc: Global, row: &Row) -> bool {
     let count = row.0;
     if count == 0 || count >= 10 {
-        return Err("a few objects".into());
+        return false;
     }
-    let mut log = Transcript::make(alloc, 2, count)?;
-    let outcome = ends_so(&mut log, row);
+    let Ok(mut log) = Transcript::make(alloc, 2, count) else {
+        return false;
+    };
+    let is_so = ends_so(&mut log, row);
     drop(log);
-    outcome
+    is_so
 }
 
 /// The number of the first row that ends otherwise.
-fn first_wrong(alloc: Global, rows: &[Row]) -> Result<Option<usize>, Fail> {
+fn first_wrong(alloc: Global, rows: &[Row]) -> Option<usize> {
     for (number, row) in rows.iter().enumerate() {
-        if !is_so(alloc, row)? {
-            return Ok(Some(number));
+        if !is_so(alloc, row) {
+            return Some(number);
         }
     }
-    Ok(None)
+    None
 }
 
 /// Each kind with each sort of access, and with a later kind, before which it is given.
@@ -269,9 +271,8 @@ const KINDS: &[Row] = &[
 ];
 
 #[test]
-fn gives_the_first_kind(rt: HostRuntime) -> Result<(), Fail> {
-    assert_eq!(rt; first_wrong(rt.alloc(), KINDS)?, None);
-    Ok(())
+fn gives_the_first_kind(rt: HostRuntime) {
+    assert_eq!(rt; first_wrong(rt.alloc(), KINDS), None);
 }
 
 /// Whether the access of this number is refused as this kind.
@@ -280,43 +281,48 @@ fn is_refused(log: &mut Transcript, access: Access, at: u64, kind: u8) -> bool {
 }
 
 /// Whether what no table of one list of two objects gives is refused.
-fn refuses_of_two(log: &mut Transcript) -> Result<bool, Fail> {
-    log.push(sorted(0, 5, 9))?;
-    let is_above = is_refused(log, random(0, 6, 10), 2, 8);
-    log.push(sorted(0, 6, 8))?;
-    Ok(
-        is_above
-            && is_refused(log, sorted(0, 7, 7), 3, 3)
-            && is_refused(log, sorted(0, 5, 8), 3, 5)
-            && is_refused(log, random(0, 6, 9), 3, 6)
-            && log.len() == 2,
-    )
+fn refuses_of_two(log: &mut Transcript) -> bool {
+    log.push(sorted(0, 5, 9)).is_ok()
+        && is_refused(log, random(0, 6, 10), 2, 8)
+        && log.push(sorted(0, 6, 8)).is_ok()
+        && is_refused(log, sorted(0, 7, 7), 3, 3)
+        && is_refused(log, sorted(0, 5, 8), 3, 5)
+        && is_refused(log, random(0, 6, 9), 3, 6)
+        && log.len() == 2
+}
+
+/// The same of a new transcript.
+fn refuses_of_two_objects(alloc: Global) -> bool {
+    let Ok(mut log) = Transcript::make(alloc, 1, 2) else {
+        return false;
+    };
+    let refuses = refuses_of_two(&mut log);
+    drop(log);
+    refuses
 }
 
 #[test]
-fn refuses_what_no_table_gives(rt: HostRuntime) -> Result<(), Fail> {
-    let mut log = Transcript::make(rt.alloc(), 1, 2)?;
-    let outcome = refuses_of_two(&mut log);
-    drop(log);
-    assert!(rt; outcome?);
-    Ok(())
+fn refuses_what_no_table_gives(rt: HostRuntime) {
+    assert!(rt; refuses_of_two_objects(rt.alloc()));
 }
 
-/// Five accesses of two lists of three objects.
-fn five_accesses(alloc: Global) -> Result<Transcript, Fail>
-    ensures { IfOk result (λ log. (log.lists ≡ 2) × (length log.accesses ≡ 5)) }
+/// Five accesses of two lists of three objects. None without memory.
+fn five_accesses(alloc: Global) -> Option<Transcript>
+    ensures { IfSome result (λ log. (log.lists ≡ 2) × (length log.accesses ≡ 5)) }
 {
-    let mut log = Transcript::make(alloc, 2, 3)?;
+    let Ok(mut log) = Transcript::make(alloc, 2, 3) else {
+        return None;
+    };
     match push_five(&mut log) {
-        Ok(()) => Ok(log),
-        Err(fail) => {
+        Ok(()) => Some(log),
+        Err(_) => {
             drop(log);
-            Err(fail)
+            None
         }
     }
 }
 
-fn push_five(log: &mut Transcript) -> Result<(), Fail>
+fn push_five(log: &mut Transcript) -> Result<(), PushFault>
     ensures lists { OnOk result (log.new.lists ≡ log.old.lists) }
     ensures five { OnOk result (length log.new.accesses ≡ length log.old.accesses + 5) }
 {
@@ -352,72 +358,77 @@ fn has_objects(log: &Transcript) -> bool {
         && counts == [2, 3, 2]
 }
 
-#[test]
-fn reads_what_came(rt: HostRuntime) -> Result<(), Fail> {
-    let log = five_accesses(rt.alloc())?;
+/// Whether the readers tell what came with the five accesses.
+fn tells_what_came(alloc: Global) -> bool {
+    let Some(log) = five_accesses(alloc) else {
+        return false;
+    };
     let are_so = has_figures(&log) && has_objects(&log);
     drop(log);
-    assert!(rt; are_so);
-    Ok(())
+    are_so
 }
 
-/// The first object of a transcript with other bounds.
-fn first_unbounded(log: &Transcript, sum: &Expr, expected: &[(u32, u64, u64)]) -> Option<u32>
+#[test]
+fn reads_what_came(rt: HostRuntime) {
+    assert!(rt; tells_what_came(rt.alloc()));
+}
+
+/// An object, and the least and the greatest value that it may have.
+type Bounds = (u32, u64, u64);
+
+/// Before any access, and after the five.
+const BEFORE: &[Bounds] = &[(5, 0, 2_000_000)];
+
+const AFTER: &[Bounds] = &[(5, 13, 13), (6, 15, 15), (7, 1, 8), (8, 0, 15)];
+
+/// Whether objects have these bounds.
+fn has_bounds(log: &Transcript, sum: &Expr, expected: &[Bounds]) -> bool
     requires { list_count sum.now ≡ log.now.lists }
 {
     for (object, low, high) in expected {
         if log.low(sum, *object) != *low || log.high(sum, *object) != *high {
-            return Some(*object);
+            return false;
         }
     }
-    None
+    true
 }
 
-/// The same of a transcript without an access, of as many lists as the expression has.
-fn first_unbounded_before(
-    alloc: Global,
-    sum: &Expr,
-    expected: &[(u32, u64, u64)],
-) -> Result<Option<u32>, Fail> {
+/// Whether they have these in a transcript without an access, of as many lists as the expression has.
+fn has_bounds_before(alloc: Global, sum: &Expr, expected: &[Bounds]) -> bool {
     let lists = sum.lists();
     if lists == 0 || lists > 8 {
-        return Err("lists".into());
+        return false;
     }
-    let log = Transcript::make(alloc, lists, 3)?;
-    let wrong = first_unbounded(&log, sum, expected);
+    let Ok(log) = Transcript::make(alloc, lists, 3) else {
+        return false;
+    };
+    let are_so = has_bounds(&log, sum, expected);
     drop(log);
-    Ok(wrong)
+    are_so
 }
 
-/// The same of the five accesses.
-fn first_unbounded_after(
-    alloc: Global,
-    sum: &Expr,
-    expected: &[(u32, u64, u64)],
-) -> Result<Option<u32>, Fail> {
-    let log = five_accesses(alloc)?;
-    let wrong = if sum.lists() == log.lists() {
-        first_unbounded(&log, sum, expected)
-    } else {
-        Some(0)
+/// Whether they have these after the five accesses.
+fn has_bounds_after(alloc: Global, sum: &Expr, expected: &[Bounds]) -> bool {
+    let Some(log) = five_accesses(alloc) else {
+        return false;
     };
+    let are_so = sum.lists() == log.lists() && has_bounds(&log, sum, expected);
     drop(log);
-    Ok(wrong)
+    are_so
 }
 
 /// Whether the bounds by a sum are told before any access, and after the five.
-fn tells_bounds(alloc: Global, sum: &Expr) -> Result<bool, Fail> {
-    let before = first_unbounded_before(alloc, sum, &[(5, 0, 2_000_000)])?;
-    let expected = [(5, 13, 13), (6, 15, 15), (7, 1, 8), (8, 0, 15)];
-    let after = first_unbounded_after(alloc, sum, &expected)?;
-    Ok(before.is_none() && after.is_none())
+fn tells_bounds(alloc: Global) -> bool {
+    let Ok(query) = read(alloc, b"top 1 by sum(A,B) using ta") else {
+        return false;
+    };
+    let are_told = has_bounds_before(alloc, &query.expr, BEFORE)
+        && has_bounds_after(alloc, &query.expr, AFTER);
+    drop(query);
+    are_told
 }
 
 #[test]
-fn bounds_aggregates(rt: HostRuntime) -> Result<(), Fail> {
-    let query = read(rt.alloc(), b"top 1 by sum(A,B) using ta")?;
-    let are_told = tells_bounds(rt.alloc(), &query.expr);
-    drop(query);
-    assert!(rt; are_told?);
-    Ok(())
+fn bounds_aggregates(rt: HostRuntime) {
+    assert!(rt; tells_bounds(rt.alloc()));
 }

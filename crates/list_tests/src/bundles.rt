@@ -1,23 +1,23 @@
 //! Bundles from outside, with the line at fault or none.
 
+use super::none_is_wrong;
 use bundle_text::{Bundle, BundleFault, read_bundle};
 use std::alloc::Global;
-use std::test::Fail;
 
-/// The line at fault of a text, and 0 for a bundle.
-fn line_at_fault(alloc: Global, text: &[u8]) -> Result<u64, Fail> {
+/// The line at fault of a text, and 0 for a bundle. None without memory.
+fn line_at_fault(alloc: Global, text: &[u8]) -> Option<u64> {
     match read_bundle(alloc, text) {
         Ok(bundle) => {
             drop(bundle);
-            Ok(0)
+            Some(0)
         }
-        Err(BundleFault::BadBundle { line }) => Ok(line),
-        Err(BundleFault::Memory) => Err("memory".into()),
+        Err(BundleFault::BadBundle { line }) => Some(line),
+        Err(BundleFault::Memory) => None,
     }
 }
 
 /// Texts, and the line at fault of each, or 0.
-const TEXTS: [(&str, u64); 37] = [
+const TEXTS: &[(&str, u64)] = &[
     ("", 1),
     ("\n", 1),
     ("query q\n", 1),
@@ -63,20 +63,19 @@ const TEXTS: [(&str, u64); 37] = [
     ("list A\n1,5\nquery\n", 3),
 ];
 
-/// The first text of which another line is at fault.
-fn first_wrong(alloc: Global, rows: &[(&'static str, u64)]) -> Result<Option<&'static str>, Fail> {
-    for (text, line) in rows {
-        if line_at_fault(alloc, text.as_bytes())? != *line {
-            return Ok(Some(*text));
+/// The number of the first text of which another line is at fault.
+fn first_wrong(alloc: Global, texts: &[(&str, u64)]) -> Option<usize> {
+    for (number, (text, line)) in texts.iter().enumerate() {
+        if line_at_fault(alloc, text.as_bytes()) != Some(*line) {
+            return Some(number);
         }
     }
-    Ok(None)
+    None
 }
 
 #[test]
-fn names_the_first_line_at_fault(rt: HostRuntime) -> Result<(), Fail> {
-    assert_eq!(rt; first_wrong(rt.alloc(), &TEXTS)?, None);
-    Ok(())
+fn names_the_first_line_at_fault(rt: HostRuntime) {
+    none_is_wrong(&rt, first_wrong(rt.alloc(), TEXTS));
 }
 
 /// Two lists of two rows, and a query.
@@ -109,39 +108,55 @@ fn is_as_spelled(bundle: &Bundle) -> bool {
         && bundle.query.as_slice() == b"top 1 by A using ta\r".as_slice()
 }
 
-#[test]
-fn keeps_what_was_spelled(rt: HostRuntime) -> Result<(), Fail> {
-    let bundle = read_bundle(rt.alloc(), TWO)?;
-    let is_so = is_as_spelled(&bundle);
-    drop(bundle);
-    assert!(rt; is_so);
-    Ok(())
-}
-
-/// The text of so many lists of one row each, with a query.
-fn many_lists(alloc: Global, lists: u8) -> Result<Vec<u8>, Fail> {
-    let mut text = Vec::new(alloc);
-    for list in 0..lists {
-        text.extend_from_slice(b"list L")?;
-        text.push(b'a' + list / 10 % 10)?;
-        text.push(b'0' + list % 10)?;
-        text.extend_from_slice(b"\n7,7\n")?;
+/// Whether the two lists and the query are read as they are spelled.
+fn is_read_as_spelled(alloc: Global) -> bool {
+    match read_bundle(alloc, TWO) {
+        Ok(bundle) => {
+            let is_so = is_as_spelled(&bundle);
+            drop(bundle);
+            is_so
+        }
+        Err(_) => false,
     }
-    text.extend_from_slice(b"query q\n")?;
-    Ok(text)
-}
-
-/// The line at fault of so many lists, and 0 for a bundle.
-fn line_of_many(alloc: Global, lists: u8) -> Result<u64, Fail> {
-    let text = many_lists(alloc, lists)?;
-    let line = line_at_fault(alloc, &text);
-    drop(text);
-    line
 }
 
 #[test]
-fn takes_at_most_64_lists(rt: HostRuntime) -> Result<(), Fail> {
-    let lines = [line_of_many(rt.alloc(), 64)?, line_of_many(rt.alloc(), 65)?];
-    assert_eq!(rt; lines, [0, 129]);
-    Ok(())
+fn keeps_what_was_spelled(rt: HostRuntime) {
+    assert!(rt; is_read_as_spelled(rt.alloc()));
+}
+
+/// Adds the list of this number, of one row, and tells whether there was memory.
+fn adds_list(alloc: Global, text: &mut Vec<u8>, number: u8) -> bool {
+    match format!(in alloc; "list L{number}\n7,7\n") {
+        Ok(list) => {
+            let is_added = text.extend_from_slice(list.as_bytes()).is_ok();
+            drop(list);
+            is_added
+        }
+        Err(_) => false,
+    }
+}
+
+/// Adds so many lists and a query, and tells whether there was memory.
+fn adds_lists(alloc: Global, text: &mut Vec<u8>, lists: u8) -> bool {
+    for number in 0..lists {
+        if !adds_list(alloc, text, number) {
+            return false;
+        }
+    }
+    text.extend_from_slice(b"query q\n").is_ok()
+}
+
+/// Whether this line of so many lists is at fault, or none where it is 0.
+fn is_at_fault_of_many(alloc: Global, lists: u8, line: u64) -> bool {
+    let mut text = Vec::new(alloc);
+    let is_so = adds_lists(alloc, &mut text, lists) && line_at_fault(alloc, &text) == Some(line);
+    drop(text);
+    is_so
+}
+
+#[test]
+fn takes_at_most_64_lists(rt: HostRuntime) {
+    let are_so = is_at_fault_of_many(rt.alloc(), 64, 0) && is_at_fault_of_many(rt.alloc(), 65, 129);
+    assert!(rt; are_so);
 }
