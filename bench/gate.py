@@ -19,7 +19,7 @@ import time
 from dataclasses import dataclass, field
 
 PROVER = "rattle"
-KINDS = ("check", "tests", "edits")
+KINDS = ("check", "tests", "compiled", "edits")
 TICKS = os.sysconf("SC_CLK_TCK")
 
 
@@ -79,13 +79,15 @@ def below(top, of):
 
 
 def kind_of(pid, words):
-    """Whether a prover checks a crate, its tests or an edit of it."""
+    """Whether a prover checks a crate, its tests or an edit of it, or compiles a program of what was proved."""
     try:
         folder = os.path.basename(os.readlink(f"/proc/{pid}/cwd"))
     except OSError:
         folder = ""
     if folder.startswith("rt-edit-"):
         return "edits"
+    if "--crate-checked" in words:
+        return "compiled"
     return "tests" if "--test" in words else "check"
 
 
@@ -175,8 +177,8 @@ def table(crates, wall):
     top = top_folder()
     order = names_in_order(top)
     place = {name: at for at, name in enumerate(order)}
-    print("| crate | check, s | tests, s | edits, s | runs for edits | MB at most | lines of code | s for 100 lines |")
-    print("|---|---|---|---|---|---|---|---|")
+    print("| crate | check, s | tests, s | compiled, s | edits, s | runs for edits | MB at most | lines of code | s for 100 lines |")
+    print("|---|---|---|---|---|---|---|---|---|")
     total = Crate()
     all_lines = 0
     for name in sorted(crates, key=lambda name: (place.get(name, len(order)), name)):
