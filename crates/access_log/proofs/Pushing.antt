@@ -11,16 +11,16 @@ use Rattle.topk_theory.proofs.AgreementNames.{has, contains_has, not_has}
 use Rattle.topk_theory.proofs.Agreement.{named_objects_old, named_objects_new, depth_fits}
 use Rattle.topk_theory.proofs.Consistent.{empty_agrees, kind_excludes, no_kind_agrees}
 use Rattle.access_log.specs.Log.{Log, IsWithinLimits, HasNoRoom, with_access}
-use Rattle.access_objects.specs.FirstKind.{IsFirstOf}
+use Rattle.access_records.specs.FirstKind.{IsFirstOf}
 use Rattle.access_log.specs.Refusal.{Refuses}
 use Rattle.access_log.specs.declared.fault.PushFault.TheVariants.{Inconsistent}
-use Rattle.access_objects.specs.declared.objects.Objects.{Objects}
+use Rattle.access_records.specs.declared.objects.Objects.{Objects}
 use Rattle.access_records.specs.declared.ends.Ends.{Ends}
 use Rattle.access_records.specs.Kept.{AreEndsOf}
-use Rattle.access_objects.specs.Kept.{AreObjects, HasRoom}
+use Rattle.access_records.specs.Objects.{AreObjects, HasRoom}
 use Rattle.access_log.specs.Kept.{IsKept}
 use Rattle.access_records.proofs.RecordKept.{placed, not_placed}
-use Rattle.access_objects.proofs.ObjectsKept.{list_in_range}
+use Rattle.access_records.proofs.ObjectsKept.{list_in_range}
 
 -- an access that is refused
 pub refusal : (log : Log) (lists count so sa : ℕ) (A : List Access) (a : Access) (kind len : ℕ)

@@ -5,8 +5,8 @@ use Rattle.topk_theory.specs.Transcript.{named_objects}
 use Rattle.topk_theory.specs.Consistent.{SomeAgrees}
 use Rattle.access_records.specs.declared.ends.Ends.{Ends}
 use Rattle.access_records.specs.Kept.{AreEndsOf}
-use Rattle.access_objects.specs.declared.objects.Objects.{Objects}
-use Rattle.access_objects.specs.Kept.{AreObjects, HasRoom}
+use Rattle.access_records.specs.declared.objects.Objects.{Objects}
+use Rattle.access_records.specs.Objects.{AreObjects, HasRoom}
 use Rattle.access_log.specs.Log.{IsWithinLimits}
 
 -- what a transcript keeps: the limits, that some table agrees, the objects and the ends of its lists, and room for what is reserved

@@ -27,8 +27,8 @@ impl From<AllocError> for Memory {
     }
 }
 
-impl From<access_objects::Memory> for Memory {
-    fn from(_: access_objects::Memory) -> Memory {
+impl From<access_records::Memory> for Memory {
+    fn from(_: access_records::Memory) -> Memory {
         Memory
     }
 }

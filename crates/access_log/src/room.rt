@@ -2,9 +2,9 @@
 
 ghost use Rattle.std.specs.Prelude.{◌≡◌, ◌-◌, ◌<◌, ◌≤◌, ◌⊎◌, ℕ, List, None, is_some, length, vec_len, vec_capacity, OnOk, OnErr, if◌then◌else◌};
 ghost use Rattle.topk_theory.specs.declared.access.Access.{Access as Made};
-ghost use Rattle.access_objects.specs.Kept.{AreObjects, HasRoom};
+ghost use Rattle.access_records.specs.Objects.{AreObjects, HasRoom};
 
-use access_objects::{Memory, Objects};
+use access_records::{Memory, Objects};
 use limits::MAX_OBJECTS;
 use topk_theory::Access;
 

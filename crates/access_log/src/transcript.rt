@@ -3,8 +3,7 @@
 use super::Memory;
 use super::fault::PushFault;
 use super::room::{make_room, spare_after};
-use access_objects::{Objects, first_kind};
-use access_records::Ends;
+use access_records::{Ends, Objects, first_kind};
 use limits::{MAX_LISTS, MAX_NUMBER, MAX_OBJECTS};
 use monotone_fn::{Costs, Expr};
 use std::alloc::Global;

@@ -1,4 +1,6 @@
 pub mod AheadKept
 pub mod EndsKept
+pub mod FirstKind
 pub mod GreatestAhead
+pub mod ObjectsKept
 pub mod RecordKept

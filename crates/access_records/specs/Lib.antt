@@ -1,2 +1,4 @@
+pub mod FirstKind
 pub mod Kept
+pub mod Objects
 pub mod Tests

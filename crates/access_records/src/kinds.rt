@@ -4,13 +4,13 @@ ghost use Rattle.std.specs.Prelude.{◌≡◌, nat_lt};
 ghost use Rattle.access_records.specs.Tests.{differs, exceeds, first_of_sorted, first_of_random};
 
 /// The number of the kind: there is no list of this number.
-pub const NO_SUCH_LIST: u8 = 1;
+pub(crate) const NO_SUCH_LIST: u8 = 1;
 
 /// The number of the kind: the grade is above the greatest.
-pub const ABOVE_TOP: u8 = 2;
+pub(crate) const ABOVE_TOP: u8 = 2;
 
 /// The number of the kind: the object is one more than the lists have.
-pub const TOO_MANY_OBJECTS: u8 = 3;
+pub(crate) const TOO_MANY_OBJECTS: u8 = 3;
 
 const RISES: u8 = 4;
 
@@ -53,7 +53,12 @@ fn exceeds(greatest: Option<u32>, grade: u32) -> bool
 
 /// The number of the first kind of a sorted access, from the fourth on. `ahead` is the greatest grade
 /// of an object that the list hasn't given yet.
-pub fn first_of_sorted(bottom: u32, known: Known, ahead: Option<u32>, grade: u32) -> Option<u8>
+pub(crate) fn first_of_sorted(
+    bottom: u32,
+    known: Known,
+    ahead: Option<u32>,
+    grade: u32,
+) -> Option<u8>
     ensures { result ≡ first_of_sorted (nat_lt bottom grade) known.read (differs known.grade grade) (exceeds ahead grade) }
 {
     if bottom < grade {
@@ -70,7 +75,7 @@ pub fn first_of_sorted(bottom: u32, known: Known, ahead: Option<u32>, grade: u32
 }
 
 /// The number of the first kind of a random access, from the fourth on.
-pub fn first_of_random(bottom: u32, known: Known, grade: u32) -> Option<u8>
+pub(crate) fn first_of_random(bottom: u32, known: Known, grade: u32) -> Option<u8>
     ensures { result ≡ first_of_random (differs known.grade grade) known.read (nat_lt bottom grade) }
 {
     if differs(known.grade, grade) {

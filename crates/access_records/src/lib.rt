@@ -1,18 +1,20 @@
-//! What is kept beside the accesses of a query, so that no call scans them: the record of one object, how
-//! far the lists are read, and the grades that are known ahead of them. And the tests of one access more
-//! by what these tell.
+//! What is kept beside the accesses of a query, so that no call scans them: the objects that they name, each
+//! with its record, how far the lists are read, and the grades that are known ahead of them. And the first
+//! kind of inconsistency of one access more, which these tell.
 #![tactic(auto)]
 
 mod ahead;
 mod ends;
+mod inconsistency;
 mod kinds;
+mod objects;
 mod record;
 
 pub use ahead::Ahead;
 pub use ends::Ends;
-pub use kinds::{
-    ABOVE_TOP, Known, NO_SUCH_LIST, TOO_MANY_OBJECTS, first_of_random, first_of_sorted,
-};
+pub use inconsistency::first_kind;
+pub use kinds::Known;
+pub use objects::Objects;
 pub use record::Record;
 use std::alloc::{AllocError, AllocFailed};
 
@@ -34,6 +36,12 @@ impl<T: Drop> From<AllocFailed<T>> for Memory {
 
 impl From<indexed_heap::Memory> for Memory {
     fn from(_: indexed_heap::Memory) -> Memory {
+        Memory
+    }
+}
+
+impl From<room_map::Memory> for Memory {
+    fn from(_: room_map::Memory) -> Memory {
         Memory
     }
 }

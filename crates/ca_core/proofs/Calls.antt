@@ -21,7 +21,7 @@ use Rattle.topk_theory.proofs.ThresholdRun.{seen_more, seen_from_access}
 use Rattle.std.proofs.lemmas.List.Elements.{Contains-append_right}
 use Rattle.access_log.specs.Log.{Log}
 use Rattle.access_log.specs.Machine.{MachineState, IsBegun, MayBeNextRow, MayBeNextGrade, HasRoomFor, Takes, row_access, grade_access}
-use Rattle.access_objects.proofs.FirstKind.{known_of_row}
+use Rattle.access_records.proofs.FirstKind.{known_of_row}
 use Rattle.late_choice.specs.Open.{next_unknown}
 use Rattle.late_choice.proofs.Grades.{some_unknown, first_is_unknown}
 use Rattle.machine_base.specs.declared.base.Base.{Base}

@@ -1,6 +1,6 @@
 use Rattle.std.proofs.Common.{arith}
-use Rattle.access_objects.proofs.ObjectsKept.{is_ready, distinct_names}
-use Rattle.access_objects.proofs.objects.Objects.note.Goals as goal
+use Rattle.access_records.proofs.ObjectsKept.{is_ready, distinct_names}
+use Rattle.access_records.proofs.objects.Objects.note.Goals as goal
 
 pub note_record-read-requires-clause-place : goal.note_record-read-requires-clause-place
 note_record-read-requires-clause-place c =

@@ -2,8 +2,8 @@ use Rattle.std.proofs.Common.{◌≡◌, ◌<◌, ◌≤◌, ℕ, length, sym, a
 use Rattle.ranked_list.specs.Table.{top_grade}
 use Rattle.topk_theory.specs.Transcript.{object_of, named_objects}
 use Rattle.access_records.specs.Kept.{AreAhead}
-use Rattle.access_objects.proofs.FirstKind.{first_list, first_above, first_many, is_early, sorted_kinds, random_kinds}
-use Rattle.access_objects.proofs.inconsistency.first_kind.Goals as goal
+use Rattle.access_records.proofs.FirstKind.{first_list, first_above, first_many, is_early, sorted_kinds, random_kinds}
+use Rattle.access_records.proofs.inconsistency.first_kind.Goals as goal
 
 pub returns-then-list-lists : goal.returns-then-list-lists
 returns-then-list-lists c = λ A some o e p. first_list c.args.lists c.args.count A c.args.access (subst (λ l. c.args.lists ≤ l) c.list-list.ensures c.if-list-lists.true)

@@ -1,6 +1,6 @@
 use Rattle.std.proofs.Common.{sym, ◌∙◌}
-use Rattle.access_objects.proofs.ObjectsKept.{looked_some, looked_none}
-use Rattle.access_objects.proofs.objects.Objects.look.Goals as goal
+use Rattle.access_records.proofs.ObjectsKept.{looked_some, looked_none}
+use Rattle.access_records.proofs.objects.Objects.look.Goals as goal
 
 pub returns-in-Some : goal.returns-in-Some
 returns-in-Some c = λ m object A l h e. looked_some m object c.args.list c.in-Some.place A c.args.self.now c.index-record.result.now l h (sym c.in-Some.is ∙ e) c.index-record.ensures

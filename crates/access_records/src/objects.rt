@@ -6,10 +6,12 @@ ghost use Rattle.topk_theory.specs.Transcript.{is_sorted, list_of, object_of, na
 ghost use Rattle.topk_theory.specs.Bounds.{known_grade};
 ghost use Rattle.topk_theory.specs.Consistent.{SomeAgrees};
 ghost use Rattle.access_records.specs.Kept.{AreRecords, AreAhead, HaveRoom, is_read};
-ghost use Rattle.access_objects.specs.Kept.{AreObjects, HasRoom, IsNoted, FitsAccess, IsPlaced};
+ghost use Rattle.access_records.specs.Objects.{AreObjects, HasRoom, IsNoted, FitsAccess, IsPlaced};
 
 use super::Memory;
-use access_records::{Ahead, Known, Record};
+use super::ahead::Ahead;
+use super::kinds::Known;
+use super::record::Record;
 use limits::{MAX_LISTS, MAX_OBJECTS};
 use room_map::RoomMap;
 use std::alloc::Global;

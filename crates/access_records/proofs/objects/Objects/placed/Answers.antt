@@ -1,9 +1,9 @@
 use Rattle.std.proofs.Common.{sym, subst}
 use Rattle.std.specs.List.{Contains}
 use Rattle.topk_theory.specs.Transcript.{named_objects}
-use Rattle.access_objects.specs.Kept.{FitsAccess}
-use Rattle.access_objects.proofs.ObjectsKept.{placed_old, placed_new, absent_fits, unnamed_without}
-use Rattle.access_objects.proofs.objects.Objects.placed.Goals as goal
+use Rattle.access_records.specs.Objects.{FitsAccess}
+use Rattle.access_records.proofs.ObjectsKept.{placed_old, placed_new, absent_fits, unnamed_without}
+use Rattle.access_records.proofs.objects.Objects.placed.Goals as goal
 
 pub name-requires-clause-fits : goal.name-requires-clause-fits
 name-requires-clause-fits c =

@@ -5,7 +5,7 @@ use Rattle.topk_theory.specs.Transcript.{list_of, object_of, named_objects, seen
 use Rattle.topk_theory.specs.Consistent.{SomeAgrees}
 use Rattle.access_records.specs.declared.record.Record.{Record}
 use Rattle.access_records.specs.Kept.{AreAhead, HaveRoom, AreRecords, is_read}
-use Rattle.access_objects.specs.declared.objects.Objects.{Objects}
+use Rattle.access_records.specs.declared.objects.Objects.{Objects}
 use Rattle.limits.specs.declared.TheConstants.{MAX_LISTS, MAX_OBJECTS}
 
 -- the objects are those that the accesses name, with their records, the seen ones in the order of first sight, and the grades ahead

@@ -15,7 +15,7 @@ use Rattle.topk_theory.proofs.AgreementRows.{grade_among_row, object_of_row}
 use Rattle.topk_theory.proofs.Agreement.{given_from, agrees_front, known_grade_given, known_grade_kept}
 use Rattle.topk_theory.proofs.ConsistentTable.{given_split, random_given}
 use Rattle.access_records.specs.Tests.{differs, exceeds, first_of_sorted, first_of_random}
-use Rattle.access_objects.specs.FirstKind.{IsFirstOf}
+use Rattle.access_records.specs.FirstKind.{IsFirstOf}
 use Rattle.access_records.specs.Kept.{is_read, grade_ahead, IsGreatestAhead}
 use Rattle.access_records.proofs.RecordKept.{not_placed, place_of_absent}
 

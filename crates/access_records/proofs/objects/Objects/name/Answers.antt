@@ -1,8 +1,8 @@
 use Rattle.std.proofs.Common.{◌++◌, ◌∷◌, [], sym, ap, refl, subst}
 use Rattle.room_map.specs.Keys.{Keys}
 use Rattle.access_records.specs.Kept.{AreRecords}
-use Rattle.access_objects.proofs.ObjectsKept.{records_named, unnamed_record, unnamed}
-use Rattle.access_objects.proofs.objects.Objects.name.Goals as goal
+use Rattle.access_records.proofs.ObjectsKept.{records_named, unnamed_record, unnamed}
+use Rattle.access_records.proofs.objects.Objects.name.Goals as goal
 
 pub returns-clause-records : goal.returns-clause-records
 returns-clause-records c = λ m A few h n.

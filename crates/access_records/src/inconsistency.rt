@@ -5,13 +5,12 @@ ghost use Rattle.topk_theory.specs.declared.access.Access.{Access as Made};
 ghost use Rattle.topk_theory.specs.Transcript.{object_of, named_objects};
 ghost use Rattle.topk_theory.specs.Consistent.{SomeAgrees};
 ghost use Rattle.access_records.specs.Kept.{AreEndsOf};
-ghost use Rattle.access_objects.specs.Kept.{AreObjects};
-ghost use Rattle.access_objects.specs.FirstKind.{IsFirstOf};
+ghost use Rattle.access_records.specs.Objects.{AreObjects};
+ghost use Rattle.access_records.specs.FirstKind.{IsFirstOf};
 
+use super::ends::Ends;
+use super::kinds::{ABOVE_TOP, NO_SUCH_LIST, TOO_MANY_OBJECTS, first_of_random, first_of_sorted};
 use super::objects::Objects;
-use access_records::{
-    ABOVE_TOP, Ends, NO_SUCH_LIST, TOO_MANY_OBJECTS, first_of_random, first_of_sorted,
-};
 use limits::{MAX_LISTS, TOP_GRADE};
 use topk_theory::Access;
 

@@ -1,8 +1,8 @@
 use Rattle.std.proofs.Common.{◌≡◌, ℕ, arith, ◌++◌, ◌∷◌, [], length, sym, ◌∙◌, ap, subst}
 use Rattle.topk_theory.specs.Transcript.{object_of}
 use Rattle.access_records.specs.Kept.{IsRecordOf}
-use Rattle.access_objects.proofs.ObjectsKept.{noted, seen_then, seen_else}
-use Rattle.access_objects.proofs.objects.note_record.Goals as goal
+use Rattle.access_records.proofs.ObjectsKept.{noted, seen_then, seen_else}
+use Rattle.access_records.proofs.objects.note_record.Goals as goal
 
 pub returns-then-first-clause-notes : goal.returns-then-first-clause-notes
 returns-then-first-clause-notes c = λ m n A names some distinct e h s.

@@ -16,10 +16,10 @@ use Rattle.topk_theory.proofs.Agreement.{named_objects_old, named_objects_new, n
 use Rattle.topk_theory.proofs.Unseen.{unnamed_unknown}
 use Rattle.ranked_list.proofs.OptionLaws.{option_cases}
 use Rattle.access_records.specs.declared.record.Record.{Record}
-use Rattle.access_objects.specs.declared.objects.Objects.{Objects}
+use Rattle.access_records.specs.declared.objects.Objects.{Objects}
 use Rattle.indexed_heap.proofs.Getting.{get_last, get_replicate}
 use Rattle.access_records.specs.Kept.{IsRecordOf, AreRecords, AreAhead, AreWider, heap_at, is_read, grade_ahead}
-use Rattle.access_objects.specs.Kept.{AreObjects, HasRoom, IsNoted, FitsAccess, IsPlaced}
+use Rattle.access_records.specs.Objects.{AreObjects, HasRoom, IsNoted, FitsAccess, IsPlaced}
 use Rattle.access_records.proofs.RecordKept.{record_other, unnamed_unread, placed, not_placed, place_of_absent}
 use Rattle.access_records.proofs.AheadKept.{ahead_wider, apart}
 use Rattle.limits.specs.declared.TheConstants.{MAX_LISTS}

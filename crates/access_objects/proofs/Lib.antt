@@ -1,2 +1,0 @@
-pub mod FirstKind
-pub mod ObjectsKept
