@@ -34,7 +34,7 @@ fn read_lines(alloc: Global, bytes: &[u8]) -> Result<Certificate, CertFault>
         accesses,
     } = results;
     if items.len() > u32::MAX as usize {
-        drop(query);
+        query.let_go();
         drop(items);
         drop(accesses);
         return Err(CertFault::Memory);

@@ -156,7 +156,7 @@ pub(crate) fn read_queried(
     match read_counted(alloc, &query.names, first + 1, rest) {
         Ok((count, results)) => Ok((query, count, results)),
         Err(fault) => {
-            drop(query);
+            query.let_go();
             Err(fault)
         }
     }

@@ -1,13 +1,17 @@
-//! Tests of certificates that are read: the first example, and the line at fault.
+//! Tests of certificates: the answers and the refusals that are written, and the texts that are read.
 #![tactic(auto)]
 
 #[cfg(test)]
+mod answers;
+#[cfg(test)]
 mod reading;
+#[cfg(test)]
+mod refusals;
 
 #[cfg(test)]
 use std::process::Abort;
 
-/// Every text comes to what it is to: the number of the first one that doesn't is none.
+/// Every row of a table is as it says: the number of the first one that isn't is none.
 #[cfg(test)]
 fn none_is_wrong(rt: &impl Abort, first_wrong: Option<usize>) {
     assert_eq!(rt; first_wrong, None);

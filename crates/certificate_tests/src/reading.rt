@@ -57,7 +57,7 @@ fn is_first(alloc: Global, certificate: Certificate) -> bool {
         accesses,
         ..
     } = certificate;
-    drop(query);
+    query.let_go();
     let are_so = has_item(items) & has_accesses(accesses);
     is_so && are_so
 }

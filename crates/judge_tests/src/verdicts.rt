@@ -105,7 +105,7 @@ fn verdict_of(alloc: Global, question: &Question) -> Option<Judged> {
         return None;
     };
     let judged = verdict_by(alloc, &query.expr, question);
-    drop(query);
+    query.let_go();
     judged
 }
 

@@ -43,7 +43,7 @@ fn line_of(alloc: Global, made: Made, number: u32) -> Option<Vec<u8>> {
     let lists = made.lists.max(1).min(8);
     let query = made_query(alloc, number, count, lists).ok()?;
     let line = print(alloc, &query);
-    drop(query);
+    query.let_go();
     line.ok()
 }
 

@@ -43,7 +43,7 @@ fn is_made(alloc: Global, row: &Row) -> Result<bool, Unmade> {
         return Err(Unmade::Memory);
     };
     let printed = print(alloc, &query);
-    drop(query);
+    query.let_go();
     let Ok(printed) = printed else {
         return Err(Unmade::Memory);
     };

@@ -188,7 +188,7 @@ fn add_asked(
 ) -> Option<()> {
     let query = read(alloc, asked.0.as_bytes()).ok()?;
     let added = add_certificate(alloc, lists, &query, asked, text);
-    drop(query);
+    query.let_go();
     added
 }
 

@@ -46,6 +46,6 @@ pub fn aggregates_by(
 ) -> Result<[u64; 3], Fail> {
     let query = read(alloc, text.as_bytes())?;
     let outcome = aggregates_on(alloc, &query.expr, lists, objects);
-    drop(query);
+    query.let_go();
     outcome
 }

@@ -38,6 +38,6 @@ pub fn first_wrong_bounds(
 ) -> Result<Option<u32>, Fail> {
     let query = read(alloc, text.as_bytes())?;
     let wrong = first_other(&query.expr, cases);
-    drop(query);
+    query.let_go();
     Ok(wrong)
 }

@@ -109,7 +109,7 @@ fn found_on(alloc: Global, query: &Query, lists: Lists<'_>) -> Result<Found, Fai
 fn found_of(alloc: Global, case: &Case) -> Result<Found, Fail> {
     let query = read(alloc, case.text.as_bytes())?;
     let outcome = found_on(alloc, &query, case.lists);
-    drop(query);
+    query.let_go();
     outcome
 }
 

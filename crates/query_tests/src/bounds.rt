@@ -30,7 +30,7 @@ fn bounds_of_copy(alloc: Global, sum: &Expr) -> Option<(u64, u64)> {
 fn bounds_of_sum(alloc: Global) -> Option<(u64, u64)> {
     let query = read(alloc, b"top 1 by sum(A,B) using ta").ok()?;
     let bounds = bounds_of_copy(alloc, &query.expr);
-    drop(query);
+    query.let_go();
     bounds
 }
 

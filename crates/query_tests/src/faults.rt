@@ -23,7 +23,7 @@ fn comes_to(alloc: Global, line: &[u8], expected: Option<QueryFault>) -> bool {
     match read(alloc, line) {
         Ok(query) => {
             let is_so = is_printed(alloc, &query, line);
-            drop(query);
+            query.let_go();
             is_so && expected.is_none()
         }
         Err(fault) => expected == Some(fault),

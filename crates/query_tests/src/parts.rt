@@ -11,7 +11,7 @@ fn is_asked_by(alloc: Global, line: &[u8], algorithm: Algorithm) -> bool {
         return false;
     };
     let is_so = query.algorithm == algorithm;
-    drop(query);
+    query.let_go();
     is_so
 }
 
@@ -56,11 +56,12 @@ fn are_two(names: &Names, first: &[u8], second: &[u8]) -> bool {
 /// Whether a query has the parts of that line: each list has one name, in the order in which the names come first.
 fn has_parts(query: Query) -> bool {
     let are_so = has_numbers(&query) && query.algorithm == Algorithm::Ta;
-    let Query { names, expr, .. } = query;
-    drop(expr);
-    let again = Names::from_vec(names.into_vec());
-    let are_named = are_two(&again, b"zeta", b"A");
-    drop(again);
+    let query = Query {
+        names: Names::from_vec(query.names.into_vec()),
+        ..query
+    };
+    let are_named = are_two(&query.names, b"zeta", b"A");
+    query.let_go();
     are_so && are_named
 }
 

@@ -70,7 +70,7 @@ fn comes_to(alloc: Global, line: &[u8], grades: &[u32], expected: Result<u64, Qu
     match read(alloc, line) {
         Ok(query) => {
             let value = value_of(&query, grades);
-            drop(query);
+            query.let_go();
             value.is_some() && value == expected.ok()
         }
         Err(fault) => expected == Err(fault),

@@ -34,4 +34,9 @@ impl Query {
             random: 1,
         })
     }
+
+    /// Lets a query go. Who owns one lets it go by this call, so that it is proved once.
+    pub fn let_go(self) {
+        drop(self);
+    }
 }

@@ -424,7 +424,7 @@ fn tells_bounds(alloc: Global) -> bool {
     };
     let are_told = has_bounds_before(alloc, &query.expr, BEFORE)
         && has_bounds_after(alloc, &query.expr, AFTER);
-    drop(query);
+    query.let_go();
     are_told
 }
 

@@ -72,7 +72,7 @@ fn is_written_of(alloc: Global, query: &Query, out: &mut MemSink) -> Option<bool
 fn is_written(alloc: Global, out: &mut MemSink) -> Option<bool> {
     let query = read(alloc, FIRST_QUERY).ok()?;
     let is_so = is_written_of(alloc, &query, out);
-    drop(query);
+    query.let_go();
     is_so
 }
 
@@ -136,7 +136,7 @@ fn is_long_written_of(alloc: Global, query: &Query, out: &mut Counting) -> Optio
 fn is_long_written(alloc: Global, out: &mut Counting) -> Option<bool> {
     let query = read(alloc, b"top 1 by A using ta").ok()?;
     let is_so = is_long_written_of(alloc, &query, out);
-    drop(query);
+    query.let_go();
     is_so
 }
 

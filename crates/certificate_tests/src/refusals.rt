@@ -5,11 +5,11 @@ ghost use Rattle.std.specs.Option.{option_copied};
 ghost use Rattle.cert_text.specs.declared.outcome.Outcome.TheVariants.{Refused};
 ghost use Rattle.cert_text.specs.Outcome.{IsOutcome};
 
+use super::none_is_wrong;
 use cert_text::{Outcome, Refusal, write_outcome};
 use query_reading::read;
 use query_text::Query;
 use std::alloc::Global;
-use std::process::Abort;
 use tk_io::MemSink;
 
 /// A query of two lists.
@@ -204,13 +204,8 @@ fn first_wrong(alloc: Global, rows: &[Row]) -> Option<usize> {
         return Some(rows.len());
     };
     let number = first_wrong_of(alloc, &query, rows);
-    drop(query);
+    query.let_go();
     number
-}
-
-/// Every refusal of a table is written as its line: the number of the first one that isn't is none.
-fn none_is_wrong(rt: &impl Abort, first_wrong: Option<usize>) {
-    assert_eq!(rt; first_wrong, None);
 }
 
 #[test]
