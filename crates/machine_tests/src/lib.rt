@@ -1,17 +1,28 @@
-//! Tests of the machines of all algorithms, row by row.
+//! Tests of the machines of all algorithms, row by row, and of the plain programs: tables worked out by hand, where the
+//! algorithms stop on them, what they read and what they answer.
 #![tactic(auto)]
 
 #[cfg(test)]
+mod bounds;
+#[cfg(test)]
 mod ca;
+#[cfg(test)]
+mod combined;
+#[cfg(test)]
+mod no_random;
 #[cfg(test)]
 mod nra;
 #[cfg(test)]
 mod ta;
+#[cfg(test)]
+mod tables;
+#[cfg(test)]
+mod threshold;
 
 #[cfg(test)]
 use std::process::Abort;
 
-/// Every query is answered, or refused, as it is wanted: there is no first one that isn't.
+/// Every case comes to what is wanted: there is no first one that doesn't.
 #[cfg(test)]
 fn none_is_wrong(rt: &impl Abort, first_wrong: Option<usize>) {
     assert_eq!(rt; first_wrong, None);
