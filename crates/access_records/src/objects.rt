@@ -86,10 +86,10 @@ impl Objects {
     {
         Ok(Objects {
             room: 0,
+            ahead: Ahead::make(alloc, lists)?,
+            sights: Vec::with_capacity(alloc, 1)?,
             names: RoomMap::make(alloc, 0)?,
             records: Vec::new(alloc),
-            sights: Vec::with_capacity(alloc, 1)?,
-            ahead: Ahead::make(alloc, lists)?,
         })
     }
 
