@@ -12,23 +12,7 @@ mod transcript;
 pub use answer::Answer;
 pub use core_fault::CoreFault;
 pub use fault::PushFault;
+pub use memory::Memory;
 pub use ranked_list::{Item, Items};
-use std::alloc::AllocError;
 pub use topk_theory::Access;
 pub use transcript::Transcript;
-
-/// No memory was left.
-#[derive(Clone, Copy, Debug, PartialEq, Eq)]
-pub struct Memory;
-
-impl From<AllocError> for Memory {
-    fn from(_: AllocError) -> Memory {
-        Memory
-    }
-}
-
-impl From<access_records::Memory> for Memory {
-    fn from(_: access_records::Memory) -> Memory {
-        Memory
-    }
-}

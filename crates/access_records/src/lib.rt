@@ -14,34 +14,6 @@ pub use ahead::Ahead;
 pub use ends::Ends;
 pub use inconsistency::first_kind;
 pub use kinds::Known;
+pub use memory::Memory;
 pub use objects::Objects;
 pub use record::Record;
-use std::alloc::{AllocError, AllocFailed};
-
-/// No memory was left.
-#[derive(Clone, Copy, Debug, PartialEq, Eq)]
-pub struct Memory;
-
-impl From<AllocError> for Memory {
-    fn from(_: AllocError) -> Memory {
-        Memory
-    }
-}
-
-impl<T: Drop> From<AllocFailed<T>> for Memory {
-    fn from(_: AllocFailed<T>) -> Memory {
-        Memory
-    }
-}
-
-impl From<indexed_heap::Memory> for Memory {
-    fn from(_: indexed_heap::Memory) -> Memory {
-        Memory
-    }
-}
-
-impl From<room_map::Memory> for Memory {
-    fn from(_: room_map::Memory) -> Memory {
-        Memory
-    }
-}

@@ -7,9 +7,6 @@ mod rank;
 mod ranking;
 
 pub use board::Board;
+pub use memory::Memory;
 pub use order::put_in_order;
 pub use ranked_list::{Item, Items};
-
-/// No memory was left.
-#[derive(Clone, Copy, Debug, PartialEq, Eq)]
-pub struct Memory;

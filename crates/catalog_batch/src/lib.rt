@@ -4,8 +4,5 @@
 mod run;
 mod slots;
 
+pub use memory::Memory;
 pub use run::run_queries;
-
-/// No memory was left.
-#[derive(Clone, Copy, Debug, PartialEq, Eq)]
-pub struct Memory;

@@ -6,9 +6,6 @@ mod opened;
 mod opening;
 
 pub use closing::put_back_all;
+pub use memory::Memory;
 pub use opened::{Opened, Opening};
 pub use opening::open_wanted;
-
-/// No memory was left.
-#[derive(Clone, Copy, Debug, PartialEq, Eq)]
-pub struct Memory;

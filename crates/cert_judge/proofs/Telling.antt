@@ -21,7 +21,7 @@ use Rattle.judge_core.specs.declared.verdict.Verdict.{Verdict}
 use Rattle.judge_core.specs.declared.verdict.Verdict.TheVariants as verdict
 use Rattle.judge_core.specs.declared.verdict.JudgeFault.{JudgeFault}
 use Rattle.judge_core.specs.Judging.{Judges}
-use Rattle.cert_judge.specs.declared.Memory.{Memory}
+use Rattle.memory.specs.declared.Memory.{Memory}
 use Rattle.cert_judge.specs.declared.told.Told.{Told}
 use Rattle.cert_judge.specs.declared.told.Told.TheVariants.{BadLine, Inconsistent, WildGuess, WrongSize, UnseenAnswer, Figure, Fixes, Beaten}
 use Rattle.cert_judge.specs.Transcripts.{log_of}

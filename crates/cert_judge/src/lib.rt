@@ -15,9 +15,6 @@ mod transcript;
 mod writing;
 
 pub use judging::judge_text;
+pub use memory::Memory;
 pub use told::Told;
 pub use writing::write_told;
-
-/// No memory was left.
-#[derive(Clone, Copy, Debug)]
-pub struct Memory;

@@ -14,8 +14,5 @@ pub use arguments::{Argument, found_in};
 pub use fault::WordsFault;
 pub use given::read_words;
 pub use laws::words_give_what_their_line_gives;
+pub use memory::Memory;
 pub use words::Words;
-
-/// No memory was left.
-#[derive(Clone, Copy, Debug)]
-pub struct Memory;

@@ -3,21 +3,5 @@
 
 mod read;
 
+pub use memory::Memory;
 pub use read::{TakesRecords, read_records};
-use std::alloc::{AllocError, AllocFailed};
-
-/// No memory was left.
-#[derive(Clone, Copy, Debug, PartialEq, Eq)]
-pub struct Memory;
-
-impl From<AllocError> for Memory {
-    fn from(_: AllocError) -> Memory {
-        Memory
-    }
-}
-
-impl<T: Drop> From<AllocFailed<T>> for Memory {
-    fn from(_: AllocFailed<T>) -> Memory {
-        Memory
-    }
-}

@@ -6,8 +6,5 @@
 mod nodes;
 mod tree;
 
+pub use memory::Memory;
 pub use tree::GradeTree;
-
-/// No memory was left.
-#[derive(Clone, Copy, Debug, PartialEq, Eq)]
-pub struct Memory;

@@ -7,8 +7,5 @@ mod heap;
 mod tree;
 
 pub use heap::IndexedHeap;
+pub use memory::Memory;
 pub use tree::Ranked;
-
-/// No memory was left.
-#[derive(Clone, Copy, Debug, PartialEq, Eq)]
-pub struct Memory;

@@ -10,28 +10,6 @@ mod question;
 mod verdict;
 
 pub use decision::judge;
+pub use memory::Memory;
 pub use objects::Objects;
-use std::alloc::{AllocError, AllocFailed};
 pub use verdict::{JudgeFault, Verdict};
-
-/// No memory was left.
-#[derive(Clone, Copy, Debug, PartialEq, Eq)]
-pub struct Memory;
-
-impl From<AllocError> for Memory {
-    fn from(_: AllocError) -> Memory {
-        Memory
-    }
-}
-
-impl<T: Drop> From<AllocFailed<T>> for Memory {
-    fn from(_: AllocFailed<T>) -> Memory {
-        Memory
-    }
-}
-
-impl From<ranked_list::Memory> for Memory {
-    fn from(_: ranked_list::Memory) -> Memory {
-        Memory
-    }
-}

@@ -7,7 +7,4 @@ mod late;
 mod walk;
 
 pub use late::LateBounds;
-
-/// No memory was left.
-#[derive(Clone, Copy, Debug, PartialEq, Eq)]
-pub struct Memory;
+pub use memory::Memory;

@@ -8,9 +8,6 @@ mod open_highs;
 mod unknown;
 
 pub use kept_high::KeptHigh;
+pub use memory::Memory;
 pub use open_highs::OpenHighs;
 pub use unknown::next_unknown;
-
-/// No memory was left.
-#[derive(Clone, Copy, Debug, PartialEq, Eq)]
-pub struct Memory;

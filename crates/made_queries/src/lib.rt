@@ -4,8 +4,5 @@
 mod expression;
 mod query;
 
+pub use memory::Memory;
 pub use query::made_query;
-
-/// No memory was left.
-#[derive(Clone, Copy, Debug, PartialEq, Eq)]
-pub struct Memory;

@@ -15,21 +15,5 @@ mod values;
 pub use costs::Costs;
 pub use expr::Expr;
 pub use fault::ExprFault;
+pub use memory::Memory;
 pub use node::{Node, Nodes, Term, Terms};
-use std::alloc::{AllocError, AllocFailed};
-
-/// No memory was left.
-#[derive(Clone, Copy, Debug)]
-pub struct Memory;
-
-impl From<AllocError> for Memory {
-    fn from(_: AllocError) -> Memory {
-        Memory
-    }
-}
-
-impl<T: Drop> From<AllocFailed<T>> for Memory {
-    fn from(_: AllocFailed<T>) -> Memory {
-        Memory
-    }
-}

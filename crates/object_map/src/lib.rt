@@ -5,14 +5,4 @@
 mod map;
 
 pub use map::ObjectMap;
-use std::alloc::AllocError;
-
-/// No memory was left.
-#[derive(Clone, Copy, Debug, PartialEq, Eq)]
-pub struct Memory;
-
-impl From<AllocError> for Memory {
-    fn from(_: AllocError) -> Memory {
-        Memory
-    }
-}
+pub use memory::Memory;

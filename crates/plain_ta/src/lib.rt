@@ -11,23 +11,7 @@ mod threshold;
 
 pub use blocks::{add_sorted_block, ta_run};
 pub use each_once::add_object;
+pub use memory::Memory;
 pub use order::{first_k, kth_low};
-use std::alloc::{AllocError, AllocFailed};
 pub use table::{aggregate, count_of, grade_in, objects_of};
 pub use threshold::{items_of, ta_answer, ta_depth};
-
-/// No memory was left.
-#[derive(Clone, Copy, Debug, PartialEq, Eq)]
-pub struct Memory;
-
-impl From<AllocError> for Memory {
-    fn from(_: AllocError) -> Memory {
-        Memory
-    }
-}
-
-impl<T: Drop> From<AllocFailed<T>> for Memory {
-    fn from(_: AllocFailed<T>) -> Memory {
-        Memory
-    }
-}

@@ -12,7 +12,4 @@ pub use admission::admit;
 pub use admitted::Admitted;
 pub use line_outcome::LineOutcome;
 pub use lists::{Listed, Lists};
-
-/// No memory was left.
-#[derive(Clone, Copy, Debug, PartialEq, Eq)]
-pub struct Memory;
+pub use memory::Memory;

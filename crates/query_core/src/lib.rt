@@ -11,14 +11,5 @@ pub use algorithms::asks_grades;
 pub use drive_fault::DriveFault;
 pub use laws::right_answers_are_one;
 pub use machine::Machine;
+pub use memory::Memory;
 pub use ready::Ready;
-
-/// No memory was left.
-#[derive(Clone, Copy, Debug)]
-pub struct Memory;
-
-impl From<access_log::Memory> for Memory {
-    fn from(_: access_log::Memory) -> Memory {
-        Memory
-    }
-}

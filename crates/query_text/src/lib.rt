@@ -24,12 +24,9 @@ mod text;
 
 pub use algorithm::Algorithm;
 pub use fault::QueryFault;
+pub use memory::Memory;
 pub use monotone_fn::Costs;
 pub use names::Names;
 pub use operator::Operator;
 pub use printing::{print, put_query};
 pub use query::Query;
-
-/// No memory was left.
-#[derive(Clone, Copy, Debug, PartialEq, Eq)]
-pub struct Memory;

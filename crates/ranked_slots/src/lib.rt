@@ -4,8 +4,5 @@
 
 mod slots;
 
+pub use memory::Memory;
 pub use slots::{Entry, RankedSlots};
-
-/// No memory was left.
-#[derive(Clone, Copy, Debug, PartialEq, Eq)]
-pub struct Memory;

@@ -4,20 +4,4 @@
 mod map;
 
 pub use map::RoomMap;
-use std::alloc::AllocError;
-
-/// No memory was left.
-#[derive(Clone, Copy, Debug, PartialEq, Eq)]
-pub struct Memory;
-
-impl From<object_map::Memory> for Memory {
-    fn from(_: object_map::Memory) -> Memory {
-        Memory
-    }
-}
-
-impl From<AllocError> for Memory {
-    fn from(_: AllocError) -> Memory {
-        Memory
-    }
-}
+pub use memory::Memory;

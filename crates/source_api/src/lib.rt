@@ -9,23 +9,7 @@ mod source;
 
 pub use counts::Counts;
 pub use ledger::{Ledger, PlaceCounts};
+pub use memory::Memory;
 pub use rows::{keep_first, part_of};
 pub use shelf::Shelf;
 pub use source::{Source, Trouble};
-use std::alloc::{AllocError, AllocFailed};
-
-/// No memory was left.
-#[derive(Clone, Copy, Debug, PartialEq, Eq)]
-pub struct Memory;
-
-impl From<AllocError> for Memory {
-    fn from(_: AllocError) -> Memory {
-        Memory
-    }
-}
-
-impl<T: Drop> From<AllocFailed<T>> for Memory {
-    fn from(_: AllocFailed<T>) -> Memory {
-        Memory
-    }
-}

@@ -10,7 +10,4 @@ pub use ask::Ask;
 pub use asks::Asks;
 pub use entry::{Asked, FailKind, LogEntry, Settling, SourceFault};
 pub use kept_rows::KeptRows;
-
-/// No memory was left.
-#[derive(Clone, Copy, Debug, PartialEq, Eq)]
-pub struct Memory;
+pub use memory::Memory;

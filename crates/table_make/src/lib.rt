@@ -4,8 +4,5 @@
 mod generator;
 mod table;
 
+pub use memory::Memory;
 pub use table::make_table;
-
-/// No memory was left.
-#[derive(Clone, Copy, Debug, PartialEq, Eq)]
-pub struct Memory;

@@ -39,18 +39,6 @@ impl<T: Drop> From<AllocFailed<T>> for Unmade {
     }
 }
 
-impl From<command_words::Memory> for Unmade {
-    fn from(_: command_words::Memory) -> Unmade {
-        Unmade::Memory
-    }
-}
-
-impl From<ranked_list::Memory> for Unmade {
-    fn from(_: ranked_list::Memory) -> Unmade {
-        Unmade::Memory
-    }
-}
-
 impl From<tk_io::Memory> for Unmade {
     fn from(_: tk_io::Memory) -> Unmade {
         Unmade::Memory

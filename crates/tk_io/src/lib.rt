@@ -14,9 +14,9 @@ mod whole;
 pub use intake::Intake;
 pub use mem_intake::MemIntake;
 pub use mem_sink::MemSink;
+pub use memory::Memory;
 pub use pieces::{PIECE, Pieces};
 pub use sink::Sink;
-use std::alloc::AllocError;
 pub use std_intake::StdIntake;
 pub use std_sink::StdSink;
 pub use whole::{ReadError, read_text, write_text};
@@ -24,13 +24,3 @@ pub use whole::{ReadError, read_text, write_text};
 /// A call to the outside failed, and the count of faults of its object has gone up.
 #[derive(Clone, Copy, Debug, PartialEq, Eq)]
 pub struct Failed;
-
-/// No memory was left.
-#[derive(Clone, Copy, Debug, PartialEq, Eq)]
-pub struct Memory;
-
-impl From<AllocError> for Memory {
-    fn from(_: AllocError) -> Memory {
-        Memory
-    }
-}

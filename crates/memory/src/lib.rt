@@ -1,0 +1,20 @@
+//! The error of a call that asks for memory and gets none. It is the same in every crate, so that `?` hands it on.
+#![tactic(auto)]
+
+use std::alloc::{AllocError, AllocFailed};
+
+/// No memory was left.
+#[derive(Clone, Copy, Debug, PartialEq, Eq)]
+pub struct Memory;
+
+impl From<AllocError> for Memory {
+    fn from(_: AllocError) -> Memory {
+        Memory
+    }
+}
+
+impl<T: Drop> From<AllocFailed<T>> for Memory {
+    fn from(_: AllocFailed<T>) -> Memory {
+        Memory
+    }
+}
