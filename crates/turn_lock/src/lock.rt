@@ -1,4 +1,4 @@
-ghost use Rattle.std.specs.Prelude.{◌≡◌, ◌<◌, false, None, IfOk, IfErr, IfSome, IsSomeAnd};
+ghost use Rattle.std.specs.Prelude.{◌≡◌, ◌<◌, false, [], ◌∷◌, None, Some, length, IfOk, IfErr, IfSome, IsSomeAnd};
 ghost use Rattle.turn_lock.specs.Facts.{Grows, IsKept};
 ghost use Rattle.turn_lock.specs.Known.{all_parts, Agrees, Follows, opened, holding, after_turn, without, split_off, joined};
 
@@ -48,13 +48,28 @@ impl<V: Logged + Send + Drop> TurnLock<V> {
         ensures ok { IfOk result (λ r. r.1 ≡ (r.0, opened (V.facts value))) }
         ensures err { IfErr result (λ v. v ≡ value) }
     {
-        let words = [0, 0, value.length()];
+        let entries = value.length();
         let opening = Snapshot::of(&value);
         let mut slots = Vec::new(alloc);
-        if let Err(AllocFailed { value }) = slots.push(Some(value)) {
-            return Err(value.unwrap());
+        match slots.push(Some(value)) {
+            Ok(()) => TurnLock::on_table(alloc, entries, slots, &opening),
+            Err(AllocFailed { value }) => Err(value.unwrap()),
         }
-        match Table::new(alloc, &words, slots, &opening) {
+    }
+
+    /// A lock round the value in the one slot, whose log has so many entries, with the first pass. Without memory the value comes back.
+    fn on_table(
+        alloc: Global,
+        entries: u64,
+        slots: Vec<Option<V>>,
+        opening: &Snapshot<V>,
+    ) -> Result<(TurnLock<V>, Pass<V>), V>
+        requires entries { entries ≡ length (V.facts opening.now.value).log }
+        requires slot { slots.items ≡ Some opening.now.value ∷ [] }
+        ensures ok { IfOk result (λ r. r.1 ≡ (r.0, opened (V.facts opening.now.value))) }
+        ensures err { IfErr result (λ v. v ≡ opening.now.value) }
+    {
+        match Table::new(alloc, &[0, 0, entries], slots, opening) {
             Ok((table, seat)) => {
                 let lock = TurnLock {
                     table,
