@@ -3,7 +3,7 @@
 use ranked_list::Row;
 
 /// What is at fault with the rows or with a grade of a source. Places count from 1.
-#[derive(Clone, Copy, Debug, PartialEq, Eq)]
+#[derive(Clone, Copy, PartialEq, Eq)]
 pub enum SourceFault {
     /// The grade `after` of the row at `place` is above `before`, the grade of the row over it.
     OutOfOrder {
@@ -53,7 +53,7 @@ pub enum Settling {
 }
 
 /// What became of an ask.
-#[derive(Clone, Copy, Debug, PartialEq, Eq)]
+#[derive(Clone, Copy, PartialEq, Eq)]
 pub enum Asked {
     /// Nothing came yet.
     Pending,

@@ -18,7 +18,7 @@ pub struct Waiting {
 }
 
 /// What a look answers.
-#[derive(Clone, Copy, Debug, PartialEq, Eq)]
+#[derive(Clone, Copy, PartialEq, Eq)]
 pub enum Look {
     /// The row is there.
     Row(Row),
@@ -31,7 +31,7 @@ pub enum Look {
 }
 
 /// Why a need can't be met.
-#[derive(Clone, Copy, Debug, PartialEq, Eq)]
+#[derive(Clone, Copy, PartialEq, Eq)]
 pub enum LookFault {
     /// The source's rows or this grade of it are at fault.
     Source(SourceFault),
