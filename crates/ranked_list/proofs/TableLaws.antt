@@ -1,6 +1,6 @@
 -- Whether lists form a table, list by list.
 use Rattle.std.proofs.Common.{◌≡◌, ◌<◌, ◌+◌, ℕ, Bool, true, false, eqb, List, [], ◌∷◌, ◌++◌, length, get_or, take, drop, Option, Some, None, Result, Ok, Err, refl, sym, ap, ◌∙◌, subst, ⊎_elim, arith, eqb-true}
-use Rattle.std.specs.Prelude.{nat_eq}
+use Rattle.std.specs.Prelude.{nat_eq, IfOk, IsTrue, ◌↔◌}
 use Rattle.std.specs.List.{All, slice_get}
 use Rattle.std.specs.Set.{is_member}
 use Rattle.std.specs.Result.{is_err}
@@ -96,3 +96,13 @@ alike_in_table n lists first test is tells t k d l =
 pub first_ranked : (n : ℕ) (lists : List (List Row)) (first : List Row) → Some first ≡ slice_get lists 0 → IsTable n lists → IsRanked first
 first_ranked n lists first is t =
     subst IsRanked (get_or_from_slice_get lists 0 first first (sym is)) (t.ranked 0 first (slice_get_within lists 0 first (sym is)))
+
+-- so that all are like the first says that they are a table
+pub told_table : {E : Type 0} (lists : List (List Row)) (first : List Row) (test : ℕ → Bool) → Some first ≡ slice_get lists 0 → TellsObjects test first
+    → (told : Result Bool E) → IfOk told (λ answer. IsTrue answer ↔ All (IsAlike (length first) test) lists)
+    → IfOk told (λ answer. IsTrue answer ↔ ((n : ℕ) × IsTable n lists))
+told_table lists first test is tells (Err fault) told = tt
+told_table lists first test is tells (Ok answer) told = (
+  λ yes. (length first, table_from_alike lists first test is tells (told.0 yes)),
+  λ table. told.1 (alike_in_table table.0 lists first test is tells table.1),
+)

@@ -1,6 +1,6 @@
 //! Whether lists form a table.
 
-ghost use Rattle.std.specs.Prelude.{◌≡◌, ◌↔◌, ℕ, true, nat_eq, IsTrue, IfOk, MatchOption};
+ghost use Rattle.std.specs.Prelude.{◌≡◌, ◌↔◌, ℕ, true, nat_eq, [], length, All, IsTrue, IfOk};
 ghost use Rattle.std.specs.Set.{is_member};
 ghost use Rattle.std.specs.HashSet.{contains};
 ghost use Rattle.ranked_list.specs.Table.{IsRanked, IsTable, objects};
@@ -13,25 +13,26 @@ use super::order::check_next;
 use std::alloc::Global;
 use std::collections::HashSet;
 
-/// The objects of a list, or None where the list isn't ranked.
-fn ranked_objects(alloc: Global, rows: &MemList) -> Result<Option<HashSet<u32>>, Memory>
-    ensures { IfOk result (λ found. MatchOption found (¬ IsRanked rows.now) (λ set. IsRanked rows.now × TellsObjects (contains nat_eq set) rows.now)) }
+/// Puts the objects of a list into a set that has none, as far as the list is ranked, and says whether it is.
+fn put_objects(rows: &MemList, set: &mut HashSet<u32>) -> Result<bool, Memory>
+    requires { TellsObjects (contains nat_eq set.old) [] }
+    ensures ranked { IfOk result (λ ranked. IsTrue ranked ↔ IsRanked rows.now) }
+    ensures tells { IfOk result (λ ranked. IsTrue ranked → TellsObjects (contains nat_eq set.new) rows.now) }
 {
-    let mut set = HashSet::new(alloc);
     let mut last = None;
     for place in 0..rows.len() {
         let Some(row) = rows.get(place) else {
-            return Ok(None);
+            return Ok(false);
         };
         if check_next(place, last, row).is_err() {
-            return Ok(None);
+            return Ok(false);
         }
-        if !put(&mut set, row.object)? {
-            return Ok(None);
+        if !put(set, row.object)? {
+            return Ok(false);
         }
         last = Some(row);
     }
-    Ok(Some(set))
+    Ok(true)
 }
 
 /// Whether each object of the rows is among these.
@@ -56,10 +57,28 @@ fn is_alike(alloc: Global, rows: &MemList, count: u32, set: &HashSet<u32>) -> Re
     if rows.len() != count {
         return Ok(false);
     }
-    if ranked_objects(alloc, rows)?.is_none() {
+    let mut own = HashSet::new(alloc);
+    if !put_objects(rows, &mut own)? {
         return Ok(false);
     }
     Ok(all_among(rows, set))
+}
+
+/// Whether each of the lists is ranked and has as many rows as `first`, all of objects in the set.
+fn are_alike(
+    alloc: Global,
+    lists: &[MemList],
+    first: &MemList,
+    set: &HashSet<u32>,
+) -> Result<bool, Memory>
+    ensures { IfOk result (λ answer. IsTrue answer ↔ All (IsAlike (length first.now) (contains nat_eq set.now)) lists.now) }
+{
+    for list in lists {
+        if !is_alike(alloc, list, first.len(), set)? {
+            return Ok(false);
+        }
+    }
+    Ok(true)
 }
 
 /// Whether the lists form a table: each is ranked, and all have the same objects. No lists are a
@@ -70,13 +89,9 @@ pub fn is_table(alloc: Global, lists: &[MemList]) -> Result<bool, Memory>
     let Some(first) = lists.first() else {
         return Ok(true);
     };
-    let Some(objects) = ranked_objects(alloc, first)? else {
+    let mut objects = HashSet::new(alloc);
+    if !put_objects(first, &mut objects)? {
         return Ok(false);
-    };
-    for list in lists {
-        if !is_alike(alloc, list, first.len(), &objects)? {
-            return Ok(false);
-        }
     }
-    Ok(true)
+    are_alike(alloc, lists, first, &objects)
 }
