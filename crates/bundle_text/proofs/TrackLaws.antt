@@ -1,18 +1,20 @@
 -- What the reader keeps, one row on and one list on.
-use Rattle.std.proofs.Common.{◌≡◌, ◌+◌, ◌≤◌, ◌⊎◌, inl, inr, ℕ, Bool, true, false, cond, eqb, nat_eq, ◌||◌, List, [], ◌∷◌, ◌++◌, length, map, Option, Some, None, is_some, refl, sym, ap, ◌∙◌, subst, arith, eq-eqb, eqb-true, length-append}
+use Rattle.std.proofs.Common.{◌≡◌, ◌==◌, ◌+◌, ◌≤◌, ◌⊎◌, inl, inr, ℕ, suc, Bool, true, false, not, cond, eqb, ne_eqb, nat_eq, nat_lt, ◌||◌, ◌&&◌, List, [], ◌∷◌, ◌++◌, length, map, Option, Some, None, is_some, refl, sym, ap, ◌∙◌, subst, arith, eq-eqb, eqb-true, length-append}
 use Rattle.std.specs.List.{list_any}
 use Rattle.std.specs.Option.{IfSome}
 use Rattle.std.specs.Set.{is_member}
 use Rattle.std.specs.Global.{Vec}
-use Rattle.std.proofs.lemmas.Bool.{false_from_ne_true}
+use Rattle.std.proofs.lemmas.Bool.{false_from_ne_true, false≢true}
 use Rattle.std.proofs.lemmas.List.{map-append}
 use Rattle.object_map.specs.Values.{value_of}
 use Rattle.ranked_list.specs.declared.row.Row.{Row}
 use Rattle.ranked_list.specs.Table.{objects}
-use Rattle.ranked_list.specs.Rows.{last_row, TellsObjects}
-use Rattle.bundle_text.specs.Reading.{InsideList, with_list}
+use Rattle.ranked_list.specs.Rows.{last_row, in_order, TellsObjects}
+use Rattle.bundle_text.specs.Reading.{InsideList, room, is_wanted, takes_row, with_list, with_query}
 use Rattle.bundle_text.specs.Tracking.{front_of, has_number, IsTracked, TellsFirst}
+use Rattle.bundle_text.specs.declared.bundle.Bundle.{Bundle}
 use Rattle.bundle_text.specs.declared.reader.Reader.{Reader}
+use Rattle.bundle_text.specs.Bundle.{Content, content}
 use Rattle.ranked_list.proofs.RowLaws.{TellsObjects-push}
 
 pub list_any-map : {A B : Type 0} (p : B → Bool) (f : A → B) (xs : List A) → list_any p (map f xs) ≡ list_any (λ x. p (f x)) xs
@@ -111,3 +113,61 @@ next_front before after name names closed is rows =
     ∙ ap (λ cs. inside ((front_of before).names ++ before.name.items ∷ []) cs after.name.items after.rows) closed
     ∙ ap (λ n. inside ((front_of before).names ++ before.name.items ∷ []) (before.closed.items ++ before.rows ∷ []) n after.rows) is
     ∙ ap (inside ((front_of before).names ++ before.name.items ∷ []) (before.closed.items ++ before.rows ∷ []) name) rows
+
+-- ---- whether the open list may have an object, by its number
+
+abbrev pub may_have : ℕ → Option ℕ → Bool
+may_have number before = (number == 0 || is_some before) && not (has_number number before)
+
+-- that is so where the object is wanted and the open list hasn't it
+may_have_is : (reader : Reader) (row : Row) → IsTracked reader
+    → may_have reader.number (value_of reader.given row.object) ≡ (is_wanted reader.closed.items row.object && not (is_member nat_eq (objects reader.rows) row.object))
+may_have_is reader row tracked =
+    ap (λ seen. (reader.number == 0 || is_some own) && not seen) (tracked.seen row.object)
+    ∙ ap (λ wanted. wanted && not (is_member nat_eq (objects reader.rows) row.object)) (by_first reader.closed.items tracked.number tracked.first)
+  where
+    own : Option ℕ
+    own = value_of reader.given row.object
+
+    by_first : (closed : List (List Row)) → reader.number ≡ length closed → TellsFirst (λ object. is_some (value_of reader.given object)) closed
+        → (reader.number == 0 || is_some own) ≡ is_wanted closed row.object
+    by_first [] number first = ap (λ n. n == 0 || is_some own) number
+    by_first (first ∷ more) number tells = ap (λ n. n == 0 || is_some own) number ∙ ap (λ t. t || is_some own) (ne_eqb (length (first ∷ more)) 0 (omega arith)) ∙ tells row.object
+
+-- an object that it may not have
+pub refused_row : (reader : Reader) (row : Row) → IsTracked reader → (before : Option ℕ) → before ≡ value_of reader.given row.object
+    → may_have reader.number before ≡ false → takes_row (front_of reader) row ≡ false
+refused_row reader row tracked before is refused =
+    not_both (nat_lt (length reader.rows) (room reader.closed.items) && in_order (last_row reader.rows) row) (is_wanted reader.closed.items row.object)
+    (not (is_member nat_eq (objects reader.rows) row.object)) (sym (may_have_is reader row tracked) ∙ ap (may_have reader.number) (sym is) ∙ refused)
+  where
+    not_both : (t u v : Bool) → (u && v) ≡ false → ((t && u) && v) ≡ false
+    not_both true u v e = e
+    not_both false u v e = refl
+
+-- there is no first list, or it has that object
+pub none_or_had : (reader : Reader) (row : Row) → IsTracked reader → (before : Option ℕ) → before ≡ value_of reader.given row.object
+    → may_have reader.number before ≡ true → (reader.closed.items ≡ []) ⊎ (is_some (value_of reader.given row.object) ≡ true)
+none_or_had reader row tracked before is may = by_closed reader.closed.items tracked.number
+  where
+    some : (number : ℕ) (own : Option ℕ) → may_have (suc number) own ≡ true → is_some own ≡ true
+    some number (Some own) may = refl
+    some number None may = absurd (false≢true (sym (ap (λ t. (t || false) && true) (ne_eqb (suc number) 0 (omega arith))) ∙ may))
+
+    by_closed : (closed : List (List Row)) → reader.number ≡ length closed → (closed ≡ []) ⊎ (is_some (value_of reader.given row.object) ≡ true)
+    by_closed [] number = inl refl
+    by_closed (first ∷ more) number =
+        inr (some (length more) (value_of reader.given row.object) (ap (λ n. may_have n (value_of reader.given row.object)) (sym number) ∙ ap (may_have reader.number) (sym is) ∙ may))
+
+-- ---- the end
+
+-- what was taken out of a reader whose last list is closed
+pub ended : (before after : Reader) (bundle : Bundle) (query : List ℕ) → front_of after ≡ with_list (front_of before) [] → bundle.names ≡ after.names
+    → bundle.lists ≡ after.closed → bundle.query.items ≡ query → content bundle ≡ with_query (front_of before) query
+ended before after bundle query front names lists is =
+    ap (λ ns. said ns bundle.lists.items bundle.query.items) (ap (λ ns. map (λ (n : Vec ℕ). n.items) ns.items) names ∙ ap (λ f. f.names) front)
+    ∙ ap (λ ls. said (with_list (front_of before) []).names ls bundle.query.items) (ap (λ ls. ls.items) lists ∙ ap (λ f. f.closed) front)
+    ∙ ap (said (with_list (front_of before) []).names (with_list (front_of before) []).closed) is
+  where
+    said : List (List ℕ) → List (List Row) → List ℕ → Content
+    said names lists query = record { names = names; lists = lists; query = query }

@@ -1,10 +1,10 @@
 //! The reading of a bundle's lists, row by row.
 
-ghost use Rattle.std.specs.Prelude.{◌≡◌, ◌==◌, IsTrue, IfOk, if◌then◌else◌, length};
+ghost use Rattle.std.specs.Prelude.{◌≡◌, ◌==◌, ◌||◌, ◌&&◌, not, is_some, None, IsTrue, IfOk, OnOk, if◌then◌else◌, length};
 ghost use Rattle.std.specs.List.{list_any};
 ghost use Rattle.std.specs.Str.{bytes_eq};
 ghost use Rattle.bundle_text.specs.Reading.{takes_row, with_row, takes_list, with_list, takes_part, with_part, part_read, room, is_whole, is_taken, with_query, first_front};
-ghost use Rattle.bundle_text.specs.Tracking.{front_of, IsTracked};
+ghost use Rattle.bundle_text.specs.Tracking.{front_of, has_number, IsTracked};
 ghost use Rattle.bundle_text.specs.Bundle.{content};
 
 use super::bundle::Bundle;
@@ -62,10 +62,7 @@ impl Reader {
             return Ok(false);
         }
         let before = mark(&mut self.given, row.object, self.number)?;
-        if !self.closed.is_empty() && before.is_none() {
-            return Ok(false);
-        }
-        if before == Some(self.number) {
+        if !may_have(before, self.number) {
             return Ok(false);
         }
         self.rows.push(row)?;
@@ -82,11 +79,7 @@ impl Reader {
         if !self.is_whole() || self.closed.len() + 1 >= MAX_BUNDLE_LISTS || self.is_taken(name) {
             return Ok(false);
         }
-        let name = Vec::from_slice(alloc, name)?;
-        self.names.push(replace(&mut self.name, name))?;
-        self.closed
-            .push(replace(&mut self.rows, MemList::make(alloc)))?;
-        self.last = None;
+        self.close(alloc, name)?;
         self.number += 1;
         Ok(true)
     }
@@ -102,6 +95,23 @@ impl Reader {
             Line::Entry(row) => self.add_row(row),
             Line::Query(_) | Line::Other => Ok(false),
         }
+    }
+
+    /// Puts the open list to the whole ones, and opens one of this name, to which no object belongs yet. The number stays.
+    fn close(&mut self, alloc: Global, name: &[u8]) -> Result<(), Memory>
+        ensures front { OnOk result (front_of self.new ≡ with_list (front_of self.old) name.now) }
+        ensures last { OnOk result (self.new.last ≡ None) }
+        ensures number { OnOk result (self.new.number ≡ self.old.number) }
+        ensures given { OnOk result (self.new.given ≡ self.old.given) }
+    {
+        self.names.reserve(1)?;
+        self.closed.reserve(1)?;
+        let name = Vec::from_slice(alloc, name)?;
+        self.names.push_reserved(replace(&mut self.name, name));
+        self.closed
+            .push_reserved(replace(&mut self.rows, MemList::make(alloc)));
+        self.last = None;
+        Ok(())
     }
 
     /// How many rows the open list may have.
@@ -131,26 +141,28 @@ impl Reader {
         has_name(&self.names, name) || self.name.as_slice() == name
     }
 
-    /// The bundle of these lists and a query.
-    pub(crate) fn end(self, alloc: Global, query: &[u8]) -> Result<Bundle, Memory>
-        ensures { IfOk result (λ bundle. content bundle ≡ with_query (front_of self) query.now) }
+    /// The bundle of these lists and a query. The reader is of no more use.
+    pub(crate) fn end(&mut self, alloc: Global, query: &[u8]) -> Result<Bundle, Memory>
+        ensures { IfOk result (λ bundle. content bundle ≡ with_query (front_of self.old) query.now) }
     {
-        let Reader {
-            mut names,
-            mut closed,
-            name,
-            rows,
-            last: _,
-            number: _,
-            given: _,
-        } = self;
-        names.push(name)?;
-        closed.push(rows)?;
+        self.close(alloc, b"")?;
+        let query = Vec::from_slice(alloc, query)?;
         Ok(Bundle {
-            names,
-            lists: closed,
-            query: Vec::from_slice(alloc, query)?,
+            names: replace(&mut self.names, Vec::new(alloc)),
+            lists: replace(&mut self.closed, Vec::new(alloc)),
+            query,
         })
+    }
+}
+
+/// Whether the list of this number may have an object that was last in the list of another number, or in none. The
+/// first list may have any, the others those of the first, each once.
+fn may_have(before: Option<u8>, number: u8) -> bool
+    ensures { result ≡ ((number == 0 || is_some before) && not (has_number number before)) }
+{
+    match before {
+        Some(before) => before != number,
+        None => number == 0,
     }
 }
 
