@@ -1,5 +1,5 @@
 -- What a query line comes to, from what its query comes to over its lists.
-use Rattle.std.proofs.Common.{◌≡◌, ℕ, zero, suc, ◌<◌, ◌≤◌, inl, inr, true, false, is_none, List, [], ◌∷◌, length, map, All, Contains, Some, None, Ok, Err, IfSome, slice_index_or, refl, sym, ap, ◌∙◌, subst, arith}
+use Rattle.std.proofs.Common.{◌≡◌, ℕ, zero, suc, ◌<◌, ◌≤◌, inl, inr, true, false, is_none, List, [], ◌∷◌, length, map, All, Contains, Some, None, Result, Ok, Err, IfOk, IfSome, slice_index_or, refl, sym, ap, ◌∙◌, subst, arith}
 use Rattle.std.specs.List.{position}
 use Rattle.std.proofs.lemmas.Bool.{cases_lt}
 use Rattle.std.proofs.lemmas.List.{length-map}
@@ -18,8 +18,9 @@ use Rattle.query_core.specs.declared.ready.Ready.{Ready}
 use Rattle.query_core.proofs.ListCount.{lists_counted}
 use Rattle.query_admission.specs.View.{View, AreListed}
 use Rattle.query_admission.specs.Causes.{most_queries, QueryLine, Cause, admission_causes, text_refusal, Over, ListsGive, Gives, NoneOf}
-use Rattle.query_admission.specs.Admission.{RefusesLine, IsAdmitted}
-use Rattle.query_admission.specs.Screening.{list_causes, Screens, Weighs}
+use Rattle.query_admission.specs.Admission.{RefusesLine, IsAdmitted, Admits}
+use Rattle.query_admission.specs.Screening.{list_causes, Screens, Weighs, admitted_as}
+use Rattle.query_admission.specs.declared.admission.Weighed.{Weighed}
 use Rattle.query_admission.specs.declared.admission.Weighed.TheVariants.{Ready as Fits, Refused as NotReady}
 use Rattle.query_admission.specs.declared.lists.Listed.{Listed}
 use Rattle.query_admission.proofs.Positions.{small_size, size_there}
@@ -259,3 +260,9 @@ query_weighed x q refusal few reads weighed =
       | inl unknown ↦ refused_unknown x q refusal unknown.0 few reads unknown.1 unknown.2
       | inr screened ↦ refused_lists_why x q screened.0 refusal (record { few = few; reads = reads; listed = screened.1 }) screened.2
     ]
+
+pub weighed_admits : {E : Type 0} (x : QueryLine) (q : Query) (weighed : Result Weighed E) → x.number ≤ most_queries → Reads x.bytes (Ok q)
+    → IfOk weighed (Weighs x.view q) → IfOk (admitted_as q weighed) (Admits x)
+weighed_admits x q (Ok (Fits count sources)) few reads is = ready_weighed x (record { query = q; count = count; sources = sources }) few reads is
+weighed_admits x q (Ok (NotReady refusal)) few reads is = query_weighed x q refusal few reads is
+weighed_admits x q (Err memory) few reads is = tt

@@ -8,6 +8,8 @@ use Rattle.cert_text.specs.Refusal.{refused_lists}
 use Rattle.query_admission.specs.View.{View, AreListed, is_large, count_of}
 use Rattle.query_admission.specs.Causes.{Cause, ListsGive, NoneOf, IsFirstOf}
 use Rattle.query_admission.specs.declared.lists.Listed.{Listed}
+use Rattle.query_admission.specs.declared.admitted.Admitted.{Admitted}
+use Rattle.query_admission.specs.declared.admitted.Admitted.TheVariants.{Ready as IsReadyNow, Refused}
 use Rattle.query_admission.specs.declared.seek.Sought.{Sought}
 use Rattle.query_admission.specs.declared.seek.Sought.TheVariants.{Known, Unknown}
 use Rattle.query_admission.specs.declared.admission.Weighed.{Weighed}
@@ -39,3 +41,9 @@ Weighs view q (Ready count sources) =
 Weighs view q (NotReady refusal) =
     ((list : ℕ) × (refusal ≡ UnknownList list) × (position is_none (map view.listed q.names) ≡ Some list))
     ⊎ ((lists : List Listed) × AreListed view q lists × Screens q lists (Err refusal))
+
+-- what a query that was weighed comes to, or the want of memory
+abbrev pub admitted_as : {Memory : Type 0} → Query → Result Weighed Memory → Result Admitted Memory
+admitted_as query (Ok (Ready count sources)) = Ok (IsReadyNow (record { query = query; count = count; sources = sources }))
+admitted_as query (Ok (NotReady refusal)) = Ok (Refused refusal (Some query))
+admitted_as query (Err memory) = Err memory

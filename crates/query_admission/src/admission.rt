@@ -4,7 +4,8 @@ ghost use Rattle.std.specs.Prelude.{◌≡◌, ◌≤◌, ◌<◌, ℕ, List, le
 ghost use Rattle.query_text.specs.Reading.{Reads};
 ghost use Rattle.query_admission.specs.Causes.{most_queries, text_refusal};
 ghost use Rattle.query_admission.specs.Admission.{Admits};
-ghost use Rattle.query_admission.specs.Screening.{Weighs};
+ghost use Rattle.query_admission.specs.Screening.{Weighs, admitted_as};
+ghost use Rattle.query_admission.specs.View.{View, AreListed};
 
 use super::Memory;
 use super::admitted::Admitted;
@@ -83,7 +84,15 @@ fn admit_query<L: Lists>(alloc: Global, lists: &L, query: Query) -> Result<Admit
     ensures { (number : ℕ) → (bytes : List ℕ) → number ≤ most_queries → Reads bytes (Ok query)
         → IfOk result (Admits (record { view = L.view lists.now; number = number; bytes = bytes })) }
 {
-    match weigh(alloc, lists, &query) {
+    let weighed = weigh(alloc, lists, &query);
+    admitted_as(query, weighed)
+}
+
+/// What a query that was weighed comes to, or a want of memory.
+fn admitted_as(query: Query, weighed: Result<Weighed, Memory>) -> Result<Admitted, Memory>
+    ensures { result ≡ admitted_as query weighed }
+{
+    match weighed {
         Ok(Weighed::Ready { count, sources }) => Ok(Admitted::Ready(Ready {
             query,
             count,
@@ -93,7 +102,7 @@ fn admit_query<L: Lists>(alloc: Global, lists: &L, query: Query) -> Result<Admit
             refusal,
             query: Some(query),
         }),
-        Err(_) => Err(Memory),
+        Err(memory) => Err(memory),
     }
 }
 
@@ -103,15 +112,21 @@ fn weigh<L: Lists>(alloc: Global, lists: &L, query: &Query) -> Result<Weighed, M
     requires few { length query.now.names ≤ MAX_LISTS }
     ensures { IfOk result (Weighs (L.view lists.now) query.now) }
 {
-    let known = match seek(alloc, lists, &query.names) {
-        Ok(Sought::Known(known)) => known,
-        Ok(Sought::Unknown { list }) => {
-            return Ok(Weighed::Refused(Refusal::UnknownList { list }));
-        }
-        Err(_) => return Err(Memory),
-    };
-    match screen(query, &known) {
-        Ok(count) => match sources_of(alloc, &known) {
+    match seek(alloc, lists, &query.names) {
+        Ok(Sought::Known(known)) => weigh_over(alloc, query, &known),
+        Ok(Sought::Unknown { list }) => Ok(Weighed::Refused(Refusal::UnknownList { list })),
+        Err(_) => Err(Memory),
+    }
+}
+
+/// Weighs a query against what its lists say of themselves.
+fn weigh_over(alloc: Global, query: &Query, known: &[Listed]) -> Result<Weighed, Memory>
+    requires some { 0 < length known.now }
+    requires few { length known.now ≤ MAX_LISTS }
+    ensures { (view : View) → AreListed view query.now known.now → IfOk result (Weighs view query.now) }
+{
+    match screen(query, known) {
+        Ok(count) => match sources_of(alloc, known) {
             Ok(sources) => Ok(Weighed::Ready { count, sources }),
             Err(_) => Err(Memory),
         },
