@@ -13,11 +13,11 @@ use std::alloc::Global;
 fn list_nodes(alloc: Global, lists: u8) -> Result<Vec<Node>, Memory>
     ensures { IfOk result (λ nodes. map tree_of nodes.items ≡ list_trees lists) }
 {
-    let mut nodes = Vec::new(alloc);
+    let Ok(mut nodes) = Vec::with_capacity(alloc, usize::from(lists)) else {
+        return Err(Memory);
+    };
     for list in 0..lists {
-        let Ok(()) = nodes.push(Node::List(list)) else {
-            return Err(Memory);
-        };
+        nodes.push_reserved(Node::List(list));
     }
     Ok(nodes)
 }
@@ -26,15 +26,14 @@ fn list_nodes(alloc: Global, lists: u8) -> Result<Vec<Node>, Memory>
 fn list_weights(alloc: Global, lists: u8) -> Result<Vec<Term>, Memory>
     ensures { IfOk result (λ weights. map term_of weights.items ≡ list_terms lists) }
 {
-    let mut weights = Vec::new(alloc);
+    let Ok(mut weights) = Vec::with_capacity(alloc, usize::from(lists)) else {
+        return Err(Memory);
+    };
     for list in 0..lists {
-        let term = Term {
+        weights.push_reserved(Term {
             weight: u64::from(list) + 1,
             node: Node::List(list),
-        };
-        let Ok(()) = weights.push(term) else {
-            return Err(Memory);
-        };
+        });
     }
     Ok(weights)
 }
@@ -60,12 +59,15 @@ fn made_root(alloc: Global, number: u32, lists: u8) -> Result<Node, Memory>
     requires { 1 ≤ lists }
     ensures { IfOk result (λ root. tree_of root ≡ made_tree number lists) }
 {
+    if number % 5 == 4 {
+        return Ok(Node::Wsum(all_weights(alloc, lists)?));
+    }
+    let grades = all_lists(alloc, lists)?;
     match number % 5 {
-        0 => Ok(Node::Min(all_lists(alloc, lists)?)),
-        1 => Ok(Node::Max(all_lists(alloc, lists)?)),
-        2 => Ok(Node::Sum(all_lists(alloc, lists)?)),
-        3 => Ok(Node::Median(all_lists(alloc, lists)?)),
-        _ => Ok(Node::Wsum(all_weights(alloc, lists)?)),
+        0 => Ok(Node::Min(grades)),
+        1 => Ok(Node::Max(grades)),
+        2 => Ok(Node::Sum(grades)),
+        _ => Ok(Node::Median(grades)),
     }
 }
 

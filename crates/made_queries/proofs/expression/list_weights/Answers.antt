@@ -6,5 +6,11 @@ use Rattle.made_queries.proofs.expression.list_weights.Goals as goal
 
 pub loop-list-preserved : goal.loop-list-preserved
 loop-list-preserved c =
-    grown term_of (λ list. (list + 1, Tree.Grade list)) 0 c.loop-list.list c.loop-list.list c.loop-list.weights.items c.push.new.self.items _ (omega arith) c.loop-list.invariant c.in-Ok.ensures.items
-    (ap (λ n. (n + 1, Tree.Grade c.loop-list.list)) c.from.ensures)
+    let kept = c.loop-list.invariant in
+    let many = kept.many in
+    let room = kept.room in
+    record {
+      terms = grown term_of (λ list. (list + 1, Tree.Grade list)) 0 c.loop-list.list c.loop-list.list c.loop-list.weights.items c.push_reserved.new.self.items _ (omega arith) kept.terms c.push_reserved.ensures.items (ap (λ n. (n + 1, Tree.Grade c.loop-list.list)) c.from-in-loop-list.ensures);
+      many = omega (arith, many, c.push_reserved.ensures.len);
+      room = omega (arith, room, c.push_reserved.ensures.capacity);
+    }
