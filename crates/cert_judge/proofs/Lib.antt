@@ -1,4 +1,5 @@
 pub mod Putting
+pub mod Refusing
 pub mod Making
 pub mod Comparing
 pub mod Telling

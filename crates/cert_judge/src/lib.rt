@@ -10,6 +10,7 @@
 mod counter;
 mod figures;
 mod judging;
+mod refusal;
 mod told;
 mod transcript;
 mod writing;

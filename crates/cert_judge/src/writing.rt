@@ -10,7 +10,9 @@ ghost use Rattle.tk_io.specs.Pieces.{Puts};
 ghost use Rattle.line_text.specs.Lines.{unlines};
 ghost use Rattle.bundle_text.specs.Bundle.{content, section, bundle_lines};
 ghost use Rattle.cert_judge.specs.Text.{refused_line, named, beaten_line, told_text};
+ghost use Rattle.cert_judge.specs.Refusing.{IsJudged};
 
+use super::refusal::{RefusalLine, refusal_of};
 use super::told::Told;
 use bundle_text::Bundle;
 use ranked_list::MemList;
@@ -45,22 +47,6 @@ fn put_refused<K: Sink>(out: &mut K, pieces: &mut Pieces, name: &[u8], fields: &
     pieces.put(out, name);
     put_fields(out, pieces, fields);
     pieces.put(out, b"\n");
-}
-
-/// Puts the line of a refusal with one field behind the bytes that wait.
-fn put_one<K: Sink>(out: &mut K, pieces: &mut Pieces, name: &[u8], field: u64)
-    ensures { Puts (K.held out.old) (K.held out.new) (K.faults out.old) (K.faults out.new) pieces.old pieces.new
-        (refused_line name.now (field ∷ []) ++ 10 ∷ []) }
-{
-    put_refused(out, pieces, name, &[field]);
-}
-
-/// Puts the line of a refusal with two fields behind the bytes that wait.
-fn put_two<K: Sink>(out: &mut K, pieces: &mut Pieces, name: &[u8], first: u64, second: u64)
-    ensures { Puts (K.held out.old) (K.held out.new) (K.faults out.old) (K.faults out.new) pieces.old pieces.new
-        (refused_line name.now (first ∷ second ∷ []) ++ 10 ∷ []) }
-{
-    put_refused(out, pieces, name, &[first, second]);
 }
 
 /// Puts a word and its number behind the bytes that wait.
@@ -116,25 +102,13 @@ fn put_bundle<K: Sink>(out: &mut K, pieces: &mut Pieces, bundle: &Bundle)
     pieces.put(out, b"\n");
 }
 
-/// Puts what is told behind the bytes that wait.
-fn put_told<K: Sink>(out: &mut K, pieces: &mut Pieces, told: &Told)
+/// Puts whether the answer is fixed behind the bytes that wait: `fixes`, or the lines of a beaten answer.
+fn put_judged<K: Sink>(out: &mut K, pieces: &mut Pieces, told: &Told)
+    requires { IsJudged told.now }
     ensures { Puts (K.held out.old) (K.held out.new) (K.faults out.old) (K.faults out.new) pieces.old pieces.new
         (told_text told.now) }
 {
     match told {
-        Told::BadLine { line } => put_one(out, pieces, b"BadLine", *line),
-        Told::Inconsistent { at, kind } => {
-            put_two(out, pieces, b"Inconsistent", *at, u64::from(*kind));
-        }
-        Told::WildGuess { at } => put_one(out, pieces, b"WildGuess", *at),
-        Told::WrongSize { given, k } => {
-            put_two(out, pieces, b"WrongSize", u64::from(*given), u64::from(*k));
-        }
-        Told::UnseenAnswer { object } => {
-            put_one(out, pieces, b"UnseenAnswer", u64::from(*object));
-        }
-        Told::Figure { line } => put_one(out, pieces, b"Figure", *line),
-        Told::Fixes => pieces.put(out, b"fixes\n"),
         Told::Beaten {
             inside,
             outside,
@@ -145,6 +119,19 @@ fn put_told<K: Sink>(out: &mut K, pieces: &mut Pieces, told: &Told)
             put_beaten(out, pieces, *inside, *low, *outside, *high);
             put_bundle(out, pieces, counter);
         }
+        _ => pieces.put(out, b"fixes\n"),
+    }
+}
+
+/// Puts what is told behind the bytes that wait.
+fn put_told<K: Sink>(out: &mut K, pieces: &mut Pieces, told: &Told)
+    ensures { Puts (K.held out.old) (K.held out.new) (K.faults out.old) (K.faults out.new) pieces.old pieces.new
+        (told_text told.now) }
+{
+    match refusal_of(told) {
+        Some(RefusalLine::One(name, fields)) => put_refused(out, pieces, name, &fields),
+        Some(RefusalLine::Two(name, fields)) => put_refused(out, pieces, name, &fields),
+        None => put_judged(out, pieces, told),
     }
 }
 
