@@ -1,7 +1,7 @@
 //! A shelf of files.
 
-ghost use Rattle.std.specs.Prelude.{◌≡◌, ◌≤◌, [], true, ℕ, List, vec_len, IfOk};
-ghost use Rattle.source_api.specs.declared.source.Trouble.TheVariants.{Garbled};
+ghost use Rattle.std.specs.Prelude.{◌≡◌, ◌≤◌, [], true, ℕ, List, vec_len, IfErr, IfOk, OnErr, OnOk};
+ghost use Rattle.source_api.specs.declared.source.Trouble.TheVariants.{Garbled, Memory};
 ghost use Rattle.source_api.specs.Counting.{no_counts};
 ghost use Rattle.source_api.specs.Places.{counts_at, is_known, SameElsewhere, CountsTexts, CountsTakes, HasTextCause, HasTakeCause, text_limit};
 
@@ -12,7 +12,7 @@ use std::alloc::Global;
 use std::fs;
 use std::marker::Model;
 use std::rt::Files;
-use tk_io::{ReadError, StdIntake, read_text};
+use tk_io::{Intake, ReadError, StdIntake, read_text};
 
 /// The files of a place in the file system, read whole at each call. A place is a path, relative to
 /// the working directory. A file that is missing, a folder, or a file of more than 16,777,216 bytes
@@ -67,20 +67,37 @@ impl<'a, R: Files> Shelf for FileShelf<'a, R> {
     }
 
     fn take(&mut self, alloc: Global, place: &str) -> Result<FileSource, Trouble> {
-        match read_source(alloc, self.files, place) {
-            Ok(source) => match self.ledger.know(alloc, place) {
-                Ok(()) => Ok(source),
-                Err(_) => {
-                    drop(source);
-                    Err(Trouble::Memory)
-                }
-            },
-            Err(trouble) => Err(count_take(&mut self.ledger, alloc, place, trouble)),
+        match take_text(&mut self.ledger, alloc, self.files, place) {
+            Ok(text) => source_of(alloc, &text),
+            Err(trouble) => Err(trouble),
         }
     }
 
     fn put_back(&mut self, place: &str, item: FileSource) {
         self.ledger.add_source(place, item.counts());
+    }
+}
+
+/// Reads the file that a source is to be taken of, and makes room for what is counted of its place. A
+/// call that failed is counted.
+fn take_text<R: Files>(
+    ledger: &mut Ledger,
+    alloc: Global,
+    files: &R,
+    place: &str,
+) -> Result<Vec<u8>, Trouble>
+    ensures known { (other : List ℕ) → is_known ledger.old other ≡ true → is_known ledger.new other ≡ true }
+    ensures elsewhere { SameElsewhere place.now (counts_at ledger.old) (counts_at ledger.new) }
+    ensures counts { CountsTakes (counts_at ledger.old place.now) (counts_at ledger.new place.now) }
+    ensures cause { IfErr result (HasTakeCause (counts_at ledger.old place.now) (counts_at ledger.new place.now)) }
+    ensures knows { OnOk result (is_known ledger.new place.now ≡ true) }
+{
+    match read_file(alloc, files, place) {
+        Ok(text) => match ledger.know(alloc, place) {
+            Ok(()) => Ok(text),
+            Err(_) => Err(Trouble::Memory),
+        },
+        Err(trouble) => Err(count_take(ledger, alloc, place, trouble)),
     }
 }
 
@@ -126,19 +143,28 @@ pub fn read_file<R: Files>(alloc: Global, files: &R, place: &str) -> Result<Vec<
         return Err(Trouble::Failed);
     };
     let mut input = StdIntake::make(file);
-    match read_text(alloc, &mut input, MAX_LIST_TEXT) {
+    read_whole(alloc, &mut input)
+}
+
+/// Reads a list's text to its end. A text that can't be read, or one of more than 16,777,216 bytes,
+/// is `Failed`.
+fn read_whole<I: Intake>(alloc: Global, input: &mut I) -> Result<Vec<u8>, Trouble>
+    ensures within { IfOk result (λ text. vec_len text ≤ text_limit) }
+    ensures sound { result ≡ Err Garbled → ⊥ }
+{
+    match read_text(alloc, input, MAX_LIST_TEXT) {
         Ok(text) => Ok(text),
         Err(ReadError::Memory) => Err(Trouble::Memory),
         Err(_) => Err(Trouble::Failed),
     }
 }
 
-/// Reads a list file whole, as a source.
-fn read_source<R: Files>(alloc: Global, files: &R, place: &str) -> Result<FileSource, Trouble>
+/// The source over the text of a list file.
+fn source_of(alloc: Global, text: &[u8]) -> Result<FileSource, Trouble>
     ensures fresh { IfOk result (λ source. source.counts ≡ no_counts) }
+    ensures refused { OnErr result (result ≡ Err Memory) }
 {
-    let text = read_file(alloc, files, place)?;
-    match FileSource::open(alloc, &text) {
+    match FileSource::open(alloc, text) {
         Ok(source) => Ok(source),
         Err(_) => Err(Trouble::Memory),
     }
