@@ -4,6 +4,7 @@ ghost use Rattle.std.specs.Prelude.{◌≡◌, All, Contains, length, map, rever
 ghost use Rattle.source_api.specs.Places.{SameAtEach};
 ghost use Rattle.catalog_open.specs.Openings.{IsKnownAt, KeepsOthers, PutsBack, put_back};
 
+use super::entries::place_of;
 use catalog_text::Catalog;
 use source_api::Shelf;
 
@@ -22,9 +23,6 @@ pub fn put_back_all<H: Shelf>(
     ensures moves { PutsBack (reverse (put_back catalog.now places.now (map H.Item.counts sources.items))) (H.at shelf.old) (H.at shelf.new) }
 {
     while let Some(source) = sources.pop() {
-        let Some(entry) = catalog.get(places[sources.len()]) else {
-            unreachable!();
-        };
-        shelf.put_back(entry.place.as_str(), source);
+        shelf.put_back(place_of(catalog, places[sources.len()]), source);
     }
 }

@@ -2,6 +2,7 @@
 #![tactic(auto)]
 
 mod closing;
+mod entries;
 mod opened;
 mod opening;
 

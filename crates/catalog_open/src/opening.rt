@@ -9,6 +9,7 @@ ghost use Rattle.catalog_open.specs.Openings.{Counted, AddsSources, AreOpened, G
 ghost use Rattle.catalog_open.specs.declared.opened.Opening.TheVariants as Opening;
 
 use super::Memory;
+use super::entries::place_of;
 use super::opened::{Opened, Opening};
 use catalog_text::Catalog;
 use limits::MAX_OBJECTS;
@@ -168,13 +169,10 @@ fn open_next<H: Shelf>(
         → AreOpened lists catalog.now (IsMarked marks) before (H.at shelf.new) opened.new.openings.items
         (record { told = map H.Item.list sources.new.items; places = opened.new.places.items; counts = opened.new.counts.items }) }
 {
-    let Some(entry) = catalog.get(place) else {
-        unreachable!();
-    };
     let Ok(()) = make_room(opened, sources) else {
         return Err(Memory);
     };
-    let Ok(found) = open_source(alloc, shelf, entry.place.as_str()) else {
+    let Ok(found) = open_source(alloc, shelf, place_of(catalog, place)) else {
         return Err(Memory);
     };
     match found {

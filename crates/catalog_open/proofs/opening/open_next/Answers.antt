@@ -1,20 +1,16 @@
 use Rattle.std.proofs.Common.{◌∷◌, [], ◌++◌, length, map, ap, ◌∙◌, refl, sym, subst, arith}
 use Rattle.std.proofs.lemmas.List.{map-append}
-use Rattle.ranked_list.proofs.Members.{past_end}
-use Rattle.catalog_text.specs.Listed.{listed}
 use Rattle.catalog_open.specs.Entries.{IsMarked}
 use Rattle.catalog_open.specs.Openings.{IsToldAs}
-use Rattle.catalog_open.proofs.Opens.{both_longer, entry_place, known_more, known_same, match_none, match_some, one_longer, opened_as, opened_tried, opened_not, opened_some}
+use Rattle.catalog_open.proofs.Opens.{both_longer, known_more, known_same, match_none, match_some, one_longer, opened_as, opened_tried, opened_not, opened_some}
 use Rattle.catalog_open.proofs.Unread.{if_some, reads_here, reads_more, reads_nothing}
 use Rattle.catalog_open.proofs.opening.open_next.Goals as goal
 
-pub unreachable-requires : goal.unreachable-requires
-unreachable-requires g c =
-    let past = past_end c.args.catalog.now c.args.place (sym c.in_default.ensures) in
-    omega (arith, past, c.requires.place)
+pub place_of-requires : goal.place_of-requires
+place_of-requires g c = c.requires.place
 
-pub returns-in_default-make_room : goal.returns-in_default-make_room
-returns-in_default-make_room g c = record {
+pub returns-in_default : goal.returns-in_default
+returns-in_default g c = record {
   texts = λ place. refl;
   lists = λ place. refl;
   next = tt;
@@ -33,18 +29,18 @@ returns-in_default-open_source g c = record {
   many = ap length c.make_room.ensures.sources ∙ c.requires.many ∙ ap length (sym c.make_room.ensures.places);
   few = let same = ap length c.make_room.ensures.sources in let few = c.requires.few in omega (arith, same, few);
   known = λ all. known_same c.args.catalog.now (g.H.Shelf.knows c.args.shelf.now) (g.H.Shelf.knows c.open_source.new.shelf) c.args.opened.now.places.items c.make_room.new.opened.places.items c.open_source.ensures.known c.make_room.ensures.places all;
-  unread = reads_here c.as_str.result.now (g.H.Shelf.at c.args.shelf.now) (g.H.Shelf.at c.open_source.new.shelf) _ _ c.open_source.ensures.elsewhere c.open_source.ensures.back
+  unread = reads_here c.place_of.result.now (g.H.Shelf.at c.args.shelf.now) (g.H.Shelf.at c.open_source.new.shelf) _ _ c.open_source.ensures.elsewhere c.open_source.ensures.back
       (ap (map g.H.Item.Source.counts) c.make_room.ensures.sources);
   opened = λ lists marks before same marked are.
-      let at = entry_place c.args.catalog.now c.args.place (listed c.in-Some.entry.now) c.as_str.result.now c.in-Some.ensures c.as_str.ensures.value in
+      let at = sym c.place_of.ensures in
       let made = opened_as lists c.args.catalog.now (IsMarked marks) before (g.H.Shelf.at c.args.shelf.now) _ _ _ _ _ _ _ _ c.make_room.ensures.openings (ap (map g.H.Item.Source.list) c.make_room.ensures.sources) c.make_room.ensures.places c.make_room.ensures.counts are in
-      opened_tried lists c.args.catalog.now (IsMarked marks) before (g.H.Shelf.at c.args.shelf.now) (g.H.Shelf.at c.open_source.new.shelf) c.args.place c.as_str.result.now _ _ marked at c.open_source.ensures.elsewhere c.open_source.ensures.moves made;
+      opened_tried lists c.args.catalog.now (IsMarked marks) before (g.H.Shelf.at c.args.shelf.now) (g.H.Shelf.at c.open_source.new.shelf) c.args.place c.place_of.result.now _ _ marked at c.open_source.ensures.elsewhere c.open_source.ensures.moves made;
 }
 
-pub returns-in-Some-found : goal.returns-in-Some-found
-returns-in-Some-found g c =
-    let at = entry_place c.args.catalog.now c.args.place (listed c.in-Some.entry.now) c.as_str.result.now c.in-Some.ensures c.as_str.ensures.value in
-    let opens = match_some c.in-Ok-open_source.found _ _ c.in-Some-found.taken c.in-Ok-open_source.ensures.opens c.in-Some-found.is in
+pub returns-in-Some : goal.returns-in-Some
+returns-in-Some g c =
+    let at = sym c.place_of.ensures in
+    let opens = match_some c.in-Ok-open_source.found _ _ c.in-Some.taken c.in-Ok-open_source.ensures.opens c.in-Some.is in
     record {
       texts = c.open_source.ensures.texts;
       lists = c.open_source.ensures.lists;
@@ -54,18 +50,18 @@ returns-in-Some-found g c =
           let long = one_longer c.args.sources.now.items c.make_room.new.sources.items c.put_open.new.sources.items _ _ c.make_room.ensures.sources c.put_open.ensures.sources refl in
           let few = c.requires.few in
           omega (arith, long, few);
-      known = λ all. known_more c.args.catalog.now (g.H.Shelf.knows c.args.shelf.now) (g.H.Shelf.knows c.open_source.new.shelf) c.args.opened.now.places.items _ _ c.args.place c.as_str.result.now c.open_source.ensures.known c.requires.place at opens.0 c.make_room.ensures.places c.put_open.ensures.places all;
+      known = λ all. known_more c.args.catalog.now (g.H.Shelf.knows c.args.shelf.now) (g.H.Shelf.knows c.open_source.new.shelf) c.args.opened.now.places.items _ _ c.args.place c.place_of.result.now c.open_source.ensures.known c.requires.place at opens.0 c.make_room.ensures.places c.put_open.ensures.places all;
       unread =
-          let unread = if_some c.in-Ok-open_source.found _ c.in-Some-found.taken c.in-Ok-open_source.ensures.unread c.in-Some-found.is in
-          reads_more c.as_str.result.now (g.H.Shelf.at c.args.shelf.now) (g.H.Shelf.at c.open_source.new.shelf) _ _ (g.H.Item.Source.counts c.in-Some-found.taken.source) c.open_source.ensures.elsewhere c.open_source.ensures.back unread
-          (ap (map g.H.Item.Source.counts) c.put_open.ensures.sources ∙ map-append g.H.Item.Source.counts c.make_room.new.sources.items (c.in-Some-found.taken.source ∷ [])
-          ∙ ap (λ xs. map g.H.Item.Source.counts xs ++ g.H.Item.Source.counts c.in-Some-found.taken.source ∷ []) c.make_room.ensures.sources);
+          let unread = if_some c.in-Ok-open_source.found _ c.in-Some.taken c.in-Ok-open_source.ensures.unread c.in-Some.is in
+          reads_more c.place_of.result.now (g.H.Shelf.at c.args.shelf.now) (g.H.Shelf.at c.open_source.new.shelf) _ _ (g.H.Item.Source.counts c.in-Some.taken.source) c.open_source.ensures.elsewhere c.open_source.ensures.back unread
+          (ap (map g.H.Item.Source.counts) c.put_open.ensures.sources ∙ map-append g.H.Item.Source.counts c.make_room.new.sources.items (c.in-Some.taken.source ∷ [])
+          ∙ ap (λ xs. map g.H.Item.Source.counts xs ++ g.H.Item.Source.counts c.in-Some.taken.source ∷ []) c.make_room.ensures.sources);
       opened = λ lists marks before same marked are.
-          let told = subst (λ l. IsToldAs l (g.H.Item.Source.list c.in-Some-found.taken.source) c.in-Some-found.taken.size) (same c.as_str.result.now) opens.1 in
+          let told = subst (λ l. IsToldAs l (g.H.Item.Source.list c.in-Some.taken.source) c.in-Some.taken.size) (same c.place_of.result.now) opens.1 in
           let made = opened_as lists c.args.catalog.now (IsMarked marks) before (g.H.Shelf.at c.args.shelf.now) _ _ _ _ _ _ _ _ c.make_room.ensures.openings (ap (map g.H.Item.Source.list) c.make_room.ensures.sources) c.make_room.ensures.places c.make_room.ensures.counts are in
-          opened_some lists c.args.catalog.now (IsMarked marks) before (g.H.Shelf.at c.args.shelf.now) (g.H.Shelf.at c.open_source.new.shelf) c.args.place c.in-Some-found.taken.size _ c.as_str.result.now _ _ _ _ (g.H.Item.Source.list c.in-Some-found.taken.source) _ _ _ _
+          opened_some lists c.args.catalog.now (IsMarked marks) before (g.H.Shelf.at c.args.shelf.now) (g.H.Shelf.at c.open_source.new.shelf) c.args.place c.in-Some.taken.size _ c.place_of.result.now _ _ _ _ (g.H.Item.Source.list c.in-Some.taken.source) _ _ _ _
           marked c.requires.place (ap length c.make_room.ensures.openings ∙ c.requires.next) (ap length c.make_room.ensures.sources ∙ c.requires.many ∙ ap length (sym c.make_room.ensures.places)) at c.open_source.ensures.elsewhere c.open_source.ensures.moves told
-          c.put_open.ensures.openings (ap (map g.H.Item.Source.list) c.put_open.ensures.sources ∙ map-append g.H.Item.Source.list c.make_room.new.sources.items (c.in-Some-found.taken.source ∷ [])) c.put_open.ensures.places c.put_open.ensures.counts made;
+          c.put_open.ensures.openings (ap (map g.H.Item.Source.list) c.put_open.ensures.sources ∙ map-append g.H.Item.Source.list c.make_room.new.sources.items (c.in-Some.taken.source ∷ [])) c.put_open.ensures.places c.put_open.ensures.counts made;
     }
 
 pub returns-in-None : goal.returns-in-None
@@ -76,11 +72,11 @@ returns-in-None g c = record {
   many = ap length c.make_room.ensures.sources ∙ c.requires.many ∙ ap length (sym c.make_room.ensures.places);
   few = let same = ap length c.make_room.ensures.sources in let few = c.requires.few in omega (arith, same, few);
   known = λ all. known_same c.args.catalog.now (g.H.Shelf.knows c.args.shelf.now) (g.H.Shelf.knows c.open_source.new.shelf) c.args.opened.now.places.items c.make_room.new.opened.places.items c.open_source.ensures.known c.make_room.ensures.places all;
-  unread = reads_here c.as_str.result.now (g.H.Shelf.at c.args.shelf.now) (g.H.Shelf.at c.open_source.new.shelf) _ _ c.open_source.ensures.elsewhere c.open_source.ensures.back
+  unread = reads_here c.place_of.result.now (g.H.Shelf.at c.args.shelf.now) (g.H.Shelf.at c.open_source.new.shelf) _ _ c.open_source.ensures.elsewhere c.open_source.ensures.back
       (ap (map g.H.Item.Source.counts) c.make_room.ensures.sources);
   opened = λ lists marks before same marked are.
-      let at = entry_place c.args.catalog.now c.args.place (listed c.in-Some.entry.now) c.as_str.result.now c.in-Some.ensures c.as_str.ensures.value in
+      let at = sym c.place_of.ensures in
       let trouble = match_none c.in-Ok-open_source.found _ _ c.in-Ok-open_source.ensures.opens c.in-None.is in
       let made = opened_as lists c.args.catalog.now (IsMarked marks) before (g.H.Shelf.at c.args.shelf.now) _ _ _ _ _ _ _ _ c.make_room.ensures.openings (ap (map g.H.Item.Source.list) c.make_room.ensures.sources) c.make_room.ensures.places c.make_room.ensures.counts are in
-      opened_not lists c.args.catalog.now (IsMarked marks) before (g.H.Shelf.at c.args.shelf.now) (g.H.Shelf.at c.open_source.new.shelf) c.args.place c.as_str.result.now _ _ _ marked (ap length c.make_room.ensures.openings ∙ c.requires.next) at c.open_source.ensures.elsewhere c.open_source.ensures.moves trouble c.push_reserved.ensures.items made;
+      opened_not lists c.args.catalog.now (IsMarked marks) before (g.H.Shelf.at c.args.shelf.now) (g.H.Shelf.at c.open_source.new.shelf) c.args.place c.place_of.result.now _ _ _ marked (ap length c.make_room.ensures.openings ∙ c.requires.next) at c.open_source.ensures.elsewhere c.open_source.ensures.moves trouble c.push_reserved.ensures.items made;
 }
