@@ -1,6 +1,6 @@
 //! The machines of all algorithms under one set of calls.
 
-ghost use Rattle.std.specs.Prelude.{◌≡◌, ◌≤◌, None, [], IfOk, OnOk};
+ghost use Rattle.std.specs.Prelude.{◌≡◌, ◌≤◌, true, [], IfSome, OnOk};
 ghost use Rattle.access_log.specs.Log.{IsWithinLimits};
 ghost use Rattle.access_log.specs.Machine.{MachineState, MayBeNextRow, MayBeNextGrade, IsOneMore, IsOfSeen, row_access, grade_access};
 
@@ -11,7 +11,6 @@ use monotone_fn::{Costs, Expr};
 use nra_core::Nra;
 use ranked_list::{Need, Row};
 use std::alloc::Global;
-use std::test::Fail;
 use ta_core::Ta;
 
 /// How many objects are asked for, how many there are and may be kept, and what an access costs.
@@ -31,14 +30,14 @@ pub struct Terms {
 pub trait Driven: Sized {
     ghost state: { Self → MachineState };
 
-    /// The machine of an expression, before any access.
-    fn begin(alloc: Global, expr: Expr, terms: Terms) -> Result<Self, Fail>
+    /// The machine of an expression, before any access, or None where no memory is left.
+    fn begin(alloc: Global, expr: Expr, terms: Terms) -> Option<Self>
         requires asked { 1 ≤ terms.k }
         requires fits { terms.k ≤ terms.count }
         requires few { terms.count ≤ MAX_OBJECTS }
         requires roomy { 1 ≤ terms.room }
         requires paid { 1 ≤ terms.costs.sorted }
-        ensures { IfOk result (λ machine. (state machine).log.accesses ≡ []) };
+        ensures { IfSome result (λ machine. (state machine).log.accesses ≡ []) };
 
     /// What is needed next.
     fn needed(&self) -> Need
@@ -51,16 +50,16 @@ pub trait Driven: Sized {
         ensures limits { IsWithinLimits result (state self.now).log.count };
 
     /// Takes the row that is needed, or says why not.
-    fn take_row(&mut self, row: Row) -> Option<CoreFault>
+    fn take_row(&mut self, row: Row) -> Result<(), CoreFault>
         requires { MayBeNextRow (state self.old).log (state self.old).need row }
-        ensures { result ≡ None
-            → IsOneMore (row_access (state self.old).need row) (state self.old).log (state self.new).log };
-
-    /// Takes the grade that is needed.
-    fn take_grade(&mut self, grade: u32) -> Result<(), Fail>
-        requires { MayBeNextGrade (state self.old).log (state self.old).need grade }
         ensures { OnOk result
-            (IsOneMore (grade_access (state self.old).need grade) (state self.old).log (state self.new).log) };
+            (IsOneMore (row_access (state self.old).need row) (state self.old).log (state self.new).log) };
+
+    /// Takes the grade that is needed, if the machine is one that needs grades.
+    fn take_grade(&mut self, grade: u32) -> bool
+        requires { MayBeNextGrade (state self.old).log (state self.old).need grade }
+        ensures { result ≡ true
+            → IsOneMore (grade_access (state self.old).need grade) (state self.old).log (state self.new).log };
 
     /// The answer, or None where no memory is left.
     fn finish(self) -> Option<Answer>
@@ -73,14 +72,11 @@ pub trait Driven: Sized {
 impl Driven for Ta {
     ghost state = { λ t. t };
 
-    fn begin(alloc: Global, expr: Expr, terms: Terms) -> Result<Ta, Fail> {
-        let Terms {
-            k,
-            count,
-            room,
-            costs,
-        } = terms;
-        Ok(Ta::make(alloc, expr, k, count, room, costs)?)
+    fn begin(alloc: Global, expr: Expr, terms: Terms) -> Option<Ta> {
+        match Ta::make(alloc, expr, terms.k, terms.count, terms.room, terms.costs) {
+            Ok(machine) => Some(machine),
+            Err(_) => None,
+        }
     }
 
     fn needed(&self) -> Need {
@@ -91,13 +87,13 @@ impl Driven for Ta {
         self.transcript().lists()
     }
 
-    fn take_row(&mut self, row: Row) -> Option<CoreFault> {
-        self.feed_row(row).err()
+    fn take_row(&mut self, row: Row) -> Result<(), CoreFault> {
+        self.feed_row(row)
     }
 
-    fn take_grade(&mut self, grade: u32) -> Result<(), Fail> {
+    fn take_grade(&mut self, grade: u32) -> bool {
         self.feed_grade(grade);
-        Ok(())
+        true
     }
 
     fn finish(self) -> Option<Answer> {
@@ -112,14 +108,11 @@ impl Driven for Ta {
 impl Driven for Nra {
     ghost state = { λ t. t };
 
-    fn begin(alloc: Global, expr: Expr, terms: Terms) -> Result<Nra, Fail> {
-        let Terms {
-            k,
-            count,
-            room,
-            costs,
-        } = terms;
-        Ok(Nra::make(alloc, expr, k, count, room, costs)?)
+    fn begin(alloc: Global, expr: Expr, terms: Terms) -> Option<Nra> {
+        match Nra::make(alloc, expr, terms.k, terms.count, terms.room, terms.costs) {
+            Ok(machine) => Some(machine),
+            Err(_) => None,
+        }
     }
 
     fn needed(&self) -> Need {
@@ -130,12 +123,12 @@ impl Driven for Nra {
         self.transcript().lists()
     }
 
-    fn take_row(&mut self, row: Row) -> Option<CoreFault> {
-        self.feed_row(row).err()
+    fn take_row(&mut self, row: Row) -> Result<(), CoreFault> {
+        self.feed_row(row)
     }
 
-    fn take_grade(&mut self, _grade: u32) -> Result<(), Fail> {
-        Err("a row or the end".into())
+    fn take_grade(&mut self, _grade: u32) -> bool {
+        false
     }
 
     fn finish(self) -> Option<Answer> {
@@ -150,14 +143,11 @@ impl Driven for Nra {
 impl Driven for Ca {
     ghost state = { λ t. t };
 
-    fn begin(alloc: Global, expr: Expr, terms: Terms) -> Result<Ca, Fail> {
-        let Terms {
-            k,
-            count,
-            room,
-            costs,
-        } = terms;
-        Ok(Ca::make(alloc, expr, k, count, room, costs)?)
+    fn begin(alloc: Global, expr: Expr, terms: Terms) -> Option<Ca> {
+        match Ca::make(alloc, expr, terms.k, terms.count, terms.room, terms.costs) {
+            Ok(machine) => Some(machine),
+            Err(_) => None,
+        }
     }
 
     fn needed(&self) -> Need {
@@ -168,13 +158,13 @@ impl Driven for Ca {
         self.transcript().lists()
     }
 
-    fn take_row(&mut self, row: Row) -> Option<CoreFault> {
-        self.feed_row(row).err()
+    fn take_row(&mut self, row: Row) -> Result<(), CoreFault> {
+        self.feed_row(row)
     }
 
-    fn take_grade(&mut self, grade: u32) -> Result<(), Fail> {
+    fn take_grade(&mut self, grade: u32) -> bool {
         self.feed_grade(grade);
-        Ok(())
+        true
     }
 
     fn finish(self) -> Option<Answer> {

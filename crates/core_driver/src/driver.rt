@@ -1,16 +1,26 @@
 //! One driver for all machines.
 
-ghost use Rattle.std.specs.Prelude.{◌≡◌, ◌≤◌, ◌<◌, None, [], IfOk, IfSome};
+ghost use Rattle.std.specs.Prelude.{◌≡◌, ◌≤◌, ◌<◌, [], Contains, IfSome, OnOk};
+ghost use Rattle.topk_theory.specs.Transcript.{seen_objects};
 ghost use Rattle.core_driver.specs.Wide.{IsWide};
 
 use super::driven::{Driven, Terms};
 use access_log::{Access, Answer, CoreFault, Transcript};
+use monotone_fn::Expr;
 use query_reading::read;
 use query_text::Query;
 use ranked_list::{Need, Row};
 use std::alloc::Global;
-use std::test::Fail;
 use test_support::Lists;
+
+/// Why a query has no answer.
+#[derive(Clone, Copy)]
+pub enum NoAnswer {
+    /// The machine refuses a row.
+    Refused(CoreFault),
+    /// The text is no query over a few objects, the lists lack what is needed, or no memory is left.
+    Unasked,
+}
 
 fn row_at(lists: Lists<'_>, list: u8, depth: u32) -> Option<Row> {
     let rows = lists.get(list as usize)?;
@@ -31,96 +41,120 @@ fn grade_of(lists: Lists<'_>, list: u8, object: u32) -> Option<u32> {
     grade_in(lists.get(list as usize)?, object)
 }
 
-/// Feeds a machine what it needs from the lists, and says why it refused it. What is fed is tried first
-/// on a transcript of many objects, for which none is one too many.
-fn feed<M: Driven>(
+/// Feeds a machine the row that it needs. What is fed is tried first on a transcript of many objects, for which none is one too many.
+fn feed_row<M: Driven>(
     machine: &mut M,
     wide: &mut Transcript,
-    lists: Lists<'_>,
-) -> Result<Option<CoreFault>, Fail>
-    requires { IsWide wide.old (M.state machine.old).log }
-    ensures { IfOk result (λ fault. fault ≡ None → IsWide wide.new (M.state machine.new).log) }
+    list: u8,
+    depth: u32,
+    row: Row,
+) -> Result<(), NoAnswer>
+    requires wide { IsWide wide.old (M.state machine.old).log }
+    requires need { (M.state machine.old).need ≡ Need.Row list depth }
+    ensures { OnOk result (IsWide wide.new (M.state machine.new).log) }
 {
-    match machine.needed() {
-        Need::Row { list, depth } => {
-            let row = row_at(lists, list, depth).ok_or("a row")?;
-            wide.push(Access::Sorted {
-                list,
-                object: row.object,
-                grade: row.grade,
-            })?;
-            Ok(machine.take_row(row))
-        }
-        Need::Grade { list, object } => {
-            let grade = grade_of(lists, list, object).ok_or("a grade")?;
-            wide.push(Access::Random {
-                list,
-                object,
-                grade,
-            })?;
-            machine.take_grade(grade)?;
-            Ok(None)
-        }
-        Need::Done => Ok(None),
+    let Ok(()) = wide.push(Access::Sorted {
+        list,
+        object: row.object,
+        grade: row.grade,
+    }) else {
+        return Err(NoAnswer::Unasked);
+    };
+    match machine.take_row(row) {
+        Ok(()) => Ok(()),
+        Err(fault) => Err(NoAnswer::Refused(fault)),
     }
 }
 
-/// Feeds a machine from the lists until it needs nothing more, and says why it refused a row.
+/// Feeds a machine the grade that it needs, which is tried first in the same way.
+fn feed_grade<M: Driven>(
+    machine: &mut M,
+    wide: &mut Transcript,
+    list: u8,
+    object: u32,
+    grade: u32,
+) -> Result<(), NoAnswer>
+    requires wide { IsWide wide.old (M.state machine.old).log }
+    requires need { (M.state machine.old).need ≡ Need.Grade list object }
+    requires seen { Contains (seen_objects (M.state machine.old).log.accesses) object }
+    ensures { OnOk result (IsWide wide.new (M.state machine.new).log) }
+{
+    let Ok(()) = wide.push(Access::Random {
+        list,
+        object,
+        grade,
+    }) else {
+        return Err(NoAnswer::Unasked);
+    };
+    if machine.take_grade(grade) {
+        Ok(())
+    } else {
+        Err(NoAnswer::Unasked)
+    }
+}
+
+/// Feeds a machine what it needs from the lists.
+fn feed<M: Driven>(machine: &mut M, wide: &mut Transcript, lists: Lists<'_>) -> Result<(), NoAnswer>
+    requires { IsWide wide.old (M.state machine.old).log }
+    ensures { OnOk result (IsWide wide.new (M.state machine.new).log) }
+{
+    match machine.needed() {
+        Need::Row { list, depth } => match row_at(lists, list, depth) {
+            Some(row) => feed_row(machine, wide, list, depth, row),
+            None => Err(NoAnswer::Unasked),
+        },
+        Need::Grade { list, object } => match grade_of(lists, list, object) {
+            Some(grade) => feed_grade(machine, wide, list, object, grade),
+            None => Err(NoAnswer::Unasked),
+        },
+        Need::Done => Ok(()),
+    }
+}
+
+/// Feeds a machine from the lists until it needs nothing more.
 fn feed_until_done<M: Driven>(
     machine: &mut M,
     wide: &mut Transcript,
     lists: Lists<'_>,
-) -> Result<Option<CoreFault>, Fail>
+) -> Result<(), NoAnswer>
     requires { IsWide wide.old (M.state machine.old).log }
-    ensures { IfOk result (λ fault. fault ≡ None → (M.state machine.new).need ≡ Need.Done) }
+    ensures { OnOk result ((M.state machine.new).need ≡ Need.Done) }
 {
     for _step in 0..1000 {
         if machine.needed() == Need::Done {
-            return Ok(None);
+            return Ok(());
         }
-        if let Some(fault) = feed(machine, wide, lists)? {
-            return Ok(Some(fault));
-        }
+        feed(machine, wide, lists)?;
     }
-    Err("an end".into())
+    Err(NoAnswer::Unasked)
 }
 
 /// The same of a machine that was fed nothing.
-fn feed_all<M: Driven>(
-    alloc: Global,
-    machine: &mut M,
-    lists: Lists<'_>,
-) -> Result<Option<CoreFault>, Fail>
+fn feed_all<M: Driven>(alloc: Global, machine: &mut M, lists: Lists<'_>) -> Result<(), NoAnswer>
     requires { (M.state machine.old).log.accesses ≡ [] }
-    ensures { IfOk result (λ fault. fault ≡ None → (M.state machine.new).need ≡ Need.Done) }
+    ensures { OnOk result ((M.state machine.new).need ≡ Need.Done) }
 {
-    let mut wide = Transcript::make(alloc, machine.lists(), 200_000)?;
+    let Ok(mut wide) = Transcript::make(alloc, machine.lists(), 200_000) else {
+        return Err(NoAnswer::Unasked);
+    };
     let outcome = feed_until_done(machine, &mut wide, lists);
     drop(wide);
     outcome
 }
 
 /// Feeds a machine from the lists until it answers or refuses a row.
-fn drive<M: Driven>(
-    alloc: Global,
-    machine: M,
-    lists: Lists<'_>,
-) -> Result<Result<Answer, CoreFault>, Fail>
+fn drive<M: Driven>(alloc: Global, machine: M, lists: Lists<'_>) -> Result<Answer, NoAnswer>
     requires { (M.state machine).log.accesses ≡ [] }
 {
     let mut machine = machine;
     match feed_all(alloc, &mut machine, lists) {
-        Ok(None) => match machine.finish() {
-            Some(answer) => Ok(Ok(answer)),
-            None => Err("memory".into()),
+        Ok(()) => match machine.finish() {
+            Some(answer) => Ok(answer),
+            None => Err(NoAnswer::Unasked),
         },
-        Ok(Some(fault)) => {
+        Err(why) => {
             machine.let_go();
-            Ok(Err(fault))
-        }
-        Err(fail) => {
-            machine.let_go();
-            Err(fail)
+            Err(why)
         }
     }
 }
@@ -146,21 +180,36 @@ fn terms_of(query: &Query, lists: Lists<'_>) -> Option<Terms>
     if are_terms { Some(terms) } else { None }
 }
 
-/// The outcome of a query's text over lists, the first of which has as many objects as are counted, by a machine.
-pub fn run<M: Driven>(
+/// The answer to an expression on these terms, by a machine.
+fn run_on<M: Driven>(
     alloc: Global,
-    text: &str,
+    expr: Expr,
+    terms: Terms,
     lists: Lists<'_>,
-) -> Result<Result<Answer, CoreFault>, Fail> {
-    let query = read(alloc, text.as_bytes())?;
+) -> Result<Answer, NoAnswer>
+    requires k { (1 ≤ terms.k) × (terms.k ≤ terms.count) }
+    requires count { terms.count < 10 }
+    requires paid { (1 ≤ terms.room) × (1 ≤ terms.costs.sorted) }
+{
+    match M::begin(alloc, expr, terms) {
+        Some(machine) => drive(alloc, machine, lists),
+        None => Err(NoAnswer::Unasked),
+    }
+}
+
+/// The answer to a query's text over lists, the first of which has as many objects as are counted, by a machine.
+pub fn run<M: Driven>(alloc: Global, text: &str, lists: Lists<'_>) -> Result<Answer, NoAnswer> {
+    let Ok(query) = read(alloc, text.as_bytes()) else {
+        return Err(NoAnswer::Unasked);
+    };
     let terms = terms_of(&query, lists);
     let Query { names, expr, .. } = query;
     drop(names);
     match terms {
-        Some(terms) => drive(alloc, M::begin(alloc, expr, terms)?, lists),
+        Some(terms) => run_on::<M>(alloc, expr, terms, lists),
         None => {
             drop(expr);
-            Err("a query over a few objects".into())
+            Err(NoAnswer::Unasked)
         }
     }
 }

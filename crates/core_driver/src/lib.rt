@@ -5,4 +5,4 @@ mod driven;
 mod driver;
 
 pub use driven::{Driven, Terms};
-pub use driver::{let_go, run};
+pub use driver::{NoAnswer, let_go, run};
