@@ -1,11 +1,10 @@
 //! Queries with what is wanted of them.
 
 use access_log::{Access, Answer, CoreFault, Transcript};
-use core_driver::{Driven, let_go, run};
+use core_driver::{Driven, NoAnswer, let_go, run};
 use monotone_fn::Costs;
 use ranked_list::{Item, Items};
 use std::alloc::Global;
-use std::test::Fail;
 use test_support::Lists;
 
 /// Which accesses are wanted.
@@ -136,54 +135,48 @@ fn is_as(answer: &Answer, case: &Case) -> bool {
 }
 
 /// Whether a machine answers a query as it is wanted.
-fn is_answered<M: Driven>(alloc: Global, case: &Case) -> Result<bool, Fail> {
-    match run::<M>(alloc, case.text, case.lists)? {
+fn is_answered<M: Driven>(alloc: Global, case: &Case) -> bool {
+    match run::<M>(alloc, case.text, case.lists) {
         Ok(answer) => {
             let is_so = is_as(&answer, case);
             let_go(answer);
-            Ok(is_so)
+            is_so
         }
-        Err(_) => Ok(false),
+        Err(_) => false,
     }
 }
 
 /// The number of the first query that a machine answers otherwise.
-pub fn first_wrong<M: Driven>(alloc: Global, cases: &[Case]) -> Result<Option<usize>, Fail> {
+pub fn first_wrong<M: Driven>(alloc: Global, cases: &[Case]) -> Option<usize> {
     for (number, case) in cases.iter().enumerate() {
-        if !is_answered::<M>(alloc, case)? {
-            return Ok(Some(number));
+        if !is_answered::<M>(alloc, case) {
+            return Some(number);
         }
     }
-    Ok(None)
+    None
 }
 
 /// A query's text, its lists, and why a row of them is refused.
 pub type FaultCase = (&'static str, Lists<'static>, CoreFault);
 
 /// Why a machine refuses a row, if it does.
-fn fault_of<M: Driven>(
-    alloc: Global,
-    text: &str,
-    lists: Lists<'_>,
-) -> Result<Option<CoreFault>, Fail> {
-    match run::<M>(alloc, text, lists)? {
+fn fault_of<M: Driven>(alloc: Global, text: &str, lists: Lists<'_>) -> Option<CoreFault> {
+    match run::<M>(alloc, text, lists) {
         Ok(answer) => {
             let_go(answer);
-            Ok(None)
+            None
         }
-        Err(fault) => Ok(Some(fault)),
+        Err(NoAnswer::Refused(fault)) => Some(fault),
+        Err(NoAnswer::Unasked) => None,
     }
 }
 
 /// The number of the first query of which a machine refuses no row, or refuses it otherwise.
-pub fn first_wrong_fault<M: Driven>(
-    alloc: Global,
-    cases: &[FaultCase],
-) -> Result<Option<usize>, Fail> {
+pub fn first_wrong_fault<M: Driven>(alloc: Global, cases: &[FaultCase]) -> Option<usize> {
     for (number, (text, lists, fault)) in cases.iter().enumerate() {
-        if fault_of::<M>(alloc, text, lists)? != Some(*fault) {
-            return Ok(Some(number));
+        if fault_of::<M>(alloc, text, lists) != Some(*fault) {
+            return Some(number);
         }
     }
-    Ok(None)
+    None
 }
