@@ -1,12 +1,12 @@
 //! The shelf of real files.
 
+use super::none_is_wrong;
 use file_source::FileShelf;
 use source_api::{Shelf, Trouble};
 use source_support::{Step, first_wrong};
 use std::alloc::Global;
 use std::fs;
 use std::rt::Files;
-use std::test::Fail;
 
 /// A folder for the files.
 const FOLDER: &str = "list_file_tests_shelf";
@@ -25,20 +25,51 @@ const TOO_LONG: &str = "list_file_tests_shelf/long.csv";
 /// What the source of the list answers.
 const STEPS: &[Step] = &[Step::Size(2), Step::Page(0, 5, Ok(&[(1, 9), (2, 8)]))];
 
-/// Writes a file of so many line breaks.
-fn write_breaks<R: Files>(alloc: Global, files: &R, place: &str, bytes: usize) -> Result<(), Fail> {
-    let mut text = Vec::new(alloc);
-    text.resize(bytes, b'\n')?;
-    fs::write(files, place, text.as_slice())?;
-    Ok(())
+/// What a shelf gives at a place.
+#[derive(Clone, Copy)]
+enum Gives {
+    /// A text of so many bytes.
+    Text(usize),
+    /// The source of the list.
+    List,
+    /// Neither a text nor a source.
+    Nothing,
 }
 
-/// Writes the files into a new folder.
-fn write_files<R: Files>(alloc: Global, files: &R) -> Result<(), Fail> {
-    fs::create_dir(files, FOLDER)?;
-    fs::write(files, LIST, b"1,9\n2,8\n".as_slice())?;
-    write_breaks(alloc, files, MOST, 16_777_216)?;
-    write_breaks(alloc, files, TOO_LONG, 16_777_217)
+/// The text and the source of the list, nothing at a file that is missing, at a folder and at no place, the text of the longest file,
+/// and nothing at one that is longer.
+static PLACES: [(&str, Gives); 7] = [
+    (LIST, Gives::Text(8)),
+    (LIST, Gives::List),
+    (MISSING, Gives::Nothing),
+    (FOLDER, Gives::Nothing),
+    ("", Gives::Nothing),
+    (MOST, Gives::Text(16_777_216)),
+    (TOO_LONG, Gives::Nothing),
+];
+
+/// Whether a text could be written as a file.
+fn is_written<R: Files>(files: &R, place: &str, text: &[u8]) -> bool {
+    fs::write(files, place, text).is_ok()
+}
+
+/// Whether a file of so many line breaks could be written.
+fn are_breaks_written<R: Files>(alloc: Global, files: &R, place: &str, bytes: usize) -> bool {
+    let mut text = Vec::new(alloc);
+    text.resize(bytes, b'\n').is_ok() && is_written(files, place, text.as_slice())
+}
+
+/// Whether the files could be written into a new folder.
+fn are_files_written<R: Files>(alloc: Global, files: &R) -> bool {
+    fs::create_dir(files, FOLDER).is_ok()
+        && is_written(files, LIST, b"1,9\n2,8\n")
+        && are_breaks_written(alloc, files, MOST, 16_777_216)
+        && are_breaks_written(alloc, files, TOO_LONG, 16_777_217)
+}
+
+/// Takes the folder away with its files, and says whether there was one.
+fn clear<R: Files>(files: &R) -> bool {
+    fs::remove_dir_all(files, FOLDER).is_ok()
 }
 
 /// How a text is answered: by so many bytes, or by none.
@@ -53,7 +84,7 @@ fn text_length<R: Files>(
     }
 }
 
-/// Whether the shelf gives a source of two rows at the place, which is put back.
+/// Whether the shelf gives the source of the list at the place, which is put back.
 fn gives_list<R: Files>(alloc: Global, shelf: &mut FileShelf<'_, R>, place: &str) -> bool {
     match shelf.take(alloc, place) {
         Ok(mut source) => {
@@ -65,42 +96,62 @@ fn gives_list<R: Files>(alloc: Global, shelf: &mut FileShelf<'_, R>, place: &str
     }
 }
 
-/// Whether neither a text nor a source is given at the place.
-fn gives_nothing<R: Files>(alloc: Global, shelf: &mut FileShelf<'_, R>, place: &str) -> bool {
-    let has_text = text_length(alloc, shelf, place) != Err(Trouble::Failed);
-    let has_source = match shelf.take(alloc, place) {
+/// Whether the shelf fails to give a source at the place.
+fn gives_no_source<R: Files>(alloc: Global, shelf: &mut FileShelf<'_, R>, place: &str) -> bool {
+    match shelf.take(alloc, place) {
         Ok(source) => {
-            drop(source);
-            true
+            shelf.put_back(place, source);
+            false
         }
-        Err(trouble) => trouble != Trouble::Failed,
-    };
-    !has_text && !has_source
+        Err(trouble) => trouble == Trouble::Failed,
+    }
 }
 
-/// Whether the text and the list of a file are given, nothing at a file that is missing, at a folder and at no place, the text of the
-/// longest file, and nothing at one that is longer.
-fn read_by<R: Files>(alloc: Global, files: &R) -> [bool; 7] {
+/// Whether the shelf gives this at the place.
+fn gives<R: Files>(
+    alloc: Global,
+    shelf: &mut FileShelf<'_, R>,
+    place: &str,
+    what: Gives,
+) -> bool {
+    match what {
+        Gives::Text(bytes) => text_length(alloc, shelf, place) == Ok(bytes),
+        Gives::List => gives_list(alloc, shelf, place),
+        Gives::Nothing => {
+            text_length(alloc, shelf, place) == Err(Trouble::Failed)
+                && gives_no_source(alloc, shelf, place)
+        }
+    }
+}
+
+/// The number of the first place at which a shelf gives something else.
+fn first_other<R: Files>(
+    alloc: Global,
+    shelf: &mut FileShelf<'_, R>,
+    places: &[(&str, Gives)],
+) -> Option<usize> {
+    for (number, (place, what)) in places.iter().enumerate() {
+        if !gives(alloc, shelf, place, *what) {
+            return Some(number);
+        }
+    }
+    None
+}
+
+/// The same of the shelf of real files.
+fn first_other_file<R: Files>(alloc: Global, files: &R) -> Option<usize> {
     let mut shelf = FileShelf::make(alloc, files);
-    let are_so = [
-        text_length(alloc, &mut shelf, LIST) == Ok(8),
-        gives_list(alloc, &mut shelf, LIST),
-        gives_nothing(alloc, &mut shelf, MISSING),
-        gives_nothing(alloc, &mut shelf, FOLDER),
-        gives_nothing(alloc, &mut shelf, ""),
-        text_length(alloc, &mut shelf, MOST) == Ok(16_777_216),
-        gives_nothing(alloc, &mut shelf, TOO_LONG),
-    ];
+    let other = first_other(alloc, &mut shelf, &PLACES);
     drop(shelf);
-    are_so
+    other
 }
 
 #[test]
-fn reads_files_that_are_not_too_long(rt: HostRuntime) -> Result<(), Fail> {
-    let _ = fs::remove_dir_all(&rt, FOLDER);
-    write_files(rt.alloc(), &rt)?;
-    let are_so = read_by(rt.alloc(), &rt);
-    fs::remove_dir_all(&rt, FOLDER)?;
-    assert_eq!(rt; are_so, [true; 7]);
-    Ok(())
+fn reads_files_that_are_not_too_long(rt: HostRuntime) {
+    clear(&rt);
+    let are_written = are_files_written(rt.alloc(), &rt);
+    let other = first_other_file(rt.alloc(), &rt);
+    let is_cleared = clear(&rt);
+    none_is_wrong(&rt, other);
+    assert!(rt; are_written && is_cleared);
 }
