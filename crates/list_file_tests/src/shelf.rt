@@ -68,19 +68,20 @@ fn are_files_written<R: Files>(alloc: Global, files: &R) -> bool {
 }
 
 /// Takes the folder away with its files, and says whether there was one.
-fn clear<R: Files>(files: &R) -> bool {
+fn clear<R: Alloc + Files>(files: &R) -> bool {
     fs::remove_dir_all(files, FOLDER).is_ok()
 }
 
-/// How a text is answered: by so many bytes, or by none.
-fn text_length<R: Files>(
+/// Whether the shelf answers with a text of so many bytes at the place, or with this trouble.
+fn gives_text<R: Files>(
     alloc: Global,
     shelf: &mut FileShelf<'_, R>,
     place: &str,
-) -> Result<usize, Trouble> {
+    bytes: Result<usize, Trouble>,
+) -> bool {
     match shelf.text(alloc, place) {
-        Ok(text) => Ok(text.len()),
-        Err(trouble) => Err(trouble),
+        Ok(text) => bytes == Ok(text.len()),
+        Err(trouble) => bytes == Err(trouble),
     }
 }
 
@@ -108,17 +109,17 @@ fn gives_no_source<R: Files>(alloc: Global, shelf: &mut FileShelf<'_, R>, place:
 }
 
 /// Whether the shelf gives this at the place.
-fn gives<R: Files>(
+fn gives_so<R: Files>(
     alloc: Global,
     shelf: &mut FileShelf<'_, R>,
     place: &str,
     what: Gives,
 ) -> bool {
     match what {
-        Gives::Text(bytes) => text_length(alloc, shelf, place) == Ok(bytes),
+        Gives::Text(bytes) => gives_text(alloc, shelf, place, Ok(bytes)),
         Gives::List => gives_list(alloc, shelf, place),
         Gives::Nothing => {
-            text_length(alloc, shelf, place) == Err(Trouble::Failed)
+            gives_text(alloc, shelf, place, Err(Trouble::Failed))
                 && gives_no_source(alloc, shelf, place)
         }
     }
@@ -131,7 +132,7 @@ fn first_other<R: Files>(
     places: &[(&str, Gives)],
 ) -> Option<usize> {
     for (number, (place, what)) in places.iter().enumerate() {
-        if !gives(alloc, shelf, place, *what) {
+        if !gives_so(alloc, shelf, place, *what) {
             return Some(number);
         }
     }
