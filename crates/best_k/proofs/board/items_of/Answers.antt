@@ -1,6 +1,8 @@
-use Rattle.std.proofs.Common.{◌<◌, ◌++◌, [], ◌∷◌, List, Vec, Global, length, sym, ap, ◌∙◌, arith}
+use Rattle.std.proofs.Common.{◌<◌, ◌≤◌, ◌++◌, [], ◌∷◌, List, Vec, Global, length, sym, ap, ◌∙◌, arith}
+use Rattle.std.proofs.lemmas.List.{take_all}
 use Rattle.ranked_list.specs.declared.item.Item.{Item}
 use Rattle.best_k.specs.Rank.{item_of}
+use Rattle.best_k.specs.Kept.{items_in}
 use Rattle.best_k.proofs.Rising.{items_more, items_same}
 use Rattle.best_k.proofs.board.items_of.Goals as goal
 use Rattle.best_k.proofs.board.items_of.Goals.{in-Some+in-Ok, in_default}
@@ -19,3 +21,12 @@ loop-place-preserved c =
           ∙ sym (items_more top place w.in-Some.rank within at)
       | in_default w ↦ ap (λ (v : Vec Item Global). v.items) w.items-is ∙ c.loop-place.invariant ∙ sym (items_same top place within (sym c.get.ensures ∙ w.in_default.is))
     ]
+
+pub loop-place-init : goal.loop-place-init
+loop-place-init c = c.requires
+
+pub returns : goal.returns
+returns c =
+    let top = c.args.top.now in
+    let all : length top ≤ c.loop-place.place = omega arith in
+    c.loop-place.invariant ∙ ap items_in (take_all c.loop-place.place top all)
