@@ -20,6 +20,9 @@ pub fn open_lock(
     let state = SourceState::open(alloc, source, count)?;
     match TurnLock::open(alloc, state) {
         Ok(opened) => Ok(opened),
-        Err(_) => Err(Memory),
+        Err(state) => {
+            drop(state);
+            Err(Memory)
+        }
     }
 }
