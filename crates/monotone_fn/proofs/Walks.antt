@@ -1,5 +1,5 @@
 -- A walk over the nodes of a tree: what it needs of the children of a node, and what it tells of the node.
-use Rattle.std.proofs.Common.{◌≡◌, ℕ, suc, ◌+◌, ◌*◌, ◌-◌, ◌^◌, ◌<◌, ◌≤◌, Bool, true, false, cond, ltb, List, [], ◌∷◌, ◌++◌, length, get_or, drop, sum, Option, Some, None, All, refl, sym, ap, ◌∙◌, subst, arith, length-append, append_assoc, leb, min, replicate, rules}
+use Rattle.std.proofs.Common.{◌≡◌, ℕ, zero, suc, ◌+◌, ◌*◌, ◌-◌, ◌^◌, ◌<◌, ◌≤◌, Bool, true, false, cond, ltb, List, [], ◌∷◌, ◌++◌, length, get_or, map, drop, sum, Option, Some, None, All, refl, sym, ap, ◌∙◌, subst, arith, length-append, append_assoc, leb, min, replicate, rules}
 use Rattle.std.specs.List.{position_from}
 use Rattle.std.specs.Bool.{then_some}
 use Rattle.std.specs.Prelude.{IsSome, is_some}
@@ -8,7 +8,11 @@ use Rattle.std.proofs.lemmas.List.Sums.{sum_by-cons}
 use Rattle.std.proofs.lemmas.Bool.{false≢true, ltb-false, ltb-true, leb-false, leb-true, lt-ltb, cond-true, cond-false}
 use Rattle.std.proofs.lemmas.List.Elements.{All-nil, All-cons, All-head, All-tail}
 use Rattle.monotone_fn.specs.Tree.{Tree, Trees, Terms}
-use Rattle.monotone_fn.specs.Shape.{nodes_of, nodes_below, nodes_in, nodes_under}
+use Rattle.monotone_fn.specs.Shape.{nodes_of, nodes_below, nodes_in, nodes_under, depth}
+use Rattle.monotone_fn.specs.Falls.{deepest, deepest_term}
+use Rattle.monotone_fn.specs.Shown.{tree_of, term_of}
+use Rattle.monotone_fn.specs.declared.node.Node.{Node}
+use Rattle.monotone_fn.specs.declared.node.Term.{Term}
 use Rattle.monotone_fn.specs.Value.{value, values, products}
 use Rattle.monotone_fn.specs.Limits.{passes, Passes, top_value, AreGrades}
 use Rattle.monotone_fn.proofs.Laws.{value-le-top_value, nodes_of-below}
@@ -139,6 +143,19 @@ Passes-checked x t before e v r h is =
 pub drop-item : {A : Type 0} (xs : List A) (i : ℕ) (x : A) → i < length xs → x ≡ get_or xs i x → drop i xs ≡ x ∷ drop (i + 1) xs
 drop-item xs i x h e =
     drop-cons xs i x h ∙ (λ j. sym e j ∷ drop (suc i) xs) ∙ (let n : suc i ≡ i + 1 = omega arith in ap (λ k. x ∷ drop k xs) n)
+
+-- an item nests no deeper than the deepest
+pub item_depth : (items : List Node) (i : ℕ) (node : Node) → i < length items → node ≡ get_or items i node
+    → depth (tree_of node) ≤ deepest (map tree_of items)
+item_depth [] i node h e = absurd (omega arith)
+item_depth (n ∷ items) zero node h e = omega (arith, ap (λ (m : Node). depth (tree_of m)) e)
+item_depth (n ∷ items) (suc i) node h e = omega (arith, item_depth items i node (omega arith) e)
+
+pub term_depth : (items : List Term) (i : ℕ) (term : Term) → i < length items → term ≡ get_or items i term
+    → depth (tree_of term.node) ≤ deepest_term (map term_of items)
+term_depth [] i term h e = absurd (omega arith)
+term_depth (u ∷ items) zero term h e = omega (arith, ap (λ (m : Term). depth (tree_of m.node)) e)
+term_depth (u ∷ items) (suc i) term h e = omega (arith, term_depth items i term (omega arith) e)
 
 pub values-room : (x vs : List ℕ) (all : Trees) (t : Tree) (rest : Trees) → vs ++ values (Trees.tree_then t rest) x ≡ values all x
     → length vs < length (nodes_in all) + 1

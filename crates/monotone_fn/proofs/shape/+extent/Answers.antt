@@ -4,10 +4,12 @@ use Rattle.monotone_fn.specs.Tree.{Tree, trees, terms}
 use Rattle.monotone_fn.specs.Shape.{nodes_in, nodes_under, depth, depth_in, depth_under, list_count, list_count_in, list_count_under}
 use Rattle.monotone_fn.specs.Limits.{counted}
 use Rattle.monotone_fn.specs.Shown.{tree_of, term_of}
+use Rattle.monotone_fn.specs.Falls.{deepest, deepest_term}
+use Rattle.monotone_fn.specs.NodesFall.{deep-Node-le}
 use Rattle.monotone_fn.specs.declared.node.Node.{Node}
 use Rattle.monotone_fn.specs.declared.node.Term.{Term}
 use Rattle.monotone_fn.proofs.Extents.{nodes_more, terms_more, deeper, greater}
-use Rattle.monotone_fn.proofs.Walks.{drop-item}
+use Rattle.monotone_fn.proofs.Walks.{drop-item, item_depth, term_depth}
 use Rattle.monotone_fn.proofs.shape.+extent.Goals as goal
 
 pub extent_of_nodes-loop-node-preserved : goal.extent_of_nodes-loop-node-preserved
@@ -117,3 +119,19 @@ extent_of_terms-returns-clause-lists t c =
     let none = drop_all c.loop-term.term-index c.deref-term-items.result.now (omega arith) in
     let lists = subst (λ (left : List Term). max e.lists (list_count_under (terms (map term_of left))) ≡ list_count_under all) none c.loop-term.invariant.lists in
     omega (arith, lists)
+
+pub extent_of_nodes-extent_of-requires : goal.extent_of_nodes-extent_of-requires
+extent_of_nodes-extent_of-requires t c =
+    let items = c.deref-node-items.result.now in
+    let node = c.node-item.result in
+    let shown : map tree_of items ≡ c.args.nodes.now = ap (map tree_of) c.deref-node-items.ensures.value ∙ c.nodes.view_is in
+    let deep = item_depth items c.loop-node.node-index node c.loop-node-test.true c.node-item.is in
+    (omega (arith, c.decreases, deep-Node-le node, deep, ap deepest shown), tt)
+
+pub extent_of_terms-extent_of-requires : goal.extent_of_terms-extent_of-requires
+extent_of_terms-extent_of-requires t c =
+    let items = c.deref-term-items.result.now in
+    let term = c.term-item.result in
+    let shown : map term_of items ≡ c.args.weighted.now = ap (map term_of) c.deref-term-items.ensures.value ∙ c.weighted.view_is in
+    let deep = term_depth items c.loop-term.term-index term c.loop-term-test.true c.term-item.is in
+    (omega (arith, c.decreases, deep-Node-le term.node, deep, ap deepest_term shown), tt)

@@ -1,16 +1,27 @@
 -- Each step of a walk over nodes.
-use Rattle.std.proofs.Common.{◌≡◌, ℕ, [], ◌+◌, ◌*◌, ◌-◌, ◌^◌, ◌≤◌, ◌++◌, min, List, length, map, drop, sum, sym, ap, ◌∙◌, subst, arith}
+use Rattle.std.proofs.Common.{◌≡◌, ℕ, [], ◌+◌, ◌*◌, ◌-◌, ◌^◌, ◌<◌, ◌≤◌, ◌++◌, min, List, length, map, drop, sum, sym, ap, ◌∙◌, subst, arith, length-append}
 use Rattle.std.proofs.lemmas.List.{drop_all, append-nil}
+use Rattle.limits.specs.declared.TheConstants.{MAX_NODES}
 use Rattle.monotone_fn.specs.Tree.{Tree, trees, terms}
 use Rattle.monotone_fn.specs.Shape.{nodes_of, nodes_in, nodes_under, list_count_in, list_count_under}
 use Rattle.monotone_fn.specs.Value.{value, values, products}
 use Rattle.monotone_fn.specs.Shown.{tree_of, term_of}
+use Rattle.monotone_fn.specs.Falls.{deepest, deepest_term}
+use Rattle.monotone_fn.specs.NodesFall.{deep-Node-le}
 use Rattle.monotone_fn.specs.declared.node.Node.{Node}
 use Rattle.monotone_fn.specs.declared.node.Term.{Term}
 use Rattle.monotone_fn.proofs.Extremes.{least_kept, greatest_kept}
 use Rattle.monotone_fn.proofs.Summaries.{SummarizesSoFar, summarizes_more, summarizes_all}
-use Rattle.monotone_fn.proofs.Walks.{Walking, Walking-start, Walking-end, Walking-some, Walking-none, Passes-below_none, Passes-checked, drop-item, values-room, values-step, products-step}
+use Rattle.monotone_fn.proofs.Walks.{Walking, Walking-start, Walking-end, Walking-some, Walking-none, Passes-below_none, Passes-checked, drop-item, item_depth, term_depth, values-room, values-step, products-step}
 use Rattle.monotone_fn.proofs.value.+value.Goals as goal
+
+-- what is left of a walk has no more nodes than all, and ends no later
+few_left : (x : List ℕ) (all ns rest : List Tree) (before ended : ℕ) → Walking x all (ns ++ rest) before ended → length all < MAX_NODES → length ns ≤ MAX_NODES
+few_left x all ns rest before ended w few = omega (arith, w.from, w.nodes, length-append ns rest)
+
+room_left : (x : List ℕ) (all ns rest : List Tree) (before ended : ℕ) → Walking x all (ns ++ rest) before ended → before + length all < 2 ^ 32
+    → ended + length ns < 2 ^ 32
+room_left x all ns rest before ended w room = omega (arith, w.from, w.nodes, length-append ns rest)
 
 pub value_at-returns-in_err-value-clause-passes : goal.value_at-returns-in_err-value-clause-passes
 value_at-returns-in_err-value-clause-passes t c =
@@ -212,3 +223,45 @@ weighted_at-returns-clause-passes t c =
     let none = drop_all c.loop-term.term-index c.deref-term-items.result.now (omega arith) in
     Walking-end {A = ℕ} x all c.args.ended.now c.loop-term.ended 0
     (subst (λ (us : List Term). Walking x all (nodes_under (terms (map term_of us))) c.args.ended.now c.loop-term.ended) none c.loop-term.invariant.walking)
+
+pub values_at-value_at-requires : goal.values_at-value_at-requires
+values_at-value_at-requires t c =
+    let x = c.args.grades.now in
+    let all = nodes_in (trees c.args.nodes.now) in
+    let items = c.deref-node-items.result.now in
+    let node = c.node-item.result in
+    let rest = nodes_in (trees (map tree_of (drop (c.loop-node.node-index + 1) items))) in
+    let left = drop-item items c.loop-node.node-index node c.loop-node-test.true c.node-item.is in
+    let lists = subst (λ (ns : List Node). list_count_in (trees (map tree_of ns)) ≤ length x) left c.loop-node.invariant.lists in
+    let walking = subst (λ (ns : List Node). Walking x all (nodes_in (trees (map tree_of ns))) c.args.ended.now c.loop-node.ended) left c.loop-node.invariant.walking in
+    let shown : map tree_of items ≡ c.args.nodes.now = ap (map tree_of) c.deref-node-items.ensures.value ∙ c.nodes.view_is in
+    let deep = item_depth items c.loop-node.node-index node c.loop-node-test.true c.node-item.is in
+    (omega (arith, c.decreases, deep-Node-le node, deep, ap deepest shown), (omega (arith, lists), (few_left x all (nodes_of (tree_of node)) rest c.args.ended.now c.loop-node.ended walking c.requires.few, room_left x all (nodes_of (tree_of node)) rest c.args.ended.now c.loop-node.ended walking c.requires.room)))
+
+pub summary_at-value_at-requires : goal.summary_at-value_at-requires
+summary_at-value_at-requires t c =
+    let x = c.args.grades.now in
+    let all = nodes_in (trees c.args.nodes.now) in
+    let items = c.deref-node-items.result.now in
+    let node = c.node-item.result in
+    let rest = nodes_in (trees (map tree_of (drop (c.loop-node.node-index + 1) items))) in
+    let left = drop-item items c.loop-node.node-index node c.loop-node-test.true c.node-item.is in
+    let lists = subst (λ (ns : List Node). list_count_in (trees (map tree_of ns)) ≤ length x) left c.loop-node.invariant.lists in
+    let walking = subst (λ (ns : List Node). Walking x all (nodes_in (trees (map tree_of ns))) c.args.ended.now c.loop-node.ended) left c.loop-node.invariant.walking in
+    let shown : map tree_of items ≡ c.args.nodes.now = ap (map tree_of) c.deref-node-items.ensures.value ∙ c.nodes.view_is in
+    let deep = item_depth items c.loop-node.node-index node c.loop-node-test.true c.node-item.is in
+    (omega (arith, c.decreases, deep-Node-le node, deep, ap deepest shown), (omega (arith, lists), (few_left x all (nodes_of (tree_of node)) rest c.args.ended.now c.loop-node.ended walking c.requires.few, room_left x all (nodes_of (tree_of node)) rest c.args.ended.now c.loop-node.ended walking c.requires.room)))
+
+pub weighted_at-value_at-requires : goal.weighted_at-value_at-requires
+weighted_at-value_at-requires t c =
+    let x = c.args.grades.now in
+    let all = nodes_under (terms c.args.weighted.now) in
+    let items = c.deref-term-items.result.now in
+    let term = c.term-item.result in
+    let rest = nodes_under (terms (map term_of (drop (c.loop-term.term-index + 1) items))) in
+    let left = drop-item items c.loop-term.term-index term (omega arith) c.term-item.is in
+    let lists = subst (λ (us : List Term). list_count_under (terms (map term_of us)) ≤ length x) left c.loop-term.invariant.lists in
+    let walking = subst (λ (us : List Term). Walking x all (nodes_under (terms (map term_of us))) c.args.ended.now c.loop-term.ended) left c.loop-term.invariant.walking in
+    let shown : map term_of items ≡ c.args.weighted.now = ap (map term_of) c.deref-term-items.ensures.value ∙ c.weighted.view_is in
+    let deep = term_depth items c.loop-term.term-index term c.loop-term-test.true c.term-item.is in
+    (omega (arith, c.decreases, deep-Node-le term.node, deep, ap deepest_term shown), (omega (arith, lists), (few_left x all (nodes_of (tree_of term.node)) rest c.args.ended.now c.loop-term.ended walking c.requires.few, room_left x all (nodes_of (tree_of term.node)) rest c.args.ended.now c.loop-term.ended walking c.requires.room)))
