@@ -1,7 +1,7 @@
 //! What turns bring.
 
 /// What a turn of a fetcher brought.
-#[derive(Clone, Copy, Debug, PartialEq, Eq)]
+#[derive(Clone, Copy, PartialEq, Eq)]
 pub enum Turned {
     /// The source gave a page of so many rows.
     Paged { rows: u32 },
@@ -20,7 +20,7 @@ pub enum Turned {
 }
 
 /// How much a source gave.
-#[derive(Clone, Copy, Debug, PartialEq, Eq)]
+#[derive(Clone, Copy, PartialEq, Eq)]
 pub struct Fetched {
     /// The rows of its pages.
     pub rows: u32,
