@@ -2,7 +2,7 @@
 
 ghost use Rattle.std.specs.Prelude.{◌≡◌, None, All};
 
-use super::runs::{Used, add_slots, run_ends_so};
+use super::runs::{Ran, Used, add_slots, run_ends_so};
 use batch_run::Settings;
 use fetcher::Slot;
 use mem_source::MemSource;
@@ -49,6 +49,27 @@ pub const PLAIN: Settings = Settings {
     ahead: 0,
 };
 
+/// Whether a batch goes so over its slots.
+fn is_run_so<R: Threads + Wait + Sync>(
+    rt: &R,
+    alloc: Global,
+    slots: &mut [Slot<MemSource>],
+    case: &Case,
+) -> Result<bool, Fail>
+    requires { All (λ slot. slot.feeder ≡ None) slots.old }
+{
+    let ran = run_ends_so(
+        rt,
+        alloc,
+        slots,
+        case.counts,
+        case.asked,
+        case.settings,
+        (case.ends, case.used),
+    )?;
+    Ok(ran == Ran::So)
+}
+
 /// Whether a batch goes so over its sources, for which the slots are added.
 fn go_so<R: Threads + Wait + Sync>(
     rt: &R,
@@ -58,18 +79,10 @@ fn go_so<R: Threads + Wait + Sync>(
 ) -> Result<bool, Fail>
     requires { All (λ slot. slot.feeder ≡ None) slots.old.items }
 {
-    add_slots(alloc, case.held, slots)?;
-    let expected = (case.ends, case.used);
-    let so = run_ends_so(
-        rt,
-        alloc,
-        slots,
-        case.counts,
-        case.asked,
-        case.settings,
-        expected,
-    )?;
-    Ok(so == Some(true))
+    match add_slots(alloc, case.held, slots) {
+        Some(()) => is_run_so(rt, alloc, slots, case),
+        None => Err("memory".into()),
+    }
 }
 
 /// Whether a batch goes as it is to.

@@ -5,4 +5,4 @@ mod cases;
 mod runs;
 
 pub use cases::{A, B, Case, PLAIN, ROWS_A, ROWS_B, first_wrong};
-pub use runs::{Used, run_ends_so};
+pub use runs::{Ran, Used, run_ends_so};

@@ -1,12 +1,15 @@
 //! One run of a batch over slots of sources, and what it came to.
 
-ghost use Rattle.std.specs.Prelude.{◌≡◌, true, None, All, OnOk};
+ghost use Rattle.std.specs.Prelude.{◌≡◌, true, None, All, OnSome};
 ghost use Rattle.batch_result.specs.Ranges.{AreSettings};
+ghost use Rattle.query_turns.specs.Made.{IsReadyFor};
 
-use batch_run::{Batch, Memory, Settings, run_all};
+use batch_run::{Batch, Settings, run_all};
 use fetcher::Slot;
 use mem_source::MemSource;
-use query_support::{Asked, Expected, are_small, is_ended_so, let_go, readies_of};
+use query_core::Ready;
+use query_support::{Asked, Expected, are_small, is_ended_so, let_endings_go, let_go, readies_of};
+use query_turns::Endings;
 use source_api::Source;
 use source_support::{Held, source_of};
 use std::alloc::Global;
@@ -17,37 +20,46 @@ use std::thread::Threads;
 /// What is used of a source: the rows and the grades that it gave, the greatest depth that was wanted, and how many objects were asked for.
 pub type Used = (u32, u32, u32, u32);
 
-/// Adds a slot of a source.
-fn add_slot(slots: &mut Vec<Slot<MemSource>>, source: MemSource) -> Result<(), Fail>
-    requires { All (λ slot. slot.feeder ≡ None) slots.old.items }
-    ensures { OnOk result (All (λ slot. slot.feeder ≡ None) slots.new.items) }
-{
-    let slot = Slot::make(source);
-    match slots.push(slot) {
-        Ok(()) => Ok(()),
-        Err(refused) => {
-            drop(refused);
-            Err("memory".into())
-        }
-    }
+/// How a run of a batch went.
+#[derive(Clone, Copy, PartialEq, Eq)]
+pub enum Ran {
+    /// The queries ended as they are to, and as much was used of the sources.
+    So,
+    /// They ended otherwise, or something else was used, or they weren't queries over a few small sources.
+    Otherwise,
+    /// There was no batch, for want of memory.
+    Short,
 }
 
-/// Adds a slot of each source.
+/// Adds a slot of a source. None without memory.
+fn add_slot(alloc: Global, held: &Held, slots: &mut Vec<Slot<MemSource>>) -> Option<()>
+    requires { All (λ slot. slot.feeder ≡ None) slots.old.items }
+    ensures { OnSome result (All (λ slot. slot.feeder ≡ None) slots.new.items) }
+{
+    let Ok(()) = slots.reserve(1) else {
+        return None;
+    };
+    let Some(source) = source_of(alloc, held) else {
+        return None;
+    };
+    let slot = Slot::make(source);
+    slots.push_reserved(slot);
+    Some(())
+}
+
+/// Adds a slot of each source. None without memory.
 pub(crate) fn add_slots(
     alloc: Global,
     held: &[Held],
     slots: &mut Vec<Slot<MemSource>>,
-) -> Result<(), Fail>
+) -> Option<()>
     requires { All (λ slot. slot.feeder ≡ None) slots.old.items }
-    ensures { OnOk result (All (λ slot. slot.feeder ≡ None) slots.new.items) }
+    ensures { OnSome result (All (λ slot. slot.feeder ≡ None) slots.new.items) }
 {
     for one in held {
-        let Some(source) = source_of(alloc, one) else {
-            return Err("memory".into());
-        };
-        add_slot(slots, source)?;
+        add_slot(alloc, one, slots)?;
     }
-    Ok(())
+    Some(())
 }
 
 /// Whether the settings are within their limits.
@@ -59,33 +71,6 @@ fn are_within(settings: Settings) -> bool
         && settings.page >= 1
         && settings.page <= 10_000
         && settings.ahead <= 100
-}
-
-/// Runs queries over sources that have so many objects each.
-fn run_of<R: Threads + Wait + Sync, S: Source>(
-    rt: &R,
-    alloc: Global,
-    slots: &mut [Slot<S>],
-    counts: &[u32],
-    asked: &[Asked],
-    settings: Settings,
-) -> Result<Result<Batch, Memory>, Fail>
-    requires { All (λ slot. slot.feeder ≡ None) slots.old }
-    ensures { All (λ slot. slot.feeder ≡ None) slots.new }
-{
-    let readies = readies_of(alloc, counts, asked)?;
-    if !are_within(settings)
-        || !are_small(counts)
-        || counts.len() > 100
-        || counts.len() != slots.len()
-        || readies.len() > 100
-    {
-        let_go(readies);
-        return Err("a few small sources".into());
-    }
-    let batch = run_all(rt, alloc, slots, counts, &readies, settings);
-    let_go(readies);
-    Ok(batch)
 }
 
 /// Whether the queries ended so, in their order.
@@ -119,8 +104,55 @@ fn are_used_so(batch: &Batch, expected: &[Used]) -> bool {
     true
 }
 
-/// Whether queries that run over sources end so, and so much is used of the first sources. None where there is no batch for want of
-/// memory.
+/// Whether a batch came to this.
+fn is_so(batch: &Batch, ends: &[Expected], used: &[Used]) -> bool {
+    are_ended_so(batch, ends) && are_used_so(batch, used)
+}
+
+/// Lets a batch go.
+fn let_batch_go(batch: Batch) {
+    let count = batch.len();
+    let endings = batch.into_endings();
+    prove!(endings.len() == count as usize);
+    let_endings_go(Endings::from_vec(endings));
+}
+
+/// Whether a batch, which is let go, came to this.
+fn how_ran(batch: Batch, ends: &[Expected], used: &[Used]) -> Ran {
+    let so = is_so(&batch, ends, used);
+    let_batch_go(batch);
+    if so { Ran::So } else { Ran::Otherwise }
+}
+
+/// How queries that are ready run over sources that have so many objects each.
+fn run_ready<R: Threads + Wait + Sync, S: Source>(
+    rt: &R,
+    alloc: Global,
+    slots: &mut [Slot<S>],
+    counts: &[u32],
+    readies: &[Ready],
+    settings: Settings,
+    expected: (&[Expected], &[Used]),
+) -> Ran
+    requires empty { All (λ slot. slot.feeder ≡ None) slots.old }
+    requires ready { All (IsReadyFor counts.now) readies.now }
+    ensures { All (λ slot. slot.feeder ≡ None) slots.new }
+{
+    if !are_within(settings)
+        || !are_small(counts)
+        || counts.len() > 100
+        || counts.len() != slots.len()
+        || readies.len() > 100
+    {
+        return Ran::Otherwise;
+    }
+    match run_all(rt, alloc, slots, counts, readies, settings) {
+        Ok(batch) => how_ran(batch, expected.0, expected.1),
+        Err(_) => Ran::Short,
+    }
+}
+
+/// How queries run over sources that have so many objects each: whether they end so, and so much is used of the first sources.
 pub fn run_ends_so<R: Threads + Wait + Sync, S: Source>(
     rt: &R,
     alloc: Global,
@@ -129,16 +161,12 @@ pub fn run_ends_so<R: Threads + Wait + Sync, S: Source>(
     asked: &[Asked],
     settings: Settings,
     expected: (&[Expected], &[Used]),
-) -> Result<Option<bool>, Fail>
+) -> Result<Ran, Fail>
     requires { All (λ slot. slot.feeder ≡ None) slots.old }
     ensures { All (λ slot. slot.feeder ≡ None) slots.new }
 {
-    let ran = run_of(rt, alloc, slots, counts, asked, settings)?;
-    let Ok(batch) = ran else {
-        return Ok(None);
-    };
-    let (ends, used) = expected;
-    let so = are_ended_so(&batch, ends) && are_used_so(&batch, used);
-    drop(batch);
-    Ok(Some(so))
+    let readies = readies_of(alloc, counts, asked)?;
+    let ran = run_ready(rt, alloc, slots, counts, &readies, settings, expected);
+    let_go(readies);
+    Ok(ran)
 }
