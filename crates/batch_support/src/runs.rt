@@ -1,11 +1,12 @@
 //! One run of a batch over slots of sources, and what it came to.
 
-ghost use Rattle.std.specs.Prelude.{◌≡◌, true, None, All, OnSome};
+ghost use Rattle.std.specs.Prelude.{◌≡◌, ◌≤◌, true, None, All, OnSome, length};
 ghost use Rattle.batch_result.specs.Ranges.{AreSettings};
 ghost use Rattle.query_turns.specs.Made.{IsReadyFor};
 
 use batch_run::{Batch, Settings, run_all};
 use fetcher::Slot;
+use limits::MAX_OBJECTS;
 use mem_source::MemSource;
 use query_core::Ready;
 use query_support::{Asked, Expected, are_small, is_ended_so, let_endings_go, let_go, readies_of};
@@ -73,6 +74,15 @@ fn are_within(settings: Settings) -> bool
         && settings.ahead <= 100
 }
 
+/// Whether the sources are few and small, and the queries few.
+fn are_few(counts: &[u32], sources: usize, queries: usize) -> bool
+    ensures sources { result ≡ true → (length counts.now ≡ sources) × (sources ≤ 100) }
+    ensures counts { result ≡ true → All (λ count. count ≤ MAX_OBJECTS) counts.now }
+    ensures queries { result ≡ true → queries ≤ 100 }
+{
+    counts.len() == sources && sources <= 100 && queries <= 100 && are_small(counts)
+}
+
 /// Whether the queries ended so, in their order.
 fn are_ended_so(batch: &Batch, expected: &[Expected]) -> bool {
     if batch.len() as usize != expected.len() {
@@ -138,12 +148,7 @@ fn run_ready<R: Threads + Wait + Sync, S: Source>(
     requires ready { All (IsReadyFor counts.now) readies.now }
     ensures { All (λ slot. slot.feeder ≡ None) slots.new }
 {
-    if !are_within(settings)
-        || !are_small(counts)
-        || counts.len() > 100
-        || counts.len() != slots.len()
-        || readies.len() > 100
-    {
+    if !are_within(settings) || !are_few(counts, slots.len(), readies.len()) {
         return Ran::Otherwise;
     }
     match run_all(rt, alloc, slots, counts, readies, settings) {
