@@ -1,10 +1,10 @@
 //! Batches over sources that wait, as plain data.
 
-ghost use Rattle.std.specs.Prelude.{◌≡◌, None, All, OnOk};
+ghost use Rattle.std.specs.Prelude.{◌≡◌, None, All, OnSome};
 
 use super::waiting::{Call, Gate, Gated};
 use batch_run::Settings;
-use batch_support::{Used, run_ends_so};
+use batch_support::{Ran, Used, run_ends_so};
 use fetcher::Slot;
 use query_support::{Asked, Expected};
 use source_api::Trouble;
@@ -44,58 +44,51 @@ fn no_calls() -> [AtomicU64; 3] {
     [AtomicU64::new(0), AtomicU64::new(0), AtomicU64::new(0)]
 }
 
-/// A source that waits, with its number.
-fn waiting<'a>(
+/// Adds a slot of a source that waits, with its number. None without memory.
+fn add_slot<'a>(
     alloc: Global,
     waiter: &Waiter,
     pages: &'a [AtomicU64],
     number: usize,
-) -> Result<Gated<'a>, Fail> {
-    match source_of(alloc, &waiter.0) {
-        Some(rows) => Ok(Gated::make(rows, pages, number, waiter.1)),
-        None => Err("memory".into()),
-    }
-}
-
-/// Adds a slot of a source.
-fn add_slot<'a>(slots: &mut Vec<Slot<Gated<'a>>>, source: Gated<'a>) -> Result<(), Fail>
+    slots: &mut Vec<Slot<Gated<'a>>>,
+) -> Option<()>
     requires { All (λ slot. slot.feeder ≡ None) slots.old.items }
-    ensures { OnOk result (All (λ slot. slot.feeder ≡ None) slots.new.items) }
+    ensures { OnSome result (All (λ slot. slot.feeder ≡ None) slots.new.items) }
 {
-    let slot = Slot::make(source);
-    match slots.push(slot) {
-        Ok(()) => Ok(()),
-        Err(refused) => {
-            drop(refused);
-            Err("memory".into())
-        }
-    }
+    let Ok(()) = slots.reserve(1) else {
+        return None;
+    };
+    let Some(rows) = source_of(alloc, &waiter.0) else {
+        return None;
+    };
+    let slot = Slot::make(Gated::make(rows, pages, number, waiter.1));
+    slots.push_reserved(slot);
+    Some(())
 }
 
-/// Adds a slot of each source. The calls for their pages are counted in `pages`, by their numbers.
+/// Adds a slot of each source. The calls for their pages are counted in `pages`, by their numbers. None without memory.
 fn add_slots<'a>(
     alloc: Global,
     waiters: &[Waiter],
     pages: &'a [AtomicU64],
     slots: &mut Vec<Slot<Gated<'a>>>,
-) -> Result<(), Fail>
+) -> Option<()>
     requires { All (λ slot. slot.feeder ≡ None) slots.old.items }
-    ensures { OnOk result (All (λ slot. slot.feeder ≡ None) slots.new.items) }
+    ensures { OnSome result (All (λ slot. slot.feeder ≡ None) slots.new.items) }
 {
     for (number, waiter) in waiters.iter().enumerate() {
-        let source = waiting(alloc, waiter, pages, number)?;
-        add_slot(slots, source)?;
+        add_slot(alloc, waiter, pages, number, slots)?;
     }
-    Ok(())
+    Some(())
 }
 
-/// Whether the queries of a batch end so over its sources, whatever is used of them, None where there is no batch for want of memory.
-fn end_so<R: Threads + Wait + Sync>(
+/// How the queries of a batch run over its sources, whatever is used of them.
+fn run_so<R: Threads + Wait + Sync>(
     rt: &R,
     alloc: Global,
     slots: &mut [Slot<Gated>],
     case: &Case,
-) -> Result<Option<bool>, Fail>
+) -> Result<Ran, Fail>
     requires { All (λ slot. slot.feeder ≡ None) slots.old }
     ensures { All (λ slot. slot.feeder ≡ None) slots.new }
 {
@@ -128,6 +121,49 @@ enum Runs {
     Twice,
 }
 
+/// Whether a batch goes so over its slots.
+fn goes_once<R: Threads + Wait + Sync>(
+    rt: &R,
+    alloc: Global,
+    slots: &mut [Slot<Gated>],
+    case: &Case,
+) -> Result<bool, Fail>
+    requires { All (λ slot. slot.feeder ≡ None) slots.old }
+{
+    let ran = run_so(rt, alloc, slots, case)?;
+    Ok(ran == Ran::So && faults_of(slots) == case.faults)
+}
+
+/// Whether a batch wants memory at first, and goes so over the same slots where it is run again.
+fn goes_twice<R: Threads + Wait + Sync>(
+    rt: &R,
+    alloc: Global,
+    slots: &mut [Slot<Gated>],
+    case: &Case,
+) -> Result<bool, Fail>
+    requires { All (λ slot. slot.feeder ≡ None) slots.old }
+{
+    let first = run_so(rt, alloc, slots, case)?;
+    let second = run_so(rt, alloc, slots, case)?;
+    Ok(first == Ran::Short && second == Ran::So)
+}
+
+/// Whether a batch goes so over its slots, so often.
+fn is_run_so<R: Threads + Wait + Sync>(
+    rt: &R,
+    alloc: Global,
+    slots: &mut [Slot<Gated>],
+    case: &Case,
+    runs: Runs,
+) -> Result<bool, Fail>
+    requires { All (λ slot. slot.feeder ≡ None) slots.old }
+{
+    match runs {
+        Runs::Once => goes_once(rt, alloc, slots, case),
+        Runs::Twice => goes_twice(rt, alloc, slots, case),
+    }
+}
+
 /// Whether a batch goes so over its sources, for which the slots are added.
 fn go_so<'a, R: Threads + Wait + Sync>(
     rt: &R,
@@ -139,14 +175,9 @@ fn go_so<'a, R: Threads + Wait + Sync>(
 ) -> Result<bool, Fail>
     requires { All (λ slot. slot.feeder ≡ None) slots.old.items }
 {
-    add_slots(alloc, case.waiters, pages, slots)?;
-    let first = end_so(rt, alloc, slots, case)?;
-    match runs {
-        Runs::Once => Ok(first == Some(true) && faults_of(slots) == case.faults),
-        Runs::Twice => {
-            let second = end_so(rt, alloc, slots, case)?;
-            Ok(first == None && second == Some(true))
-        }
+    match add_slots(alloc, case.waiters, pages, slots) {
+        Some(()) => is_run_so(rt, alloc, slots, case, runs),
+        None => Err("memory".into()),
     }
 }
 
