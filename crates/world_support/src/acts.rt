@@ -1,13 +1,12 @@
 //! Steps as plain data, taken where they are lawful.
 
-ghost use Rattle.std.specs.Prelude.{◌≡◌, true, All, OnOk};
+ghost use Rattle.std.specs.Prelude.{◌≡◌, true, All, OnSome};
 ghost use Rattle.query_turns.specs.Inquiries.{is_ended};
 
 use query_world::{Step, World};
 use ranked_list::{PageRows, Row};
 use source_state::{FailKind, Plan};
 use std::alloc::Global;
-use std::test::Fail;
 
 /// What the sources of a world hold, and how they answer.
 #[derive(Clone, Copy)]
@@ -42,19 +41,26 @@ fn take(world: &mut World, step: Step) -> bool {
     may
 }
 
-/// The rows of a list behind the first, so many of them.
-fn page_of(alloc: Global, list: &[(u32, u32)], from: u32, count: u32) -> Result<PageRows, Fail> {
-    let mut rows = Vec::new(alloc);
+/// Adds the rows of a list behind the first, so many of them. None without memory.
+fn add_rows(list: &[(u32, u32)], from: u32, count: u32, rows: &mut Vec<Row>) -> Option<()> {
     for (object, grade) in list.iter().skip(from as usize).take(count as usize) {
-        rows.push(Row {
+        let row = Row {
             object: *object,
             grade: *grade,
-        })?;
+        };
+        rows.push(row).ok()?;
     }
-    if rows.len() > 1000 {
-        return Err("a small page".into());
+    Some(())
+}
+
+/// A page of these rows. None without memory, or where they are too many for a small page.
+fn page_of(alloc: Global, list: &[(u32, u32)], from: u32, count: u32) -> Option<PageRows> {
+    let mut rows = Vec::new(alloc);
+    let added = add_rows(list, from, count, &mut rows);
+    if added.is_none() || rows.len() > 1000 {
+        return None;
     }
-    Ok(PageRows::from_vec(rows))
+    Some(PageRows::from_vec(rows))
 }
 
 /// The grade of an object of a source among those that random access gives otherwise than the rows.
@@ -98,42 +104,35 @@ fn graded(sources: &Sources, source: u32, object: u32) -> Step {
     }
 }
 
-/// Takes a page of a source, if it is lawful.
+/// Takes a page of a source, if it is lawful. None where there is no page.
 fn take_page(
     alloc: Global,
     world: &mut World,
     sources: &Sources,
     source: u32,
     count: u32,
-) -> Result<bool, Fail> {
+) -> Option<bool> {
     if source >= world.sources() {
-        return Ok(false);
+        return Some(false);
     }
     let from = world.state(source).rows();
     let list = sources.lists.get(source as usize).copied().unwrap_or(&[]);
     let rows = page_of(alloc, list, from, count)?;
-    Ok(take(world, Step::Page { source, rows }))
+    Some(take(world, Step::Page { source, rows }))
 }
 
-/// Takes a step, if it is lawful.
-pub fn take_act(
-    alloc: Global,
-    world: &mut World,
-    sources: &Sources,
-    step: Act,
-) -> Result<bool, Fail> {
-    match step {
-        Act::Turn(query) => Ok(take(world, Step::Turn { query })),
-        Act::Page(source, count) => take_page(alloc, world, sources, source, count),
-        Act::Grade(source, object) => Ok(take(world, graded(sources, source, object))),
-        Act::Fail(source) => Ok(take(
-            world,
-            Step::Fail {
-                source,
-                what: FailKind::Failed,
-            },
-        )),
-    }
+/// Takes a step, if it is lawful. None where there is no memory for it, or its page is no small one.
+pub fn take_act(alloc: Global, world: &mut World, sources: &Sources, step: Act) -> Option<bool> {
+    let step = match step {
+        Act::Turn(query) => Step::Turn { query },
+        Act::Page(source, count) => return take_page(alloc, world, sources, source, count),
+        Act::Grade(source, object) => graded(sources, source, object),
+        Act::Fail(source) => Step::Fail {
+            source,
+            what: FailKind::Failed,
+        },
+    };
+    Some(take(world, step))
 }
 
 /// The step of a call that a source plans, None where it is idle.
@@ -146,20 +145,33 @@ fn act_of(sources: &Sources, source: u32, plan: Plan) -> Option<Act> {
     }
 }
 
-/// One call of a source that isn't idle, and its step.
-fn serve(alloc: Global, world: &mut World, sources: &mut Sources, source: u32) -> Result<(), Fail> {
+/// The step of the next call of a source, None where it is idle. A call that fails does so once.
+fn next_act(world: &World, sources: &mut Sources, source: u32) -> Option<Act> {
     if source >= world.sources() || sources.page == 0 || sources.page > 1000 {
-        return Err("a source and a page".into());
+        return None;
     }
     let plan = world.state(source).plan(sources.page, 0);
-    let Some(act) = act_of(sources, source, plan) else {
-        return Ok(());
-    };
+    let act = act_of(sources, source, plan)?;
     if let Act::Fail(_) = act {
         sources.fails = None;
     }
-    take_act(alloc, world, sources, act)?;
-    Ok(())
+    Some(act)
+}
+
+/// One call of a source that isn't idle, and its step, if it is lawful. None where there is no memory for it.
+fn serve(alloc: Global, world: &mut World, sources: &mut Sources, source: u32) -> Option<bool> {
+    match next_act(world, sources, source) {
+        Some(act) => take_act(alloc, world, sources, act),
+        None => Some(false),
+    }
+}
+
+/// One call of each source.
+fn serve_all(alloc: Global, world: &mut World, sources: &mut Sources) -> Option<()> {
+    for source in 0..world.sources() {
+        serve(alloc, world, sources, source)?;
+    }
+    Some(())
 }
 
 /// Turns of the first queries that haven't ended, so many, in their order.
@@ -172,24 +184,22 @@ fn turn_first(world: &mut World, workers: u32) {
     }
 }
 
-/// Rounds of turns and of calls of the sources, until all queries have ended.
+/// Rounds of turns and of calls of the sources, until all queries have ended. None where they don't.
 pub fn end_by_rounds(
     alloc: Global,
     world: &mut World,
     sources: &Sources,
     workers: u32,
-) -> Result<(), Fail>
-    ensures { OnOk result (All (λ query. is_ended query ≡ true) world.new.queries) }
+) -> Option<()>
+    ensures { OnSome result (All (λ query. is_ended query ≡ true) world.new.queries) }
 {
     let mut sources = *sources;
     for _round in 0..1000 {
         if world.all_ended() {
-            return Ok(());
+            return Some(());
         }
         turn_first(world, workers);
-        for source in 0..world.sources() {
-            serve(alloc, world, &mut sources, source)?;
-        }
+        serve_all(alloc, world, &mut sources)?;
     }
-    Err("an end".into())
+    None
 }

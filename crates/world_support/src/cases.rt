@@ -24,28 +24,39 @@ pub struct Case {
     pub ends: &'static [Expected],
 }
 
-/// Steps that are taken where they are lawful.
-fn take_all(alloc: Global, world: &mut World, case: &Case) -> Result<(), Fail> {
+/// Steps that are taken where they are lawful. None where one can't be made.
+fn take_all(alloc: Global, world: &mut World, case: &Case) -> Option<()> {
     for step in case.acts {
         take_act(alloc, world, &case.sources, *step)?;
     }
-    Ok(())
+    Some(())
+}
+
+/// Whether the queries of a world end as they are to, after the steps of a case.
+fn end_as(alloc: Global, world: World, case: &Case) -> bool {
+    let mut world = world;
+    match take_all(alloc, &mut world, case) {
+        Some(()) => match ends_of(alloc, world, &case.sources, case.workers, case.ends) {
+            Some(ends) => ends.so,
+            None => false,
+        },
+        None => {
+            world.close();
+            false
+        }
+    }
 }
 
 /// Whether the queries of a case, which are ready, end as they are to.
-fn end_so(alloc: Global, case: &Case, readies: &[Ready]) -> Result<bool, Fail>
+fn end_so(alloc: Global, case: &Case, readies: &[Ready]) -> bool
     requires sources { length case.now.counts.now < 2 ^ 32 }
     requires counts { All (λ count. count ≤ MAX_OBJECTS) case.now.counts.now }
     requires queries { length readies.now < 2 ^ 32 }
     requires ready { All (IsReadyFor case.now.counts.now) readies.now }
 {
-    let mut world = world_of(alloc, case.counts, readies)?;
-    match take_all(alloc, &mut world, case) {
-        Ok(()) => Ok(ends_of(alloc, world, &case.sources, case.workers, case.ends)?.so),
-        Err(fault) => {
-            world.close();
-            Err(fault)
-        }
+    match world_of(alloc, case.counts, readies) {
+        Some(world) => end_as(alloc, world, case),
+        None => false,
     }
 }
 
@@ -58,7 +69,7 @@ fn ends_so(alloc: Global, case: &Case) -> Result<bool, Fail> {
     }
     let so = end_so(alloc, case, &readies);
     let_go(readies);
-    so
+    Ok(so)
 }
 
 /// The number of the first case whose queries end otherwise.

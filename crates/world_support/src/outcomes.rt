@@ -12,7 +12,6 @@ use query_turns::{Ended, Endings};
 use query_world::World;
 use source_state::LookFault;
 use std::alloc::Global;
-use std::test::Fail;
 
 /// How the queries of a world ended.
 #[derive(Clone, Copy)]
@@ -51,48 +50,48 @@ fn first_failed(endings: &Endings) -> Option<u8> {
     }
 }
 
-/// A world of queries that are ready.
-pub fn world_of(alloc: Global, counts: &[u32], readies: &[Ready]) -> Result<World, Fail>
+/// A world of queries that are ready. None without memory.
+pub fn world_of(alloc: Global, counts: &[u32], readies: &[Ready]) -> Option<World>
     requires sources { length counts.now < 2 ^ 32 }
     requires counts { All (λ count. count ≤ MAX_OBJECTS) counts.now }
     requires queries { length readies.now < 2 ^ 32 }
     requires ready { All (IsReadyFor counts.now) readies.now }
 {
     match World::make(alloc, counts, readies) {
-        Ok(world) => Ok(world),
-        Err(_) => Err("memory".into()),
+        Ok(world) => Some(world),
+        Err(_) => None,
     }
 }
 
-/// How the queries of a world end, after rounds of so many turns.
+/// How the queries of a world end, after rounds of so many turns. None where they don't, or there is no memory.
 pub fn ends_of(
     alloc: Global,
     world: World,
     sources: &Sources,
     workers: u32,
     expected: &[Expected],
-) -> Result<Ends, Fail> {
+) -> Option<Ends> {
     let mut world = world;
     match end_by_rounds(alloc, &mut world, sources, workers) {
-        Ok(()) => finish(world, expected),
-        Err(fault) => {
+        Some(()) => finish(world, expected),
+        None => {
             world.close();
-            Err(fault)
+            None
         }
     }
 }
 
-/// How the queries of a world ended, all of which have ended.
-fn finish(world: World, expected: &[Expected]) -> Result<Ends, Fail>
+/// How the queries of a world ended, all of which have ended. None without memory.
+fn finish(world: World, expected: &[Expected]) -> Option<Ends>
     requires { All (λ query. is_ended query ≡ true) world.queries }
 {
     let Ok(endings) = world.finish() else {
-        return Err("memory".into());
+        return None;
     };
     let ends = Ends {
         so: are_ended_so(&endings, expected),
         failed: first_failed(&endings),
     };
     let_endings_go(endings);
-    Ok(ends)
+    Some(ends)
 }
