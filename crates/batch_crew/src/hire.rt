@@ -58,7 +58,7 @@ fn hire_next(
     Ok(())
 }
 
-/// So many workers, for whom there is room.
+/// So many workers.
 fn hire(
     alloc: Global,
     pool: &Pool,
@@ -68,16 +68,39 @@ fn hire(
 ) -> Result<(), Memory>
     requires few { count ≤ 32 }
     requires none { workers.old.items ≡ [] }
-    requires room { count ≤ vec_capacity workers.old }
     requires own { (counts : List ℕ) × IsHiring pool.now counts pass.old workers.old.items }
     ensures hired { OnOk result ((counts : List ℕ) → IsHiring pool.now counts pass.old workers.old.items
         → IsHiring pool.now counts pass.new workers.new.items) }
     ensures size { OnOk result (vec_len workers.new ≡ count) }
 {
+    let Ok(()) = workers.reserve(count as usize) else {
+        return Err(Memory);
+    };
     for number in 0..count {
         hire_next(alloc, pool, pass, workers, number)?;
     }
     Ok(())
+}
+
+/// Makes room for the endings of so many queries, and for what is used of so many sources.
+fn make_room(
+    endings: &mut Vec<Ended>,
+    queries: usize,
+    uses: &mut Vec<Use>,
+    sources: usize,
+) -> Result<(), Memory>
+    ensures endings { endings.new.items ≡ endings.old.items }
+    ensures uses { uses.new.items ≡ uses.old.items }
+    ensures endings_room { OnOk result (vec_len endings.old + queries ≤ vec_capacity endings.new) }
+    ensures uses_room { OnOk result (vec_len uses.old + sources ≤ vec_capacity uses.new) }
+{
+    let Ok(()) = endings.reserve(queries) else {
+        return Err(Memory);
+    };
+    match uses.reserve(sources) {
+        Ok(()) => Ok(()),
+        Err(_) => Err(Memory),
+    }
 }
 
 impl Crew {
@@ -88,29 +111,20 @@ impl Crew {
         requires workers { workers ≤ 32 }
         ensures { IfOk result (IsNewCrew counts.now queries workers) }
     {
-        let Ok(endings) = Vec::with_capacity(alloc, queries) else {
-            return Err(Memory);
-        };
-        let Ok(uses) = Vec::with_capacity(alloc, counts.len()) else {
-            drop(endings);
-            return Err(Memory);
-        };
-        let Ok(room) = Vec::with_capacity(alloc, workers as usize) else {
-            drop(endings);
-            return Err(Memory);
-        };
         let Ok((pool, pass, feeders)) = Pool::open(alloc, counts) else {
-            drop(endings);
-            drop(room);
             return Err(Memory);
         };
         let mut crew = Crew {
             pool,
             pass,
             feeders: feeders.into_vec(),
-            workers: room,
-            endings,
-            uses,
+            workers: Vec::new(alloc),
+            endings: Vec::new(alloc),
+            uses: Vec::new(alloc),
+        };
+        let Ok(()) = make_room(&mut crew.endings, queries, &mut crew.uses, counts.len()) else {
+            drop(crew);
+            return Err(Memory);
         };
         let Ok(()) = hire(
             alloc,
