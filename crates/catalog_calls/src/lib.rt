@@ -5,7 +5,3 @@ mod line_outcomes;
 mod running;
 
 pub use running::{run, settings_of};
-
-/// No memory was left.
-#[derive(Clone, Copy)]
-pub(crate) struct Memory;

@@ -7,16 +7,15 @@ ghost use Rattle.catalog_text.specs.Catalog.{IsCatalog};
 ghost use Rattle.command_words.specs.Running.{AreRunSettings};
 ghost use Rattle.catalog_run.specs.Runs.{CanBeWritten, IsRun};
 ghost use Rattle.catalog_calls.specs.Taking.{TakesSources};
-ghost use Rattle.call_ends.specs.Calls.{output_as, shelf_as, call_of};
+ghost use Rattle.call_ends.specs.Calls.{Input, ReadWhole, output_as, shelf_as, outside_of, call_at, call_of};
 ghost use Rattle.call_ends.specs.Ends.{Says};
 ghost use Rattle.catalog_calls.specs.RunEnds.{RunsOverCatalog, EndsRunning};
 ghost use Rattle.catalog_calls.specs.Faults.{SaysFault};
 ghost use Rattle.catalog_calls.specs.Running.{lines_run, settings_by, catalog_refused_text};
 
-use super::Memory;
 use super::line_outcomes::write_outcomes;
 use call_ends::{Status, ended};
-use catalog_run::{LineOutcome, Settings, let_go, run_lines};
+use catalog_run::{LineOutcome, Memory, Settings, let_go, run_lines};
 use catalog_text::{Catalog, CatalogFault, read_catalog};
 use command_words::{RunOptions, RunSettings};
 use limits::MAX_INPUT;
@@ -133,17 +132,37 @@ fn run_input<W: Threads + Wait + Sync, H: Shelf, R: Intake, K: Sink>(
         (input.old, out.old, shelf.old) (input.new, out.new, shelf.new)) result }
 {
     match read_text(alloc, input, MAX_INPUT) {
-        Ok(text) => match run_text(rt, alloc, catalog, settings, shelf, &text) {
-            Ok(outcomes) => {
-                let status = write_outcomes(out, &outcomes);
-                let_go(outcomes);
-                status
-            }
-            Err(_) => Status::Memory,
-        },
+        Ok(text) => reply_to(rt, alloc, catalog, settings, shelf, &text, out),
         Err(ReadError::Failed) => Status::ReadFault,
         Err(ReadError::Long) => Status::LongInput,
         Err(ReadError::Memory) => Status::Memory,
+    }
+}
+
+/// Runs the lines of an input that was read to its end, and writes what became of each.
+fn reply_to<W: Threads + Wait + Sync, H: Shelf, K: Sink>(
+    rt: &W,
+    alloc: Global,
+    catalog: &Catalog,
+    settings: RunSettings,
+    shelf: &mut H,
+    bytes: &[u8],
+    out: &mut K,
+) -> Status
+    requires { AreRunSettings settings }
+    ensures writes { K.faults out.old ≤ K.faults out.new }
+    ensures ends { (words : List (List ℕ)) (text : List ℕ) (before after : Input) → IsCatalog (records_of text) catalog.now
+        → let call = call_at words (outside_of before (output_as K.held K.faults out.old) (shelf_as H.texts H.lists H.at shelf.old))
+        (outside_of after (output_as K.held K.faults out.new) (shelf_as H.texts H.lists H.at shelf.new)) in
+        ReadWhole call bytes.now → RunsOverCatalog settings text call result }
+{
+    match run_text(rt, alloc, catalog, settings, shelf, bytes) {
+        Ok(outcomes) => {
+            let status = write_outcomes(out, &outcomes);
+            let_go(outcomes);
+            status
+        }
+        Err(_) => Status::Memory,
     }
 }
 
@@ -163,10 +182,7 @@ fn run_text<W: Threads + Wait + Sync, H: Shelf>(
     ensures writable { IfOk result (λ outcomes. All CanBeWritten outcomes.items) }
 {
     let lines = lines_of(alloc, text)?;
-    match run_lines(rt, alloc, shelf, catalog, &lines, settings_of(settings)) {
-        Ok(outcomes) => Ok(outcomes),
-        Err(_) => Err(Memory),
-    }
+    run_lines(rt, alloc, shelf, catalog, &lines, settings_of(settings))
 }
 
 /// The settings that the words ask for, as a run takes them.
