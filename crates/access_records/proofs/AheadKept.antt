@@ -1,7 +1,7 @@
 -- The grades that are known ahead of the lists, after one more access.
-use Rattle.std.proofs.Common.{◌≡◌, ◌≢◌, ℕ, zero, suc, ◌<◌, ◌≤◌, ◌⊎◌, inl, inr, true, false, cond, List, [], ◌∷◌, ◌++◌, length, AllPairs, Option, Some, None, slice_get, slice_index_or, slice_set, replicate, refl, sym, ap, subst, ◌∙◌, arith}
+use Rattle.std.proofs.Common.{◌≡◌, ◌≢◌, ℕ, zero, suc, ◌+◌, ◌-◌, ◌<◌, ◌≤◌, ◌⊎◌, inl, inr, true, false, cond, List, [], ◌∷◌, ◌++◌, length, AllPairs, Option, Some, None, slice_get, slice_index_or, slice_set, replicate, refl, sym, ap, subst, ◌∙◌, arith, length-append}
 use Rattle.std.specs.Option.{option_and_then}
-use Rattle.std.proofs.Math.Nat.{le_refl}
+use Rattle.std.proofs.Math.Nat.{le_refl, le_trans}
 use Rattle.std.proofs.lemmas.Bool.{cases_eq, cases_lt, true≢false}
 use Rattle.std.proofs.lemmas.List.{get_or-set_same, get_or-set_other, length-set, length-replicate}
 use Rattle.topk_theory.specs.declared.access.Access.{Access}
@@ -11,7 +11,8 @@ use Rattle.topk_theory.specs.Bounds.{known_grade}
 use Rattle.topk_theory.specs.Consistent.{SomeAgrees}
 use Rattle.topk_theory.proofs.AgreementLists.{slice_get_in_range, slice_get_reads}
 use Rattle.topk_theory.proofs.Agreement.{known_grade_given, known_grade_other_object, known_grade_other_list}
-use Rattle.indexed_heap.specs.Ranks.{rank_at}
+use Rattle.indexed_heap.specs.Ranks.{rank_at, ranks_within}
+use Rattle.indexed_heap.proofs.Within.{rank_within}
 use Rattle.ranked_list.proofs.OptionLaws.{option_cases}
 use Rattle.access_records.specs.Kept.{is_read, grade_ahead, heap_at, AreAhead, AreWider, HaveRoom}
 use Rattle.access_records.proofs.RecordKept.{read_after, read_random, read_other_list, read_other_object}
@@ -154,6 +155,55 @@ room_wider room heaps wider w h = λ list l.
 
 pub wider_same : (heaps : List (List (Option ℕ))) → AreWider heaps heaps
 wider_same heaps = record { sized = refl; ranks = λ list place. refl; room = λ list. le_refl (length (heap_at heaps list)) }
+
+pub wider_then : (heaps wide wider : List (List (Option ℕ))) → AreWider heaps wide → AreWider wide wider → AreWider heaps wider
+wider_then heaps wide wider v w = record {
+  sized = w.sized ∙ v.sized;
+  ranks = λ list place. w.ranks list place ∙ v.ranks list place;
+  room = λ list. le_trans (v.room list) (w.room list);
+}
+
+-- a heap with no less room and the ranks that it had
+abbrev pub IsWider : List (Option ℕ) → List (Option ℕ) → Type 0
+IsWider heap wide = ((place : ℕ) → rank_at wide place ≡ rank_at heap place) × (length heap ≤ length wide)
+
+pub is_as_wide : (heap now : List (Option ℕ)) → now ≡ heap → IsWider heap now
+is_as_wide heap now e = (λ place. ap (λ h. rank_at h place) e, omega (arith, ap (length {A = Option ℕ}) e))
+
+pub is_wider : (room : ℕ) (heap now : List (Option ℕ)) → now ≡ ranks_within room heap → IsWider heap now
+is_wider room heap now e =
+    (λ place. ap (λ h. rank_at h place) e ∙ rank_within room heap place, omega (arith, ap (length {A = Option ℕ}) e, length-append heap (replicate (room - length heap) None)))
+
+-- one heap is written
+pub one_wider : (heaps : List (List (Option ℕ))) (list : ℕ) (heap d now : List (Option ℕ)) → list < length heaps → heap ≡ slice_index_or heaps list d
+    → IsWider heap now → AreWider heaps (slice_set heaps list now)
+one_wider heaps list heap d now l e w =
+    let same : heap ≡ heap_at heaps list = e ∙ at_any heaps list d [] l in
+    record {
+      sized = length-set heaps list now;
+      ranks = λ at place. elim (cases_eq list at) [
+        | inl here ↦ subst (λ j. rank_at (heap_at (slice_set heaps list now) j) place ≡ rank_at (heap_at heaps j) place) here
+            (ap (λ h. rank_at h place) (get_or-set_same heaps list now [] l) ∙ w.0 place ∙ ap (λ h. rank_at h place) same)
+        | inr other ↦ ap (λ h. rank_at h place) (get_or-set_other heaps list at now [] (λ q. other (sym q)))
+      ];
+      room = λ at. elim (cases_eq list at) [
+        | inl here ↦ subst (λ j. length (heap_at heaps j) ≤ length (heap_at (slice_set heaps list now) j)) here
+            (omega (arith, ap (length {A = Option ℕ}) (get_or-set_same heaps list now [] l), w.1, ap (length {A = Option ℕ}) same))
+        | inr other ↦ omega (arith, ap (length {A = Option ℕ}) (get_or-set_other heaps list at now [] (λ q. other (sym q))))
+      ];
+    }
+
+pub one_more_has_room : (room : ℕ) (heaps : List (List (Option ℕ))) (list : ℕ) (heap now : List (Option ℕ)) → list < length heaps
+    → now ≡ ranks_within room heap → ((k : ℕ) → k < list → room ≤ length (heap_at heaps k))
+    → (k : ℕ) → k < list + 1 → room ≤ length (heap_at (slice_set heaps list now) k)
+one_more_has_room room heaps list heap now l e before k h = elim (cases_eq list k) [
+  | inl here ↦ subst (λ j. room ≤ length (heap_at (slice_set heaps list now) j)) here
+      (omega (arith, ap (length {A = Option ℕ}) (get_or-set_same heaps list now [] l), ap (length {A = Option ℕ}) e, length-append heap (replicate (room - length heap) None), length-replicate {A = Option ℕ} (room - length heap) None))
+  | inr other ↦
+      let same = ap (length {A = Option ℕ}) (get_or-set_other heaps list k now [] (λ q. other (sym q))) in
+      let at = before k (omega (arith, h, other)) in
+      omega (arith, same, at)
+]
 
 -- no grades are known ahead before any access
 pub ahead_none : (m : ℕ) (heaps : List (List (Option ℕ))) → heaps ≡ replicate m [] → AreAhead m [] [] heaps
