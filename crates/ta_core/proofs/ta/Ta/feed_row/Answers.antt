@@ -69,6 +69,36 @@ score-requires-clause-room c = (ready (goal.at.score-requires-clause-room c).Aft
 pub follow-requires-clause-bottoms : goal.follow-requires-clause-bottoms
 follow-requires-clause-bottoms c = (ready (goal.at.follow-requires-clause-bottoms c).After-add_row).bottoms
 
+pub test_room-requires : goal.test_room-requires
+test_room-requires c = c.self.invariant.kept.base
+
+pub tell-requires-clause-held : goal.tell-requires-clause-held
+tell-requires-clause-held c = c.self.invariant.kept.base
+
+pub tell-requires-clause-reserved : goal.tell-requires-clause-reserved
+tell-requires-clause-reserved c = c.self.invariant.reserved
+
+pub add_row-requires-clause-few : goal.add_row-requires-clause-few
+add_row-requires-clause-few c = omega (arith, c.lists.ensures.lists, c.tell.ensures.held.few_lists)
+
+pub score-requires-clause-held : goal.score-requires-clause-held
+score-requires-clause-held c = c.tell.ensures.held
+
+pub score-requires-clause-waits : goal.score-requires-clause-waits
+score-requires-clause-waits c = (ready (goal.at.score-requires-clause-waits c).After-add_row).waits
+
+pub follow-requires-clause-held : goal.follow-requires-clause-held
+follow-requires-clause-held c = c.tell.ensures.held
+
+pub follow-requires-clause-same : goal.follow-requires-clause-same
+follow-requires-clause-same c = (ready (goal.at.follow-requires-clause-same c).After-add_row).same
+
+pub follow-requires-clause-waits : goal.follow-requires-clause-waits
+follow-requires-clause-waits c = (ready (goal.at.follow-requires-clause-waits c).After-add_row).waits
+
+pub follow-requires-clause-deep : goal.follow-requires-clause-deep
+follow-requires-clause-deep c = omega (arith, (ready (goal.at.follow-requires-clause-deep c).After-add_row).deep)
+
 pub invariant_of-self : goal.invariant_of-self
 invariant_of-self c =
     let a = c.self.inside in
