@@ -1,4 +1,4 @@
-use Rattle.std.proofs.Common.{◌≡◌, ℕ, List, Err, sym, ap, subst, ◌∙◌, arith, take, drop}
+use Rattle.std.proofs.Common.{◌≡◌, ℕ, ◌+◌, ◌≤◌, List, length, Err, sym, ap, subst, ◌∙◌, arith, take, drop}
 use Rattle.std.proofs.lemmas.List.{length-drop}
 use Rattle.query_words.specs.Course.{course_view, is_open}
 use Rattle.std.proofs.lemmas.Result.{err_from_is_err_and}
@@ -37,6 +37,39 @@ pub returns-in-Some-clause-err : goal.returns-in-Some-clause-err
 returns-in-Some-clause-err c =
     reach_fault c.args.bytes.now c.loop-at.at c.loop-at.course c.loop-at.draft c.in-Some.fault
     (subst (Reached c.args.bytes.now c.loop-at.at c.loop-at.course c.loop-at.draft) c.in-Some.is c.loop-at.invariant) (omega arith) (sym c.may_end.ensures ∙ c.if-not-may_end.false)
+
+-- a word ends within the line
+word_within : (line : List ℕ) (at count : ℕ) → at ≤ length line → count ≤ length (drop at line) → at + count ≤ length line
+word_within line at count within inside = omega (arith, within, inside, length-drop at line)
+
+behind : (at count : ℕ) → at ≤ at + count
+behind at count = omega arith
+
+pub next_word-requires-clause-within : goal.next_word-requires-clause-within
+next_word-requires-clause-within c = c.loop-at.invariant.within
+
+pub next_word-requires-clause-short : goal.next_word-requires-clause-short
+next_word-requires-clause-short c = c.requires.short
+
+pub overflow_add-word : goal.overflow_add-word
+overflow_add-word c =
+    omega (arith, word_within c.args.bytes.now c.loop-at.at c.in-Ok.count c.loop-at.invariant.within c.in-Ok.ensures.0.within, c.requires.short)
+
+pub slice_bounds-word-count : goal.slice_bounds-word-count
+slice_bounds-word-count c = behind c.loop-at.at c.in-Ok.count
+
+pub slice_bounds-word-start : goal.slice_bounds-word-start
+slice_bounds-word-start c = behind c.loop-at.at c.in-Ok.count
+
+pub slice_bounds-word-end : goal.slice_bounds-word-end
+slice_bounds-word-end c = word_within c.args.bytes.now c.loop-at.at c.in-Ok.count c.loop-at.invariant.within c.in-Ok.ensures.0.within
+
+pub overflow_cast-at : goal.overflow_cast-at
+overflow_cast-at c = omega (arith, c.loop-at.invariant.within, c.requires.short)
+
+pub overflow_add-at : goal.overflow_add-at
+overflow_add-at c =
+    omega (arith, word_within c.args.bytes.now c.loop-at.at c.in-Ok.count c.loop-at.invariant.within c.in-Ok.ensures.0.within, c.requires.short)
 
 -- want of memory is free
 memory_read : (line : List ℕ) (fault : QueryFault) → fault ≡ faults.Memory → WordsRead line (Err fault)
