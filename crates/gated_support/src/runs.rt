@@ -82,18 +82,19 @@ fn add_slots<'a>(
     Some(())
 }
 
-/// How the queries of a batch run over its sources, whatever is used of them.
-fn run_so<R: Threads + Wait + Sync>(
+/// Whether a batch goes like this over its slots, whatever is used of its sources.
+fn runs_as<R: Threads + Wait + Sync>(
     rt: &R,
     alloc: Global,
     slots: &mut [Slot<Gated>],
     case: &Case,
-) -> Result<Ran, Fail>
+    expected: Ran,
+) -> Result<bool, Fail>
     requires { All (λ slot. slot.feeder ≡ None) slots.old }
     ensures { All (λ slot. slot.feeder ≡ None) slots.new }
 {
     let used: &[Used] = &[];
-    run_ends_so(
+    let ran = run_ends_so(
         rt,
         alloc,
         slots,
@@ -101,7 +102,8 @@ fn run_so<R: Threads + Wait + Sync>(
         case.asked,
         case.settings,
         (case.ends, used),
-    )
+    )?;
+    Ok(ran == expected)
 }
 
 /// The calls of the first source that have failed.
@@ -130,8 +132,8 @@ fn goes_once<R: Threads + Wait + Sync>(
 ) -> Result<bool, Fail>
     requires { All (λ slot. slot.feeder ≡ None) slots.old }
 {
-    let ran = run_so(rt, alloc, slots, case)?;
-    Ok(ran == Ran::So && faults_of(slots) == case.faults)
+    let so = runs_as(rt, alloc, slots, case, Ran::So)?;
+    Ok(so && faults_of(slots) == case.faults)
 }
 
 /// Whether a batch wants memory at first, and goes so over the same slots where it is run again.
@@ -143,9 +145,11 @@ fn goes_twice<R: Threads + Wait + Sync>(
 ) -> Result<bool, Fail>
     requires { All (λ slot. slot.feeder ≡ None) slots.old }
 {
-    let first = run_so(rt, alloc, slots, case)?;
-    let second = run_so(rt, alloc, slots, case)?;
-    Ok(first == Ran::Short && second == Ran::So)
+    if runs_as(rt, alloc, slots, case, Ran::Short)? {
+        runs_as(rt, alloc, slots, case, Ran::So)
+    } else {
+        Ok(false)
+    }
 }
 
 /// Whether a batch goes so over its slots, so often.
