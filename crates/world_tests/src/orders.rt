@@ -35,6 +35,14 @@ fn is_whole(world: &World, act: Act) -> bool {
     }
 }
 
+/// Takes a step, if it is lawful.
+fn take(alloc: Global, world: &mut World, trial: &Trial, act: Act) -> Result<bool, Fail> {
+    match take_act(alloc, world, &trial.sources, act) {
+        Some(taken) => Ok(taken),
+        None => Err("a small page".into()),
+    }
+}
+
 /// Takes the first lawful step from a place on, and tells its place.
 fn take_next(
     alloc: Global,
@@ -44,7 +52,7 @@ fn take_next(
 ) -> Result<Option<u8>, Fail> {
     let mut place: u8 = 0;
     for act in trial.acts {
-        if place >= from && is_whole(world, *act) && take_act(alloc, world, &trial.sources, *act)? {
+        if place >= from && is_whole(world, *act) && take(alloc, world, trial, *act)? {
             return Ok(Some(place));
         }
         place = place.saturating_add(1);
@@ -124,7 +132,9 @@ fn outcome_of(
             Outcome::Unlawful
         });
     }
-    let ends = ends_of(alloc, world, &trial.sources, 1, trial.ends)?;
+    let Some(ends) = ends_of(alloc, world, &trial.sources, 1, trial.ends) else {
+        return Err("an end".into());
+    };
     Ok(outcome_by(ends, trial, order))
 }
 
@@ -154,7 +164,9 @@ fn try_order(
     requires queries { length readies.now < 2 ^ 32 }
     requires ready { All (IsReadyFor trial.now.counts.now) readies.now }
 {
-    let mut world = world_of(alloc, trial.counts, readies)?;
+    let Some(mut world) = world_of(alloc, trial.counts, readies) else {
+        return Err("memory".into());
+    };
     match follow(alloc, &mut world, trial, order) {
         Ok(taken) => {
             let outcome = outcome_of(alloc, world, trial, order, taken)?;
