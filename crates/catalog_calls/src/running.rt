@@ -56,7 +56,7 @@ pub fn run<W: Threads + Wait + Sync, H: Shelf, R: Intake, K: Sink>(
         (input.old, out.old, shelf.old) (input.new, out.new, shelf.new)) result }
 {
     match shelf.text(alloc, options.catalog.as_str()) {
-        Ok(text) => run_over(rt, alloc, &text, options.settings, shelf, input, out),
+        Ok(text) => run_over(rt, alloc, text, options.settings, shelf, input, out),
         Err(Trouble::Memory) => Status::Memory,
         Err(Trouble::Failed) => Status::OpenFault,
         Err(Trouble::Garbled) => Status::OpenFault,
@@ -67,7 +67,7 @@ pub fn run<W: Threads + Wait + Sync, H: Shelf, R: Intake, K: Sink>(
 fn run_over<W: Threads + Wait + Sync, H: Shelf, R: Intake, K: Sink>(
     rt: &W,
     alloc: Global,
-    text: &[u8],
+    text: Vec<u8>,
     settings: RunSettings,
     shelf: &mut H,
     input: &mut R,
@@ -76,14 +76,23 @@ fn run_over<W: Threads + Wait + Sync, H: Shelf, R: Intake, K: Sink>(
     requires { AreRunSettings settings }
     ensures reads { R.faults input.old ≤ R.faults input.new }
     ensures writes { K.faults out.old ≤ K.faults out.new }
-    ensures ends { (words : List (List ℕ)) → RunsOverCatalog settings text.now (call_of R.left R.faults K.held K.faults H.texts H.lists H.at words
+    ensures ends { (words : List (List ℕ)) → RunsOverCatalog settings text.items (call_of R.left R.faults K.held K.faults H.texts H.lists H.at words
         (input.old, out.old, shelf.old) (input.new, out.new, shelf.new)) result }
 {
-    match read_catalog(alloc, text) {
-        Ok(catalog) => run_input(rt, alloc, &catalog, settings, shelf, input, out),
+    let read = read_catalog(alloc, &text);
+    drop(text);
+    match read {
+        Ok(catalog) => {
+            let status = run_input(rt, alloc, &catalog, settings, shelf, input, out);
+            let_catalog_go(catalog);
+            status
+        }
         Err(fault) => refuse(out, fault),
     }
 }
+
+/// Lets a catalog go.
+fn let_catalog_go(_: Catalog) {}
 
 /// Ends for this fault of a text that should be a catalog: it is written, unless memory was wanting.
 fn refuse<K: Sink>(out: &mut K, fault: CatalogFault) -> Status

@@ -1,8 +1,7 @@
-use Rattle.std.proofs.Common.{inl, refl, subst, arith}
+use Rattle.std.proofs.Common.{inl, refl, arith}
 use Rattle.std.proofs.KnownBytes.{Keeps-refl}
 use Rattle.call_ends.specs.Calls.{Call, call_at}
 use Rattle.call_ends.specs.Shelves.{Shelf, GivesText}
-use Rattle.catalog_calls.specs.RunEnds.{RunsOverCatalog, from_shelf}
 use Rattle.call_ends.proofs.Ending.{outside_at, shelf_at}
 use Rattle.catalog_calls.proofs.RunEnding.{asks_text, gives_text, text_failed, ends_run}
 use Rattle.catalog_calls.proofs.running.run.Goals as goal
@@ -18,7 +17,7 @@ returns-in-Ok-clause-ends g c = λ words.
     (asks_text c.args.options.now.catalog c.as_str.result.now before given c.as_str.ensures c.text.ensures.texts c.text.ensures.lists c.text.ensures.elsewhere c.text.ensures.counts)
     c.in-Ok.ensures.text (omega (arith, c.in-Ok.ensures.within, c.in-Ok.text.ok.0)) in
     ends_run c.args.options.now call c.run_over.result
-    (c.in-Ok.text.items, given, gives, subst (λ t. RunsOverCatalog c.args.options.now.settings t (from_shelf given call) c.run_over.result) c.deref.ensures.value (c.run_over.ensures.ends words))
+    (c.in-Ok.text.items, given, gives, c.run_over.ensures.ends words)
 
 pub returns-in-Err-Memory-clause-ends : goal.returns-in-Err-Memory-clause-ends
 returns-in-Err-Memory-clause-ends g c = λ words.
