@@ -66,17 +66,17 @@ back_keeps lists catalog W before mid now openings s are back =
 
 -- the whole run
 pub is_run : (catalog : List Entry) (lines : List (List ℕ)) (lists : List ℕ
-    → Option (List Row)) (settings : Settings) (before mid after : Counted) (openings : List Opening) (s : Sources) (begun now : List Counts) (outcomes : List LineOutcome) (marks : List Bool)
-    → AreMarked catalog lines marks → AreOpened lists catalog (IsMarked marks) before mid openings s → length openings ≡ length catalog
+    → Option (List Row)) (settings : Settings) (before mid after : Counted) (openings : List Opening) (s : Sources) (begun now : List Counts) (outcomes : List LineOutcome)
+    → AreOpened lists catalog (IsWanted catalog lines) before mid openings s → length openings ≡ length catalog
     → ((place : List ℕ) → GivesNothing (before place) (mid place)) → All IsUnread begun
     → RanOver settings s begun now (view_over catalog openings nothing_told) lines outcomes → PutsBack (reverse (put_back catalog s.places now)) mid after
     → IsRun (record { catalog = catalog; lines = lines; lists = lists; settings = settings; before = before; after = after }) outcomes
-is_run catalog lines lists settings before mid after openings s begun now outcomes marks marked are all idle unread ran back = record {
+is_run catalog lines lists settings before mid after openings s begun now outcomes are all idle unread ran back = record {
   openings = openings;
   sources = s;
   mid = mid;
   idle = idle;
-  opened = opened_marked lists catalog lines marks before mid openings s marked are;
+  opened = are;
   all = all;
   begun = begun;
   unread = unread;
@@ -100,13 +100,6 @@ pub run_moves : (lists : List ℕ → Option (List Row)) (catalog : List Entry) 
     → Type 0) (before mid after : Counted) (openings : List Opening) (s : Sources) (back : List Used) → AreOpened lists catalog W before mid openings s
     → PutsBack back mid after → (used : List Used) × Moves used before after
 run_moves lists catalog W before mid after openings s back are moves = (are.used ++ back, moves_then are.used back before mid after are.moves (puts_moves back mid after moves))
-
--- nothing but at the places of what the lines want
-pub run_others : (lists : List ℕ
-    → Option (List Row)) (catalog : List Entry) (lines : List (List ℕ)) (marks : List Bool) (before mid after : Counted) (openings : List Opening) (s : Sources) → AreMarked catalog lines marks
-    → AreOpened lists catalog (IsMarked marks) before mid openings s → KeepsOthers catalog (Contains s.places) mid after → KeepsOthers catalog (IsWanted catalog lines) before after
-run_others lists catalog lines marks before mid after openings s marked are back =
-    back_keeps lists catalog (IsWanted catalog lines) before mid after openings s (opened_marked lists catalog lines marks before mid openings s marked are) back
 
 -- the lists that the sources tell, in other words
 pub opened_told : (lists : List ℕ → Option (List Row)) (catalog : List Entry) (W : ℕ

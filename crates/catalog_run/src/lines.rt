@@ -53,9 +53,6 @@ pub fn run_lines<W: Threads + Wait + Sync, H: Shelf>(
     }) outcomes.items) }
     ensures writable { IfOk result (λ outcomes. All CanBeWritten outcomes.items) }
 {
-    let Ok(marks) = mark_wanted(alloc, catalog, lines) else {
-        return Err(Memory);
-    };
     let mut opened = Opened::make(alloc);
     let mut sources = Vec::new(alloc);
     let result = open_and_run(
@@ -63,7 +60,6 @@ pub fn run_lines<W: Threads + Wait + Sync, H: Shelf>(
         alloc,
         shelf,
         catalog,
-        &marks,
         &mut opened,
         &mut sources,
         lines,
@@ -73,20 +69,18 @@ pub fn run_lines<W: Threads + Wait + Sync, H: Shelf>(
     result
 }
 
-/// Opens the sources that are marked, and runs the lines over them.
+/// Opens the sources that the lines want, and runs the lines over them.
 fn open_and_run<W: Threads + Wait + Sync, H: Shelf>(
     rt: &W,
     alloc: Global,
     shelf: &mut H,
     catalog: &Catalog,
-    marks: &[bool],
     opened: &mut Opened,
     sources: &mut Vec<H::Item>,
     lines: &[&[u8]],
     settings: Settings,
 ) -> Result<Vec<LineOutcome>, Memory>
     requires settings { AreSettings settings }
-    requires marks { length marks.now ≡ length catalog.now }
     requires openings { opened.old.openings.items ≡ [] }
     requires places { opened.old.places.items ≡ [] }
     requires counts { opened.old.counts.items ≡ [] }
@@ -95,8 +89,8 @@ fn open_and_run<W: Threads + Wait + Sync, H: Shelf>(
     ensures lists { SameAtEach (H.lists shelf.old) (H.lists shelf.new) }
     ensures known { All (IsKnownAt catalog.now (H.knows shelf.new)) opened.new.places.items }
     ensures many { length sources.new.items ≡ length opened.new.places.items }
-    ensures opened { AreOpened (H.lists shelf.old) catalog.now (IsMarked marks.now) (H.at shelf.old) (H.at shelf.new)
-        opened.new.openings.items (record {
+    ensures opened { AreOpened (H.lists shelf.old) catalog.now (IsWanted catalog.now (map (λ line. line.now) lines.now))
+        (H.at shelf.old) (H.at shelf.new) opened.new.openings.items (record {
           told = map H.Item.list sources.new.items;
           places = opened.new.places.items;
           counts = opened.new.counts.items;
@@ -112,10 +106,15 @@ fn open_and_run<W: Threads + Wait + Sync, H: Shelf>(
         (map (λ line. line.now) lines.now) outcomes.items) }
     ensures writable { IfOk result (λ outcomes. All CanBeWritten outcomes.items) }
 {
-    let Ok(()) = open_wanted(alloc, shelf, catalog, marks, opened, sources) else {
+    let Ok(marks) = mark_wanted(alloc, catalog, lines) else {
         return Err(Memory);
     };
-    run_opened(rt, alloc, catalog, opened, sources, lines, settings)
+    let opening = open_wanted(alloc, shelf, catalog, &marks, opened, sources);
+    drop(marks);
+    match opening {
+        Ok(()) => run_opened(rt, alloc, catalog, opened, sources, lines, settings),
+        Err(_) => Err(Memory),
+    }
 }
 
 /// Admits the lines over the open sources, and runs the queries that are ready.
