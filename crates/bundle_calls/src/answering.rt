@@ -8,7 +8,7 @@ ghost use Rattle.call_ends.specs.Ends.{EndsReading, Says};
 ghost use Rattle.bundle_calls.specs.Reply.{Replies, bundle_refused_text, outcome_status};
 ghost use Rattle.bundle_calls.specs.Outcomes.{reply_text, reply_status, IsWritable, SaysReply};
 
-use super::replies::{Reply, reply_to};
+use super::replies::{Reply, let_go, reply_to};
 use call_ends::{Status, ended};
 use cert_text::{Outcome, write_outcome};
 use limits::MAX_INPUT;
@@ -49,7 +49,11 @@ fn answer_text<K: Sink>(alloc: Global, bytes: &[u8], out: &mut K) -> Status
     ensures says { SaysReply Replies bytes.now (output_as K.held K.faults out.old) (output_as K.held K.faults out.new) result }
 {
     match reply_to(alloc, bytes) {
-        Ok(reply) => write_reply(out, &reply),
+        Ok(reply) => {
+            let status = write_reply(out, &reply);
+            let_go(reply);
+            status
+        }
         Err(_) => Status::Memory,
     }
 }

@@ -12,6 +12,7 @@ use bundle_text::{Bundle, BundleFault, read_bundle};
 use cert_text::{Outcome, Refusal};
 use query_admission::{Admitted, LineOutcome, admit};
 use query_core::{DriveFault, Ready};
+use query_text::Query;
 use std::alloc::Global;
 use told_run::answer_over;
 
@@ -66,7 +67,10 @@ fn run_ready(alloc: Global, bundle: &Bundle, ready: Ready) -> Result<LineOutcome
             count: ready.count,
             outcome,
         }),
-        Err(_) => Err(Memory),
+        Err(_) => {
+            let_query_go(Some(ready.query));
+            Err(Memory)
+        }
     }
 }
 
@@ -85,3 +89,18 @@ fn outcome_of(alloc: Global, bundle: &Bundle, ready: &Ready) -> Result<Outcome, 
         Err(DriveFault::Memory) => Err(Memory),
     }
 }
+
+/// Lets a reply go.
+pub(crate) fn let_go(reply: Reply) {
+    if let Reply::Line(line) = reply {
+        let LineOutcome { query, outcome, .. } = line;
+        let_query_go(query);
+        let_outcome_go(outcome);
+    }
+}
+
+/// Lets a query go, if there is one.
+fn let_query_go(_query: Option<Query>) {}
+
+/// Lets an outcome go.
+fn let_outcome_go(_outcome: Outcome) {}

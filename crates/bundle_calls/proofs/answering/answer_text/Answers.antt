@@ -6,7 +6,7 @@ use Rattle.bundle_calls.proofs.answering.answer_text.Goals as goal
 
 pub returns-in-Ok-clause-says : goal.returns-in-Ok-clause-says
 returns-in-Ok-clause-says g c =
-    inr (reply_status c.in-Ok.reply, reply_text c.in-Ok.reply, replies_to c.args.bytes.now c.in-Ok.reply c.in-Ok.ensures, c.write_reply.ensures.says)
+    inr (reply_status c.in-Ok.reply, reply_text c.in-Ok.reply, replies_to c.args.bytes.now c.in-Ok.reply c.in-Ok.ensures, c.write_reply-status.ensures.says)
 
 pub returns-in-Err-clause-says : goal.returns-in-Err-clause-says
 returns-in-Err-clause-says g c = inl (refl, Keeps-refl (g.K.Sink.held c.args.out.now), refl)
