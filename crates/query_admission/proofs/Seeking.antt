@@ -1,8 +1,8 @@
 -- The lists of names, as far as they are known.
-use Rattle.std.proofs.Common.{◌≡◌, ℕ, zero, suc, ◌+◌, ◌<◌, not, nat_lt, cond, List, [], ◌∷◌, ◌++◌, length, map, take, Option, Some, None, is_none, slice_get, sym, ap, ◌∙◌, subst, arith}
+use Rattle.std.proofs.Common.{◌≡◌, ℕ, zero, suc, ◌+◌, ◌<◌, not, nat_lt, cond, List, [], ◌∷◌, ◌++◌, length, get_or, map, take, Option, Some, None, is_none, slice_get, sym, ap, ◌∙◌, subst, arith}
 use Rattle.std.specs.List.{position, position_or_len}
 use Rattle.std.proofs.lemmas.Bool.{lt-ltb}
-use Rattle.std.proofs.lemmas.List.{length-map, length-take-le}
+use Rattle.std.proofs.lemmas.List.{length-map, length-take-le, map-append, take_more}
 use Rattle.query_admission.specs.declared.lists.Listed.{Listed}
 
 -- the first names are known, and the next one isn't: it is the first that has no list
@@ -54,3 +54,12 @@ known_more known_by (first ∷ names) (other ∷ known) (suc place) name list so
     let rest : map known_by (take place names) ≡ map Some known = cc in
     let later : map known_by (take (suc place) names) ≡ map Some (known ++ list ∷ []) = known_more known_by names known place name list rest at found in
     ap (λ o. o ∷ map known_by (take (suc place) names)) here ∙ ap (λ os. Some other ∷ os) later
+
+-- the sources of one list more
+pub sourced_more : (lists : List Listed) (place : ℕ) (sources now : List ℕ) (d : Listed) → place < length lists → sources ≡ map (λ l. l.source) (take place lists)
+    → now ≡ sources ++ (get_or lists place d).source ∷ [] → now ≡ map (λ l. l.source) (take (place + 1) lists)
+sourced_more lists place sources now d within so_far push =
+    push
+    ∙ ap (λ s. s ++ (get_or lists place d).source ∷ []) so_far
+    ∙ sym (map-append (λ (l : Listed). l.source) (take place lists) (get_or lists place d ∷ []))
+    ∙ ap (map (λ (l : Listed). l.source)) (sym (take_more lists place d within))
