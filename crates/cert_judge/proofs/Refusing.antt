@@ -1,5 +1,5 @@
 -- The text of a refusal is its line, and a judged text is told to be fixed or beaten.
-use Rattle.std.proofs.Common.{◌≡◌, List, ℕ, [], ◌∷◌, ◌++◌, Some, refl, ap, ◌∙◌, append-nil}
+use Rattle.std.proofs.Common.{◌≡◌, ℕ, [], ◌∷◌, ◌++◌, Some, refl, ap, ◌∙◌, append-nil}
 use Rattle.line_text.specs.Lines.{unlines}
 use Rattle.bundle_text.specs.declared.bundle.Bundle.{Bundle}
 use Rattle.cert_judge.specs.declared.told.Told.{Told}
