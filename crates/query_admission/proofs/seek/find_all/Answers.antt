@@ -1,4 +1,4 @@
-use Rattle.std.proofs.Common.{◌≡◌, ◌+◌, length, get_or, map, take, Some, None, suc, slice_get, sym, ◌∙◌, ap, subst, arith}
+use Rattle.std.proofs.Common.{◌≡◌, ◌+◌, length, map, take, Some, suc, slice_get, sym, ◌∙◌, ap, subst, arith}
 use Rattle.std.specs.List.{position}
 use Rattle.std.specs.Option.{is_none}
 use Rattle.std.specs.Slice.Iter.{iter_rest}
