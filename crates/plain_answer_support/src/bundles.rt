@@ -45,6 +45,20 @@ fn add_list(
     added
 }
 
+/// Adds so many lists of `count` objects.
+fn add_lists(
+    alloc: Global,
+    numbers: &mut Numbers,
+    lists: usize,
+    count: u32,
+    text: &mut String,
+) -> Option<()> {
+    for name in NAMES.iter().take(lists) {
+        add_list(alloc, numbers, name, count, text)?;
+    }
+    Some(())
+}
+
 /// Adds so many lists of `count` objects, and a query.
 fn add_all(
     alloc: Global,
@@ -54,9 +68,7 @@ fn add_all(
     query: &str,
     text: &mut String,
 ) -> Option<()> {
-    for name in NAMES.iter().take(lists) {
-        add_list(alloc, numbers, name, count, text)?;
-    }
+    add_lists(alloc, numbers, lists, count, text)?;
     add_pieces(text, &["query ", query, "\n"])
 }
 

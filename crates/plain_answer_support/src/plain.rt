@@ -1,6 +1,6 @@
 //! The certificate of what the plain program computes.
 
-ghost use Rattle.std.specs.Prelude.{◌≤◌};
+ghost use Rattle.std.specs.Prelude.{◌≤◌, IfSome, OnSome};
 ghost use Rattle.plain_ta.specs.Posed.{IsPosed};
 
 use super::bundles::NAMES;
@@ -157,14 +157,12 @@ fn add_plain_accesses(
     added
 }
 
-/// Adds the certificate of a query, whose text is asked over so many objects.
-fn add_certificate(
-    alloc: Global,
-    lists: &[MemList],
-    query: &Query,
-    asked: (&str, u32),
-    text: &mut String,
-) -> Option<()> {
+/// The costs in force of a query that may be asked over these lists. None where they are no table or not the query's, a sorted access
+/// costs nothing, or there is no memory.
+fn costs_over(alloc: Global, lists: &[MemList], query: &Query) -> Option<Costs>
+    ensures posed { OnSome result (IsPosed lists.now query.now.expr) }
+    ensures costs { IfSome result (λ costs. 1 ≤ costs.sorted) }
+{
     if !is_table(alloc, lists).ok()? {
         return None;
     }
@@ -175,6 +173,18 @@ fn add_certificate(
     if costs.sorted < 1 {
         return None;
     }
+    Some(costs)
+}
+
+/// Adds the certificate of a query, whose text is asked over so many objects.
+fn add_certificate(
+    alloc: Global,
+    lists: &[MemList],
+    query: &Query,
+    asked: (&str, u32),
+    text: &mut String,
+) -> Option<()> {
+    let costs = costs_over(alloc, lists, query)?;
     add_plain_answer(alloc, lists, query, costs, asked, text)?;
     add_plain_accesses(alloc, lists, query, costs, text)
 }
