@@ -96,6 +96,28 @@ through : {S X : Type 0} (f : S → X) (slots : List (Slot S)) → map f (map he
 through f [] = refl
 through f (slot ∷ slots) = ap (λ xs. f slot.source ∷ xs) (through f slots)
 
+-- as many are lent as were filled
+pub as_many_lent : {S : Type 0} (n : ℕ) (sources : List S) (slots now : List (Slot S)) → length sources ≡ n → map held slots ≡ sources → now ≡ slots
+    → n ≡ length now
+as_many_lent {S = S} n sources slots now many was is =
+    sym many ∙ sym (ap (length {A = S}) was) ∙ length-map slots held ∙ sym (ap (length {A = Slot S}) is)
+
+pub idle_lent : {S : Type 0} (slots now : List (Slot S)) → now ≡ slots → All IsIdle slots → All IsIdle now
+idle_lent slots now is idle = subst (All IsIdle) (sym is) idle
+
+-- and as many come back
+pub as_many_back : {S : Type 0} (list : S → Option (List Row)) (old out : List S) → map list out ≡ map list old → length out ≡ length old
+as_many_back list old out same = sym (length-map out list) ∙ ap (length {A = Option (List Row)}) same ∙ length-map old list
+
+-- slots that were lent are idle in their vector
+pub idle_back : {S : Type 0} (list : S → Option (List Row)) (len : ℕ) (before after : List (Slot S)) → len ≡ length before
+    → map (λ slot. list slot.source) after ≡ map (λ slot. list slot.source) before → All IsIdle after
+    → All IsIdle (take len (after ++ drop (length after) before))
+idle_back list len before after long same idle =
+    let as_long : length after ≡ length before =
+    sym (length-map after (λ slot. list slot.source)) ∙ ap (length {A = Option (List Row)}) same ∙ length-map before (λ slot. list slot.source) in
+    subst (All IsIdle) (sym (ap (λ n. take n (after ++ drop (length after) before)) long ∙ lent_back before after as_long)) idle
+
 -- what is taken out of a vector of slots that was lent
 pub out_of : {S : Type 0} (list : S → Option (List Row)) (len : ℕ) (before after : List (Slot S)) (out : List S) → len ≡ length before
     → map (λ slot. list slot.source) after ≡ map (λ slot. list slot.source) before → out ≡ map held (take len (after ++ drop (length after) before))
