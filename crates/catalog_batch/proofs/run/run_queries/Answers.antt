@@ -1,4 +1,4 @@
-use Rattle.std.proofs.Common.{◌≡◌, ℕ, ◌≤◌, length, map, refl, subst, arith}
+use Rattle.std.proofs.Common.{◌≡◌, length, map, subst}
 use Rattle.batch_result.specs.Batches.{IsBatch, run_of}
 use Rattle.std.specs.List.{AllZip}
 use Rattle.source_api.specs.Counting.{NoneFell}
@@ -52,33 +52,10 @@ returns-in-Err-clause-later g c =
     (subst (λ b. AllZip NoneFell (map (λ slot. g.S.Source.counts slot.source) b) (map (λ slot. g.S.Source.counts slot.source) after)) c.deref_mut.ensures.value c.run_all-result.ensures.later) out
 
 -- ---- what the calls require
-room_for : (count capacity len : ℕ) → capacity ≡ len → len ≡ count → count ≤ capacity
-room_for count capacity len is long = omega (arith, is, long)
-
-pub fill_slots-requires-clause-none : goal.fill_slots-requires-clause-none
-fill_slots-requires-clause-none g c κs within = c.in-Ok.ensures.items
-
-pub fill_slots-requires-clause-room : goal.fill_slots-requires-clause-room
-fill_slots-requires-clause-room g c κs within = room_for _ _ c.len.result c.in-Ok.ensures.exact c.len.ensures
-
-pub run_all-result-requires-clause-settings : goal.run_all-result-requires-clause-settings
-run_all-result-requires-clause-settings g c κs within = c.requires.settings
 
 pub run_all-result-requires-clause-sources : goal.run_all-result-requires-clause-sources
 run_all-result-requires-clause-sources g c κs within =
     as_many_lent (length c.args.counts.now) c.args.sources.now.items c.fill_slots.new.slots.items c.deref_mut.result.now c.requires.many c.fill_slots.ensures.sources c.deref_mut.ensures.value
-
-pub run_all-result-requires-clause-few_sources : goal.run_all-result-requires-clause-few_sources
-run_all-result-requires-clause-few_sources g c κs within = c.requires.few_sources
-
-pub run_all-result-requires-clause-counts : goal.run_all-result-requires-clause-counts
-run_all-result-requires-clause-counts g c κs within = c.requires.small
-
-pub run_all-result-requires-clause-few_queries : goal.run_all-result-requires-clause-few_queries
-run_all-result-requires-clause-few_queries g c κs within = c.requires.few_queries
-
-pub run_all-result-requires-clause-ready : goal.run_all-result-requires-clause-ready
-run_all-result-requires-clause-ready g c κs within = c.requires.ready
 
 pub run_all-result-requires-clause-empty : goal.run_all-result-requires-clause-empty
 run_all-result-requires-clause-empty g c κs within = idle_lent c.fill_slots.new.slots.items c.deref_mut.result.now c.deref_mut.ensures.value c.fill_slots.ensures.idle
@@ -90,15 +67,7 @@ take_out-requires-clause-idle g c κs within =
     let same = subst (λ b. map (λ slot. g.S.Source.list slot.source) after ≡ map (λ slot. g.S.Source.list slot.source) b) c.deref_mut.ensures.value c.run_all-result.ensures.lists in
     idle_back g.S.Source.list before.len before.items after before.ok.0 same c.run_all-result.ensures.empty
 
-pub take_out-requires-clause-none : goal.take_out-requires-clause-none
-take_out-requires-clause-none g c κs within = c.fill_slots.ensures.none
-
-pub take_out-requires-clause-room : goal.take_out-requires-clause-room
-take_out-requires-clause-room g c κs within = c.fill_slots.ensures.room
-
 -- ---- how many sources come back
-pub returns-in_default-clause-lists : goal.returns-in_default-clause-lists
-returns-in_default-clause-lists g c = refl
 
 pub returns-in-Ok-result-clause-many : goal.returns-in-Ok-result-clause-many
 returns-in-Ok-result-clause-many g c = as_many_back g.S.Source.list c.args.sources.now.items c.take_out.new.sources.items (returns-in-Ok-result-clause-lists g c)
