@@ -1,6 +1,6 @@
 //! What is replied to an input: what becomes of the query of the bundle that it is.
 
-ghost use Rattle.std.specs.Prelude.{◌≡◌, IfOk};
+ghost use Rattle.std.specs.Prelude.{IfOk};
 ghost use Rattle.bundle_text.specs.Bundle.{content, IsBundle};
 ghost use Rattle.query_admission.specs.Admission.{IsAdmitted};
 ghost use Rattle.bundle_calls.specs.Bundled.{bundle_line};

@@ -1,6 +1,6 @@
 //! The expressions of made queries.
 
-ghost use Rattle.std.specs.Prelude.{◌≡◌, ◌≤◌, ◌<◌, map, vec_len, IfOk};
+ghost use Rattle.std.specs.Prelude.{◌≡◌, ◌≤◌, ◌<◌, map, IfOk};
 ghost use Rattle.monotone_fn.specs.Shown.{tree_of, term_of};
 ghost use Rattle.made_queries.specs.Made.{list_trees, list_terms, made_tree};
 

@@ -1,6 +1,6 @@
 //! Admission of query lines.
 
-ghost use Rattle.std.specs.Prelude.{◌≡◌, ◌≤◌, ◌<◌, ℕ, List, length, map, Ok, Err, IfOk, MatchOption};
+ghost use Rattle.std.specs.Prelude.{◌≡◌, ◌≤◌, ◌<◌, ℕ, List, length, map, Ok, Err, IfOk};
 ghost use Rattle.query_text.specs.Reading.{Reads};
 ghost use Rattle.query_admission.specs.Causes.{most_queries, text_refusal};
 ghost use Rattle.query_admission.specs.Admission.{Admits};
