@@ -15,3 +15,12 @@ mod orders;
 mod tables;
 #[cfg(test)]
 mod trials;
+
+#[cfg(test)]
+use std::process::Abort;
+
+/// Every case comes to what is wanted: there is no first one that doesn't.
+#[cfg(test)]
+fn none_is_wrong(rt: &impl Abort, first_wrong: Option<usize>) {
+    assert_eq!(rt; first_wrong, None);
+}

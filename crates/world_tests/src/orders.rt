@@ -3,6 +3,7 @@
 ghost use Rattle.std.specs.Prelude.{◌<◌, ◌≤◌, ◌^◌, All, length};
 ghost use Rattle.query_turns.specs.Made.{IsReadyFor};
 
+use super::none_is_wrong;
 use super::trials::{TRIALS, Trial};
 use limits::MAX_OBJECTS;
 use query_core::Ready;
@@ -204,17 +205,28 @@ fn try_orders(
     Err("fewer orders".into())
 }
 
-/// Whether a trial has as many orders as it says, and the queries end as they are to after each.
+/// Whether a trial, whose queries are ready, has as many orders as it says, and the queries end as they are to after each.
+fn are_alike(alloc: Global, trial: &Trial, readies: &[Ready]) -> Result<bool, Fail>
+    requires sources { length trial.now.counts.now < 2 ^ 32 }
+    requires counts { All (λ count. count ≤ MAX_OBJECTS) trial.now.counts.now }
+    requires queries { length readies.now < 2 ^ 32 }
+    requires ready { All (IsReadyFor trial.now.counts.now) readies.now }
+{
+    let mut order: [u8; 8] = [0; 8];
+    let counted = try_orders(alloc, trial, readies, &mut order)?;
+    Ok(counted == Some(trial.orders))
+}
+
+/// The same of queries as plain data.
 fn is_alike(alloc: Global, trial: &Trial) -> Result<bool, Fail> {
     let readies = readies_of(alloc, trial.counts, trial.asked)?;
     if !are_small(trial.counts) || trial.counts.len() > 100 || readies.len() > 100 {
         let_go(readies);
         return Err("a few small sources".into());
     }
-    let mut order: [u8; 8] = [0; 8];
-    let counted = try_orders(alloc, trial, &readies, &mut order);
+    let alike = are_alike(alloc, trial, &readies);
     let_go(readies);
-    Ok(counted? == Some(trial.orders))
+    alike
 }
 
 /// The number of the first trial that is otherwise.
@@ -230,6 +242,6 @@ fn first_otherwise(alloc: Global, trials: &[Trial]) -> Result<Option<usize>, Fai
 /// All lists of so many lawful steps.
 #[test]
 fn queries_end_alike_in_every_order(rt: HostRuntime) -> Result<(), Fail> {
-    assert_eq!(rt; first_otherwise(rt.alloc(), &TRIALS)?, None);
+    none_is_wrong(&rt, first_otherwise(rt.alloc(), &TRIALS)?);
     Ok(())
 }
