@@ -1,5 +1,5 @@
 -- What a transcript of many objects takes may be fed to a machine of fewer.
-use Rattle.std.proofs.Common.{◌≡◌, ℕ, [], ◌∷◌, ◌++◌, Contains, refl, sym, ap, subst, ◌∙◌}
+use Rattle.std.proofs.Common.{◌≡◌, ℕ, [], ◌∷◌, ◌++◌, Contains, refl, ap, subst, ◌∙◌}
 use Rattle.topk_theory.specs.declared.access.Access.{Access}
 use Rattle.topk_theory.specs.declared.access.Access.TheVariants.{Sorted, Random}
 use Rattle.topk_theory.specs.Transcript.{seen_objects}
