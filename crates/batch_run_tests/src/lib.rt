@@ -12,8 +12,8 @@ mod faults;
 #[cfg(test)]
 mod grades;
 #[cfg(test)]
-mod memory;
-#[cfg(test)]
 mod runs;
+#[cfg(test)]
+mod shortage;
 #[cfg(test)]
 mod tables;

@@ -1,6 +1,6 @@
 //! How batches go.
 
-use super::{ahead, beside, faults, grades, memory, tables};
+use super::{ahead, beside, faults, grades, shortage, tables};
 use batch_support::first_wrong;
 use gated_support::{goes_again, goes_so};
 use std::alloc::Global;
@@ -73,6 +73,6 @@ fn queries_and_fetchers_run_at_the_same_time(rt: HostRuntime) -> Result<(), Fail
 /// A batch that wants memory runs again.
 #[test]
 fn a_batch_that_wants_memory_runs_again(rt: HostRuntime) -> Result<(), Fail> {
-    assert!(rt; goes_again(&rt, rt.alloc(), &memory::SHORT)?);
+    assert!(rt; goes_again(&rt, rt.alloc(), &shortage::SHORT)?);
     Ok(())
 }
