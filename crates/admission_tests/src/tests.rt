@@ -6,7 +6,6 @@ ghost use Rattle.query_admission.specs.View.{View};
 use cert_text::Refusal;
 use query_admission::{Admitted, Listed, Lists, admit};
 use std::alloc::Global;
-use std::test::Fail;
 
 /// What a name of one byte finds, and what each other name finds.
 #[derive(Drop)]
@@ -150,36 +149,40 @@ fn told(refusal: Refusal) -> Told {
 }
 
 /// What is told of the refusal of a line, or None where it is ready.
-fn refusal_of(
-    alloc: Global,
-    lists: &Two,
-    line: u64,
-    bytes: &'static [u8],
-) -> Result<Option<Told>, Fail> {
-    match admit(alloc, lists, line, bytes)? {
-        Admitted::Ready(_) => Ok(None),
-        Admitted::Refused { refusal, .. } => Ok(Some(told(refusal))),
+fn told_of(admitted: &Admitted) -> Option<Told> {
+    match admitted {
+        Admitted::Ready(_) => None,
+        Admitted::Refused { refusal, .. } => Some(told(*refusal)),
     }
 }
 
+/// Whether a line is refused so.
+fn is_refused(alloc: Global, lists: &Two, line: u64, bytes: &[u8], refused: Told) -> bool {
+    let Ok(admitted) = admit(alloc, lists, line, bytes) else {
+        return false;
+    };
+    let is_so = told_of(&admitted) == Some(refused);
+    drop(admitted);
+    is_so
+}
+
 /// The number of the first row that comes to something else.
-fn first_wrong(alloc: Global, rows: &[Row]) -> Result<Option<usize>, Fail> {
+fn first_wrong(alloc: Global, rows: &[Row]) -> Option<usize> {
     for (number, (short, long, line, bytes, refused)) in rows.iter().enumerate() {
         let lists = Two {
             short: listed(*short),
             long: listed(*long),
         };
-        if refusal_of(alloc, &lists, *line, *bytes)? != Some(*refused) {
-            return Ok(Some(number));
+        if !is_refused(alloc, &lists, *line, *bytes, *refused) {
+            return Some(number);
         }
     }
-    Ok(None)
+    None
 }
 
 #[test]
-fn refuses_in_order(rt: HostRuntime) -> Result<(), Fail> {
-    assert_eq!(rt; first_wrong(rt.alloc(), ROWS)?, None);
-    Ok(())
+fn refuses_in_order(rt: HostRuntime) {
+    assert_eq!(rt; first_wrong(rt.alloc(), ROWS), None);
 }
 
 /// Whether a line is ready with this count and these sources.
@@ -190,15 +193,21 @@ fn is_ready(admitted: &Admitted, count: u32, sources: &[u32]) -> bool {
     }
 }
 
-#[test]
-fn admits(rt: HostRuntime) -> Result<(), Fail> {
+/// Whether a line over the most objects is ready.
+fn is_admitted(alloc: Global) -> bool {
     let lists = Two {
         short: listed(Under::SortedOnly(200_000)),
         long: listed(Under::Both(200_000)),
     };
-    let admitted = admit(rt.alloc(), &lists, 64, b"top 4 by sum(BB,A) using nra")?;
+    let Ok(admitted) = admit(alloc, &lists, 64, b"top 4 by sum(BB,A) using nra") else {
+        return false;
+    };
     let is_so = is_ready(&admitted, 200_000, &[7, 9]);
     drop(admitted);
-    assert!(rt; is_so);
-    Ok(())
+    is_so
+}
+
+#[test]
+fn admits(rt: HostRuntime) {
+    assert!(rt; is_admitted(rt.alloc()));
 }
