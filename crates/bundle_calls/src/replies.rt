@@ -12,7 +12,6 @@ use bundle_text::{Bundle, BundleFault, read_bundle};
 use cert_text::{Outcome, Refusal};
 use query_admission::{Admitted, LineOutcome, admit};
 use query_core::{DriveFault, Ready};
-use query_text::Query;
 use std::alloc::Global;
 use told_run::answer_over;
 
@@ -68,7 +67,7 @@ fn run_ready(alloc: Global, bundle: &Bundle, ready: Ready) -> Result<LineOutcome
             outcome,
         }),
         Err(_) => {
-            let_query_go(Some(ready.query));
+            ready.query.let_go();
             Err(Memory)
         }
     }
@@ -94,13 +93,12 @@ fn outcome_of(alloc: Global, bundle: &Bundle, ready: &Ready) -> Result<Outcome, 
 pub(crate) fn let_go(reply: Reply) {
     if let Reply::Line(line) = reply {
         let LineOutcome { query, outcome, .. } = line;
-        let_query_go(query);
+        if let Some(query) = query {
+            query.let_go();
+        }
         let_outcome_go(outcome);
     }
 }
 
-/// Lets a query go, if there is one.
-fn let_query_go(_query: Option<Query>) {}
-
-/// Lets an outcome go.
+/// Lets an outcome go. What falls out of scope here is written out once, where `drop` would bring a function for each type under it.
 fn let_outcome_go(_outcome: Outcome) {}

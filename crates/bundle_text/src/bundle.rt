@@ -82,7 +82,7 @@ fn read_rest(alloc: Global, mut reader: Reader, bytes: &[u8]) -> Result<Bundle, 
 /// The bundle that ends with a query line of this number, if no line is left after it.
 fn read_end(
     alloc: Global,
-    mut reader: Reader,
+    reader: Reader,
     query: &[u8],
     number: u64,
     rest: &[u8],
@@ -98,9 +98,7 @@ fn read_end(
         drop(reader);
         return Err(BundleFault::BadBundle { line: number + 1 });
     }
-    let ended = reader.end(alloc, query);
-    drop(reader);
-    Ok(ended?)
+    Ok(reader.end(alloc, query)?)
 }
 
 /// The bundle that the lines of a text spell.

@@ -1,6 +1,6 @@
 //! The reading of a bundle's lists, row by row.
 
-ghost use Rattle.std.specs.Prelude.{◌≡◌, ◌==◌, ◌||◌, ◌&&◌, not, is_some, None, IsTrue, IfOk, OnOk, if◌then◌else◌, length};
+ghost use Rattle.std.specs.Prelude.{◌≡◌, ◌==◌, ◌||◌, ◌&&◌, not, is_some, None, IsTrue, IfOk, OnOk};
 ghost use Rattle.std.specs.List.{list_any};
 ghost use Rattle.std.specs.Str.{bytes_eq};
 ghost use Rattle.bundle_text.specs.Reading.{takes_row, with_row, takes_list, with_list, takes_part, with_part, part_read, room, is_whole, is_taken, with_query, first_front};
@@ -141,8 +141,17 @@ impl Reader {
         has_name(&self.names, name) || self.name.as_slice() == name
     }
 
-    /// The bundle of these lists and a query. The reader is of no more use.
-    pub(crate) fn end(&mut self, alloc: Global, query: &[u8]) -> Result<Bundle, Memory>
+    /// The bundle of these lists and a query.
+    pub(crate) fn end(mut self, alloc: Global, query: &[u8]) -> Result<Bundle, Memory>
+        ensures { IfOk result (λ bundle. content bundle ≡ with_query (front_of self) query.now) }
+    {
+        let bundle = self.take_bundle(alloc, query);
+        drop(self);
+        bundle
+    }
+
+    /// Takes the bundle of these lists and a query out of the reader, which is let go then.
+    fn take_bundle(&mut self, alloc: Global, query: &[u8]) -> Result<Bundle, Memory>
         ensures { IfOk result (λ bundle. content bundle ≡ with_query (front_of self.old) query.now) }
     {
         self.close(alloc, b"")?;

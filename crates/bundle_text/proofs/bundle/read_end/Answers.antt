@@ -12,4 +12,4 @@ returns-in-Some c =
 pub returns : goal.returns
 returns c =
     ends_alone (front_of c.args.reader) c.args.number (lines c.args.rest.now) (λ _. Err c.args.number) c.args.query.now (sym c.is_whole.ensures ∙ c.if-not-is_whole.false) (ap lines c.in_default.ensures ∙ lines-nil)
-    ∙ ap Ok (sym c.in_ok-ended.ensures)
+    ∙ ap Ok (sym c.in_ok-end.ensures)

@@ -1,6 +1,6 @@
 use Rattle.bundle_text.specs.declared.bundle.Bundle.{Bundle}
 use Rattle.bundle_text.proofs.TrackLaws.{ended}
-use Rattle.bundle_text.proofs.reader.Reader.end.Goals as goal
+use Rattle.bundle_text.proofs.reader.Reader.take_bundle.Goals as goal
 
 pub returns : goal.returns
 returns c =
