@@ -184,7 +184,8 @@ fn turn_first(world: &mut World, workers: u32) {
     }
 }
 
-/// Rounds of turns and of calls of the sources, until all queries have ended. None where they don't.
+/// Rounds of turns and of calls of the sources, until all queries have ended. None where they don't, or where the pages aren't of 1 to
+/// 1,000 rows.
 pub fn end_by_rounds(
     alloc: Global,
     world: &mut World,
@@ -193,6 +194,9 @@ pub fn end_by_rounds(
 ) -> Option<()>
     ensures { OnSome result (All (λ query. is_ended query ≡ true) world.new.queries) }
 {
+    if sources.page == 0 || sources.page > 1000 {
+        return None;
+    }
     let mut sources = *sources;
     for _round in 0..1000 {
         if world.all_ended() {
