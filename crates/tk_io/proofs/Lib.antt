@@ -1,4 +1,5 @@
 -- Lemmas on streams.
+mod Causes
 pub mod Putting
 mod Reading
 mod Writing

@@ -16,7 +16,7 @@ use std::marker::Model;
 /// Contracts see it as the record of the bytes that are left, the most bytes that one call gives,
 /// the numbers of the calls that fail (calls count from 1), how many calls there were, and how many
 /// of them failed.
-#[derive(Debug, Drop)]
+#[derive(Drop)]
 pub struct MemIntake {
     bytes: Vec<u8>,
     at: usize,

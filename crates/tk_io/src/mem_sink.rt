@@ -15,7 +15,7 @@ use std::marker::Model;
 /// Contracts see it as the record of the bytes that it holds, the room for bytes in all, the
 /// numbers of the calls that fail (calls count from 1), how many calls there were, and how many of
 /// them failed.
-#[derive(Debug, Drop)]
+#[derive(Drop)]
 pub struct MemSink {
     bytes: Vec<u8>,
     room: u32,

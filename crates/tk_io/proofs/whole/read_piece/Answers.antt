@@ -26,3 +26,18 @@ returns-clause-given g c = (
 
 pub returns-clause-ended : goal.returns-clause-ended
 returns-clause-ended g c = λ none. c.in-Ok.ensures.bytes.1 none (search rules)
+
+pub returns-in_default-clause-counts : goal.returns-in_default-clause-counts
+returns-in_default-clause-counts g c = c.in_default.ensures.cause.later
+
+pub returns-in_default-extend_from_slice-clause-counts : goal.returns-in_default-extend_from_slice-clause-counts
+returns-in_default-extend_from_slice-clause-counts g c = c.in-Ok.ensures.cause.later
+
+pub returns-in_default-extend_from_slice-clause-stopped : goal.returns-in_default-extend_from_slice-clause-stopped
+returns-in_default-extend_from_slice-clause-stopped g c = c.in-Ok.ensures.cause.stays
+
+pub returns-clause-counts : goal.returns-clause-counts
+returns-clause-counts g c = c.in-Ok.ensures.cause.later
+
+pub returns-clause-quiet : goal.returns-clause-quiet
+returns-clause-quiet g c = c.in-Ok.ensures.cause.stays

@@ -33,7 +33,7 @@ loop-text-preserved g c =
     let text = c.loop-text.text in
     let now = c.read_piece.new.text in (
       c.in_ok-read_piece.ensures.quiet ∙ c.loop-text.invariant.0,
-      subst (λ (all : List ℕ). Consumes (g.R.Intake.left c.args.input.now) (g.R.Intake.left c.read_piece.new.input) all) (sym given.3.1) (Consumes-trans _ _ _ text.items given.0 c.loop-text.invariant.1 given.1),
+      subst (λ (all : List ℕ). Consumes (g.R.Intake.left c.args.input.now) (g.R.Intake.left c.read_piece.new.input) all) (sym {A = List ℕ} given.3.1) (Consumes-trans _ _ _ text.items given.0 c.loop-text.invariant.1 given.1),
       omega (arith, ap (length {A = ℕ}) given.3.1, length-append text.items given.0, given.2, c.asked-most.ensures.within, now.ok.0, text.ok.0),
     )
 
@@ -43,6 +43,22 @@ returns-then-branch-eq0-clause-whole g c =
     let text = c.loop-text.text in
     record {
       within = omega (arith, ap (length {A = ℕ}) given.3.1, length-append text.items given.0, given.3.0, text.ok.0);
-      given = subst (λ (all : List ℕ). Consumes (g.R.Intake.left c.args.input.now) (g.R.Intake.left c.read_piece.new.input) all) (sym given.3.1) (Consumes-trans _ _ _ text.items given.0 c.loop-text.invariant.1 given.1);
+      given = subst (λ (all : List ℕ). Consumes (g.R.Intake.left c.args.input.now) (g.R.Intake.left c.read_piece.new.input) all) (sym {A = List ℕ} given.3.1) (Consumes-trans _ _ _ text.items given.0 c.loop-text.invariant.1 given.1);
       ended = c.in_ok-read_piece.ensures.ended c.if-branch-eq0.true;
     }
+
+pub returns-then-branch-eq0-clause-counts : goal.returns-then-branch-eq0-clause-counts
+returns-then-branch-eq0-clause-counts g c = omega (arith, c.in_ok-read_piece.ensures.counts, c.loop-text.invariant.0)
+
+pub returns-then-branch-eq0-clause-quiet : goal.returns-then-branch-eq0-clause-quiet
+returns-then-branch-eq0-clause-quiet g c = c.in_ok-read_piece.ensures.quiet ∙ c.loop-text.invariant.0
+
+pub returns-clause-counts : goal.returns-clause-counts
+returns-clause-counts g c = omega (arith, c.loop-text.invariant.0)
+
+pub loop-text-smaller : goal.loop-text-smaller
+loop-text-smaller g c =
+    let given = c.in_ok-read_piece.ensures.given in
+    let text = c.loop-text.text in
+    let now = c.read_piece.new.text in
+    omega (arith, ap (length {A = ℕ}) given.3.1, length-append text.items given.0, given.3.0, now.ok.0, text.ok.0)

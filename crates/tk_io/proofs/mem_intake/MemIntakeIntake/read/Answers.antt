@@ -1,6 +1,7 @@
-use Rattle.std.proofs.Common.{◌≤◌, length, refl, sym, ap, arith}
+use Rattle.std.proofs.Common.{◌≤◌, ◌<◌, ◌^◌, length, refl, sym, ap, arith, rules}
 use Rattle.std.proofs.lemmas.List.{length-take-le}
 use Rattle.tk_io.specs.InMemory.{Incoming}
+use Rattle.tk_io.proofs.Causes.{cause_counted, fails_by}
 use Rattle.tk_io.proofs.Reading.{reads_left, reads_least, reads_on, reads_none}
 use Rattle.tk_io.proofs.mem_intake.MemIntakeIntake.read.Goals as goal
 
@@ -33,3 +34,16 @@ invariant_of-self c = c.self.invariant
 
 pub returns-then-contains-clause-bytes : goal.returns-then-contains-clause-bytes
 returns-then-contains-clause-bytes c = ap (λ (m : Incoming). m.left) c.self.view_is
+
+pub returns-clause-fails : goal.returns-clause-fails
+returns-clause-fails c =
+    rw (← c.self.view_is) (fails_by _ c.self.inside.fails.items _ c.self.inside.calls _ _ c.contains.ensures.cases c.deref.ensures.value c.saturating_add-self-inside.ensures c.if-contains.false)
+
+pub returns-then-contains-clause-fails : goal.returns-then-contains-clause-fails
+returns-then-contains-clause-fails c =
+    rw (← c.self.view_is) (fails_by _ c.self.inside.fails.items _ c.self.inside.calls _ _ c.contains.ensures.cases c.deref.ensures.value c.saturating_add-self-inside.ensures c.if-contains.true)
+
+pub returns-then-contains-clause-cause : goal.returns-then-contains-clause-cause
+returns-then-contains-clause-cause c =
+    let few : c.self.inside.faults < 2 ^ 64 = search rules in
+    rw (← c.self.view_is) (cause_counted c.self.inside.faults _ _ few refl c.saturating_add-self-inside-then-contains.ensures)
