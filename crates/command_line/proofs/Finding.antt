@@ -1,10 +1,13 @@
 -- What `clap` finds in words that a process was given.
-use Rattle.std.proofs.Common.{◌≡◌, ℕ, true, List, [], ◌∷◌, map, subst, inl, inr}
+use Rattle.std.proofs.Common.{◌≡◌, ℕ, Err, true, List, [], ◌∷◌, map, subst, inl, inr}
 use Rattle.std.specs.Prelude.{string_bytes, String}
 use Rattle.std.proofs.lemmas.Str.{IsUtf8-string_bytes}
 use Rattle.clap.specs.Words.{App, Row, fault_of, matches_of, is_simple, is_simple_and_free, HasKind, IsAmong, kind_of}
 use Rattle.clap.specs.declared.error.Error.{Error}
 use Rattle.clap.specs.declared.error.kind.ErrorKind.TheVariants as kind
+use Rattle.std.specs.declared.result.Result.{Result}
+use Rattle.command_line.specs.declared.fault.WordsFault.{WordsFault}
+use Rattle.command_line.specs.declared.fault.WordsFault.TheVariants.{BadWords, Memory}
 use Rattle.command_line.specs.Finding.{AllUtf8, Finds, Refuses}
 
 -- the words of a process are texts
@@ -41,3 +44,7 @@ pub refuses : {Z : Type 0} (app plain : App) (words : List (List ℕ)) (strings 
     → Refuses plain words
 refuses app plain words strings e is same refused other =
     subst (Refuses plain) same (subst (λ a. Refuses a (map string_bytes strings)) is (refuses_here app strings e refused other))
+
+-- a want of memory is no refusal
+pub memory_apart : {A P : Type 0} (result : Result A WordsFault) → result ≡ Err Memory → result ≡ Err BadWords → P
+memory_apart result is e = absurd cc

@@ -4,5 +4,6 @@ pub mod SetRules
 pub mod Walking
 mod Clapping
 mod RuleLaws
+mod WordLaws
 pub mod OptionLaws
 mod LineLaws

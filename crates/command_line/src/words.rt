@@ -8,7 +8,7 @@ use std::alloc::Global;
 use std::marker::Model;
 
 /// The words after the program's name, which contracts see as the list of their bytes.
-#[derive(Debug, Drop)]
+#[derive(Drop)]
 pub struct Words {
     alloc: Global,
     words: Vec<String>,
@@ -44,10 +44,10 @@ impl Words {
         let Ok(word) = String::from_str(self.alloc, word) else {
             return Err(Memory);
         };
-        match self.words.push(word) {
-            Ok(()) => Ok(()),
-            Err(_) => Err(Memory),
-        }
+        let Ok(()) = self.words.push(word) else {
+            return Err(Memory);
+        };
+        Ok(())
     }
 
     /// The words, in their order.

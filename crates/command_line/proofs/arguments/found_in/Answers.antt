@@ -1,5 +1,5 @@
-use Rattle.std.proofs.Common.{◌∙◌}
-use Rattle.command_line.proofs.Finding.{finds, refuses}
+use Rattle.std.proofs.Common.{refl, ◌∙◌}
+use Rattle.command_line.proofs.Finding.{finds, memory_apart, refuses}
 use Rattle.command_line.proofs.arguments.found_in.Goals as goal
 
 pub returns-in-Ok-try_get_matches_from-clause-found :
@@ -12,3 +12,6 @@ returns c = record {
   found = tt;
   refused = λ e. refuses _ _ c.args.words.now _ c.in-Err.error c.in-Ok.ensures c.as_slice.ensures c.in-Err.ensures.kinds (λ memory. c.in_default-kind.not-OutOfMemory (c.kind.ensures ∙ memory));
 }
+
+pub returns-in-OutOfMemory-clause-refused : goal.returns-in-OutOfMemory-clause-refused
+returns-in-OutOfMemory-clause-refused c = λ e. memory_apart _ refl e
