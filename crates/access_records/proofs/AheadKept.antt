@@ -3,7 +3,7 @@ use Rattle.std.proofs.Common.{◌≡◌, ◌≢◌, ℕ, zero, suc, ◌+◌, ◌
 use Rattle.std.specs.Option.{option_and_then}
 use Rattle.std.proofs.Math.Nat.{le_refl, le_trans}
 use Rattle.std.proofs.lemmas.Bool.{cases_eq, cases_lt, true≢false}
-use Rattle.std.proofs.lemmas.List.{get_or-set_same, get_or-set_other, length-set, length-replicate}
+use Rattle.std.proofs.lemmas.List.{get_or-set_same, get_or-set_other, length-set, length-replicate, replicate_more}
 use Rattle.topk_theory.specs.declared.access.Access.{Access}
 use Rattle.topk_theory.specs.declared.access.Access.TheVariants.{Sorted, Random}
 use Rattle.topk_theory.specs.Transcript.{list_of, object_of, grade_of, is_sorted}
@@ -204,6 +204,24 @@ one_more_has_room room heaps list heap now l e before k h = elim (cases_eq list 
       let at = before k (omega (arith, h, other)) in
       omega (arith, same, at)
 ]
+
+-- a heap is written, and has the room that it had
+pub room_written : (room : ℕ) (heaps : List (List (Option ℕ))) (list : ℕ) (heap d now : List (Option ℕ)) → list < length heaps
+    → heap ≡ slice_index_or heaps list d → length now ≡ length heap → HaveRoom room heaps → HaveRoom room (slice_set heaps list now)
+room_written room heaps list heap d now l e s h = λ at k.
+    let same : heap ≡ heap_at heaps list = e ∙ at_any heaps list d [] l in
+    let within : at < length heaps = subst (λ n. at < n) (length-set heaps list now) k in
+    elim (cases_eq list at) [
+      | inl here ↦ subst (λ j. room ≤ length (heap_at (slice_set heaps list now) j)) here
+          (omega (arith, ap (length {A = Option ℕ}) (get_or-set_same heaps list now [] l), s, ap (length {A = Option ℕ}) same, h list l))
+      | inr other ↦ omega (arith, ap (length {A = Option ℕ}) (get_or-set_other heaps list at now [] (λ q. other (sym q))), h at within)
+    ]
+
+-- one heap more without a rank
+pub none_more : (n : ℕ) (heaps now : List (List (Option ℕ))) (heap : List (Option ℕ)) → now ≡ heaps ++ heap ∷ [] → heaps ≡ replicate n [] → heap ≡ []
+    → now ≡ replicate (n + 1) []
+none_more n heaps now heap e f g =
+    e ∙ ap (λ (hs : List (List (Option ℕ))). hs ++ heap ∷ []) f ∙ ap (λ (h : List (Option ℕ)). replicate n [] ++ h ∷ []) g ∙ replicate_more {X = List (Option ℕ)} n []
 
 -- no grades are known ahead before any access
 pub ahead_none : (m : ℕ) (heaps : List (List (Option ℕ))) → heaps ≡ replicate m [] → AreAhead m [] [] heaps

@@ -27,7 +27,7 @@ impl Ahead {
     {
         let mut heaps = Vec::with_capacity(alloc, lists as usize)?;
         for list in 0..lists {
-            heaps.push(IndexedHeap::make(alloc, 0)?)?;
+            heaps.push_reserved(IndexedHeap::make(alloc, 0)?);
         }
         Ok(Ahead { heaps })
     }

@@ -1,5 +1,6 @@
-use Rattle.std.proofs.Common.{Some, None, sym, ap, ◌∙◌}
-use Rattle.access_records.proofs.AheadKept.{ahead_written, ahead_stays, ahead_read, ahead_known, ahead_was_read}
+use Rattle.std.proofs.Common.{ℕ, ◌<◌, Option, Some, None, length, sym, ap, subst, ◌∙◌}
+use Rattle.std.proofs.lemmas.List.{length-set}
+use Rattle.access_records.proofs.AheadKept.{ahead_written, room_written, ahead_stays, ahead_read, ahead_known, ahead_was_read}
 use Rattle.access_records.proofs.ahead.Ahead.note.Goals as goal
 
 pub returns-then-is_sorted-clause-notes : goal.returns-then-is_sorted-clause-notes
@@ -16,3 +17,13 @@ returns-then-not-read-clause-notes c = λ m n A names some d e r h.
 pub returns-else-not-read-clause-notes : goal.returns-else-not-read-clause-notes
 returns-else-not-read-clause-notes c = λ m n A names some d e r h.
     ahead_stays m A c.args.access names c.args.self.now.heaps.items c.args.place d e (ahead_was_read A c.args.access (sym c.is_sorted.ensures ∙ c.if-is_sorted.false) (sym r ∙ c.if-not-read.false)) h
+
+pub returns-then-is_sorted-clause-room : goal.returns-then-is_sorted-clause-room
+returns-then-is_sorted-clause-room c = λ room h.
+    room_written room c.args.self.now.heaps.items c.list-list.result c.index_mut.result.now _ c.remove.new.self (subst (λ list. list < length c.args.self.now.heaps.items) (sym c.list-list.ensures) c.requires.list)
+    c.index_mut.ensures.value (ap (length {A = Option ℕ}) c.remove.ensures ∙ length-set c.index_mut.result.now c.args.place None) h
+
+pub returns-then-not-read-clause-room : goal.returns-then-not-read-clause-room
+returns-then-not-read-clause-room c = λ room h.
+    room_written room c.args.self.now.heaps.items c.list-list.result c.index_mut-then-not-read.result.now _ c.put.new.self (subst (λ list. list < length c.args.self.now.heaps.items) (sym c.list-list.ensures) c.requires.list)
+    c.index_mut-then-not-read.ensures.value (ap (length {A = Option ℕ}) c.put.ensures ∙ length-set c.index_mut-then-not-read.result.now c.args.place (Some c.grade.result)) h
