@@ -21,13 +21,13 @@ use Rattle.machine_base.specs.declared.base.Base.{Base}
 use Rattle.machine_base.specs.Base.{shown}
 use Rattle.machine_base.proofs.Held.{held_asked}
 use Rattle.machine_base.proofs.Makes.{answer_by}
-use Rattle.ta_progress.specs.Reading.{RowProgress, first_or_zero, need_at}
-use Rattle.ta_progress.specs.OnTable.{OnBoard}
+use Rattle.ta_core.specs.Reading.{RowProgress, first_or_zero, need_at}
+use Rattle.ta_core.specs.OnTable.{OnBoard}
 use Rattle.ta_core.specs.Kept.{Keeps}
 use Rattle.ta_core.specs.Machine.{IsAnswer}
-use Rattle.ta_progress.proofs.BoardSteps.{board_first}
+use Rattle.ta_core.proofs.BoardSteps.{board_first}
 use Rattle.ta_core.proofs.Runs.{need_in_row, need_after_row}
-use Rattle.ta_progress.proofs.Steps.{made_of_reading}
+use Rattle.ta_core.proofs.Steps.{made_of_reading}
 
 done_from_need : (m : ℕ) (r : RowProgress) → need_at m r ≡ Done → r.done ≡ true
 done_from_need m r e =

@@ -23,9 +23,9 @@ use Rattle.machine_base.specs.declared.base.Base.{Base}
 use Rattle.machine_base.specs.Base.{shown, IsHeld, Holds, IsReserved, IsTold, CanTake, TellsNew, HasNoRoom}
 use Rattle.machine_base.proofs.Held.{carried, some_before, takes}
 use Rattle.machine_base.proofs.Reserve.{row_can}
-use Rattle.ta_progress.specs.Reading.{RowProgress, first_or_zero, with_new, row_added, grade_added, row_begun, need_at}
+use Rattle.ta_core.specs.Reading.{RowProgress, first_or_zero, with_new, row_added, grade_added, row_begun, need_at}
 use Rattle.ta_core.specs.Kept.{IsKept, Keeps, Stands}
-use Rattle.ta_progress.proofs.BoardSteps.{waits_from, place_filled, place_left}
+use Rattle.ta_core.proofs.BoardSteps.{waits_from, place_filled, place_left}
 use Rattle.ta_core.proofs.Runs.{need_in_row, need_after_row, need_when_done, kept_depth, first_is_member, first_seen}
 use Rattle.ta_core.proofs.Sound.{sound_row, sound_grade, fed_row}
 use Rattle.ta_core.proofs.Feeds.{board_then, reading_then, kept_start, kept_row, kept_grade}

@@ -19,13 +19,13 @@ use Rattle.topk_theory.specs.Consistent.{SomeAgrees}
 use Rattle.machine_base.specs.Base.{IsHeld, TellsNew}
 use Rattle.machine_base.proofs.Held.{held_asked, held_more}
 use Rattle.machine_base.proofs.Depths.{first_reached}
-use Rattle.ta_progress.specs.Reading.{RowProgress, first_or_zero, with_new, row_added, grade_added, items_after, row_begun, followed}
-use Rattle.ta_progress.specs.OnTable.{OnRow, OnAsks, OnBoard, OnTable}
+use Rattle.ta_core.specs.Reading.{RowProgress, first_or_zero, with_new, row_added, grade_added, items_after, row_begun, followed}
+use Rattle.ta_core.specs.OnTable.{OnRow, OnAsks, OnBoard, OnTable}
 use Rattle.ta_core.specs.Kept.{IsSound, IsAtRest, IsKept}
-use Rattle.ta_progress.proofs.Rows.{row_goes_on}
-use Rattle.ta_progress.proofs.Asks.{row_is_last, grade_goes_on}
-use Rattle.ta_progress.proofs.BoardSteps.{board_after_row, board_after_grade}
-use Rattle.ta_progress.proofs.Steps.{row_of_reading, asks_of_reading, on_row, row_follows_on, asks_follow_on}
+use Rattle.ta_core.proofs.Rows.{row_goes_on}
+use Rattle.ta_core.proofs.Asks.{row_is_last, grade_goes_on}
+use Rattle.ta_core.proofs.BoardSteps.{board_after_row, board_after_grade}
+use Rattle.ta_core.proofs.Steps.{row_of_reading, asks_of_reading, on_row, row_follows_on, asks_follow_on}
 use Rattle.ta_core.proofs.Unasked.{waiting_unasked}
 use Rattle.ta_core.proofs.Sound.{sound_row, sound_grade, IsFed, fed_row, fed_grade, sound_followed}
 use Rattle.ta_core.proofs.Runs.{first_member, first_is_member}

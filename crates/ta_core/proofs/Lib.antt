@@ -1,3 +1,10 @@
+-- Lemmas on the steps of the threshold algorithm in a row, and on its machine.
+pub mod Rows
+pub mod Fills
+pub mod Asks
+pub mod BoardSteps
+pub mod NeedSteps
+pub mod Steps
 pub mod Runs
 pub mod Sound
 pub mod Feeds

@@ -17,11 +17,11 @@ use Rattle.machine_base.specs.declared.base.Base.{Base}
 use Rattle.machine_base.specs.Base.{shown}
 use Rattle.machine_base.proofs.Held.{held_asked}
 use Rattle.machine_base.proofs.Makes.{makes_run, at_end}
-use Rattle.ta_progress.specs.Reading.{RowProgress, first_or_zero, need_at}
+use Rattle.ta_core.specs.Reading.{RowProgress, first_or_zero, need_at}
 use Rattle.ta_core.specs.Kept.{Keeps}
 use Rattle.ta_core.specs.Machine.{MakesItsRun}
-use Rattle.ta_progress.proofs.NeedSteps.{row_next, grade_needed}
-use Rattle.ta_progress.proofs.Steps.{row_of_reading, asks_of_reading, made_of_reading}
+use Rattle.ta_core.proofs.NeedSteps.{row_next, grade_needed}
+use Rattle.ta_core.proofs.Steps.{row_of_reading, asks_of_reading, made_of_reading}
 
 -- what is needed, by where the reading is
 pub need_in_row : (m : ℕ) (r : RowProgress) → r.done ≡ false → length r.objects < m → need_at m r ≡ RowAt (length r.objects) r.depth

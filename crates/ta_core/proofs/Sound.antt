@@ -10,11 +10,11 @@ use Rattle.topk_theory.specs.declared.access.Access.TheVariants.{Sorted, Random}
 use Rattle.topk_theory.specs.Transcript.{seen_objects}
 use Rattle.topk_theory.proofs.AgreementLists.{contains_nil, contains_here, contains_there, all_from_members, member_of_all}
 use Rattle.topk_theory.proofs.ThresholdRun.{seen_from_access, seen_more}
-use Rattle.ta_progress.specs.Reading.{RowProgress, grades_in_row, filled, filled_first, first_or_zero, with_new, row_added, grade_added, moved, enough, followed}
+use Rattle.ta_core.specs.Reading.{RowProgress, grades_in_row, filled, filled_first, first_or_zero, with_new, row_added, grade_added, moved, enough, followed}
 use Rattle.ta_core.specs.Kept.{IsSound, IsAtRest}
-use Rattle.ta_progress.proofs.Fills.{length-grades_in_row, grades_in_row_end}
-use Rattle.ta_progress.proofs.BoardSteps.{waits_from}
-use Rattle.ta_progress.proofs.Steps.{settled_not, settled_scored, moved_on, moved_down}
+use Rattle.ta_core.proofs.Fills.{length-grades_in_row, grades_in_row_end}
+use Rattle.ta_core.proofs.BoardSteps.{waits_from}
+use Rattle.ta_core.proofs.Steps.{settled_not, settled_scored, moved_on, moved_down}
 
 -- the grades that a row has are some of its own
 capped_in_row : (object : ℕ) (os bs : List ℕ) → AreGrades bs → AreGrades (grades_in_row object os bs)

@@ -22,12 +22,12 @@ use Rattle.topk_theory.proofs.ThresholdLists.{contains_from_filter}
 use Rattle.topk_theory.proofs.ThresholdRun.{contains_from_filter_map, random_block_here, random_block_lower, seen_more, seen_stands, run_tame}
 use Rattle.machine_base.specs.Base.{asked_of_list}
 use Rattle.machine_base.proofs.Reserve.{chosen}
-use Rattle.ta_progress.specs.Reading.{RowProgress, first_or_zero}
-use Rattle.ta_progress.specs.OnTable.{OnAsks}
+use Rattle.ta_core.specs.Reading.{RowProgress, first_or_zero}
+use Rattle.ta_core.specs.OnTable.{OnAsks}
 use Rattle.ta_core.specs.Kept.{IsKept}
-use Rattle.ta_progress.proofs.NeedSteps.{grade_ahead}
+use Rattle.ta_core.proofs.NeedSteps.{grade_ahead}
 use Rattle.ta_core.proofs.Runs.{first_member}
-use Rattle.ta_progress.proofs.Steps.{asks_of_reading}
+use Rattle.ta_core.proofs.Steps.{asks_of_reading}
 
 -- ---- lists of different numbers
 distinct_append : (xs ys : List ℕ) → AllPairs (λ (a b : ℕ). a ≢ b) xs → AllPairs (λ (a b : ℕ). a ≢ b) ys → ((x : ℕ) → Contains xs x → ¬ Contains ys x)

@@ -9,8 +9,8 @@ use Rattle.topk_theory.specs.declared.access.Access.{Access}
 use Rattle.topk_theory.specs.Transcript.{Agrees, seen_objects}
 use Rattle.machine_base.specs.declared.base.Base.{Base}
 use Rattle.machine_base.specs.Base.{IsHeld, IsReserved}
-use Rattle.ta_progress.specs.Reading.{RowProgress, first_or_zero}
-use Rattle.ta_progress.specs.OnTable.{OnTable}
+use Rattle.ta_core.specs.Reading.{RowProgress, first_or_zero}
+use Rattle.ta_core.specs.OnTable.{OnTable}
 
 -- what a reading of m lists is, whatever the table
 pub record IsSound (m : ℕ) (A : List Access) (r : RowProgress) : Type 0 where

@@ -1,5 +1,7 @@
 //! The machine.
 
+use super::following::{follow, score};
+use super::progress::Progress;
 use access_log::{Access, Answer, CoreFault, Transcript};
 use best_k::Board;
 use limits::MAX_OBJECTS;
@@ -8,7 +10,6 @@ use monotone_fn::{Costs, Expr};
 use ranked_list::Row;
 use std::alloc::Global;
 use std::marker::Model;
-use ta_progress::{Progress, follow, score};
 
 /// The threshold algorithm on one query. It says which access it needs next, and is fed what that
 /// access gave. Contracts see it as a `MachineState`.
@@ -28,8 +29,8 @@ impl Model for Ta {
 
     ghost coded = { Prim.hlevel (codes, tree_code) };
 
-    ghost use Rattle.ta_progress.specs.Reading.{need_at};
-    ghost use Rattle.ta_progress.specs.Shown.{reading_of};
+    ghost use Rattle.ta_core.specs.Reading.{need_at};
+    ghost use Rattle.ta_core.specs.Shown.{reading_of};
     ghost use Rattle.machine_base.specs.Base.{shown};
     ghost use Rattle.ta_core.specs.Kept.{Stands};
 

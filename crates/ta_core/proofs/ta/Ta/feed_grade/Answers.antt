@@ -1,8 +1,8 @@
 use Rattle.std.proofs.Common.{length, get_or, arith}
 use Rattle.topk_theory.specs.declared.access.Access.TheVariants.{Random}
 use Rattle.machine_base.proofs.Held.{may_grade}
-use Rattle.ta_progress.specs.Reading.{first_or_zero, need_at}
-use Rattle.ta_progress.specs.Shown.{reading_of}
+use Rattle.ta_core.specs.Reading.{first_or_zero, need_at}
+use Rattle.ta_core.specs.Shown.{reading_of}
 use Rattle.ta_core.proofs.Runs.{kept_makes}
 use Rattle.ta_core.proofs.Calls.{IsReady, IsFed, next_grade_is, waits_first, can_grade, grade_fed, fed_ready, fed_kept, grade_taken}
 use Rattle.ta_core.proofs.ta.Ta.feed_grade.Goals as goal

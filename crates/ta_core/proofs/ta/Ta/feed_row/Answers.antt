@@ -2,8 +2,8 @@ use Rattle.std.proofs.Common.{◌<◌, length, subst, ap, ◌∙◌, arith}
 use Rattle.std.proofs.lemmas.Result.{err_from_is_err_and}
 use Rattle.topk_theory.specs.declared.access.Access.TheVariants.{Sorted}
 use Rattle.machine_base.proofs.Held.{may_row}
-use Rattle.ta_progress.specs.Reading.{row_added, need_at}
-use Rattle.ta_progress.specs.Shown.{reading_of}
+use Rattle.ta_core.specs.Reading.{row_added, need_at}
+use Rattle.ta_core.specs.Shown.{reading_of}
 use Rattle.ta_core.specs.Machine.{MakesItsRun}
 use Rattle.ta_core.proofs.Runs.{kept_makes}
 use Rattle.ta_core.proofs.Calls.{IsReady, IsFed, next_row_is, can_row, row_fed, fed_ready, fed_kept, row_taken, row_refused}

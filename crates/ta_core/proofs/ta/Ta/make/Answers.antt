@@ -1,5 +1,5 @@
 use Rattle.std.proofs.Common.{◌∙◌}
-use Rattle.ta_progress.specs.Shown.{reading_of}
+use Rattle.ta_core.specs.Shown.{reading_of}
 use Rattle.ta_core.proofs.Calls.{stands_start}
 use Rattle.ta_core.proofs.Runs.{kept_makes}
 use Rattle.ta_core.proofs.ta.Ta.make.Goals as goal

@@ -2,9 +2,9 @@ use Rattle.std.proofs.Common.{◌≡◌, subst, sym, ap, ◌∙◌}
 use Rattle.topk_theory.specs.Asked.{threshold_run}
 use Rattle.access_log.specs.Machine.{MachineState, IsInRange}
 use Rattle.access_log.proofs.MachineLaws.{in_range}
-use Rattle.ta_progress.specs.Reading.{need_at}
+use Rattle.ta_core.specs.Reading.{need_at}
 use Rattle.ta_core.specs.Machine.{MakesItsRun}
-use Rattle.ta_progress.specs.Shown.{reading_of}
+use Rattle.ta_core.specs.Shown.{reading_of}
 use Rattle.ta_core.proofs.Runs.{kept_makes}
 use Rattle.ta_core.proofs.ta.Ta.need.Goals as goal
 

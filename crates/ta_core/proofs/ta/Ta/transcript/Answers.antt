@@ -1,6 +1,6 @@
 use Rattle.std.proofs.Common.{subst}
 use Rattle.ta_core.specs.Machine.{MakesItsRun}
-use Rattle.ta_progress.specs.Shown.{reading_of}
+use Rattle.ta_core.specs.Shown.{reading_of}
 use Rattle.ta_core.proofs.Runs.{kept_makes}
 use Rattle.ta_core.proofs.ta.Ta.transcript.Goals as goal
 

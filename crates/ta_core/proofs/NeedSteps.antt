@@ -16,10 +16,10 @@ use Rattle.topk_theory.proofs.AgreementRows.{list_at_contains}
 use Rattle.topk_theory.proofs.ThresholdRun.{random_block_lower}
 use Rattle.machine_base.proofs.Depths.{at_on_path}
 use Rattle.machine_base.proofs.Rows.{row_needed}
-use Rattle.ta_progress.specs.Reading.{RowProgress}
-use Rattle.ta_progress.specs.OnTable.{OnRow, asks, OnAsks}
-use Rattle.ta_progress.proofs.Rows.{reads_rows, own}
-use Rattle.ta_progress.proofs.Asks.{run_at, stands_lower, map_at}
+use Rattle.ta_core.specs.Reading.{RowProgress}
+use Rattle.ta_core.specs.OnTable.{OnRow, asks, OnAsks}
+use Rattle.ta_core.proofs.Rows.{reads_rows, own}
+use Rattle.ta_core.proofs.Asks.{run_at, stands_lower, map_at}
 
 pub row_next : (V : List ℕ → ℕ) (k n : ℕ) (D : List (List Row)) (A : List Access) (r : RowProgress) → IsMonotone V → IsAsked k n D → OnRow V k n D A r
     → IsAt (ta_run V k D) A (RowAt (length r.objects) r.depth) × CanServe D (RowAt (length r.objects) r.depth)

@@ -23,9 +23,9 @@ use Rattle.topk_theory.proofs.ThresholdLists.{contains_filter, contains_from_fil
 use Rattle.topk_theory.proofs.ThresholdTop.{objects_from_distinct, scored_distinct, scored_member}
 use Rattle.topk_theory.proofs.ThresholdRun.{seen_from_access, access_from_seen, seen_more, run_sees, seen_stands}
 use Rattle.topk_theory.proofs.InOrder.{AreDistinct-rest}
-use Rattle.ta_progress.specs.Reading.{with_new, enough}
-use Rattle.ta_progress.specs.OnTable.{bottoms_at, OnBoard}
-use Rattle.ta_progress.proofs.Rows.{stands_object}
+use Rattle.ta_core.specs.Reading.{with_new, enough}
+use Rattle.ta_core.specs.OnTable.{bottoms_at, OnBoard}
+use Rattle.ta_core.proofs.Rows.{stands_object}
 
 -- one item put on a board
 put_less : (item held : Item) (items : List Item) → item.object < held.object → put_item item (held ∷ items) ≡ item ∷ held ∷ items

@@ -1,32 +1,32 @@
 //! How far a machine has come in the row that it reads.
 
 ghost use Rattle.std.specs.Prelude.{◌≡◌, ◌<◌, ◌≤◌, length};
-ghost use Rattle.ta_progress.specs.Reading.{filled, row_added, grade_added, settled, row_begun, need_at, is_scored, is_whole};
-ghost use Rattle.ta_progress.specs.Shown.{reading_of, filled_for};
+ghost use Rattle.ta_core.specs.Reading.{filled, row_added, grade_added, settled, row_begun, need_at, is_scored, is_whole};
+ghost use Rattle.ta_core.specs.Shown.{reading_of, filled_for};
 
 use arrayvec::ArrayVec;
 use limits::MAX_LISTS;
 use ranked_list::{Need, Row};
 
 /// At most one number for each list.
-pub type Few = ArrayVec<u32, MAX_LISTS>;
+pub(crate) type Few = ArrayVec<u32, MAX_LISTS>;
 
 /// The row at a depth as far as it is read: its objects and grades, those of its new objects that
 /// wait for grades, in the order of the lists, and the grades of the first of these so far.
 #[derive(Debug, Drop)]
-pub struct Progress {
-    pub depth: u32,
-    pub objects: Few,
-    pub bottoms: Few,
-    pub waiting: Few,
-    pub grades: Few,
+pub(crate) struct Progress {
+    pub(crate) depth: u32,
+    pub(crate) objects: Few,
+    pub(crate) bottoms: Few,
+    pub(crate) waiting: Few,
+    pub(crate) grades: Few,
     /// Whether the run is made.
-    pub done: bool,
+    pub(crate) done: bool,
 }
 
 impl Progress {
     /// The beginning of the row at a depth.
-    pub fn at(depth: u32) -> Progress
+    pub(crate) fn at(depth: u32) -> Progress
         ensures { reading_of result ≡ row_begun depth }
     {
         Progress {
@@ -40,7 +40,7 @@ impl Progress {
     }
 
     /// Begins the row at a depth, in place.
-    pub fn begin(&mut self, depth: u32)
+    pub(crate) fn begin(&mut self, depth: u32)
         ensures { reading_of self.new ≡ row_begun depth }
     {
         self.depth = depth;
@@ -53,7 +53,7 @@ impl Progress {
 
     /// Adds the next list's row. A new object waits for its grades, and a whole row tells the first
     /// of these the grades that it has of it.
-    pub fn add_row(&mut self, lists: u8, row: Row, is_new: bool)
+    pub(crate) fn add_row(&mut self, lists: u8, row: Row, is_new: bool)
         requires unread { length self.old.objects.items < lists }
         requires few { lists ≤ MAX_LISTS }
         requires same { length self.old.bottoms.items ≡ length self.old.objects.items }
@@ -73,7 +73,7 @@ impl Progress {
 
     /// Adds the grade in the next list of the first object that waits, and those that follow it in
     /// the row.
-    pub fn add_grade(&mut self, grade: u32)
+    pub(crate) fn add_grade(&mut self, grade: u32)
         requires waits { 0 < length self.old.waiting.items }
         requires missing { length self.old.grades.items < length self.old.objects.items }
         requires few { length self.old.objects.items ≤ MAX_LISTS }
@@ -105,14 +105,14 @@ impl Progress {
     }
 
     /// Whether the first object that waits has all its grades.
-    pub fn is_scored(&self, lists: u8) -> bool
+    pub(crate) fn is_scored(&self, lists: u8) -> bool
         ensures { result ≡ is_scored lists (reading_of self.now) }
     {
         self.grades.len() == lists as usize
     }
 
     /// An object that has all its grades waits no more.
-    pub fn settle(&mut self, lists: u8)
+    pub(crate) fn settle(&mut self, lists: u8)
         requires { length self.old.grades.items ≡ lists → 0 < length self.old.waiting.items }
         ensures { reading_of self.new ≡ settled lists (reading_of self.old) }
     {
@@ -123,14 +123,14 @@ impl Progress {
     }
 
     /// Whether the row is read and no object waits.
-    pub fn is_whole(&self, lists: u8) -> bool
+    pub(crate) fn is_whole(&self, lists: u8) -> bool
         ensures { result ≡ is_whole lists (reading_of self.now) }
     {
         self.objects.len() == lists as usize && self.waiting.is_empty()
     }
 
     /// What is needed next.
-    pub fn need(&self, lists: u8) -> Need
+    pub(crate) fn need(&self, lists: u8) -> Need
         ensures { result ≡ need_at lists (reading_of self.now) }
     {
         if self.done {

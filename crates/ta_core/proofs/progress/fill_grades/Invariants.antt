@@ -1,6 +1,6 @@
 use Rattle.std.proofs.Common.{◌≡◌, ◌-◌, length}
-use Rattle.ta_progress.specs.Reading.{filled}
-use Rattle.ta_progress.proofs.progress.fill_grades.Given as goal
+use Rattle.ta_core.specs.Reading.{filled}
+use Rattle.ta_core.proofs.progress.fill_grades.Given as goal
 
 abbrev pub invariant-loop-grades : goal.invariant-loop-grades
 invariant-loop-grades l = filled l.objects l.bottoms l.object l.grades.items ≡ filled l.objects l.bottoms l.object l.initial.grades.items

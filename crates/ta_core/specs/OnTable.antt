@@ -9,7 +9,7 @@ use Rattle.topk_theory.specs.Aggregate.{objects_of, grades_of}
 use Rattle.topk_theory.specs.Transcript.{each_once, seen_objects}
 use Rattle.topk_theory.specs.Threshold.{row_at, stands, random_block, ta_stop, ta_run_to, ta_run, scored}
 use Rattle.machine_base.specs.Depths.{IsReached, read_to}
-use Rattle.ta_progress.specs.Reading.{RowProgress}
+use Rattle.ta_core.specs.Reading.{RowProgress}
 
 -- the objects and the grades of lists at a depth
 abbrev pub objects_at : ℕ → List (List Row) → List ℕ

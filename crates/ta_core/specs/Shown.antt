@@ -1,7 +1,7 @@
 -- A reading as the code keeps it.
 use Rattle.std.specs.Prelude.{ℕ, List, [], ◌∷◌}
-use Rattle.ta_progress.specs.declared.progress.Progress.{Progress}
-use Rattle.ta_progress.specs.Reading.{RowProgress, filled}
+use Rattle.ta_core.specs.declared.progress.Progress.{Progress}
+use Rattle.ta_core.specs.Reading.{RowProgress, filled}
 
 -- the reading of a progress
 abbrev pub reading_of : Progress → RowProgress

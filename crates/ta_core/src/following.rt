@@ -5,15 +5,15 @@ ghost use Rattle.best_k.specs.Held.{Held};
 ghost use Rattle.monotone_fn.specs.Value.{value};
 ghost use Rattle.monotone_fn.specs.Limits.{AreGrades};
 ghost use Rattle.machine_base.specs.Base.{Holds};
-ghost use Rattle.ta_progress.specs.Reading.{enough, items_after, followed};
-ghost use Rattle.ta_progress.specs.Shown.{reading_of};
+ghost use Rattle.ta_core.specs.Reading.{enough, items_after, followed};
+ghost use Rattle.ta_core.specs.Shown.{reading_of};
 
 use super::progress::Progress;
 use best_k::Board;
 use machine_base::Base;
 
 /// Puts the first object that waits on the board, where it has all its grades.
-pub fn score(base: &Base, board: &mut Board, progress: &Progress)
+pub(crate) fn score(base: &Base, board: &mut Board, progress: &Progress)
     requires held { Holds base.now }
     requires grades { AreGrades progress.now.grades.items }
     requires waits { length progress.now.grades.items ≡ base.now.transcript.lists → 0 < length progress.now.waiting.items }
@@ -41,7 +41,7 @@ fn has_enough(board: &Board, bound: u64) -> bool
 
 /// What follows an access that is told: the object that has all its grades waits no more, and a whole
 /// row is the last one, where the algorithm stops, or makes room for the next.
-pub fn follow(base: &Base, board: &Board, progress: &mut Progress)
+pub(crate) fn follow(base: &Base, board: &Board, progress: &mut Progress)
     requires held { Holds base.now }
     requires bottoms { AreGrades progress.old.bottoms.items }
     requires same { length progress.old.bottoms.items ≡ length progress.old.objects.items }

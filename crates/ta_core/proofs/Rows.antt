@@ -24,8 +24,8 @@ use Rattle.topk_theory.proofs.ThresholdRun.{list_number, run_rows, sorted_member
 use Rattle.machine_base.specs.Depths.{read_to}
 use Rattle.machine_base.proofs.Depths.{IsOwn}
 use Rattle.machine_base.proofs.Rows.{ReadsRows, given_next, read_more}
-use Rattle.ta_progress.specs.Reading.{RowProgress, with_new, row_added}
-use Rattle.ta_progress.specs.OnTable.{objects_at, bottoms_at, OnRow}
+use Rattle.ta_core.specs.Reading.{RowProgress, with_new, row_added}
+use Rattle.ta_core.specs.OnTable.{objects_at, bottoms_at, OnRow}
 
 -- one more list
 pub take_one_more : (D : List (List Row)) (j : ℕ) → j < length D → take (suc j) D ≡ take j D ++ list_at D j ∷ []

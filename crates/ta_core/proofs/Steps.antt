@@ -11,12 +11,12 @@ use Rattle.topk_theory.specs.Transcript.{seen_objects}
 use Rattle.topk_theory.specs.Threshold.{IsAsked, ta_stop, ta_run, ta_run_to, ta_depth, scored, row_at}
 use Rattle.topk_theory.proofs.AgreementLists.{contains_here}
 use Rattle.topk_theory.proofs.ThresholdLists.{length-map}
-use Rattle.ta_progress.specs.Reading.{RowProgress, first_or_zero, items_after, settled, is_whole, row_begun, moved, enough, followed}
-use Rattle.ta_progress.specs.OnTable.{OnRow, OnAsks, IsMade, OnReading, OnBoard, OnTable}
-use Rattle.ta_progress.proofs.Asks.{all_grades, object_settles, row_is_made, row_follows}
-use Rattle.ta_progress.proofs.BoardSteps.{board_after_put, board_tells_stop}
+use Rattle.ta_core.specs.Reading.{RowProgress, first_or_zero, items_after, settled, is_whole, row_begun, moved, enough, followed}
+use Rattle.ta_core.specs.OnTable.{OnRow, OnAsks, IsMade, OnReading, OnBoard, OnTable}
+use Rattle.ta_core.proofs.Asks.{all_grades, object_settles, row_is_made, row_follows}
+use Rattle.ta_core.proofs.BoardSteps.{board_after_put, board_tells_stop}
 use Rattle.machine_base.proofs.Depths.{is_own}
-use Rattle.ta_progress.proofs.Rows.{own}
+use Rattle.ta_core.proofs.Rows.{own}
 
 -- where a reading is, by its length
 pub on_row : (V : List ℕ → ℕ) (k n : ℕ) (D : List (List Row)) (A : List Access) (r : RowProgress) → r.done ≡ false → OnRow V k n D A r → OnReading V k n D A r

@@ -10,8 +10,8 @@ use Rattle.ranked_list.proofs.RankLaws.{no_row}
 use Rattle.topk_theory.proofs.ThresholdTables.{place_in-object, grade_in-at_place}
 use Rattle.topk_theory.proofs.ThresholdDepth.{list_sized, list_ranked}
 use Rattle.topk_theory.proofs.ThresholdRun.{random_block_here}
-use Rattle.ta_progress.specs.Reading.{grades_in_row}
-use Rattle.ta_progress.specs.OnTable.{objects_at, bottoms_at}
+use Rattle.ta_core.specs.Reading.{grades_in_row}
+use Rattle.ta_core.specs.OnTable.{objects_at, bottoms_at}
 
 has_here : (object other bottom : ℕ) (os bs : List ℕ) → (other == object) ≡ true
     → grades_in_row object (other ∷ os) (bottom ∷ bs) ≡ bottom ∷ grades_in_row object os bs

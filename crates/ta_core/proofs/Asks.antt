@@ -22,12 +22,12 @@ use Rattle.ranked_list.proofs.RankLaws.{no_row}
 use Rattle.topk_theory.proofs.ThresholdTables.{place_in-lt, object-at_place}
 use Rattle.topk_theory.proofs.ThresholdDepth.{list_holds, table_holds}
 use Rattle.topk_theory.proofs.ThresholdRun.{row_object, random_block_lower}
-use Rattle.ta_progress.specs.Reading.{RowProgress, grades_in_row, filled, filled_first, first_or_zero, with_new, row_added, grade_added, row_begun}
-use Rattle.ta_progress.specs.OnTable.{objects_at, bottoms_at, OnRow, asks, AreFirstGrades, OnAsks}
+use Rattle.ta_core.specs.Reading.{RowProgress, grades_in_row, filled, filled_first, first_or_zero, with_new, row_added, grade_added, row_begun}
+use Rattle.ta_core.specs.OnTable.{objects_at, bottoms_at, OnRow, asks, AreFirstGrades, OnAsks}
 use Rattle.machine_base.proofs.Depths.{next_reached}
 use Rattle.machine_base.proofs.Rows.{read_none}
-use Rattle.ta_progress.proofs.Rows.{own, added}
-use Rattle.ta_progress.proofs.Fills.{skips, row_grades}
+use Rattle.ta_core.proofs.Rows.{own, added}
+use Rattle.ta_core.proofs.Fills.{skips, row_grades}
 
 drop_more : {X : Type 0} (xs : List X) (j k : ℕ) → drop k (drop j xs) ≡ drop (j + k) xs
 drop_more xs zero k = let e : k ≡ 0 + k = omega arith in ap (λ p. drop p xs) e
