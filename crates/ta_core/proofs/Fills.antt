@@ -13,7 +13,7 @@ use Rattle.topk_theory.proofs.ThresholdRun.{random_block_here}
 use Rattle.ta_core.specs.Reading.{grades_in_row}
 use Rattle.ta_core.specs.OnTable.{objects_at, bottoms_at}
 
-has_here : (object other bottom : ℕ) (os bs : List ℕ) → (other == object) ≡ true
+pub has_here : (object other bottom : ℕ) (os bs : List ℕ) → (other == object) ≡ true
     → grades_in_row object (other ∷ os) (bottom ∷ bs) ≡ bottom ∷ grades_in_row object os bs
 has_here object other bottom os bs t = ap (λ b. cond b (bottom ∷ grades_in_row object os bs) []) t
 

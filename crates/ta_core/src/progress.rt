@@ -13,7 +13,7 @@ pub(crate) type Few = ArrayVec<u32, MAX_LISTS>;
 
 /// The row at a depth as far as it is read: its objects and grades, those of its new objects that
 /// wait for grades, in the order of the lists, and the grades of the first of these so far.
-#[derive(Debug, Drop)]
+#[derive(Drop)]
 pub(crate) struct Progress {
     pub(crate) depth: u32,
     pub(crate) objects: Few,
