@@ -1,5 +1,5 @@
 -- Before any access.
-use Rattle.std.proofs.Common.{◌≡◌, ◌≤◌, ℕ, true, false, min, List, [], Option, Some, None, length, replicate, slice_get, refl, sym, ◌∙◌, subst, arith}
+use Rattle.std.proofs.Common.{◌≡◌, ◌≤◌, ℕ, true, false, min, List, [], Option, Some, None, replicate, slice_get, refl, sym, ◌∙◌, subst, arith}
 use Rattle.std.proofs.lemmas.List.{length-replicate}
 use Rattle.std.proofs.lemmas.Option.{none-some, slice_get_past}
 use Rattle.indexed_heap.proofs.Within.{none_ranked}

@@ -1,7 +1,8 @@
 -- What each way of noting an access keeps, in the words of the call.
 use Rattle.std.proofs.Common.{◌≡◌, ℕ, ◌<◌, ◌≤◌, List, [], ◌∷◌, ◌++◌, length, set, Option, Some, None, nat_eq, position, Contains, sym, ap, subst, ◌∙◌, arith}
 use Rattle.std.specs.List.{slice_get}
-use Rattle.std.proofs.lemmas.Option.{same_Some}
+use Rattle.std.proofs.lemmas.List.{length-set}
+use Rattle.std.proofs.lemmas.Option.{same_Some, slice_get_within}
 use Rattle.monotone_fn.specs.Tree.{Tree}
 use Rattle.monotone_fn.specs.Value.{value}
 use Rattle.monotone_fn.proofs.Laws.{value-monotone}
@@ -226,4 +227,23 @@ leaves_within e log object late slot leaves was is_at =
     let c : Contains (seen_objects (A ++ was.access ∷ [])) (object_of was.access) = subst (λ o. Contains (seen_objects (A ++ was.access ∷ [])) o) (sym was.named) (subst (λ B. Contains (seen_objects B) object) was.told was.seen) in
     let more = no_fewer A was.access (old_or_new A was.access c) in
     let size : length (seen_objects log.accesses) ≡ length (seen_objects (A ++ was.access ∷ [])) = ap (λ B. length (seen_objects B)) was.told in
+    omega arith
+
+-- the object's place, and that of whoever leaves, have room
+pub place_in_room : (e : Tree) (log : Log) (object : ℕ) (late : LateBounds) (place : ℕ) → WasLate e log object late
+    → position (nat_eq object) (seen_objects log.accesses) ≡ Some place → (place < late.first.room) × (place < length late.candidates)
+place_in_room e log object late place was at =
+    let within = slice_get_within (seen_objects log.accesses) place object (placed object place (seen_objects log.accesses) at) in
+    let fits = was.room in
+    let room = was.kept.kept.room in
+    (omega arith, omega arith)
+
+pub leaves_in_room : (e : Tree) (log : Log) (object : ℕ) (late : LateBounds) (slot leaves place : ℕ) (emptied : List (Option ℕ)) → WasLate e log object late
+    → IsAt late.first.entries leaves slot → emptied ≡ set late.candidates place None → leaves < length emptied
+leaves_in_room e log object late slot leaves place emptied was at is =
+    let within = leaves_within e log object late slot leaves was at in
+    let fits = was.room in
+    let room = was.kept.kept.room in
+    let size : length emptied ≡ length (set late.candidates place None) = ap (λ (cs : List (Option ℕ)). length cs) is in
+    let same : length (set late.candidates place None) ≡ length late.candidates = length-set late.candidates place None in
     omega arith

@@ -1,8 +1,9 @@
 -- The walk over the candidates: what each step keeps, and what its end tells.
-use Rattle.std.proofs.Common.{◌≡◌, ◌≢◌, ◌⊎◌, inl, inr, ℕ, ◌+◌, ◌<◌, ◌≤◌, true, List, length, set, Option, Some, None, is_some, nat_eq, position, refl, sym, ap, subst, ◌∙◌, arith}
+use Rattle.std.proofs.Common.{◌≡◌, ◌≢◌, ◌⊎◌, inl, inr, ℕ, ◌+◌, ◌<◌, ◌≤◌, true, cond, List, length, set, Option, Some, None, is_some, count_by, nat_eq, position, refl, sym, ap, subst, ◌∙◌, arith}
 use Rattle.std.specs.List.{slice_get}
 use Rattle.std.proofs.lemmas.Bool.{cases_eq, cases_lt, false≢true}
 use Rattle.std.proofs.lemmas.List.{length-set, get_or-set_same, get_or-set_other}
+use Rattle.std.proofs.lemmas.List.Sums.{sum_by-set}
 use Rattle.std.proofs.lemmas.Option.{none-some, same_Some, slice_get_within}
 use Rattle.topk_theory.specs.declared.access.Access.{Access}
 use Rattle.topk_theory.specs.Transcript.{seen_objects}
@@ -54,6 +55,24 @@ removed_was candidates place other kept lt at =
       | inl same ↦ absurd (none-some kept (sym (get_or-set_same candidates place None None lt) ∙ ap (λ q. rank_at (set candidates place None) q) (sym same) ∙ at))
       | inr n ↦ sym (get_or-set_other candidates place other None None n) ∙ at
     ]
+
+-- without it there is one candidate less
+pub one_less : (candidates now : List (Option ℕ)) (place kept : ℕ) → place < length candidates → rank_at candidates place ≡ Some kept
+    → now ≡ set candidates place None → count_by is_some now < count_by is_some candidates
+one_less candidates now place kept lt at is =
+    let was : cond {A = ℕ} (is_some (rank_at candidates place)) 1 0 ≡ 1 = ap (λ (o : Option ℕ). cond {A = ℕ} (is_some o) 1 0) at in
+    let moved : count_by is_some (set candidates place None) + cond {A = ℕ} (is_some (rank_at candidates place)) 1 0 ≡ count_by is_some candidates + 0 = sum_by-set (λ (o : Option ℕ). cond {A = ℕ} (is_some o) 1 0) candidates place None None lt in
+    let same : count_by is_some now ≡ count_by is_some (set candidates place None) = ap (λ (cs : List (Option ℕ)). count_by is_some cs) is in
+    omega arith
+
+-- it has a place in the room
+pub candidate_within : (V : List ℕ → ℕ) (k m : ℕ) (A : List Access) (first : Slots) (candidates : List (Option ℕ)) (place kept : ℕ)
+    → IsLate V k m A first candidates → rank_at candidates place ≡ Some kept → (place < first.room) × (place < length candidates)
+candidate_within V k m A first candidates place kept late at =
+    let l = late.waiting place kept at in
+    let r = late.room in
+    let f = late.fits in
+    (omega arith, omega arith)
 
 -- ---- a candidate whose high is no greater than the bound is given up
 pub walked_given_up : (V : List ℕ → ℕ) (k m : ℕ) (A : List Access) (bound : ℕ) (first : Slots) (candidates : List (Option ℕ)) (from place object kept : ℕ)

@@ -1,14 +1,14 @@
 -- What the walk answers, and what quiet is.
-use Rattle.std.proofs.Common.{◌≡◌, ◌≢◌, ◌⊎◌, inl, inr, ℕ, ◌+◌, ◌<◌, ◌≤◌, Bool, true, false, List, length, set, Option, Some, None, nat_cmp, refl, sym, ap, subst, ◌∙◌, arith}
+use Rattle.std.proofs.Common.{◌≡◌, ◌≢◌, ◌⊎◌, inl, inr, ℕ, ◌+◌, ◌<◌, ◌≤◌, Bool, true, false, List, length, set, Option, Some, None, MatchBool, nat_cmp, nat_le, refl, sym, ap, subst, ◌∙◌, arith}
 use Rattle.std.specs.List.{slice_get}
 use Rattle.std.specs.Bool.{IsTrue}
 use Rattle.std.specs.Cmp.{both_ways}
 use Rattle.std.specs.declared.cmp.Ordering.TheVariants.{Greater}
-use Rattle.std.proofs.lemmas.Bool.{false≢true}
+use Rattle.std.proofs.lemmas.Bool.{cases_lt, le-leb, lt-leb, false≢true}
 use Rattle.std.proofs.lemmas.Option.{none-some}
 use Rattle.topk_theory.specs.declared.access.Access.{Access}
 use Rattle.topk_theory.specs.Transcript.{seen_objects}
-use Rattle.topk_theory.specs.Bounds.{low, high}
+use Rattle.topk_theory.specs.Bounds.{low, high, threshold}
 use Rattle.topk_theory.proofs.Agreement.{seen_distinct}
 use Rattle.access_log.specs.Log.{Log}
 use Rattle.indexed_heap.specs.Ranks.{rank_at}
@@ -92,6 +92,19 @@ goes_on_exchanged V k m A bound first replaced after candidates then from next s
     (subst (λ cs. Walks V k m A bound now cs next) (sym then_is) (subst (λ n. Walks V k m A bound now (set candidates place None) n) (sym next_is) w))
 
 -- ---- quiet
+-- where some object wasn't seen the threshold decides
+pub unseen_by_threshold : (V : List ℕ → ℕ) (log : Log) (bound at : ℕ) → length (seen_objects log.accesses) < log.count
+    → at ≡ threshold V log.lists log.accesses
+    → MatchBool (nat_le at bound) (UnseenWithin V log bound) (¬ UnseenWithin V log bound)
+unseen_by_threshold V log bound at short is =
+    elim (cases_lt bound at) [
+      | inl above ↦ subst (λ b. MatchBool b (UnseenWithin V log bound) (¬ UnseenWithin V log bound)) (sym (lt-leb at bound above)) (λ within. elim within [
+        | inl all ↦ absurd (omega arith)
+        | inr upto ↦ absurd (omega arith)
+      ])
+      | inr upto ↦ subst (λ b. MatchBool b (UnseenWithin V log bound) (¬ UnseenWithin V log bound)) (sym (le-leb at bound upto)) (inr (omega arith))
+    ]
+
 pub quiet_few : (V : List ℕ → ℕ) (k m n : ℕ) (A : List Access) (first : Slots) (candidates : List (Option ℕ)) → IsLate V k m A first candidates
     → (length first.entries < k) ⊎ (k ≡ 0) → false ≡ is_quiet_seen V k m n A
 quiet_few V k m n A first candidates late few =

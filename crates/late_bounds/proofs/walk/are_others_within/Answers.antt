@@ -1,7 +1,8 @@
-use Rattle.std.proofs.Common.{inl, inr, ap, ◌∙◌, arith}
+use Rattle.std.proofs.Common.{inl, inr, refl, sym, ap, ◌∙◌, arith}
 use Rattle.std.proofs.lemmas.Option.{slice_get_within}
 use Rattle.monotone_fn.specs.Value.{value}
 use Rattle.ranked_slots.specs.Slots.{Slots}
+use Rattle.late_bounds.proofs.Walked.{candidate_within, one_less}
 use Rattle.late_bounds.proofs.Within.{none_above_greatest, none_above_nothing, all_within, one_against, candidate_absent, goes_on_without, goes_on_exchanged}
 use Rattle.late_bounds.proofs.walk.are_others_within.Goals as goal
 use Rattle.late_bounds.proofs.walk.are_others_within.Goals.{then-high-bound+else-low-bound+in-Some-next_to_leave, else-high-bound}
@@ -64,3 +65,72 @@ returns-clause-within c =
     let l = c.loop-candidate in
     all_within (value c.args.expr.now) c.args.first.now.most t.lists t.accesses c.args.bound c.args.first.now l.first c.args.candidates.now l.candidates l.from c.requires.kept c.requires.bound c.requires.enough l.invariant.walks
     (none_above_nothing l.candidates c.args.bound c.in_default.ensures.none)
+
+pub loop-candidate-init : goal.loop-candidate-init
+loop-candidate-init c = record {
+  walks = record {
+    late = c.requires.kept;
+    least = c.requires.bound;
+    open_before = λ slot after below _. (let h : ⊥ = omega arith in h);
+  };
+  room = refl;
+}
+
+pub object_at-object-requires : goal.object_at-object-requires
+object_at-object-requires c = c.loop-candidate.invariant.walks.late.waiting c.in-Some.candidate.key c.in-Some.candidate.rank c.in-Some.ensures.greatest.there
+
+pub high-requires : goal.high-requires
+high-requires c = sym c.requires.lists
+
+pub low-requires : goal.low-requires
+low-requires c = sym c.requires.lists
+
+pub next_to_leave-requires-clause-lists : goal.next_to_leave-requires-clause-lists
+next_to_leave-requires-clause-lists c = c.requires.lists
+
+pub next_to_leave-requires-clause-places : goal.next_to_leave-requires-clause-places
+next_to_leave-requires-clause-places c = c.loop-candidate.invariant.walks.late.places
+
+pub replace-requires-clause-within : goal.replace-requires-clause-within
+replace-requires-clause-within c =
+    let t = c.args.transcript.now in
+    let l = c.loop-candidate in
+    (candidate_within (value c.args.expr.now) c.args.first.now.most t.lists t.accesses l.first l.candidates c.in-Some.candidate.key c.in-Some.candidate.rank l.invariant.walks.late c.in-Some.ensures.greatest.there).0
+
+pub remove-requires : goal.remove-requires
+remove-requires c =
+    let t = c.args.transcript.now in
+    let l = c.loop-candidate in
+    (candidate_within (value c.args.expr.now) c.args.first.now.most t.lists t.accesses l.first l.candidates c.in-Some.candidate.key c.in-Some.candidate.rank l.invariant.walks.late c.in-Some.ensures.greatest.there).1
+
+pub loop-candidate-smaller : goal.loop-candidate-smaller
+loop-candidate-smaller c =
+    let t = c.args.transcript.now in
+    let l = c.loop-candidate in
+    one_less l.candidates c.remove.new.self c.in-Some.candidate.key c.in-Some.candidate.rank
+    (candidate_within (value c.args.expr.now) c.args.first.now.most t.lists t.accesses l.first l.candidates c.in-Some.candidate.key c.in-Some.candidate.rank l.invariant.walks.late c.in-Some.ensures.greatest.there).1
+    c.in-Some.ensures.greatest.there c.remove.ensures
+
+pub returns-then-candidate-bound-clause-room : goal.returns-then-candidate-bound-clause-room
+returns-then-candidate-bound-clause-room c = c.loop-candidate.invariant.room
+
+pub returns-then-candidate-bound-clause-kept : goal.returns-then-candidate-bound-clause-kept
+returns-then-candidate-bound-clause-kept c = c.loop-candidate.invariant.walks.late
+
+pub returns-then-low-bound-clause-room : goal.returns-then-low-bound-clause-room
+returns-then-low-bound-clause-room c = c.loop-candidate.invariant.room
+
+pub returns-then-low-bound-clause-kept : goal.returns-then-low-bound-clause-kept
+returns-then-low-bound-clause-kept c = c.loop-candidate.invariant.walks.late
+
+pub returns-in_default-next_to_leave-clause-room : goal.returns-in_default-next_to_leave-clause-room
+returns-in_default-next_to_leave-clause-room c = c.loop-candidate.invariant.room
+
+pub returns-in_default-next_to_leave-clause-kept : goal.returns-in_default-next_to_leave-clause-kept
+returns-in_default-next_to_leave-clause-kept c = c.loop-candidate.invariant.walks.late
+
+pub returns-clause-room : goal.returns-clause-room
+returns-clause-room c = c.loop-candidate.invariant.room
+
+pub returns-clause-kept : goal.returns-clause-kept
+returns-clause-kept c = c.loop-candidate.invariant.walks.late

@@ -2,7 +2,7 @@ use Rattle.std.proofs.Common.{sym, ◌∙◌, arith}
 use Rattle.std.proofs.lemmas.Option.{slice_get_within}
 use Rattle.topk_theory.specs.Transcript.{seen_objects}
 use Rattle.access_records.proofs.RecordKept.{not_placed}
-use Rattle.late_bounds.proofs.Noting.{note_member, note_few, note_outside, note_known, note_exchange, leaves_within}
+use Rattle.late_bounds.proofs.Noting.{note_member, note_few, note_outside, note_known, note_exchange, leaves_within, place_in_room, leaves_in_room}
 use Rattle.late_bounds.proofs.late.LateBounds.note.Goals as goal
 
 pub returns-in_default-clause-kept : goal.returns-in_default-clause-kept
@@ -45,3 +45,44 @@ returns-clause-kept c =
     note_exchange c.args.expr.now c.args.transcript.now c.args.object c.args.self.now c.in-Some.place c.in-Some-least.least c.low-low.result c.high-2.result c.object_at-left.result c.replace-leaves.result c.seen-self.result c.get.result c.replace-leaves.new.self c.remove.new.self c.put-2.new.self c.requires.agrees c.requires.before
     (sym c.place_of.ensures ∙ c.in-Some.is) c.in_default-slot.ensures c.seen-self.ensures c.low-low.ensures (let l = c.len.ensures.len in let t = c.if-len-self.false in omega arith) c.in-Some-least.ensures c.get.ensures (let t = c.if-low-get.false in omega arith)
     c.replace-leaves.ensures.leaves c.replace-leaves.ensures.replaced c.replace-leaves.ensures.distinct c.object_at-left.ensures c.high-2.ensures c.remove.ensures c.put-2.ensures
+
+pub low-low-requires : goal.low-low-requires
+low-low-requires c = sym c.requires.lists
+
+pub slot-requires : goal.slot-requires
+slot-requires c = (place_in_room c.args.expr.now c.args.transcript.now c.args.object c.args.self.now c.in-Some.place c.requires.before (sym c.place_of.ensures ∙ c.in-Some.is)).0
+
+pub add-requires-clause-within : goal.add-requires-clause-within
+add-requires-clause-within c = (place_in_room c.args.expr.now c.args.transcript.now c.args.object c.args.self.now c.in-Some.place c.requires.before (sym c.place_of.ensures ∙ c.in-Some.is)).0
+
+pub add-requires-clause-absent : goal.add-requires-clause-absent
+add-requires-clause-absent c = c.in_default-slot.ensures
+
+pub add-requires-clause-free : goal.add-requires-clause-free
+add-requires-clause-free c =
+    let most = c.requires.before.kept.kept.most in
+    let l = c.len.ensures.len in
+    let t = c.if-len-self.true in
+    omega arith
+
+pub put-requires : goal.put-requires
+put-requires c = (place_in_room c.args.expr.now c.args.transcript.now c.args.object c.args.self.now c.in-Some.place c.requires.before (sym c.place_of.ensures ∙ c.in-Some.is)).1
+
+pub high-requires : goal.high-requires
+high-requires c = sym c.requires.lists
+
+pub replace-leaves-requires-clause-within : goal.replace-leaves-requires-clause-within
+replace-leaves-requires-clause-within c = (place_in_room c.args.expr.now c.args.transcript.now c.args.object c.args.self.now c.in-Some.place c.requires.before (sym c.place_of.ensures ∙ c.in-Some.is)).0
+
+pub replace-leaves-requires-clause-absent : goal.replace-leaves-requires-clause-absent
+replace-leaves-requires-clause-absent c = c.in_default-slot.ensures
+
+pub remove-requires : goal.remove-requires
+remove-requires c = (place_in_room c.args.expr.now c.args.transcript.now c.args.object c.args.self.now c.in-Some.place c.requires.before (sym c.place_of.ensures ∙ c.in-Some.is)).1
+
+pub high-requires-2 : goal.high-requires-2
+high-requires-2 c = sym c.requires.lists
+
+pub put-requires-2 : goal.put-requires-2
+put-requires-2 c =
+    leaves_in_room c.args.expr.now c.args.transcript.now c.args.object c.args.self.now c.in-Some-least.least c.replace-leaves.result c.in-Some.place c.remove.new.self c.requires.before c.replace-leaves.ensures.leaves c.remove.ensures
