@@ -8,7 +8,7 @@ ghost use Rattle.cert_text.specs.Refusal.{field_word, refusal_row};
 ghost use Rattle.cert_text.specs.Writing.{further, word_text, shown_field};
 
 use super::fields::{FieldValue, fields_of};
-use super::words::{Word, put_further, put_words};
+use super::words::{Word, put_further};
 use super::writing::name_of;
 use query_text::Query;
 use tk_io::{Pieces, Sink};
@@ -225,8 +225,8 @@ pub(crate) fn put_refusal<K: Sink>(
         (refused_line line (names_of (option_copied query.entry)) refusal ++ 10 ∷ []) }
 {
     pieces.put(out, b"refused");
-    let name = Word::Text(refusal_name(refusal));
-    put_words(out, pieces, &[Word::Number(line), name]);
+    put_further(out, pieces, Word::Number(line));
+    put_further(out, pieces, Word::Text(refusal_name(refusal)));
     let fields = fields_of(refusal);
     put_fields(out, pieces, query, fields.as_slice());
     pieces.put(out, b"\n");

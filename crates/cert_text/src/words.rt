@@ -3,7 +3,7 @@
 ghost use Rattle.std.specs.Prelude.{◌++◌, ◌∷◌, [], map};
 ghost use Rattle.tk_io.specs.Pieces.{Puts};
 ghost use Rattle.cert_text.specs.Certificate.{spaced};
-ghost use Rattle.cert_text.specs.Writing.{word_text, further};
+ghost use Rattle.cert_text.specs.Writing.{word_text};
 
 use tk_io::{Pieces, Sink};
 
@@ -16,41 +16,15 @@ pub(crate) enum Word<'t> {
     Number(u64),
 }
 
-/// Puts a word behind the bytes that wait.
-fn put_word<K: Sink>(out: &mut K, pieces: &mut Pieces, word: Word)
-    ensures { Puts (K.held out.old) (K.held out.new) (K.faults out.old) (K.faults out.new) pieces.old pieces.new (word_text word.entry) }
-{
-    match word {
-        Word::Text(text) => pieces.put(out, text),
-        Word::Number(number) => pieces.put_number(out, number),
-    }
-}
-
 /// Puts a space and a word behind the bytes that wait.
 pub(crate) fn put_further<K: Sink>(out: &mut K, pieces: &mut Pieces, word: Word)
     ensures { Puts (K.held out.old) (K.held out.new) (K.faults out.old) (K.faults out.new) pieces.old pieces.new (32 ∷ word_text word.entry) }
 {
     pieces.put(out, b" ");
-    put_word(out, pieces, word);
-}
-
-/// Puts a space and a word for each word behind the bytes that wait.
-pub(crate) fn put_words<K: Sink>(out: &mut K, pieces: &mut Pieces, words: &[Word])
-    ensures { Puts (K.held out.old) (K.held out.new) (K.faults out.old) (K.faults out.new) pieces.old pieces.new
-        (further (map word_text words.now)) }
-{
-    for word in words {
-        put_further(out, pieces, *word);
+    match word {
+        Word::Text(text) => pieces.put(out, text),
+        Word::Number(number) => pieces.put_number(out, number),
     }
-}
-
-/// Puts the words after the first of a line and its end behind the bytes that wait.
-pub(crate) fn end_line<K: Sink>(out: &mut K, pieces: &mut Pieces, words: &[Word])
-    ensures { Puts (K.held out.old) (K.held out.new) (K.faults out.old) (K.faults out.new) pieces.old pieces.new
-        (further (map word_text words.now) ++ 10 ∷ []) }
-{
-    put_words(out, pieces, words);
-    pieces.put(out, b"\n");
 }
 
 /// Puts the line of a first word and further words behind the bytes that wait.
@@ -59,5 +33,8 @@ pub(crate) fn put_line<K: Sink>(out: &mut K, pieces: &mut Pieces, first: &[u8], 
         (spaced (first.now ∷ map word_text words.now) ++ 10 ∷ []) }
 {
     pieces.put(out, first);
-    end_line(out, pieces, words);
+    for word in words {
+        put_further(out, pieces, *word);
+    }
+    pieces.put(out, b"\n");
 }

@@ -6,7 +6,7 @@ ghost use Rattle.tk_io.specs.Pieces.{Puts};
 ghost use Rattle.line_text.specs.Lines.{unlines};
 ghost use Rattle.topk_theory.specs.Transcript.{depth};
 ghost use Rattle.query_text.specs.Query.{name_of};
-ghost use Rattle.cert_text.specs.Certificate.{spaced, number_line, query_line, count_line, answer_line, access_line, access_lines, certificate_lines};
+ghost use Rattle.cert_text.specs.Certificate.{spaced, answer_line, access_line, certificate_lines};
 ghost use Rattle.cert_text.specs.Outcome.{HasCost, certificate_of, figures_line};
 
 use super::words::{Word, put_line};
@@ -30,16 +30,6 @@ pub fn depth_of(transcript: &Transcript) -> u64
         depth = depth.max(transcript.depth(list));
     }
     u64::from(depth)
-}
-
-/// Puts the line of a query behind the bytes that wait.
-fn put_query_line<K: Sink>(out: &mut K, pieces: &mut Pieces, query: &Query)
-    ensures { Puts (K.held out.old) (K.held out.new) (K.faults out.old) (K.faults out.new) pieces.old pieces.new
-        (query_line query.now ++ 10 ∷ []) }
-{
-    pieces.put(out, b"query ");
-    put_query(out, pieces, query);
-    pieces.put(out, b"\n");
 }
 
 /// Puts the line of an object of the answer behind the bytes that wait.
@@ -135,28 +125,6 @@ fn put_accesses<K: Sink>(out: &mut K, pieces: &mut Pieces, names: &Names, transc
     }
 }
 
-/// Puts the lines before the answer's objects behind the bytes that wait.
-fn put_head<K: Sink>(out: &mut K, pieces: &mut Pieces, line: u64, query: &Query, count: u32)
-    ensures { Puts (K.held out.old) (K.held out.new) (K.faults out.old) (K.faults out.new) pieces.old pieces.new
-        (unlines (number_line line ∷ query_line query.now ∷ count_line count ∷ [])) }
-{
-    put_line(out, pieces, b"certificate", &[Word::Number(line)]);
-    put_query_line(out, pieces, query);
-    put_line(out, pieces, b"count", &[Word::Number(u64::from(count))]);
-}
-
-/// Puts the lines after the answer's objects behind the bytes that wait.
-fn put_rest<K: Sink>(out: &mut K, pieces: &mut Pieces, query: &Query, transcript: &Transcript)
-    requires { HasCost query.now transcript.now }
-    ensures { Puts (K.held out.old) (K.held out.new) (K.faults out.old) (K.faults out.new) pieces.old pieces.new
-        (unlines (figures_line query.now transcript.now
-        ∷ access_lines query.now.names transcript.now.accesses)) }
-{
-    put_figures(out, pieces, query, transcript);
-    put_accesses(out, pieces, &query.names, transcript);
-    pieces.put(out, b"end\n");
-}
-
 /// Puts the certificate of an answer behind the bytes that wait.
 pub(crate) fn put_certificate<K: Sink>(
     out: &mut K,
@@ -170,7 +138,13 @@ pub(crate) fn put_certificate<K: Sink>(
     ensures { Puts (K.held out.old) (K.held out.new) (K.faults out.old) (K.faults out.new) pieces.old pieces.new
         (unlines (certificate_lines (certificate_of line query.now count answer.now))) }
 {
-    put_head(out, pieces, line, query, count);
+    put_line(out, pieces, b"certificate", &[Word::Number(line)]);
+    pieces.put(out, b"query ");
+    put_query(out, pieces, query);
+    pieces.put(out, b"\n");
+    put_line(out, pieces, b"count", &[Word::Number(u64::from(count))]);
     put_items(out, pieces, &answer.items);
-    put_rest(out, pieces, query, &answer.transcript);
+    put_figures(out, pieces, query, &answer.transcript);
+    put_accesses(out, pieces, &query.names, &answer.transcript);
+    pieces.put(out, b"end\n");
 }
