@@ -1,6 +1,6 @@
 //! Bundles from outside, with the line at fault or none.
 
-use super::none_is_wrong;
+use super::{holds, none_is_wrong};
 use bundle_text::{Bundle, BundleFault, read_bundle};
 use std::alloc::Global;
 
@@ -122,7 +122,7 @@ fn is_read_as_spelled(alloc: Global) -> bool {
 
 #[test]
 fn keeps_what_was_spelled(rt: HostRuntime) {
-    assert!(rt; is_read_as_spelled(rt.alloc()));
+    holds(&rt, is_read_as_spelled(rt.alloc()));
 }
 
 /// Adds the list of this number, of one row, and tells whether there was memory.
@@ -158,5 +158,5 @@ fn is_at_fault_of_many(alloc: Global, lists: u8, line: u64) -> bool {
 #[test]
 fn takes_at_most_64_lists(rt: HostRuntime) {
     let are_so = is_at_fault_of_many(rt.alloc(), 64, 0) && is_at_fault_of_many(rt.alloc(), 65, 129);
-    assert!(rt; are_so);
+    holds(&rt, are_so);
 }

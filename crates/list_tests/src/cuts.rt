@@ -1,5 +1,6 @@
 //! Where a text is cut.
 
+use super::holds;
 use line_text::{cut_at, rest_after};
 
 /// Whether a text is cut at its first comma into these.
@@ -22,5 +23,5 @@ fn has_behind(word: &[u8], text: &[u8], behind: &[u8]) -> bool {
 fn cuts_at_the_first(rt: HostRuntime) {
     let are_cut = is_cut_into(b"1,2,3", b"1", b"2,3") && has_behind(b"list ", b"list A", b"A");
     let are_whole = cut_at(b"1 2", b',').is_none() && rest_after(b"list ", b"list").is_none();
-    assert!(rt; are_cut && are_whole);
+    holds(&rt, are_cut && are_whole);
 }

@@ -1,4 +1,4 @@
-//! Tests of lines, numbers, names, rows, tables and bundles.
+//! Tests of lines, numbers, names, rows, tables, bundles and streams.
 #![tactic(auto)]
 
 #[cfg(test)]
@@ -16,6 +16,8 @@ mod rows_in_order;
 #[cfg(test)]
 mod small_types;
 #[cfg(test)]
+mod streams;
+#[cfg(test)]
 mod tables;
 
 #[cfg(test)]
@@ -25,4 +27,10 @@ use std::process::Abort;
 #[cfg(test)]
 fn none_is_wrong(rt: &impl Abort, first_wrong: Option<usize>) {
     assert_eq!(rt; first_wrong, None);
+}
+
+/// What a test asks holds.
+#[cfg(test)]
+fn holds(rt: &impl Abort, is_so: bool) {
+    assert!(rt; is_so);
 }

@@ -1,6 +1,6 @@
 //! First lines.
 
-use super::none_is_wrong;
+use super::{holds, none_is_wrong};
 use line_text::first_line;
 
 /// A text, its first line, and the rest.
@@ -36,5 +36,5 @@ fn first_wrong(rows: &[(&str, &str, &str)]) -> Option<usize> {
 #[test]
 fn cuts_the_first_line(rt: HostRuntime) {
     none_is_wrong(&rt, first_wrong(CUT));
-    assert!(rt; first_line(b"").is_none());
+    holds(&rt, first_line(b"").is_none());
 }

@@ -1,6 +1,6 @@
 //! Names.
 
-use super::none_is_wrong;
+use super::{holds, none_is_wrong};
 use line_text::{is_name, is_name_byte};
 
 /// Texts, and whether each is a name.
@@ -29,5 +29,5 @@ fn first_wrong(rows: &[(&str, bool)]) -> Option<usize> {
 #[test]
 fn tells_names(rt: HostRuntime) {
     none_is_wrong(&rt, first_wrong(TEXTS));
-    assert!(rt; is_name_byte(b'_') && !is_name_byte(b'-'));
+    holds(&rt, is_name_byte(b'_') && !is_name_byte(b'-'));
 }

@@ -1,6 +1,6 @@
 //! Numbers as text.
 
-use super::none_is_wrong;
+use super::{holds, none_is_wrong};
 use line_text::{NumberFault, is_number, number_up_to, read_number};
 
 /// Texts, and the number that each spells.
@@ -34,5 +34,5 @@ fn first_wrong(rows: &[(&str, Result<u64, NumberFault>)]) -> Option<usize> {
 fn reads_each_number_in_its_one_form(rt: HostRuntime) {
     none_is_wrong(&rt, first_wrong(TEXTS));
     let is_limited = number_up_to(b"10", 10) == Some(10) && number_up_to(b"10", 9).is_none();
-    assert!(rt; is_limited);
+    holds(&rt, is_limited);
 }

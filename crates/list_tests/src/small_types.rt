@@ -1,5 +1,6 @@
 //! The small types over vectors, each call once.
 
+use super::holds;
 use ranked_list::{Item, Items, PageRows, Row};
 use std::alloc::Global;
 
@@ -60,5 +61,5 @@ fn gives_back_items(alloc: Global) -> bool {
 fn gives_back_rows_and_items(rt: HostRuntime) {
     let gives_rows = gives_back_rows(rt.alloc());
     let gives_items = gives_back_items(rt.alloc());
-    assert!(rt; gives_rows && gives_items);
+    holds(&rt, gives_rows && gives_items);
 }

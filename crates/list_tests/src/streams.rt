@@ -1,5 +1,6 @@
 //! What no clause says: that calls succeed with ample memory, each fault in turn, and the real streams.
 
+use super::{holds, none_is_wrong};
 use std::alloc::Global;
 use std::io;
 use std::io::{ErrorKind, Read, Write};
@@ -60,7 +61,7 @@ fn first_wrong(alloc: Global, rows: &[ReadRow]) -> Option<usize> {
 
 #[test]
 fn reads_whole_texts(rt: HostRuntime) {
-    assert_eq!(rt; first_wrong(rt.alloc(), READS), None);
+    none_is_wrong(&rt, first_wrong(rt.alloc(), READS));
 }
 
 /// Whether the text is written once, and then what there is room for.
@@ -90,7 +91,7 @@ fn writes_nothing(alloc: Global) -> bool {
 fn writes_whole_texts(rt: HostRuntime) {
     let writes = writes_until_full(rt.alloc());
     let stops = writes_nothing(rt.alloc());
-    assert!(rt; writes && stops);
+    holds(&rt, writes && stops);
 }
 
 /// 60,000 words of 8 bytes and a space each.
@@ -108,7 +109,7 @@ fn put_words(out: &mut Counting) -> Result<(), Failed> {
 fn writes_in_pieces(rt: HostRuntime) {
     let mut out = Counting::make();
     let is_put = put_words(&mut out).is_ok();
-    assert!(rt; is_put && out.bytes == 540_000 && out.writes == 66);
+    holds(&rt, is_put && out.bytes == 540_000 && out.writes == 66);
 }
 
 /// A longer text than a piece.
@@ -144,7 +145,7 @@ fn ends_so(
 fn stops_after_a_failed_piece(rt: HostRuntime) {
     let stops = ends_so(rt.alloc(), &[2], &[LONG, b"y"], (Err(Failed), PIECE));
     let is_whole = ends_so(rt.alloc(), &[], &[LONG], (Ok(()), 20_000));
-    assert!(rt; stops && is_whole);
+    holds(&rt, stops && is_whole);
 }
 
 /// A reader and writer of one byte a call, whose every other call is interrupted, and which fails from
@@ -224,7 +225,7 @@ fn goes_on_after_interruptions(rt: HostRuntime) {
     let reads = read_ends(rt.alloc(), stream_with(100), 9, Some(ReadError::Long))
         && read_ends(rt.alloc(), stream_with(6), 9, Some(ReadError::Failed));
     let writes = write_ends(stream_with(100), Ok(())) && write_ends(stream_with(6), Err(Failed));
-    assert!(rt; reads && writes);
+    holds(&rt, reads && writes);
 }
 
 #[test]
@@ -232,6 +233,6 @@ fn moves_through_a_pipe(rt: HostRuntime) -> Result<(), Fail> {
     let (reader, writer) = io::pipe(&rt)?;
     let is_written = write_ends(writer, Ok(()));
     let is_read = read_ends(rt.alloc(), reader, 100, None);
-    assert!(rt; is_written && is_read);
+    holds(&rt, is_written && is_read);
     Ok(())
 }
