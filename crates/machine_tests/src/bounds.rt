@@ -1,7 +1,7 @@
 //! Bounds of objects.
 
+use super::none_is_wrong;
 use plain_support::{BoundsCase, first_wrong_bounds};
-use std::test::Fail;
 use test_support::{random_row, sorted_row};
 use topk_theory::Access;
 
@@ -21,8 +21,7 @@ const CASES: &[BoundsCase] = &[
 ];
 
 #[test]
-fn of_objects(rt: HostRuntime) -> Result<(), Fail> {
-    let wrong = first_wrong_bounds(rt.alloc(), "top 1 by sum(A,B) using ta", CASES)?;
-    assert_eq!(rt; wrong, None);
-    Ok(())
+fn of_objects(rt: HostRuntime) {
+    let text = "top 1 by sum(A,B) using ta";
+    none_is_wrong(&rt, first_wrong_bounds(rt.alloc(), text, CASES));
 }

@@ -1,9 +1,8 @@
 //! The threshold algorithm.
 
-use super::none_is_wrong;
 use super::tables::THREE;
-use plain_support::{Case, aggregates_by, first_wrong};
-use std::test::Fail;
+use super::{holds, none_is_wrong};
+use plain_support::{Case, first_wrong, have_aggregates};
 use test_support::{Lists, item_row, random_row, sorted_row};
 use topk_theory::Access;
 
@@ -96,16 +95,15 @@ const CASES: &[Case] = &[
 ];
 
 #[test]
-fn by_hand(rt: HostRuntime) -> Result<(), Fail> {
-    none_is_wrong(&rt, first_wrong(rt.alloc(), CASES)?);
-    Ok(())
+fn by_hand(rt: HostRuntime) {
+    none_is_wrong(&rt, first_wrong(rt.alloc(), CASES));
 }
 
-/// The aggregates of a table's objects, of which one list is taken twice.
+/// Objects of the table of three, and their aggregates, for which one list is taken twice.
+const AGGREGATES: &[(u32, u64)] = &[(1, 1000), (2, 1400), (3, 700)];
+
 #[test]
-fn aggregates(rt: HostRuntime) -> Result<(), Fail> {
+fn aggregates(rt: HostRuntime) {
     let text = "top 1 by sum(min(A,B),B) using ta";
-    let found = aggregates_by(rt.alloc(), text, THREE, [1, 2, 3])?;
-    assert_eq!(rt; found, [1000, 1400, 700]);
-    Ok(())
+    holds(&rt, have_aggregates(rt.alloc(), text, THREE, AGGREGATES));
 }

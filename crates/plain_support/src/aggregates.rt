@@ -1,51 +1,47 @@
 //! Aggregates of objects.
 
-use super::outcomes::check_posed;
+use super::outcomes::is_posed;
 use monotone_fn::Expr;
 use plain_ta::aggregate;
 use query_reading::read;
 use ranked_list::MemList;
 use std::alloc::Global;
-use std::test::Fail;
 use test_support::{Lists, table_of};
 
-/// The aggregates of three objects of a table.
-fn aggregates_of(
-    alloc: Global,
-    table: &[MemList],
-    expr: &Expr,
-    objects: [u32; 3],
-) -> Result<[u64; 3], Fail> {
-    check_posed(alloc, table, expr)?;
-    Ok([
-        aggregate(table, expr, objects[0]),
-        aggregate(table, expr, objects[1]),
-        aggregate(table, expr, objects[2]),
-    ])
+/// Whether objects of a table have these aggregates.
+fn have_all(alloc: Global, table: &[MemList], expr: &Expr, aggregates: &[(u32, u64)]) -> bool {
+    if !is_posed(alloc, table, expr) {
+        return false;
+    }
+    for (object, expected) in aggregates {
+        if aggregate(table, expr, *object) != *expected {
+            return false;
+        }
+    }
+    true
 }
 
-/// The same over the table of these lists.
-fn aggregates_on(
-    alloc: Global,
-    expr: &Expr,
-    lists: Lists<'_>,
-    objects: [u32; 3],
-) -> Result<[u64; 3], Fail> {
-    let table = table_of(alloc, lists)?;
-    let outcome = aggregates_of(alloc, &table, expr, objects);
+/// The same of the table of these lists.
+fn have_on(alloc: Global, expr: &Expr, lists: Lists<'_>, aggregates: &[(u32, u64)]) -> bool {
+    let Ok(table) = table_of(alloc, lists) else {
+        return false;
+    };
+    let are_so = have_all(alloc, &table, expr, aggregates);
     drop(table);
-    outcome
+    are_so
 }
 
-/// The aggregates of three objects of the table of these lists, by the expression of a query's text.
-pub fn aggregates_by(
+/// Whether objects of the table of these lists have these aggregates by the expression of a query's text.
+pub fn have_aggregates(
     alloc: Global,
     text: &str,
     lists: Lists<'_>,
-    objects: [u32; 3],
-) -> Result<[u64; 3], Fail> {
-    let query = read(alloc, text.as_bytes())?;
-    let outcome = aggregates_on(alloc, &query.expr, lists, objects);
+    aggregates: &[(u32, u64)],
+) -> bool {
+    let Ok(query) = read(alloc, text.as_bytes()) else {
+        return false;
+    };
+    let are_so = have_on(alloc, &query.expr, lists, aggregates);
     query.let_go();
-    outcome
+    are_so
 }

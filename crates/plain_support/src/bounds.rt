@@ -5,7 +5,6 @@ use monotone_fn::Expr;
 use plain_nra::{high, low};
 use query_reading::read;
 use std::alloc::Global;
-use std::test::Fail;
 use topk_theory::Access;
 
 /// Accesses, an object, and its bounds after them.
@@ -20,24 +19,23 @@ fn bounds(expr: &Expr, accesses: &[Access], object: u32) -> Option<(u64, u64)> {
     }
 }
 
-/// The object of the first case with other bounds by an expression.
-fn first_other(expr: &Expr, cases: &[BoundsCase]) -> Option<u32> {
-    for (accesses, object, expected) in cases {
+/// The number of the first case with other bounds by an expression.
+fn first_other(expr: &Expr, cases: &[BoundsCase]) -> Option<usize> {
+    for (number, (accesses, object, expected)) in cases.iter().enumerate() {
         if bounds(expr, accesses, *object) != Some(*expected) {
-            return Some(*object);
+            return Some(number);
         }
     }
     None
 }
 
-/// The object of the first case with other bounds by the expression of a query's text.
-pub fn first_wrong_bounds(
-    alloc: Global,
-    text: &str,
-    cases: &[BoundsCase],
-) -> Result<Option<u32>, Fail> {
-    let query = read(alloc, text.as_bytes())?;
+/// The number of the first case with other bounds by the expression of a query's text. It is the number behind the last where that
+/// isn't read.
+pub fn first_wrong_bounds(alloc: Global, text: &str, cases: &[BoundsCase]) -> Option<usize> {
+    let Ok(query) = read(alloc, text.as_bytes()) else {
+        return Some(cases.len());
+    };
     let wrong = first_other(&query.expr, cases);
     query.let_go();
-    Ok(wrong)
+    wrong
 }

@@ -5,6 +5,6 @@ mod aggregates;
 mod bounds;
 mod outcomes;
 
-pub use aggregates::aggregates_by;
+pub use aggregates::have_aggregates;
 pub use bounds::{BoundsCase, first_wrong_bounds};
 pub use outcomes::{Case, first_wrong};

@@ -1,6 +1,6 @@
 //! What is found on a table, and what is wanted.
 
-ghost use Rattle.std.specs.Prelude.{◌≡◌, OnOk};
+ghost use Rattle.std.specs.Prelude.{◌≤◌, IsTrue};
 ghost use Rattle.plain_ta.specs.Posed.{IsPosed};
 
 use monotone_fn::Expr;
@@ -8,10 +8,9 @@ use plain_ca::{ca_answer, ca_depth, ca_run};
 use plain_nra::{nra_answer, nra_depth, nra_run};
 use plain_ta::{ta_answer, ta_depth, ta_run};
 use query_reading::read;
-use query_text::{Algorithm, Query};
+use query_text::{Algorithm, Costs, Query};
 use ranked_list::{Item, MemList, is_table};
 use std::alloc::Global;
-use std::test::Fail;
 use test_support::{Lists, table_of};
 use topk_theory::Access;
 
@@ -38,79 +37,91 @@ struct Found {
     items: Vec<Item>,
 }
 
-/// Refuses lists that are no table of the expression's lists.
-pub fn check_posed(alloc: Global, lists: &[MemList], expr: &Expr) -> Result<(), Fail>
-    ensures { OnOk result (IsPosed lists.now expr.now) }
+/// Whether lists are a table of the expression's lists.
+pub(crate) fn is_posed(alloc: Global, lists: &[MemList], expr: &Expr) -> bool
+    ensures { IsTrue result → IsPosed lists.now expr.now }
 {
-    let is_table = is_table(alloc, lists)?;
-    if is_table && lists.len() == expr.lists() as usize && lists.len() <= 8 {
-        Ok(())
-    } else {
-        Err("a table of the expression's lists".into())
-    }
+    let Ok(is_table) = is_table(alloc, lists) else {
+        return false;
+    };
+    is_table && lists.len() == expr.lists() as usize && lists.len() <= 8
 }
 
 /// What the threshold algorithm finds.
-fn by_ta(alloc: Global, table: &[MemList], query: &Query) -> Result<Found, Fail>
+fn by_ta(alloc: Global, table: &[MemList], query: &Query) -> Option<Found>
     requires { IsPosed table.now query.now.expr }
 {
-    Ok(Found {
-        depth: ta_depth(alloc, table, &query.expr, query.k)?,
-        accesses: ta_run(alloc, table, &query.expr, query.k)?,
-        items: ta_answer(alloc, table, &query.expr, query.k)?,
+    Some(Found {
+        depth: ta_depth(alloc, table, &query.expr, query.k).ok()?,
+        accesses: ta_run(alloc, table, &query.expr, query.k).ok()?,
+        items: ta_answer(alloc, table, &query.expr, query.k).ok()?,
     })
 }
 
 /// What the algorithm without random access finds.
-fn by_nra(alloc: Global, table: &[MemList], query: &Query) -> Result<Found, Fail>
+fn by_nra(alloc: Global, table: &[MemList], query: &Query) -> Option<Found>
     requires { IsPosed table.now query.now.expr }
 {
-    Ok(Found {
-        depth: nra_depth(alloc, table, &query.expr, query.k)?,
-        accesses: nra_run(alloc, table, &query.expr, query.k)?,
-        items: nra_answer(alloc, table, &query.expr, query.k)?,
+    Some(Found {
+        depth: nra_depth(alloc, table, &query.expr, query.k).ok()?,
+        accesses: nra_run(alloc, table, &query.expr, query.k).ok()?,
+        items: nra_answer(alloc, table, &query.expr, query.k).ok()?,
     })
 }
 
-/// What the combined algorithm finds.
-fn by_ca(alloc: Global, table: &[MemList], query: &Query) -> Result<Found, Fail>
-    requires { IsPosed table.now query.now.expr }
+/// What the combined algorithm finds, at costs of which a sorted access has one.
+fn by_ca(alloc: Global, table: &[MemList], query: &Query, costs: Costs) -> Option<Found>
+    requires posed { IsPosed table.now query.now.expr }
+    requires costs { 1 ≤ costs.sorted }
 {
+    Some(Found {
+        depth: ca_depth(alloc, table, &query.expr, query.k, costs).ok()?,
+        accesses: ca_run(alloc, table, &query.expr, query.k, costs).ok()?,
+        items: ca_answer(alloc, table, &query.expr, query.k, costs).ok()?,
+    })
+}
+
+/// What a query finds on a table. None where that is no table of its lists, or there is no memory.
+fn found_in(alloc: Global, table: &[MemList], query: &Query) -> Option<Found> {
     let costs = query.costs_in_force();
-    if costs.sorted == 0 {
-        return Err("a cost".into());
+    if !is_posed(alloc, table, &query.expr) || costs.sorted < 1 {
+        return None;
     }
-    Ok(Found {
-        depth: ca_depth(alloc, table, &query.expr, query.k, costs)?,
-        accesses: ca_run(alloc, table, &query.expr, query.k, costs)?,
-        items: ca_answer(alloc, table, &query.expr, query.k, costs)?,
-    })
-}
-
-/// What a query finds on a table.
-fn found_in(alloc: Global, table: &[MemList], query: &Query) -> Result<Found, Fail> {
-    check_posed(alloc, table, &query.expr)?;
     match query.algorithm {
         Algorithm::Ta => by_ta(alloc, table, query),
         Algorithm::Nra => by_nra(alloc, table, query),
-        Algorithm::Ca => by_ca(alloc, table, query),
+        Algorithm::Ca => by_ca(alloc, table, query, costs),
     }
 }
 
-/// What a query finds on the table of these lists.
-fn found_on(alloc: Global, query: &Query, lists: Lists<'_>) -> Result<Found, Fail> {
-    let table = table_of(alloc, lists)?;
-    let outcome = found_in(alloc, &table, query);
-    drop(table);
-    outcome
+/// Whether a query finds on a table what is wanted.
+fn is_found_in(alloc: Global, table: &[MemList], query: &Query, case: &Case) -> bool {
+    let Some(found) = found_in(alloc, table, query) else {
+        return false;
+    };
+    let is_so = is_as(&found, case);
+    drop(found);
+    is_so
 }
 
-/// What the query of a case finds on its table.
-fn found_of(alloc: Global, case: &Case) -> Result<Found, Fail> {
-    let query = read(alloc, case.text.as_bytes())?;
-    let outcome = found_on(alloc, &query, case.lists);
+/// The same on the table of the case's lists.
+fn is_found_on(alloc: Global, query: &Query, case: &Case) -> bool {
+    let Ok(table) = table_of(alloc, case.lists) else {
+        return false;
+    };
+    let is_so = is_found_in(alloc, &table, query, case);
+    drop(table);
+    is_so
+}
+
+/// The same by the query of the case.
+fn is_found(alloc: Global, case: &Case) -> bool {
+    let Ok(query) = read(alloc, case.text.as_bytes()) else {
+        return false;
+    };
+    let is_so = is_found_on(alloc, &query, case);
     query.let_go();
-    outcome
+    is_so
 }
 
 /// Whether what is found is what is wanted.
@@ -121,14 +132,11 @@ fn is_as(found: &Found, case: &Case) -> bool {
 }
 
 /// The number of the first case that finds something else.
-pub fn first_wrong(alloc: Global, cases: &[Case]) -> Result<Option<usize>, Fail> {
+pub fn first_wrong(alloc: Global, cases: &[Case]) -> Option<usize> {
     for (number, case) in cases.iter().enumerate() {
-        let found = found_of(alloc, case)?;
-        let is_so = is_as(&found, case);
-        drop(found);
-        if !is_so {
-            return Ok(Some(number));
+        if !is_found(alloc, case) {
+            return Some(number);
         }
     }
-    Ok(None)
+    None
 }

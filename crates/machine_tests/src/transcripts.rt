@@ -3,6 +3,7 @@
 ghost use Rattle.std.specs.Prelude.{◌≡◌, ◌+◌, length, IfSome, OnOk};
 ghost use Rattle.monotone_fn.specs.Shape.{list_count};
 
+use super::{holds, none_is_wrong};
 use access_log::{Access, PushFault, Transcript};
 use monotone_fn::{Costs, Expr};
 use query_reading::read;
@@ -272,7 +273,7 @@ const KINDS: &[Row] = &[
 
 #[test]
 fn gives_the_first_kind(rt: HostRuntime) {
-    assert_eq!(rt; first_wrong(rt.alloc(), KINDS), None);
+    none_is_wrong(&rt, first_wrong(rt.alloc(), KINDS));
 }
 
 /// Whether the access of this number is refused as this kind.
@@ -303,7 +304,7 @@ fn refuses_of_two_objects(alloc: Global) -> bool {
 
 #[test]
 fn refuses_what_no_table_gives(rt: HostRuntime) {
-    assert!(rt; refuses_of_two_objects(rt.alloc()));
+    holds(&rt, refuses_of_two_objects(rt.alloc()));
 }
 
 /// Five accesses of two lists of three objects. None without memory.
@@ -370,7 +371,7 @@ fn tells_what_came(alloc: Global) -> bool {
 
 #[test]
 fn reads_what_came(rt: HostRuntime) {
-    assert!(rt; tells_what_came(rt.alloc()));
+    holds(&rt, tells_what_came(rt.alloc()));
 }
 
 /// An object, and the least and the greatest value that it may have.
@@ -430,5 +431,5 @@ fn tells_bounds(alloc: Global) -> bool {
 
 #[test]
 fn bounds_aggregates(rt: HostRuntime) {
-    assert!(rt; tells_bounds(rt.alloc()));
+    holds(&rt, tells_bounds(rt.alloc()));
 }

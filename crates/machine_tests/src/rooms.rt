@@ -2,6 +2,7 @@
 
 ghost use Rattle.std.specs.Prelude.{◌≡◌, []};
 
+use super::holds;
 use access_log::Transcript;
 use room_map::RoomMap;
 use std::alloc::Global;
@@ -43,7 +44,7 @@ fn keeps_three(alloc: Global) -> bool {
 
 #[test]
 fn keeps_what_came_into_reserved_room(rt: HostRuntime) {
-    assert!(rt; keeps_three(rt.alloc()));
+    holds(&rt, keeps_three(rt.alloc()));
 }
 
 /// Whether a map of room for one key takes it, is widened, and takes another.
@@ -79,5 +80,5 @@ fn keeps_places(alloc: Global) -> bool {
 
 #[test]
 fn keeps_places_of_keys(rt: HostRuntime) {
-    assert!(rt; keeps_places(rt.alloc()));
+    holds(&rt, keeps_places(rt.alloc()));
 }
