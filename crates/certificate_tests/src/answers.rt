@@ -1,5 +1,6 @@
 //! Answers that are written.
 
+use super::holds;
 use access_log::{Access, Answer, Item, Items, Transcript};
 use cert_text::{Outcome, write_outcome};
 use query_reading::read;
@@ -94,7 +95,7 @@ fn writes_the_first_example(rt: HostRuntime) {
     let whole = ends_so(rt.alloc(), 186, &[], (true, 186));
     let fronts = ends_so(rt.alloc(), 186, &[1], (false, 0))
         && ends_so(rt.alloc(), 185, &[], (false, 185));
-    assert!(rt; whole && fronts);
+    holds(&rt, whole && fronts);
 }
 
 /// Reads 3,000 tied objects, as far as there is memory, and tells whether it read all.
@@ -145,5 +146,5 @@ fn is_long_written(alloc: Global, out: &mut Counting) -> Option<bool> {
 fn writes_a_certificate_in_pieces(rt: HostRuntime) {
     let mut out = Counting::make();
     let is_ok = is_long_written(rt.alloc(), &mut out) == Some(true);
-    assert!(rt; is_ok && out.bytes == 66_134 && out.writes == 9);
+    holds(&rt, is_ok && out.bytes == 66_134 && out.writes == 9);
 }

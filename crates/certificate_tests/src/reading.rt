@@ -1,6 +1,6 @@
 //! Texts that are read: the first example, and texts with the line at fault.
 
-use super::none_is_wrong;
+use super::{holds, none_is_wrong};
 use access_log::Items;
 use cert_reader::{CertFault, read_certificate};
 use cert_text::{Accesses, Certificate};
@@ -47,6 +47,19 @@ fn has_accesses(made: Accesses) -> bool {
     are_so
 }
 
+/// Lets a certificate go, its query by the query's own call.
+fn let_go(certificate: Certificate) {
+    let Certificate {
+        query,
+        items,
+        accesses,
+        ..
+    } = certificate;
+    query.let_go();
+    drop(items);
+    drop(accesses);
+}
+
 /// Whether a certificate is that of the first example.
 fn is_first(alloc: Global, certificate: Certificate) -> bool {
     let is_printed = is_printed(alloc, &certificate.query, FIRST_QUERY);
@@ -85,14 +98,14 @@ fn is_read_by_two_bytes(alloc: Global) -> bool {
 fn reads_the_first_example(rt: HostRuntime) {
     let is_read = is_read_as_first(rt.alloc(), FIRST_TEXT.as_bytes());
     let is_read_so_too = is_read_by_two_bytes(rt.alloc());
-    assert!(rt; is_read && is_read_so_too);
+    holds(&rt, is_read && is_read_so_too);
 }
 
 /// Whether this line of a text is at fault, or the text is read where it is none.
 fn is_at_fault(alloc: Global, text: &str, expected: Option<u64>) -> bool {
     match read_certificate(alloc, text.as_bytes()) {
         Ok(certificate) => {
-            drop(certificate);
+            let_go(certificate);
             expected.is_none()
         }
         Err(CertFault::BadLine { line }) => expected == Some(line),

@@ -5,7 +5,7 @@ ghost use Rattle.std.specs.Option.{option_copied};
 ghost use Rattle.cert_text.specs.declared.outcome.Outcome.TheVariants.{Refused};
 ghost use Rattle.cert_text.specs.Outcome.{IsOutcome};
 
-use super::none_is_wrong;
+use super::{holds, none_is_wrong};
 use cert_text::{Outcome, Refusal, write_outcome};
 use query_reading::read;
 use query_text::Query;
@@ -213,5 +213,8 @@ fn writes_each_refusal(rt: HostRuntime) {
     none_is_wrong(&rt, first_wrong(rt.alloc(), ROWS));
     none_is_wrong(&rt, first_wrong(rt.alloc(), OF_SOURCES));
     let without_query = Refusal::Syntax { at: 0 };
-    assert!(rt; is_written(rt.alloc(), 1, None, without_query, "refused 1 Syntax 0\n"));
+    holds(
+        &rt,
+        is_written(rt.alloc(), 1, None, without_query, "refused 1 Syntax 0\n"),
+    );
 }
