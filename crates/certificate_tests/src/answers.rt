@@ -9,38 +9,8 @@ use std::alloc::Global;
 use test_support::{Counting, FIRST_ACCESSES, FIRST_ITEM, FIRST_QUERY, FIRST_TEXT, sorted};
 use tk_io::{MemSink, Sink};
 
-/// Whether the answer of a query without costs is written, over lists of `count` objects. None where the query has costs, or
-/// the answer is longer than any here.
-fn is_answer_written<K: Sink>(
-    query: &Query,
-    count: u32,
-    answer: Answer,
-    out: &mut K,
-) -> Option<bool> {
-    if query.cost.is_none() && answer.transcript.len() < 4000 {
-        let outcome = Outcome::Answered(answer);
-        let is_ok = write_outcome(out, 1, Some(query), count, &outcome).is_ok();
-        drop(outcome);
-        Some(is_ok)
-    } else {
-        drop(answer);
-        None
-    }
-}
-
-/// An answer of one object.
-fn answer_of(alloc: Global, item: Item, transcript: Transcript) -> Option<Answer> {
-    match [item].to_vec(alloc) {
-        Ok(items) => Some(Answer {
-            items: Items::from_vec(items),
-            transcript,
-        }),
-        Err(_) => {
-            drop(transcript);
-            None
-        }
-    }
-}
+/// A query without costs, how many objects it is asked over, the one object of its answer, and the accesses that it made.
+type Example<'a> = (&'a [u8], u32, Item, &'a [Access]);
 
 /// Takes accesses, as far as there is memory, and tells whether it took all.
 fn takes_all(transcript: &mut Transcript, accesses: &[Access]) -> bool {
@@ -52,30 +22,55 @@ fn takes_all(transcript: &mut Transcript, accesses: &[Access]) -> bool {
     true
 }
 
-/// The answer of the first example.
-fn first_answer(alloc: Global) -> Option<Answer> {
-    let mut transcript = Transcript::make(alloc, 2, 3).ok()?;
-    if takes_all(&mut transcript, &FIRST_ACCESSES) {
-        answer_of(alloc, FIRST_ITEM, transcript)
+/// The answer of an example, whose query has so many lists.
+fn answer_of(alloc: Global, lists: u8, example: &Example<'_>) -> Option<Answer> {
+    let (_, count, item, accesses) = *example;
+    if lists == 0 || lists > 8 || count == 0 || count > 200_000 {
+        return None;
+    }
+    let items = [item].to_vec(alloc).ok()?;
+    let mut transcript = Transcript::make(alloc, lists, count).ok()?;
+    if takes_all(&mut transcript, accesses) {
+        Some(Answer {
+            items: Items::from_vec(items),
+            transcript,
+        })
     } else {
         drop(transcript);
         None
     }
 }
 
-/// Whether the outcome of the first example is written, whose query this is.
-fn is_written_of(alloc: Global, query: &Query, out: &mut MemSink) -> Option<bool> {
-    let answer = first_answer(alloc)?;
-    is_answer_written(query, 3, answer, out)
+/// Whether the answer of an example is written, whose query this is. None where the query has costs, or the answer is longer than
+/// any here.
+fn is_written_of<K: Sink>(
+    alloc: Global,
+    query: &Query,
+    example: &Example<'_>,
+    out: &mut K,
+) -> Option<bool> {
+    let answer = answer_of(alloc, query.expr.lists(), example)?;
+    if query.cost.is_none() && answer.transcript.len() < 4000 {
+        let outcome = Outcome::Answered(answer);
+        let is_ok = write_outcome(out, 1, Some(query), example.1, &outcome).is_ok();
+        drop(outcome);
+        Some(is_ok)
+    } else {
+        drop(answer);
+        None
+    }
 }
 
-/// Whether the outcome of the first example is written.
-fn is_written(alloc: Global, out: &mut MemSink) -> Option<bool> {
-    let query = read(alloc, FIRST_QUERY).ok()?;
-    let is_so = is_written_of(alloc, &query, out);
+/// Whether the answer of an example is written.
+fn is_written<K: Sink>(alloc: Global, example: &Example<'_>, out: &mut K) -> Option<bool> {
+    let query = read(alloc, example.0).ok()?;
+    let is_so = is_written_of(alloc, &query, example, out);
     query.let_go();
     is_so
 }
+
+/// The first example.
+static FIRST: Example<'static> = (FIRST_QUERY, 3, FIRST_ITEM, &FIRST_ACCESSES);
 
 /// Whether writing the first example ends so where there is such room and these calls fail: with a success or not, and so
 /// many bytes of its text.
@@ -83,7 +78,7 @@ fn ends_so(alloc: Global, room: u32, fails: &[u64], expected: (bool, usize)) -> 
     let Ok(mut out) = MemSink::make(alloc, room, fails) else {
         return false;
     };
-    let is_ok = is_written(alloc, &mut out);
+    let is_ok = is_written(alloc, &FIRST, &mut out);
     let is_front = Some(out.taken()) == FIRST_TEXT.as_bytes().get(..expected.1);
     drop(out);
     is_ok == Some(expected.0) && is_front
@@ -98,11 +93,11 @@ fn writes_the_first_example(rt: HostRuntime) {
     holds(&rt, whole && fronts);
 }
 
-/// Reads 3,000 tied objects, as far as there is memory, and tells whether it read all.
-fn takes_ties(transcript: &mut Transcript) -> bool {
+/// Adds 3,000 tied objects, as far as there is memory, and tells whether it added all.
+fn adds_ties(accesses: &mut Vec<Access>) -> bool {
     for number in 0..3000 {
         let access = sorted(0, 1_000_000_000 + number, 500_000);
-        if transcript.push(access).is_err() {
+        if accesses.push(access).is_err() {
             return false;
         }
     }
@@ -116,28 +111,12 @@ const TIED: Item = Item {
     high: 500_000,
 };
 
-/// The answer of a query for the first of 3,000 tied objects, all of which it read.
-fn long_answer(alloc: Global) -> Option<Answer> {
-    let mut transcript = Transcript::make(alloc, 1, 3000).ok()?;
-    if takes_ties(&mut transcript) {
-        answer_of(alloc, TIED, transcript)
-    } else {
-        drop(transcript);
-        None
-    }
-}
-
-/// Whether the long answer to a query is written.
-fn is_long_written_of(alloc: Global, query: &Query, out: &mut Counting) -> Option<bool> {
-    let answer = long_answer(alloc)?;
-    is_answer_written(query, 3000, answer, out)
-}
-
-/// Whether the long answer is written.
-fn is_long_written(alloc: Global, out: &mut Counting) -> Option<bool> {
-    let query = read(alloc, b"top 1 by A using ta").ok()?;
-    let is_so = is_long_written_of(alloc, &query, out);
-    query.let_go();
+/// Whether the answer of a query for the first of 3,000 tied objects is written, all of which it read.
+fn is_long_written(alloc: Global, out: &mut Counting) -> bool {
+    let mut accesses = Vec::new(alloc);
+    let is_so = adds_ties(&mut accesses)
+        && is_written(alloc, &(b"top 1 by A using ta", 3000, TIED, &accesses), out) == Some(true);
+    drop(accesses);
     is_so
 }
 
@@ -145,6 +124,6 @@ fn is_long_written(alloc: Global, out: &mut Counting) -> Option<bool> {
 #[test]
 fn writes_a_certificate_in_pieces(rt: HostRuntime) {
     let mut out = Counting::make();
-    let is_ok = is_long_written(rt.alloc(), &mut out) == Some(true);
+    let is_ok = is_long_written(rt.alloc(), &mut out);
     holds(&rt, is_ok && out.bytes == 66_134 && out.writes == 9);
 }

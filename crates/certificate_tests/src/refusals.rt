@@ -18,7 +18,7 @@ const QUERY: &[u8] = b"top 1 by sum(A,B) using ta";
 /// A refusal, and the line that is written of it.
 type Row = (Refusal, &'static str);
 
-/// What comes before a query runs, and what its machine refuses.
+/// What comes before a query runs, what its machine refuses, and what a source gives.
 const ROWS: &[Row] = &[
     (
         Refusal::ManyQueries { limit: 64 },
@@ -74,10 +74,7 @@ const ROWS: &[Row] = &[
         "refused 9 Strangers 7 3\n",
     ),
     (Refusal::RoomFull { room: 2 }, "refused 9 RoomFull 2\n"),
-];
-
-/// What a source gives.
-const OF_SOURCES: &[Row] = &[
+    // what a source gives
     (
         Refusal::OutOfOrder {
             list: 0,
@@ -211,7 +208,6 @@ fn first_wrong(alloc: Global, rows: &[Row]) -> Option<usize> {
 #[test]
 fn writes_each_refusal(rt: HostRuntime) {
     none_is_wrong(&rt, first_wrong(rt.alloc(), ROWS));
-    none_is_wrong(&rt, first_wrong(rt.alloc(), OF_SOURCES));
     let without_query = Refusal::Syntax { at: 0 };
     holds(
         &rt,
