@@ -24,32 +24,33 @@ fn next_number(words: &mut SplitWhitespace<'_>) -> Option<u64> {
 /// The object of a line `answer`, from what stands behind the word.
 fn answered_in(rest: &str) -> Option<Answered> {
     let mut words = rest.split_whitespace();
-    let object = next_number(&mut words)? as usize;
-    let low = next_number(&mut words)?;
-    let high = next_number(&mut words)?;
-    Some(Answered { object, low, high })
+    let object = next_number(&mut words);
+    let low = next_number(&mut words);
+    let high = next_number(&mut words);
+    match (object, low, high) {
+        (Some(object), Some(low), Some(high)) => Some(Answered {
+            object: object as usize,
+            low,
+            high,
+        }),
+        _ => None,
+    }
 }
 
-/// Adds the objects of the lines `answer`. None where one has another form, or there is no memory.
-fn add_answers(certificate: &str, answers: &mut Vec<Answered>) -> Option<()> {
+/// Adds the objects of the lines `answer`, and tells whether each has its form and all were added.
+fn add_answers(certificate: &str, answers: &mut Vec<Answered>) -> bool {
     for line in certificate.lines() {
-        if let Some(rest) = line.strip_prefix("answer ") {
-            answers.push(answered_in(rest)?).ok()?;
+        let Some(rest) = line.strip_prefix("answer ") else {
+            continue;
+        };
+        let Some(item) = answered_in(rest) else {
+            return false;
+        };
+        if answers.push(item).is_err() {
+            return false;
         }
     }
-    Some(())
-}
-
-/// The objects of the lines `answer`.
-fn answers_of(alloc: Global, certificate: &str) -> Option<Vec<Answered>> {
-    let mut answers = Vec::new(alloc);
-    match add_answers(certificate, &mut answers) {
-        Some(()) => Some(answers),
-        None => {
-            drop(answers);
-            None
-        }
-    }
+    true
 }
 
 /// The number of the list with this name.
@@ -72,14 +73,17 @@ struct Told {
 
 /// The access of a line, from what stands behind its kind.
 fn told_in(words: &mut SplitWhitespace<'_>) -> Option<Told> {
-    let list = list_of(words.next()?)?;
-    let object = next_number(words)? as usize;
-    let grade = next_number(words)?;
-    Some(Told {
-        list,
-        object,
-        grade,
-    })
+    let list = list_of(words.next()?);
+    let object = next_number(words);
+    let grade = next_number(words);
+    match (list, object, grade) {
+        (Some(list), Some(object), Some(grade)) => Some(Told {
+            list,
+            object: object as usize,
+            grade,
+        }),
+        _ => None,
+    }
 }
 
 /// Whether a table has the grade of an access.
@@ -144,25 +148,32 @@ fn are_first(aggregates: &[u64], answers: &[Answered]) -> bool {
     found == answers.len() && greatest_outside <= least_inside
 }
 
-/// Adds the aggregate of each object.
+/// Adds the aggregate of each object, and tells whether all were added.
 fn add_aggregates(
     alloc: Global,
     table: &Table,
     aggregate: Aggregate,
     aggregates: &mut Vec<u64>,
-) -> Option<()> {
+) -> bool {
     for object in 0..table.count {
-        let grades = table.of_object(object as usize)?;
-        aggregates.push(aggregate.of(alloc, grades)?).ok()?;
+        let Some(grades) = table.of_object(object as usize) else {
+            return false;
+        };
+        let Some(value) = aggregate.of(alloc, grades) else {
+            return false;
+        };
+        if aggregates.push(value).is_err() {
+            return false;
+        }
     }
-    Some(())
+    true
 }
 
 /// Whether these are the first k objects of a table, with their bounds.
 fn are_answered(alloc: Global, table: &Table, asked: Asked, answers: &[Answered]) -> bool {
     let (k, aggregate) = asked;
     let mut aggregates = Vec::new(alloc);
-    let are_so = add_aggregates(alloc, table, aggregate, &mut aggregates).is_some()
+    let are_so = add_aggregates(alloc, table, aggregate, &mut aggregates)
         && answers.len() == k as usize
         && are_first(&aggregates, answers);
     drop(aggregates);
@@ -171,13 +182,10 @@ fn are_answered(alloc: Global, table: &Table, asked: Asked, answers: &[Answered]
 
 /// Whether a certificate has accesses, which the table agrees with, and such an answer.
 pub fn is_right(alloc: Global, table: &Table, asked: Asked, certificate: &str) -> bool {
-    if !has_true_accesses(table, certificate) {
-        return false;
-    }
-    let Some(answers) = answers_of(alloc, certificate) else {
-        return false;
-    };
-    let are_so = are_answered(alloc, table, asked, &answers);
+    let mut answers = Vec::new(alloc);
+    let is_so = has_true_accesses(table, certificate)
+        && add_answers(certificate, &mut answers)
+        && are_answered(alloc, table, asked, &answers);
     drop(answers);
-    are_so
+    is_so
 }

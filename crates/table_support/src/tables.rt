@@ -6,7 +6,7 @@ use std::alloc::Global;
 use test_support::{Numbers, shuffled};
 
 /// The names of the lists.
-pub(crate) const NAMES: [&str; 8] = ["A", "B", "C", "D", "E", "F", "G", "H"];
+pub(crate) const NAMES: &[&str] = &["A", "B", "C", "D", "E", "F", "G", "H"];
 
 /// A table: the grades of each object, those of an object side by side in the order of the lists, and
 /// the sections of its lists. The objects are 0, 1, 2 and so on, up to a count.
@@ -26,35 +26,44 @@ impl Table {
         self.grades.get(start..end)
     }
 
-    /// Sets the grade of an object in a list.
-    fn set_grade(&mut self, list: usize, object: u32, grade: u32) -> Option<()> {
+    /// Sets the grade of an object in a list, and tells whether it has a place.
+    fn set_grade(&mut self, list: usize, object: u32, grade: u32) -> bool {
         let place = (object as usize)
             .saturating_mul(self.lists)
             .saturating_add(list);
-        *self.grades.get_mut(place)? = u64::from(grade);
-        Some(())
-    }
-
-    /// Adds a row of a list.
-    fn add_row(&mut self, alloc: Global, list: usize, object: u32, grade: u32) -> Option<()> {
-        self.set_grade(list, object, grade)?;
-        let line = format!(in alloc; "{object},{grade}\n").ok()?;
-        let added = self.sections.push_str(&line);
-        drop(line);
-        added.ok()
-    }
-
-    /// Adds the head of a list.
-    fn add_head(&mut self, list: usize) -> Option<()> {
-        let name = NAMES.get(list)?;
-        for piece in &["list ", name, "\n"] {
-            self.sections.push_str(*piece).ok()?;
+        match self.grades.get_mut(place) {
+            Some(held) => {
+                *held = u64::from(grade);
+                true
+            }
+            None => false,
         }
-        Some(())
+    }
+
+    /// Adds a row of a list, and tells whether it was added.
+    fn add_row(&mut self, alloc: Global, list: usize, object: u32, grade: u32) -> bool {
+        let Ok(line) = format!(in alloc; "{object},{grade}\n") else {
+            return false;
+        };
+        let is_added = self.sections.push_str(&line).is_ok();
+        drop(line);
+        is_added && self.set_grade(list, object, grade)
+    }
+
+    /// Adds the head of a list, and tells whether it was added.
+    fn add_head(&mut self, list: usize) -> bool {
+        match NAMES.get(list) {
+            Some(name) => {
+                self.sections.push_str("list ").is_ok()
+                    && self.sections.push_str(*name).is_ok()
+                    && self.sections.push_str("\n").is_ok()
+            }
+            None => false,
+        }
     }
 }
 
-/// One list more of these objects: its grades fall from the greatest on by steps that are below `step`.
+/// One list more of these objects: its grades fall from the greatest on by steps that are below `step`. It tells whether it was added.
 fn add_list(
     alloc: Global,
     numbers: &mut Numbers,
@@ -62,16 +71,20 @@ fn add_list(
     list: usize,
     objects: &[u32],
     step: u32,
-) -> Option<()>
+) -> bool
     requires { 0 < step }
 {
-    table.add_head(list)?;
+    if !table.add_head(list) {
+        return false;
+    }
     let mut grade: u32 = 1_000_000;
     for object in objects {
         grade = grade.saturating_sub(numbers.below(step));
-        table.add_row(alloc, list, *object, grade)?;
+        if !table.add_row(alloc, list, *object, grade) {
+            return false;
+        }
     }
-    Some(())
+    true
 }
 
 /// One list more of the objects, at random.
@@ -81,23 +94,27 @@ fn add_shuffled(
     table: &mut Table,
     list: usize,
     step: u32,
-) -> Option<()>
+) -> bool
     requires { 0 < step }
 {
-    let objects = shuffled(alloc, numbers, table.count).ok()?;
-    let added = add_list(alloc, numbers, table, list, &objects, step);
+    let Ok(objects) = shuffled(alloc, numbers, table.count) else {
+        return false;
+    };
+    let is_added = add_list(alloc, numbers, table, list, &objects, step);
     drop(objects);
-    added
+    is_added
 }
 
-/// Adds each list of a table.
-fn add_lists(alloc: Global, numbers: &mut Numbers, table: &mut Table, step: u32) -> Option<()>
+/// Adds each list of a table, and tells whether all were added.
+fn add_lists(alloc: Global, numbers: &mut Numbers, table: &mut Table, step: u32) -> bool
     requires { 0 < step }
 {
     for list in 0..table.lists {
-        add_shuffled(alloc, numbers, table, list, step)?;
+        if !add_shuffled(alloc, numbers, table, list, step) {
+            return false;
+        }
     }
-    Some(())
+    true
 }
 
 /// So many zeros.
@@ -129,11 +146,10 @@ pub fn table_of(
         grades,
         sections: String::new(alloc),
     };
-    match add_lists(alloc, numbers, &mut table, step) {
-        Some(()) => Some(table),
-        None => {
-            drop(table);
-            None
-        }
+    if add_lists(alloc, numbers, &mut table, step) {
+        Some(table)
+    } else {
+        drop(table);
+        None
     }
 }
