@@ -1,14 +1,14 @@
-//! Random bundles, with ties everywhere among their lists.
+//! Random bundles, with ties everywhere among their lists. A call that adds to a text tells whether it could.
 
 use super::texts::{add_line, add_pieces};
 use std::alloc::Global;
 use test_support::{Numbers, shuffled};
 
 /// The names of the lists, in the order in which each expression names them.
-pub(crate) const NAMES: [&str; 3] = ["A", "B", "C"];
+pub(crate) const NAMES: &[&str] = &["A", "B", "C"];
 
-/// Adds the line of a row.
-fn add_row(alloc: Global, text: &mut String, object: u32, grade: u32) -> Option<()> {
+/// Adds the line of a row, and tells whether it was added.
+fn add_row(alloc: Global, text: &mut String, object: u32, grade: u32) -> bool {
     add_line(text, format!(in alloc; "{object},{grade}\n"))
 }
 
@@ -19,14 +19,16 @@ fn add_rows(
     objects: &[u32],
     first: u32,
     text: &mut String,
-) -> Option<()> {
+) -> bool {
     let mut grade = first;
     for object in objects {
-        add_row(alloc, text, *object, grade)?;
+        if !add_row(alloc, text, *object, grade) {
+            return false;
+        }
         let step = numbers.below(3);
         grade = grade.saturating_sub(step);
     }
-    Some(())
+    true
 }
 
 /// Adds a list of so many objects, whose greatest grade is a few.
@@ -36,13 +38,15 @@ fn add_list(
     name: &str,
     count: u32,
     text: &mut String,
-) -> Option<()> {
-    add_pieces(text, &["list ", name, "\n"])?;
+) -> bool {
     let first = numbers.below(5);
-    let objects = shuffled(alloc, numbers, count).ok()?;
-    let added = add_rows(alloc, numbers, &objects, first, text);
+    let Ok(objects) = shuffled(alloc, numbers, count) else {
+        return false;
+    };
+    let is_added = add_pieces(text, &["list ", name, "\n"])
+        && add_rows(alloc, numbers, &objects, first, text);
     drop(objects);
-    added
+    is_added
 }
 
 /// Adds so many lists of `count` objects.
@@ -52,24 +56,13 @@ fn add_lists(
     lists: usize,
     count: u32,
     text: &mut String,
-) -> Option<()> {
+) -> bool {
     for name in NAMES.iter().take(lists) {
-        add_list(alloc, numbers, name, count, text)?;
+        if !add_list(alloc, numbers, name, count, text) {
+            return false;
+        }
     }
-    Some(())
-}
-
-/// Adds so many lists of `count` objects, and a query.
-fn add_all(
-    alloc: Global,
-    numbers: &mut Numbers,
-    lists: usize,
-    count: u32,
-    query: &str,
-    text: &mut String,
-) -> Option<()> {
-    add_lists(alloc, numbers, lists, count, text)?;
-    add_pieces(text, &["query ", query, "\n"])
+    true
 }
 
 /// A bundle of so many lists of `count` objects, and a query. None where there is no memory.
@@ -81,11 +74,12 @@ pub fn bundle_of(
     query: &str,
 ) -> Option<String> {
     let mut text = String::new(alloc);
-    match add_all(alloc, numbers, lists, count, query, &mut text) {
-        Some(()) => Some(text),
-        None => {
-            drop(text);
-            None
-        }
+    if add_lists(alloc, numbers, lists, count, &mut text)
+        && add_pieces(&mut text, &["query ", query, "\n"])
+    {
+        Some(text)
+    } else {
+        drop(text);
+        None
     }
 }

@@ -1,4 +1,4 @@
-//! The certificate of what the plain program computes.
+//! The certificate of what the plain program computes. A call that adds to a text tells whether it could.
 
 ghost use Rattle.std.specs.Prelude.{◌≤◌, IfSome, OnSome};
 ghost use Rattle.plain_ta.specs.Posed.{IsPosed};
@@ -47,42 +47,40 @@ fn plain_accesses(
 }
 
 /// Adds the line of an item.
-fn add_item(alloc: Global, item: &Item, text: &mut String) -> Option<()> {
+fn add_item(alloc: Global, item: &Item, text: &mut String) -> bool {
     let (object, low, high) = (item.object, item.low, item.high);
     add_line(text, format!(in alloc; "answer {object} {low} {high}\n"))
 }
 
 /// Adds the first lines of a certificate, and its answer.
-fn add_answer(
-    alloc: Global,
-    query: &str,
-    count: u32,
-    items: &[Item],
-    text: &mut String,
-) -> Option<()> {
-    add_line(
-        text,
-        format!(in alloc; "certificate 1\nquery {query}\ncount {count}\n"),
-    )?;
-    for item in items {
-        add_item(alloc, item, text)?;
+fn add_answer(alloc: Global, query: &str, count: u32, items: &[Item], text: &mut String) -> bool {
+    let head = format!(in alloc; "certificate 1\nquery {query}\ncount {count}\n");
+    if !add_line(text, head) {
+        return false;
     }
-    Some(())
+    for item in items {
+        if !add_item(alloc, item, text) {
+            return false;
+        }
+    }
+    true
 }
 
 /// Adds the line of an access.
-fn add_access(alloc: Global, access: &Access, text: &mut String) -> Option<()> {
-    let name = NAMES.get(access.list() as usize)?;
+fn add_access(alloc: Global, access: &Access, text: &mut String) -> bool {
+    let Some(name) = NAMES.get(access.list() as usize) else {
+        return false;
+    };
     let sort = if access.is_sorted() { 's' } else { 'r' };
     let (object, grade) = (access.object(), access.grade());
     add_line(text, format!(in alloc; "{sort} {name} {object} {grade}\n"))
 }
 
-/// What so many accesses cost.
-fn cost_of(sorted: usize, random: usize, costs: Costs) -> Option<u64> {
-    let sorted = u64::from(costs.sorted).checked_mul(sorted as u64)?;
-    let random = u64::from(costs.random).checked_mul(random as u64)?;
-    sorted.checked_add(random)
+/// What so many accesses cost. They are few.
+fn cost_of(sorted: usize, random: usize, costs: Costs) -> u64 {
+    let sorted = u64::from(costs.sorted).saturating_mul(sorted as u64);
+    let random = u64::from(costs.random).saturating_mul(random as u64);
+    sorted.saturating_add(random)
 }
 
 /// How deep list A is read, which is as deep as any, and how many accesses are sorted and random.
@@ -104,9 +102,9 @@ fn figures_of(accesses: &[Access]) -> (usize, usize, usize) {
 }
 
 /// Adds the stop line: the depth, and what was read at these costs.
-fn add_stop(alloc: Global, accesses: &[Access], costs: Costs, text: &mut String) -> Option<()> {
+fn add_stop(alloc: Global, accesses: &[Access], costs: Costs, text: &mut String) -> bool {
     let (depth, sorted, random) = figures_of(accesses);
-    let cost = cost_of(sorted, random, costs)?;
+    let cost = cost_of(sorted, random, costs);
     add_line(
         text,
         format!(in alloc; "stop depth {depth} sorted {sorted} random {random} cost {cost}\n"),
@@ -114,12 +112,16 @@ fn add_stop(alloc: Global, accesses: &[Access], costs: Costs, text: &mut String)
 }
 
 /// Adds the stop line and the accesses, to the end of a certificate.
-fn add_accesses(alloc: Global, accesses: &[Access], costs: Costs, text: &mut String) -> Option<()> {
-    add_stop(alloc, accesses, costs, text)?;
-    for access in accesses {
-        add_access(alloc, access, text)?;
+fn add_accesses(alloc: Global, accesses: &[Access], costs: Costs, text: &mut String) -> bool {
+    if !add_stop(alloc, accesses, costs, text) {
+        return false;
     }
-    text.push_str("end\n").ok()
+    for access in accesses {
+        if !add_access(alloc, access, text) {
+            return false;
+        }
+    }
+    text.push_str("end\n").is_ok()
 }
 
 /// Adds the answer of the plain program.
@@ -130,14 +132,16 @@ fn add_plain_answer(
     costs: Costs,
     asked: (&str, u32),
     text: &mut String,
-) -> Option<()>
+) -> bool
     requires posed { IsPosed lists.now query.now.expr }
     requires costs { 1 ≤ costs.sorted }
 {
-    let items = plain_items(alloc, lists, query, costs)?;
-    let added = add_answer(alloc, asked.0, asked.1, &items, text);
+    let Some(items) = plain_items(alloc, lists, query, costs) else {
+        return false;
+    };
+    let is_added = add_answer(alloc, asked.0, asked.1, &items, text);
     drop(items);
-    added
+    is_added
 }
 
 /// Adds what the plain program reads.
@@ -147,14 +151,16 @@ fn add_plain_accesses(
     query: &Query,
     costs: Costs,
     text: &mut String,
-) -> Option<()>
+) -> bool
     requires posed { IsPosed lists.now query.now.expr }
     requires costs { 1 ≤ costs.sorted }
 {
-    let accesses = plain_accesses(alloc, lists, query, costs)?;
-    let added = add_accesses(alloc, &accesses, costs, text);
+    let Some(accesses) = plain_accesses(alloc, lists, query, costs) else {
+        return false;
+    };
+    let is_added = add_accesses(alloc, &accesses, costs, text);
     drop(accesses);
-    added
+    is_added
 }
 
 /// The costs in force of a query that may be asked over these lists. None where they are no table or not the query's, a sorted access
@@ -183,42 +189,40 @@ fn add_certificate(
     query: &Query,
     asked: (&str, u32),
     text: &mut String,
-) -> Option<()> {
-    let costs = costs_over(alloc, lists, query)?;
-    add_plain_answer(alloc, lists, query, costs, asked, text)?;
-    add_plain_accesses(alloc, lists, query, costs, text)
+) -> bool {
+    let Some(costs) = costs_over(alloc, lists, query) else {
+        return false;
+    };
+    add_plain_answer(alloc, lists, query, costs, asked, text)
+        && add_plain_accesses(alloc, lists, query, costs, text)
 }
 
 /// Adds the certificate of a query's text.
-fn add_asked(
-    alloc: Global,
-    lists: &[MemList],
-    asked: (&str, u32),
-    text: &mut String,
-) -> Option<()> {
-    let query = read(alloc, asked.0.as_bytes()).ok()?;
-    let added = add_certificate(alloc, lists, &query, asked, text);
+fn add_asked(alloc: Global, lists: &[MemList], asked: (&str, u32), text: &mut String) -> bool {
+    let Ok(query) = read(alloc, asked.0.as_bytes()) else {
+        return false;
+    };
+    let is_added = add_certificate(alloc, lists, &query, asked, text);
     query.let_go();
-    added
+    is_added
 }
 
 /// Adds the certificate of a query's text over the lists of a bundle.
-fn add_over(alloc: Global, input: &str, asked: (&str, u32), text: &mut String) -> Option<()> {
-    let bundle = read_bundle(alloc, input.as_bytes()).ok()?;
-    let added = add_asked(alloc, &bundle.lists, asked, text);
-    drop(bundle);
-    added
+fn add_over(alloc: Global, input: &str, asked: (&str, u32), text: &mut String) -> bool {
+    let Ok(bundle) = read_bundle(alloc, input.as_bytes()) else {
+        return false;
+    };
+    add_asked(alloc, &bundle.lists, asked, text)
 }
 
 /// The certificate of a query over the lists of a bundle, by the plain program. The query is told by its text, over so many
 /// objects. None where the text is no such bundle and query, or there is no memory.
 pub fn expected(alloc: Global, input: &str, asked: (&str, u32)) -> Option<String> {
     let mut text = String::new(alloc);
-    match add_over(alloc, input, asked, &mut text) {
-        Some(()) => Some(text),
-        None => {
-            drop(text);
-            None
-        }
+    if add_over(alloc, input, asked, &mut text) {
+        Some(text)
+    } else {
+        drop(text);
+        None
     }
 }

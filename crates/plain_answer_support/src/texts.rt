@@ -1,19 +1,23 @@
-//! Texts that are made piece by piece. None stands for a want of memory.
+//! Texts that are made piece by piece. Each call tells whether there was memory.
 
 use std::alloc::AllocError;
 
 /// Adds these pieces, one after another.
-pub(crate) fn add_pieces(text: &mut String, pieces: &[&str]) -> Option<()> {
+pub(crate) fn add_pieces(text: &mut String, pieces: &[&str]) -> bool {
     for piece in pieces {
-        text.push_str(*piece).ok()?;
+        if text.push_str(*piece).is_err() {
+            return false;
+        }
     }
-    Some(())
+    true
 }
 
 /// Adds a line, where there was memory to make it, and drops it.
-pub(crate) fn add_line(text: &mut String, line: Result<String, AllocError>) -> Option<()> {
-    let line = line.ok()?;
-    let added = text.push_str(&line);
+pub(crate) fn add_line(text: &mut String, line: Result<String, AllocError>) -> bool {
+    let Ok(line) = line else {
+        return false;
+    };
+    let is_added = text.push_str(&line).is_ok();
     drop(line);
-    added.ok()
+    is_added
 }
