@@ -3,7 +3,7 @@
 use command_words::{Command, Words, WordsFault, read_command, read_words};
 use std::alloc::Global;
 use std::env::{Env, FillError};
-use test_support::{Unmade, words_of};
+use test_support::words_of;
 
 /// What words are read as.
 #[derive(Clone, Copy)]
@@ -24,13 +24,13 @@ fn is_told(command: &Result<Command, WordsFault>, told: Told) -> bool {
 }
 
 /// Whether words are read as this.
-fn are_read_as(alloc: Global, texts: &[&str], told: Told) -> Result<bool, Unmade> {
-    let words = words_of(alloc, texts)?;
+fn are_read_as(alloc: Global, texts: &[&str], told: Told) -> bool {
+    let Ok(words) = words_of(alloc, texts) else {
+        return false;
+    };
     let command = read_command(alloc, &words);
     drop(words);
-    let are_so = is_told(&command, told);
-    drop(command);
-    Ok(are_so)
+    is_told(&command, told)
 }
 
 /// Words, and what they are read as.
@@ -71,24 +71,24 @@ const ROWS: &[Row] = &[
 ];
 
 /// The number of the first row that is read otherwise.
-fn first_wrong(alloc: Global, rows: &[Row]) -> Result<Option<usize>, Unmade> {
+fn first_wrong(alloc: Global, rows: &[Row]) -> Option<usize> {
     for (number, (words, told)) in rows.iter().enumerate() {
-        if !are_read_as(alloc, words, *told)? {
-            return Ok(Some(number));
+        if !are_read_as(alloc, words, *told) {
+            return Some(number);
         }
     }
-    Ok(None)
+    None
 }
 
 #[test]
 fn reads_commands_and_refuses_words(rt: HostRuntime) {
-    assert_eq!(rt; first_wrong(rt.alloc(), ROWS), Ok(None));
+    assert_eq!(rt; first_wrong(rt.alloc(), ROWS), None);
 }
 
 /// A process whose own name isn't UTF-8, with these words.
 #[derive(Drop)]
 struct Given {
-    words: [&'static [u8]; 3],
+    words: &'static [&'static [u8]],
 }
 
 impl Env for Given {
@@ -122,26 +122,28 @@ fn are_one_and_long(words: &Words) -> bool {
     words.len() == 2 && words.get(0) == Some("one") && last.as_bytes() == LONG
 }
 
-/// Whether a process gives these two words.
-fn gives_one_and_long(alloc: Global, given: &Given) -> Result<bool, WordsFault> {
-    let words = read_words(given, alloc)?;
-    let are_so = are_one_and_long(&words);
-    drop(words);
-    Ok(are_so)
+/// Whether a process gives these two words, or they are refused for this reason where there is one.
+fn gives(alloc: Global, given: &Given, expected: Option<WordsFault>) -> bool {
+    match read_words(given, alloc) {
+        Ok(words) => {
+            let are_so = are_one_and_long(&words);
+            drop(words);
+            are_so && expected.is_none()
+        }
+        Err(fault) => expected == Some(fault),
+    }
 }
 
 /// The words behind the name are read, and a word that is no text is refused.
 #[test]
 fn reads_the_words_of_a_process(rt: HostRuntime) {
     let long = Given {
-        words: [b"\xFF", b"one", LONG],
+        words: &[b"\xFF", b"one", LONG],
     };
     let no_text = Given {
-        words: [b"topk", b"one", b"\xC3"],
+        words: &[b"topk", b"one", b"\xC3"],
     };
-    let gives = [
-        gives_one_and_long(rt.alloc(), &long),
-        gives_one_and_long(rt.alloc(), &no_text),
-    ];
-    assert_eq!(rt; gives, [Ok(true), Err(WordsFault::BadWords)]);
+    let are_so = gives(rt.alloc(), &long, None)
+        && gives(rt.alloc(), &no_text, Some(WordsFault::BadWords));
+    assert!(rt; are_so);
 }
