@@ -1,14 +1,13 @@
 -- What `clap` gives of the options of `make`.
-use Rattle.std.proofs.Common.{◌≡◌, ℕ, List, Option, Some, None, IfOk, refl, sym, ap, ◌∙◌, subst}
+use Rattle.std.proofs.Common.{◌≡◌, List, Option, Some, None, IfOk, IfSome, refl, sym, ap, ◌∙◌, subst}
 use Rattle.std.specs.Option.{ok_or}
 use Rattle.std.specs.declared.result.Result.{Result}
 use Rattle.std.specs.declared.result.Result.TheVariants.{Err}
 use Rattle.clap.specs.Words.{first_of}
 use Rattle.clap.proofs.OnLiterals.{clap_on_literals}
 use Rattle.command_line.specs.Line.{Given}
-use Rattle.command_words.specs.Making.{make_app, make_options, make_takes, options_given, options_in, start_rule, count_rule, lists_rule, table_of}
+use Rattle.command_words.specs.Making.{make_app, make_takes, options_given, options_in, start_rule, count_rule, lists_rule, table_of}
 use Rattle.command_words.specs.OptionNumbers.{text_by}
-use Rattle.command_words.specs.declared.making.MakeOptions.{MakeOptions}
 use Rattle.command_line.specs.declared.fault.WordsFault.{WordsFault}
 use Rattle.command_line.specs.declared.fault.WordsFault.TheVariants.{BadWords}
 use Rattle.command_line.proofs.SetRules.{shown}
@@ -30,14 +29,17 @@ make_asks = record {
 }
 
 -- what is answered where the words have no fault
-pub answer_read : (words : List (List ℕ)) (found : Option MakeOptions) (result : Result MakeOptions WordsFault) → make_options words ≡ found
-    → result ≡ ok_or found BadWords
-    → IfOk result (λ options. make_options words ≡ Some options)
-answer_read words (Some options) result is e = subst (λ r. IfOk r (λ o. make_options words ≡ Some o)) (sym e) is
-answer_read words None result is e = subst (λ r. IfOk r (λ o. make_options words ≡ Some o)) (sym e) tt
+pub answer_read : {A : Type 0} (asked found : Option A) (result : Result A WordsFault) → asked ≡ found → result ≡ ok_or found BadWords
+    → IfOk result (λ options. asked ≡ Some options)
+answer_read asked (Some options) result is e = subst (λ r. IfOk r (λ o. asked ≡ Some o)) (sym e) is
+answer_read asked None result is e = subst (λ r. IfOk r (λ o. asked ≡ Some o)) (sym e) tt
 
-pub answer_refused : (words : List (List ℕ)) (found : Option MakeOptions) (result : Result MakeOptions WordsFault) → make_options words ≡ found
-    → result ≡ ok_or found BadWords
-    → result ≡ Err BadWords → make_options words ≡ None
-answer_refused words (Some options) result is e refused = absurd cc
-answer_refused words None result is e refused = is
+pub answer_refused : {A : Type 0} (asked found : Option A) (result : Result A WordsFault) → asked ≡ found → result ≡ ok_or found BadWords
+    → result ≡ Err BadWords → asked ≡ None
+answer_refused asked (Some options) result is e refused = absurd cc
+answer_refused asked None result is e refused = is
+
+pub answer_within : {A : Type 0} (P : A → Type 0) (found : Option A) (result : Result A WordsFault) → IfSome found P → result ≡ ok_or found BadWords
+    → IfOk result P
+answer_within P (Some options) result within e = subst (λ r. IfOk r P) (sym e) within
+answer_within P None result within e = subst (λ r. IfOk r P) (sym e) tt

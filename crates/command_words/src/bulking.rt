@@ -12,7 +12,7 @@ use limits::MAX_QUERIES;
 use std::alloc::Global;
 
 /// Which made queries are to be run, and over which made table.
-#[derive(Clone, Copy, Debug, PartialEq, Eq)]
+#[derive(Clone, Copy)]
 pub struct BulkOptions {
     /// The table.
     pub table: MakeOptions,
@@ -40,23 +40,11 @@ pub(crate) fn read_bulk(alloc: Global, words: &Words) -> Result<BulkOptions, Wor
     ];
     match found_in(alloc, &arguments, words) {
         Ok(matches) => {
-            let options = asked_of(&matches);
+            let options = options_of(&matches);
             drop(matches);
-            options
+            options.ok_or(WordsFault::BadWords)
         }
         Err(fault) => Err(fault),
-    }
-}
-
-/// What is asked for, where each number is within its range.
-fn asked_of(matches: &ArgMatches) -> Result<BulkOptions, WordsFault>
-    ensures read { IfOk result (λ options. bulk_in (rows_of (found_of matches.now)) ≡ Some options) }
-    ensures refused { result ≡ Err WordsFault.BadWords → bulk_in (rows_of (found_of matches.now)) ≡ None }
-    ensures within { IfOk result AreBulkOptions }
-{
-    match options_of(matches) {
-        Some(options) => Ok(options),
-        None => Err(WordsFault::BadWords),
     }
 }
 

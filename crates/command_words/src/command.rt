@@ -10,7 +10,7 @@ use command_line::{Words, WordsFault, found_in};
 use std::alloc::Global;
 
 /// What the program is to do.
-#[derive(Debug, PartialEq, Eq, Drop)]
+#[derive(Drop)]
 pub enum Command {
     /// `one`: answers the query of a bundle.
     One,

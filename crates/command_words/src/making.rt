@@ -12,7 +12,7 @@ use line_text::number_up_to;
 use std::alloc::Global;
 
 /// Which table is to be made.
-#[derive(Clone, Copy, Debug, PartialEq, Eq)]
+#[derive(Clone, Copy)]
 pub struct MakeOptions {
     /// The number that it is made from, at most 2^63 - 1.
     pub start: u64,

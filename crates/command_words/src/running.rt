@@ -1,9 +1,6 @@
 //! The words of `run`.
 
 ghost use Rattle.std.specs.Prelude.{◌≡◌, ◌≤◌, None, Some, IfOk, IfSome};
-ghost use Rattle.std.specs.Str.{bytes_eq};
-ghost use Rattle.std.specs.Cmp.Rules.{comparing};
-ghost use Rattle.std.proofs.Common.{rules};
 ghost use Rattle.clap.specs.Words.{rows_of, found_of};
 ghost use Rattle.command_words.specs.OptionNumbers.{free_number_in};
 ghost use Rattle.command_words.specs.Running.{run_options, run_in, settings_in, AreRunSettings};
@@ -24,7 +21,7 @@ const MAX_PAGE: u64 = 10_000;
 const MAX_AHEAD: u64 = 100;
 
 /// Where a text stands, which contracts see as the bytes of the place.
-#[derive(Debug, Drop)]
+#[derive(Drop)]
 pub struct Place {
     text: String,
 }
@@ -35,20 +32,6 @@ impl Model for Place {
     ghost Value = { List ℕ };
 
     ghost view = { λ place. string_bytes place.text };
-}
-
-impl PartialEq for Place {
-    ghost eq = { bytes_eq };
-
-    ghost laws = { Prim.search (comparing, rules) };
-
-    fn eq(&self, other: &Place) -> bool {
-        self.text == other.text
-    }
-}
-
-impl Eq for Place {
-    ghost laws = { Prim.search (comparing, rules) };
 }
 
 impl Place {
@@ -71,7 +54,7 @@ impl Place {
 }
 
 /// How queries are run.
-#[derive(Clone, Copy, Debug, PartialEq, Eq)]
+#[derive(Clone, Copy)]
 pub struct RunSettings {
     /// How many queries run at the same time, each on a thread of its own, 1 to 32.
     pub workers: u32,
@@ -82,7 +65,7 @@ pub struct RunSettings {
 }
 
 /// Which queries are to be run.
-#[derive(Debug, PartialEq, Eq, Drop)]
+#[derive(Drop)]
 pub struct RunOptions {
     /// The place of the catalog of their lists.
     pub catalog: Place,
