@@ -1,7 +1,7 @@
 -- What the test of a name finds out.
-use Rattle.std.proofs.Common.{◌≡◌, ◌<◌, ◌&&◌, ℕ, Bool, true, false, List, ◌∷◌, length, refl, ap, ◌∙◌, lt-ltb}
+use Rattle.std.proofs.Common.{◌≡◌, ◌<◌, ◌&&◌, ◌||◌, ◌==◌, ℕ, Bool, true, false, List, ◌∷◌, length, refl, sym, ap, ◌∙◌, lt-ltb}
 use Rattle.std.specs.List.{list_all}
-use Rattle.std.specs.Char.{is_ascii_alphabetic}
+use Rattle.std.specs.Char.{is_ascii_alphabetic, is_ascii_alphanumeric}
 use Rattle.line_text.specs.Names.{is_name_byte, is_name}
 
 -- where the first byte is a letter and the length is right, the other bytes decide
@@ -12,3 +12,7 @@ is_name_by_rest text first rest e short letter = ap is_name e ∙ rw (letter, lt
     by_rest : (b : Bool) → ((true && b) && true) ≡ b
     by_rest true = refl
     by_rest false = refl
+
+-- a byte that is no letter and no digit may stand in a name where it is `_`
+pub name_byte_else : (byte : ℕ) → is_ascii_alphanumeric byte ≡ false → (byte == 95) ≡ is_name_byte byte
+name_byte_else byte other = sym (ap (λ (b : Bool). b || (byte == 95)) other)

@@ -1,5 +1,5 @@
 -- A number's text is what `decimal` writes of the number.
-use Rattle.std.proofs.Common.{◌≡◌, ◌≢◌, ◌<◌, ◌≤◌, ◌^◌, ◌+◌, ◌-◌, ◌*◌, ◌&&◌, ℕ, suc, Bool, true, false, cond, List, [], ◌∷◌, length, get_or, take, Option, Some, None, refl, sym, ap, ◌∙◌, subst, ⊎_elim, arith, eq-eqb, ne_eqb, le-ltb, lt-ltb, le-leb, leb, leb-true, Result, Ok, Err, SomeIff}
+use Rattle.std.proofs.Common.{◌≡◌, ◌≢◌, ◌<◌, ◌≤◌, ◌^◌, ◌+◌, ◌-◌, ◌*◌, ◌&&◌, ℕ, suc, Bool, true, false, cond, eqb, List, [], ◌∷◌, length, get_or, take, Option, Some, None, refl, sym, ap, ◌∙◌, subst, ⊎_elim, arith, eq-eqb, ne_eqb, le-ltb, lt-ltb, le-leb, leb, leb-true, Result, Ok, Err, SomeIff}
 use Rattle.std.specs.List.{All, list_all}
 use Rattle.std.specs.Char.{is_ascii_digit, digit_value}
 use Rattle.std.specs.Str.{all_ascii_digits}
@@ -119,6 +119,14 @@ is_number_by_rest text first rest e ne digit =
     by_rest : (b : Bool) → (true && b) ≡ b
     by_rest true = refl
     by_rest false = refl
+
+-- a text that begins with `0` is a number where nothing follows
+pub is_number_alone : (text : List ℕ) (first : ℕ) (rest : List ℕ) → text ≡ first ∷ rest → first ≡ 48 → is_number text ≡ eqb (length rest) 0
+is_number_alone text first rest e zero = ap is_number e ∙ rw (eq-eqb first 48 zero) (by_rest rest)
+  where
+    by_rest : (rest : List ℕ) → is_empty rest ≡ eqb (length rest) 0
+    by_rest [] = refl
+    by_rest (byte ∷ rest) = sym (ne_eqb (length (byte ∷ rest)) 0 (omega arith))
 
 -- where the value stands at a digit, the text's value is no less
 pub too_large : (ds : List ℕ) (i value : ℕ) → all_ascii_digits ds ≡ true → i < length ds → value ≡ digits_value 10 (take i ds)
