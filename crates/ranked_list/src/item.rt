@@ -18,7 +18,7 @@ pub struct Item {
 }
 
 /// Items in order, which contracts see as their list.
-#[derive(Debug, Drop)]
+#[derive(Drop)]
 pub struct Items {
     items: Vec<Item>,
 }

@@ -12,7 +12,7 @@ use std::marker::Model;
 use std::slice::Iter;
 
 /// Rows in order, which contracts see as their list.
-#[derive(Debug, Drop)]
+#[derive(Drop)]
 pub struct MemList {
     rows: Vec<Row>,
 }

@@ -1,7 +1,7 @@
 //! What a machine asks for next.
 
 /// The next access of a query.
-#[derive(Clone, Copy, Debug, PartialEq, Eq)]
+#[derive(Clone, Copy, PartialEq, Eq)]
 pub enum Need {
     /// The row at this depth of the list, depths counting from 1.
     Row { list: u8, depth: u32 },

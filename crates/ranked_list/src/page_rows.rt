@@ -11,7 +11,7 @@ use std::marker::Model;
 use std::slice::Iter;
 
 /// The rows of one page in order, which contracts see as their list.
-#[derive(Debug, Drop)]
+#[derive(Drop)]
 pub struct PageRows {
     rows: Vec<Row>,
 }
