@@ -12,7 +12,7 @@ use std::cmp::Ordering;
 
 /// An object with its bounds, of which the lesser stands first on a board: the one with the greater
 /// low, at equal lows the one with the greater high, and at equal bounds the one with the smaller id.
-#[derive(Clone, Copy, Debug, PartialEq, Eq)]
+#[derive(Clone, Copy, PartialEq, Eq)]
 pub(crate) struct Rank {
     pub low: u64,
     pub high: u64,

@@ -10,3 +10,6 @@ invariant_of-result c =
 
 pub returns-clause-empty : goal.returns-clause-empty
 returns-clause-empty c = no_items _ c.args.room c.in_ok-ranking.ensures.empty
+
+pub returns-clause-same_k : goal.returns-clause-same_k
+returns-clause-same_k c = c.in_ok-ranking.ensures.same_k
