@@ -93,10 +93,10 @@ impl<V: Copy> ObjectMap<V> {
             write(&mut self.near, object, value);
             return Ok(before);
         }
-        match self.far.insert(object, value) {
-            Ok(before) => Ok(before),
-            Err(_) => Err(Memory),
-        }
+        let Ok(before) = self.far.insert(object, value) else {
+            return Err(Memory);
+        };
+        Ok(before)
     }
 
     /// Holds memory for values of `more` objects more. Where it is refused nothing has changed.
