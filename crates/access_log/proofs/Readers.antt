@@ -1,5 +1,5 @@
 -- What the readers of a transcript answer, from what it keeps.
-use Rattle.std.proofs.Common.{◌≡◌, ℕ, ◌+◌, ◌<◌, ◌≤◌, ◌^◌, ◌↔◌, inl, inr, Bool, not, cond, List, [], ◌∷◌, length, map, take, replicate, Contains, IsTrue, Option, Some, None, unwrap_or, is_some, position, nat_eq, slice_index_or, refl, sym, ap, ap₂, subst, ◌∙◌, arith}
+use Rattle.std.proofs.Common.{◌≡◌, ℕ, ◌+◌, ◌*◌, ◌<◌, ◌≤◌, ◌^◌, ◌↔◌, inl, inr, Bool, not, cond, List, [], ◌∷◌, length, map, take, replicate, Contains, IsTrue, Option, Some, None, unwrap_or, is_some, position, nat_eq, slice_index_or, refl, sym, ap, ap₂, subst, ◌∙◌, arith}
 use Rattle.std.proofs.lemmas.Bool.{true≢false}
 use Rattle.std.proofs.lemmas.List.{get_or-take, length-take-le}
 use Rattle.std.proofs.lemmas.List.FromFn.{fill_by_all, length-map-range_with_len}
@@ -8,7 +8,7 @@ use Rattle.ranked_list.specs.Table.{top_grade}
 use Rattle.ranked_list.proofs.OptionLaws.{option_cases}
 use Rattle.topk_theory.specs.declared.access.Access.{Access}
 use Rattle.topk_theory.specs.declared.access.Access.TheVariants.{Sorted, Random}
-use Rattle.topk_theory.specs.Transcript.{is_sorted, sorted_rows, given_rows, named_objects, seen_objects, bottom_of, list_numbers, sorted_count, random_count}
+use Rattle.topk_theory.specs.Transcript.{is_sorted, sorted_rows, given_rows, named_objects, seen_objects, bottom_of, list_numbers, sorted_count, random_count, cost}
 use Rattle.topk_theory.specs.Bounds.{known_grade, low, high}
 use Rattle.topk_theory.specs.Consistent.{SomeAgrees}
 use Rattle.topk_theory.proofs.AgreementLists.{contains_map_from, all_from_members, slice_get_contains}
@@ -145,3 +145,8 @@ pub high_answer : (e : Tree) (log : Log) (object r : ℕ) (xs : List (Option ℕ
     → r ≡ high (expression.value e) log.lists log.accesses object
 high_answer e log object r xs ys f b g =
     g ∙ ap₂ (expression.high e) f b ∙ ap (expression.value e) (bottoms_filled (λ list. known_grade log.accesses object list) (λ list. bottom_of list log.accesses) (list_numbers log.lists))
+
+-- what the accesses cost
+pub cost_is : (A : List Access) (each_sorted each_random sorted random paid_sorted paid_random : ℕ) → sorted ≡ sorted_count A → random ≡ random_count A
+    → paid_sorted ≡ each_sorted → paid_random ≡ each_random → sorted * paid_sorted + random * paid_random ≡ cost each_sorted each_random A
+cost_is A each_sorted each_random sorted random paid_sorted paid_random s r p q = ap₂ (λ a b. a + b) (ap₂ (λ a b. a * b) s p) (ap₂ (λ a b. a * b) r q)

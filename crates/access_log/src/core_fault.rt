@@ -1,7 +1,7 @@
 //! Why a machine doesn't take a row.
 
 /// Why a machine didn't take a row.
-#[derive(Clone, Copy, Debug, PartialEq, Eq)]
+#[derive(Clone, Copy, PartialEq, Eq)]
 pub enum CoreFault {
     /// The row's object is one more than the `count` objects that each list has.
     Strangers { object: u32, count: u32 },

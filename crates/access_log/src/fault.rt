@@ -1,7 +1,7 @@
 //! Why an access is refused.
 
 /// Why a transcript doesn't take an access.
-#[derive(Clone, Copy, Debug, PartialEq, Eq)]
+#[derive(Clone, Copy, PartialEq, Eq)]
 pub enum PushFault {
     /// No table agrees with the transcript and this access. `at` is the access's number, from 1.
     /// `kind` is the first of these that holds:
