@@ -1,5 +1,5 @@
 -- What a base holds of its transcript before any access.
-use Rattle.std.proofs.Common.{◌≡◌, ℕ, ◌*◌, ◌≤◌, min, max, [], refl, sym, ap, subst, ◌∙◌, arith}
+use Rattle.std.proofs.Common.{◌≡◌, ℕ, ◌*◌, ◌≤◌, min, max, [], refl, sym, ap, ap₂, subst, ◌∙◌, arith}
 use Rattle.ranked_list.specs.declared.need.Need.TheVariants.{Done}
 use Rattle.monotone_fn.specs.declared.costs.Costs.{Costs}
 use Rattle.monotone_fn.specs.Tree.{Tree}
@@ -16,11 +16,14 @@ abbrev pub empty_log : ℕ → ℕ → ℕ → ℕ → Log
 empty_log m n objects accesses = record { lists = m; count = n; accesses = []; spare_objects = objects; spare_accesses = accesses }
 
 -- the log for which room was reserved
-pub reserved_log : (m n objects accesses : ℕ) (made log : Log) → made ≡ empty_log m n 0 0
+pub room_reserved : (m n room objects accesses : ℕ) (made log : Log) → made ≡ empty_log m n 0 0
     → log ≡ record made { spare_objects = max made.spare_objects objects; spare_accesses = max made.spare_accesses accesses }
-    → log ≡ empty_log m n (max 0 objects) (max 0 accesses)
-reserved_log m n objects accesses made log first then =
+    → objects ≡ room → accesses ≡ 2 * (m * room) → log ≡ empty_log m n room (2 * (m * room))
+room_reserved m n room objects accesses made log first then some more =
+    let spare : max 0 objects ≡ room = omega (arith, some) in
+    let twice : max 0 accesses ≡ 2 * (m * room) = omega (arith, more) in
     then ∙ ap (λ (l : Log). record l { spare_objects = max l.spare_objects objects; spare_accesses = max l.spare_accesses accesses }) first
+    ∙ ap₂ (empty_log m n) spare twice
 
 -- with it a base is begun
 pub begun_empty : (e : Tree) (k n room most m objects accesses : ℕ) (costs : Costs) (log : Log) → most ≡ min room n → m ≡ list_count e
@@ -44,12 +47,11 @@ held_empty e k n room most m objects accesses log numbers asked fits counted roo
     subst (λ (l : Log). IsHeld e k most l.lists l.count l.accesses) (sym is) (subst (λ at. IsHeld e k most at n []) (sym lists) held)
 
 -- and has room where the room was reserved for its objects, and for twice as many accesses as its lists have of them
-pub reserved_empty : (base : Base) (m n lists room : ℕ) → base.transcript ≡ empty_log m n (max 0 base.room) (max 0 (2 * (lists * room)))
-    → lists ≡ m → room ≡ base.room → IsReserved base
-reserved_empty base m n lists room is same_lists same_room =
+pub reserved_empty : (base : Base) (m n : ℕ) → base.transcript ≡ empty_log m n base.room (2 * (m * base.room)) → IsReserved base
+reserved_empty base m n is =
     let log : Log = base.transcript in
-    let spare : log.spare_objects ≡ max 0 base.room = ap (λ (l : Log). l.spare_objects) is in
-    let more : log.spare_accesses ≡ max 0 (2 * (lists * room)) = ap (λ (l : Log). l.spare_accesses) is in
-    let here : log.lists ≡ lists = ap (λ (l : Log). l.lists) is ∙ sym same_lists in
-    let twice : 2 * (log.lists * base.room) ≡ 2 * (lists * room) = ap (λ x. 2 * (x * base.room)) here ∙ ap (λ x. 2 * (lists * x)) (sym same_room) in
+    let spare : log.spare_objects ≡ base.room = ap (λ (l : Log). l.spare_objects) is in
+    let more : log.spare_accesses ≡ 2 * (m * base.room) = ap (λ (l : Log). l.spare_accesses) is in
+    let here : log.lists ≡ m = ap (λ (l : Log). l.lists) is in
+    let twice : 2 * (log.lists * base.room) ≡ 2 * (m * base.room) = ap (λ x. 2 * (x * base.room)) here in
     reserved_start base (ap (λ (l : Log). l.accesses) is) (omega (arith, spare)) (omega (arith, more, twice))

@@ -1,6 +1,7 @@
 //! What every machine holds.
 
-ghost use Rattle.std.specs.Prelude.{◌≡◌, ◌≤◌, IfOk, IfErr, OnOk};
+ghost use Rattle.std.specs.Prelude.{◌≡◌, ◌≤◌, ◌*◌, [], IfOk, IfErr, OnOk};
+ghost use Rattle.access_log.specs.Log.{IsWithinLimits};
 ghost use Rattle.access_log.specs.Machine.{IsBegun, HasRoomFor};
 ghost use Rattle.machine_base.specs.Base.{shown, Holds, IsReserved, IsTold, CanTake, TellsNew, HasNoRoom};
 
@@ -19,6 +20,23 @@ pub struct Base {
     pub room: u32,
     pub costs: Costs,
     pub transcript: Transcript,
+}
+
+/// No accesses, with room for `room` objects, and for a sorted and a random access of each list for
+/// each of them.
+fn reserved_transcript(
+    alloc: Global,
+    lists: u8,
+    count: u32,
+    room: u32,
+) -> Result<Transcript, Memory>
+    requires limits { IsWithinLimits lists count }
+    requires room { room ≤ MAX_OBJECTS }
+    ensures { IfOk result (λ log. log ≡ record { lists = lists; count = count; accesses = []; spare_objects = room; spare_accesses = 2 * (lists * room) }) }
+{
+    let mut transcript = Transcript::make(alloc, lists, count)?;
+    transcript.reserve(room, 2 * (u64::from(lists) * u64::from(room)))?;
+    Ok(transcript)
 }
 
 impl Base {
@@ -42,8 +60,7 @@ impl Base {
     {
         let room = room.min(count);
         let lists = expr.lists();
-        let mut transcript = Transcript::make(alloc, lists, count)?;
-        transcript.reserve(room, 2 * (u64::from(lists) * u64::from(room)))?;
+        let transcript = reserved_transcript(alloc, lists, count, room)?;
         Ok(Base {
             expr,
             k,

@@ -1,19 +1,18 @@
-use Rattle.machine_base.proofs.Begins.{reserved_log, begun_empty, held_empty, reserved_empty}
+use Rattle.machine_base.proofs.Begins.{begun_empty, held_empty, reserved_empty}
 use Rattle.machine_base.proofs.base.Base.make.Goals as goal
 
 pub returns-clause-begun : goal.returns-clause-begun
 returns-clause-begun c =
-    begun_empty c.args.expr c.args.k c.args.count c.args.room c.min-room.result c.lists-lists.result _ _ c.args.costs c.reserve.new.self
-    c.min-room.ensures c.lists-lists.ensures.lists (reserved_log _ _ _ _ _ _ c.in_ok-transcript.ensures c.in_ok-reserve.ensures.ok)
+    begun_empty c.args.expr c.args.k c.args.count c.args.room c.min-room.result c.lists-lists.result _ _ c.args.costs c.in_ok-transcript.transcript
+    c.min-room.ensures c.lists-lists.ensures.lists c.in_ok-transcript.ensures
 
 pub returns-clause-held : goal.returns-clause-held
 returns-clause-held c =
-    held_empty c.args.expr c.args.k c.args.count c.args.room c.min-room.result c.lists-lists.result _ _ c.reserve.new.self
+    held_empty c.args.expr c.args.k c.args.count c.args.room c.min-room.result c.lists-lists.result _ _ c.in_ok-transcript.transcript
     c.lists-lists.ensures.made.lists c.requires.asked c.requires.fits c.requires.counted c.requires.roomy
-    c.min-room.ensures c.lists-lists.ensures.lists (reserved_log _ _ _ _ _ _ c.in_ok-transcript.ensures c.in_ok-reserve.ensures.ok)
+    c.min-room.ensures c.lists-lists.ensures.lists c.in_ok-transcript.ensures
 
 pub returns-clause-reserved : goal.returns-clause-reserved
 returns-clause-reserved c =
-    reserved_empty (record { expr = c.args.expr; k = c.args.k; room = c.min-room.result; costs = c.args.costs; transcript = c.reserve.new.self })
-    c.lists-lists.result c.args.count c.from.result c.from-2.result
-    (reserved_log _ _ _ _ _ _ c.in_ok-transcript.ensures c.in_ok-reserve.ensures.ok) c.from.ensures c.from-2.ensures
+    reserved_empty (record { expr = c.args.expr; k = c.args.k; room = c.min-room.result; costs = c.args.costs; transcript = c.in_ok-transcript.transcript })
+    c.lists-lists.result c.args.count c.in_ok-transcript.ensures
