@@ -1,7 +1,7 @@
 //! Why a machine that is driven over lists stops.
 
 /// Why a query has no answer over lists that are told.
-#[derive(Clone, Copy, Debug)]
+#[derive(Clone, Copy)]
 pub enum DriveFault {
     /// The room that it states is less than the objects of its lists, and less than those that it has to
     /// see.

@@ -20,3 +20,7 @@ returns-in-Ok-answer-2-clause-bounds c = machine_true c.args.self Ca c.in-Ca.mac
 
 pub returns-in-Ok-answer-clause-bounds : goal.returns-in-Ok-answer-clause-bounds
 returns-in-Ok-answer-clause-bounds c = machine_true c.args.self Nra c.in-Nra.machine c.in-Ok-answer.answer (ap state_of c.in-Nra.is) c.answer-in-Nra.ensures.run c.in-Ok-answer.ensures.items c.in-Ok-answer.ensures.transcript
+
+pub returns-in-Ok-answer-2-clause-near : goal.returns-in-Ok-answer-2-clause-near
+returns-in-Ok-answer-2-clause-near c =
+    machine_near c.args.self Ca c.in-Ca.machine c.in-Ok-answer-2.answer (ap algorithm_of c.in-Ca.is) (ap state_of c.in-Ca.is) c.answer-in-Ca.ensures.run c.requires c.in-Ok-answer-2.ensures.items c.in-Ok-answer-2.ensures.transcript
