@@ -5,8 +5,9 @@ use Rattle.std.proofs.lemmas.Bool.Decides.{nat_tests}
 use Rattle.std.proofs.lemmas.List.{length_push, get_or_default}
 use Rattle.std.proofs.lemmas.List.Quantifiers.{all_pairs_push}
 use Rattle.std.proofs.lemmas.Iterator.Adapters.{position_from-zero}
-use Rattle.object_map.specs.Values.{Values, IsSet}
+use Rattle.object_map.specs.Values.{Values, IsSame, IsSet}
 use Rattle.room_map.specs.Keys.{Keys, FitsRoom, IsKept}
+use Rattle.limits.specs.declared.TheConstants.{MAX_OBJECTS}
 
 pub keys_fit : (map : Keys) (room : ℕ) (keys : List ℕ) (capacity : ℕ) (places : Values ℕ)
     → (let shown : Keys = record { room = room; keys = keys } in shown ≡ map)
@@ -67,3 +68,22 @@ kept_more room key keys others capacity wide places after kept absent fits is wi
       distinct = all_pairs_push (λ (a : ℕ) (b : ℕ). a ≢ b) keys key kept.distinct (λ k d within e. absent (k, within, get_or_default keys k key d within ∙ e));
       placed = λ other. set other ∙ ap (cond (eqb key other) (Some (length keys))) (kept.placed other) ∙ sym (position_more key other keys absent);
     })
+
+-- what is kept once the room is greater, and memory is held for it
+pub kept_wider : (old room : ℕ) (keys now : List ℕ) (capacity wide : ℕ) (places held after : Values ℕ) → IsKept old keys capacity places
+    → room ≤ MAX_OBJECTS → old < room → now ≡ keys → room ≤ wide → room ≤ length keys + after.spare → IsSame places held → IsSame held after
+    → IsKept room now wide after
+kept_wider old room keys now capacity wide places held after kept few more is roomy spare reserved widened =
+    subst (λ (ks : List ℕ). IsKept room ks wide after) (sym is) (record {
+      few = few;
+      within = let fits = kept.within in omega arith;
+      held = roomy;
+      spare = spare;
+      distinct = kept.distinct;
+      placed = λ key. widened key ∙ reserved key ∙ kept.placed key;
+    })
+
+pub no_less : (map : Keys) (old room : ℕ) (keys : List ℕ) → (let shown : Keys = record { room = old; keys = keys } in shown ≡ map) → old < room → map.room ≤ room
+no_less map old room keys is more =
+    let fits : old ≤ room = omega arith in
+    subst (λ (k : Keys). k.room ≤ room) is fits
