@@ -1,5 +1,5 @@
 -- From the end of a machine's run to a right answer of its query.
-use Rattle.std.proofs.Common.{◌≡◌, ℕ, ◌<◌, ◌≤◌, ◌^◌, min, List, [], ◌∷◌, length, All, Contains, Option, Some, None, Result, Ok, Err, unwrap_or, IfSome, sym, ap, ◌∙◌, subst, arith}
+use Rattle.std.proofs.Common.{◌≡◌, ℕ, ◌<◌, ◌≤◌, ◌^◌, min, List, [], ◌∷◌, length, All, Contains, Option, Some, None, Result, Ok, Err, unwrap_or, IfSome, IfOk, sym, ap, ◌∙◌, subst, arith}
 use Rattle.ranked_list.specs.declared.row.Row.{Row}
 use Rattle.ranked_list.specs.declared.need.Need.TheVariants.{Done}
 use Rattle.ranked_list.specs.Table.{IsTable}
@@ -155,6 +155,25 @@ machine_near machine a t answer same is run done items log =
 pub machine_true : (machine : Machine) (a : Algorithm) (t : MachineState) (answer : Answer) → state_of machine ≡ t → MakesRun (run_by a) t
     → IsAnswerBy (items_by a) t answer.items → IsSameLog answer.transcript t.log → HasTrueItems (value (state_of machine).expr) answer
 machine_true machine a t answer is run items log = subst (λ (s : MachineState). HasTrueItems (value s.expr) answer) (sym is) (answer_true a t answer run items log)
+
+-- and of how a call for the answer ends
+pub ends_near : {E : Type 0} → (machine : Machine) (a : Algorithm) (t : MachineState) (ending : Result Answer E) → algorithm_of machine ≡ a
+    → state_of machine ≡ t → MakesRun (run_by a) t → (state_of machine).need ≡ Done → IfOk ending (λ answer. IsAnswerBy (items_by a) t answer.items)
+    → IfOk ending (λ answer. IsSameLog answer.transcript t.log)
+    → IfOk ending (λ answer. IsNearBy (algorithm_of machine) (asked_of (state_of machine)) answer.transcript.lists answer.transcript.count answer.transcript.accesses)
+ends_near machine a t (Ok answer) same is run done items log = machine_near machine a t answer same is run done items log
+ends_near machine a t (Err fault) same is run done items log = tt
+
+pub ends_true : {E : Type 0} → (machine : Machine) (a : Algorithm) (t : MachineState) (ending : Result Answer E) → state_of machine ≡ t
+    → MakesRun (run_by a) t → IfOk ending (λ answer. IsAnswerBy (items_by a) t answer.items) → IfOk ending (λ answer. IsSameLog answer.transcript t.log)
+    → IfOk ending (HasTrueItems (value (state_of machine).expr))
+ends_true machine a t (Ok answer) is run items log = machine_true machine a t answer is run items log
+ends_true machine a t (Err fault) is run items log = tt
+
+pub ends_items : {E : Type 0} → (machine other : Machine) (ending : Result Answer E) → machine ≡ other
+    → IfOk ending (λ answer. IsAnswerBy (items_by (algorithm_of other)) (state_of other) answer.items)
+    → IfOk ending (λ answer. IsAnswerBy (items_by (algorithm_of machine)) (state_of machine) answer.items)
+ends_items machine other ending is items = subst (λ (m : Machine). IfOk ending (λ answer. IsAnswerBy (items_by (algorithm_of m)) (state_of m) answer.items)) (sym is) items
 
 -- the end of the run of a machine that began for a query is a right answer of it; no table is told
 pub end_answered : (a : Algorithm) (q : Query) (n room : ℕ) (T : Told) (first : MachineState) (answer : Answer) → a ≡ q.algorithm → 0 < list_count q.expr

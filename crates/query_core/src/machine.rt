@@ -132,18 +132,9 @@ impl Machine {
         ensures bounds { IfOk result (HasTrueItems (value (state_of self).expr)) }
     {
         match self {
-            Machine::Ta(machine) => match machine.answer() {
-                Ok(answer) => Ok(answer),
-                Err(_) => Err(Memory),
-            },
-            Machine::Nra(machine) => match machine.answer() {
-                Ok(answer) => Ok(answer),
-                Err(_) => Err(Memory),
-            },
-            Machine::Ca(machine) => match machine.answer() {
-                Ok(answer) => Ok(answer),
-                Err(_) => Err(Memory),
-            },
+            Machine::Ta(machine) => machine.answer(),
+            Machine::Nra(machine) => machine.answer(),
+            Machine::Ca(machine) => machine.answer(),
         }
     }
 }
