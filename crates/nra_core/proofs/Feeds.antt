@@ -76,6 +76,16 @@ after_depth : (m : ℕ) (quiet : Bool) (place : Place) → m ≤ place.list + 1
     → place_after m quiet place ≡ cond {A = Place} quiet (record place { done = true }) (record { list = 0; depth = place.depth + 1; done = false })
 after_depth m quiet place whole = ap (λ b. cond {A = Place} b (record place { list = place.list + 1 }) (cond {A = Place} quiet (record place { done = true }) (record { list = 0; depth = place.depth + 1; done = false }))) (le-ltb (place.list + 1) m whole)
 
+-- after the last list it is the end where it is quiet, and else in the first list one depth below
+pub place_made : (m : ℕ) (quiet : Bool) (place : Place) → m ≤ place.list + 1 → true ≡ quiet → record place { done = true } ≡ place_after m quiet place
+place_made m quiet place whole is =
+    ap (λ b. cond {A = Place} b (record place { done = true }) (record { list = 0; depth = place.depth + 1; done = false })) is ∙ sym (after_depth m quiet place whole)
+
+pub place_below : (m : ℕ) (quiet : Bool) (place below : Place) → m ≤ place.list + 1 → false ≡ quiet
+    → below ≡ record { list = 0; depth = place.depth + 1; done = false } → below ≡ place_after m quiet place
+place_below m quiet place below whole is next =
+    next ∙ ap (λ b. cond {A = Place} b (record place { done = true }) (record { list = 0; depth = place.depth + 1; done = false })) is ∙ sym (after_depth m quiet place whole)
+
 -- what a table that agrees with the row knows of the machine before it
 record IsAfterRow (e : Tree) (k n : ℕ) (before A : List Access) (place : Place) (D : List (List Row)) : Type 0 where
   agrees : Agrees (length D) n D A

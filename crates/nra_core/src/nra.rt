@@ -71,13 +71,21 @@ impl Nra {
         ensures run { IfOk result MakesItsRun }
     {
         let Ok(items) = Vec::with_capacity(alloc, room.min(count) as usize) else {
+            drop(expr);
             return Err(Memory);
         };
         let Ok(late) = LateBounds::make(alloc, k, room.min(count)) else {
+            drop(expr);
+            drop(items);
+            return Err(Memory);
+        };
+        let Ok(base) = Base::make(alloc, expr, k, count, room, costs) else {
+            drop(late);
+            drop(items);
             return Err(Memory);
         };
         Ok(Nra {
-            base: Base::make(alloc, expr, k, count, room, costs)?,
+            base,
             late,
             items,
             place: Place {

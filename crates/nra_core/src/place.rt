@@ -6,7 +6,7 @@ ghost use Rattle.nra_core.specs.Place.{need_at};
 use machine_base::Need;
 
 /// The list that is read next, and its depth, from 1.
-#[derive(Clone, Copy, Debug)]
+#[derive(Clone, Copy)]
 pub(crate) struct Place {
     pub list: u8,
     pub depth: u32,

@@ -1,4 +1,4 @@
-use Rattle.std.proofs.Common.{◌≡◌, subst, ap, ◌∙◌}
+use Rattle.std.proofs.Common.{◌≡◌, subst, ap, ◌∙◌, arith}
 use Rattle.ranked_list.specs.declared.need.Need.TheVariants.{Done}
 use Rattle.access_log.specs.Machine.{MachineState}
 use Rattle.nra_core.specs.Place.{need_at}
@@ -31,3 +31,15 @@ pub returns-clause-run : goal.returns-clause-run
 returns-clause-run c =
     let a = c.self.inside in
     subst MakesItsRun c.self.view_is (kept_makes a.base a.late a.place c.self.invariant.kept)
+
+pub first_items-requires-clause-lists : goal.first_items-requires-clause-lists
+first_items-requires-clause-lists c = c.self.invariant.kept.base.posed.lists
+
+pub first_items-requires-clause-kept : goal.first_items-requires-clause-kept
+first_items-requires-clause-kept c = c.self.invariant.kept.bounds
+
+pub first_items-requires-clause-empty : goal.first_items-requires-clause-empty
+first_items-requires-clause-empty c = c.self.invariant.none
+
+pub first_items-requires-clause-room : goal.first_items-requires-clause-room
+first_items-requires-clause-room c = omega (arith, c.self.invariant.kept.base.roomy, c.self.invariant.roomy)

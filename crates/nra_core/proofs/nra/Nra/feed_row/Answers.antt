@@ -1,5 +1,6 @@
 use Rattle.std.proofs.Common.{subst, sym, ◌∙◌, arith}
-use Rattle.machine_base.proofs.Held.{may_row}
+use Rattle.std.proofs.lemmas.Result.{err_from_is_err_and}
+use Rattle.machine_base.proofs.Held.{may_row, no_room}
 use Rattle.nra_core.specs.Machine.{MakesItsRun}
 use Rattle.nra_core.proofs.Runs.{kept_makes}
 use Rattle.nra_core.proofs.Feeds.{ready, can_row, row_kept, row_taken}
@@ -54,3 +55,30 @@ returns-clause-fed c =
 
 pub returns-clause-run : goal.returns-clause-run
 returns-clause-run c = kept_makes c.tell.new.self c.follow-self-inside.new.late c.follow-self-inside.result (invariant_of-self c).kept
+
+pub test_room-requires : goal.test_room-requires
+test_room-requires c = c.self.invariant.kept.base
+
+pub tell-requires-clause-held : goal.tell-requires-clause-held
+tell-requires-clause-held c = c.self.invariant.kept.base
+
+pub tell-requires-clause-reserved : goal.tell-requires-clause-reserved
+tell-requires-clause-reserved c = c.self.invariant.reserved
+
+pub note-requires-clause-lists : goal.note-requires-clause-lists
+note-requires-clause-lists c = c.tell.ensures.held.posed.lists
+
+pub note-requires-clause-agrees : goal.note-requires-clause-agrees
+note-requires-clause-agrees c = c.tell.ensures.held.agreeing
+
+pub follow-self-inside-requires-clause-held : goal.follow-self-inside-requires-clause-held
+follow-self-inside-requires-clause-held c = c.tell.ensures.held
+
+pub follow-self-inside-requires-clause-late : goal.follow-self-inside-requires-clause-late
+follow-self-inside-requires-clause-late c = c.note.ensures.kept
+
+pub returns-in_err-test_room-clause-fed : goal.returns-in_err-test_room-clause-fed
+returns-in_err-test_room-clause-fed c =
+    let a = c.self.inside in
+    let p = err_from_is_err_and c.from_residual.result c.from_residual.ensures.1 in
+    rw (p.1, p.2) (no_room (Unit {0}) c.args.row a.base (need_at a.place) c.args.self.now _ c.self.view_is c.in_err-test_room.ensures.full)

@@ -8,18 +8,18 @@ use Rattle.nra_core.proofs.nra.Nra.make.Goals as goal
 
 pub invariant_of-result : goal.invariant_of-result
 invariant_of-result c =
-    let made = c.in_ok-make.ensures in
+    let made = c.in-Ok-make-2.ensures in
     let room = c.in-Ok.ensures in
     let late = c.in-Ok-make.ensures in
-    stands_start c.args.expr c.args.k c.args.count c.args.room c.args.costs c.in_ok-make.field-0 c.in-Ok-make.late c.in-Ok.items.items _ made.begun made.held made.reserved
+    stands_start c.args.expr c.args.k c.args.count c.args.room c.args.costs c.in-Ok-make-2.base c.in-Ok-make.late c.in-Ok.items.items _ made.begun made.held made.reserved
     late.kept late.k (late.room ∙ c.min-2.ensures) room.items (omega (arith, room.capacity, c.min.ensures))
 
 pub returns-clause-begun : goal.returns-clause-begun
 returns-clause-begun c =
     let place : Place = record { list = 0; depth = 1; done = false } in
-    begun_with c.args.expr c.args.k c.args.count c.args.room c.args.costs c.in_ok-make.field-0 (need_at place) c.in_ok-make.ensures.begun
+    begun_with c.args.expr c.args.k c.args.count c.args.room c.args.costs c.in-Ok-make-2.base (need_at place) c.in-Ok-make-2.ensures.begun
 
 pub returns-clause-run : goal.returns-clause-run
 returns-clause-run c =
     let place : Place = record { list = 0; depth = 1; done = false } in
-    kept_makes c.in_ok-make.field-0 c.in-Ok-make.late place (invariant_of-result c).kept
+    kept_makes c.in-Ok-make-2.base c.in-Ok-make.late place (invariant_of-result c).kept
