@@ -1,5 +1,5 @@
 -- What the calls of a machine need, and what they leave.
-use Rattle.std.proofs.Common.{◌≡◌, ◌≢◌, ℕ, suc, ◌+◌, ◌/◌, ◌<◌, ◌≤◌, inl, inr, min, max, List, [], ◌∷◌, ◌++◌, length, Contains, Some, None, refl, sym, ap, subst, ◌∙◌, arith}
+use Rattle.std.proofs.Common.{◌≡◌, ℕ, ◌/◌, ◌≤◌, min, max, List, [], ◌∷◌, ◌++◌, Contains, Some, None, refl, sym, ap, subst, ◌∙◌, arith}
 use Rattle.ranked_list.specs.declared.row.Row.{Row}
 use Rattle.ranked_list.specs.declared.item.Item.{Item}
 use Rattle.ranked_list.specs.declared.need.Need.{Need}
@@ -10,19 +10,18 @@ use Rattle.monotone_fn.specs.Tree.{Tree}
 use Rattle.monotone_fn.specs.Value.{value}
 use Rattle.topk_theory.specs.declared.access.Access.{Access}
 use Rattle.topk_theory.specs.declared.access.Access.TheVariants.{Sorted, Random}
-use Rattle.topk_theory.specs.Transcript.{Agrees, object_of, random_row, random_rows, given_rows, seen_objects}
+use Rattle.topk_theory.specs.Transcript.{Agrees, object_of, random_rows, given_rows, seen_objects}
 use Rattle.topk_theory.specs.Bounds.{known_grade}
-use Rattle.topk_theory.specs.Consistent.{SomeAgrees, Kind, IsOfKind}
+use Rattle.topk_theory.specs.Consistent.{SomeAgrees}
 use Rattle.topk_theory.specs.Threshold.{item_objects}
 use Rattle.topk_theory.specs.Combined.{phase_length}
-use Rattle.topk_theory.proofs.AgreementLists.{contains_nil, contains_here, contains_map_from}
+use Rattle.topk_theory.proofs.AgreementLists.{contains_here, contains_map_from}
 use Rattle.topk_theory.proofs.ConsistentTable.{random_given}
 use Rattle.topk_theory.proofs.ThresholdRun.{seen_more, seen_from_access}
 use Rattle.std.proofs.lemmas.List.Elements.{Contains-append_right}
 use Rattle.access_log.specs.Log.{Log}
 use Rattle.access_log.specs.Machine.{MachineState, IsBegun, MayBeNextRow, MayBeNextGrade, HasRoomFor, Takes, row_access, grade_access}
 use Rattle.access_records.proofs.FirstKind.{known_of_row}
-use Rattle.late_choice.specs.Open.{next_unknown}
 use Rattle.late_choice.proofs.Grades.{some_unknown, first_is_unknown}
 use Rattle.machine_base.specs.declared.base.Base.{Base}
 use Rattle.machine_base.specs.Base.{shown, asked_of_list, IsHeld, Holds, IsReserved, IsTold, CanTake, MayFollow}
@@ -32,7 +31,7 @@ use Rattle.machine_base.proofs.Reserve.{row_can}
 use Rattle.ca_core.specs.declared.late_seen.LateSeen.{LateSeen}
 use Rattle.ca_core.specs.declared.stage.Stage.{Stage}
 use Rattle.ca_core.specs.declared.stage.Stage.TheVariants as stages
-use Rattle.ca_core.specs.Course.{Course, need_at, moved, MayMove, MayMoveAt}
+use Rattle.ca_core.specs.Course.{Course, need_at, moved, MayMoveAt}
 use Rattle.ca_core.specs.OnTable.{quiet_at}
 use Rattle.ca_core.specs.Seen.{AreRenewed, KeepsSeen, WasRenewed}
 use Rattle.ca_core.specs.Kept.{IsAsked, IsSound, IsKept, Keeps, Stands}

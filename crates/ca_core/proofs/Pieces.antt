@@ -1,5 +1,5 @@
 -- Fronts and ends of lists, and lists without repeats.
-use Rattle.std.proofs.Common.{◌≡◌, ◌≢◌, ℕ, zero, suc, ◌+◌, ◌<◌, inl, inr, List, [], ◌∷◌, ◌++◌, length, map, take, drop, AllPairs, Contains, Some, refl, sym, ap, ◌∙◌, arith, append-nil, append_assoc, take-append-drop}
+use Rattle.std.proofs.Common.{◌≡◌, ◌≢◌, ℕ, zero, suc, ◌+◌, inl, inr, List, [], ◌∷◌, ◌++◌, take, drop, AllPairs, Contains, Some, refl, sym, ap, ◌∙◌, arith, append-nil, take-append-drop}
 use Rattle.std.specs.List.{slice_get, flat_map}
 use Rattle.std.proofs.lemmas.Option.{none-some, same_Some}
 use Rattle.ranked_list.specs.declared.item.Item.{Item}

@@ -1,12 +1,9 @@
 -- What is kept of the seen objects, through a note and through a test of the stop or a choice.
-use Rattle.std.proofs.Common.{◌≡◌, ◌≤◌, ℕ, List, length, Some, arith, ◌∙◌}
-use Rattle.topk_theory.specs.Transcript.{seen_objects}
-use Rattle.monotone_fn.specs.Value.{value}
+use Rattle.std.proofs.Common.{◌≡◌, ℕ, length, arith, ◌∙◌}
 use Rattle.late_bounds.specs.declared.late.LateBounds.{LateBounds}
 use Rattle.late_bounds.specs.Late.{KeepsLate, WasLate}
-use Rattle.late_choice.specs.declared.kept_high.KeptHigh.{KeptHigh}
 use Rattle.late_choice.specs.declared.open_highs.OpenHighs.{OpenHighs}
-use Rattle.late_choice.specs.Open.{AreOpen, KeepsOpen, WasOpen}
+use Rattle.late_choice.specs.Open.{KeepsOpen, WasOpen}
 use Rattle.machine_base.specs.declared.base.Base.{Base}
 use Rattle.machine_base.specs.Base.{Holds}
 use Rattle.ca_core.specs.declared.late_seen.LateSeen.{LateSeen}

@@ -1,7 +1,7 @@
 -- A machine that keeps what it keeps makes its run.
-use Rattle.std.proofs.Common.{◌≡◌, ◌≢◌, ℕ, zero, suc, ◌+◌, ◌-◌, ◌<◌, ◌≤◌, List, [], ◌∷◌, ◌++◌, length, map, drop, Contains, Option, Some, None, refl, sym, ap, subst, ◌∙◌, arith, append_assoc}
+use Rattle.std.proofs.Common.{◌≡◌, ◌≢◌, ℕ, suc, ◌-◌, ◌<◌, List, ◌∷◌, ◌++◌, length, map, drop, Option, Some, None, refl, sym, ap, subst, ◌∙◌, arith}
 use Rattle.std.specs.List.{slice_get}
-use Rattle.std.proofs.lemmas.Option.{none-some, slice_get_within}
+use Rattle.std.proofs.lemmas.Option.{slice_get_within}
 use Rattle.std.proofs.lemmas.List.{take-append-le}
 use Rattle.ranked_list.specs.declared.row.Row.{Row}
 use Rattle.ranked_list.specs.declared.item.Item.{Item}
@@ -13,8 +13,7 @@ use Rattle.monotone_fn.proofs.Laws.{value-monotone}
 use Rattle.topk_theory.specs.declared.access.Access.{Access}
 use Rattle.topk_theory.specs.declared.access.Access.TheVariants.{Random}
 use Rattle.topk_theory.specs.Asked.{combined_run}
-use Rattle.topk_theory.specs.Aggregate.{objects_of}
-use Rattle.topk_theory.specs.Transcript.{Agrees, list_at, seen_objects}
+use Rattle.topk_theory.specs.Transcript.{list_at}
 use Rattle.topk_theory.specs.Threshold.{IsAsked as IsAskedOf, sorted_block, item_objects}
 use Rattle.topk_theory.specs.Combined.{phase_length, missing_grades, phase_after, finish, ca_run_to, ca_depth, ca_blocks, ca_run}
 use Rattle.topk_theory.specs.Machine.{need_of, IsAt, CanServe}
@@ -33,7 +32,7 @@ use Rattle.machine_base.proofs.Rows.{row_needed}
 use Rattle.ca_core.specs.declared.stage.Stage.{Stage}
 use Rattle.ca_core.specs.declared.stage.Stage.TheVariants as stages
 use Rattle.ca_core.specs.Course.{need_at}
-use Rattle.ca_core.specs.OnTable.{quiet_at, all_missing, OnRow, OnChoice, OnFinish, OnTable}
+use Rattle.ca_core.specs.OnTable.{quiet_at, all_missing, OnRow, OnChoice, OnFinish}
 use Rattle.ca_core.specs.Kept.{IsAsked, IsSound, Keeps}
 use Rattle.ca_core.specs.Machine.{MakesItsRun}
 use Rattle.ca_core.proofs.Pieces.{drop_here}

@@ -1,5 +1,5 @@
 -- What a machine that is done answers.
-use Rattle.std.proofs.Common.{◌≡◌, ◌≢◌, ℕ, zero, suc, ◌+◌, ◌<◌, ◌≤◌, inl, inr, true, List, [], ◌∷◌, ◌++◌, length, map, take, drop, min, AllPairs, Contains, Option, Some, None, is_none, unwrap_or, get_or, set, refl, sym, ap, ap₂, subst, ◌∙◌, arith}
+use Rattle.std.proofs.Common.{◌≡◌, ◌≢◌, ℕ, suc, ◌<◌, ◌≤◌, inl, inr, List, [], ◌∷◌, length, map, AllPairs, Contains, Option, Some, is_none, unwrap_or, get_or, refl, sym, ap, ap₂, subst, ◌∙◌, arith}
 use Rattle.std.proofs.lemmas.List.{length-map, get_or-map, take_all}
 use Rattle.ranked_list.specs.declared.row.Row.{Row}
 use Rattle.ranked_list.specs.declared.item.Item.{Item}
@@ -11,7 +11,7 @@ use Rattle.monotone_fn.proofs.Laws.{value-monotone}
 use Rattle.topk_theory.specs.declared.access.Access.{Access}
 use Rattle.topk_theory.specs.Order.{AreDistinct, in_order, first_k}
 use Rattle.topk_theory.specs.Asked.{combined_answer}
-use Rattle.topk_theory.specs.Aggregate.{IsTop, aggregate, grades_of}
+use Rattle.topk_theory.specs.Aggregate.{IsTop, aggregate}
 use Rattle.topk_theory.specs.Transcript.{Agrees, list_at, list_numbers, seen_objects, named_objects}
 use Rattle.topk_theory.specs.Bounds.{known_grade, low}
 use Rattle.topk_theory.specs.Threshold.{scored, item_objects}
@@ -21,7 +21,7 @@ use Rattle.topk_theory.proofs.AgreementLists.{contains_nil, contains_map, contai
 use Rattle.topk_theory.proofs.Agreement.{known_grade_is, seen_is_named}
 use Rattle.topk_theory.proofs.BoundsLaws.{grades_by_number}
 use Rattle.topk_theory.proofs.ListNumbers.{number_in, number_below}
-use Rattle.topk_theory.proofs.ThresholdLists.{contains_filter, map_map, map_same}
+use Rattle.topk_theory.proofs.ThresholdLists.{contains_filter, map_same}
 use Rattle.topk_theory.proofs.InOrder.{length-in_order}
 use Rattle.nra_theory.proofs.Stop.{in_order_from}
 use Rattle.topk_theory.proofs.FirstK.{first_k-is}

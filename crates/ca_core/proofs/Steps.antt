@@ -1,6 +1,6 @@
 -- What a machine keeps after one more access.
-use Rattle.std.proofs.Common.{◌≡◌, ℕ, suc, ◌+◌, ◌%◌, ◌==◌, ◌<◌, ◌≤◌, inl, inr, Bool, true, false, cond, List, [], ◌∷◌, ◌++◌, length, drop, take, All, AllPairs, Contains, Option, Some, None, nat_lt, refl, sym, ap, subst, ◌∙◌, arith, append-nil}
-use Rattle.std.proofs.lemmas.Bool.{cases_Bool, cases_lt, lt-ltb, le-ltb}
+use Rattle.std.proofs.Common.{◌≡◌, ℕ, ◌+◌, ◌%◌, ◌==◌, ◌<◌, inl, inr, Bool, true, false, cond, List, [], ◌∷◌, ◌++◌, length, drop, take, Contains, Option, Some, None, refl, sym, ap, subst, ◌∙◌, arith, append-nil}
+use Rattle.std.proofs.lemmas.Bool.{cases_lt, lt-ltb, le-ltb}
 use Rattle.std.proofs.lemmas.Option.{same_Some}
 use Rattle.std.proofs.lemmas.List.Elements.{All-contains, All-nil}
 use Rattle.ranked_list.specs.declared.row.Row.{Row}
@@ -15,7 +15,7 @@ use Rattle.topk_theory.specs.Transcript.{Agrees, seen_objects}
 use Rattle.topk_theory.specs.Consistent.{SomeAgrees}
 use Rattle.topk_theory.specs.Threshold.{item_objects}
 use Rattle.topk_theory.specs.NoRandom.{seen_items, first_seen, is_quiet}
-use Rattle.topk_theory.specs.Combined.{unknown_lists, missing_grades, choice, phase_after, ca_run_to, ca_blocks}
+use Rattle.topk_theory.specs.Combined.{unknown_lists, choice, phase_after, ca_run_to, ca_blocks}
 use Rattle.topk_theory.proofs.AgreementLists.{all_from_members, contains_map_from}
 use Rattle.topk_theory.proofs.Agreement.{agrees_front}
 use Rattle.topk_theory.proofs.FirstK.{first_k-is}
@@ -31,11 +31,10 @@ use Rattle.late_choice.proofs.Grades.{no_unknown}
 use Rattle.machine_base.specs.Base.{IsHeld, MayFollow}
 use Rattle.machine_base.specs.Depths.{IsReached}
 use Rattle.machine_base.proofs.Held.{held_more, held_asked}
-use Rattle.ca_core.specs.declared.stage.Stage.{Stage}
 use Rattle.ca_core.specs.declared.stage.Stage.TheVariants as stages
 use Rattle.ca_core.specs.Course.{Course, finish_from, block_ended, grade_taken, phase_begun, row_ended, moved}
 use Rattle.ca_core.specs.OnTable.{quiet_at, OnChoice, OnTable}
-use Rattle.ca_core.specs.Kept.{IsAsked, AreKnown, AreListed, IsFinishing, IsKept}
+use Rattle.ca_core.specs.Kept.{IsAsked, AreListed, IsFinishing, IsKept}
 use Rattle.ca_core.proofs.Pieces.{none_before}
 use Rattle.ca_core.proofs.Asks.{grade_given, missing_none, choice_asked, finish_asked, known_after, listed_after, sound_finish, on_finish, next_below}
 use Rattle.ca_core.proofs.Path.{list_follows, row_follows, nothing_between, nobody_asked, one_asked, blocks_made, run_left, depth_follows}

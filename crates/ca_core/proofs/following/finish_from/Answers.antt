@@ -1,5 +1,5 @@
 use Rattle.std.proofs.Common.{sym, ◌∙◌, arith}
-use Rattle.ca_core.proofs.Courses.{finish_found, finish_skips, finish_over}
+use Rattle.ca_core.proofs.Courses.{finish_found, finish_skips}
 use Rattle.ca_core.proofs.following.finish_from.Goals as goal
 
 pub returns-in-Some : goal.returns-in-Some

@@ -1,4 +1,3 @@
-use Rattle.std.proofs.Common.{sym, ◌∙◌}
 use Rattle.monotone_fn.specs.Value.{value}
 use Rattle.ca_core.proofs.Courses.{grade_goes, grade_ends}
 use Rattle.ca_core.proofs.following.take_grade.Goals as goal

@@ -33,3 +33,18 @@ invariant_of-self c =
 
 pub returns-clause-run : goal.returns-clause-run
 returns-clause-run c = kept_makes c.tell.new.self c.self.inside.phase c.follow-self-inside.new.first.items c.follow-self-inside.result (invariant_of-self c).kept (invariant_of-self c).paid
+
+pub tell-requires-clause-held : goal.tell-requires-clause-held
+tell-requires-clause-held c = c.self.invariant.kept.base
+
+pub tell-requires-clause-reserved : goal.tell-requires-clause-reserved
+tell-requires-clause-reserved c = c.self.invariant.reserved
+
+pub note-requires-clause-held : goal.note-requires-clause-held
+note-requires-clause-held c = c.tell.ensures.held
+
+pub follow-self-inside-requires-clause-held : goal.follow-self-inside-requires-clause-held
+follow-self-inside-requires-clause-held c = c.tell.ensures.held
+
+pub follow-self-inside-requires-clause-seen : goal.follow-self-inside-requires-clause-seen
+follow-self-inside-requires-clause-seen c = c.note.ensures

@@ -1,7 +1,8 @@
 use Rattle.std.proofs.Common.{refl, subst, sym, ◌∙◌}
 use Rattle.std.specs.Vec.{vec_capacity}
 use Rattle.topk_theory.specs.declared.access.Access.TheVariants.{Sorted}
-use Rattle.machine_base.proofs.Held.{may_row}
+use Rattle.std.proofs.lemmas.Result.{err_from_is_err_and}
+use Rattle.machine_base.proofs.Held.{may_row, no_room}
 use Rattle.ca_core.specs.Machine.{MakesItsRun}
 use Rattle.ca_core.proofs.Runs.{kept_makes}
 use Rattle.ca_core.proofs.Calls.{can_row, was_renewed, seen_row, may_move, row_stands, row_taken}
@@ -44,3 +45,27 @@ returns-clause-fed c =
 
 pub returns-clause-run : goal.returns-clause-run
 returns-clause-run c = kept_makes c.tell.new.self c.self.inside.phase c.follow-self-inside.new.first.items c.follow-self-inside.result (invariant_of-self c).kept (invariant_of-self c).paid
+
+pub test_room-requires : goal.test_room-requires
+test_room-requires c = c.self.invariant.kept.base
+
+pub tell-requires-clause-held : goal.tell-requires-clause-held
+tell-requires-clause-held c = c.self.invariant.kept.base
+
+pub tell-requires-clause-reserved : goal.tell-requires-clause-reserved
+tell-requires-clause-reserved c = c.self.invariant.reserved
+
+pub note-requires-clause-held : goal.note-requires-clause-held
+note-requires-clause-held c = c.tell.ensures.held
+
+pub follow-self-inside-requires-clause-held : goal.follow-self-inside-requires-clause-held
+follow-self-inside-requires-clause-held c = c.tell.ensures.held
+
+pub follow-self-inside-requires-clause-seen : goal.follow-self-inside-requires-clause-seen
+follow-self-inside-requires-clause-seen c = c.note.ensures
+
+pub returns-in_err-test_room-clause-fed : goal.returns-in_err-test_room-clause-fed
+returns-in_err-test_room-clause-fed c =
+    let a = c.self.inside in
+    let p = err_from_is_err_and c.from_residual.result c.from_residual.ensures.1 in
+    rw (p.1, p.2) (no_room (Unit {0}) c.args.row a.base (need_at a.stage) c.args.self.now _ c.self.view_is c.in_err-test_room.ensures.full)
