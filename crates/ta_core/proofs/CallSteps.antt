@@ -1,8 +1,10 @@
 -- What the calls on a reading come to, where their tests fall so.
-use Rattle.std.proofs.Common.{◌≡◌, ◌≢◌, ℕ, suc, ◌+◌, ◌<◌, ◌≤◌, Bool, true, false, cond, ◌==◌, ◌&&◌, List, [], ◌∷◌, ◌++◌, length, drop, get_or, slice_index, refl, sym, ap, ◌∙◌, arith, append_assoc, append-nil, length-append, eq-eqb}
+use Rattle.std.proofs.Common.{◌≡◌, ◌≢◌, ℕ, suc, ◌+◌, ◌<◌, ◌≤◌, Bool, true, false, cond, ◌==◌, ◌&&◌, List, [], ◌∷◌, ◌++◌, length, drop, get_or, slice_index, refl, sym, ap, ◌∙◌, arith, append_assoc, append-nil, length-append, eq-eqb, eqb-true, subst}
+use Rattle.std.proofs.lemmas.Bool.{and_parts}
 use Rattle.std.proofs.lemmas.List.{drop_all}
 use Rattle.std.proofs.Math.Seq.{drop-cons}
 use Rattle.ranked_list.specs.declared.item.Item.{Item}
+use Rattle.monotone_fn.specs.Limits.{AreGrades}
 use Rattle.ranked_list.specs.declared.need.Need.TheVariants.{Grade}
 use Rattle.best_k.specs.Held.{Held, item_with, put_item}
 use Rattle.ta_core.specs.Reading.{RowProgress, grades_in_row, filled, first_or_zero, items_after, is_scored, settled, is_whole, row_begun, moved, enough, followed, need_at}
@@ -35,6 +37,31 @@ scored_put V m lists board after r object aggregate same scored first value put 
 settled_bottoms : (m : ℕ) (r : RowProgress) → (settled m r).bottoms ≡ r.bottoms
 settled_bottoms m r =
     elim (is_scored m r) as (λ b. (cond b (record r { waiting = drop 1 r.waiting; grades = [] }) r).bottoms ≡ r.bottoms) [ true ↦ refl | false ↦ refl ]
+
+settled_objects : (m : ℕ) (r : RowProgress) → (settled m r).objects ≡ r.objects
+settled_objects m r =
+    elim (is_scored m r) as (λ b. (cond b (record r { waiting = drop 1 r.waiting; grades = [] }) r).objects ≡ r.objects) [ true ↦ refl | false ↦ refl ]
+
+-- a whole row has a bottom of each list
+pub whole_bottoms : (lists : ℕ) (r s : RowProgress) → s ≡ settled lists r → true ≡ is_whole lists s → length r.bottoms ≡ length r.objects
+    → length s.bottoms ≡ lists
+whole_bottoms lists r s is whole same =
+    ap (λ (x : RowProgress). length x.bottoms) is
+    ∙ ap (λ xs. length xs) (settled_bottoms lists r)
+    ∙ same
+    ∙ sym (ap (λ (x : RowProgress). length x.objects) is ∙ ap (λ xs. length xs) (settled_objects lists r))
+    ∙ eqb-true (length s.objects) lists (and_parts (length s.objects == lists) (length s.waiting == 0) (sym whole)).0
+
+pub bottoms_capped : (lists : ℕ) (r s : RowProgress) → s ≡ settled lists r → AreGrades r.bottoms → AreGrades s.bottoms
+bottoms_capped lists r s is capped = subst AreGrades (sym (ap (λ (x : RowProgress). x.bottoms) is ∙ settled_bottoms lists r)) capped
+
+-- nothing follows in a row that isn't whole
+pub waits_on : (V : List ℕ → ℕ) (k m lists : ℕ) (items : List Item) (r s : RowProgress) → lists ≡ m → s ≡ settled lists r → false ≡ is_whole lists s
+    → s ≡ followed V k m items r
+waits_on V k m lists items r s same is waits =
+    ap (λ b. cond b (cond (enough k (V r.bottoms) items) (record s { done = true }) (row_begun (s.depth + 1))) s) waits
+    ∙ ap (moved lists (enough k (V r.bottoms) items)) is
+    ∙ ap (λ l. followed V k l items r) same
 
 -- after a whole row it is done or goes on, by whether there are enough
 whole_followed : (V : List ℕ → ℕ) (k m lists : ℕ) (items : List Item) (r s : RowProgress) (bound : ℕ) (enough' : Bool) → lists ≡ m → s ≡ settled lists r

@@ -1,5 +1,5 @@
 -- What the calls of a machine need to know of it.
-use Rattle.std.proofs.Common.{◌≡◌, ℕ, ◌<◌, ◌≤◌, inl, inr, Bool, false, min, List, [], ◌∷◌, ◌++◌, length, Contains, Err, get_or, refl, sym, ap, subst, ◌∙◌, arith}
+use Rattle.std.proofs.Common.{◌≡◌, ℕ, ◌<◌, ◌≤◌, inl, inr, Bool, false, min, List, [], ◌∷◌, ◌++◌, length, Contains, get_or, refl, sym, ap, subst, ◌∙◌, arith}
 use Rattle.std.proofs.lemmas.Bool.{cases_Bool, cases_lt}
 use Rattle.ranked_list.specs.declared.row.Row.{Row}
 use Rattle.ranked_list.specs.declared.item.Item.{Item}
@@ -16,11 +16,9 @@ use Rattle.topk_theory.specs.Consistent.{Kind, IsOfKind, SomeAgrees}
 use Rattle.topk_theory.specs.Consistent.Kind.{above_top, too_many_objects}
 use Rattle.topk_theory.proofs.AgreementLists.{member_of_all}
 use Rattle.access_log.specs.Log.{Log}
-use Rattle.access_log.specs.declared.core_fault.CoreFault.{CoreFault}
-use Rattle.access_log.specs.declared.core_fault.CoreFault.TheVariants.{Strangers, RoomFull}
-use Rattle.access_log.specs.Machine.{MachineState, IsBegun, MayBeNextRow, MayBeNextGrade, HasRoomFor, Takes, RowFed, row_access, grade_access}
+use Rattle.access_log.specs.Machine.{MachineState, IsBegun, MayBeNextRow, MayBeNextGrade, HasRoomFor, Takes, row_access, grade_access}
 use Rattle.machine_base.specs.declared.base.Base.{Base}
-use Rattle.machine_base.specs.Base.{shown, IsHeld, Holds, IsReserved, IsTold, CanTake, TellsNew, HasNoRoom}
+use Rattle.machine_base.specs.Base.{shown, IsHeld, Holds, IsReserved, IsTold, CanTake, TellsNew}
 use Rattle.machine_base.proofs.Held.{carried, some_before, takes}
 use Rattle.machine_base.proofs.Reserve.{row_can}
 use Rattle.ta_core.specs.Reading.{RowProgress, first_or_zero, with_new, row_added, grade_added, row_begun, need_at}
@@ -253,13 +251,6 @@ row_taken before after r need row list t is may room_for is_list tells =
     let access : row_access now row ≡ Sorted list row.object row.grade = ap (λ n. row_access n row) (need_in_row before.transcript.lists r next.0 next.1) ∙ ap (λ l. Sorted l row.object row.grade) (sym is_list) in
     subst (λ (s : MachineState). HasRoomFor s row.object × Takes (row_access s.need row) s (shown after need)) is
     (room_for, takes (row_access now row) before after now need (subst (λ a. IsTold a before after) (sym access) tells))
-
--- a row for which there is no room
-pub row_refused : (A : Type 0) (base : Base) (need : Need) (t : MachineState) (row : Row) (fault : CoreFault) → shown base need ≡ t
-    → HasNoRoom row.object base fault → RowFed row t t {A = A} (Err fault)
-row_refused A base need t row (Strangers object count) is full =
-    subst (λ (s : MachineState). RowFed row s s {A = A} (Err (Strangers object count))) is (full.0, full.1, full.2, full.3, refl)
-row_refused A base need t row (RoomFull room) is full = subst (λ (s : MachineState). RowFed row s s {A = A} (Err (RoomFull room))) is (full.0, full.1, full.2, refl)
 
 pub grade_taken : (before after : Base) (r : RowProgress) (need : Need) (grade list object : ℕ) (t : MachineState)
     → shown before (need_at before.transcript.lists r) ≡ t → MayBeNextGrade before.transcript (need_at before.transcript.lists r) grade

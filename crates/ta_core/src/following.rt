@@ -61,5 +61,5 @@ pub(crate) fn follow(base: &Base, board: &Board, progress: &mut Progress)
         return;
     }
     let next = progress.depth + 1;
-    progress.begin(next);
+    *progress = Progress::at(next);
 }

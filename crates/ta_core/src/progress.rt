@@ -39,18 +39,6 @@ impl Progress {
         }
     }
 
-    /// Begins the row at a depth, in place.
-    pub(crate) fn begin(&mut self, depth: u32)
-        ensures { reading_of self.new ≡ row_begun depth }
-    {
-        self.depth = depth;
-        self.objects.clear();
-        self.bottoms.clear();
-        self.waiting.clear();
-        self.grades.clear();
-        self.done = false;
-    }
-
     /// Adds the next list's row. A new object waits for its grades, and a whole row tells the first
     /// of these the grades that it has of it.
     pub(crate) fn add_row(&mut self, lists: u8, row: Row, is_new: bool)

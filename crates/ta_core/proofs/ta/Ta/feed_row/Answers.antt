@@ -1,12 +1,12 @@
 use Rattle.std.proofs.Common.{◌<◌, length, subst, ap, ◌∙◌, arith}
 use Rattle.std.proofs.lemmas.Result.{err_from_is_err_and}
 use Rattle.topk_theory.specs.declared.access.Access.TheVariants.{Sorted}
-use Rattle.machine_base.proofs.Held.{may_row}
+use Rattle.machine_base.proofs.Held.{may_row, no_room}
 use Rattle.ta_core.specs.Reading.{row_added, need_at}
 use Rattle.ta_core.specs.Shown.{reading_of}
 use Rattle.ta_core.specs.Machine.{MakesItsRun}
 use Rattle.ta_core.proofs.Runs.{kept_makes}
-use Rattle.ta_core.proofs.Calls.{IsReady, IsFed, next_row_is, can_row, row_fed, fed_ready, fed_kept, row_taken, row_refused}
+use Rattle.ta_core.proofs.Calls.{IsReady, IsFed, next_row_is, can_row, row_fed, fed_ready, fed_kept, row_taken}
 use Rattle.ta_core.proofs.ta.Ta.feed_row.Goals as goal
 use Rattle.ta_core.proofs.ta.Ta.feed_row.Goals.{After-add_row}
 
@@ -35,7 +35,7 @@ pub returns-in_err-is_new-clause-fed : goal.returns-in_err-is_new-clause-fed
 returns-in_err-is_new-clause-fed c =
     let a = c.self.inside in
     let p = err_from_is_err_and c.from_residual.result c.from_residual.ensures.1 in
-    rw (p.1, p.2) (row_refused (Unit {0}) a.base (need_at a.base.transcript.lists (reading_of a.progress)) c.args.self.now c.args.row _ c.self.view_is c.in_err-is_new.ensures.full)
+    rw (p.1, p.2) (no_room (Unit {0}) c.args.row a.base (need_at a.base.transcript.lists (reading_of a.progress)) c.args.self.now _ c.self.view_is c.in_err-is_new.ensures.full)
 
 pub tell-requires-clause-can : goal.tell-requires-clause-can
 tell-requires-clause-can c =
