@@ -50,13 +50,13 @@ impl<'a> ToldList<'a> {
         ensures same { self.new ≡ self.old }
         ensures grade { IfOk result (λ grade. grade ≡ grade_among self.old object) }
     {
-        if self.grades.is_none() {
-            self.grades = Some(grades_of(alloc, self.rows)?);
+        if let Some(grades) = &self.grades {
+            return Ok(grades.get(object));
         }
-        match &self.grades {
-            Some(grades) => Ok(grades.get(object)),
-            None => Ok(None),
-        }
+        let grades = grades_of(alloc, self.rows)?;
+        let grade = grades.get(object);
+        self.grades = Some(grades);
+        Ok(grade)
     }
 }
 
