@@ -20,3 +20,15 @@ returns-in-Err-Failed-clause-ends g c = λ words shelf.
     let stopped = subst (StopsReading MAX_INPUT (g.R.Intake.left c.args.input.now) (g.R.Intake.left c.read_text.new.input) (g.R.Intake.faults c.args.input.now) (g.R.Intake.faults c.read_text.new.input))
     c.in-Err-Failed.field-0-is c.in-Err-Failed.ensures.stopped in
     (record { given = stopped.0; faults = stopped.1 }, record { held = Keeps-refl (g.K.Sink.held c.args.out.now); faults = refl })
+
+pub returns-in-Err-Long-clause-ends : goal.returns-in-Err-Long-clause-ends
+returns-in-Err-Long-clause-ends g c = λ words shelf.
+    let stopped = subst (StopsReading MAX_INPUT (g.R.Intake.left c.args.input.now) (g.R.Intake.left c.read_text.new.input) (g.R.Intake.faults c.args.input.now) (g.R.Intake.faults c.read_text.new.input))
+    c.in-Err-Long.field-0-is c.in-Err-Long.ensures.stopped in
+    (record { given = stopped.0; faults = stopped.1 }, record { held = Keeps-refl (g.K.Sink.held c.args.out.now); faults = refl })
+
+pub returns-in-Err-Memory-clause-ends : goal.returns-in-Err-Memory-clause-ends
+returns-in-Err-Memory-clause-ends g c = λ words shelf.
+    let stopped = subst (StopsReading MAX_INPUT (g.R.Intake.left c.args.input.now) (g.R.Intake.left c.read_text.new.input) (g.R.Intake.faults c.args.input.now) (g.R.Intake.faults c.read_text.new.input))
+    c.in-Err-Memory.field-0-is c.in-Err-Memory.ensures.stopped in
+    (record { given = stopped.0; faults = stopped.1 }, record { held = Keeps-refl (g.K.Sink.held c.args.out.now); faults = refl })
