@@ -1,13 +1,17 @@
 -- One text put after another.
-use Rattle.std.proofs.Common.{◌≡◌, ℕ, zero, suc, ◌≤◌, ◌<◌, List, [], ◌∷◌, ◌++◌, length, map, min, codes, slice_index_or, Some, refl, sym, ap, ap₂, ◌∙◌, append-nil, append_assoc, arith}
+use Rattle.std.proofs.Common.{◌≡◌, ℕ, zero, suc, ◌≤◌, ◌<◌, List, [], ◌∷◌, ◌++◌, ◌+◌, length, map, min, take, codes, slice_index_or, Some, refl, sym, ap, ap₂, ◌∙◌, append-nil, append_assoc, arith}
 use Rattle.std.specs.List.{flat_map, slice_get, zip, concat}
 use Rattle.std.specs.Global.{Vec}
-use Rattle.std.proofs.lemmas.Option.{slice_get-map}
+use Rattle.std.specs.Fmt.{decimal}
+use Rattle.std.proofs.lemmas.Grind.{flat_map-append}
+use Rattle.std.proofs.lemmas.List.{take_more}
+use Rattle.std.proofs.lemmas.Option.{slice_get-map, slice_get_within, get_or_from_slice_get}
 use Rattle.std.specs.Option.{option_map}
 use Rattle.line_text.specs.Lines.{unlines}
 use Rattle.line_text.proofs.LineLaws.{unlines-append}
 use Rattle.ranked_list.specs.declared.row.Row.{Row}
 use Rattle.bundle_text.specs.Bundle.{Content, section, sections, query_line, bundle_lines}
+use Rattle.cert_judge.specs.Text.{refused_line}
 use Rattle.topk_theory.proofs.AgreementLists.{slice_get_from_read}
 
 -- the text of the sections is that of one after another
@@ -56,3 +60,12 @@ zipped_length [] lists i past = omega arith
 zipped_length (name ∷ names) [] i past = omega arith
 zipped_length (name ∷ names) (rows ∷ lists) zero past = absurd (omega arith)
 zipped_length (name ∷ names) (rows ∷ lists) (suc i) past = let rest : length (zip (map (λ (n : Vec ℕ). n.items) names) lists) ≤ i = zipped_length names lists i (omega arith) in omega arith
+
+-- the line of a refusal with one field more
+pub refused_more : (name fields : List ℕ) (i field : ℕ) → slice_get fields i ≡ Some field
+    → refused_line name (take (i + 1) fields) ≡ refused_line name (take i fields) ++ 32 ∷ decimal field
+refused_more name fields i field found =
+    let so_far = flat_map (λ (f : ℕ). 32 ∷ decimal f) (take i fields) in
+    ap (refused_line name) (take_more fields i field (slice_get_within fields i field found) ∙ ap (λ f. take i fields ++ f ∷ []) (get_or_from_slice_get fields i field field found))
+    ∙ ap (λ t. codes "refused " ++ (name ++ t)) (flat_map-append (λ (f : ℕ). 32 ∷ decimal f) (take i fields) (field ∷ []) ∙ ap (λ t. so_far ++ 32 ∷ t) (append-nil (decimal field)))
+    ∙ ap (λ t. codes "refused " ++ t) (sym (append_assoc name so_far (32 ∷ decimal field)))

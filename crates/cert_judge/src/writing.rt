@@ -1,7 +1,6 @@
 //! What is told of a text, written.
 
 ghost use Rattle.std.specs.Prelude.{◌++◌, ◌∷◌, [], OnOk, OnErr};
-ghost use Rattle.std.specs.List.{flat_map};
 ghost use Rattle.std.specs.Fmt.{decimal};
 ghost use Rattle.std.specs.Io.KnownBytes.{Appends};
 ghost use Rattle.tk_io.specs.Faults.{HasCause};
@@ -19,25 +18,6 @@ use ranked_list::MemList;
 use table_text::put_rows;
 use tk_io::{Failed, Pieces, Sink};
 
-/// Puts a space and a number behind the bytes that wait.
-fn put_field<K: Sink>(out: &mut K, pieces: &mut Pieces, field: u64)
-    ensures { Puts (K.held out.old) (K.held out.new) (K.faults out.old) (K.faults out.new) pieces.old pieces.new
-        (32 ∷ decimal field) }
-{
-    pieces.put(out, b" ");
-    pieces.put_number(out, field);
-}
-
-/// Puts a space and a number for each field behind the bytes that wait.
-fn put_fields<K: Sink>(out: &mut K, pieces: &mut Pieces, fields: &[u64])
-    ensures { Puts (K.held out.old) (K.held out.new) (K.faults out.old) (K.faults out.new) pieces.old pieces.new
-        (flat_map (λ field. 32 ∷ decimal field) fields.now) }
-{
-    for field in fields {
-        put_field(out, pieces, *field);
-    }
-}
-
 /// Puts the line of a refusal behind the bytes that wait.
 fn put_refused<K: Sink>(out: &mut K, pieces: &mut Pieces, name: &[u8], fields: &[u64])
     ensures { Puts (K.held out.old) (K.held out.new) (K.faults out.old) (K.faults out.new) pieces.old pieces.new
@@ -45,7 +25,10 @@ fn put_refused<K: Sink>(out: &mut K, pieces: &mut Pieces, name: &[u8], fields: &
 {
     pieces.put(out, b"refused ");
     pieces.put(out, name);
-    put_fields(out, pieces, fields);
+    for field in fields {
+        pieces.put(out, b" ");
+        pieces.put_number(out, *field);
+    }
     pieces.put(out, b"\n");
 }
 
