@@ -10,7 +10,7 @@ ghost use Rattle.cert_text.specs.Certificate.{spaced, answer_line, access_line, 
 ghost use Rattle.cert_text.specs.Outcome.{HasCost, certificate_of, figures_line};
 
 use super::words::{Word, put_line};
-use access_log::{Access, Answer, Item, Items, Transcript};
+use access_log::{Access, Answer, Items, Transcript};
 use query_text::{Names, Query, put_query};
 use tk_io::{Pieces, Sink};
 
@@ -32,27 +32,15 @@ pub fn depth_of(transcript: &Transcript) -> u64
     u64::from(depth)
 }
 
-/// Puts the line of an object of the answer behind the bytes that wait.
-fn put_item<K: Sink>(out: &mut K, pieces: &mut Pieces, item: &Item)
-    ensures { Puts (K.held out.old) (K.held out.new) (K.faults out.old) (K.faults out.new) pieces.old pieces.new
-        (answer_line item.now ++ 10 ∷ []) }
-{
-    let object = Word::Number(u64::from(item.object));
-    put_line(
-        out,
-        pieces,
-        b"answer",
-        &[object, Word::Number(item.low), Word::Number(item.high)],
-    );
-}
-
 /// Puts the lines of an answer's objects behind the bytes that wait.
 fn put_items<K: Sink>(out: &mut K, pieces: &mut Pieces, items: &Items)
     ensures { Puts (K.held out.old) (K.held out.new) (K.faults out.old) (K.faults out.new) pieces.old pieces.new
         (unlines (map answer_line items.now)) }
 {
     for item in items.iter() {
-        put_item(out, pieces, item);
+        let object = Word::Number(u64::from(item.object));
+        let bounds = [object, Word::Number(item.low), Word::Number(item.high)];
+        put_line(out, pieces, b"answer", &bounds);
     }
 }
 

@@ -19,7 +19,7 @@ loop-item-preserved g c =
     let t = YieldsList-turn (YieldsList-from_slice items (ap iter_rest c.into_iter-item-iterator.ensures.into_iter_gives ∙ c.iter-item-items.ensures.rest)) c.loop-item.yielded _ c.loop-item.yielded_by _ _ c.in-Some.item c.in-Some.is c.next.ensures.steps in
     rw (length_push c.loop-item.yielded c.in-Some.item)
     (puts_next_of (λ (line : List ℕ). line ++ 10 ∷ []) answer_line items place c.in-Some.item.now _ _ _ _ _ _ _ _ _
-    (slice_get-get_or items place c.in-Some.item.now t.0 ∙ ap Some (sym t.1)) c.loop-item.invariant c.put_item.ensures)
+    (slice_get-get_or items place c.in-Some.item.now t.0 ∙ ap Some (sym t.1)) c.loop-item.invariant (rw c.from.ensures at c.put_line.ensures))
 
 pub returns : goal.returns
 returns g c =
