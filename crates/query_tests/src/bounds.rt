@@ -1,6 +1,7 @@
 //! Bounds of values, and copies.
 
 use super::grades::are_grades;
+use super::holds;
 use limits::TOP_GRADE;
 use monotone_fn::Expr;
 use query_reading::read;
@@ -36,5 +37,5 @@ fn bounds_of_sum(alloc: Global) -> Option<(u64, u64)> {
 
 #[test]
 fn sums_have_their_bounds(rt: HostRuntime) {
-    assert!(rt; bounds_of_sum(rt.alloc()) == Some((300, 1100)));
+    holds(&rt, bounds_of_sum(rt.alloc()) == Some((300, 1100)));
 }

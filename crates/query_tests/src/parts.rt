@@ -1,6 +1,6 @@
 //! What a query holds.
 
-use super::none_is_wrong;
+use super::{holds, none_is_wrong};
 use query_reading::read;
 use query_text::{Algorithm, Costs, Names, Query};
 use std::alloc::Global;
@@ -76,5 +76,5 @@ fn is_read(alloc: Global) -> bool {
 #[test]
 fn a_query_has_its_parts(rt: HostRuntime) {
     none_is_wrong(&rt, first_other(rt.alloc(), ALGORITHMS));
-    assert!(rt; is_read(rt.alloc()));
+    holds(&rt, is_read(rt.alloc()));
 }

@@ -4,6 +4,7 @@ ghost use Rattle.std.specs.Prelude.{IfSome};
 ghost use Rattle.monotone_fn.specs.Shape.{NumbersLists};
 ghost use Rattle.monotone_fn.specs.Shown.{tree_of};
 
+use super::holds;
 use monotone_fn::{Expr, ExprFault, Node, Term, Terms};
 use std::alloc::Global;
 
@@ -30,5 +31,8 @@ fn fault_of(alloc: Global, weight: u64) -> Option<ExprFault> {
 
 #[test]
 fn greatest_of_64_bits(rt: HostRuntime) {
-    assert!(rt; fault_of(rt.alloc(), u64::MAX) == Some(ExprFault::TooBig { node: 2 }));
+    holds(
+        &rt,
+        fault_of(rt.alloc(), u64::MAX) == Some(ExprFault::TooBig { node: 2 }),
+    );
 }
