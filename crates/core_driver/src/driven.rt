@@ -65,7 +65,7 @@ pub trait Driven: Sized {
     fn finish(self) -> Option<Answer>
         requires { (state self).need ≡ Need.Done };
 
-    /// Lets a machine go that gives no answer.
+    /// Lets a machine go that gives no answer: it falls out of scope, and is written out once.
     fn let_go(self);
 }
 
@@ -100,9 +100,7 @@ impl Driven for Ta {
         self.answer().ok()
     }
 
-    fn let_go(self) {
-        drop(self);
-    }
+    fn let_go(self) {}
 }
 
 impl Driven for Nra {
@@ -135,9 +133,7 @@ impl Driven for Nra {
         self.answer().ok()
     }
 
-    fn let_go(self) {
-        drop(self);
-    }
+    fn let_go(self) {}
 }
 
 impl Driven for Ca {
@@ -171,7 +167,5 @@ impl Driven for Ca {
         self.answer().ok()
     }
 
-    fn let_go(self) {
-        drop(self);
-    }
+    fn let_go(self) {}
 }

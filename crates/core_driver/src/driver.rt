@@ -24,8 +24,11 @@ pub enum NoAnswer {
 
 fn row_at(lists: Lists<'_>, list: u8, depth: u32) -> Option<Row> {
     let rows = lists.get(list as usize)?;
-    let (object, grade) = *rows.get((depth as usize).checked_sub(1)?)?;
-    Some(Row { object, grade })
+    let row = rows.get((depth as usize).saturating_sub(1))?;
+    Some(Row {
+        object: row.0,
+        grade: row.1,
+    })
 }
 
 fn grade_in(rows: &[(u32, u32)], object: u32) -> Option<u32> {
@@ -38,7 +41,10 @@ fn grade_in(rows: &[(u32, u32)], object: u32) -> Option<u32> {
 }
 
 fn grade_of(lists: Lists<'_>, list: u8, object: u32) -> Option<u32> {
-    grade_in(lists.get(list as usize)?, object)
+    match lists.get(list as usize) {
+        Some(rows) => grade_in(rows, object),
+        None => None,
+    }
 }
 
 /// Feeds a machine the row that it needs. What is fed is tried first on a transcript of many objects, for which none is one too many.
@@ -137,9 +143,7 @@ fn feed_all<M: Driven>(alloc: Global, machine: &mut M, lists: Lists<'_>) -> Resu
     let Ok(mut wide) = Transcript::make(alloc, machine.lists(), 200_000) else {
         return Err(NoAnswer::Unasked);
     };
-    let outcome = feed_until_done(machine, &mut wide, lists);
-    drop(wide);
-    outcome
+    feed_until_done(machine, &mut wide, lists)
 }
 
 /// Feeds a machine from the lists until it answers or refuses a row.
@@ -165,19 +169,23 @@ fn terms_of(query: &Query, lists: Lists<'_>) -> Option<Terms>
     ensures count { IfSome result (λ terms. terms.count < 10) }
     ensures paid { IfSome result (λ terms. (1 ≤ terms.room) × (1 ≤ terms.costs.sorted)) }
 {
-    let count = lists.first()?.len();
-    if count >= 10 {
-        return None;
-    }
-    let count = count as u32;
+    let rows = match lists.first() {
+        Some(rows) => rows.len(),
+        None => 0,
+    };
+    let count = rows.min(10) as u32;
     let terms = Terms {
         k: query.k,
         count,
         room: query.room.unwrap_or(count),
         costs: query.costs_in_force(),
     };
-    let are_terms = 1 <= terms.k && terms.k <= count && 1 <= terms.room && 1 <= terms.costs.sorted;
-    if are_terms { Some(terms) } else { None }
+    let are_few = count < 10 && 1 <= terms.k && terms.k <= count;
+    if are_few && 1 <= terms.room && 1 <= terms.costs.sorted {
+        Some(terms)
+    } else {
+        None
+    }
 }
 
 /// The answer to an expression on these terms, by a machine.
@@ -202,19 +210,14 @@ pub fn run<M: Driven>(alloc: Global, text: &str, lists: Lists<'_>) -> Result<Ans
     let Ok(query) = read(alloc, text.as_bytes()) else {
         return Err(NoAnswer::Unasked);
     };
-    let terms = terms_of(&query, lists);
+    let Some(terms) = terms_of(&query, lists) else {
+        query.let_go();
+        return Err(NoAnswer::Unasked);
+    };
     let Query { names, expr, .. } = query;
     drop(names);
-    match terms {
-        Some(terms) => run_on::<M>(alloc, expr, terms, lists),
-        None => {
-            drop(expr);
-            Err(NoAnswer::Unasked)
-        }
-    }
+    run_on::<M>(alloc, expr, terms, lists)
 }
 
-/// Lets an answer go.
-pub fn let_go(answer: Answer) {
-    drop(answer);
-}
+/// Lets an answer go: it falls out of scope, and is written out once.
+pub fn let_go(_answer: Answer) {}
