@@ -3,7 +3,7 @@
 use access_log::{Access, Answer, CoreFault, Transcript};
 use core_driver::{Driven, NoAnswer, let_go, run};
 use monotone_fn::Costs;
-use ranked_list::{Item, Items};
+use ranked_list::Item;
 use std::alloc::Global;
 use test_support::Lists;
 
@@ -57,19 +57,6 @@ pub const EVEN: Costs = Costs {
     random: 1,
 };
 
-/// Whether items are those that are wanted.
-fn are_items(items: &Items, wanted: &[Item]) -> bool {
-    if items.len() as usize != wanted.len() {
-        return false;
-    }
-    for (found, item) in items.iter().zip(wanted) {
-        if found != item {
-            return false;
-        }
-    }
-    true
-}
-
 /// The greatest depth of the lists.
 fn depth_of(transcript: &Transcript) -> u32 {
     let mut deepest = 0;
@@ -93,19 +80,6 @@ fn are_figures(transcript: &Transcript, costs: &Costs, wanted: &[u64; 4]) -> boo
     figures == *wanted
 }
 
-/// Whether a transcript has these accesses and no others.
-fn are_all(transcript: &Transcript, wanted: &[Access]) -> bool {
-    if transcript.len() != wanted.len() as u64 {
-        return false;
-    }
-    for (place, access) in wanted.iter().enumerate() {
-        if transcript.get(place as u64) != Some(*access) {
-            return false;
-        }
-    }
-    true
-}
-
 /// Whether the random accesses of a transcript are these.
 fn are_random(transcript: &Transcript, wanted: &[Access]) -> bool {
     let mut left = wanted.iter();
@@ -122,14 +96,14 @@ fn are_random(transcript: &Transcript, wanted: &[Access]) -> bool {
 fn are_accesses(transcript: &Transcript, wanted: Wanted) -> bool {
     match wanted {
         Wanted::Any => true,
-        Wanted::All(accesses) => are_all(transcript, accesses),
+        Wanted::All(accesses) => transcript.iter().as_slice() == accesses,
         Wanted::Random(accesses) => are_random(transcript, accesses),
     }
 }
 
 /// Whether an answer is as it is wanted.
 fn is_as(answer: &Answer, case: &Case) -> bool {
-    are_items(&answer.items, case.items)
+    answer.items.iter().as_slice() == case.items
         && are_figures(&answer.transcript, &case.costs, &case.figures)
         && are_accesses(&answer.transcript, case.accesses)
 }
