@@ -1,6 +1,6 @@
 //! Answers that are written.
 
-use super::holds;
+use super::{holds, let_go};
 use access_log::{Access, Answer, Item, Items, Transcript};
 use cert_text::{Outcome, write_outcome};
 use query_reading::read;
@@ -22,23 +22,18 @@ fn takes_all(transcript: &mut Transcript, accesses: &[Access]) -> bool {
     true
 }
 
-/// The answer of an example, whose query has so many lists.
+/// The answer of an example before any access, whose query has so many lists.
 fn answer_of(alloc: Global, lists: u8, example: &Example<'_>) -> Option<Answer> {
-    let (_, count, item, accesses) = *example;
+    let (_, count, item, _) = *example;
     if lists == 0 || lists > 8 || count == 0 || count > 200_000 {
         return None;
     }
     let items = [item].to_vec(alloc).ok()?;
-    let mut transcript = Transcript::make(alloc, lists, count).ok()?;
-    if takes_all(&mut transcript, accesses) {
-        Some(Answer {
-            items: Items::from_vec(items),
-            transcript,
-        })
-    } else {
-        drop(transcript);
-        None
-    }
+    let transcript = Transcript::make(alloc, lists, count).ok()?;
+    Some(Answer {
+        items: Items::from_vec(items),
+        transcript,
+    })
 }
 
 /// Whether the answer of an example is written, whose query this is. None where the query has costs, or the answer is longer than
@@ -49,16 +44,17 @@ fn is_written_of<K: Sink>(
     example: &Example<'_>,
     out: &mut K,
 ) -> Option<bool> {
-    let answer = answer_of(alloc, query.expr.lists(), example)?;
-    if query.cost.is_none() && answer.transcript.len() < 4000 {
-        let outcome = Outcome::Answered(answer);
-        let is_ok = write_outcome(out, 1, Some(query), example.1, &outcome).is_ok();
-        drop(outcome);
-        Some(is_ok)
+    let mut answer = answer_of(alloc, query.expr.lists(), example)?;
+    let is_taken = takes_all(&mut answer.transcript, example.3);
+    let is_short = query.cost.is_none() && answer.transcript.len() < 4000;
+    let outcome = Outcome::Answered(answer);
+    let is_ok = if is_taken && is_short {
+        Some(write_outcome(out, 1, Some(query), example.1, &outcome).is_ok())
     } else {
-        drop(answer);
         None
-    }
+    };
+    let_go(outcome);
+    is_ok
 }
 
 /// Whether the answer of an example is written.

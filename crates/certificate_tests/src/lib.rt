@@ -9,6 +9,8 @@ mod reading;
 mod refusals;
 
 #[cfg(test)]
+use cert_text::Outcome;
+#[cfg(test)]
 use std::process::Abort;
 
 /// Every row of a table is as it says: the number of the first one that isn't is none.
@@ -16,6 +18,10 @@ use std::process::Abort;
 fn none_is_wrong(rt: &impl Abort, first_wrong: Option<usize>) {
     assert_eq!(rt; first_wrong, None);
 }
+
+/// Lets an outcome go: it falls out of scope, and is written out once.
+#[cfg(test)]
+fn let_go(_outcome: Outcome) {}
 
 /// What a test asks holds.
 #[cfg(test)]

@@ -5,7 +5,7 @@ ghost use Rattle.std.specs.Option.{option_copied};
 ghost use Rattle.cert_text.specs.declared.outcome.Outcome.TheVariants.{Refused};
 ghost use Rattle.cert_text.specs.Outcome.{IsOutcome};
 
-use super::{holds, none_is_wrong};
+use super::{holds, let_go, none_is_wrong};
 use cert_text::{Outcome, Refusal, write_outcome};
 use query_reading::read;
 use query_text::Query;
@@ -179,7 +179,7 @@ fn is_written(
     };
     let outcome = Outcome::Refused(refusal);
     let is_ok = write_outcome(&mut out, number, query, 3, &outcome).is_ok();
-    drop(outcome);
+    let_go(outcome);
     let is_so = is_ok && out.taken() == line.as_bytes();
     drop(out);
     is_so
