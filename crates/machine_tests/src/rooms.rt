@@ -3,6 +3,7 @@
 ghost use Rattle.std.specs.Prelude.{◌≡◌, []};
 
 use super::holds;
+use super::transcripts::let_go;
 use access_log::Transcript;
 use room_map::RoomMap;
 use std::alloc::Global;
@@ -38,7 +39,7 @@ fn keeps_three(alloc: Global) -> bool {
         return false;
     };
     let are_kept = takes_three(&mut log) && keeps_objects(&log) && keeps_grades(&log);
-    drop(log);
+    let_go(log);
     are_kept
 }
 
