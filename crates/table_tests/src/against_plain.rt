@@ -7,7 +7,7 @@ use std::alloc::Global;
 use test_support::Numbers;
 
 /// Expressions over one, two and three lists.
-const EXPRESSIONS: [(usize, &str); 8] = [
+const EXPRESSIONS: &[(usize, &str)] = &[
     (1, "A"),
     (2, "sum(A,B)"),
     (2, "min(A,B)"),
@@ -106,7 +106,7 @@ fn first_wrong(alloc: Global, algorithms: &[&str]) -> Option<(usize, usize)> {
 
 /// Each algorithm: the threshold algorithm, the one without random access, and the combined one at costs whose ratio is less
 /// than 1, 1, between 1 and 2, 2, and more than there are depths.
-const ALGORITHMS: [&str; 7] = [
+const ALGORITHMS: &[&str] = &[
     "ta",
     "nra",
     "ca",
@@ -118,5 +118,5 @@ const ALGORITHMS: [&str; 7] = [
 
 #[test]
 fn writes_what_the_plain_program_computes(rt: HostRuntime) {
-    none_is_wrong(&rt, first_wrong(rt.alloc(), &ALGORITHMS));
+    none_is_wrong(&rt, first_wrong(rt.alloc(), ALGORITHMS));
 }

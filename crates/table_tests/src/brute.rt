@@ -8,7 +8,7 @@ use table_support::{Aggregate, Asked, Table, is_right, table_of};
 use test_support::Numbers;
 
 /// Each aggregate.
-const ASKED: [Asked; 5] = [
+const ASKED: &[Asked] = &[
     (1, Aggregate::Sum),
     (10, Aggregate::Min),
     (7, Aggregate::Max),
@@ -20,7 +20,7 @@ const ASKED: [Asked; 5] = [
 type Size = (usize, u32, &'static str, &'static str);
 
 /// One, four and eight lists, the first two with ties everywhere.
-const SIZES: [Size; 3] = [
+const SIZES: &[Size] = &[
     (1, 3, "A", "1*A"),
     (4, 2, "A,B,C,D", "1*A,2*B,3*C,4*D"),
     (8, 500, "A,B,C,D,E,F,G,H", "1*A,2*B,3*C,4*D,5*E,6*F,7*G,8*H"),
@@ -96,7 +96,7 @@ fn first_wrong_at(
 /// How many lists the first table has that is answered otherwise, and the number of the first such aggregate.
 fn first_wrong(alloc: Global, count: u32, algorithm: &str) -> Option<(usize, usize)> {
     let mut numbers = Numbers::from_start(1);
-    for size in &SIZES {
+    for size in SIZES {
         if let Some(number) = first_wrong_at(alloc, &mut numbers, size, count, algorithm) {
             return Some((size.0, number));
         }
