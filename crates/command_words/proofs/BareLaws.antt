@@ -15,9 +15,9 @@ use Rattle.clap.specs.Simple.{Shape, built, entered}
 use Rattle.clap.specs.Faults.{built_fault, bundle_step_fault, check_fault, defaults_fault, entered_fault, flag_word_fault, flags_fault, bundle_fault, is_simple_and_free, settle_fault, step_fault, turn_fault, walk_fault}
 use Rattle.clap.proofs.OnLiterals.{clap_on_literals}
 use Rattle.command_words.specs.Commands.{are_no_words, options_end}
-use Rattle.command_line.specs.Apps.{bare_app}
-use Rattle.command_line.specs.Finding.{Finds, Refuses}
-use Rattle.command_line.proofs.Walking.{first_faulty}
+use Rattle.command_words.specs.Apps.{bare_app}
+use Rattle.command_words.specs.Finding.{Finds, Refuses}
+use Rattle.command_words.proofs.Walking.{first_faulty}
 
 -- there is a fault
 abbrev HasFault : Kinds → Type 0

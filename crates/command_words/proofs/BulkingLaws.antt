@@ -3,12 +3,12 @@ use Rattle.std.proofs.Common.{◌≡◌, List, refl, ap, ◌∙◌}
 use Rattle.clap.specs.Words.{first_of}
 use Rattle.clap.proofs.OnLiterals.{clap_on_literals}
 use Rattle.command_words.specs.Bulking.{bulk_app, bulk_takes, bulk_of, bulk_given, bulk_in, queries_rule}
-use Rattle.command_line.specs.Line.{Given}
+use Rattle.command_words.specs.Line.{Given}
 use Rattle.command_words.specs.Making.{options_given}
 use Rattle.command_words.specs.OptionNumbers.{number_by, text_by}
 use Rattle.command_words.specs.Running.{settings_in}
-use Rattle.command_line.proofs.SetRules.{shown}
-use Rattle.command_line.proofs.OptionLaws.{Asks, found_text}
+use Rattle.command_words.proofs.SetRules.{shown}
+use Rattle.command_words.proofs.OptionLaws.{Asks, found_text}
 use Rattle.command_words.proofs.MakingLaws.{same_table}
 use Rattle.command_words.proofs.RunningLaws.{same_settings}
 

@@ -1,4 +1,12 @@
--- Lemmas on words.
+-- Lemmas on words and on what they give a command.
+mod Finding
+pub mod SetRules
+pub mod Walking
+mod Clapping
+mod RuleLaws
+mod WordLaws
+pub mod OptionLaws
+mod LineLaws
 mod BareLaws
 mod CommandLaws
 mod MakingLaws

@@ -5,13 +5,13 @@ use Rattle.std.specs.declared.result.Result.{Result}
 use Rattle.std.specs.declared.result.Result.TheVariants.{Err}
 use Rattle.clap.specs.Words.{first_of}
 use Rattle.clap.proofs.OnLiterals.{clap_on_literals}
-use Rattle.command_line.specs.Line.{Given}
+use Rattle.command_words.specs.Line.{Given}
 use Rattle.command_words.specs.Making.{make_app, make_takes, options_given, options_in, start_rule, count_rule, lists_rule, table_of}
 use Rattle.command_words.specs.OptionNumbers.{text_by}
-use Rattle.command_line.specs.declared.fault.WordsFault.{WordsFault}
-use Rattle.command_line.specs.declared.fault.WordsFault.TheVariants.{BadWords}
-use Rattle.command_line.proofs.SetRules.{shown}
-use Rattle.command_line.proofs.OptionLaws.{Asks, found_text}
+use Rattle.command_words.specs.declared.fault.WordsFault.{WordsFault}
+use Rattle.command_words.specs.declared.fault.WordsFault.TheVariants.{BadWords}
+use Rattle.command_words.proofs.SetRules.{shown}
+use Rattle.command_words.proofs.OptionLaws.{Asks, found_text}
 
 pub same_table : (given : List Given) → options_in (shown given) ≡ options_given given
 same_table given =

@@ -4,12 +4,12 @@ use Rattle.std.specs.Option.{option_and_then}
 use Rattle.std.specs.declared.result.Result.{Result}
 use Rattle.clap.specs.Words.{Row, first_of}
 use Rattle.clap.proofs.OnLiterals.{clap_on_literals}
-use Rattle.command_line.specs.Line.{Given}
+use Rattle.command_words.specs.Line.{Given}
 use Rattle.command_words.specs.OptionNumbers.{free_number_in, text_by}
 use Rattle.command_words.specs.Running.{run_app, run_takes, run_given, run_in, run_of, settings_in, settings_of, with_ahead, workers_rule, page_rule, ahead_rule}
-use Rattle.command_line.specs.Taking.{given_text}
-use Rattle.command_line.proofs.SetRules.{shown}
-use Rattle.command_line.proofs.OptionLaws.{Asks, found_text}
+use Rattle.command_words.specs.Taking.{given_text}
+use Rattle.command_words.proofs.SetRules.{shown}
+use Rattle.command_words.proofs.OptionLaws.{Asks, found_text}
 
 pub same_settings : (given : List Given)
     → settings_in (shown given) ≡ settings_of (text_by workers_rule given) (text_by page_rule given) (text_by ahead_rule given)

@@ -2,12 +2,12 @@
 use Rattle.std.specs.Prelude.{ℕ, ◌≤◌, true, List, [], ◌∷◌, ◌++◌, Option, codes, drop}
 use Rattle.std.specs.Option.{option_and_then, option_map}
 use Rattle.clap.specs.Words.{App, Row, first_of, with_rule}
-use Rattle.command_line.specs.Apps.{free_option, needed_option}
-use Rattle.command_line.specs.Line.{OptionRule, Takes, Given}
+use Rattle.command_words.specs.Apps.{free_option, needed_option}
+use Rattle.command_words.specs.Line.{OptionRule, Takes, Given}
 use Rattle.command_words.specs.Making.{make_app, make_takes, options_given, options_in, AreMakeOptions}
 use Rattle.command_words.specs.OptionNumbers.{number_by, text_by}
 use Rattle.command_words.specs.Running.{workers_rule, page_rule, ahead_rule, settings_of, settings_in, AreRunSettings}
-use Rattle.command_line.specs.Taking.{taken}
+use Rattle.command_words.specs.Taking.{taken}
 use Rattle.command_words.specs.declared.bulking.BulkOptions.{BulkOptions}
 use Rattle.command_words.specs.declared.making.MakeOptions.{MakeOptions}
 use Rattle.command_words.specs.declared.running.RunSettings.{RunSettings}

@@ -1,4 +1,9 @@
 -- The words of the contracts.
+pub mod Line
+pub mod Taking
+pub mod Finding
+pub mod Apps
+pub mod Arguments
 pub mod Commands
 pub mod OptionNumbers
 pub mod Making

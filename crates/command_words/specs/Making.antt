@@ -2,10 +2,10 @@
 use Rattle.std.specs.Prelude.{ℕ, ◌≤◌, true, List, [], ◌∷◌, Option, codes, drop}
 use Rattle.std.specs.Option.{option_and_then, option_map}
 use Rattle.clap.specs.Words.{App, Row, first_of, with_rule}
-use Rattle.command_line.specs.Apps.{bare_app, needed_option}
-use Rattle.command_line.specs.Line.{OptionRule, Takes, Given}
+use Rattle.command_words.specs.Apps.{bare_app, needed_option}
+use Rattle.command_words.specs.Line.{OptionRule, Takes, Given}
 use Rattle.command_words.specs.OptionNumbers.{number_by, text_by}
-use Rattle.command_line.specs.Taking.{taken}
+use Rattle.command_words.specs.Taking.{taken}
 use Rattle.command_words.specs.declared.making.MakeOptions.{MakeOptions}
 use Rattle.limits.specs.declared.TheConstants.{MAX_LISTS, MAX_OBJECTS, MAX_START}
 

@@ -3,8 +3,8 @@ use Rattle.std.specs.Prelude.{ℕ, List, Option, None, Some, if◌then◌else◌
 use Rattle.std.specs.Option.{option_and_then}
 use Rattle.line_text.specs.Numbers.{number_up_to}
 use Rattle.clap.specs.Words.{Row, first_of}
-use Rattle.command_line.specs.Line.{OptionRule, Given}
-use Rattle.command_line.specs.Taking.{given_text}
+use Rattle.command_words.specs.Line.{OptionRule, Given}
+use Rattle.command_words.specs.Taking.{given_text}
 
 -- the number where it is within its range
 abbrev pub at_least : ℕ → ℕ → Option ℕ

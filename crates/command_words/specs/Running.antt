@@ -2,10 +2,10 @@
 use Rattle.std.specs.Prelude.{ℕ, ◌≤◌, false, List, [], ◌∷◌, Option, codes, drop}
 use Rattle.std.specs.Option.{option_and_then, option_map}
 use Rattle.clap.specs.Words.{App, Row, first_of, with_rule}
-use Rattle.command_line.specs.Apps.{bare_app, free_option, needed_place}
-use Rattle.command_line.specs.Line.{OptionRule, Takes, Given}
+use Rattle.command_words.specs.Apps.{bare_app, free_option, needed_place}
+use Rattle.command_words.specs.Line.{OptionRule, Takes, Given}
 use Rattle.command_words.specs.OptionNumbers.{free_number_by, text_by}
-use Rattle.command_line.specs.Taking.{given_text, taken}
+use Rattle.command_words.specs.Taking.{given_text, taken}
 use Rattle.command_words.specs.declared.running.RunOptions.{RunOptions}
 use Rattle.command_words.specs.declared.running.RunSettings.{RunSettings}
 

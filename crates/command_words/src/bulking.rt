@@ -7,7 +7,7 @@ ghost use Rattle.command_words.specs.Bulking.{bulk_options, bulk_in, AreBulkOpti
 use super::making::{self, MakeOptions, number_of};
 use super::running::{RunSettings, settings_of};
 use clap::ArgMatches;
-use command_line::{Argument, Words, WordsFault, found_in};
+use super::{Argument, Words, WordsFault, found_in};
 use limits::MAX_QUERIES;
 use std::alloc::Global;
 

@@ -6,7 +6,7 @@ ghost use Rattle.command_words.specs.Commands.{command_named, command_of, bare_c
 use super::bulking::{BulkOptions, read_bulk};
 use super::making::{MakeOptions, read_make};
 use super::running::{RunOptions, read_run};
-use command_line::{Words, WordsFault, found_in};
+use super::{Words, WordsFault, found_in};
 use std::alloc::Global;
 
 /// What the program is to do.

@@ -1,16 +1,27 @@
-//! The command that words are.
+//! The command that words are, and what the words of a line give a command.
 //!
-//! The first word is the command's name, and what may follow it is the command's own. What the words of a
-//! line are and what they give a command stands in `command_line`, whose names are given on.
+//! The first word is the command's name, and what may follow it is the command's own: places and options, each with a
+//! value. The word `--` ends the options and stands for nothing itself. There is no help option.
 #![tactic(auto)]
 
+mod arguments;
 mod bulking;
 mod command;
+mod fault;
+mod given;
+mod laws;
 mod making;
 mod running;
+mod words;
+
+use arguments::{Argument, found_in};
 
 pub use bulking::BulkOptions;
 pub use command::{Command, read_command};
-pub use command_line::{Memory, Words, WordsFault, read_words, words_give_what_their_line_gives};
+pub use fault::WordsFault;
+pub use given::read_words;
+pub use laws::words_give_what_their_line_gives;
 pub use making::MakeOptions;
+pub use memory::Memory;
 pub use running::{Place, RunOptions, RunSettings};
+pub use words::Words;

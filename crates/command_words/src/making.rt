@@ -6,7 +6,7 @@ ghost use Rattle.command_words.specs.Making.{make_options, options_in, AreMakeOp
 ghost use Rattle.command_words.specs.OptionNumbers.{number_in, number_given};
 
 use clap::ArgMatches;
-use command_line::{Argument, Words, WordsFault, found_in};
+use super::{Argument, Words, WordsFault, found_in};
 use limits::{MAX_LISTS, MAX_OBJECTS, MAX_START};
 use line_text::number_up_to;
 use std::alloc::Global;

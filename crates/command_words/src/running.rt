@@ -7,7 +7,7 @@ ghost use Rattle.command_words.specs.Running.{run_options, run_in, settings_in, 
 
 use super::making::number_given;
 use clap::ArgMatches;
-use command_line::{Argument, Words, WordsFault, found_in};
+use super::{Argument, Words, WordsFault, found_in};
 use std::alloc::{AllocError, Global};
 use std::marker::Model;
 

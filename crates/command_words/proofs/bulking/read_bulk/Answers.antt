@@ -1,6 +1,6 @@
 use Rattle.std.proofs.Common.{Err, ap, ◌∙◌, sym}
 use Rattle.command_words.specs.Bulking.{bulk_app, bulk_options, bulk_takes, bulk_given, bulk_in, AreBulkOptions}
-use Rattle.command_line.proofs.OptionLaws.{asked, fault_in, refused}
+use Rattle.command_words.proofs.OptionLaws.{asked, fault_in, refused}
 use Rattle.command_words.proofs.MakingLaws.{answer_read, answer_refused, answer_within}
 use Rattle.command_words.proofs.BulkingLaws.{bulk_asks}
 use Rattle.command_words.proofs.bulking.read_bulk.Goals as goal

@@ -1,6 +1,6 @@
 use Rattle.std.proofs.Common.{Err, option_map, sym, ap, ◌∙◌}
 use Rattle.command_words.specs.declared.command.Command.TheVariants.{Make, Run, Bulk}
-use Rattle.command_line.proofs.OptionLaws.{fault_in}
+use Rattle.command_words.proofs.OptionLaws.{fault_in}
 use Rattle.command_words.proofs.CommandLaws.{make_named, run_named, bulk_named, none_named}
 use Rattle.command_words.proofs.RunningLaws.{answer_read}
 use Rattle.command_words.proofs.command.read_command.Goals as goal

@@ -1,6 +1,6 @@
 use Rattle.std.proofs.Common.{Err, ap}
 use Rattle.command_words.proofs.BareLaws.{read_taken, read_refused}
-use Rattle.command_line.proofs.OptionLaws.{fault_in}
+use Rattle.command_words.proofs.OptionLaws.{fault_in}
 use Rattle.command_words.proofs.command.read_none.Goals as goal
 
 pub returns-in-Ok-clause-read : goal.returns-in-Ok-clause-read

@@ -1,6 +1,6 @@
 use Rattle.std.proofs.Common.{Err, ap, ◌∙◌, sym}
 use Rattle.command_words.specs.Making.{make_app, make_options, make_takes, options_given, options_in}
-use Rattle.command_line.proofs.OptionLaws.{asked, fault_in, refused}
+use Rattle.command_words.proofs.OptionLaws.{asked, fault_in, refused}
 use Rattle.command_words.proofs.MakingLaws.{make_asks, answer_read, answer_refused}
 use Rattle.command_words.proofs.making.read_make.Goals as goal
 

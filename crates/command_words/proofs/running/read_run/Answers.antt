@@ -1,6 +1,6 @@
 use Rattle.std.proofs.Common.{Err, ap, ◌∙◌}
 use Rattle.command_words.specs.Running.{run_app, run_takes, run_given, run_in}
-use Rattle.command_line.proofs.OptionLaws.{asked, fault_in, refused}
+use Rattle.command_words.proofs.OptionLaws.{asked, fault_in, refused}
 use Rattle.command_words.proofs.RunningLaws.{run_asks, answer_read}
 use Rattle.command_words.proofs.running.read_run.Goals as goal
 

@@ -1,6 +1,0 @@
--- The words of the contracts.
-pub mod Line
-pub mod Taking
-pub mod Finding
-pub mod Apps
-pub mod Arguments
