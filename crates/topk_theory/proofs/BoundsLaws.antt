@@ -1,5 +1,5 @@
 -- The bounds of a transcript hold on each table that agrees with it.
-use Rattle.std.proofs.Common.{◌≡◌, ◌≤◌, ◌<◌, ◌==◌, ◌+◌, ◌⊎◌, inl, inr, ℕ, zero, suc, true, false, cond, List, [], ◌∷◌, ◌++◌, length, map, drop, Option, Some, None, unwrap_or, refl, sym, ap, ◌∙◌, subst, arith, add-one}
+use Rattle.std.proofs.Common.{◌≡◌, ◌≤◌, ◌<◌, ◌==◌, ◌+◌, inl, inr, ℕ, zero, suc, true, false, cond, List, [], ◌∷◌, ◌++◌, length, map, drop, Option, Some, None, unwrap_or, refl, sym, ap, ◌∙◌, subst, arith, add-one}
 use Rattle.std.specs.List.{All, AllPairs, AllZip, range_with_len, cons_option}
 use Rattle.std.proofs.lemmas.List.Elements.{All-head}
 use Rattle.ranked_list.specs.declared.row.Row.{Row}

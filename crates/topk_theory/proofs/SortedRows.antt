@@ -1,5 +1,5 @@
 -- Rows put in the order of a ranked list: what a sort by grade falling and then by number rising gives of rows of different objects.
-use Rattle.std.proofs.Common.{◌≡◌, ◌≢◌, ℕ, ◌+◌, ◌<◌, inl, inr, true, false, cond, ◌==◌, nat_lt, List, [], ◌∷◌, length, map, get_or, AllPairs, refl, sym, ap, ap₂, ◌∙◌, arith}
+use Rattle.std.proofs.Common.{◌≡◌, ◌≢◌, ℕ, ◌+◌, inl, inr, true, false, cond, ◌==◌, nat_lt, List, [], ◌∷◌, length, map, get_or, AllPairs, refl, sym, ap, ap₂, ◌∙◌, arith}
 use Rattle.std.specs.List.Sorted.{IsPermutation, IsSortedBy}
 use Rattle.std.specs.declared.cmp.Ordering.{Ordering}
 use Rattle.std.specs.declared.cmp.Reverse.{Reverse}
