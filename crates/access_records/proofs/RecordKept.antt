@@ -1,5 +1,5 @@
 -- The record of an object after one more access.
-use Rattle.std.proofs.Common.{◌≡◌, ◌≢◌, ℕ, suc, ◌+◌, ◌<◌, inl, inr, Bool, true, false, cond, ◌==◌, ◌||◌, List, [], ◌∷◌, ◌++◌, length, Contains, Some, None, nat_eq, position, is_none, slice_get, slice_index_or, slice_set, refl, sym, ap, subst, ◌∙◌, arith, eqb-true, eq-eqb, ne_eqb, add-zero, zero-add}
+use Rattle.std.proofs.Common.{◌≡◌, ◌≢◌, ℕ, suc, ◌+◌, ◌<◌, inl, inr, Bool, true, false, cond, ◌||◌, List, [], ◌∷◌, ◌++◌, length, Contains, Some, None, nat_eq, position, is_none, slice_get, slice_index_or, slice_set, refl, sym, ap, subst, ◌∙◌, arith, eqb-true, eq-eqb, ne_eqb, add-zero, zero-add}
 use Rattle.std.specs.List.{position_from}
 use Rattle.std.proofs.lemmas.Bool.{cases_Bool, cases_eq, true≢false}
 use Rattle.std.proofs.lemmas.Iterator.Adapters.{position_from-zero}

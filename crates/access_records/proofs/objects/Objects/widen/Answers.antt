@@ -1,4 +1,4 @@
-use Rattle.std.proofs.Common.{◌<◌, ◌≤◌, refl, ap, arith}
+use Rattle.std.proofs.Common.{refl, ap, arith}
 use Rattle.room_map.specs.Keys.{Keys}
 use Rattle.access_records.proofs.AheadKept.{room_wider, wider_same}
 use Rattle.access_records.proofs.ObjectsKept.{objects_wider}
