@@ -1,6 +1,7 @@
 -- What a machine that is done answers.
 use Rattle.std.proofs.Common.{◌≡◌, ℕ, ◌≤◌, inl, inr, true, List, length, Contains, sym, ap, subst, ◌∙◌, arith}
 use Rattle.std.proofs.lemmas.Bool.{cases_Bool}
+use Rattle.std.proofs.lemmas.List.{length-take}
 use Rattle.ranked_list.specs.declared.row.Row.{Row}
 use Rattle.ranked_list.specs.declared.item.Item.{Item}
 use Rattle.ranked_list.specs.declared.need.Need.TheVariants.{Row as RowAt, Done}
@@ -85,6 +86,15 @@ pub first_of : (base : Base) (late : LateBounds) (place : Place) (items : List I
     → items ≡ first_k late.k (seen_items (value base.expr) base.transcript.lists base.transcript.accesses)
     → items ≡ first_seen (value base.expr) base.k base.transcript.lists base.transcript.accesses
 first_of base late place items kept is = is ∙ ap (λ k. first_k k (seen_items (value base.expr) base.transcript.lists base.transcript.accesses)) kept.asked
+
+-- and they are few
+pub few_items : (base : Base) (late : LateBounds) (place : Place) (items : List Item) → Keeps base late place
+    → items ≡ first_k late.k (seen_items (value base.expr) base.transcript.lists base.transcript.accesses) → length items ≤ 200000
+few_items base late place items kept is =
+    let all : List Item = in_order (seen_items (value base.expr) base.transcript.lists base.transcript.accesses) in
+    let size : length items ≡ length (first_k late.k (seen_items (value base.expr) base.transcript.lists base.transcript.accesses)) = ap (λ (xs : List Item). length xs) is in
+    let short : length (first_k late.k (seen_items (value base.expr) base.transcript.lists base.transcript.accesses)) ≤ late.k = omega (arith, length-take late.k all) in
+    omega (arith, kept.asked, kept.base.posed.fits, kept.base.counted)
 
 -- and so many are seen
 pub many_seen : (base : Base) (late : LateBounds) (place : Place) → Keeps base late place → need_at place ≡ Done

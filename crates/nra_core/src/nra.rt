@@ -150,6 +150,7 @@ impl Nra {
         } = self;
         let mut items = items;
         late.first_items(&base.expr, &base.transcript, &mut items);
+        drop(late);
         let items = Items::from_vec(items);
         Ok(Answer {
             items,

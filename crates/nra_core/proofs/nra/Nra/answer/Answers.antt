@@ -1,10 +1,10 @@
-use Rattle.std.proofs.Common.{◌≡◌, subst, ap, ◌∙◌, arith}
+use Rattle.std.proofs.Common.{◌≡◌, refl, subst, sym, ap, ◌∙◌, arith}
 use Rattle.ranked_list.specs.declared.need.Need.TheVariants.{Done}
-use Rattle.access_log.specs.Machine.{MachineState}
+use Rattle.access_log.specs.Machine.{MachineState, IsSameLog}
 use Rattle.nra_core.specs.Place.{need_at}
 use Rattle.nra_core.specs.Machine.{MakesItsRun, IsAnswer, HaveTrueBounds}
 use Rattle.nra_core.proofs.Runs.{kept_makes}
-use Rattle.nra_core.proofs.Answering.{answers, true_bounds, first_of, many_seen}
+use Rattle.nra_core.proofs.Answering.{answers, true_bounds, first_of, few_items, many_seen}
 use Rattle.nra_core.proofs.nra.Nra.answer.Goals as goal
 
 pub first_items-requires-clause-enough : goal.first_items-requires-clause-enough
@@ -43,3 +43,13 @@ first_items-requires-clause-empty c = c.self.invariant.none
 
 pub first_items-requires-clause-room : goal.first_items-requires-clause-room
 first_items-requires-clause-room c = omega (arith, c.self.invariant.kept.base.roomy, c.self.invariant.roomy)
+
+pub returns-clause-transcript : goal.returns-clause-transcript
+returns-clause-transcript c =
+    subst (λ (t : MachineState). IsSameLog c.into_transcript.result t.log) c.self.view_is
+    (subst (λ log. IsSameLog log c.self.inside.base.transcript) (sym c.into_transcript.ensures) (record { lists = refl; count = refl; accesses = refl }))
+
+pub from_vec-items-requires : goal.from_vec-items-requires
+from_vec-items-requires c =
+    let a = c.self.inside in
+    omega (arith, few_items a.base a.late a.place c.first_items.new.items.items c.self.invariant.kept c.first_items.ensures.items)
