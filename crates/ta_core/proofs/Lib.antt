@@ -5,7 +5,7 @@ pub mod Asks
 pub mod BoardSteps
 pub mod NeedSteps
 pub mod Steps
-pub mod CallSteps
+mod CallSteps
 pub mod Runs
 pub mod Sound
 pub mod Feeds
