@@ -1,5 +1,5 @@
 -- Texts that are written one behind another.
-use Rattle.std.proofs.Common.{◌≡◌, ℕ, zero, suc, ◌+◌, ◌≤◌, List, [], ◌∷◌, ◌++◌, length, take, map, Some, None, option_map, unwrap_or, refl, sym, ap, ◌∙◌, arith, append_assoc, codes}
+use Rattle.std.proofs.Common.{◌≡◌, ℕ, zero, suc, ◌+◌, ◌≤◌, List, [], ◌∷◌, ◌++◌, length, take, map, Option, Some, None, option_map, unwrap_or, refl, sym, ap, subst, ◌∙◌, arith, append_assoc, codes}
 use Rattle.std.specs.List.{slice_get}
 use Rattle.std.specs.Fmt.{decimal}
 use Rattle.std.proofs.lemmas.Bool.{cond-false}
@@ -9,10 +9,12 @@ use Rattle.std.proofs.lemmas.Option.{unwrap_or-slice_get, slice_get_within, get_
 use Rattle.std.proofs.lemmas.Grind.{flat_map-append}
 use Rattle.monotone_fn.specs.Tree.{Tree, trees, terms}
 use Rattle.monotone_fn.specs.Shape.{depth, depth_in, depth_under}
-use Rattle.query_text.specs.Written.{Arguments, Argument, arguments_from}
+use Rattle.tk_io.specs.Pieces.{Puts}
+use Rattle.query_text.specs.Written.{Written, Arguments, Argument, arguments_from}
 use Rattle.query_text.specs.Pieces.{Piece, piece_text, text_of}
-use Rattle.query_text.specs.Shape.{weight_pieces, expr_pieces, argument_pieces, further_pieces, algorithm_word, algorithm_pieces, cost_pieces, room_pieces}
+use Rattle.query_text.specs.Shape.{opening, weight_pieces, expr_pieces, argument_pieces, further_pieces, algorithm_word, algorithm_pieces, cost_pieces, room_pieces}
 use Rattle.query_text.specs.Query.{written, name_of, cost_digits, printed, arguments, weighted, plain_argument, weighted_argument}
+use Rattle.query_text.specs.declared.operator.Operator.{Operator}
 use Rattle.query_text.specs.declared.query.Query.{Query}
 use Rattle.query_text.specs.Printing.{nodes_text, terms_text, comma_text, cost_text, room_text}
 
@@ -25,9 +27,19 @@ pub arguments_weighted : (names : List (List ℕ)) (us : List (ℕ × Tree)) →
 arguments_weighted names [] = refl
 arguments_weighted names (u ∷ us) = ap (Arguments.argument_then (Some (decimal u.0)) (written names u.1)) (arguments_weighted names us)
 
--- a list without the member at a place
-pub name_past : (names : List (List ℕ)) (list : ℕ) → None ≡ slice_get names list → [] ≡ name_of names list
-name_past names list h = ap (λ o. unwrap_or o []) h ∙ unwrap_or-slice_get names list []
+-- a text is put as what it equals
+pub puts_as : (held held_now : Option (List ℕ)) (faults faults_now : ℕ) (before now : Option (List ℕ)) (x y : List ℕ) → x ≡ y
+    → Puts held held_now faults faults_now before now x → Puts held held_now faults faults_now before now y
+puts_as held held_now faults faults_now before now x y same put = subst (Puts held held_now faults faults_now before now) same put
+
+-- an operator, its arguments and the parenthesis
+pub call_text : (operator : Operator) (arguments : Arguments)
+    → opening operator ++ (text_of (argument_pieces arguments) ++ codes ")") ≡ text_of (expr_pieces (Written.call operator arguments))
+call_text operator arguments = ap (λ z. opening operator ++ z) (sym (flat_map-append piece_text (argument_pieces arguments) (Piece.fixed (codes ")") ∷ [])))
+
+-- the name that stands at a place, or none behind the last
+pub name_there : (names : List (List ℕ)) (list : ℕ) (found : Option (List ℕ)) → found ≡ slice_get names list → unwrap_or found [] ≡ name_of names list
+name_there names list found h = ap (λ o. unwrap_or o []) h ∙ unwrap_or-slice_get names list []
 
 -- the text of arguments with one more
 further_push : (xs : List Argument) (a : Argument) → text_of (further_pieces (arguments_from (xs ++ a ∷ [])))

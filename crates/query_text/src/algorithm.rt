@@ -4,7 +4,7 @@ ghost use Rattle.std.specs.Prelude.{◌≡◌};
 ghost use Rattle.query_text.specs.Shape.{algorithm_word};
 
 /// An algorithm of Fagin, Lotem and Naor.
-#[derive(Clone, Copy, Debug, PartialEq, Eq)]
+#[derive(Clone, Copy, PartialEq, Eq)]
 pub enum Algorithm {
     /// The threshold algorithm, `ta`.
     Ta,

@@ -2,7 +2,7 @@
 
 /// Why a line isn't read as a query. The refusals come in this order, but that of `Number` and
 /// `TooManyLists` the one with the lesser place is given, and that `Memory` may come at any point.
-#[derive(Clone, Copy, Debug, PartialEq, Eq)]
+#[derive(Clone, Copy, PartialEq, Eq)]
 pub enum QueryFault {
     /// The line has more bytes than `limit`.
     LongLine { limit: u32 },

@@ -5,12 +5,11 @@ ghost use Rattle.tk_io.specs.Pieces.{Puts};
 ghost use Rattle.monotone_fn.specs.Tree.{trees, terms};
 ghost use Rattle.monotone_fn.specs.Shown.{tree_of};
 ghost use Rattle.query_text.specs.Pieces.{text_of};
-ghost use Rattle.query_text.specs.Shape.{expr_pieces, algorithm_word};
+ghost use Rattle.query_text.specs.Shape.{expr_pieces};
 ghost use Rattle.query_text.specs.Query.{printed, written, name_of};
 ghost use Rattle.query_text.specs.Printing.{nodes_text, terms_text, cost_text, room_text, comma_text};
 
 use super::Memory;
-use super::algorithm::Algorithm;
 use super::names::Names;
 use super::query::Query;
 use super::text::Text;
@@ -40,7 +39,7 @@ pub fn put_query<K: Sink>(out: &mut K, pieces: &mut Pieces, query: &Query)
     pieces.put(out, b" by ");
     put_expr(out, pieces, &query.names, query.expr.root());
     pieces.put(out, b" using ");
-    put_algorithm(out, pieces, query.algorithm);
+    pieces.put(out, query.algorithm.word());
     put_cost(out, pieces, query.cost);
     put_room(out, pieces, query.room);
 }
@@ -112,13 +111,6 @@ fn put_terms<K: Sink>(out: &mut K, pieces: &mut Pieces, names: &Names, weighted:
         put_expr(out, pieces, names, &term.node);
     }
     pieces.put(out, b")");
-}
-
-/// Puts the word of an algorithm behind the bytes that wait.
-fn put_algorithm<K: Sink>(out: &mut K, pieces: &mut Pieces, algorithm: Algorithm)
-    ensures { Puts (K.held out.old) (K.held out.new) (K.faults out.old) (K.faults out.new) pieces.old pieces.new (algorithm_word algorithm) }
-{
-    pieces.put(out, algorithm.word());
 }
 
 /// Puts the costs, if there are any, behind the bytes that wait.

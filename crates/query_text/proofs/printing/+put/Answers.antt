@@ -2,10 +2,13 @@ use Rattle.std.proofs.Common.{◌≡◌, Some, slice_get, refl, sym, subst, code
 use Rattle.std.proofs.lemmas.List.{length_push}
 use Rattle.std.proofs.lemmas.Iterator.Consumers.{YieldsList-turn, YieldsList-end}
 use Rattle.monotone_fn.specs.Shown.{tree_of, term_of}
+use Rattle.monotone_fn.specs.Tree.{trees, terms}
 use Rattle.tk_io.specs.Pieces.{Puts}
 use Rattle.tk_io.proofs.Putting.{puts_then}
 use Rattle.query_text.proofs.NamesPassed.{shown_given, stands_there}
-use Rattle.query_text.proofs.PutLaws.{nodes_step, nodes_end, terms_step, terms_end, depth_at, depth_of_term}
+use Rattle.query_text.proofs.PutLaws.{puts_as, call_text, nodes_step, nodes_end, terms_step, terms_end, depth_at, depth_of_term}
+use Rattle.query_text.specs.Query.{name_of, arguments, weighted}
+use Rattle.query_text.specs.declared.operator.Operator.TheVariants.{Min, Max, Sum, Median, Wsum}
 use Rattle.query_text.proofs.printing.+put.Goals as goal
 
 pub put_nodes-put_expr-requires : goal.put_nodes-put_expr-requires
@@ -70,3 +73,22 @@ put_terms-returns g t c =
     subst (Puts (g.K.Sink.held c.args.out.now) (g.K.Sink.held c.put-2.new.out) (g.K.Sink.faults c.args.out.now) (g.K.Sink.faults c.put-2.new.out) c.args.pieces.now c.put-2.new.self)
     (terms_end c.args.names.now c.args.weighted.now c.loop-place.place (omega (arith, whole.1, c.loop-place.invariant.place)))
     (puts_then _ _ _ _ _ _ _ _ _ _ _ c.loop-place.invariant.puts c.put-2.ensures.puts)
+
+pub put_expr-returns-in-List : goal.put_expr-returns-in-List
+put_expr-returns-in-List g t c =
+    rw c.in-List.is (puts_as _ _ _ _ _ _ _ _ (sym (append-nil (name_of c.args.names.now c.in-List.list))) c.put_name.ensures)
+
+pub put_expr-returns-in-Min : goal.put_expr-returns-in-Min
+put_expr-returns-in-Min g t c = rw c.in-Min.is (puts_as _ _ _ _ _ _ _ _ (call_text Min (arguments c.args.names.now (trees c.in-Min.nodes))) c.put_nodes.ensures)
+
+pub put_expr-returns-in-Max : goal.put_expr-returns-in-Max
+put_expr-returns-in-Max g t c = rw c.in-Max.is (puts_as _ _ _ _ _ _ _ _ (call_text Max (arguments c.args.names.now (trees c.in-Max.nodes))) c.put_nodes-in-Max.ensures)
+
+pub put_expr-returns-in-Sum : goal.put_expr-returns-in-Sum
+put_expr-returns-in-Sum g t c = rw c.in-Sum.is (puts_as _ _ _ _ _ _ _ _ (call_text Sum (arguments c.args.names.now (trees c.in-Sum.nodes))) c.put_nodes-in-Sum.ensures)
+
+pub put_expr-returns-in-Median : goal.put_expr-returns-in-Median
+put_expr-returns-in-Median g t c = rw c.in-Median.is (puts_as _ _ _ _ _ _ _ _ (call_text Median (arguments c.args.names.now (trees c.in-Median.nodes))) c.put_nodes-in-Median.ensures)
+
+pub put_expr-returns-in-Wsum : goal.put_expr-returns-in-Wsum
+put_expr-returns-in-Wsum g t c = rw c.in-Wsum.is (puts_as _ _ _ _ _ _ _ _ (call_text Wsum (weighted c.args.names.now (terms c.in-Wsum.terms))) c.put_terms.ensures)

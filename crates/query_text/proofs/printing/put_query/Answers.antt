@@ -3,7 +3,7 @@ use Rattle.std.specs.Fmt.{decimal}
 use Rattle.tk_io.specs.Pieces.{Puts}
 use Rattle.tk_io.proofs.Putting.{puts_then}
 use Rattle.query_text.specs.Pieces.{text_of}
-use Rattle.query_text.specs.Shape.{expr_pieces, algorithm_word}
+use Rattle.query_text.specs.Shape.{expr_pieces}
 use Rattle.query_text.specs.Query.{written}
 use Rattle.query_text.specs.Printing.{cost_text, room_text}
 use Rattle.query_text.proofs.PutLaws.{query_text}
@@ -13,12 +13,12 @@ pub returns : goal.returns
 returns g c =
     let q = c.args.query.now in
     subst (Puts (g.K.Sink.held c.args.out.now) (g.K.Sink.held c.put_room.new.out) (g.K.Sink.faults c.args.out.now) (g.K.Sink.faults c.put_room.new.out) c.args.pieces.now c.put_room.new.pieces)
-    ((λ i. codes "top " ++ (decimal (c.from.ensures i) ++ (codes " by " ++ (text_of (expr_pieces (written q.names (c.root.ensures.tree i))) ++ (codes " using " ++ (algorithm_word q.algorithm ++ (cost_text q.cost ++ room_text q.room)))))))
+    ((λ i. codes "top " ++ (decimal (c.from.ensures i) ++ (codes " by " ++ (text_of (expr_pieces (written q.names (c.root.ensures.tree i))) ++ (codes " using " ++ (c.word.ensures i ++ (cost_text q.cost ++ room_text q.room)))))))
     ∙ query_text q)
     (puts_then _ _ _ _ _ _ _ _ _ _ _ c.put.ensures.puts
     (puts_then _ _ _ _ _ _ _ _ _ _ _ c.put_number.ensures.puts
     (puts_then _ _ _ _ _ _ _ _ _ _ _ c.put-2.ensures.puts
     (puts_then _ _ _ _ _ _ _ _ _ _ _ c.put_expr.ensures
     (puts_then _ _ _ _ _ _ _ _ _ _ _ c.put-3.ensures.puts
-    (puts_then _ _ _ _ _ _ _ _ _ _ _ c.put_algorithm.ensures
+    (puts_then _ _ _ _ _ _ _ _ _ _ _ c.put-4.ensures.puts
     (puts_then _ _ _ _ _ _ _ _ _ _ _ c.put_cost.ensures c.put_room.ensures)))))))
