@@ -1,5 +1,5 @@
 -- What a word stands for: the name that came last, a number below its range, and an operator.
-use Rattle.std.proofs.Common.{◌≡◌, ℕ, ◌<◌, Bool, true, false, nat_le, List, [], ◌∷◌, ◌++◌, length, codes, Option, Some, None, refl, ap, ◌∙◌, arith}
+use Rattle.std.proofs.Common.{◌≡◌, ℕ, ◌<◌, Bool, true, false, nat_le, List, [], ◌∷◌, ◌++◌, length, codes, Option, Some, None, refl, ap, subst, ◌∙◌, arith}
 use Rattle.std.specs.Prelude.{find, if◌then◌else◌}
 use Rattle.std.specs.Global.{Vec}
 use Rattle.std.specs.Option.{option_and_then}
@@ -10,9 +10,12 @@ use Rattle.query_text.specs.Bytes.{bytes_of}
 use Rattle.query_text.specs.Pieces.{Piece, IsInRange}
 use Rattle.query_text.specs.Query.{name_of}
 use Rattle.query_text.specs.Shape.{opening}
+use Rattle.query_text.specs.declared.fault.QueryFault.{QueryFault}
+use Rattle.query_text.specs.declared.fault.QueryFault.TheVariants as faults
 use Rattle.query_text.specs.declared.operator.Operator.{Operator}
 use Rattle.query_text.specs.declared.operator.Operator.TheVariants.{Min, Max, Sum, Median, Wsum}
 use Rattle.query_words.specs.Words.{opened_by}
+use Rattle.limits.specs.declared.TheConstants.{MAX_NUMBER}
 
 -- the name that was put last stands at the place of the count before
 pub last_name : (names : List (Vec ℕ)) (name : Vec ℕ) (more : List (List ℕ)) → name_of (bytes_of (names ++ name ∷ []) ++ more) (length names) ≡ name.items
@@ -35,6 +38,12 @@ below_least word least most number read below is within =
     let value = value_is (is_number word) (digits_value 10 word) most number read in
     let low = within.0 in
     omega arith
+
+-- a number is out of the range of counts where it is out of the range up to the greatest count
+pub count_missed : (word : List ℕ) (at most : ℕ) (fault : QueryFault) → most ≡ MAX_NUMBER
+    → (fault ≡ faults.Number at) × (is_number word ≡ true → IsInRange (Piece.number 1 most word) → ⊥)
+    → (fault ≡ faults.Number at) × (is_number word ≡ true → IsInRange (Piece.number 1 MAX_NUMBER word) → ⊥)
+count_missed word at most fault is missed = subst (λ n. (fault ≡ faults.Number at) × (is_number word ≡ true → IsInRange (Piece.number 1 n word) → ⊥)) is missed
 
 -- the operator by the words before it
 pub opens_max : (word : List ℕ) → bytes_eq word (codes "min(") ≡ false → bytes_eq word (codes "max(") ≡ true → opened_by word ≡ Some Max

@@ -5,7 +5,7 @@ ghost use Rattle.query_words.specs.Course.{course_view, standing_next, is_open, 
 ghost use Rattle.query_words.specs.Words.{opened_by};
 ghost use Rattle.query_words.specs.Front.{is_weighted};
 
-use super::named::opened_by;
+use super::named::{is_text, opened_by};
 use super::stage::Stage;
 use query_text::{Operator, QueryFault};
 use std::alloc::Global;
@@ -90,11 +90,11 @@ impl Course {
         match self.stage {
             Stage::Operand => self.leave_word(word),
             Stage::Behind => {
-                self.leave_operand(word == b",".as_slice());
+                self.leave_operand(is_text(word, b","));
                 Ok(())
             }
             Stage::Options => {
-                self.stage = option_stage(word == b" cost ".as_slice());
+                self.stage = option_stage(is_text(word, b" cost "));
                 Ok(())
             }
             stage => {

@@ -10,6 +10,6 @@ mod stage;
 mod words;
 
 pub use course::{Course, is_weighted};
-pub use named::{algorithm_of, count_within, list_of, number_within, opened_by};
+pub use named::{algorithm_of, count_within, is_text, list_of, number_within, opened_by};
 pub use stage::{Stage, may_end};
 pub use words::{is_whole, longest};

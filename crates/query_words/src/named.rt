@@ -15,11 +15,8 @@ use line_text::number_up_to;
 use query_text::{Algorithm, Operator, QueryFault};
 use std::alloc::Global;
 
-/// The algorithms that a query may name.
-const ALGORITHMS: [Algorithm; 3] = [Algorithm::Ta, Algorithm::Nra, Algorithm::Ca];
-
 /// Whether a word is this text.
-pub(crate) fn is_text(word: &[u8], text: &[u8]) -> bool
+pub fn is_text(word: &[u8], text: &[u8]) -> bool
     ensures { result ≡ bytes_eq word.now text.now }
 {
     word == text
@@ -29,9 +26,16 @@ pub(crate) fn is_text(word: &[u8], text: &[u8]) -> bool
 pub fn algorithm_of(word: &[u8]) -> Option<Algorithm>
     ensures { result ≡ find (λ algorithm. bytes_eq word.now (algorithm_word algorithm)) algorithms }
 {
-    ALGORITHMS
-        .into_iter()
-        .find(|algorithm| word == algorithm.word())
+    if is_text(word, b"ta") {
+        return Some(Algorithm::Ta);
+    }
+    if is_text(word, b"nra") {
+        return Some(Algorithm::Nra);
+    }
+    if is_text(word, b"ca") {
+        return Some(Algorithm::Ca);
+    }
+    None
 }
 
 /// The operator of a word with `(` behind it, if it is the word of one.
