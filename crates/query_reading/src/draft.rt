@@ -1,7 +1,6 @@
 //! A query as far as it is read.
 
-ghost use Rattle.std.specs.Prelude.{◌≡◌, ℕ, ◌≤◌, [], List, OnOk, IfErr, length, codes};
-ghost use Rattle.std.specs.Str.{bytes_eq};
+ghost use Rattle.std.specs.Prelude.{◌≡◌, ℕ, ◌≤◌, [], List, OnOk, IfErr, length};
 ghost use Rattle.query_words.specs.Words.{opened_by};
 ghost use Rattle.query_reading.specs.Draft.{names_of, Takes, Misses, IsDraftPlain};
 
@@ -9,7 +8,7 @@ use super::frame::{Frame, push};
 use limits::{MAX_LISTS, MAX_WEIGHT};
 use monotone_fn::{Costs, Node};
 use query_text::{Algorithm, QueryFault};
-use query_words::{Stage, algorithm_of, count_within, list_of, number_within, opened_by};
+use query_words::{Stage, algorithm_of, count_within, is_text, list_of, number_within, opened_by};
 use std::alloc::Global;
 use std::mem;
 
@@ -30,13 +29,6 @@ pub(crate) struct Draft {
     pub(crate) sorted: u32,
     pub(crate) cost: Option<Costs>,
     pub(crate) room: Option<u32>,
-}
-
-/// Whether a word is the comma between arguments.
-fn is_comma(word: &[u8]) -> bool
-    ensures { result ≡ bytes_eq word.now (codes ",") }
-{
-    word == b",".as_slice()
 }
 
 impl Draft {
@@ -78,7 +70,7 @@ impl Draft {
             Stage::Behind => self.take_behind(word),
             Stage::Weight => self.take_weight(word, at),
             Stage::Times => {
-                self.take_times()?;
+                self.take_times();
                 Ok(())
             }
             Stage::Algorithm => self.take_algorithm(word),
@@ -174,27 +166,26 @@ impl Draft {
             return Ok(());
         };
         let node = mem::replace(&mut self.operand, Node::List(0));
-        if is_comma(word) {
-            let longer = frame.longer(node)?;
-            push(&mut self.frames, longer)?;
+        if is_text(word, b",") {
+            let mut frame = frame;
+            frame.add(node)?;
+            self.frames.push_reserved(frame);
             return Ok(());
         }
         self.operand = frame.close(node)?;
         Ok(())
     }
 
-    fn take_times(&mut self) -> Result<(), QueryFault>
+    fn take_times(&mut self)
         requires { length (names_of self.old) ≤ MAX_LISTS }
-        ensures taken { OnOk result ((word : List ℕ) → Takes Stage.Times self.old self.new word) }
-        ensures missed { IfErr result (λ fault. fault ≡ QueryFault.Memory) }
+        ensures { (word : List ℕ) → Takes Stage.Times self.old self.new word }
     {
         let Some(frame) = self.frames.pop() else {
-            return Ok(());
+            return;
         };
         let mut frame = frame;
         frame.weight = Some(self.weight);
-        push(&mut self.frames, frame)?;
-        Ok(())
+        self.frames.push_reserved(frame);
     }
 
     /// Takes the name of a list as an operand.

@@ -40,7 +40,7 @@ impl Frame {
     }
 
     /// Adds an argument, with the weight that was read before it.
-    fn add(&mut self, node: Node) -> Result<(), QueryFault>
+    pub(crate) fn add(&mut self, node: Node) -> Result<(), QueryFault>
         ensures ok { OnOk result (AddsArgument self.old self.new (tree_of node)) }
         ensures err { IfErr result (λ fault. fault ≡ QueryFault.Memory) }
     {
@@ -52,16 +52,6 @@ impl Frame {
         }
         push(&mut self.nodes, node)?;
         Ok(())
-    }
-
-    /// The operator with one more argument.
-    pub(crate) fn longer(self, node: Node) -> Result<Frame, QueryFault>
-        ensures ok { IfOk result (λ longer. AddsArgument self longer (tree_of node)) }
-        ensures err { IfErr result (λ fault. fault ≡ QueryFault.Memory) }
-    {
-        let mut frame = self;
-        frame.add(node)?;
-        Ok(frame)
     }
 
     /// The expression of the operator over its arguments and one more, which comes last.

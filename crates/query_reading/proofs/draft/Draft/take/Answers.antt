@@ -1,4 +1,4 @@
 use Rattle.query_reading.proofs.draft.Draft.take.Goals as goal
 
-pub returns-in_ok-take_times-in-Times-clause-taken : goal.returns-in_ok-take_times-in-Times-clause-taken
-returns-in_ok-take_times-in-Times-clause-taken c = rw c.in-Times.is (c.in_ok-take_times-in-Times.ensures.taken c.args.word.now)
+pub returns-in-Times-clause-taken : goal.returns-in-Times-clause-taken
+returns-in-Times-clause-taken c = rw c.in-Times.is (c.take_times.ensures c.args.word.now)

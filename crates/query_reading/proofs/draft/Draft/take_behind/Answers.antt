@@ -4,15 +4,15 @@ use Rattle.query_reading.specs.Draft.{AddsArgument, Closes}
 use Rattle.query_reading.proofs.TakeLaws.{takes_comma, takes_close}
 use Rattle.query_reading.proofs.draft.Draft.take_behind.Goals as goal
 
-pub returns-then-is_comma-clause-taken : goal.returns-then-is_comma-clause-taken
-returns-then-is_comma-clause-taken c =
-    takes_comma c.args.self.now _ c.pop.new.self.items c.in-Some.frame c.in_ok-longer.longer c.args.word.now (sym c.is_comma.ensures ∙ c.if-is_comma.true) c.in-Some.ensures.items
-    c.in_ok-push.ensures.ok
-    (subst (λ n. AddsArgument c.in-Some.frame c.in_ok-longer.longer (tree_of n)) c.replace-node.ensures.value c.in_ok-longer.ensures.ok)
+pub returns-then-is_text-clause-taken : goal.returns-then-is_text-clause-taken
+returns-then-is_text-clause-taken c =
+    takes_comma c.args.self.now _ c.pop.new.self.items c.in-Some.frame c.add.new.self c.args.word.now (sym c.is_text.ensures ∙ c.if-is_text.true) c.in-Some.ensures.items
+    c.push_reserved.ensures.items
+    (subst (λ n. AddsArgument c.in-Some.frame c.add.new.self (tree_of n)) c.replace-node.ensures.value c.in_ok-add.ensures.ok)
     refl refl c.replace-node.ensures.after refl c.requires
 
 pub returns-clause-taken : goal.returns-clause-taken
 returns-clause-taken c =
-    takes_close c.args.self.now _ c.pop.new.self.items c.in-Some.frame c.args.word.now (sym c.is_comma.ensures ∙ c.if-is_comma.false) c.in-Some.ensures.items refl
+    takes_close c.args.self.now _ c.pop.new.self.items c.in-Some.frame c.args.word.now (sym c.is_text.ensures ∙ c.if-is_text.false) c.in-Some.ensures.items refl
     (subst (λ n. Closes c.in-Some.frame (tree_of n) (tree_of c.in_ok-self.field-0)) c.replace-node.ensures.value c.in_ok-self.ensures.ok)
     refl refl refl c.requires
