@@ -1,5 +1,5 @@
 -- What a draft shows with one more word.
-use Rattle.std.proofs.Common.{◌≡◌, ℕ, ◌≤◌, true, false, List, [], ◌∷◌, ◌++◌, map, Option, Some, None, unwrap_or, option_map, refl, sym, ap, ◌∙◌, subst, arith}
+use Rattle.std.proofs.Common.{◌≡◌, ℕ, ◌≤◌, true, false, List, [], ◌∷◌, ◌++◌, map, Option, Some, None, Result, Ok, Err, OnOk, unwrap_or, option_map, refl, sym, ap, ◌∙◌, subst, arith}
 use Rattle.std.specs.Fmt.{decimal}
 use Rattle.std.proofs.lemmas.Bool.{cond-true, cond-false}
 use Rattle.std.proofs.lemmas.List.{map-append}
@@ -19,6 +19,11 @@ use Rattle.query_text.specs.declared.operator.Operator.TheVariants.{Wsum}
 use Rattle.query_words.proofs.CompleteLaws.{no_weight, weighted_some}
 use Rattle.query_words.proofs.FrontLaws.{weighted_is}
 use Rattle.limits.specs.declared.TheConstants.{MAX_WEIGHT}
+
+-- what follows from what holds where a call succeeded
+pub where_ok : {A E P Q : Type 0} (result : Result A E) → (P → Q) → OnOk result P → OnOk result Q
+where_ok (Ok value) follows holds = follows holds
+where_ok (Err fault) follows holds = tt
 
 -- frames with equal parts are equal
 same_frame : (a b : front.Frame) → a.operator ≡ b.operator → a.done ≡ b.done → a.weight ≡ b.weight → a ≡ b

@@ -109,6 +109,14 @@ take_nothing : (xs : List ℕ) → take zero xs ≡ []
 take_nothing [] = refl
 take_nothing (x ∷ xs) = refl
 
+-- what a test of the longest front of the rest of a line tells of the line
+pub word_told : (line : List ℕ) (at count : ℕ) (s : Stage) (inside opened whole : Bool) (rest : List ℕ) → inside ≡ opened → rest ≡ drop at line
+    → IsLongest (class_at s inside) rest count → whole ≡ is_whole (class_at s inside) (take count rest)
+    → IsLongest (class_at s opened) (drop at line) count × (is_whole (class_at s opened) (take count (drop at line)) ≡ whole)
+word_told line at count s inside opened whole rest is same longest told =
+    subst (λ r. IsLongest (class_at s opened) r count × (is_whole (class_at s opened) (take count r) ≡ whole)) same
+    (subst (λ o. IsLongest (class_at s o) rest count × (is_whole (class_at s o) (take count rest) ≡ whole)) is (longest, sym told))
+
 -- a whole word has a byte
 pub whole_has_byte : (s : Stage) (inside : Bool) (count : ℕ) (rest : List ℕ) → is_whole (class_at s inside) (take count rest) ≡ true → 0 < count
 whole_has_byte s inside zero rest h = absurd (false≢true (sym (empty_not_whole s inside) ∙ (ap (is_whole (class_at s inside)) (sym (take_nothing rest)) ∙ h)))

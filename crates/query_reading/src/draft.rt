@@ -153,8 +153,7 @@ impl Draft {
         let Some(operator) = opened_by(word) else {
             return self.take_name(alloc, word, at);
         };
-        push(&mut self.frames, Frame::new(alloc, operator))?;
-        Ok(())
+        push(&mut self.frames, Frame::new(alloc, operator))
     }
 
     fn take_behind(&mut self, word: &[u8]) -> Result<(), QueryFault>
@@ -168,11 +167,12 @@ impl Draft {
         let node = mem::replace(&mut self.operand, Node::List(0));
         if is_text(word, b",") {
             let mut frame = frame;
-            frame.add(node)?;
+            let outcome = frame.add(node);
             self.frames.push_reserved(frame);
-            return Ok(());
+            return outcome;
         }
-        self.operand = frame.close(node)?;
+        let whole = frame.close(node)?;
+        self.set_operand(whole);
         Ok(())
     }
 
@@ -196,7 +196,14 @@ impl Draft {
         ensures missed { IfErr result (Misses Stage.Operand self.old word.now at) }
     {
         let list = list_of(alloc, &mut self.names, word, at)?;
-        self.operand = Node::List(list);
+        self.set_operand(Node::List(list));
         Ok(())
+    }
+
+    /// Keeps an operand in place of the one before it.
+    fn set_operand(&mut self, node: Node)
+        ensures { self.new ≡ record self.old { operand = node } }
+    {
+        drop(mem::replace(&mut self.operand, node));
     }
 }

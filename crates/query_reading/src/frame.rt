@@ -47,11 +47,9 @@ impl Frame {
         let weight = self.weight.take();
         if is_weighted(self.operator) {
             let weight = weight.unwrap_or(0);
-            push(&mut self.terms, Term { weight, node })?;
-            return Ok(());
+            return push(&mut self.terms, Term { weight, node });
         }
-        push(&mut self.nodes, node)?;
-        Ok(())
+        push(&mut self.nodes, node)
     }
 
     /// The expression of the operator over its arguments and one more, which comes last.

@@ -9,6 +9,8 @@ ghost use Rattle.query_reading.specs.Reached.{Reached, StepTakes, WordFound, IsD
 ghost use Rattle.query_reading.specs.Finish.{Finishes, IsSmall};
 ghost use Rattle.monotone_fn.specs.Shown.{tree_of};
 ghost use Rattle.monotone_fn.specs.Shape.{NumbersLists};
+ghost use Rattle.monotone_fn.specs.Limits.{Makes};
+ghost use Rattle.query_reading.specs.declared.draft.Draft.{Draft};
 
 use super::draft::Draft;
 use limits::{MAX_LINE, MAX_LISTS};
@@ -61,10 +63,19 @@ fn finish(alloc: Global, draft: Draft) -> Result<Query, QueryFault>
             cost,
             room,
         }),
-        Err(ExprFault::TooManyNodes { nodes }) => Err(QueryFault::TooManyNodes { nodes }),
-        Err(ExprFault::TooDeep { depth }) => Err(QueryFault::TooDeep { depth }),
-        Err(ExprFault::TooBig { node }) => Err(QueryFault::TooBig { node }),
-        Err(ExprFault::Memory) => Err(QueryFault::Memory),
+        Err(fault) => Err(refusal_of(fault)),
+    }
+}
+
+/// Why a line is refused whose expression is refused.
+fn refusal_of(fault: ExprFault) -> QueryFault
+    ensures { (draft : Draft) → Makes (tree_of draft.operand) (Err fault) → Finishes draft (Err result) }
+{
+    match fault {
+        ExprFault::TooManyNodes { nodes } => QueryFault::TooManyNodes { nodes },
+        ExprFault::TooDeep { depth } => QueryFault::TooDeep { depth },
+        ExprFault::TooBig { node } => QueryFault::TooBig { node },
+        ExprFault::Memory => QueryFault::Memory,
     }
 }
 
