@@ -1,6 +1,6 @@
 -- The trees of made queries are expressions.
-use Rattle.std.proofs.Common.{◌≡◌, ◌≤◌, ◌+◌, ℕ, zero, suc, Bool, true, false, None, refl, arith}
-use Rattle.std.specs.Prelude.{cond, ◌%◌, ◌==◌}
+use Rattle.std.proofs.Common.{◌≡◌, ◌≤◌, ◌+◌, ℕ, zero, suc, Bool, true, false, None, refl, sym, ap, arith}
+use Rattle.std.specs.Prelude.{cond, ◌%◌, ◌==◌, if◌then◌else◌}
 use Rattle.monotone_fn.specs.Tree.{Tree, trees, terms}
 use Rattle.monotone_fn.specs.Shape.{node_count, depth, list_count}
 use Rattle.monotone_fn.specs.Limits.{first_too_big}
@@ -16,6 +16,18 @@ each_tree P number lists least greatest sum median weighted =
     either : (test : Bool) {one other : Tree} → P one → P other → P (cond test one other)
     either true p q = p
     either false p q = q
+
+-- the tree whose turn it is
+abbrev tree_at : ℕ → ℕ → Tree
+tree_at turn lists =
+    if turn == 0 then Tree.Min (trees (list_trees lists))
+    else (if turn == 1 then Tree.Max (trees (list_trees lists))
+    else (if turn == 2 then Tree.Sum (trees (list_trees lists))
+    else (if turn == 3 then Tree.Median (trees (list_trees lists))
+    else Tree.Wsum (terms (list_terms lists)))))
+
+pub made_in_turn : (number lists turn : ℕ) → number % 5 ≡ turn → tree_at turn lists ≡ made_tree number lists
+made_in_turn number lists turn is = ap (λ n. tree_at n lists) (sym is)
 
 -- what holds of 1 to 8 lists
 pub each_count : (P : ℕ → Type 0) → P 1 → P 2 → P 3 → P 4 → P 5 → P 6 → P 7 → P 8 → (lists : ℕ) → 1 ≤ lists → lists ≤ 8 → P lists
