@@ -10,10 +10,10 @@ pub returns-then-is_text-clause-taken : goal.returns-then-is_text-clause-taken
 returns-then-is_text-clause-taken c =
     where_ok c.add-outcome.result
     (λ (added : AddsArgument c.in-Some.frame c.add-outcome.new.self (tree_of c.replace-node.result)).
-        takes_comma c.args.self.now _ c.pop.new.self.items c.in-Some.frame c.add-outcome.new.self c.args.word.now (sym c.is_text.ensures ∙ c.if-is_text.true) c.in-Some.ensures.items
-        c.push_reserved.ensures.items
-        (subst (λ n. AddsArgument c.in-Some.frame c.add-outcome.new.self (tree_of n)) c.replace-node.ensures.value added)
-        refl refl c.replace-node.ensures.after refl c.requires)
+    takes_comma c.args.self.now _ c.pop.new.self.items c.in-Some.frame c.add-outcome.new.self c.args.word.now (sym c.is_text.ensures ∙ c.if-is_text.true) c.in-Some.ensures.items
+    c.push_reserved.ensures.items
+    (subst (λ n. AddsArgument c.in-Some.frame c.add-outcome.new.self (tree_of n)) c.replace-node.ensures.value added)
+    refl refl c.replace-node.ensures.after refl c.requires)
     c.add-outcome.ensures.ok
 
 pub returns-clause-taken : goal.returns-clause-taken
