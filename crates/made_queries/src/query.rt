@@ -26,12 +26,12 @@ fn made_names(alloc: Global, lists: u8) -> Result<Names, Memory>
     requires { lists ≤ MAX_LISTS }
     ensures { IfOk result (λ names. names ≡ list_names lists) }
 {
-    let mut names = Vec::new(alloc);
+    let Ok(mut names) = Vec::with_capacity(alloc, usize::from(lists)) else {
+        return Err(Memory);
+    };
     for list in 0..lists {
         let name = name_of(alloc, list + 1)?;
-        let Ok(()) = names.push(name) else {
-            return Err(Memory);
-        };
+        names.push_reserved(name);
     }
     Ok(Names::from_vec(names))
 }

@@ -1,7 +1,11 @@
-use Rattle.std.proofs.Common.{◌≡◌}
+use Rattle.std.proofs.Common.{◌≡◌, ◌≤◌, vec_len, vec_capacity}
 use Rattle.query_text.specs.Bytes.{bytes_of}
 use Rattle.table_text.specs.Numbered.{list_names}
 use Rattle.made_queries.proofs.query.made_names.Given as goal
 
 abbrev pub invariant-loop-list : goal.invariant-loop-list
-invariant-loop-list l = bytes_of l.names.items ≡ list_names l.list
+invariant-loop-list l = record {
+  names : bytes_of l.names.items ≡ list_names l.list;
+  many : vec_len l.names ≡ l.list;
+  room : l.lists ≤ vec_capacity l.names;
+}
