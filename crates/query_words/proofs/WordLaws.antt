@@ -1,5 +1,5 @@
 -- A front of what begins a word begins one too, and a word is read whole.
-use Rattle.std.proofs.Common.{◌≡◌, ℕ, ◌<◌, Bool, true, false, cond, ◌&&◌, ◌||◌, eqb, List, [], ◌∷◌, ◌++◌, length, map, Some, None, is_some, refl, sym, ap, ◌∙◌, subst, ⊎_elim, arith, eq-eqb, append_assoc}
+use Rattle.std.proofs.Common.{◌≡◌, ℕ, ◌<◌, Bool, true, false, cond, ◌&&◌, ◌||◌, eqb, List, [], ◌∷◌, ◌++◌, length, map, get_or, drop, Some, None, is_some, refl, sym, ap, ◌∙◌, subst, ⊎_elim, arith, eq-eqb, append_assoc}
 use Rattle.std.specs.List.{list_any, list_all, find}
 use Rattle.std.specs.Str.{bytes_eq, all_ascii_digits}
 use Rattle.std.specs.Char.{is_ascii_digit, is_ascii_alphabetic}
@@ -95,12 +95,12 @@ opening_begins Wsum = refl
 
 fronts_begin : (before w u v : List ℕ) → u ++ v ≡ w → all_begin before w ≡ true → begins Class.operand (before ++ u) ≡ true
 fronts_begin before [] [] v e h = ap (begins Class.operand) (append-nil before) ∙ h
-fronts_begin before [] (x ∷ u) v e h = absurd cc
+fronts_begin before [] (x ∷ u) v e h = absurd (false≢true (ap is_empty e))
 fronts_begin before (y ∷ w) [] v e h = ap (begins Class.operand) (append-nil before) ∙ (and_parts _ _ h).0
 fronts_begin before (y ∷ w) (x ∷ u) v e h =
-    let same : x ≡ y = cc in
-    let rest : u ++ v ≡ w = cc in
-    let ih = fronts_begin (before ++ y ∷ []) w u v rest (and_parts (begins Class.operand before) _ h).1 in
+    let same : x ≡ y = ap (λ z. get_or z 0 0) e in
+    let rest : u ++ v ≡ w = ap (drop 1) e in
+    let ih : begins Class.operand ((before ++ y ∷ []) ++ u) ≡ true = fronts_begin (before ++ y ∷ []) w u v rest (and_parts (begins Class.operand before) _ h).1 in
     ap (λ z. begins Class.operand (before ++ z ∷ u)) same ∙ (ap (begins Class.operand) (sym (append_assoc before (y ∷ []) u)) ∙ ih)
 
 -- a front of what begins a word begins one too
