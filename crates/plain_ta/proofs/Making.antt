@@ -70,6 +70,12 @@ flat_more f xs i d before old new l e h =
     e ∙ ap (λ (ys : List Access). ys ++ f (get_or xs i d)) h ∙ append_assoc before (flat_map f (take i xs)) (f (get_or xs i d))
     ∙ ap (λ (ys : List Access). before ++ ys) (sym whole)
 
+-- one more of those that are made
+pub map_more : {X Y : Type 0} → (f : X → Y) (xs : List X) (i : ℕ) (d : X) (old new : List Y) → i < length xs → new ≡ old ++ f (get_or xs i d) ∷ []
+    → old ≡ map f (take i xs) → new ≡ map f (take (i + 1) xs)
+map_more f xs i d old new l e h =
+    e ∙ ap (λ ys. ys ++ f (get_or xs i d) ∷ []) h ∙ sym (map-append f (take i xs) (get_or xs i d ∷ [])) ∙ ap (map f) (sym (take_more xs i d l))
+
 -- one more depth
 pub run_more : (D : List (List Row)) (old new : List Access) (depth : ℕ) → new ≡ old ++ ta_block D (depth + 1) → old ≡ ta_run_to D depth
     → new ≡ ta_run_to D (depth + 1)

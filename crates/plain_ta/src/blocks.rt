@@ -51,14 +51,10 @@ fn objects_at(alloc: Global, lists: &[MemList], depth: u32) -> Result<Vec<u32>, 
 fn new_objects(alloc: Global, lists: &[MemList], depth: u32) -> Result<Vec<u32>, Memory>
     ensures { IfOk result (λ objects. objects.items ≡ new_objects lists.now depth) }
 {
-    let objects = objects_at(alloc, lists, depth)?;
     let above = depth.saturating_sub(1);
-    let new = objects
-        .iter()
-        .filter(|object| !stands(lists, above, **object))
-        .copied()
-        .collect(alloc)?;
-    Ok(new)
+    let mut objects = objects_at(alloc, lists, depth)?;
+    objects.retain(|object| !stands(lists, above, *object));
+    Ok(objects)
 }
 
 /// Adds the random access of an object in a list where it stands lower than the depth.

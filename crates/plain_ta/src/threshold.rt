@@ -17,20 +17,21 @@ use std::alloc::Global;
 pub fn stands(lists: &[MemList], depth: u32, object: u32) -> bool
     ensures { result ≡ stands lists.now depth object }
 {
-    lists.iter().any(|list| place_in(list, object) < depth)
+    for list in lists {
+        if place_in(list, object) < depth {
+            return true;
+        }
+    }
+    false
 }
 
 /// The objects that stand in the first places of some list.
 fn objects_to(alloc: Global, lists: &[MemList], depth: u32) -> Result<Vec<u32>, Memory>
     ensures { IfOk result (λ objects. objects.items ≡ objects_to lists.now depth) }
 {
-    let objects = objects_of(alloc, lists)?;
-    let standing = objects
-        .iter()
-        .filter(|object| stands(lists, depth, **object))
-        .copied()
-        .collect(alloc)?;
-    Ok(standing)
+    let mut objects = objects_of(alloc, lists)?;
+    objects.retain(|object| stands(lists, depth, *object));
+    Ok(objects)
 }
 
 /// The grades of at most eight lists at a depth.
@@ -66,12 +67,9 @@ fn ta_stop(
     ensures { IfOk result (λ stops. stops ≡ ta_stop (value expr.now) k lists.now depth) }
 {
     let threshold = threshold_at(lists, expr, depth);
-    let objects = objects_to(alloc, lists, depth)?;
-    let enough = objects
-        .iter()
-        .filter(|object| threshold <= aggregate(lists, expr, **object))
-        .count();
-    Ok(k as usize <= enough)
+    let mut objects = objects_to(alloc, lists, depth)?;
+    objects.retain(|object| threshold <= aggregate(lists, expr, *object));
+    Ok(k as usize <= objects.len())
 }
 
 /// The least depth at which the algorithm stops.
@@ -111,10 +109,10 @@ pub fn items_of(
     requires { IsPosed lists.now expr.now }
     ensures { IfOk result (λ items. items.items ≡ map (scored (value expr.now) lists.now) objects.now) }
 {
-    let items = objects
-        .iter()
-        .map(|object| scored(lists, expr, *object))
-        .collect(alloc)?;
+    let mut items = Vec::new(alloc);
+    for object in objects {
+        items.push(scored(lists, expr, *object))?;
+    }
     Ok(items)
 }
 
