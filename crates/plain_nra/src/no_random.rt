@@ -24,10 +24,10 @@ fn seen_items(alloc: Global, accesses: &[Access], expr: &Expr) -> Result<Vec<Ite
     ensures { IfOk result (λ items. items.items ≡ seen_items (value expr.now) (list_count expr.now) accesses.now) }
 {
     let objects = seen_objects(alloc, accesses)?;
-    let items = objects
-        .iter()
-        .map(|object| bounded(accesses, expr, *object))
-        .collect(alloc)?;
+    let mut items = Vec::new(alloc);
+    for object in &objects {
+        items.push(bounded(accesses, expr, *object))?;
+    }
     Ok(items)
 }
 
@@ -73,7 +73,12 @@ pub fn exceeds(bound: Option<u64>, number: u64) -> bool
 fn is_in(items: &[Item], object: u32) -> bool
     ensures { result ≡ list_any (λ item. item.object == object) items.now }
 {
-    items.iter().any(|item| item.object == object)
+    for item in items {
+        if item.object == object {
+            return true;
+        }
+    }
+    false
 }
 
 /// Whether none of these objects outside the first k is viable, where this is the k-th largest low.
@@ -103,11 +108,12 @@ pub fn is_quiet(
     requires { AreCapped accesses.now }
     ensures { IfOk result (λ quiet. quiet ≡ is_quiet (value expr.now) k (list_count expr.now) lists.now accesses.now) }
 {
-    let seen = seen_objects(alloc, accesses)?;
-    let first = first_seen(alloc, accesses, expr, k)?;
     let bound = kth_low(alloc, accesses, expr, k)?;
-    let objects = objects_of(alloc, lists)?;
+    let seen = seen_objects(alloc, accesses)?;
     let enough_seen = k as usize <= seen.len();
+    drop(seen);
+    let first = first_seen(alloc, accesses, expr, k)?;
+    let objects = objects_of(alloc, lists)?;
     let none_viable = none_viable(accesses, expr, &first, bound, &objects);
     Ok(enough_seen && none_viable)
 }
