@@ -15,23 +15,25 @@ pub fn one_into<K: Sink>(
     failing: &[u64],
     out: &mut K,
 ) -> Option<Status> {
-    let mut input = MemIntake::make(alloc, input, PIECE, failing).ok()?;
-    let status = one(alloc, &mut input, out);
-    drop(input);
-    Some(status)
+    match MemIntake::make(alloc, input, PIECE, failing) {
+        Ok(mut input) => Some(one(alloc, &mut input, out)),
+        Err(_) => None,
+    }
 }
 
 /// How `judge` ends on this input, into a stream. None where there is no memory for the input.
 pub fn judge_into<K: Sink>(alloc: Global, input: &[u8], out: &mut K) -> Option<Status> {
-    let mut input = MemIntake::make(alloc, input, PIECE, &[]).ok()?;
-    let status = judge(alloc, &mut input, out);
-    drop(input);
-    Some(status)
+    match MemIntake::make(alloc, input, PIECE, &[]) {
+        Ok(mut input) => Some(judge(alloc, &mut input, out)),
+        Err(_) => None,
+    }
 }
 
 /// How `one` ends on this input, and what it writes. There is room for so many bytes. None where there is no memory.
 pub fn one_of(alloc: Global, input: &[u8], room: u32) -> Option<(Status, MemSink)> {
-    let mut out = MemSink::make(alloc, room, &[]).ok()?;
+    let Ok(mut out) = MemSink::make(alloc, room, &[]) else {
+        return None;
+    };
     match one_into(alloc, input, &[], &mut out) {
         Some(status) => Some((status, out)),
         None => {
