@@ -1,7 +1,7 @@
 -- What is kept of the seen objects, through a note and through a test of the stop or a choice.
 use Rattle.std.proofs.Common.{◌≡◌, ℕ, length, arith, ◌∙◌}
-use Rattle.late_bounds.specs.declared.late.LateBounds.{LateBounds}
-use Rattle.late_bounds.specs.Late.{KeepsLate, WasLate}
+use Rattle.nra_core.specs.declared.late.LateBounds.{LateBounds}
+use Rattle.nra_core.specs.LatePlaces.{KeepsLate, WasLate}
 use Rattle.late_choice.specs.declared.open_highs.OpenHighs.{OpenHighs}
 use Rattle.late_choice.specs.Open.{KeepsOpen, WasOpen}
 use Rattle.machine_base.specs.declared.base.Base.{Base}

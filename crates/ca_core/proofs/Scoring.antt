@@ -23,7 +23,7 @@ use Rattle.topk_theory.proofs.BoundsLaws.{grades_by_number}
 use Rattle.topk_theory.proofs.ListNumbers.{number_in, number_below}
 use Rattle.topk_theory.proofs.ThresholdLists.{contains_filter, map_same}
 use Rattle.topk_theory.proofs.InOrder.{length-in_order}
-use Rattle.nra_theory.proofs.Stop.{in_order_from}
+use Rattle.nra_core.proofs.Stop.{in_order_from}
 use Rattle.topk_theory.proofs.FirstK.{first_k-is}
 use Rattle.topk_theory.proofs.NoRandomLaws.{items_distinct}
 use Rattle.topk_theory.proofs.CombinedLaws.{ca_answer_top}

@@ -24,8 +24,8 @@ use Rattle.topk_theory.proofs.NoRandomTop.{object_of_seen}
 use Rattle.topk_theory.proofs.ThresholdTop.{objects_from_distinct}
 use Rattle.topk_theory.proofs.ThresholdRun.{seen_more}
 use Rattle.topk_theory.proofs.CombinedChoice.{choice_law}
-use Rattle.nra_theory.specs.Quiet.{is_quiet_seen}
-use Rattle.nra_theory.proofs.Shown.{quiet_same}
+use Rattle.nra_core.specs.Quiet.{is_quiet_seen}
+use Rattle.nra_core.proofs.Shown.{quiet_same}
 use Rattle.late_choice.specs.Open.{next_unknown}
 use Rattle.late_choice.proofs.Grades.{no_unknown}
 use Rattle.machine_base.specs.Base.{IsHeld, MayFollow}

@@ -3,11 +3,11 @@
 ghost use Rattle.std.specs.Prelude.{◌≡◌, ◌≤◌, ℕ, [], IfOk};
 ghost use Rattle.monotone_fn.specs.Tree.{Tree};
 ghost use Rattle.monotone_fn.specs.Value.{value};
-ghost use Rattle.nra_theory.specs.Quiet.{is_quiet_seen};
+ghost use Rattle.nra_core.specs.Quiet.{is_quiet_seen};
 ghost use Rattle.machine_base.specs.Base.{Holds};
 ghost use Rattle.ca_core.specs.Seen.{AreRenewed, KeepsSeen, WasRenewed};
 
-use late_bounds::LateBounds;
+use nra_core::LateBounds;
 use late_choice::OpenHighs;
 use limits::MAX_OBJECTS;
 use machine_base::{Base, Memory};

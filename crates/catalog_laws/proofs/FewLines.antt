@@ -10,7 +10,7 @@ use Rattle.std.proofs.lemmas.Option.{same_Some}
 use Rattle.std.proofs.lemmas.List.{reverse-append}
 use Rattle.std.proofs.lemmas.List.Sums.{sum_by-append, sum_by-cons}
 use Rattle.topk_theory.proofs.AgreementLists.{contains_here, contains_there}
-use Rattle.nra_theory.proofs.Counts.{count_first, count_le, count_no, count_none, count_yes}
+use Rattle.nra_core.proofs.Counts.{count_first, count_le, count_no, count_none, count_yes}
 use Rattle.access_log.specs.declared.core_fault.CoreFault.TheVariants as core
 use Rattle.source_api.specs.declared.counts.Counts.{Counts}
 use Rattle.source_log.specs.declared.entry.FailKind.{FailKind}

@@ -19,7 +19,7 @@ use Rattle.monotone_fn.proofs.Laws.{value-monotone}
 use Rattle.access_log.specs.Log.{Log, IsConsistent}
 use Rattle.access_records.proofs.RecordKept.{placed}
 use Rattle.indexed_heap.specs.Ranks.{rank_at}
-use Rattle.nra_theory.proofs.Renewed.{high_falls}
+use Rattle.nra_core.proofs.Renewed.{high_falls}
 use Rattle.late_choice.specs.declared.kept_high.KeptHigh.{KeptHigh}
 use Rattle.late_choice.specs.declared.open_highs.OpenHighs.{OpenHighs}
 use Rattle.late_choice.specs.Open.{next_unknown, IsOpen, AreOpen, WasOpen}

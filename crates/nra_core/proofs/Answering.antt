@@ -27,8 +27,8 @@ use Rattle.nra_core.specs.declared.place.Place.{Place}
 use Rattle.nra_core.specs.Place.{need_at}
 use Rattle.nra_core.specs.Kept.{Keeps}
 use Rattle.nra_core.specs.Machine.{IsAnswer, HaveTrueBounds}
-use Rattle.nra_theory.proofs.SeenItems.{of_seen}
-use Rattle.late_bounds.specs.declared.late.LateBounds.{LateBounds}
+use Rattle.nra_core.proofs.SeenItems.{of_seen}
+use Rattle.nra_core.specs.declared.late.LateBounds.{LateBounds}
 use Rattle.nra_core.proofs.Steps.{run_of}
 use Rattle.nra_core.proofs.Runs.{need_of_row}
 

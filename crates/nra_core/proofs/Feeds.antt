@@ -28,12 +28,12 @@ use Rattle.machine_base.proofs.Reserve.{row_can}
 use Rattle.machine_base.proofs.Depths.{first_reached}
 use Rattle.nra_core.specs.declared.place.Place.{Place}
 use Rattle.nra_core.specs.Place.{need_at, place_after}
-use Rattle.nra_theory.specs.Quiet.{is_quiet_seen}
+use Rattle.nra_core.specs.Quiet.{is_quiet_seen}
 use Rattle.nra_core.specs.OnTable.{quiet_at, OnRow}
 use Rattle.nra_core.specs.Kept.{IsKept, Keeps, Stands}
-use Rattle.nra_theory.proofs.Shown.{quiet_same}
-use Rattle.late_bounds.specs.declared.late.LateBounds.{LateBounds}
-use Rattle.late_bounds.specs.Late.{IsLateAfter, WasLate}
+use Rattle.nra_core.proofs.Shown.{quiet_same}
+use Rattle.nra_core.specs.declared.late.LateBounds.{LateBounds}
+use Rattle.nra_core.specs.LatePlaces.{IsLateAfter, WasLate}
 use Rattle.nra_core.proofs.Steps.{on_row, row_of, list_follows, depth_made, run_made, depth_follows}
 use Rattle.nra_core.proofs.Runs.{need_of_row, need_when_done, kept_depth}
 

@@ -2,7 +2,7 @@
 use Rattle.std.proofs.Common.{◌≡◌, ℕ, ◌≤◌, inl, inr, true, false, cond, List, sym, ap, subst, arith}
 use Rattle.std.proofs.lemmas.Bool.{cases_Bool}
 use Rattle.ranked_list.specs.declared.row.Row.{Row}
-use Rattle.late_bounds.specs.declared.late.LateBounds.{LateBounds}
+use Rattle.nra_core.specs.declared.late.LateBounds.{LateBounds}
 use Rattle.ranked_list.specs.declared.need.Need.TheVariants.{Row as RowAt, Done}
 use Rattle.monotone_fn.specs.Value.{value}
 use Rattle.monotone_fn.proofs.Laws.{value-monotone}

@@ -6,8 +6,8 @@ use Rattle.monotone_fn.specs.Tree.{Tree}
 use Rattle.monotone_fn.specs.Value.{value}
 use Rattle.topk_theory.specs.declared.access.Access.{Access}
 use Rattle.topk_theory.specs.Transcript.{Agrees, seen_objects}
-use Rattle.late_bounds.specs.declared.late.LateBounds.{LateBounds}
-use Rattle.late_bounds.specs.Late.{IsLateAfter}
+use Rattle.nra_core.specs.declared.late.LateBounds.{LateBounds}
+use Rattle.nra_core.specs.LatePlaces.{IsLateAfter}
 use Rattle.machine_base.specs.declared.base.Base.{Base}
 use Rattle.machine_base.specs.Base.{IsHeld, IsReserved}
 use Rattle.nra_core.specs.declared.place.Place.{Place}

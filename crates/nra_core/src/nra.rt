@@ -3,13 +3,13 @@
 ghost use Rattle.std.specs.Prelude.{◌≡◌, ◌<◌, ◌≤◌};
 ghost use Rattle.monotone_fn.specs.Value.{value};
 ghost use Rattle.machine_base.specs.Base.{Holds};
-ghost use Rattle.nra_theory.specs.Quiet.{is_quiet_seen};
-ghost use Rattle.late_bounds.specs.Late.{KeepsLate};
+ghost use Rattle.nra_core.specs.Quiet.{is_quiet_seen};
+ghost use Rattle.nra_core.specs.LatePlaces.{KeepsLate};
 ghost use Rattle.nra_core.specs.Place.{place_after};
 
+use super::late::LateBounds;
 use super::place::Place;
 use access_log::{Access, Answer, CoreFault, Item, Items, Transcript};
-use late_bounds::LateBounds;
 use limits::MAX_OBJECTS;
 use machine_base::{Base, Memory, Need};
 use monotone_fn::{Costs, Expr};

@@ -3,7 +3,7 @@ use Rattle.std.proofs.Common.{◌≡◌, ◌≤◌, ◌<◌, ◌+◌, ◌==◌, 
 use Rattle.std.proofs.lemmas.Bool.{cases_lt}
 use Rattle.std.proofs.lemmas.Bool.Decides.{eqb_tells}
 use Rattle.std.proofs.lemmas.List.Elements.{Contains-append_right, Contains-append_cases}
-use Rattle.nra_theory.proofs.Counts.{count_append}
+use Rattle.nra_core.proofs.Counts.{count_append}
 use Rattle.ranked_list.specs.declared.need.Need.{Need}
 use Rattle.ranked_list.specs.declared.need.Need.TheVariants as need
 use Rattle.turn_lock.specs.declared.known.Known.{Known}

@@ -1,6 +1,6 @@
 use Rattle.std.proofs.Common.{ap, refl, ◌∙◌, arith}
 use Rattle.monotone_fn.specs.Value.{value}
-use Rattle.nra_theory.specs.Quiet.{is_quiet_seen}
+use Rattle.nra_core.specs.Quiet.{is_quiet_seen}
 use Rattle.nra_core.proofs.Feeds.{place_made, place_below}
 use Rattle.nra_core.proofs.nra.follow.Goals as goal
 

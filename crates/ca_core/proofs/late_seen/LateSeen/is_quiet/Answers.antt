@@ -1,6 +1,6 @@
 use Rattle.std.proofs.Common.{ap, ◌∙◌}
 use Rattle.monotone_fn.specs.Value.{value}
-use Rattle.nra_theory.specs.Quiet.{is_quiet_seen}
+use Rattle.nra_core.specs.Quiet.{is_quiet_seen}
 use Rattle.ca_core.proofs.Renewing.{seen_tested}
 use Rattle.ca_core.proofs.late_seen.LateSeen.is_quiet.Goals as goal
 

@@ -1,9 +1,0 @@
-pub mod Beginning
-pub mod Places
-pub mod Noted
-pub mod Noting
-pub mod Walked
-pub mod Least
-pub mod Bottoms
-pub mod Within
-pub mod Collected

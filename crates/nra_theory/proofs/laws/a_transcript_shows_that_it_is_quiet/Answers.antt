@@ -1,5 +1,0 @@
-use Rattle.nra_theory.proofs.Shown.{quiet_same}
-use Rattle.nra_theory.proofs.laws.a_transcript_shows_that_it_is_quiet.Goals as goal
-
-pub returns : goal.returns
-returns c = quiet_same

@@ -1,5 +1,0 @@
-use Rattle.nra_theory.proofs.Ending.{first_in_parts}
-use Rattle.nra_theory.proofs.laws.first_are_those_above_and_the_first_tied.Goals as goal
-
-pub returns : goal.returns
-returns c = first_in_parts
