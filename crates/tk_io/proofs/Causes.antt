@@ -1,11 +1,11 @@
 -- What a call of the outside says of its count of faults.
-use Rattle.std.proofs.Common.{◌≡◌, ℕ, ◌<◌, ◌^◌, Bool, true, false, cond, eqb, List, ◌++◌, Result, Ok, Err, refl, ap, ◌∙◌, subst, arith}
+use Rattle.std.proofs.Common.{◌≡◌, ℕ, ◌<◌, ◌^◌, Bool, true, false, eqb, List, Result, Ok, Err, refl, subst, arith}
 use Rattle.std.proofs.lemmas.Bool.{false≢true, true≢false}
 use Rattle.std.proofs.lemmas.Bool.Decides.{Decides-eqb}
 use Rattle.std.proofs.lemmas.List.Elements.{Decides-contains, contains_decides}
 use Rattle.std.specs.Bool.{Decides}
 use Rattle.std.specs.List.{Contains, IsAnyAnswer}
-use Rattle.std.specs.Result.{is_err, is_ok}
+use Rattle.std.specs.Result.{is_err}
 use Rattle.tk_io.specs.Faults.{HasCause, counted}
 
 -- a call that failed, and was counted
@@ -25,8 +25,3 @@ pub fails_by : (seen fails : List ℕ) (called calls : ℕ) (test known : Bool) 
 fails_by seen fails called calls test known found same once is =
     subst (λ b. Decides b (Contains fails (counted calls))) is (subst (λ n. Decides test (Contains fails n)) once
     (subst (λ xs. Decides test (Contains xs called)) same (Decides-contains seen called test (contains_decides eqb Decides-eqb seen called test found))))
-
--- what a vector holds after a call that gave `Ok`
-pub appended : {T E : Type 0} (result : Result T E) (value : T) (old now more : List ℕ) → result ≡ Ok value → now ≡ cond (is_ok result) (old ++ more) old
-    → now ≡ old ++ more
-appended {T} {E} result value old now more is gives = gives ∙ ap (λ (r : Result T E). cond {A = List ℕ} (is_ok r) (old ++ more) old) is

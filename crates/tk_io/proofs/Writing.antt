@@ -4,8 +4,6 @@ use Rattle.std.proofs.Math.Seq.{take-add, take-length}
 use Rattle.std.proofs.lemmas.List.{take-append-drop, length-drop}
 use Rattle.std.specs.Io.KnownBytes.{Appends, Keeps}
 use Rattle.std.proofs.KnownBytes.{Appends-trans, Appends-kept}
-use Rattle.tk_io.specs.Faults.{counted}
-use Rattle.tk_io.specs.InMemory.{Outgoing, failed_write, write_of}
 use Rattle.tk_io.specs.Whole.{TookFront}
 
 -- a front and then a piece of the rest are a longer front
@@ -29,19 +27,3 @@ took_after None mid now bytes kept taken = tt
 took_after (Some xs) None now bytes kept taken = absurd kept
 took_after (Some xs) (Some ys) None bytes kept taken = absurd taken
 took_after (Some xs) (Some ys) (Some zs) bytes kept taken = taken ∙ ap (λ (front : List ℕ). front ++ bytes) kept
-
--- a stream in memory after a call that took bytes
-pub writes_on : (held now bytes fails : List ℕ) (room calls called faults : ℕ) → now ≡ held ++ bytes → called ≡ counted calls
-    → (let m : Outgoing = record { held = now; room = room; fails = fails; calls = called; faults = faults } in m)
-    ≡ write_of bytes (record { held = held; room = room; fails = fails; calls = calls; faults = faults })
-writes_on held now bytes fails room calls called faults taken once =
-    ap (λ (xs : List ℕ). let m : Outgoing = record { held = xs; room = room; fails = fails; calls = called; faults = faults } in m) taken
-    ∙ ap (λ (n : ℕ). let m : Outgoing = record { held = held ++ bytes; room = room; fails = fails; calls = n; faults = faults } in m) once
-
--- and after one that failed
-pub writes_none : (held fails : List ℕ) (room calls called faults failed : ℕ) → called ≡ counted calls → failed ≡ counted faults
-    → (let m : Outgoing = record { held = held; room = room; fails = fails; calls = called; faults = failed } in m)
-    ≡ failed_write (record { held = held; room = room; fails = fails; calls = calls; faults = faults })
-writes_none held fails room calls called faults failed once more =
-    ap (λ (n : ℕ). let m : Outgoing = record { held = held; room = room; fails = fails; calls = n; faults = failed } in m) once
-    ∙ ap (λ (n : ℕ). let m : Outgoing = record { held = held; room = room; fails = fails; calls = counted calls; faults = n } in m) more
