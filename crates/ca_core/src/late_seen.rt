@@ -7,10 +7,10 @@ ghost use Rattle.nra_core.specs.Quiet.{is_quiet_seen};
 ghost use Rattle.machine_base.specs.Base.{Holds};
 ghost use Rattle.ca_core.specs.Seen.{AreRenewed, KeepsSeen, WasRenewed};
 
-use nra_core::LateBounds;
 use late_choice::OpenHighs;
 use limits::MAX_OBJECTS;
 use machine_base::{Base, Memory};
+use nra_core::LateBounds;
 use std::alloc::Global;
 
 /// The bounds that decide the stop, and the highs that decide a random phase, both renewed late.

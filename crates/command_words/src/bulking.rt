@@ -6,8 +6,8 @@ ghost use Rattle.command_words.specs.Bulking.{bulk_options, bulk_in, AreBulkOpti
 
 use super::making::{self, MakeOptions, number_of};
 use super::running::{RunSettings, settings_of};
-use clap::ArgMatches;
 use super::{Argument, Words, WordsFault, found_in};
+use clap::ArgMatches;
 use limits::MAX_QUERIES;
 use std::alloc::Global;
 

@@ -15,7 +15,6 @@ mod running;
 mod words;
 
 use arguments::{Argument, found_in};
-
 pub use bulking::BulkOptions;
 pub use command::{Command, read_command};
 pub use fault::WordsFault;

@@ -5,8 +5,8 @@ ghost use Rattle.clap.specs.Words.{rows_of, found_of};
 ghost use Rattle.command_words.specs.Making.{make_options, options_in, AreMakeOptions};
 ghost use Rattle.command_words.specs.OptionNumbers.{number_in, number_given};
 
-use clap::ArgMatches;
 use super::{Argument, Words, WordsFault, found_in};
+use clap::ArgMatches;
 use limits::{MAX_LISTS, MAX_OBJECTS, MAX_START};
 use line_text::number_up_to;
 use std::alloc::Global;

@@ -6,8 +6,8 @@ ghost use Rattle.command_words.specs.OptionNumbers.{free_number_in};
 ghost use Rattle.command_words.specs.Running.{run_options, run_in, settings_in, AreRunSettings};
 
 use super::making::number_given;
-use clap::ArgMatches;
 use super::{Argument, Words, WordsFault, found_in};
+use clap::ArgMatches;
 use std::alloc::{AllocError, Global};
 use std::marker::Model;
 
