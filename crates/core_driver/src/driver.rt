@@ -23,8 +23,11 @@ pub enum NoAnswer {
 }
 
 fn row_at(lists: Lists<'_>, list: u8, depth: u32) -> Option<Row> {
+    if depth == 0 {
+        return None;
+    }
     let rows = lists.get(list as usize)?;
-    let row = rows.get((depth as usize).saturating_sub(1))?;
+    let row = rows.get(depth as usize - 1)?;
     Some(Row {
         object: row.0,
         grade: row.1,
