@@ -285,4 +285,7 @@ impl Transcript {
     {
         self.accesses.iter()
     }
+
+    /// Lets a transcript go. Who owns one lets it go by this call, so that it is proved once.
+    pub fn let_go(self) {}
 }
