@@ -120,6 +120,9 @@ impl Board {
         put_in_order(&mut items);
         Ok(Items::from_vec(items))
     }
+
+    /// Lets a board go. Who owns one lets it go by this call, so that it is proved once.
+    pub fn let_go(self) {}
 }
 
 /// The place of an object, which is added where it isn't there.
