@@ -35,8 +35,13 @@ fn reserved_transcript(
     ensures { IfOk result (λ log. log ≡ record { lists = lists; count = count; accesses = []; spare_objects = room; spare_accesses = 2 * (lists * room) }) }
 {
     let mut transcript = Transcript::make(alloc, lists, count)?;
-    transcript.reserve(room, 2 * (u64::from(lists) * u64::from(room)))?;
-    Ok(transcript)
+    match transcript.reserve(room, 2 * (u64::from(lists) * u64::from(room))) {
+        Ok(()) => Ok(transcript),
+        Err(_) => {
+            transcript.let_go();
+            Err(Memory)
+        }
+    }
 }
 
 impl Base {
@@ -60,7 +65,10 @@ impl Base {
     {
         let room = room.min(count);
         let lists = expr.lists();
-        let transcript = reserved_transcript(alloc, lists, count, room)?;
+        let Ok(transcript) = reserved_transcript(alloc, lists, count, room) else {
+            expr.let_go();
+            return Err(Memory);
+        };
         Ok(Base {
             expr,
             k,
@@ -104,6 +112,23 @@ impl Base {
     pub fn into_transcript(self) -> Transcript
         ensures { result ≡ self.transcript }
     {
-        self.transcript
+        let Base {
+            expr,
+            transcript,
+            ..
+        } = self;
+        expr.let_go();
+        transcript
+    }
+
+    /// Lets it go, with what it holds. Who owns one lets it go by this call.
+    pub fn let_go(self) {
+        let Base {
+            expr,
+            transcript,
+            ..
+        } = self;
+        expr.let_go();
+        transcript.let_go();
     }
 }
