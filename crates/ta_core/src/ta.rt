@@ -62,11 +62,11 @@ impl Ta {
         ensures run { IfOk result MakesItsRun }
     {
         let Ok(board) = Board::make(alloc, k, room.min(count)) else {
-            drop(expr);
+            expr.let_go();
             return Err(Memory);
         };
         let Ok(base) = Base::make(alloc, expr, k, count, room, costs) else {
-            drop(board);
+            board.let_go();
             return Err(Memory);
         };
         Ok(Ta {
@@ -145,9 +145,20 @@ impl Ta {
         match board.first() {
             Ok(items) => Ok(Answer { items, transcript }),
             Err(_) => {
-                drop(transcript);
+                transcript.let_go();
                 Err(Memory)
             }
         }
+    }
+
+    /// Lets the machine go, before it has its answer. Who owns one lets it go by this call.
+    pub fn let_go(self) {
+        let Ta {
+            base,
+            board,
+            progress: _,
+        } = self;
+        base.let_go();
+        board.let_go();
     }
 }
