@@ -71,11 +71,11 @@ impl Nra {
         ensures run { IfOk result MakesItsRun }
     {
         let Ok(items) = Vec::with_capacity(alloc, room.min(count) as usize) else {
-            drop(expr);
+            expr.let_go();
             return Err(Memory);
         };
         let Ok(late) = LateBounds::make(alloc, k, room.min(count)) else {
-            drop(expr);
+            expr.let_go();
             drop(items);
             return Err(Memory);
         };
@@ -156,6 +156,19 @@ impl Nra {
             items,
             transcript: base.into_transcript(),
         })
+    }
+
+    /// Lets the machine go, before it has its answer. Who owns one lets it go by this call.
+    pub fn let_go(self) {
+        let Nra {
+            base,
+            late,
+            items,
+            place: _,
+        } = self;
+        base.let_go();
+        drop(late);
+        drop(items);
     }
 }
 
