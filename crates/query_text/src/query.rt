@@ -37,6 +37,8 @@ impl Query {
 
     /// Lets a query go. Who owns one lets it go by this call, so that it is proved once.
     pub fn let_go(self) {
-        drop(self);
+        let Query { names, expr, .. } = self;
+        drop(names);
+        expr.let_go();
     }
 }
