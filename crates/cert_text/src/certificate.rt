@@ -26,3 +26,18 @@ pub struct Certificate {
     /// The accesses in their order.
     pub accesses: Accesses,
 }
+
+impl Certificate {
+    /// Lets a certificate go. Who owns one lets it go by this call.
+    pub fn let_go(self) {
+        let Certificate {
+            query,
+            items,
+            accesses,
+            ..
+        } = self;
+        query.let_go();
+        drop(items);
+        drop(accesses);
+    }
+}
