@@ -80,11 +80,11 @@ impl Ca {
         ensures run { IfOk result MakesItsRun }
     {
         let Ok(first) = Vec::with_capacity(alloc, room.min(count) as usize) else {
-            drop(expr);
+            expr.let_go();
             return Err(Memory);
         };
         let Ok(late) = LateSeen::make(alloc, k, room.min(count)) else {
-            drop(expr);
+            expr.let_go();
             drop(first);
             return Err(Memory);
         };
@@ -192,5 +192,19 @@ impl Ca {
             items,
             transcript: base.into_transcript(),
         })
+    }
+
+    /// Lets the machine go, before it has its answer. Who owns one lets it go by this call.
+    pub fn let_go(self) {
+        let Ca {
+            base,
+            phase: _,
+            late,
+            first,
+            stage: _,
+        } = self;
+        base.let_go();
+        drop(late);
+        drop(first);
     }
 }
