@@ -104,7 +104,7 @@ fn told_of(alloc: Global, certificate: &Certificate) -> Result<Told, Memory>
     match transcript_of(alloc, certificate) {
         Ok(transcript) => {
             let told = told_over(alloc, certificate, &transcript);
-            drop(transcript);
+            transcript.let_go();
             told
         }
         Err(PushFault::Inconsistent { at, kind }) => Ok(Told::Inconsistent { at, kind }),
@@ -123,7 +123,7 @@ pub fn judge_text(alloc: Global, bytes: &[u8]) -> Result<Told, Memory>
     match read_certificate(alloc, bytes) {
         Ok(certificate) => {
             let told = told_of(alloc, &certificate);
-            drop(certificate);
+            certificate.let_go();
             told
         }
         Err(CertFault::BadLine { line }) => Ok(Told::BadLine { line }),

@@ -36,7 +36,7 @@ pub(crate) fn transcript_of(
     match push_all(&mut transcript, &certificate.accesses) {
         Ok(()) => Ok(transcript),
         Err(fault) => {
-            drop(transcript);
+            transcript.let_go();
             Err(fault)
         }
     }
