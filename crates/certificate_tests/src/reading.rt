@@ -47,19 +47,6 @@ fn has_accesses(made: Accesses) -> bool {
     are_so
 }
 
-/// Lets a certificate go, its query by the query's own call.
-fn let_go(certificate: Certificate) {
-    let Certificate {
-        query,
-        items,
-        accesses,
-        ..
-    } = certificate;
-    query.let_go();
-    drop(items);
-    drop(accesses);
-}
-
 /// Whether a certificate is that of the first example.
 fn is_first(alloc: Global, certificate: Certificate) -> bool {
     let is_printed = is_printed(alloc, &certificate.query, FIRST_QUERY);
@@ -105,7 +92,7 @@ fn reads_the_first_example(rt: HostRuntime) {
 fn is_at_fault(alloc: Global, text: &str, expected: Option<u64>) -> bool {
     match read_certificate(alloc, text.as_bytes()) {
         Ok(certificate) => {
-            let_go(certificate);
+            certificate.let_go();
             expected.is_none()
         }
         Err(CertFault::BadLine { line }) => expected == Some(line),
