@@ -137,4 +137,13 @@ impl Machine {
             Machine::Ca(machine) => machine.answer(),
         }
     }
+
+    /// Lets the machine go, before it has its answer. Who owns one lets it go by this call.
+    pub fn let_go(self) {
+        match self {
+            Machine::Ta(machine) => machine.let_go(),
+            Machine::Nra(machine) => machine.let_go(),
+            Machine::Ca(machine) => machine.let_go(),
+        }
+    }
 }
