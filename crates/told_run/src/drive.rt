@@ -40,7 +40,7 @@ fn drive(alloc: Global, machine: Machine, lists: &mut [ToldList]) -> Result<Answ
     match feed_all(alloc, &mut machine, lists) {
         Ok(()) => answer_of(machine),
         Err(fault) => {
-            drop(machine);
+            machine.let_go();
             Err(fault)
         }
     }
