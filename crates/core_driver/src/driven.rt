@@ -65,7 +65,7 @@ pub trait Driven: Sized {
     fn finish(self) -> Option<Answer>
         requires { (state self).need ≡ Need.Done };
 
-    /// Lets a machine go that gives no answer: it falls out of scope, and is written out once.
+    /// Lets a machine go that gives no answer.
     fn let_go(self);
 }
 
@@ -100,7 +100,9 @@ impl Driven for Ta {
         self.answer().ok()
     }
 
-    fn let_go(self) {}
+    fn let_go(self) {
+        Ta::let_go(self);
+    }
 }
 
 impl Driven for Nra {
@@ -133,7 +135,9 @@ impl Driven for Nra {
         self.answer().ok()
     }
 
-    fn let_go(self) {}
+    fn let_go(self) {
+        Nra::let_go(self);
+    }
 }
 
 impl Driven for Ca {
@@ -167,5 +171,7 @@ impl Driven for Ca {
         self.answer().ok()
     }
 
-    fn let_go(self) {}
+    fn let_go(self) {
+        Ca::let_go(self);
+    }
 }

@@ -222,5 +222,9 @@ pub fn run<M: Driven>(alloc: Global, text: &str, lists: Lists<'_>) -> Result<Ans
     run_on::<M>(alloc, expr, terms, lists)
 }
 
-/// Lets an answer go: it falls out of scope, and is written out once.
-pub fn let_go(_answer: Answer) {}
+/// Lets an answer go, its transcript by the transcript's own call.
+pub fn let_go(answer: Answer) {
+    let Answer { items, transcript } = answer;
+    drop(items);
+    transcript.let_go();
+}
