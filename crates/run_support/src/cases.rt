@@ -1,14 +1,13 @@
 //! One drive of `run`, and rows of drives with what they are to come to.
 
-use super::outcomes::{Streams, ends_over};
-use super::shelves::shelf_of;
+use super::drives::Streams;
+use super::outcomes::ends_over;
 use call_ends::Status;
 use mem_source::MemShelf;
-use source_support::Held;
+use source_support::{Held, shelf_of};
 use std::alloc::Global;
 use std::sync::Wait;
 use std::thread::Threads;
-use test_support::Unmade;
 
 /// The place of the catalog on the shelf.
 pub(crate) const CATALOG: &str = "cat.csv";
@@ -16,10 +15,13 @@ pub(crate) const CATALOG: &str = "cat.csv";
 /// The most bytes that are written.
 const ROOM: u32 = 4000;
 
-/// A run: the words behind the catalog's place, the catalog's text, the sources on the shelf, and the query lines.
+/// The words of a run over the catalog at that place, without options.
+pub const RUN: &[&str] = &["run", CATALOG];
+
+/// A run: its words, the catalog's text, the sources on the shelf, and the query lines.
 #[derive(Clone, Copy)]
 pub struct Case {
-    pub options: &'static [&'static str],
+    pub words: &'static [&'static str],
     pub catalog: &'static str,
     pub sources: &'static [Held],
     pub lines: &'static str,
@@ -33,52 +35,42 @@ pub struct Row {
     pub text: &'static str,
 }
 
-/// Whether a run over a shelf of its sources ends so, and writes this text.
-fn ends_on<W: Threads + Wait + Sync>(
+/// Whether the run of a row goes over this shelf as it says.
+fn goes_on<W: Threads + Wait + Sync>(
     rt: &W,
     alloc: Global,
-    case: &Case,
     shelf: &mut MemShelf,
-    expected: (Status, &str),
-) -> Result<bool, Unmade> {
+    row: &Row,
+) -> bool {
+    let case = &row.case;
     if shelf.add_text(CATALOG, case.catalog.as_bytes()).is_err() {
-        return Err(Unmade::Memory);
+        return false;
     }
     let streams = Streams {
         input: case.lines.as_bytes(),
         failing_reads: &[],
         room: ROOM,
     };
-    let expected = (expected.0, expected.1.as_bytes());
-    let words = [&["run", CATALOG], case.options].concat(alloc)?;
-    let ends = ends_over(rt, alloc, &words, shelf, &streams, expected);
-    drop(words);
-    ends
+    let expected = (row.status, row.text.as_bytes());
+    ends_over(rt, alloc, case.words, shelf, &streams, expected)
 }
 
-/// Whether a run ends so, and writes this text.
-fn run_ends<W: Threads + Wait + Sync>(
-    rt: &W,
-    alloc: Global,
-    case: &Case,
-    expected: (Status, &str),
-) -> Result<bool, Unmade> {
-    let mut shelf = shelf_of(alloc, case.sources)?;
-    let ends = ends_on(rt, alloc, case, &mut shelf, expected);
+/// Whether the run of a row goes over a shelf of its sources as it says.
+fn goes_so<W: Threads + Wait + Sync>(rt: &W, alloc: Global, row: &Row) -> bool {
+    let Some(mut shelf) = shelf_of(alloc, row.case.sources) else {
+        return false;
+    };
+    let goes = goes_on(rt, alloc, &mut shelf, row);
     drop(shelf);
-    ends
+    goes
 }
 
 /// The place of the first row that comes to something else.
-pub fn first_wrong<W: Threads + Wait + Sync>(
-    rt: &W,
-    alloc: Global,
-    rows: &[Row],
-) -> Result<Option<usize>, Unmade> {
+pub fn first_wrong<W: Threads + Wait + Sync>(rt: &W, alloc: Global, rows: &[Row]) -> Option<usize> {
     for (place, row) in rows.iter().enumerate() {
-        if !run_ends(rt, alloc, &row.case, (row.status, row.text))? {
-            return Ok(Some(place));
+        if !goes_so(rt, alloc, row) {
+            return Some(place);
         }
     }
-    Ok(None)
+    None
 }

@@ -1,15 +1,14 @@
 //! Runs over one shelf, one after another, of which calls fail.
 
-use super::cases::CATALOG;
-use super::outcomes::{Streams, ends_over};
-use super::shelves::shelf_of;
+use super::cases::{CATALOG, RUN};
+use super::drives::Streams;
+use super::outcomes::ends_over;
 use call_ends::Status;
 use mem_source::MemShelf;
-use source_support::Held;
+use source_support::{Held, shelf_of};
 use std::alloc::Global;
 use std::sync::Wait;
 use std::thread::Threads;
-use test_support::Unmade;
 
 /// A run: which calls of its input fail, for how many bytes there is room, how it ends, what it writes, and how many rows the source has
 /// given then.
@@ -32,19 +31,17 @@ pub struct FaultyShelf {
     pub runs: &'static [FaultyRun],
 }
 
-/// Puts the catalog's text on the shelf, where there is one, and the number of the call for it that fails.
-fn add_catalog(shelf: &mut MemShelf, row: &FaultyShelf) -> Result<(), Unmade> {
+/// Puts the catalog's text on the shelf, where there is one, and the number of the call for it that fails. Whether there was memory.
+fn add_catalog(shelf: &mut MemShelf, row: &FaultyShelf) -> bool {
     if let Some(text) = row.catalog {
         if shelf.add_text(CATALOG, text.as_bytes()).is_err() {
-            return Err(Unmade::Memory);
+            return false;
         }
     }
-    if let Some(call) = row.failing_text {
-        if shelf.fail_texts.push(call).is_err() {
-            return Err(Unmade::Memory);
-        }
+    match row.failing_text {
+        Some(call) => shelf.fail_texts.push(call).is_ok(),
+        None => true,
     }
-    Ok(())
 }
 
 /// Whether a run over the shelf of a row goes as it is to.
@@ -54,15 +51,15 @@ fn goes_on<W: Threads + Wait + Sync>(
     shelf: &mut MemShelf,
     row: &FaultyShelf,
     run: &FaultyRun,
-) -> Result<bool, Unmade> {
+) -> bool {
     let streams = Streams {
         input: row.line,
         failing_reads: run.failing_reads,
         room: run.room,
     };
     let expected = (run.status, run.text);
-    let ends = ends_over(rt, alloc, &["run", CATALOG], shelf, &streams, expected)?;
-    Ok(ends && shelf.rows_given_at(row.source.place) == run.given)
+    let ends = ends_over(rt, alloc, RUN, shelf, &streams, expected);
+    ends && shelf.rows_given_at(row.source.place) == run.given
 }
 
 /// Whether each run over the shelf of a row goes as it is to.
@@ -71,26 +68,26 @@ fn go_on<W: Threads + Wait + Sync>(
     alloc: Global,
     shelf: &mut MemShelf,
     row: &FaultyShelf,
-) -> Result<bool, Unmade> {
-    add_catalog(shelf, row)?;
+) -> bool {
+    if !add_catalog(shelf, row) {
+        return false;
+    }
     for run in row.runs {
-        if !goes_on(rt, alloc, shelf, row, run)? {
-            return Ok(false);
+        if !goes_on(rt, alloc, shelf, row, run) {
+            return false;
         }
     }
-    Ok(true)
+    true
 }
 
 /// Whether the runs of a row go as they are to.
-fn goes_so<W: Threads + Wait + Sync>(
-    rt: &W,
-    alloc: Global,
-    row: &FaultyShelf,
-) -> Result<bool, Unmade> {
-    let mut shelf = shelf_of(alloc, &[*row.source])?;
-    let goes = go_on(rt, alloc, &mut shelf, row);
+fn go_so<W: Threads + Wait + Sync>(rt: &W, alloc: Global, row: &FaultyShelf) -> bool {
+    let Some(mut shelf) = shelf_of(alloc, &[*row.source]) else {
+        return false;
+    };
+    let go = go_on(rt, alloc, &mut shelf, row);
     drop(shelf);
-    goes
+    go
 }
 
 /// The place of the first row of which a run goes otherwise.
@@ -98,11 +95,11 @@ pub fn first_wrong_fault<W: Threads + Wait + Sync>(
     rt: &W,
     alloc: Global,
     rows: &[FaultyShelf],
-) -> Result<Option<usize>, Unmade> {
+) -> Option<usize> {
     for (place, row) in rows.iter().enumerate() {
-        if !goes_so(rt, alloc, row)? {
-            return Ok(Some(place));
+        if !go_so(rt, alloc, row) {
+            return Some(place);
         }
     }
-    Ok(None)
+    None
 }

@@ -5,9 +5,8 @@ mod cases;
 mod drives;
 mod faults;
 mod outcomes;
-mod shelves;
 
 pub use call_ends::Status;
-pub use cases::{Case, Row, first_wrong};
+pub use cases::{Case, RUN, Row, first_wrong};
 pub use faults::{FaultyRun, FaultyShelf, first_wrong_fault};
 pub use source_support::{Held, Kind};
