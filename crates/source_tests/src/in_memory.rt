@@ -1,5 +1,6 @@
 //! Sources in memory: pages and grades, each failing and garbling call in turn, stated sizes and lies.
 
+use super::none_is_wrong;
 use mem_source::MemSource;
 use ranked_list::Row;
 use source_api::{Counts, Trouble};
@@ -7,7 +8,7 @@ use source_support::{Step, first_wrong};
 use std::alloc::Global;
 
 /// The rows of each source here.
-const ROWS: [Row; 3] = [
+const ROWS: &[Row] = &[
     Row {
         object: 1,
         grade: 900,
@@ -58,8 +59,8 @@ const LAST: &[(u32, u32)] = &[(2, 800), (3, 100)];
 
 /// Sources of which no call fails, calls for pages or for grades fail and garble, and one that lies.
 static SOURCES: [Called; 8] = [
+    // pages
     (
-        "pages",
         NO_FAULTS,
         &[
             Step::Size(3),
@@ -74,8 +75,8 @@ static SOURCES: [Called; 8] = [
             ..UNCOUNTED
         },
     ),
+    // grades
     (
-        "grades",
         NO_FAULTS,
         &[
             Step::Grade(2, Ok(Some(800))),
@@ -87,8 +88,8 @@ static SOURCES: [Called; 8] = [
             ..UNCOUNTED
         },
     ),
+    // a stated size
     (
-        "a stated size",
         Faults {
             stated: Some(5),
             ..NO_FAULTS
@@ -99,8 +100,8 @@ static SOURCES: [Called; 8] = [
             ..UNCOUNTED
         },
     ),
+    // the first page fails, the second garbles
     (
-        "the first page fails, the second garbles",
         Faults {
             fail_pages: &[1],
             garble_pages: &[2],
@@ -118,8 +119,8 @@ static SOURCES: [Called; 8] = [
             ..UNCOUNTED
         },
     ),
+    // a page that is to fail and to garble fails
     (
-        "a page that is to fail and to garble fails",
         Faults {
             fail_pages: &[2],
             garble_pages: &[2, 3],
@@ -140,8 +141,8 @@ static SOURCES: [Called; 8] = [
             ..UNCOUNTED
         },
     ),
+    // the first grade garbles, the third fails
     (
-        "the first grade garbles, the third fails",
         Faults {
             garble_grades: &[1],
             fail_grades: &[3],
@@ -162,8 +163,8 @@ static SOURCES: [Called; 8] = [
             ..UNCOUNTED
         },
     ),
+    // a grade that is to fail and to garble fails
     (
-        "a grade that is to fail and to garble fails",
         Faults {
             garble_grades: &[1, 2],
             fail_grades: &[1],
@@ -181,8 +182,8 @@ static SOURCES: [Called; 8] = [
             ..UNCOUNTED
         },
     ),
+    // lies
     (
-        "lies",
         Faults {
             lies: &[
                 Row {
@@ -238,11 +239,11 @@ fn is_set_up(source: &mut MemSource, faults: &Faults) -> bool {
 }
 
 /// A source's faults, calls with their answers, and what is counted then.
-type Called = (&'static str, Faults, &'static [Step], Counts);
+type Called = (Faults, &'static [Step], Counts);
 
 /// Whether a source with these faults answers and counts so.
 fn answers_by(alloc: Global, source: &mut MemSource, called: &Called) -> bool {
-    let (_, faults, steps, counts) = called;
+    let (faults, steps, counts) = called;
     is_set_up(source, faults)
         && first_wrong(alloc, source, steps).is_none()
         && source.counts() == *counts
@@ -250,7 +251,7 @@ fn answers_by(alloc: Global, source: &mut MemSource, called: &Called) -> bool {
 
 /// The same of a new source.
 fn answers_so(alloc: Global, called: &Called) -> bool {
-    let Ok(mut source) = MemSource::make(alloc, &ROWS) else {
+    let Ok(mut source) = MemSource::make(alloc, ROWS) else {
         return false;
     };
     let is_so = answers_by(alloc, &mut source, called);
@@ -258,11 +259,11 @@ fn answers_so(alloc: Global, called: &Called) -> bool {
     is_so
 }
 
-/// The name of the first source that answers or counts otherwise.
-fn first_other(alloc: Global, sources: &[Called]) -> Option<&'static str> {
-    for called in sources {
+/// The number of the first source that answers or counts otherwise.
+fn first_other(alloc: Global, sources: &[Called]) -> Option<usize> {
+    for (number, called) in sources.iter().enumerate() {
         if !answers_so(alloc, called) {
-            return Some(called.0);
+            return Some(number);
         }
     }
     None
@@ -270,5 +271,5 @@ fn first_other(alloc: Global, sources: &[Called]) -> Option<&'static str> {
 
 #[test]
 fn answers_each_call(rt: HostRuntime) {
-    assert_eq!(rt; first_other(rt.alloc(), &SOURCES), None);
+    none_is_wrong(&rt, first_other(rt.alloc(), &SOURCES));
 }

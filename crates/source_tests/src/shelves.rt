@@ -10,7 +10,7 @@ use source_support::{Step, first_wrong};
 use std::alloc::Global;
 
 /// The rows at `a`.
-const ROWS: [Row; 2] = [
+const ROWS: &[Row] = &[
     Row {
         object: 1,
         grade: 9,
@@ -22,7 +22,7 @@ const ROWS: [Row; 2] = [
 ];
 
 /// The row at `b`.
-const OTHER: [Row; 1] = [Row {
+const OTHER: &[Row] = &[Row {
     object: 7,
     grade: 5,
 }];
@@ -105,8 +105,8 @@ fn is_filled(alloc: Global, shelf: &mut MemShelf) -> bool {
     shelf.add_text("a", b"old").is_ok()
         && shelf.add_text("a", b"new").is_ok()
         && shelf.add_text("b", b"").is_ok()
-        && is_added(alloc, shelf, "a", &ROWS)
-        && is_added(alloc, shelf, "b", &OTHER)
+        && is_added(alloc, shelf, "a", ROWS)
+        && is_added(alloc, shelf, "b", OTHER)
 }
 
 /// Tells a shelf which calls for texts and for sources fail, and tells whether there was memory.
