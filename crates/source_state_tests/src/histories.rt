@@ -1,6 +1,6 @@
 //! What the readers tell after a few events on a list of three objects.
 
-use super::none_is_wrong;
+use super::{holds, none_is_wrong};
 use ranked_list::Row;
 use source_state::{Applied, Asked, FailKind, SourceFault, SourceState, Tally};
 use source_state_support::{Step, apply_all};
@@ -333,5 +333,5 @@ fn are_counted_after(alloc: Global, steps: &[Step]) -> bool {
 
 #[test]
 fn counts_and_names(rt: HostRuntime) {
-    assert!(rt; are_counted_after(rt.alloc(), &MANY));
+    holds(&rt, are_counted_after(rt.alloc(), &MANY));
 }

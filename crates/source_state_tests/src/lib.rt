@@ -19,3 +19,9 @@ use std::process::Abort;
 fn none_is_wrong(rt: &impl Abort, first_wrong: Option<usize>) {
     assert_eq!(rt; first_wrong, None);
 }
+
+/// What is told is so.
+#[cfg(test)]
+fn holds(rt: &impl Abort, is_so: bool) {
+    assert!(rt; is_so);
+}

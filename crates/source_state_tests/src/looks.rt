@@ -1,6 +1,6 @@
 //! Looks at the state of a list of three objects.
 
-use super::none_is_wrong;
+use super::{holds, none_is_wrong};
 use ranked_list::{Need, Row};
 use source_state::{FailKind, Look, LookFault, SourceFault, SourceState, Tally, Waiting, look_at};
 use source_state_support::{Step, apply_all};
@@ -149,13 +149,15 @@ fn look_after(
     steps: &[Step],
     need: Need,
 ) -> Option<Look> {
-    apply_all(alloc, state, steps)?;
-    look(state, waiting, need)
+    match apply_all(alloc, state, steps) {
+        Some(_) => look(state, waiting, need),
+        None => None,
+    }
 }
 
-/// Whether the second need of a row is answered as it says, and is waited for where there is no answer yet. None where an event may
-/// not come, or a need is none of this list.
-fn is_answered(alloc: Global, state: &mut SourceState, row: &Looked) -> Option<bool> {
+/// Whether the second need of a row is answered as it says, and is waited for where there is no answer yet. Each event may come, and each
+/// need is one of this list.
+fn is_answered(alloc: Global, state: &mut SourceState, row: &Looked) -> bool {
     let (before, first, between, second, answer) = row;
     let noted = Tally {
         failed: 0,
@@ -163,10 +165,12 @@ fn is_answered(alloc: Global, state: &mut SourceState, row: &Looked) -> Option<b
         memory: 0,
     };
     let mut waiting = Waiting { need: None, noted };
-    look_after(alloc, state, &mut waiting, before, *first)?;
-    let told = look_after(alloc, state, &mut waiting, between, *second)?;
+    if look_after(alloc, state, &mut waiting, before, *first).is_none() {
+        return false;
+    }
+    let told = look_after(alloc, state, &mut waiting, between, *second);
     let is_waited_for = waiting.need == Some(*second);
-    Some(told == *answer && is_waited_for == (*answer == Look::NotYet))
+    told == Some(*answer) && is_waited_for == (*answer == Look::NotYet)
 }
 
 /// The same of a new state.
@@ -174,7 +178,7 @@ fn answers_so(alloc: Global, row: &Looked) -> bool {
     let Ok(mut state) = SourceState::open(alloc, 7, 3) else {
         return false;
     };
-    let is_so = is_answered(alloc, &mut state, row) == Some(true);
+    let is_so = is_answered(alloc, &mut state, row);
     drop(state);
     is_so
 }
@@ -236,5 +240,5 @@ fn tells_no_fail_past_the_last_count(rt: HostRuntime) {
     let are_so = answers_noted(rt.alloc(), &FAILS, 0, 0, failed)
         && answers_noted(rt.alloc(), &FAILS, u64::MAX, 0, garbled)
         && answers_noted(rt.alloc(), &FAILS, u64::MAX, u64::MAX, Look::NotYet);
-    assert!(rt; are_so);
+    holds(&rt, are_so);
 }
