@@ -170,7 +170,9 @@ pub fn run_ends_so<R: Threads + Wait + Sync, S: Source>(
     requires { All (λ slot. slot.feeder ≡ None) slots.old }
     ensures { All (λ slot. slot.feeder ≡ None) slots.new }
 {
-    let readies = readies_of(alloc, counts, asked)?;
+    let Some(readies) = readies_of(alloc, counts, asked) else {
+        return Ok(Ran::Otherwise);
+    };
     let ran = run_ready(rt, alloc, slots, counts, &readies, settings, expected);
     let_go(readies);
     Ok(ran)

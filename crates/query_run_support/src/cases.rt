@@ -45,7 +45,9 @@ fn ends_over<R: Threads + Wait + Sync>(
     sources: &mut (MemSource, MemSource),
 ) -> Result<bool, Fail> {
     let count = case.count.min(200_000);
-    let readies = readies_of(alloc, &[count, count], &[case.asked])?;
+    let Some(readies) = readies_of(alloc, &[count, count], &[case.asked]) else {
+        return Ok(false);
+    };
     let so = first_ends_so(rt, alloc, count, sources, &readies, &case.ends);
     let_go(readies);
     Ok(so)

@@ -1,6 +1,6 @@
 //! Queries that are ready, from their texts.
 
-ghost use Rattle.std.specs.Prelude.{◌≡◌, ◌<◌, ◌≤◌, true, All, length, slice_index_or, IfOk, OnOk};
+ghost use Rattle.std.specs.Prelude.{◌≡◌, ◌<◌, ◌≤◌, true, All, length, slice_index_or, IfSome};
 ghost use Rattle.query_turns.specs.Made.{IsReadyFor};
 ghost use Rattle.query_core.specs.Ready.{IsReady};
 
@@ -9,7 +9,6 @@ use limits::MAX_OBJECTS;
 use query_core::Ready;
 use query_reading::read;
 use std::alloc::Global;
-use std::test::Fail;
 
 /// Whether there is such a source, and it has so many objects.
 fn is_source(counts: &[u32], source: u32, count: u32) -> bool
@@ -29,15 +28,15 @@ fn is_over(counts: &[u32], ready: &Ready) -> bool
         .all(|source| is_source(counts, *source, ready.count))
 }
 
-/// The query of a text whose lists are these sources, each of so many objects.
-fn ready_of(alloc: Global, text: &str, count: u32, sources: &[u32]) -> Result<Ready, Fail>
-    ensures { IfOk result IsReady }
+/// The query of a text whose lists are these sources, each of so many objects. None where it is no query over such lists.
+fn ready_of(alloc: Global, text: &str, count: u32, sources: &[u32]) -> Option<Ready>
+    ensures { IfSome result IsReady }
 {
     let Ok(sources) = sources.to_vec(alloc) else {
-        return Err("memory".into());
+        return None;
     };
     let Ok(query) = read(alloc, text.as_bytes()) else {
-        return Err("a query".into());
+        return None;
     };
     let ready = Ready {
         query,
@@ -49,55 +48,62 @@ fn ready_of(alloc: Global, text: &str, count: u32, sources: &[u32]) -> Result<Re
         || ready.query.names.len() as usize != ready.sources.len()
     {
         drop(ready);
-        return Err("a query over these lists".into());
+        return None;
     }
-    Ok(ready)
+    Some(ready)
 }
 
-/// The same, over sources with these counts.
-fn ready_over(alloc: Global, counts: &[u32], text: &str, sources: &[u32]) -> Result<Ready, Fail>
-    ensures { IfOk result (IsReadyFor counts.now) }
+/// The same, over sources with these counts. None too where the sources aren't of one size.
+fn ready_over(alloc: Global, counts: &[u32], text: &str, sources: &[u32]) -> Option<Ready>
+    ensures { IfSome result (IsReadyFor counts.now) }
 {
     let first = sources.first().copied().unwrap_or(0);
     let count = counts.get(first as usize).copied().unwrap_or(0);
-    let ready = ready_of(alloc, text, count, sources)?;
+    let Some(ready) = ready_of(alloc, text, count, sources) else {
+        return None;
+    };
     if !is_over(counts, &ready) {
         drop(ready);
-        return Err("sources of one size".into());
+        return None;
     }
-    Ok(ready)
+    Some(ready)
 }
 
-/// Adds a query that is ready.
+/// Adds a query that is ready. False where there is none, or where there is no memory.
 fn add_ready(
     alloc: Global,
     readies: &mut Vec<Ready>,
     counts: &[u32],
     text: &str,
     sources: &[u32],
-) -> Result<(), Fail>
+) -> bool
     requires { All (IsReadyFor counts.now) readies.old.items }
-    ensures { OnOk result (All (IsReadyFor counts.now) readies.new.items) }
+    ensures { result ≡ true → All (IsReadyFor counts.now) readies.new.items }
 {
-    let ready = ready_over(alloc, counts, text, sources)?;
+    let Some(ready) = ready_over(alloc, counts, text, sources) else {
+        return false;
+    };
     match readies.push(ready) {
-        Ok(()) => Ok(()),
+        Ok(()) => true,
         Err(refused) => {
             drop(refused);
-            Err("memory".into())
+            false
         }
     }
 }
 
-/// The queries of a world, all ready.
-pub fn readies_of(alloc: Global, counts: &[u32], asked: &[Asked]) -> Result<Vec<Ready>, Fail>
-    ensures { IfOk result (λ readies. All (IsReadyFor counts.now) readies.items) }
+/// The queries of a world, all ready. None where one is none, or where there is no memory.
+pub fn readies_of(alloc: Global, counts: &[u32], asked: &[Asked]) -> Option<Vec<Ready>>
+    ensures { IfSome result (λ readies. All (IsReadyFor counts.now) readies.items) }
 {
     let mut readies = Vec::new(alloc);
     for one in asked {
-        add_ready(alloc, &mut readies, counts, one.0, one.1)?;
+        if !add_ready(alloc, &mut readies, counts, one.0, one.1) {
+            let_go(readies);
+            return None;
+        }
     }
-    Ok(readies)
+    Some(readies)
 }
 
 /// Lets queries go. Who owns some lets them go by this call, so that it is proved once.

@@ -4,6 +4,6 @@ use Rattle.query_turns.specs.Made.{IsReadyFor}
 use Rattle.query_support.proofs.readies.add_ready.Goals as goal
 
 pub returns-in-Ok : goal.returns-in-Ok
-returns-in-Ok c =
+returns-in-Ok c = λ _.
     subst (All (IsReadyFor c.args.counts.now)) (sym c.in-Ok.ensures.items)
-    (All-push (IsReadyFor c.args.counts.now) c.args.readies.now.items c.in_ok-ready.ready c.requires c.in_ok-ready.ensures)
+    (All-push (IsReadyFor c.args.counts.now) c.args.readies.now.items c.in-Some.ready c.requires c.in-Some.ensures)
