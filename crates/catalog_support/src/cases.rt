@@ -24,7 +24,9 @@ pub struct Case {
 fn bytes_of(alloc: Global, lines: &[&'static str]) -> Option<Vec<&'static [u8]>> {
     let mut bytes = Vec::new(alloc);
     for line in lines {
-        bytes.push(line.as_bytes()).ok()?;
+        if bytes.push(line.as_bytes()).is_err() {
+            return None;
+        }
     }
     Some(bytes)
 }
@@ -48,21 +50,15 @@ fn writes_so<W: Threads + Wait + Sync>(
     shelf: &mut MemShelf,
     case: &Case,
     out: &mut MemSink,
-) -> Option<bool> {
-    let lines = bytes_of(alloc, case.lines)?;
+) -> bool {
+    let Some(lines) = bytes_of(alloc, case.lines) else {
+        return false;
+    };
     let settings = settings_of(1, case.page, 0);
-    let ran = run_into(
-        rt,
-        alloc,
-        shelf,
-        case.catalog.as_bytes(),
-        &lines,
-        settings,
-        out,
-    );
+    let catalog = case.catalog.as_bytes();
+    let ran = run_into(rt, alloc, shelf, catalog, &lines, settings, out);
     drop(lines);
-    ran?;
-    Some(is_text(out.taken(), case.text))
+    ran && is_text(out.taken(), case.text)
 }
 
 /// The same, where a call for a source may fail.
@@ -71,11 +67,15 @@ fn runs_over<W: Threads + Wait + Sync>(
     alloc: Global,
     shelf: &mut MemShelf,
     case: &Case,
-) -> Option<bool> {
+) -> bool {
     if let Some(call) = case.fails_take {
-        shelf.fail_takes.push(call).ok()?;
+        if shelf.fail_takes.push(call).is_err() {
+            return false;
+        }
     }
-    let mut out = MemSink::make(alloc, 4000, &[]).ok()?;
+    let Ok(mut out) = MemSink::make(alloc, 4000, &[]) else {
+        return false;
+    };
     let so = writes_so(rt, alloc, shelf, case, &mut out);
     drop(out);
     so
@@ -86,7 +86,7 @@ fn runs<W: Threads + Wait + Sync>(rt: &W, alloc: Global, case: &Case) -> bool {
     let Some(mut shelf) = shelf_of(alloc, case.sources) else {
         return false;
     };
-    let so = runs_over(rt, alloc, &mut shelf, case) == Some(true);
+    let so = runs_over(rt, alloc, &mut shelf, case);
     drop(shelf);
     so
 }

@@ -62,8 +62,8 @@ fn outcomes_of<W: Threads + Wait + Sync>(
     outcomes
 }
 
-/// Writes outcomes, whose lines are numbered from 1.
-fn write_all(out: &mut MemSink, outcomes: &[LineOutcome]) -> Option<()>
+/// Writes outcomes, whose lines are numbered from 1. Whether there was room.
+fn write_all(out: &mut MemSink, outcomes: &[LineOutcome]) -> bool
     requires { All CanBeWritten outcomes.now }
 {
     let mut pieces = Pieces::make();
@@ -79,10 +79,10 @@ fn write_all(out: &mut MemSink, outcomes: &[LineOutcome]) -> Option<()>
             &outcome.outcome,
         );
     }
-    pieces.end(out).ok()
+    pieces.end(out).is_ok()
 }
 
-/// Runs lines over a shelf and the catalog of a text, and writes their outcomes. None where the text is no catalog, or where there is no
+/// Runs lines over a shelf and the catalog of a text, and writes their outcomes. False where the text is no catalog, or where there is no
 /// memory or no room for what is written.
 pub fn run_into<W: Threads + Wait + Sync>(
     rt: &W,
@@ -92,10 +92,12 @@ pub fn run_into<W: Threads + Wait + Sync>(
     lines: &[&[u8]],
     settings: Settings,
     out: &mut MemSink,
-) -> Option<()>
+) -> bool
     requires { AreSettings settings }
 {
-    let outcomes = outcomes_of(rt, alloc, shelf, catalog, lines, settings)?;
+    let Some(outcomes) = outcomes_of(rt, alloc, shelf, catalog, lines, settings) else {
+        return false;
+    };
     let wrote = write_all(out, &outcomes);
     let_go(outcomes);
     wrote

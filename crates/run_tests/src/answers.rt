@@ -1,7 +1,7 @@
 //! Query lines that are answered, and those beside them.
 
 use super::none_is_wrong;
-use run_support::{Case, Held, Kind, Row, Status, first_wrong};
+use run_support::{Case, Held, Kind, RUN, Row, Status, first_wrong};
 
 /// Two lists of the same objects.
 const A: &[(u32, u32)] = &[(1, 900), (2, 800), (3, 100)];
@@ -9,7 +9,15 @@ const A: &[(u32, u32)] = &[(1, 900), (2, 800), (3, 100)];
 const B: &[(u32, u32)] = &[(2, 700), (3, 600), (1, 500)];
 
 /// Each of these is read a row at a time, and nothing is read ahead: one query runs after another.
-const ONE_BY_ONE: &[&str] = &["--workers", "1", "--page=1", "--ahead", "0"];
+const ONE_BY_ONE: &[&str] = &[
+    "run",
+    "cat.csv",
+    "--workers",
+    "1",
+    "--page=1",
+    "--ahead",
+    "0",
+];
 
 const TWO: &str = "name,place,random\r\nA,lists/a.csv,yes\r\nB,lists/b.csv,yes\r\n";
 
@@ -73,7 +81,7 @@ const RISING_TEXT: &str =
 static ANSWERED: [Row; 7] = [
     Row {
         case: Case {
-            options: &[],
+            words: RUN,
             catalog: TWO,
             sources: SHELF,
             lines: "top 1 by sum(A,B) using ta\n",
@@ -83,7 +91,7 @@ static ANSWERED: [Row; 7] = [
     },
     Row {
         case: Case {
-            options: &[],
+            words: RUN,
             catalog: TWO,
             sources: SHELF,
             lines: "",
@@ -93,7 +101,7 @@ static ANSWERED: [Row; 7] = [
     },
     Row {
         case: Case {
-            options: &["--page", "2"],
+            words: &["run", "cat.csv", "--page", "2"],
             catalog: FOUR,
             sources: SHELF,
             lines: "top 1 by sum(A,B) using ta\r\ntop 1 by sum(A,S) using nra\r\ntop 1 by S using ta\r\ntop 1 by Z using nra",
@@ -103,7 +111,7 @@ static ANSWERED: [Row; 7] = [
     },
     Row {
         case: Case {
-            options: ONE_BY_ONE,
+            words: ONE_BY_ONE,
             catalog: TWO,
             sources: FAILING,
             lines: "top 1 by sum(A,B) using ta\ntop 1 by sum(A,B) using ta\n",
@@ -113,7 +121,7 @@ static ANSWERED: [Row; 7] = [
     },
     Row {
         case: Case {
-            options: &["--workers", "2"],
+            words: &["run", "cat.csv", "--workers", "2"],
             catalog: RISING_CATALOG,
             sources: RISING,
             lines: RISING_LINES,
@@ -123,7 +131,7 @@ static ANSWERED: [Row; 7] = [
     },
     Row {
         case: Case {
-            options: &["--page", "1", "--ahead", "0"],
+            words: &["run", "cat.csv", "--page", "1", "--ahead", "0"],
             catalog: RISING_CATALOG,
             sources: RISING,
             lines: RISING_LINES,
@@ -133,7 +141,7 @@ static ANSWERED: [Row; 7] = [
     },
     Row {
         case: Case {
-            options: &[],
+            words: RUN,
             catalog: "name,place,random\nA,lists/a.csv,yes\nC,lists/a.csv,no\n",
             sources: SHELF,
             lines: "top 1 by sum(A,C) using nra\n",

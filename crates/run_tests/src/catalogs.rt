@@ -1,14 +1,14 @@
 //! Catalogs that are refused.
 
 use super::none_is_wrong;
-use run_support::{Case, Row, Status, first_wrong};
+use run_support::{Case, RUN, Row, Status, first_wrong};
 
 const LINES: &str = "top 1 by A using ta\n";
 
 static NO_CATALOGS: [Row; 5] = [
     Row {
         case: Case {
-            options: &[],
+            words: RUN,
             catalog: "name,place,random\nA,a,yes\nB,b,maybe\n",
             sources: &[],
             lines: LINES,
@@ -18,7 +18,7 @@ static NO_CATALOGS: [Row; 5] = [
     },
     Row {
         case: Case {
-            options: &[],
+            words: RUN,
             catalog: "name,place,random\nA,a,yes\nA,b,yes\n",
             sources: &[],
             lines: LINES,
@@ -28,7 +28,7 @@ static NO_CATALOGS: [Row; 5] = [
     },
     Row {
         case: Case {
-            options: &[],
+            words: RUN,
             catalog: "",
             sources: &[],
             lines: LINES,
@@ -38,7 +38,7 @@ static NO_CATALOGS: [Row; 5] = [
     },
     Row {
         case: Case {
-            options: &[],
+            words: RUN,
             catalog: "A,a,yes\n",
             sources: &[],
             lines: LINES,
@@ -48,7 +48,7 @@ static NO_CATALOGS: [Row; 5] = [
     },
     Row {
         case: Case {
-            options: &[],
+            words: RUN,
             catalog: "name,place,random\nA,http://host/a,yes\n",
             sources: &[],
             lines: LINES,

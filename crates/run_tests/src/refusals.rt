@@ -1,12 +1,12 @@
 //! Query lines that are refused.
 
 use super::none_is_wrong;
-use run_support::{Case, Held, Kind, Row, Status, first_wrong};
+use run_support::{Case, Held, Kind, RUN, Row, Status, first_wrong};
 
 const TWO: &str = "name,place,random\nA,a,yes\nB,b,yes\n";
 
 /// The sources of these rows give one row in each page, and nothing is read ahead.
-const ONE_ROW: &[&str] = &["--page", "1", "--ahead", "0"];
+const ONE_ROW: &[&str] = &["run", "cat.csv", "--page", "1", "--ahead", "0"];
 
 const A: &[(u32, u32)] = &[(1, 900), (2, 800), (3, 100)];
 
@@ -21,7 +21,7 @@ static REFUSED: [Row; 9] = [
     // by the text and the catalog
     Row {
         case: Case {
-            options: &[],
+            words: RUN,
             catalog: "name,place,random\nA,nowhere,yes\n",
             sources: &[],
             lines: "top 01 by A using ta\ntop 0 by A using ta\ntop 1 by\ntop 1 by foo(A) using ta\n",
@@ -31,7 +31,7 @@ static REFUSED: [Row; 9] = [
     },
     Row {
         case: Case {
-            options: &[],
+            words: RUN,
             catalog: "name,place,random\nN,nowhere,yes\nM,nowhere,yes\n",
             sources: &[],
             lines: "top 1 by N using ta\ntop 1 by sum(M,N) using ta\ntop 1 by sum(Z,N) using ta\n",
@@ -42,7 +42,7 @@ static REFUSED: [Row; 9] = [
     // by the rows
     Row {
         case: Case {
-            options: &["--page", "2"],
+            words: &["run", "cat.csv", "--page", "2"],
             catalog: "name,place,random\nA,a,yes\n",
             sources: &[Held {
                 place: "a",
@@ -56,7 +56,7 @@ static REFUSED: [Row; 9] = [
     },
     Row {
         case: Case {
-            options: &[],
+            words: RUN,
             catalog: TWO,
             sources: &[
                 Held {
@@ -77,7 +77,16 @@ static REFUSED: [Row; 9] = [
     },
     Row {
         case: Case {
-            options: &["--workers", "1", "--page", "1", "--ahead", "0"],
+            words: &[
+                "run",
+                "cat.csv",
+                "--workers",
+                "1",
+                "--page",
+                "1",
+                "--ahead",
+                "0",
+            ],
             catalog: "name,place,random\nA,a,yes\nB,b,yes\nC,c,yes\nD,d,yes\n",
             sources: &[
                 Held {
@@ -109,7 +118,7 @@ static REFUSED: [Row; 9] = [
     // by the grades and sizes that are given
     Row {
         case: Case {
-            options: ONE_ROW,
+            words: ONE_ROW,
             catalog: TWO,
             sources: &[
                 Held {
@@ -126,7 +135,7 @@ static REFUSED: [Row; 9] = [
     },
     Row {
         case: Case {
-            options: ONE_ROW,
+            words: ONE_ROW,
             catalog: TWO,
             sources: &[
                 Held {
@@ -143,7 +152,7 @@ static REFUSED: [Row; 9] = [
     },
     Row {
         case: Case {
-            options: ONE_ROW,
+            words: ONE_ROW,
             catalog: TWO,
             sources: &[
                 Held {
@@ -160,7 +169,7 @@ static REFUSED: [Row; 9] = [
     },
     Row {
         case: Case {
-            options: &[],
+            words: RUN,
             catalog: TWO,
             sources: &[
                 Held {
