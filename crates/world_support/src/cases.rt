@@ -10,7 +10,6 @@ use query_core::Ready;
 use query_support::{Asked, Expected, are_small, let_go, readies_of};
 use query_world::World;
 use std::alloc::Global;
-use std::test::Fail;
 
 /// Sources with how many objects they state, queries, steps that are taken first where they are lawful, how many turns a round
 /// has then, and how the queries end.
@@ -24,26 +23,26 @@ pub struct Case {
     pub ends: &'static [Expected],
 }
 
-/// Steps that are taken where they are lawful. None where one can't be made.
-fn take_all(alloc: Global, world: &mut World, case: &Case) -> Option<()> {
+/// Takes steps where they are lawful. False where one can't be made.
+fn take_all(alloc: Global, world: &mut World, case: &Case) -> bool {
     for step in case.acts {
-        take_act(alloc, world, &case.sources, *step)?;
+        if take_act(alloc, world, &case.sources, *step).is_none() {
+            return false;
+        }
     }
-    Some(())
+    true
 }
 
 /// Whether the queries of a world end as they are to, after the steps of a case.
 fn end_as(alloc: Global, world: World, case: &Case) -> bool {
     let mut world = world;
-    match take_all(alloc, &mut world, case) {
-        Some(()) => match ends_of(alloc, world, &case.sources, case.workers, case.ends) {
-            Some(ends) => ends.so,
-            None => false,
-        },
-        None => {
-            world.close();
-            false
-        }
+    if !take_all(alloc, &mut world, case) {
+        world.close();
+        return false;
+    }
+    match ends_of(alloc, world, &case.sources, case.workers, case.ends) {
+        Some(ends) => ends.so,
+        None => false,
     }
 }
 
@@ -60,24 +59,23 @@ fn end_so(alloc: Global, case: &Case, readies: &[Ready]) -> bool
     }
 }
 
-/// Whether the queries of a case end as they are to.
-fn ends_so(alloc: Global, case: &Case) -> Result<bool, Fail> {
-    let readies = readies_of(alloc, case.counts, case.asked)?;
-    if !are_small(case.counts) || case.counts.len() > 100 || readies.len() > 100 {
-        let_go(readies);
-        return Err("a few small sources".into());
-    }
-    let so = end_so(alloc, case, &readies);
+/// Whether the queries of a case, which has a few small sources, end as they are to.
+fn ends_so(alloc: Global, case: &Case) -> bool {
+    let Some(readies) = readies_of(alloc, case.counts, case.asked) else {
+        return false;
+    };
+    let is_small = are_small(case.counts) && case.counts.len() <= 100 && readies.len() <= 100;
+    let so = is_small && end_so(alloc, case, &readies);
     let_go(readies);
-    Ok(so)
+    so
 }
 
 /// The number of the first case whose queries end otherwise.
-pub fn first_wrong(alloc: Global, cases: &[Case]) -> Result<Option<usize>, Fail> {
+pub fn first_wrong(alloc: Global, cases: &[Case]) -> Option<usize> {
     for (number, case) in cases.iter().enumerate() {
-        if !ends_so(alloc, case)? {
-            return Ok(Some(number));
+        if !ends_so(alloc, case) {
+            return Some(number);
         }
     }
-    Ok(None)
+    None
 }
