@@ -10,7 +10,6 @@ use query_core::Ready;
 use query_support::{are_small, let_go, readies_of};
 use query_world::World;
 use std::alloc::Global;
-use std::test::Fail;
 use world_support::{Act, Ends, ends_of, take_act, world_of};
 
 /// What comes of an order, which has for each step the place of its act among those of the trial.
@@ -21,6 +20,8 @@ enum Outcome {
     Otherwise,
     /// From the place of one of its steps on, no act is lawful.
     Unlawful,
+    /// A step can't be made, there is no memory, or the queries don't end.
+    Unmade,
     /// It is behind the last order.
     Past,
 }
@@ -36,50 +37,48 @@ fn is_whole(world: &World, act: Act) -> bool {
     }
 }
 
-/// Takes a step, if it is lawful.
-fn take(alloc: Global, world: &mut World, trial: &Trial, act: Act) -> Result<bool, Fail> {
-    match take_act(alloc, world, &trial.sources, act) {
-        Some(taken) => Ok(taken),
-        None => Err("a small page".into()),
-    }
+/// The next step of an order.
+enum Next {
+    /// The place of its act.
+    Taken(u8),
+    /// No act is lawful.
+    Ended,
+    /// It can't be made.
+    Unmade,
 }
 
-/// Takes the first lawful step from a place on, and tells its place.
-fn take_next(
-    alloc: Global,
-    world: &mut World,
-    trial: &Trial,
-    from: u8,
-) -> Result<Option<u8>, Fail> {
+/// Takes the first lawful step from a place on.
+fn take_next(alloc: Global, world: &mut World, trial: &Trial, from: u8) -> Next {
     let mut place: u8 = 0;
     for act in trial.acts {
-        if place >= from && is_whole(world, *act) && take(alloc, world, trial, *act)? {
-            return Ok(Some(place));
+        if place >= from && is_whole(world, *act) {
+            match take_act(alloc, world, &trial.sources, *act) {
+                Some(true) => return Next::Taken(place),
+                Some(false) => {}
+                None => return Next::Unmade,
+            }
         }
         place = place.saturating_add(1);
     }
-    Ok(None)
+    Next::Ended
 }
 
 /// Takes the steps of an order, as many as the trial says, for each the first lawful one from its place on, and tells how many there are.
-fn follow(
-    alloc: Global,
-    world: &mut World,
-    trial: &Trial,
-    order: &mut [u8],
-) -> Result<usize, Fail> {
+/// None where one can't be made.
+fn follow(alloc: Global, world: &mut World, trial: &Trial, order: &mut [u8]) -> Option<usize> {
     let mut taken: usize = 0;
     for place in order.iter_mut() {
         if taken == trial.steps {
-            return Ok(taken);
+            break;
         }
-        let Some(next) = take_next(alloc, world, trial, *place)? else {
-            return Ok(taken);
-        };
-        *place = next;
+        match take_next(alloc, world, trial, *place) {
+            Next::Taken(next) => *place = next,
+            Next::Ended => break,
+            Next::Unmade => return None,
+        }
         taken = taken.saturating_add(1);
     }
-    Ok(taken)
+    Some(taken)
 }
 
 /// The order after one that took so many steps: the last of them is another one.
@@ -118,25 +117,19 @@ fn is_tried(order: &[u8], taken: usize) -> bool {
 }
 
 /// What comes of an order that took so many steps of a world.
-fn outcome_of(
-    alloc: Global,
-    world: World,
-    trial: &Trial,
-    order: &[u8],
-    taken: usize,
-) -> Result<Outcome, Fail> {
+fn outcome_of(alloc: Global, world: World, trial: &Trial, order: &[u8], taken: usize) -> Outcome {
     if taken == 0 || is_tried(order, taken) {
         world.close();
-        return Ok(if taken == 0 {
+        return if taken == 0 {
             Outcome::Past
         } else {
             Outcome::Unlawful
-        });
+        };
     }
-    let Some(ends) = ends_of(alloc, world, &trial.sources, 1, trial.ends) else {
-        return Err("an end".into());
-    };
-    Ok(outcome_by(ends, trial, order))
+    match ends_of(alloc, world, &trial.sources, 1, trial.ends) {
+        Some(ends) => outcome_by(ends, trial, order),
+        None => Outcome::Unmade,
+    }
 }
 
 /// What comes of an order after which the queries ended so: where they ended otherwise than they are to, the first query may be refused
@@ -154,40 +147,31 @@ fn outcome_by(ends: Ends, trial: &Trial, order: &[u8]) -> Outcome {
 }
 
 /// Tries an order, and makes the next one of it.
-fn try_order(
-    alloc: Global,
-    trial: &Trial,
-    readies: &[Ready],
-    order: &mut [u8],
-) -> Result<Outcome, Fail>
+fn try_order(alloc: Global, trial: &Trial, readies: &[Ready], order: &mut [u8]) -> Outcome
     requires sources { length trial.now.counts.now < 2 ^ 32 }
     requires counts { All (λ count. count ≤ MAX_OBJECTS) trial.now.counts.now }
     requires queries { length readies.now < 2 ^ 32 }
     requires ready { All (IsReadyFor trial.now.counts.now) readies.now }
 {
     let Some(mut world) = world_of(alloc, trial.counts, readies) else {
-        return Err("memory".into());
+        return Outcome::Unmade;
     };
     match follow(alloc, &mut world, trial, order) {
-        Ok(taken) => {
-            let outcome = outcome_of(alloc, world, trial, order, taken)?;
+        Some(taken) => {
+            let outcome = outcome_of(alloc, world, trial, order, taken);
             advance(order, taken);
-            Ok(outcome)
+            outcome
         }
-        Err(fault) => {
+        None => {
             world.close();
-            Err(fault)
+            Outcome::Unmade
         }
     }
 }
 
-/// How many orders of so many lawful steps there are, or None where the queries end otherwise after one of them.
-fn try_orders(
-    alloc: Global,
-    trial: &Trial,
-    readies: &[Ready],
-    order: &mut [u8],
-) -> Result<Option<u32>, Fail>
+/// How many orders of so many lawful steps there are. None where the queries end otherwise after one of them, where one can't be tried, or
+/// where there are too many.
+fn try_orders(alloc: Global, trial: &Trial, readies: &[Ready], order: &mut [u8]) -> Option<u32>
     requires sources { length trial.now.counts.now < 2 ^ 32 }
     requires counts { All (λ count. count ≤ MAX_OBJECTS) trial.now.counts.now }
     requires queries { length readies.now < 2 ^ 32 }
@@ -195,53 +179,53 @@ fn try_orders(
 {
     let mut orders: u32 = 0;
     for _ in 0..100_000 {
-        match try_order(alloc, trial, readies, order)? {
+        match try_order(alloc, trial, readies, order) {
             Outcome::Alike => orders = orders.saturating_add(1),
-            Outcome::Otherwise => return Ok(None),
             Outcome::Unlawful => {}
-            Outcome::Past => return Ok(Some(orders)),
+            Outcome::Past => return Some(orders),
+            Outcome::Otherwise | Outcome::Unmade => return None,
         }
     }
-    Err("fewer orders".into())
+    None
 }
 
 /// Whether a trial, whose queries are ready, has as many orders as it says, and the queries end as they are to after each.
-fn are_alike(alloc: Global, trial: &Trial, readies: &[Ready]) -> Result<bool, Fail>
+fn are_alike(alloc: Global, trial: &Trial, readies: &[Ready]) -> bool
     requires sources { length trial.now.counts.now < 2 ^ 32 }
     requires counts { All (λ count. count ≤ MAX_OBJECTS) trial.now.counts.now }
     requires queries { length readies.now < 2 ^ 32 }
     requires ready { All (IsReadyFor trial.now.counts.now) readies.now }
 {
     let mut order: [u8; 8] = [0; 8];
-    let counted = try_orders(alloc, trial, readies, &mut order)?;
-    Ok(counted == Some(trial.orders))
+    match try_orders(alloc, trial, readies, &mut order) {
+        Some(orders) => orders == trial.orders,
+        None => false,
+    }
 }
 
-/// The same of queries as plain data.
-fn is_alike(alloc: Global, trial: &Trial) -> Result<bool, Fail> {
-    let readies = readies_of(alloc, trial.counts, trial.asked)?;
-    if !are_small(trial.counts) || trial.counts.len() > 100 || readies.len() > 100 {
-        let_go(readies);
-        return Err("a few small sources".into());
-    }
-    let alike = are_alike(alloc, trial, &readies);
+/// The same of queries as plain data over a few small sources.
+fn is_alike(alloc: Global, trial: &Trial) -> bool {
+    let Some(readies) = readies_of(alloc, trial.counts, trial.asked) else {
+        return false;
+    };
+    let is_small = are_small(trial.counts) && trial.counts.len() <= 100 && readies.len() <= 100;
+    let alike = is_small && are_alike(alloc, trial, &readies);
     let_go(readies);
     alike
 }
 
 /// The number of the first trial that is otherwise.
-fn first_otherwise(alloc: Global, trials: &[Trial]) -> Result<Option<usize>, Fail> {
+fn first_otherwise(alloc: Global, trials: &[Trial]) -> Option<usize> {
     for (number, trial) in trials.iter().enumerate() {
-        if !is_alike(alloc, trial)? {
-            return Ok(Some(number));
+        if !is_alike(alloc, trial) {
+            return Some(number);
         }
     }
-    Ok(None)
+    None
 }
 
 /// All lists of so many lawful steps.
 #[test]
-fn queries_end_alike_in_every_order(rt: HostRuntime) -> Result<(), Fail> {
-    none_is_wrong(&rt, first_otherwise(rt.alloc(), &TRIALS)?);
-    Ok(())
+fn queries_end_alike_in_every_order(rt: HostRuntime) {
+    none_is_wrong(&rt, first_otherwise(rt.alloc(), &TRIALS));
 }
