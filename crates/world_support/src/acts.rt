@@ -41,23 +41,24 @@ fn take(world: &mut World, step: Step) -> bool {
     may
 }
 
-/// Adds the rows of a list behind the first, so many of them. None without memory.
-fn add_rows(list: &[(u32, u32)], from: u32, count: u32, rows: &mut Vec<Row>) -> Option<()> {
+/// Adds the rows of a list behind the first, so many of them. False without memory.
+fn add_rows(list: &[(u32, u32)], from: u32, count: u32, rows: &mut Vec<Row>) -> bool {
     for (object, grade) in list.iter().skip(from as usize).take(count as usize) {
         let row = Row {
             object: *object,
             grade: *grade,
         };
-        rows.push(row).ok()?;
+        if rows.push(row).is_err() {
+            return false;
+        }
     }
-    Some(())
+    true
 }
 
 /// A page of these rows. None without memory, or where they are too many for a small page.
 fn page_of(alloc: Global, list: &[(u32, u32)], from: u32, count: u32) -> Option<PageRows> {
     let mut rows = Vec::new(alloc);
-    let added = add_rows(list, from, count, &mut rows);
-    if added.is_none() || rows.len() > 1000 {
+    if !add_rows(list, from, count, &mut rows) || rows.len() > 1000 {
         return None;
     }
     Some(PageRows::from_vec(rows))
@@ -88,8 +89,10 @@ fn grade_of(sources: &Sources, source: u32, object: u32) -> Option<u32> {
     if let Some(grade) = other_grade(sources.grades, source, object) {
         return Some(grade);
     }
-    let rows = sources.lists.get(source as usize)?;
-    grade_in(*rows, object)
+    match sources.lists.get(source as usize) {
+        Some(rows) => grade_in(*rows, object),
+        None => None,
+    }
 }
 
 /// What random access of an object brings.
@@ -116,9 +119,14 @@ fn take_page(
         return Some(false);
     }
     let from = world.state(source).rows();
-    let list = sources.lists.get(source as usize).copied().unwrap_or(&[]);
-    let rows = page_of(alloc, list, from, count)?;
-    Some(take(world, Step::Page { source, rows }))
+    let list: &[(u32, u32)] = match sources.lists.get(source as usize) {
+        Some(list) => *list,
+        None => &[],
+    };
+    match page_of(alloc, list, from, count) {
+        Some(rows) => Some(take(world, Step::Page { source, rows })),
+        None => None,
+    }
 }
 
 /// Takes a step, if it is lawful. None where there is no memory for it, or its page is no small one.
@@ -151,11 +159,11 @@ fn next_act(world: &World, sources: &mut Sources, source: u32) -> Option<Act> {
         return None;
     }
     let plan = world.state(source).plan(sources.page, 0);
-    let act = act_of(sources, source, plan)?;
-    if let Act::Fail(_) = act {
+    let act = act_of(sources, source, plan);
+    if let Some(Act::Fail(_)) = act {
         sources.fails = None;
     }
-    Some(act)
+    act
 }
 
 /// One call of a source that isn't idle, and its step, if it is lawful. None where there is no memory for it.
@@ -166,12 +174,14 @@ fn serve(alloc: Global, world: &mut World, sources: &mut Sources, source: u32) -
     }
 }
 
-/// One call of each source.
-fn serve_all(alloc: Global, world: &mut World, sources: &mut Sources) -> Option<()> {
+/// One call of each source. False without memory.
+fn serve_all(alloc: Global, world: &mut World, sources: &mut Sources) -> bool {
     for source in 0..world.sources() {
-        serve(alloc, world, sources, source)?;
+        if serve(alloc, world, sources, source).is_none() {
+            return false;
+        }
     }
-    Some(())
+    true
 }
 
 /// Turns of the first queries that haven't ended, so many, in their order.
@@ -203,7 +213,9 @@ pub fn end_by_rounds(
             return Some(());
         }
         turn_first(world, workers);
-        serve_all(alloc, world, &mut sources)?;
+        if !serve_all(alloc, world, &mut sources) {
+            return None;
+        }
     }
     None
 }
