@@ -30,8 +30,8 @@ type Told = Result<Verdict, JudgeFault>;
 /// The text of a query, and how many lists it names.
 type Asked = (&'static [u8], u8);
 
-/// How many objects there are, the accesses, k, the answer, and what is told of it.
-type Row = (u32, &'static [Access], u32, &'static [u32], Told);
+/// What is asked, how many objects there are, the accesses, k, the answer, and what is told of it.
+type Row = (Asked, u32, &'static [Access], u32, &'static [u32], Told);
 
 /// How many objects there are, the accesses, and the sums of objects in the table that beats the answer.
 type Countered = (u32, &'static [Access], &'static [(u32, u64)]);
@@ -80,7 +80,10 @@ fn verdict_over(alloc: Global, log: &Transcript, expr: &Expr, question: &Questio
     let told = judge(alloc, log, expr, question.k, question.answer);
     let against = match told {
         Ok(Verdict::Beaten { inside, .. }) if log.is_seen(inside) => {
-            counter_table(alloc, log, inside).ok()?
+            match counter_table(alloc, log, inside) {
+                Ok(table) => table,
+                Err(_) => return None,
+            }
         }
         _ => Vec::new(alloc),
     };
@@ -89,7 +92,9 @@ fn verdict_over(alloc: Global, log: &Transcript, expr: &Expr, question: &Questio
 
 /// What is told of a question's answer by its expression, of as many lists as the query names. None without memory.
 fn verdict_by(alloc: Global, expr: &Expr, question: &Question) -> Option<Judged> {
-    let log = transcript_of(alloc, question)?;
+    let Some(log) = transcript_of(alloc, question) else {
+        return None;
+    };
     let judged = if expr.lists() == log.lists() {
         verdict_over(alloc, &log, expr, question)
     } else {
@@ -132,13 +137,15 @@ fn has_sums(alloc: Global, lists: &[MemList], sums: &[(u32, u64)]) -> bool {
             return false;
         }
     }
-    is_table(alloc, lists).unwrap_or(false)
+    match is_table(alloc, lists) {
+        Ok(is_table) => is_table,
+        Err(_) => false,
+    }
 }
 
 /// Whether this is told of a row's answer.
-fn is_so(alloc: Global, asked: Asked, row: &Row) -> bool {
-    let (query, lists) = asked;
-    let (count, accesses, k, answer, told) = *row;
+fn is_so(alloc: Global, row: &Row) -> bool {
+    let ((query, lists), count, accesses, k, answer, told) = *row;
     let question = Question {
         query,
         lists,
@@ -156,9 +163,9 @@ fn is_so(alloc: Global, asked: Asked, row: &Row) -> bool {
 }
 
 /// The number of the first row of whose answer something else is told.
-fn first_wrong(alloc: Global, asked: Asked, rows: &[Row]) -> Option<usize> {
+fn first_wrong(alloc: Global, rows: &[Row]) -> Option<usize> {
     for (number, row) in rows.iter().enumerate() {
-        if !is_so(alloc, asked, row) {
+        if !is_so(alloc, row) {
             return Some(number);
         }
     }
@@ -190,38 +197,7 @@ const FIRST: [Access; 4] = [
 /// The rows of its first depth.
 const ROWS: [Access; 2] = [sorted_row!(0, 1, 900), sorted_row!(1, 2, 700)];
 
-/// The run, and the same without its last accesses: beaten by an unseen object, fixed where there is none, and beaten by an object
-/// that was seen.
-static RUNS: [Row; 4] = [
-    (3, &RUN, 1, &[2], Ok(Verdict::Fixes)),
-    (
-        3,
-        &FIRST,
-        1,
-        &[2],
-        Ok(Verdict::Beaten {
-            inside: 2,
-            outside: 0,
-            low: 1500,
-            high: 1600,
-        }),
-    ),
-    (2, &FIRST, 1, &[2], Ok(Verdict::Fixes)),
-    (
-        2,
-        &ROWS,
-        1,
-        &[2],
-        Ok(Verdict::Beaten {
-            inside: 2,
-            outside: 1,
-            low: 700,
-            high: 1600,
-        }),
-    ),
-];
-
-/// The two of these that are beaten.
+/// The two of the runs that are beaten.
 static COUNTERED: [Countered; 2] = [
     (3, &FIRST, &[(2, 1500), (0, 1600), (1, 1400)]),
     (2, &ROWS, &[(2, 700), (1, 1600)]),
@@ -276,14 +252,6 @@ macro_rules! beaten {
     };
 }
 
-/// Of equal lows inside, and of equal highs outside, the object of the smallest id is named.
-static SMALLEST: [Row; 4] = [
-    (4, NINES, 1, &[5], beaten!(5, 0)),
-    (4, NINES, 2, &[5, 4], beaten!(4, 0)),
-    (3, NINES, 1, &[5], beaten!(5, 3)),
-    (3, NINES, 1, &[3], beaten!(3, 4)),
-];
-
 /// One list.
 const ONE: Asked = (b"top 1 by A using ta", 1);
 
@@ -293,11 +261,61 @@ const WILD: &[Access] = &[sorted_row!(0, 9, 0), random_row!(0, 8, 0)];
 
 const WILD_AT_ONCE: &[Access] = &[random_row!(0, 9, 0), sorted_row!(0, 9, 0)];
 
-/// Each fault, and the first of two.
-static FAULTS: [Row; 12] = [
-    (1, TAME, 1, &[9], Ok(Verdict::Fixes)),
-    (1, &[], 1, &[9], Err(JudgeFault::UnseenAnswer { object: 9 })),
+/// The greatest aggregates of 64 bits.
+const GREATEST: Asked = (
+    b"top 1 by sum(wsum(4611686018427*A),wsum(4611686018427*B)) using ta",
+    2,
+);
+
+/// What is told of answers.
+static JUDGED: [Row; 21] = [
+    // The run, and the same without its last accesses: beaten by an unseen object, fixed where there is none, and beaten by an object
+    // that was seen.
+    (SUM, 3, &RUN, 1, &[2], Ok(Verdict::Fixes)),
     (
+        SUM,
+        3,
+        &FIRST,
+        1,
+        &[2],
+        Ok(Verdict::Beaten {
+            inside: 2,
+            outside: 0,
+            low: 1500,
+            high: 1600,
+        }),
+    ),
+    (SUM, 2, &FIRST, 1, &[2], Ok(Verdict::Fixes)),
+    (
+        SUM,
+        2,
+        &ROWS,
+        1,
+        &[2],
+        Ok(Verdict::Beaten {
+            inside: 2,
+            outside: 1,
+            low: 700,
+            high: 1600,
+        }),
+    ),
+    // Of equal lows inside, and of equal highs outside, the object of the smallest id is named.
+    (SUM, 4, NINES, 1, &[5], beaten!(5, 0)),
+    (SUM, 4, NINES, 2, &[5, 4], beaten!(4, 0)),
+    (SUM, 3, NINES, 1, &[5], beaten!(5, 3)),
+    (SUM, 3, NINES, 1, &[3], beaten!(3, 4)),
+    // Each fault, and the first of two.
+    (ONE, 1, TAME, 1, &[9], Ok(Verdict::Fixes)),
+    (
+        ONE,
+        1,
+        &[],
+        1,
+        &[9],
+        Err(JudgeFault::UnseenAnswer { object: 9 }),
+    ),
+    (
+        ONE,
         1,
         TAME,
         1,
@@ -305,6 +323,7 @@ static FAULTS: [Row; 12] = [
         Err(JudgeFault::WrongSize { given: 2, k: 1 }),
     ),
     (
+        ONE,
         1,
         TAME,
         2,
@@ -312,6 +331,7 @@ static FAULTS: [Row; 12] = [
         Err(JudgeFault::WrongSize { given: 2, k: 2 }),
     ),
     (
+        ONE,
         2,
         &[],
         2,
@@ -319,6 +339,7 @@ static FAULTS: [Row; 12] = [
         Err(JudgeFault::WrongSize { given: 2, k: 2 }),
     ),
     (
+        ONE,
         1,
         TAME,
         2,
@@ -326,6 +347,7 @@ static FAULTS: [Row; 12] = [
         Err(JudgeFault::WrongSize { given: 1, k: 2 }),
     ),
     (
+        ONE,
         1,
         TAME,
         2,
@@ -333,50 +355,50 @@ static FAULTS: [Row; 12] = [
         Err(JudgeFault::UnseenAnswer { object: 3 }),
     ),
     (
+        ONE,
         3,
         TAME,
         3,
         &[4, 9, 3],
         Err(JudgeFault::UnseenAnswer { object: 4 }),
     ),
-    (3, WILD, 3, &[4, 4, 9], Err(JudgeFault::WildGuess { at: 2 })),
     (
+        ONE,
+        3,
+        WILD,
+        3,
+        &[4, 4, 9],
+        Err(JudgeFault::WildGuess { at: 2 }),
+    ),
+    (
+        ONE,
         3,
         WILD_AT_ONCE,
         1,
         &[9],
         Err(JudgeFault::WildGuess { at: 1 }),
     ),
-    (3, TAME, 0, &[], Ok(Verdict::Fixes)),
-    (3, TAME, 1, &[9], Ok(Verdict::Fixes)),
+    (ONE, 3, TAME, 0, &[], Ok(Verdict::Fixes)),
+    (ONE, 3, TAME, 1, &[9], Ok(Verdict::Fixes)),
+    (
+        GREATEST,
+        2,
+        &[sorted_row!(0, 1, 1_000_000), sorted_row!(1, 2, 1_000_000)],
+        1,
+        &[1],
+        Ok(Verdict::Beaten {
+            inside: 1,
+            outside: 2,
+            low: 4_611_686_018_427_000_000,
+            high: 9_223_372_036_854_000_000,
+        }),
+    ),
 ];
-
-/// The greatest aggregates of 64 bits.
-const GREATEST: Asked = (
-    b"top 1 by sum(wsum(4611686018427*A),wsum(4611686018427*B)) using ta",
-    2,
-);
-
-static ABOVE_ALL: [Row; 1] = [(
-    2,
-    &[sorted_row!(0, 1, 1_000_000), sorted_row!(1, 2, 1_000_000)],
-    1,
-    &[1],
-    Ok(Verdict::Beaten {
-        inside: 1,
-        outside: 2,
-        low: 4_611_686_018_427_000_000,
-        high: 9_223_372_036_854_000_000,
-    }),
-)];
 
 /// A run and its beginnings, ties, each fault, and the greatest aggregates. What beats an answer is a table: the object inside has its
 /// low there, and each other object its high.
 #[test]
 fn judges_each_row(rt: HostRuntime) {
-    none_is_wrong(&rt, first_wrong(rt.alloc(), SUM, &RUNS));
-    none_is_wrong(&rt, first_wrong(rt.alloc(), SUM, &SMALLEST));
-    none_is_wrong(&rt, first_wrong(rt.alloc(), ONE, &FAULTS));
-    none_is_wrong(&rt, first_wrong(rt.alloc(), GREATEST, &ABOVE_ALL));
+    none_is_wrong(&rt, first_wrong(rt.alloc(), &JUDGED));
     none_is_wrong(&rt, first_uncountered(rt.alloc(), &COUNTERED));
 }
