@@ -15,8 +15,8 @@ type Paged = (
     Option<Asked>,
 );
 
-/// Rows at fault.
-static ROWS: [Paged; 4] = [
+/// Rows at fault, and grades above rows.
+static ROWS: [Paged; 9] = [
     // a row out of order ends the page
     (
         &[Step::Page(&[(1, 900), (2, 950), (3, 800)])],
@@ -65,10 +65,6 @@ static ROWS: [Paged; 4] = [
         }),
         None,
     ),
-];
-
-/// Grades above rows.
-static ABOVE: [Paged; 5] = [
     // a grade above the last row's
     (
         &[Step::Ask(2), Step::Page(&[(1, 900)]), Step::Grade(2, 950)],
@@ -288,7 +284,6 @@ fn first_other(alloc: Global, rows: &[Waited]) -> Option<usize> {
 #[test]
 fn tells_what_there_is_after_events(rt: HostRuntime) {
     none_is_wrong(&rt, first_wrong(rt.alloc(), &ROWS));
-    none_is_wrong(&rt, first_wrong(rt.alloc(), &ABOVE));
     none_is_wrong(&rt, first_other(rt.alloc(), &ASKS));
 }
 

@@ -9,8 +9,8 @@ use std::alloc::Global;
 /// Events, a need that is looked for first, further events, and the need with what is answered then.
 type Looked = (&'static [Step], Need, &'static [Step], Need, Look);
 
-/// Looks for rows.
-static ROWS: [Looked; 8] = [
+/// Looks for rows, and for grades.
+static ROWS: [Looked; 13] = [
     // a row that is there
     (
         &[],
@@ -82,10 +82,6 @@ static ROWS: [Looked; 8] = [
         Need::Row { list: 3, depth: 1 },
         Look::Fault(LookFault::Failed),
     ),
-];
-
-/// Looks for grades.
-static GRADES: [Looked; 5] = [
     // a grade that came
     (
         &[],
@@ -196,7 +192,6 @@ fn first_wrong(alloc: Global, looks: &[Looked]) -> Option<usize> {
 #[test]
 fn looks_for_rows_and_grades(rt: HostRuntime) {
     none_is_wrong(&rt, first_wrong(rt.alloc(), &ROWS));
-    none_is_wrong(&rt, first_wrong(rt.alloc(), &GRADES));
 }
 
 /// A fail of each kind.
