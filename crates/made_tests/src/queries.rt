@@ -4,7 +4,6 @@ use super::none_is_wrong;
 use made_queries::made_query;
 use query_text::print;
 use std::alloc::Global;
-use test_support::Unmade;
 
 /// A query's number, the objects and lists that it is made over, and its text.
 type Row = (u32, u32, u8, &'static str);
@@ -37,29 +36,29 @@ static ROWS: [Row; 9] = [
 ];
 
 /// Whether the query of a row is made with its text.
-fn is_made(alloc: Global, row: &Row) -> Result<bool, Unmade> {
+fn is_made(alloc: Global, row: &Row) -> bool {
     let (number, count, lists, text) = *row;
     let Ok(query) = made_query(alloc, number, count.max(1), lists.max(1).min(8)) else {
-        return Err(Unmade::Memory);
+        return false;
     };
     let printed = print(alloc, &query);
     query.let_go();
     let Ok(printed) = printed else {
-        return Err(Unmade::Memory);
+        return false;
     };
     let is_so = printed.as_slice() == text.as_bytes();
     drop(printed);
-    Ok(is_so)
+    is_so
 }
 
 /// The number of the first row whose query is made otherwise.
-fn first_wrong(alloc: Global, rows: &[Row]) -> Result<Option<usize>, Unmade> {
+fn first_wrong(alloc: Global, rows: &[Row]) -> Option<usize> {
     for (number, row) in rows.iter().enumerate() {
-        if !is_made(alloc, row)? {
-            return Ok(Some(number));
+        if !is_made(alloc, row) {
+            return Some(number);
         }
     }
-    Ok(None)
+    None
 }
 
 #[test]

@@ -3,24 +3,26 @@
 use super::none_is_wrong;
 use command_words::{Command, WordsFault, read_command};
 use std::alloc::Global;
-use test_support::{Unmade, words_of};
+use test_support::words_of;
 
 /// Words, and the start, the objects and the lists that they tell, or none where they are refused.
 type Row = (&'static [&'static str], Option<(u64, u32, u8)>);
 
 /// Whether these words of `make` tell this, or are refused where nothing is told.
-fn is_told(alloc: Global, texts: &[&str], told: Option<(u64, u32, u8)>) -> Result<bool, Unmade> {
-    let words = words_of(alloc, texts)?;
+fn is_told(alloc: Global, texts: &[&str], told: Option<(u64, u32, u8)>) -> bool {
+    let Ok(words) = words_of(alloc, texts) else {
+        return false;
+    };
     let command = read_command(alloc, &words);
     drop(words);
     match command {
-        Ok(Command::Make(made)) => Ok(told == Some((made.start, made.count, made.lists))),
+        Ok(Command::Make(made)) => told == Some((made.start, made.count, made.lists)),
         Ok(other) => {
             drop(other);
-            Ok(false)
+            false
         }
-        Err(WordsFault::BadWords) => Ok(told.is_none()),
-        Err(WordsFault::Memory) => Err(Unmade::Memory),
+        Err(WordsFault::BadWords) => told.is_none(),
+        Err(WordsFault::Memory) => false,
     }
 }
 
@@ -134,13 +136,13 @@ static ROWS: [Row; 23] = [
 ];
 
 /// The number of the first row that tells something else.
-fn first_wrong(alloc: Global, rows: &[Row]) -> Result<Option<usize>, Unmade> {
+fn first_wrong(alloc: Global, rows: &[Row]) -> Option<usize> {
     for (number, (words, told)) in rows.iter().enumerate() {
-        if !is_told(alloc, words, *told)? {
-            return Ok(Some(number));
+        if !is_told(alloc, words, *told) {
+            return Some(number);
         }
     }
-    Ok(None)
+    None
 }
 
 #[test]
