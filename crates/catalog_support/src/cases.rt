@@ -14,21 +14,10 @@ use tk_io::MemSink;
 pub struct Case {
     pub catalog: &'static str,
     pub sources: &'static [Held],
-    pub lines: &'static [&'static str],
+    pub lines: &'static [&'static [u8]],
     pub page: u32,
     pub fails_take: Option<u64>,
     pub text: &'static [&'static str],
-}
-
-/// The lines as bytes.
-fn bytes_of(alloc: Global, lines: &[&'static str]) -> Option<Vec<&'static [u8]>> {
-    let mut bytes = Vec::new(alloc);
-    for line in lines {
-        if bytes.push(line.as_bytes()).is_err() {
-            return None;
-        }
-    }
-    Some(bytes)
 }
 
 /// Whether the bytes are these pieces, one after another.
@@ -51,14 +40,10 @@ fn writes_so<W: Threads + Wait + Sync>(
     case: &Case,
     out: &mut MemSink,
 ) -> bool {
-    let Some(lines) = bytes_of(alloc, case.lines) else {
-        return false;
-    };
     let settings = settings_of(1, case.page, 0);
     let catalog = case.catalog.as_bytes();
-    let ran = run_into(rt, alloc, shelf, catalog, &lines, settings, out);
-    drop(lines);
-    ran && is_text(out.taken(), case.text)
+    run_into(rt, alloc, shelf, catalog, case.lines, settings, out)
+        && is_text(out.taken(), case.text)
 }
 
 /// The same, where a call for a source may fail.
