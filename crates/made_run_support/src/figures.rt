@@ -23,23 +23,35 @@ const NOTHING: Figures = Figures {
 
 /// The number behind a word, and what follows it.
 fn number_after<'t>(word: &[u8], text: &'t [u8]) -> Option<(u32, &'t [u8])> {
-    let rest = rest_after(word, text)?;
-    number_front(rest)
+    match rest_after(word, text) {
+        Some(rest) => number_front(rest),
+        None => None,
+    }
 }
 
 /// The lower bound of an object, in the line that tells it.
 fn low_in(line: &[u8]) -> Option<u32> {
-    let (_, rest) = number_after(b"answer ", line)?;
-    let (low, _) = number_after(b" ", rest)?;
-    Some(low)
+    let Some((_, rest)) = number_after(b"answer ", line) else {
+        return None;
+    };
+    match number_after(b" ", rest) {
+        Some((low, _)) => Some(low),
+        None => None,
+    }
 }
 
 /// The depth, the sorted and the random accesses, in the line that tells them.
 fn stop_in(line: &[u8]) -> Option<(u32, u32, u32)> {
-    let (depth, rest) = number_after(b"stop depth ", line)?;
-    let (sorted, rest) = number_after(b" sorted ", rest)?;
-    let (random, _) = number_after(b" random ", rest)?;
-    Some((depth, sorted, random))
+    let Some((depth, rest)) = number_after(b"stop depth ", line) else {
+        return None;
+    };
+    let Some((sorted, rest)) = number_after(b" sorted ", rest) else {
+        return None;
+    };
+    match number_after(b" random ", rest) {
+        Some((random, _)) => Some((depth, sorted, random)),
+        None => None,
+    }
 }
 
 /// The figures with those of one more line.

@@ -41,32 +41,39 @@ const AHEAD: u32 = 2;
 fn line_of(alloc: Global, made: Made, number: u32) -> Option<Vec<u8>> {
     let count = made.count.max(1);
     let lists = made.lists.max(1).min(8);
-    let query = made_query(alloc, number, count, lists).ok()?;
+    let Ok(query) = made_query(alloc, number, count, lists) else {
+        return None;
+    };
     let line = print(alloc, &query);
     query.let_go();
     line.ok()
 }
 
-/// Adds the line of a made query.
-fn add_line(alloc: Global, made: Made, number: u32, lines: &mut Vec<u8>) -> Option<()> {
-    let line = line_of(alloc, made, number)?;
-    let added = lines.extend_from_slice(&line);
+/// Adds the line of a made query. False without memory.
+fn add_line(alloc: Global, made: Made, number: u32, lines: &mut Vec<u8>) -> bool {
+    let Some(line) = line_of(alloc, made, number) else {
+        return false;
+    };
+    let is_added = lines.extend_from_slice(&line).is_ok();
     drop(line);
-    added.ok()?;
-    lines.push(b'\n').ok()
+    is_added && lines.push(b'\n').is_ok()
 }
 
-/// Adds the made queries, a line each.
-fn add_lines(alloc: Global, made: Made, lines: &mut Vec<u8>) -> Option<()> {
+/// Adds the made queries, a line each. False without memory.
+fn add_lines(alloc: Global, made: Made, lines: &mut Vec<u8>) -> bool {
     for number in 0..made.queries {
-        add_line(alloc, made, number, lines)?;
+        if !add_line(alloc, made, number, lines) {
+            return false;
+        }
     }
-    Some(())
+    true
 }
 
 /// The lists of a text that `make` wrote, on a shelf, with their catalog.
 fn shelf_with_catalog(alloc: Global, text: &[u8], made: Made) -> Option<MemShelf> {
-    let mut shelf = shelf_of(alloc, text, made.lists, made.count)?;
+    let Some(mut shelf) = shelf_of(alloc, text, made.lists, made.count) else {
+        return None;
+    };
     match shelf.add_text("cat.csv", CATALOG) {
         Ok(()) => Some(shelf),
         Err(_) => {
@@ -78,7 +85,9 @@ fn shelf_with_catalog(alloc: Global, text: &[u8], made: Made) -> Option<MemShelf
 
 /// The text of a table.
 fn text_of(alloc: Global, lists: &[MemList]) -> Option<MemSink> {
-    let mut out = MemSink::make(alloc, ROOM, &[]).ok()?;
+    let Ok(mut out) = MemSink::make(alloc, ROOM, &[]) else {
+        return None;
+    };
     match write_table(&mut out, lists) {
         Ok(()) => Some(out),
         Err(_) => {
@@ -90,7 +99,9 @@ fn text_of(alloc: Global, lists: &[MemList]) -> Option<MemSink> {
 
 /// What `make` writes of a made table.
 fn made_text(alloc: Global, made: Made) -> Option<MemSink> {
-    let table = make_table(alloc, made.start, made.count, made.lists).ok()?;
+    let Ok(table) = make_table(alloc, made.start, made.count, made.lists) else {
+        return None;
+    };
     let text = text_of(alloc, &table);
     drop(table);
     text
@@ -98,7 +109,9 @@ fn made_text(alloc: Global, made: Made) -> Option<MemSink> {
 
 /// The lists that `make` writes, on a shelf, with their catalog.
 fn made_shelf(alloc: Global, made: Made) -> Option<MemShelf> {
-    let text = made_text(alloc, made)?;
+    let Some(text) = made_text(alloc, made) else {
+        return None;
+    };
     let shelf = shelf_with_catalog(alloc, text.taken(), made);
     drop(text);
     shelf
@@ -112,42 +125,43 @@ fn lines_of<'t>(alloc: Global, text: &'t [u8]) -> Option<Vec<&'t [u8]>> {
         let Some((line, more)) = first_line(rest) else {
             break;
         };
-        lines.push(line).ok()?;
+        if lines.push(line).is_err() {
+            return None;
+        }
         rest = more;
     }
     Some(lines)
 }
 
-/// What a run of the lines of a text over a shelf writes, on so many workers.
-fn written_on<R: Threads + Wait + Sync>(
+/// Writes what a run of the lines of a text comes to over a shelf, on so many workers. False where there is no memory or no room.
+fn write_on<R: Threads + Wait + Sync>(
     rt: &R,
     alloc: Global,
     shelf: &mut MemShelf,
     text: &[u8],
     workers: u32,
     out: &mut MemSink,
-) -> Option<()> {
-    let lines = lines_of(alloc, text)?;
+) -> bool {
+    let Some(lines) = lines_of(alloc, text) else {
+        return false;
+    };
     let settings = settings_of(workers, PAGE, AHEAD);
     let ran = run_into(rt, alloc, shelf, CATALOG, &lines, settings, out);
     drop(lines);
     ran
 }
 
-/// What a run of the made queries over a shelf of the lists writes, on so many workers.
-fn written_over<R: Threads + Wait + Sync>(
+/// Writes what a run of the made queries comes to over a shelf of the lists, on so many workers. False where there is no memory or no room.
+fn write_over<R: Threads + Wait + Sync>(
     rt: &R,
     alloc: Global,
     shelf: &mut MemShelf,
     made: Made,
     workers: u32,
     out: &mut MemSink,
-) -> Option<()> {
+) -> bool {
     let mut text = Vec::new(alloc);
-    let ran = match add_lines(alloc, made, &mut text) {
-        Some(()) => written_on(rt, alloc, shelf, &text, workers, out),
-        None => None,
-    };
+    let ran = add_lines(alloc, made, &mut text) && write_on(rt, alloc, shelf, &text, workers, out);
     drop(text);
     ran
 }
@@ -156,7 +170,7 @@ fn written_over<R: Threads + Wait + Sync>(
 fn are_within_reach(shelf: &MemShelf, depth: u32, count: u32) -> bool {
     let count = count.min(200_000);
     let rows = reach(depth.min(count), PAGE, AHEAD, count);
-    for place in &PLACES {
+    for place in PLACES {
         if shelf.rows_given_at(*place) > u64::from(rows) {
             return false;
         }
@@ -168,7 +182,11 @@ fn are_within_reach(shelf: &MemShelf, depth: u32, count: u32) -> bool {
 /// written.
 fn figures_in(shelf: &MemShelf, made: Made, text: &[u8]) -> Option<Figures> {
     let (figures, deepest) = figures_of(text);
-    are_within_reach(shelf, deepest, made.count).then_some(figures)
+    if are_within_reach(shelf, deepest, made.count) {
+        Some(figures)
+    } else {
+        None
+    }
 }
 
 /// What the made queries come to over a shelf of the lists, on so many workers.
@@ -179,10 +197,13 @@ fn figures_on<R: Threads + Wait + Sync>(
     made: Made,
     workers: u32,
 ) -> Option<Figures> {
-    let mut out = MemSink::make(alloc, ROOM, &[]).ok()?;
-    let figures = match written_over(rt, alloc, shelf, made, workers, &mut out) {
-        Some(()) => figures_in(shelf, made, out.taken()),
-        None => None,
+    let Ok(mut out) = MemSink::make(alloc, ROOM, &[]) else {
+        return None;
+    };
+    let figures = if write_over(rt, alloc, shelf, made, workers, &mut out) {
+        figures_in(shelf, made, out.taken())
+    } else {
+        None
     };
     drop(out);
     figures
@@ -196,7 +217,9 @@ pub fn figures_over<R: Threads + Wait + Sync>(
     made: Made,
     workers: u32,
 ) -> Option<Figures> {
-    let mut shelf = made_shelf(alloc, made)?;
+    let Some(mut shelf) = made_shelf(alloc, made) else {
+        return None;
+    };
     let figures = figures_on(rt, alloc, &mut shelf, made, workers);
     drop(shelf);
     figures
