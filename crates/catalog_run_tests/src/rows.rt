@@ -27,7 +27,7 @@ const SECOND: Held = Held {
 const TWO: &str = "name,place,random\nA,a,yes\nB,b,yes\n";
 
 /// The line that most runs ask, and the certificate of its answer, but for the certificate's number.
-const LINE: &str = "top 1 by sum(A,B) using ta";
+const LINE: &[u8] = b"top 1 by sum(A,B) using ta";
 
 const BEST: &str =
     "query top 1 by sum(A,B) using ta\ncount 3\nanswer 2 1500 1500\nstop depth 2 sorted 4 random 3 cost 7\n";
@@ -41,10 +41,10 @@ static BEFORE: [Case; 3] = [
         catalog: "name,place,random\nA,nowhere,yes\n",
         sources: &[],
         lines: &[
-            "top 01 by A using ta",
-            "top 0 by A using ta",
-            "top 1 by",
-            "top 1 by foo(A) using ta",
+            b"top 01 by A using ta",
+            b"top 0 by A using ta",
+            b"top 1 by",
+            b"top 1 by foo(A) using ta",
         ],
         page: 100,
         fails_take: None,
@@ -69,11 +69,11 @@ static BEFORE: [Case; 3] = [
         ],
         lines: &[
             LINE,
-            "top 1 by sum(A,S) using nra",
-            "top 1 by S using ta",
-            "top 1 by Z using nra",
-            "top 1 by max(A,N) using ta",
-            "top 4 by A using ta",
+            b"top 1 by sum(A,S) using nra",
+            b"top 1 by S using ta",
+            b"top 1 by Z using nra",
+            b"top 1 by max(A,N) using ta",
+            b"top 4 by A using ta",
         ],
         page: 100,
         fails_take: None,
@@ -110,7 +110,7 @@ static ROWS: [Case; 3] = [
                 kind: Kind::Honest,
             },
         ],
-        lines: &[LINE, "top 2 by sum(A,B) using ta"],
+        lines: &[LINE, b"top 2 by sum(A,B) using ta"],
         page: 100,
         fails_take: None,
         text: &[
@@ -125,7 +125,7 @@ static ROWS: [Case; 3] = [
             rows: &[(7, 9), (8, 8), (7, 7)],
             kind: Kind::Honest,
         }],
-        lines: &["top 3 by A using nra"],
+        lines: &[b"top 3 by A using nra"],
         page: 2,
         fails_take: None,
         text: &["refused 1 Repeated A 7 3\n"],
@@ -140,7 +140,7 @@ static ROWS: [Case; 3] = [
             },
             SECOND,
         ],
-        lines: &["top 5 by A using nra"],
+        lines: &[b"top 5 by A using nra"],
         page: 1,
         fails_take: None,
         text: &["refused 1 ShortList A 5 3\n"],
@@ -175,8 +175,8 @@ static OBJECTS: [Case; 4] = [
         ],
         lines: &[
             LINE,
-            "top 1 by sum(A,C) using ta",
-            "top 1 by sum(A,D) using ta",
+            b"top 1 by sum(A,C) using ta",
+            b"top 1 by sum(A,D) using ta",
         ],
         page: 1,
         fails_take: None,
@@ -196,7 +196,7 @@ static OBJECTS: [Case; 4] = [
                 kind: Kind::Honest,
             },
         ],
-        lines: &["top 2 by sum(A,B) using ta"],
+        lines: &[b"top 2 by sum(A,B) using ta"],
         page: 100,
         fails_take: None,
         text: &["refused 1 Strangers 3 2\n"],
@@ -204,7 +204,7 @@ static OBJECTS: [Case; 4] = [
     Case {
         catalog: TWO,
         sources: BOTH,
-        lines: &["top 1 by sum(A,B) using ta room 2", LINE],
+        lines: &[b"top 1 by sum(A,B) using ta room 2", LINE],
         page: 100,
         fails_take: None,
         text: &["refused 1 RoomFull 2\ncertificate 2\n", BEST, STEPS],
@@ -212,7 +212,7 @@ static OBJECTS: [Case; 4] = [
     Case {
         catalog: "name,place,random\nA,b,yes\nB,b,yes\n",
         sources: &[SECOND],
-        lines: &["top 1 by sum(A,B) using nra"],
+        lines: &[b"top 1 by sum(A,B) using nra"],
         page: 100,
         fails_take: None,
         text: &[
@@ -276,7 +276,11 @@ static CALLS: [Case; 4] = [
     Case {
         catalog: TWO,
         sources: BOTH,
-        lines: &[LINE, "top 1 by B using nra", "top 9 by min(B,A) using nra"],
+        lines: &[
+            LINE,
+            b"top 1 by B using nra",
+            b"top 9 by min(B,A) using nra",
+        ],
         page: 1,
         fails_take: Some(1),
         text: &[
