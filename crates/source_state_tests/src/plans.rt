@@ -118,20 +118,13 @@ fn plans_each(rt: HostRuntime) {
     none_is_wrong(&rt, first_wrong(rt.alloc(), &PLANS));
 }
 
-/// Wanted rows of twenty, in pages of three, how many pages are read ahead, and the rows up to which is fetched.
-static REACHES: [(u32, u32, u32); 4] = [(0, 5, 0), (1, 0, 3), (4, 1, 9), (20, 0, 20)];
-
-/// The number of the first row of which something else is reached.
-fn first_other(rows: &[(u32, u32, u32)]) -> Option<usize> {
-    for (number, (want, ahead, reached)) in rows.iter().enumerate() {
-        if *want > 20 || *ahead > 100 || reach(*want, 3, *ahead, 20) != *reached {
-            return Some(number);
-        }
-    }
-    None
-}
-
 #[test]
 fn reaches_whole_pages(rt: HostRuntime) {
-    none_is_wrong(&rt, first_other(&REACHES));
+    let reached = [
+        reach(0, 3, 5, 20),
+        reach(1, 3, 0, 20),
+        reach(4, 3, 1, 20),
+        reach(20, 3, 0, 20),
+    ];
+    assert_eq!(rt; reached, [0, 3, 9, 20]);
 }
