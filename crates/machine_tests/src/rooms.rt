@@ -3,7 +3,6 @@
 ghost use Rattle.std.specs.Prelude.{◌≡◌, []};
 
 use super::holds;
-use super::transcripts::let_go;
 use access_log::Transcript;
 use room_map::RoomMap;
 use std::alloc::Global;
@@ -39,7 +38,7 @@ fn keeps_three(alloc: Global) -> bool {
         return false;
     };
     let are_kept = takes_three(&mut log) && keeps_objects(&log) && keeps_grades(&log);
-    let_go(log);
+    log.let_go();
     are_kept
 }
 

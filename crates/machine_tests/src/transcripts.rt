@@ -13,9 +13,6 @@ use test_support::{random, random_row, sorted, sorted_row};
 /// How many objects there are, three accesses of two lists, and the kind of the third's refusal, or 0 where it is taken.
 type Row = (u32, (Access, Access, Access), u8);
 
-/// Lets a transcript go: it falls out of scope, and is written out once.
-pub(crate) fn let_go(_log: Transcript) {}
-
 /// Whether the first two accesses of a row are taken, and the third is as it says.
 fn ends_so(log: &mut Transcript, row: &Row) -> bool {
     let (_, (first, second, third), kind) = *row;
@@ -40,7 +37,7 @@ fn is_so(alloc: Global, row: &Row) -> bool {
         return false;
     };
     let is_so = ends_so(&mut log, row);
-    let_go(log);
+    log.let_go();
     is_so
 }
 
@@ -301,7 +298,7 @@ fn refuses_of_two_objects(alloc: Global) -> bool {
         return false;
     };
     let refuses = refuses_of_two(&mut log);
-    let_go(log);
+    log.let_go();
     refuses
 }
 
@@ -320,7 +317,7 @@ fn five_accesses(alloc: Global) -> Option<Transcript>
     match push_five(&mut log) {
         Ok(()) => Some(log),
         Err(_) => {
-            let_go(log);
+            log.let_go();
             None
         }
     }
@@ -368,7 +365,7 @@ fn tells_what_came(alloc: Global) -> bool {
         return false;
     };
     let are_so = has_figures(&log) && has_objects(&log);
-    let_go(log);
+    log.let_go();
     are_so
 }
 
@@ -407,7 +404,7 @@ fn has_bounds_before(alloc: Global, sum: &Expr, expected: &[Bounds]) -> bool {
         return false;
     };
     let are_so = has_bounds(&log, sum, expected);
-    let_go(log);
+    log.let_go();
     are_so
 }
 
@@ -417,7 +414,7 @@ fn has_bounds_after(alloc: Global, sum: &Expr, expected: &[Bounds]) -> bool {
         return false;
     };
     let are_so = sum.lists() == log.lists() && has_bounds(&log, sum, expected);
-    let_go(log);
+    log.let_go();
     are_so
 }
 
