@@ -11,16 +11,16 @@ use Rattle.topk_theory.proofs.AgreementNames.{has, contains_has, not_has}
 use Rattle.topk_theory.proofs.Agreement.{named_objects_old, named_objects_new, depth_fits}
 use Rattle.topk_theory.proofs.Consistent.{empty_agrees, kind_excludes, no_kind_agrees}
 use Rattle.access_log.specs.Log.{Log, IsWithinLimits, HasNoRoom, with_access}
-use Rattle.access_records.specs.FirstKind.{IsFirstOf}
+use Rattle.access_log.specs.FirstKind.{IsFirstOf}
 use Rattle.access_log.specs.Refusal.{Refuses}
 use Rattle.access_log.specs.declared.fault.PushFault.TheVariants.{Inconsistent}
-use Rattle.access_records.specs.declared.objects.Objects.{Objects}
-use Rattle.access_records.specs.declared.ends.Ends.{Ends}
-use Rattle.access_records.specs.Kept.{AreEndsOf}
-use Rattle.access_records.specs.Objects.{AreObjects, HasRoom}
-use Rattle.access_log.specs.Kept.{IsKept}
-use Rattle.access_records.proofs.RecordKept.{placed, not_placed}
-use Rattle.access_records.proofs.ObjectsKept.{list_in_range}
+use Rattle.access_log.specs.declared.objects.Objects.{Objects}
+use Rattle.access_log.specs.declared.ends.Ends.{Ends}
+use Rattle.access_log.specs.RecordsKept.{AreEndsOf}
+use Rattle.access_log.specs.Objects.{AreObjects, HasRoom}
+use Rattle.access_log.specs.Kept.{IsTranscriptKept}
+use Rattle.access_log.proofs.RecordKept.{placed, not_placed}
+use Rattle.access_log.proofs.ObjectsKept.{list_in_range}
 
 -- an access that is refused
 pub refusal : (log : Log) (lists count so sa : ℕ) (A : List Access) (a : Access) (kind len : ℕ)
@@ -112,9 +112,9 @@ one_more log lists count so sa so' sa' A B a place v e p o s =
 
 -- what is kept
 pub kept_empty : (lists count cap : ℕ) (xs : List Access) (kept : Objects) (ends : Ends) → IsWithinLimits lists count → xs ≡ [] → AreObjects lists [] kept
-    → AreEndsOf lists [] ends → HasRoom kept → IsKept lists count xs cap kept ends 0 0
+    → AreEndsOf lists [] ends → HasRoom kept → IsTranscriptKept lists count xs cap kept ends 0 0
 kept_empty lists count cap xs kept ends limits e objects reached room =
-    subst (λ A. IsKept lists count A cap kept ends 0 0) (sym e) (record {
+    subst (λ A. IsTranscriptKept lists count A cap kept ends 0 0) (sym e) (record {
       limits = limits;
       agrees = empty_agrees lists count;
       objects = objects;
@@ -124,11 +124,11 @@ kept_empty lists count cap xs kept ends limits e objects reached room =
       access_room = omega arith;
     })
 
-pub kept_moved : (lists count cap cap' so sa so' sa' : ℕ) (A B : List Access) (kept kept' : Objects) (ends : Ends) → IsKept lists count A cap kept ends so sa
+pub kept_moved : (lists count cap cap' so sa so' sa' : ℕ) (A B : List Access) (kept kept' : Objects) (ends : Ends) → IsTranscriptKept lists count A cap kept ends so sa
     → B ≡ A → AreObjects lists A kept' → HasRoom kept' → length (named_objects A) + so' ≤ kept'.room → length A + sa' ≤ cap'
-    → IsKept lists count B cap' kept' ends so' sa'
+    → IsTranscriptKept lists count B cap' kept' ends so' sa'
 kept_moved lists count cap cap' so sa so' sa' A B kept kept' ends h e objects room named fits =
-    subst (λ C. IsKept lists count C cap' kept' ends so' sa') (sym e) (record {
+    subst (λ C. IsTranscriptKept lists count C cap' kept' ends so' sa') (sym e) (record {
       limits = h.limits;
       agrees = h.agrees;
       objects = objects;
@@ -140,9 +140,9 @@ kept_moved lists count cap cap' so sa so' sa' A B kept kept' ends h e objects ro
 
 pub kept_pushed : (lists count cap' so' sa' : ℕ) (A B : List Access) (a : Access) (kept' : Objects) (ends' : Ends) → IsWithinLimits lists count
     → B ≡ A ++ a ∷ [] → SomeAgrees lists count (A ++ a ∷ []) → AreObjects lists (A ++ a ∷ []) kept' → AreEndsOf lists (A ++ a ∷ []) ends' → HasRoom kept'
-    → length (named_objects (A ++ a ∷ [])) + so' ≤ kept'.room → length A + 1 + sa' ≤ cap' → IsKept lists count B cap' kept' ends' so' sa'
+    → length (named_objects (A ++ a ∷ [])) + so' ≤ kept'.room → length A + 1 + sa' ≤ cap' → IsTranscriptKept lists count B cap' kept' ends' so' sa'
 kept_pushed lists count cap' so' sa' A B a kept' ends' limits e some objects ends room named fits =
-    subst (λ C. IsKept lists count C cap' kept' ends' so' sa') (sym e) (record {
+    subst (λ C. IsTranscriptKept lists count C cap' kept' ends' so' sa') (sym e) (record {
       limits = limits;
       agrees = some;
       objects = objects;

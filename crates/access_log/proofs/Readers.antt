@@ -24,13 +24,13 @@ use Rattle.monotone_fn.specs.Value as expression
 use Rattle.monotone_fn.specs.Limits.{AreGrades, AreGradesWhereKnown}
 use Rattle.indexed_heap.proofs.Getting.{get_replicate}
 use Rattle.access_log.specs.Log.{Log}
-use Rattle.access_records.specs.declared.record.Record.{Record}
-use Rattle.access_records.specs.declared.objects.Objects.{Objects}
-use Rattle.access_records.specs.declared.ends.Ends.{Ends}
-use Rattle.access_records.specs.Kept.{IsRecordOf, AreEndsOf}
-use Rattle.access_records.specs.Objects.{AreObjects, HasRoom}
-use Rattle.access_records.proofs.RecordKept.{placed, not_placed, place_of_absent}
-use Rattle.access_records.proofs.ObjectsKept.{seen_below_named}
+use Rattle.access_log.specs.declared.record.Record.{Record}
+use Rattle.access_log.specs.declared.objects.Objects.{Objects}
+use Rattle.access_log.specs.declared.ends.Ends.{Ends}
+use Rattle.access_log.specs.RecordsKept.{IsRecordOf, AreEndsOf}
+use Rattle.access_log.specs.Objects.{AreObjects, HasRoom}
+use Rattle.access_log.proofs.RecordKept.{placed, not_placed, place_of_absent}
+use Rattle.access_log.proofs.ObjectsKept.{seen_below_named}
 use Rattle.limits.specs.declared.TheConstants.{MAX_LISTS}
 
 -- a list by its places

@@ -1,18 +1,28 @@
-//! Transcripts: the accesses of a query in their order, which some table always agrees with. And what
-//! the machines of all algorithms have in common: what contracts see of one (`specs/Machine.antt`),
-//! what it ends with, and why it refuses a row.
+//! Transcripts: the accesses of a query in their order, which some table always agrees with.
+//!
+//! Beside the accesses a transcript keeps the objects that they name, each with its record, how far the lists are read, and the
+//! grades that are known ahead of them, so that no call scans the accesses. These tell the first kind of inconsistency of one
+//! access more.
 #![tactic(auto)]
 
-mod answer;
-mod core_fault;
+mod ahead;
+mod ends;
 mod fault;
+mod inconsistency;
+mod kinds;
+mod objects;
+mod record;
 mod room;
 mod transcript;
 
-pub use answer::Answer;
-pub use core_fault::CoreFault;
+pub use ahead::Ahead;
+pub use ends::Ends;
 pub use fault::PushFault;
+pub use inconsistency::first_kind;
+pub use kinds::Known;
 pub use memory::Memory;
+pub use objects::Objects;
 pub use ranked_list::{Item, Items};
+pub use record::Record;
 pub use topk_theory::Access;
 pub use transcript::Transcript;

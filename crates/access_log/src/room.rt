@@ -2,10 +2,11 @@
 
 ghost use Rattle.std.specs.Prelude.{◌≡◌, ◌-◌, ◌<◌, ◌≤◌, ◌⊎◌, ℕ, List, None, is_some, length, vec_len, vec_capacity, OnOk, OnErr, if◌then◌else◌};
 ghost use Rattle.topk_theory.specs.declared.access.Access.{Access as Made};
-ghost use Rattle.access_records.specs.Objects.{AreObjects, HasRoom};
+ghost use Rattle.access_log.specs.Objects.{AreObjects, HasRoom};
 
-use access_records::{Memory, Objects};
+use super::objects::Objects;
 use limits::MAX_OBJECTS;
+use memory::Memory;
 use topk_theory::Access;
 
 /// Makes room for one more access, and for its object where that has no place yet.

@@ -1,9 +1,11 @@
 //! Transcripts.
 
 use super::Memory;
+use super::ends::Ends;
 use super::fault::PushFault;
+use super::inconsistency::first_kind;
+use super::objects::Objects;
 use super::room::{make_room, spare_after};
-use access_records::{Ends, Objects, first_kind};
 use limits::{MAX_LISTS, MAX_NUMBER, MAX_OBJECTS};
 use monotone_fn::{Costs, Expr};
 use std::alloc::Global;
@@ -36,7 +38,7 @@ impl Model for Transcript {
 
     ghost Value = { Log };
 
-    ghost use Rattle.access_log.specs.Kept.{IsKept};
+    ghost use Rattle.access_log.specs.Kept.{IsTranscriptKept};
 
     ghost view = { λ a. record {
       lists = a.lists;
@@ -46,7 +48,7 @@ impl Model for Transcript {
       spare_accesses = a.spare_accesses;
     } };
 
-    ghost invariant = { λ a. IsKept a.lists a.count a.accesses.items (vec_capacity a.accesses) a.objects a.ends a.spare_objects a.spare_accesses };
+    ghost invariant = { λ a. IsTranscriptKept a.lists a.count a.accesses.items (vec_capacity a.accesses) a.objects a.ends a.spare_objects a.spare_accesses };
 }
 
 impl Transcript {

@@ -10,7 +10,7 @@ use Rattle.ranked_list.specs.declared.need.Need.TheVariants as need
 use Rattle.ranked_list.specs.Table.{IsTable}
 use Rattle.topk_theory.specs.Transcript.{list_at}
 use Rattle.topk_theory.proofs.AgreementLists.{all_from_members, member_of_all, contains_here, contains_there}
-use Rattle.nra_core.proofs.Counts.{none_counted}
+use Rattle.topk_theory.proofs.Counts.{none_counted}
 use Rattle.source_log.specs.declared.entry.FailKind.{FailKind}
 use Rattle.source_log.specs.declared.entry.FailKind.TheVariants as kind
 use Rattle.source_state.specs.declared.look.LookFault.{LookFault}

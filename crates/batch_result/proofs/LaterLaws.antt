@@ -2,12 +2,12 @@
 use Rattle.std.proofs.Common.{◌≡◌, ◌<◌, ℕ, List, ◌++◌, length, sym, ap, subst, ◌∙◌, arith, append_assoc, le_trans}
 use Rattle.turn_lock.specs.declared.facts.Tally.{Tally}
 use Rattle.turn_lock.specs.declared.known.Known.{Known}
-use Rattle.turn_lock.specs.Facts.{Begins, AtMost}
+use Rattle.turn_lock.specs.Facts.{IsFrontOf, AtMost}
 use Rattle.turn_lock.specs.Known.{Follows}
 use Rattle.source_log.specs.declared.entry.LogEntry.{LogEntry}
 use Rattle.source_state.specs.State.{State, IsSound, state_at}
-use Rattle.source_pass.specs.declared.hold.Hold.{Hold}
-use Rattle.source_locks.specs.Passes.{hold_at}
+use Rattle.source_pool.specs.declared.hold.Hold.{Hold}
+use Rattle.source_pool.specs.Passes.{hold_at}
 use Rattle.query_turns.specs.declared.inquiry.Inquiry.{Inquiry}
 use Rattle.query_turns.specs.Kept.{IsServed}
 use Rattle.query_turns.proofs.Causes.{IsLater}
@@ -16,7 +16,7 @@ use Rattle.query_run.specs.Seen.{state_seen, states_seen}
 use Rattle.query_run.proofs.SeenLaws.{state_is, seen_long}
 use Rattle.batch_result.proofs.ShutLaws.{Shut, shut_begins}
 
-pub begins_on : {A : Type 0} (xs ys zs : List A) → Begins xs ys → Begins ys zs → Begins xs zs
+pub begins_on : {A : Type 0} (xs ys zs : List A) → IsFrontOf xs ys → IsFrontOf ys zs → IsFrontOf xs zs
 begins_on xs ys zs one other = record {
   rest = one.rest ++ other.rest;
   goes_on = other.goes_on ∙ (ap (λ front. front ++ other.rest) one.goes_on ∙ append_assoc xs one.rest other.rest);
@@ -39,8 +39,8 @@ follows_on a b c one other = record {
 -- a state goes on from what a pass knows
 pub record IsAhead (known : Known LogEntry) (s : State) : Type 0 where
   pub name : (s.list, s.count) ≡ known.name
-  pub seen : Begins known.seen s.log
-  pub met : Begins known.met s.asks
+  pub seen : IsFrontOf known.seen s.log
+  pub met : IsFrontOf known.met s.asks
   pub tally : AtMost known.tally s.tally
 
 pub ahead_of : (before after : Known LogEntry) (s : State) → Follows before after → after.name ≡ before.name → IsAhead after s → IsAhead before s

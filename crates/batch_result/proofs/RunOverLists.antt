@@ -4,9 +4,9 @@ use Rattle.ranked_list.specs.declared.row.Row.{Row}
 use Rattle.ranked_list.specs.Table.{IsTable}
 use Rattle.monotone_fn.specs.Shape.{list_count}
 use Rattle.topk_theory.specs.Transcript.{whole}
-use Rattle.access_log.specs.declared.answer.Answer.{Answer}
-use Rattle.access_log.specs.declared.core_fault.CoreFault.TheVariants as core
-use Rattle.access_log.specs.Machine.{MachineState, IsBegun}
+use Rattle.machine_base.specs.declared.answer.Answer.{Answer}
+use Rattle.machine_base.specs.declared.core_fault.CoreFault.TheVariants as core
+use Rattle.machine_base.specs.Machine.{MachineState, IsBegun}
 use Rattle.source_state.specs.declared.look.LookFault.TheVariants as why
 use Rattle.source_state.specs.State.{State, state_at}
 use Rattle.query_text.specs.declared.algorithm.Algorithm.{Algorithm}

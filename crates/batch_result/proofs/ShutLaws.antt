@@ -3,7 +3,7 @@ use Rattle.std.proofs.Common.{◌≡◌, ℕ, Option, None, Some, List, [], ◌�
 use Rattle.std.proofs.lemmas.List.Elements.{filter_map-append}
 use Rattle.ranked_list.specs.declared.row.Row.{Row}
 use Rattle.turn_lock.specs.declared.known.Known.{Known}
-use Rattle.turn_lock.specs.Facts.{Begins}
+use Rattle.turn_lock.specs.Facts.{IsFrontOf}
 use Rattle.source_log.specs.declared.entry.LogEntry.{LogEntry}
 use Rattle.source_log.specs.declared.entry.LogEntry.TheVariants.{Kept, Settled, Fault}
 use Rattle.source_log.specs.declared.entry.Settling.TheVariants.{Missed}
@@ -56,7 +56,7 @@ shut_rows (Settled object settling ∷ front) rest fault h e = shut_rows front r
 shut_rows (Fault other ∷ front) rest fault h e =
     h.0 ∙ sym (no_rows_front (rows_in front) (rows_in rest) (sym (filter_map-append kept_row front rest) ∙ h.0))
 
-pub shut_begins : (front whole : List LogEntry) (fault : SourceFault) → Begins front whole → Shut whole → fault_in front ≡ Some fault
+pub shut_begins : (front whole : List LogEntry) (fault : SourceFault) → IsFrontOf front whole → Shut whole → fault_in front ≡ Some fault
     → rows_in whole ≡ rows_in front
 shut_begins front whole fault begins h e =
     ap rows_in begins.goes_on ∙ shut_rows front begins.rest fault (subst Shut begins.goes_on h) e

@@ -83,7 +83,7 @@ true_turn page ahead list counts now before after turned.Memory b ranked long as
 true_turn page ahead list counts now before after turned.Idle b ranked long asked h = true_same list before.seen after.seen b.seen h
 
 -- the objects that were asked earlier are asked later
-asked_back : (list : List Row) (earlier later : List ℕ) → facts.Begins earlier later → AreIn list later → AreIn list earlier
+asked_back : (list : List Row) (earlier later : List ℕ) → facts.IsFrontOf earlier later → AreIn list later → AreIn list earlier
 asked_back list earlier later begins asked object c =
     asked object (subst (λ os. Contains os object) (sym begins.goes_on) (Contains-append_left earlier begins.rest object c))
 
@@ -104,7 +104,7 @@ true_turns page ahead list before after (turn ∷ turns) is ranked long asked h 
 
 -- the closing state
 pub told_honest : (page ahead : ℕ) (told : Option (List Row)) (before after : Counts) (first last : Known LogEntry) (s : State) → first.seen ≡ []
-    → s.log ≡ last.seen → facts.Begins last.met s.asks → s.count ≡ first.name.1 → IsFetched page ahead told (moment before first) (moment after last)
+    → s.log ≡ last.seen → facts.IsFrontOf last.met s.asks → s.count ≡ first.name.1 → IsFetched page ahead told (moment before first) (moment after last)
     → IfSome told (λ list. IsHonestFor list s)
 told_honest page ahead None before after first last s none log asks count turns = tt
 told_honest page ahead (Some list) before after first last s none log asks count turns = record {

@@ -16,7 +16,7 @@ use Rattle.query_turns.specs.Honest.{IsTrueOf}
 use Rattle.query_turns.specs.Endings.{EndsAs, IsRight}
 use Rattle.fetcher.specs.declared.slot.Slot.{Slot}
 use Rattle.fetcher.specs.Telling.{TellsOf}
-use Rattle.batch_result.specs.declared.settings.Settings.{Settings}
+use Rattle.limits.specs.declared.settings.Settings.{Settings}
 use Rattle.batch_result.specs.Numbered.{told_at, counts_at}
 use Rattle.batch_result.specs.declared.batch.Use.{Use}
 use Rattle.batch_result.specs.Using.{IsUsed, HasCounted}

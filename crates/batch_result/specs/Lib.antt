@@ -1,5 +1,4 @@
 -- What a batch promises.
-pub mod Ranges
 pub mod Numbered
 pub mod Using
 pub mod Batches

@@ -4,7 +4,7 @@ use Rattle.tk_io.specs.Faults.{Rose}
 use Rattle.ranked_list.specs.declared.row.Row.{Row}
 use Rattle.ranked_list.specs.Table.{IsTable}
 use Rattle.topk_theory.specs.Transcript.{list_at}
-use Rattle.access_log.specs.declared.core_fault.CoreFault.TheVariants.{RoomFull}
+use Rattle.machine_base.specs.declared.core_fault.CoreFault.TheVariants.{RoomFull}
 use Rattle.source_api.specs.declared.counts.Counts.{Counts}
 use Rattle.query_core.specs.declared.ready.Ready.{Ready}
 use Rattle.query_core.specs.Driving.{AnswersOver}

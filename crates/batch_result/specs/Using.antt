@@ -16,7 +16,7 @@ use Rattle.query_turns.specs.Inquiries.{source_of}
 use Rattle.query_run.specs.Asking.{IsAskedFor, AsksGradeOf, grades_asked}
 use Rattle.fetcher.specs.Causes.{HasGiven}
 use Rattle.fetcher.specs.Metering.{WentUp, RoseBy}
-use Rattle.batch_result.specs.declared.settings.Settings.{Settings}
+use Rattle.limits.specs.declared.settings.Settings.{Settings}
 use Rattle.batch_result.specs.declared.batch.Use.{Use}
 
 -- a look's fault is that a call failed so

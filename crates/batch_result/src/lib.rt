@@ -4,9 +4,8 @@
 
 mod batch;
 mod laws;
-mod settings;
 
 pub use batch::{Batch, Use};
 pub use laws::{queries_are_on_their_runs, told_tables_give_the_one_ending};
+pub use limits::Settings;
 pub use query_run::Ended;
-pub use settings::Settings;

@@ -17,10 +17,10 @@ use Rattle.source_log.specs.declared.entry.FailKind.TheVariants as kind
 use Rattle.source_log.specs.Log.{settled_in}
 use Rattle.source_state.specs.State.{State, IsSound, last_count, state_at}
 use Rattle.source_state.specs.Looking.{reach_of}
-use Rattle.source_pass.specs.declared.hold.Hold.{Hold}
-use Rattle.source_locks.specs.Passes.{Feed, lock_at, hold_at, feed_at}
-use Rattle.source_locks.specs.Sharing.{first_feed}
-use Rattle.source_locks.specs.Closed.{HaveAll, IsClosed, AreClosed}
+use Rattle.source_pool.specs.declared.hold.Hold.{Hold}
+use Rattle.source_pool.specs.Passes.{Feed, lock_at, hold_at, feed_at}
+use Rattle.source_pool.specs.Sharing.{first_feed}
+use Rattle.source_pool.specs.Closed.{HaveAll, IsClosed, AreClosed}
 use Rattle.query_core.specs.declared.ready.Ready.{Ready}
 use Rattle.query_turns.specs.declared.ended.Ended.{Ended}
 use Rattle.query_turns.specs.declared.inquiry.Inquiry.{Inquiry}
@@ -34,8 +34,8 @@ use Rattle.fetcher.specs.Telling.{TellsOf}
 use Rattle.fetcher.specs.Metering.{RoseBy, WentUp}
 use Rattle.fetcher.proofs.ToldLaws.{fetched_from_nothing}
 use Rattle.fetcher.proofs.ClosedLaws.{called_for}
-use Rattle.batch_result.specs.declared.settings.Settings.{Settings}
-use Rattle.batch_result.specs.Ranges.{AreSettings}
+use Rattle.limits.specs.declared.settings.Settings.{Settings}
+use Rattle.limits.specs.Ranges.{AreSettings}
 use Rattle.batch_result.specs.Numbered.{told_at, counts_at}
 use Rattle.batch_result.specs.declared.batch.Use.{Use}
 use Rattle.batch_sides.specs.declared.work.Worker.{Worker}
@@ -43,8 +43,8 @@ use Rattle.batch_sides.specs.Shares.{share, share_from}
 use Rattle.batch_result.specs.Using.{is_refused_for, IsWantedBy, IsNamedBy, all_grades_asked, IsUsed, HasCounted}
 use Rattle.batch_result.specs.Batches.{batch_of, use_at, IsClosing, IsSpared, IsBatch}
 use Rattle.batch_sides.specs.Working.{End, IsEndOf, DidOf, RanAll}
-use Rattle.batch_slots.specs.Slots.{SlotState, slot_at}
-use Rattle.batch_crew.specs.Crews.{IsBase, HasLeft, HasFetched, Rejoins}
+use Rattle.batch_sides.specs.Slots.{SlotState, slot_at}
+use Rattle.batch_run.specs.Crews.{IsBase, HasLeft, HasFetched, Rejoins}
 use Rattle.batch_run.specs.Finishing.{AreShares, UsedOf, slots_run}
 use Rattle.batch_sides.proofs.SumLaws.{sum_up, sum_up_bound, sum_by_most}
 use Rattle.batch_sides.proofs.ShareLaws.{HasShares, whole_of, shares_add}
@@ -53,7 +53,7 @@ use Rattle.batch_sides.proofs.Picks.{Picked, picked, sum_ones, share_member, sha
 use Rattle.batch_result.proofs.TruthLaws.{told_honest}
 use Rattle.batch_result.proofs.ShutLaws.{Shut, fetched_shut}
 use Rattle.batch_result.proofs.LaterLaws.{begins_on, at_most_on, IsAhead, ahead_of, all_later, served_later}
-use Rattle.batch_crew.proofs.JoinLaws.{passes}
+use Rattle.batch_run.proofs.JoinLaws.{passes}
 use Rattle.batch_sides.proofs.Zips.{zip_map, zip_part, all_seconds, both_parts}
 
 -- the pass of a worker among the passes

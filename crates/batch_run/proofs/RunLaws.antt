@@ -4,21 +4,21 @@ use Rattle.std.specs.List.{AllZip, list_any}
 use Rattle.std.proofs.lemmas.List.{length-map}
 use Rattle.ranked_list.specs.declared.row.Row.{Row}
 use Rattle.atomic_table.specs.Seated.{TableId}
-use Rattle.source_pass.specs.declared.hold.Hold.{Hold}
-use Rattle.source_locks.specs.Passes.{hold_at, IsPassOf}
+use Rattle.source_pool.specs.declared.hold.Hold.{Hold}
+use Rattle.source_pool.specs.Passes.{hold_at, IsPassOf}
 use Rattle.source_api.specs.declared.counts.Counts.{Counts}
 use Rattle.source_api.specs.Counting.{NoneFell}
 use Rattle.fetcher.specs.declared.slot.Slot.{Slot}
-use Rattle.batch_result.specs.declared.settings.Settings.{Settings}
+use Rattle.limits.specs.declared.settings.Settings.{Settings}
 use Rattle.query_core.specs.declared.ready.Ready.{Ready}
 use Rattle.batch_sides.specs.declared.work.Worker.{Worker}
-use Rattle.batch_slots.specs.Slots.{SlotState, states_of, slot_at}
+use Rattle.batch_sides.specs.Slots.{SlotState, states_of, slot_at}
 use Rattle.batch_result.specs.Batches.{BatchRun, run_of}
-use Rattle.batch_crew.specs.declared.hire.Crew.{Crew}
-use Rattle.batch_crew.specs.Crews.{HasLeft, HasRun}
+use Rattle.batch_run.specs.declared.hire.Crew.{Crew}
+use Rattle.batch_run.specs.Crews.{HasLeft, HasRun}
 use Rattle.batch_run.specs.Finishing.{slots_run}
 use Rattle.batch_result.proofs.Places.{stands_at, map_at}
-use Rattle.batch_crew.proofs.JoinLaws.{passes}
+use Rattle.batch_run.proofs.JoinLaws.{passes}
 
 module _ {S : Type 0} (list : S → Option (List Row)) (counts : S → Counts) where
   -- the parts of the slots, at once and by their states

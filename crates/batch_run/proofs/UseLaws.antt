@@ -9,9 +9,9 @@ use Rattle.fetcher.specs.declared.slot.Slot.{Slot}
 use Rattle.fetcher.specs.declared.turned.Fetched.{Fetched}
 use Rattle.batch_result.specs.declared.batch.Use.{Use}
 use Rattle.batch_result.specs.Batches.{use_at}
-use Rattle.batch_slots.specs.Slots.{SlotState, states_of, slot_at}
+use Rattle.batch_sides.specs.Slots.{SlotState, states_of, slot_at}
 use Rattle.batch_run.specs.Finishing.{UsedOf}
-use Rattle.batch_crew.proofs.SlotLaws.{slot_is}
+use Rattle.batch_run.proofs.SlotLaws.{slot_is}
 
 -- nothing was used
 abbrev no_use : Use

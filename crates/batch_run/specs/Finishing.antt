@@ -5,15 +5,15 @@ use Rattle.source_state.specs.State.{State}
 use Rattle.query_core.specs.declared.ready.Ready.{Ready}
 use Rattle.query_turns.specs.declared.ended.Ended.{Ended}
 use Rattle.fetcher.specs.declared.turned.Fetched.{Fetched}
-use Rattle.batch_result.specs.declared.settings.Settings.{Settings}
-use Rattle.batch_result.specs.Ranges.{AreSettings}
+use Rattle.limits.specs.declared.settings.Settings.{Settings}
+use Rattle.limits.specs.Ranges.{AreSettings}
 use Rattle.batch_result.specs.declared.batch.Use.{Use}
 use Rattle.batch_sides.specs.declared.work.Worker.{Worker}
-use Rattle.batch_crew.specs.declared.hire.Crew.{Crew}
+use Rattle.batch_run.specs.declared.hire.Crew.{Crew}
 use Rattle.batch_sides.specs.Shares.{share}
 use Rattle.batch_result.specs.Batches.{BatchRun}
-use Rattle.batch_slots.specs.Slots.{SlotState}
-use Rattle.batch_crew.specs.Crews.{HasRun}
+use Rattle.batch_sides.specs.Slots.{SlotState}
+use Rattle.batch_run.specs.Crews.{HasRun}
 
 -- the workers have the shares of the whole, each the last one first
 pub record AreShares (whole : List Ended) (workers : List Worker) : Type 0 where

@@ -5,11 +5,11 @@ ghost use Rattle.std.specs.List.{AllZip};
 ghost use Rattle.source_api.specs.Counting.{NoneFell};
 ghost use Rattle.query_turns.specs.Made.{IsReadyFor};
 ghost use Rattle.query_turns.specs.Endings.{IsRight};
-ghost use Rattle.batch_result.specs.Ranges.{AreSettings};
+ghost use Rattle.limits.specs.Ranges.{AreSettings};
 ghost use Rattle.batch_result.specs.Batches.{run_of, IsBatch};
 
 use super::finish::finish;
-use batch_crew::Crew;
+use super::hire::Crew;
 use batch_result::{Batch, Settings};
 use fetcher::Slot;
 use limits::MAX_OBJECTS;

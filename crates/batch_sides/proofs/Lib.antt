@@ -1,3 +1,5 @@
+-- Lemmas on feeders that are put into slots and taken back.
+pub mod LendLaws
 -- Lemmas on shares of the queries, and on what a worker does with its share.
 pub mod SumLaws
 pub mod ShareLaws

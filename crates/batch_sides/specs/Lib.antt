@@ -1,3 +1,5 @@
+-- What happens to slots.
+pub mod Slots
 -- What workers and fetchers do.
 pub mod Shares
 pub mod Working

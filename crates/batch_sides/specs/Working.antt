@@ -4,9 +4,9 @@ use Rattle.std.specs.List.{AllZip, slice_index_or}
 use Rattle.atomic_table.specs.Seated.{TableId}
 use Rattle.source_log.specs.declared.entry.FailKind.TheVariants as kind
 use Rattle.source_state.specs.State.{last_count}
-use Rattle.source_pass.specs.declared.hold.Hold.{Hold}
-use Rattle.source_locks.specs.Passes.{hold_at, IsPassOf}
-use Rattle.source_pass.specs.Looks.{IsWithin}
+use Rattle.source_pool.specs.declared.hold.Hold.{Hold}
+use Rattle.source_pool.specs.Passes.{hold_at, IsPassOf}
+use Rattle.source_pool.specs.Looks.{IsWithin}
 use Rattle.query_core.specs.declared.ready.Ready.{Ready}
 use Rattle.query_core.specs.Ready.{IsReady}
 use Rattle.query_turns.specs.declared.ended.Ended.{Ended}

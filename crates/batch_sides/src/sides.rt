@@ -1,13 +1,13 @@
 //! The two sides of a run: the fetchers, and the workers.
 
 ghost use Rattle.std.specs.Prelude.{◌≡◌, ◌≤◌, ◌<◌, All, length};
-ghost use Rattle.batch_result.specs.Ranges.{AreSettings};
+ghost use Rattle.limits.specs.Ranges.{AreSettings};
 ghost use Rattle.batch_sides.specs.Working.{IsAtWork, AllWorked};
-ghost use Rattle.batch_slots.specs.Slots.{HasFeeder, AllFetch};
+ghost use Rattle.batch_sides.specs.Slots.{HasFeeder, AllFetch};
 
+use super::fetching::fetch_all;
 use super::work::{Worker, work};
 use batch_result::Settings;
-use batch_slots::fetch_all;
 use fetcher::{Slot, Stop};
 use query_core::Ready;
 use source_api::Source;

@@ -1,7 +1,7 @@
 //! What a worker does.
 
 ghost use Rattle.std.specs.Prelude.{◌≡◌, ◌≤◌, ◌<◌, ◌+◌, ◌∷◌, [], ◌++◌, false, All, length, take};
-ghost use Rattle.source_locks.specs.Passes.{IsPassOf};
+ghost use Rattle.source_pool.specs.Passes.{IsPassOf};
 ghost use Rattle.query_core.specs.Ready.{IsReady};
 ghost use Rattle.query_run.specs.Advancing.{WaitsForNothing, HasSourcesIn};
 ghost use Rattle.batch_sides.specs.Working.{KnowsAll, IsAtWork, RanOne, RanSo, Worked};

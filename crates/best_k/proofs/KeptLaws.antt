@@ -10,12 +10,12 @@ use Rattle.std.proofs.lemmas.List.Sums.{sum_by-cons}
 use Rattle.std.proofs.lemmas.Option.{none-some, same_Some, slice_get_within, slice_get-get_or, get_or_from_slice_get}
 use Rattle.ranked_list.specs.declared.item.Item.{Item}
 use Rattle.indexed_heap.specs.Ranks.{rank_at}
-use Rattle.room_map.specs.Keys.{Keys, FitsRoom}
+use Rattle.object_map.specs.Keys.{Keys, FitsRoom}
 use Rattle.best_k.specs.declared.rank.Rank.{Rank}
 use Rattle.best_k.specs.Rank.{item_of}
 use Rattle.best_k.specs.Held.{put_item, risen, has_object}
 use Rattle.best_k.specs.Halves.{joined, IsHalved}
-use Rattle.best_k.specs.Kept.{items_in, AreRanksOf, IsKept}
+use Rattle.best_k.specs.Kept.{items_in, AreRanksOf, IsBoardKept}
 use Rattle.best_k.proofs.Halving.{at_same, at_other, one}
 use Rattle.best_k.proofs.Joining.{length-joined}
 use Rattle.best_k.proofs.Rising.{risen-permutes, items_distinct, length-items_in, MayHave, risen-written}
@@ -40,9 +40,9 @@ pub no_items : (ranks : List (Option Rank)) (room : ℕ) → ranks ≡ replicate
 no_items ranks room is = ap (λ (r : List (Option Rank)). risen (items_in r)) is ∙ ap risen (items_of_none room)
 
 pub kept_none : (places : Keys) (k room : ℕ) (top : List (Option Rank)) (rest : List (Option (Reverse Rank))) → places ≡ record { room = room; keys = [] }
-    → room ≤ 200000 → IsHalved k top rest → joined top rest ≡ replicate room None → IsKept places k top rest
+    → room ≤ 200000 → IsHalved k top rest → joined top rest ≡ replicate room None → IsBoardKept places k top rest
 kept_none places k room top rest is few halved empty =
-    subst (λ (p : Keys). IsKept p k top rest) (sym is) (record {
+    subst (λ (p : Keys). IsBoardKept p k top rest) (sym is) (record {
       fits = record { few = few; within = omega arith; distinct = λ i j d below within. absurd (omega arith) };
       size = sym (length-joined top rest) ∙ ap length empty ∙ length-replicate room None;
       halved = halved;
@@ -62,7 +62,7 @@ at_least (suc n) (Some first ∷ ranks) each =
     omega (arith, more, sum_by-cons (λ (r : Option Rank). one r) (Some first) ranks)
 
 -- an object without a place has no item
-pub unplaced : (places : Keys) (k object : ℕ) (top : List (Option Rank)) (rest : List (Option (Reverse Rank))) → IsKept places k top rest
+pub unplaced : (places : Keys) (k object : ℕ) (top : List (Option Rank)) (rest : List (Option (Reverse Rank))) → IsBoardKept places k top rest
     → list_any (nat_eq object) places.keys ≡ false → has_object object (risen (items_in (joined top rest))) ≡ false
 unplaced places k object top rest kept none =
     let ranks = joined top rest in
@@ -70,7 +70,7 @@ unplaced places k object top rest kept none =
     sym (list_any-IsPermutation (λ (item : Item). item.object == object) (items_in ranks) (risen (items_in ranks)) (risen-permutes (items_in ranks) apart))
     ∙ lacks_it object ranks (λ place rank at same. none_at object places.keys place none (kept.ranks.own place rank at ∙ ap (λ (o : ℕ). Some o) same))
 
-pub places_counted : (places : Keys) (k : ℕ) (top : List (Option Rank)) (rest : List (Option (Reverse Rank))) → IsKept places k top rest
+pub places_counted : (places : Keys) (k : ℕ) (top : List (Option Rank)) (rest : List (Option (Reverse Rank))) → IsBoardKept places k top rest
     → length places.keys ≤ length (risen (items_in (joined top rest)))
 places_counted places k top rest kept =
     let ranks = joined top rest in
@@ -125,7 +125,7 @@ placed object place before after at added = by_case (list_any (nat_eq object) be
             ∙ ap (λ (x : ℕ). Some x) (sym (get_or_append_left before (object ∷ []) object place early)) ∙ sym (slice_get-get_or (before ++ object ∷ []) place object inside)
             ∙ ap (λ (ks : List ℕ). slice_get ks place) (sym is) ∙ at
 
-module _ (places after : Keys) (k object place : ℕ) (rank : Rank) (top : List (Option Rank)) (rest : List (Option (Reverse Rank))) (kept : IsKept places k top rest) (of_object : rank.object ≡ object) (fits : FitsRoom after) (same_room : after.room ≡ places.room) (at : slice_get after.keys place ≡ Some object) (added : MatchBool (list_any (nat_eq object) places.keys) (after.keys ≡ places.keys) (after.keys ≡ places.keys ++ object ∷ [])) where
+module _ (places after : Keys) (k object place : ℕ) (rank : Rank) (top : List (Option Rank)) (rest : List (Option (Reverse Rank))) (kept : IsBoardKept places k top rest) (of_object : rank.object ≡ object) (fits : FitsRoom after) (same_room : after.room ≡ places.room) (at : slice_get after.keys place ≡ Some object) (added : MatchBool (list_any (nat_eq object) places.keys) (after.keys ≡ places.keys) (after.keys ≡ places.keys ++ object ∷ [])) where
   pub place_within : place < length top
   place_within =
       let inside = slice_get_within after.keys place object at in
@@ -172,7 +172,7 @@ module _ (places after : Keys) (k object place : ℕ) (rank : Rank) (top : List 
       each_at p (inr below) (inr other) = ap is_some (at_other (joined top rest) place p (Some rank) other) ∙ kept.ranks.each p below
 
   pub kept_put : (top' : List (Option Rank)) (rest' : List (Option (Reverse Rank))) → IsHalved k top' rest'
-      → joined top' rest' ≡ set (joined top rest) place (Some rank) → IsKept after k top' rest'
+      → joined top' rest' ≡ set (joined top rest) place (Some rank) → IsBoardKept after k top' rest'
   kept_put top' rest' halved is = record {
     fits = fits;
     size =

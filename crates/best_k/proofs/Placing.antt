@@ -7,7 +7,7 @@ use Rattle.std.proofs.lemmas.List.Folds.{list_any_none}
 use Rattle.std.proofs.lemmas.List.Quantifiers.{position-Some}
 use Rattle.std.proofs.lemmas.List.Sums.{fails_before_first}
 use Rattle.std.proofs.lemmas.Option.{none-some, same_Some, slice_get-get_or}
-use Rattle.room_map.specs.Keys.{Keys, FitsRoom}
+use Rattle.object_map.specs.Keys.{Keys, FitsRoom}
 
 -- the place that was found has the object
 pub position_at : (object : ℕ) (keys : List ℕ) (place : ℕ) → position (nat_eq object) keys ≡ Some place → slice_get keys place ≡ Some object

@@ -3,7 +3,7 @@ use Rattle.std.specs.Prelude.{◌≡◌, ◌<◌, ℕ, true, Option, Some, None,
 use Rattle.std.specs.declared.cmp.Reverse.{Reverse}
 use Rattle.ranked_list.specs.declared.item.Item.{Item}
 use Rattle.indexed_heap.specs.Ranks.{rank_at}
-use Rattle.room_map.specs.Keys.{Keys, FitsRoom}
+use Rattle.object_map.specs.Keys.{Keys, FitsRoom}
 use Rattle.best_k.specs.declared.rank.Rank.{Rank}
 use Rattle.best_k.specs.Rank.{item_of}
 use Rattle.best_k.specs.Halves.{joined, IsHalved}
@@ -20,7 +20,7 @@ pub record AreRanksOf (keys : List ℕ) (ranks : List (Option Rank)) : Type 0 wh
   pub each : (place : ℕ) → place < length keys → is_some (rank_at ranks place) ≡ true
 
 -- the ranks are those of the objects that have a place, and they are parted
-pub record IsKept (places : Keys) (k : ℕ) (top : List (Option Rank)) (rest : List (Option (Reverse Rank))) : Type 0 where
+pub record IsBoardKept (places : Keys) (k : ℕ) (top : List (Option Rank)) (rest : List (Option (Reverse Rank))) : Type 0 where
   pub fits : FitsRoom places
   pub size : length top ≡ places.room
   pub halved : IsHalved k top rest

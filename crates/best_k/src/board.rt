@@ -3,7 +3,7 @@
 ghost use Rattle.std.specs.Prelude.{◌≡◌, ◌≤◌, ◌<◌, [], ◌∷◌, ◌++◌, false, length, List, IfOk, MatchOption, MatchBool, slice_get, nat_eq, Some};
 ghost use Rattle.std.specs.List.{list_any};
 ghost use Rattle.ranked_list.specs.declared.item.Item.{Item};
-ghost use Rattle.room_map.specs.Keys.{FitsRoom};
+ghost use Rattle.object_map.specs.Keys.{FitsRoom};
 ghost use Rattle.topk_theory.specs.Order.{first_k, kth_low, IsFirstK, IsKthLargest, lows};
 ghost use Rattle.best_k.specs.Held.{item_with, put_item, has_object};
 ghost use Rattle.best_k.specs.Kept.{items_in};
@@ -14,8 +14,8 @@ use super::rank::Rank;
 use super::ranking::Ranking;
 use indexed_heap::IndexedHeap;
 use limits::MAX_OBJECTS;
+use object_map::RoomMap;
 use ranked_list::{Item, Items};
-use room_map::RoomMap;
 use std::alloc::Global;
 use std::marker::Model;
 
@@ -33,13 +33,13 @@ impl Model for Board {
     ghost use Rattle.std.specs.Prelude.{◌≡◌, []};
     ghost use Rattle.best_k.specs.Held.{Held, risen};
     ghost use Rattle.best_k.specs.Halves.{joined};
-    ghost use Rattle.best_k.specs.Kept.{items_in, IsKept};
+    ghost use Rattle.best_k.specs.Kept.{items_in, IsBoardKept};
 
     ghost Value = { Held };
 
     ghost view = { λ a. record { k = a.ranking.k; room = a.places.room; items = risen (items_in (joined a.ranking.top a.ranking.rest)) } };
 
-    ghost invariant = { λ a. IsKept a.places a.ranking.k a.ranking.top a.ranking.rest × (a.answer.items ≡ []) };
+    ghost invariant = { λ a. IsBoardKept a.places a.ranking.k a.ranking.top a.ranking.rest × (a.answer.items ≡ []) };
 }
 
 impl Board {

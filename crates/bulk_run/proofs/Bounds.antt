@@ -18,19 +18,19 @@ use Rattle.topk_theory.specs.Aggregate.{aggregate, grades_of}
 use Rattle.topk_theory.proofs.AgreementLists.{all_from_members, member_of_all, contains_map_from}
 use Rattle.optimal_law.proofs.Depths.{depth_seen, seen_sorted}
 use Rattle.access_log.proofs.Readers.{counts}
-use Rattle.access_log.specs.declared.answer.Answer.{Answer}
+use Rattle.machine_base.specs.declared.answer.Answer.{Answer}
 use Rattle.query_core.specs.OneAnswer.{IsOneAnswer, HasTrueBounds, asked_by, one_run}
 use Rattle.query_core.proofs.RunLength.{run_short}
-use Rattle.made_queries.specs.Made.{list_trees, list_terms, made_tree}
-use Rattle.made_queries.proofs.Trees.{each_tree, each_count}
-use Rattle.table_make.proofs.Making.{is_table}
+use Rattle.made_inputs.specs.MadeQueries.{list_trees, list_terms, made_tree}
+use Rattle.made_inputs.proofs.Trees.{each_tree, each_count}
+use Rattle.made_inputs.proofs.Making.{is_table}
 use Rattle.query_turns.specs.declared.ended.Ended.{Ended}
 use Rattle.query_turns.proofs.Lists.{zip_member}
 use Rattle.query_turns.specs.declared.ended.Ended.TheVariants.{Answered, Core, Look}
 use Rattle.bulk_run.specs.declared.input.BulkInput.{BulkInput}
 use Rattle.bulk_run.specs.Sums.{IsInput, table_of, query_of}
 use Rattle.bulk_run.specs.Endings.{EndsInOne, AllEndInOne, IsSmall}
-use Rattle.made_sources.proofs.TableLaws.{table_long}
+use Rattle.bulk_run.proofs.TableLaws.{table_long}
 
 -- ---- the values of made trees
 

@@ -4,20 +4,20 @@ use Rattle.std.specs.List.{AllZip, range_with_len}
 use Rattle.tk_io.specs.Faults.{Rose}
 use Rattle.ranked_list.specs.declared.row.Row.{Row}
 use Rattle.access_log.specs.Log.{AgreesWith}
-use Rattle.access_log.specs.declared.core_fault.CoreFault.TheVariants.{Strangers, RoomFull}
+use Rattle.machine_base.specs.declared.core_fault.CoreFault.TheVariants.{Strangers, RoomFull}
 use Rattle.query_text.specs.declared.query.Query.{Query}
 use Rattle.query_core.specs.declared.ready.Ready.{Ready}
 use Rattle.query_core.specs.OneAnswer.{IsOneAnswer}
 use Rattle.query_turns.specs.declared.ended.Ended.{Ended}
 use Rattle.query_turns.specs.declared.ended.Ended.TheVariants.{Answered, Core, Look}
 use Rattle.fetcher.specs.declared.slot.Slot.{Slot}
-use Rattle.made_sources.proofs.TableLaws.{table_told}
-use Rattle.batch_result.specs.declared.settings.Settings.{Settings}
+use Rattle.bulk_run.proofs.TableLaws.{table_told}
+use Rattle.limits.specs.declared.settings.Settings.{Settings}
 use Rattle.batch_result.specs.Numbered.{counts_at}
 use Rattle.batch_result.specs.Batches.{BatchState, BatchRun, run_of, IsBatch}
 use Rattle.batch_result.specs.Tables.{lists_for, TellsTables, EndsOver}
 use Rattle.bulk_run.specs.declared.input.BulkInput.{BulkInput}
-use Rattle.made_sources.specs.Held.{Held, fresh_slot, told_rows, counts_of}
+use Rattle.bulk_run.specs.Held.{Held, fresh_slot, told_rows, counts_of}
 use Rattle.bulk_run.specs.Sums.{table_of, query_of}
 use Rattle.bulk_run.specs.Endings.{IsMadeReady, AreMadeReady, EndsInOne, AllEndInOne}
 use Rattle.bulk_run.proofs.Readying.{made_lists, all_have_tables}

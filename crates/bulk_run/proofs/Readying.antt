@@ -13,8 +13,8 @@ use Rattle.ranked_list.specs.Table.{IsTable}
 use Rattle.topk_theory.specs.Transcript.{list_at, list_numbers}
 use Rattle.topk_theory.proofs.AgreementLists.{all_from_members}
 use Rattle.topk_theory.proofs.ListNumbers.{number_below, range_more}
-use Rattle.table_make.proofs.Making.{is_table}
-use Rattle.table_text.specs.Numbered.{list_name}
+use Rattle.made_inputs.proofs.Making.{is_table}
+use Rattle.bundle_text.specs.Numbered.{list_name}
 use Rattle.query_text.specs.declared.query.Query.{Query}
 use Rattle.query_text.specs.Query.{IsLawful}
 use Rattle.query_core.specs.declared.ready.Ready.{Ready}
@@ -22,7 +22,7 @@ use Rattle.query_turns.specs.Made.{IsReadyFor}
 use Rattle.query_turns.proofs.Lists.{zip_member}
 use Rattle.batch_result.specs.Tables.{lists_for}
 use Rattle.bulk_run.specs.declared.input.BulkInput.{BulkInput}
-use Rattle.made_sources.proofs.TableLaws.{table_long}
+use Rattle.bulk_run.proofs.TableLaws.{table_long}
 use Rattle.bulk_run.specs.Sums.{IsInput, table_of, query_of}
 use Rattle.bulk_run.specs.Endings.{IsMadeReady, AreMadeReady}
 

@@ -10,7 +10,7 @@ use Rattle.ranked_list.specs.declared.row.Row.{Row}
 use Rattle.topk_theory.specs.declared.access.Access.{Access}
 use Rattle.topk_theory.specs.Transcript.{depth, sorted_count, random_count}
 use Rattle.topk_theory.proofs.AgreementLists.{all_from_members, member_of_all, take_within}
-use Rattle.access_log.specs.declared.answer.Answer.{Answer}
+use Rattle.machine_base.specs.declared.answer.Answer.{Answer}
 use Rattle.query_text.specs.declared.query.Query.{Query}
 use Rattle.query_turns.proofs.Lists.{take_whole}
 use Rattle.query_turns.specs.declared.ended.Ended.{Ended}

@@ -4,7 +4,7 @@ use Rattle.std.specs.List.{sum_by, range_with_len, AllZip}
 use Rattle.ranked_list.specs.declared.row.Row.{Row}
 use Rattle.topk_theory.specs.Transcript.{list_numbers, depth, sorted_count, random_count}
 use Rattle.access_log.specs.Log.{AgreesWith}
-use Rattle.access_log.specs.declared.answer.Answer.{Answer}
+use Rattle.machine_base.specs.declared.answer.Answer.{Answer}
 use Rattle.query_text.specs.declared.query.Query.{Query}
 use Rattle.query_core.specs.declared.ready.Ready.{Ready}
 use Rattle.query_core.specs.Ready.{IsReady}

@@ -3,9 +3,9 @@ use Rattle.std.specs.Prelude.{◌≤◌, ℕ, List, length}
 use Rattle.std.specs.List.{sum_by, range_with_len}
 use Rattle.ranked_list.specs.declared.row.Row.{Row}
 use Rattle.topk_theory.specs.Transcript.{depth, sorted_count, random_count}
-use Rattle.table_make.specs.Made.{made_table}
+use Rattle.made_inputs.specs.Made.{made_table}
 use Rattle.query_text.specs.declared.query.Query.{Query}
-use Rattle.made_queries.specs.Made.{made_query}
+use Rattle.made_inputs.specs.MadeQueries.{made_query}
 use Rattle.query_core.specs.OneAnswer.{one_run, one_items}
 use Rattle.bulk_run.specs.declared.input.BulkInput.{BulkInput}
 use Rattle.bulk_run.specs.declared.sums.BulkSums.{BulkSums}

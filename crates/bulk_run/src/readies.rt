@@ -7,7 +7,7 @@ ghost use Rattle.bulk_run.specs.Endings.{IsMadeReady, AreMadeReady};
 
 use super::Memory;
 use super::input::BulkInput;
-use made_queries::made_query;
+use made_inputs::made_query;
 use query_core::Ready;
 use std::alloc::Global;
 

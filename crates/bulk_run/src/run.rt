@@ -1,19 +1,20 @@
 //! The run.
 
 ghost use Rattle.std.specs.Prelude.{◌≡◌, IfOk, map, replicate};
-ghost use Rattle.batch_result.specs.Ranges.{AreSettings};
-ghost use Rattle.made_sources.specs.Held.{fresh_slot};
+ghost use Rattle.limits.specs.Ranges.{AreSettings};
+ghost use Rattle.bulk_run.specs.Held.{fresh_slot};
 ghost use Rattle.bulk_run.specs.Sums.{IsInput, table_of, bulk_sums};
 ghost use Rattle.bulk_run.specs.Endings.{AreMadeReady, AllEndInOne};
 
 use super::Memory;
 use super::input::BulkInput;
+use super::made_source::MadeSource;
 use super::readies::made_readies;
+use super::slots::{let_go, table_slots};
 use super::sums::{BulkSums, sums_of};
 use batch_result::told_tables_give_the_one_ending;
 use batch_run::{Ended, Settings, run_all};
 use fetcher::Slot;
-use made_sources::{MadeSource, let_go, table_slots};
 use query_core::Ready;
 use std::alloc::Global;
 use std::sync::Wait;

@@ -19,7 +19,7 @@ use Rattle.query_core.proofs.ListCount.{lists_counted}
 use Rattle.query_admission.specs.View.{AreListed, AreTold, count_of}
 use Rattle.query_admission.specs.Admission.{IsAdmitted, RefusesLine}
 use Rattle.query_admission.specs.declared.lists.Listed.{Listed}
-use Rattle.access_log.specs.declared.answer.Answer.{Answer}
+use Rattle.machine_base.specs.declared.answer.Answer.{Answer}
 use Rattle.query_text.specs.declared.query.Query.{Query}
 use Rattle.cert_text.specs.declared.refusal.Refusal.{Refusal}
 use Rattle.cert_text.specs.declared.refusal.Refusal.TheVariants.{RoomFull}

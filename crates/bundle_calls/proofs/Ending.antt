@@ -1,7 +1,7 @@
 -- A call that comes to its text ends with it, or with a write fault.
 use Rattle.std.proofs.Common.{◌≡◌, ℕ, List, inl, inr, sym, subst}
-use Rattle.cert_judge.specs.declared.told.Told.{Told}
-use Rattle.cert_judge.specs.declared.told.Told.TheVariants.{BadLine, Inconsistent, WildGuess, WrongSize, UnseenAnswer, Figure, Fixes, Beaten}
+use Rattle.cert_judge.specs.declared.judgement.Judgement.{Judgement}
+use Rattle.cert_judge.specs.declared.judgement.Judgement.TheVariants.{BadLine, Inconsistent, WildGuess, WrongSize, UnseenAnswer, Figure, Fixes, Beaten}
 use Rattle.cert_text.specs.declared.outcome.Outcome.{Outcome}
 use Rattle.cert_text.specs.declared.outcome.Outcome.TheVariants.{Answered, Refused}
 use Rattle.bundle_calls.specs.Judge.{JudgeReplies, told_status}
@@ -37,7 +37,7 @@ ends_replied c bytes status result text read replied said = elim said [
 ]
 
 -- the status of what is told is Done or Partial
-is_told_status : {A : Type 0} (told : Told) (status : Status) → status ≡ told_status told → (status ≡ Done → A) → (status ≡ Partial → A) → A
+is_told_status : {A : Type 0} (told : Judgement) (status : Status) → status ≡ told_status told → (status ≡ Done → A) → (status ≡ Partial → A) → A
 is_told_status (BadLine line) status e done partial = partial e
 is_told_status (Inconsistent at kind) status e done partial = partial e
 is_told_status (WildGuess at) status e done partial = partial e

@@ -4,8 +4,8 @@ use Rattle.std.proofs.lemmas.List.FromFn.{length-map-range_with_len}
 use Rattle.line_text.specs.Lines.{unlines}
 use Rattle.ranked_list.specs.declared.row.Row.{Row}
 use Rattle.bundle_text.specs.Bundle.{sections}
-use Rattle.table_make.specs.Made.{made_list, made_table}
-use Rattle.table_text.specs.Numbered.{list_names}
+use Rattle.made_inputs.specs.Made.{made_list, made_table}
+use Rattle.bundle_text.specs.Numbered.{list_names}
 use Rattle.bundle_calls.specs.Made.{made_text}
 
 pub text_is : (start count lists : ℕ) (table : List (List Row)) → table ≡ made_table start count lists

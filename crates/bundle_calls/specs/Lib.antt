@@ -1,3 +1,5 @@
+-- What is kept of a list that is told.
+pub mod Grades
 -- What the commands over one input text reply.
 pub mod Made
 pub mod Bundled

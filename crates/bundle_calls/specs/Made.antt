@@ -2,8 +2,8 @@
 use Rattle.std.specs.Prelude.{ℕ, List}
 use Rattle.line_text.specs.Lines.{unlines}
 use Rattle.bundle_text.specs.Bundle.{sections}
-use Rattle.table_make.specs.Made.{made_table}
-use Rattle.table_text.specs.Numbered.{list_names}
+use Rattle.made_inputs.specs.Made.{made_table}
+use Rattle.bundle_text.specs.Numbered.{list_names}
 
 -- the sections of the table of so many lists over `count` objects that is made from `start`; its lists are named `l1`, `l2` and so on
 abbrev pub made_text : ℕ → ℕ → ℕ → List ℕ

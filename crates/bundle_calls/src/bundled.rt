@@ -6,11 +6,11 @@ ghost use Rattle.bundle_text.specs.Bundle.{content, IsBundle};
 ghost use Rattle.bundle_calls.specs.Bundled.{lists_at};
 
 use super::Memory;
+use super::told::ToldList;
 use bundle_text::Bundle;
 use query_admission::{Listed, Lists};
 use std::alloc::Global;
 use std::marker::Model;
-use told_run::ToldList;
 
 /// The lists of a bundle by name: all are told, and all offer random access. The number of a list's
 /// source is its place in the bundle. Contracts see the bundle's content.
@@ -45,7 +45,7 @@ impl<'a> Lists for Bundled<'a> {
     ghost view = { bundle_view };
 
     fn find(&self, name: &[u8]) -> Option<Listed> {
-        let Some(place) = place_of(&self.bundle.names, name) else {
+        let Some(place) = place_of_name(&self.bundle.names, name) else {
             return None;
         };
         Some(Listed {
@@ -57,7 +57,7 @@ impl<'a> Lists for Bundled<'a> {
 }
 
 /// Where a name stands.
-fn place_of(names: &[Vec<u8>], name: &[u8]) -> Option<usize>
+fn place_of_name(names: &[Vec<u8>], name: &[u8]) -> Option<usize>
     ensures { result ≡ position (λ other. bytes_eq other.items name.now) names.now }
 {
     names.iter().position(|other| other.as_slice() == name)

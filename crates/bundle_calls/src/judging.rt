@@ -9,7 +9,7 @@ ghost use Rattle.bundle_calls.specs.Judge.{JudgeReplies, told_status};
 ghost use Rattle.bundle_calls.specs.Outcomes.{SaysReply};
 
 use call_ends::{Status, ended};
-use cert_judge::{Told, judge_text, write_told};
+use cert_judge::{Judgement, judge_text, write_told};
 use limits::MAX_INPUT;
 use std::alloc::Global;
 use tk_io::{Intake, ReadError, Sink, read_text};
@@ -52,7 +52,7 @@ fn judge_bytes<K: Sink>(alloc: Global, bytes: &[u8], out: &mut K) -> Status
 }
 
 /// Writes what is told, and ends so, or with a write fault.
-fn write_judged<K: Sink>(out: &mut K, told: &Told) -> Status
+fn write_judged<K: Sink>(out: &mut K, told: &Judgement) -> Status
     ensures counts { K.faults out.old ≤ K.faults out.new }
     ensures says { Says (output_as K.held K.faults out.old) (output_as K.held K.faults out.new)
         (told_text told.now) (told_status told.now) result }
@@ -63,11 +63,11 @@ fn write_judged<K: Sink>(out: &mut K, told: &Told) -> Status
 }
 
 /// How a call ends that wrote what is told: done exactly where the answer is fixed.
-fn told_status(told: &Told) -> Status
+fn told_status(told: &Judgement) -> Status
     ensures { result ≡ told_status told.now }
 {
     match told {
-        Told::Fixes => Status::Done,
+        Judgement::Fixes => Status::Done,
         _ => Status::Partial,
     }
 }

@@ -1,12 +1,16 @@
-//! The commands over one input text: `one` answers the query of a bundle, `judge` tells whether a certificate fixes its answer; and `make`,
-//! which writes a made table as the sections of a bundle.
+//! The commands over one input text: `one` answers the query of a bundle, `judge` tells whether a certificate fixes its answer, and `make`
+//! writes a made table as the sections of a bundle.
+//!
+//! The lists of a bundle are told, so a query runs over them without sources: its machine is fed until it needs nothing more.
 #![tactic(auto)]
 
 mod answering;
 mod bundled;
+mod drive;
 mod judging;
 mod made;
 mod replies;
+mod told;
 
 pub use answering::one;
 pub use judging::judge;

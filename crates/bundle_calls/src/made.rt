@@ -6,10 +6,10 @@ ghost use Rattle.call_ends.specs.Calls.{Input, output_as, outside_of, call_at};
 ghost use Rattle.call_ends.specs.Ends.{EndsWriting};
 ghost use Rattle.bundle_calls.specs.Made.{made_text};
 
+use bundle_text::write_table;
 use call_ends::{Status, ended};
+use made_inputs::make_table;
 use std::alloc::Global;
-use table_make::make_table;
-use table_text::write_table;
 use tk_io::Sink;
 
 /// Writes the table of so many lists over `count` objects that is made from the number `start`, as the sections of a bundle, whose lists

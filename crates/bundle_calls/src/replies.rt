@@ -8,12 +8,12 @@ ghost use Rattle.bundle_calls.specs.Outcomes.{BecomesOf, IsLineOf, IsReply};
 
 use super::Memory;
 use super::bundled::{Bundled, told_lists};
+use super::drive::answer_over;
 use bundle_text::{Bundle, BundleFault, read_bundle};
 use cert_text::{Outcome, Refusal};
 use query_admission::{Admitted, LineOutcome, admit};
 use query_core::{DriveFault, Ready};
 use std::alloc::Global;
-use told_run::answer_over;
 
 /// What is replied to an input.
 #[derive(Drop)]

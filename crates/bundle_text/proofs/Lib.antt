@@ -6,3 +6,5 @@ pub mod Viable
 pub mod Complete
 pub mod Outcome
 pub mod FrontLines
+-- Lemmas on sections.
+pub mod Sections

@@ -14,7 +14,7 @@ use Rattle.bundle_text.specs.declared.bundle.Bundle.{Bundle}
 use Rattle.bundle_text.specs.declared.bundle.BundleFault.{BundleFault}
 use Rattle.bundle_text.specs.declared.bundle.BundleFault.TheVariants.{BadBundle, Memory}
 use Rattle.bundle_text.specs.Bundle.{content, IsReadAs, IsCause}
-use Rattle.bundle_text.specs.Tracking.{Gives}
+use Rattle.bundle_text.specs.Tracking.{GivesBundle}
 
 -- no line has an LF
 abbrev pub AreLines : List (List ℕ) → Type 0
@@ -210,11 +210,11 @@ found_spells ls lines c e =
 pub fault_first : (ls : List (List ℕ)) → AreLines ls → (fault : ℕ) → read_all ls ≡ Err fault → IsFirstFault ls fault
 fault_first ls lines fault e = first_fault ls fault (subst (Outcome [] read_all 1 ls) e (outcome_all ls lines))
 
-pub result_found : (ls : List (List ℕ)) (r : Result Bundle BundleFault) → AreLines ls → Gives r (read_all ls) → IfOk r (λ bundle. Spells ls (content bundle))
+pub result_found : (ls : List (List ℕ)) (r : Result Bundle BundleFault) → AreLines ls → GivesBundle r (read_all ls) → IfOk r (λ bundle. Spells ls (content bundle))
 result_found ls (Ok bundle) lines gives = found_spells ls lines (content bundle) gives
 result_found ls (Err fault) lines gives = tt
 
-pub result_reads : (ls : List (List ℕ)) (r : Result Bundle BundleFault) → Gives r (read_all ls) → (c : Content) → Spells ls c → IsReadAs c r
+pub result_reads : (ls : List (List ℕ)) (r : Result Bundle BundleFault) → GivesBundle r (read_all ls) → (c : Content) → Spells ls c → IsReadAs c r
 result_reads ls (Ok bundle) gives c s =
     let good : read_all ls ≡ Ok c = ap read_all s.spelled ∙ complete c s.bundle in
     let same : Ok (content bundle) ≡ Ok c = sym gives ∙ good in cc
@@ -224,7 +224,7 @@ result_reads ls (Err (BadBundle line)) gives c s =
     absurd cc
 result_reads ls (Err Memory) gives c s = tt
 
-pub result_fault : (ls : List (List ℕ)) (r : Result Bundle BundleFault) → AreLines ls → Gives r (read_all ls) → IfErr r (IsCause ls)
+pub result_fault : (ls : List (List ℕ)) (r : Result Bundle BundleFault) → AreLines ls → GivesBundle r (read_all ls) → IfErr r (IsCause ls)
 result_fault ls (Ok bundle) lines gives = tt
 result_fault ls (Err (BadBundle line)) lines gives = fault_first ls lines line gives
 result_fault ls (Err Memory) lines gives = tt

@@ -2,3 +2,5 @@ pub mod Bundle
 pub mod Reading
 pub mod Tracking
 pub mod Fronts
+-- The names of lists that have numbers.
+pub mod Numbered

@@ -36,7 +36,7 @@ pub record IsTracked (reader : Reader) : Type 0 where
   pub past : (object : ℕ) → IfSome (value_of reader.given object) (λ number. number ≤ reader.number)
 
 -- the code gives what the reading of the lines gives, or memory was refused
-abbrev pub Gives : Result Bundle BundleFault → Result Content ℕ → Type 0
-Gives (Ok bundle) read = read ≡ Ok (content bundle)
-Gives (Err (BadBundle line)) read = read ≡ Err line
-Gives (Err Memory) read = Unit {0}
+abbrev pub GivesBundle : Result Bundle BundleFault → Result Content ℕ → Type 0
+GivesBundle (Ok bundle) read = read ≡ Ok (content bundle)
+GivesBundle (Err (BadBundle line)) read = read ≡ Err line
+GivesBundle (Err Memory) read = Unit {0}

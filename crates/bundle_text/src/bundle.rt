@@ -5,7 +5,7 @@ ghost use Rattle.std.specs.Prelude.{◌+◌, ◌<◌, ◌^◌, Err};
 ghost use Rattle.line_text.specs.Lines.{lines};
 ghost use Rattle.bundle_text.specs.Bundle.{Content, content, Spells, IsReadAs, IsCause};
 ghost use Rattle.bundle_text.specs.Reading.{read_on, read_all, read_part, query_part};
-ghost use Rattle.bundle_text.specs.Tracking.{front_of, IsTracked, Gives};
+ghost use Rattle.bundle_text.specs.Tracking.{front_of, IsTracked, GivesBundle};
 
 use super::line::{Line, line_of};
 use super::reader::Reader;
@@ -53,7 +53,7 @@ impl From<ranked_list::Memory> for BundleFault {
 /// The bundle that the lines after a front spell, of which the first is the second of the text.
 fn read_rest(alloc: Global, mut reader: Reader, bytes: &[u8]) -> Result<Bundle, BundleFault>
     requires { IsTracked reader }
-    ensures { Gives result (read_on (front_of reader) 2 (lines bytes.now)) }
+    ensures { GivesBundle result (read_on (front_of reader) 2 (lines bytes.now)) }
 {
     let mut rest = bytes;
     let mut number: u64 = 2;
@@ -88,7 +88,7 @@ fn read_end(
     rest: &[u8],
 ) -> Result<Bundle, BundleFault>
     requires { number + 1 < 2 ^ 64 }
-    ensures { Gives result (read_part (front_of reader) number (lines rest.now) (λ front. Err number) (query_part query.now)) }
+    ensures { GivesBundle result (read_part (front_of reader) number (lines rest.now) (λ front. Err number) (query_part query.now)) }
 {
     if !reader.is_whole() {
         drop(reader);
@@ -103,7 +103,7 @@ fn read_end(
 
 /// The bundle that the lines of a text spell.
 fn read_lines(alloc: Global, bytes: &[u8]) -> Result<Bundle, BundleFault>
-    ensures { Gives result (read_all (lines bytes.now)) }
+    ensures { GivesBundle result (read_all (lines bytes.now)) }
 {
     let Some((text, rest)) = first_line(bytes) else {
         return Err(BundleFault::BadBundle { line: 1 });

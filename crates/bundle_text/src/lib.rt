@@ -1,4 +1,4 @@
-//! Bundles: ranked lists and a query over them in one text, which is read with the first line at fault.
+//! Bundles: ranked lists and a query over them in one text, read with the first line at fault, and tables written as its sections.
 #![tactic(auto)]
 
 mod bundle;
@@ -6,5 +6,9 @@ mod line;
 mod marks;
 mod reader;
 mod row_front;
+mod rows;
+mod table;
 
 pub use bundle::{Bundle, BundleFault, read_bundle};
+pub use rows::put_rows;
+pub use table::write_table;

@@ -16,8 +16,8 @@ use Rattle.topk_theory.specs.Combined.{unknown_lists, missing_grades, ca_blocks,
 use Rattle.topk_theory.proofs.AgreementLists.{contains_here, contains_there, contains_at, member_of_all, slice_get_contains}
 use Rattle.topk_theory.proofs.Agreement.{known_grade_is, known_grade_given}
 use Rattle.topk_theory.proofs.ThresholdRun.{seen_more}
-use Rattle.late_choice.specs.Open.{next_unknown}
-use Rattle.late_choice.proofs.Grades.{some_unknown, no_unknown, unknown_other, unknown_asked}
+use Rattle.ca_core.specs.Open.{next_unknown}
+use Rattle.ca_core.proofs.Grades.{some_unknown, no_unknown, unknown_other, unknown_asked}
 use Rattle.ca_core.specs.declared.stage.Stage.{Stage}
 use Rattle.ca_core.specs.Course.{finish_at, finish_from}
 use Rattle.ca_core.specs.OnTable.{all_missing, OnTable}

@@ -20,9 +20,9 @@ use Rattle.topk_theory.proofs.ConsistentTable.{random_given}
 use Rattle.topk_theory.proofs.ThresholdRun.{seen_more, seen_from_access}
 use Rattle.std.proofs.lemmas.List.Elements.{Contains-append_right}
 use Rattle.access_log.specs.Log.{Log}
-use Rattle.access_log.specs.Machine.{MachineState, IsBegun, MayBeNextRow, MayBeNextGrade, HasRoomFor, Takes, row_access, grade_access}
-use Rattle.access_records.proofs.FirstKind.{known_of_row}
-use Rattle.late_choice.proofs.Grades.{some_unknown, first_is_unknown}
+use Rattle.machine_base.specs.Machine.{MachineState, IsBegun, MayBeNextRow, MayBeNextGrade, HasRoomFor, Takes, row_access, grade_access}
+use Rattle.access_log.proofs.FirstKind.{known_of_row}
+use Rattle.ca_core.proofs.Grades.{some_unknown, first_is_unknown}
 use Rattle.machine_base.specs.declared.base.Base.{Base}
 use Rattle.machine_base.specs.Base.{shown, asked_of_list, IsHeld, Holds, IsReserved, IsTold, CanTake, MayFollow}
 use Rattle.machine_base.proofs.Held.{some_before, carried, takes}
@@ -34,7 +34,7 @@ use Rattle.ca_core.specs.declared.stage.Stage.TheVariants as stages
 use Rattle.ca_core.specs.Course.{Course, need_at, moved, MayMoveAt}
 use Rattle.ca_core.specs.OnTable.{quiet_at}
 use Rattle.ca_core.specs.Seen.{AreRenewed, KeepsSeen, WasRenewed}
-use Rattle.ca_core.specs.Kept.{IsAsked, IsSound, IsKept, Keeps, Stands}
+use Rattle.ca_core.specs.Kept.{IsAsked, IsSound, IsCaKept, Keeps, Stands}
 use Rattle.ca_core.proofs.Pieces.{no_items}
 use Rattle.ca_core.proofs.Steps.{row_kept, choice_kept, finish_kept}
 
@@ -61,7 +61,7 @@ done_not_grade : (list object : ℕ) → needs.Done ≡ needs.Grade list object 
 done_not_grade list object e = cc
 
 -- ---- at the beginning
-kept_start : (e : Tree) (k phase room m n : ℕ) → IsHeld e k room m n [] → IsKept e k phase room m n [] [] (stages.Row 0 1)
+kept_start : (e : Tree) (k phase room m n : ℕ) → IsHeld e k room m n [] → IsCaKept e k phase room m n [] [] (stages.Row 0 1)
 kept_start e k phase room m n held = record {
   base = held;
   sound = (omega (arith, held.some_list), refl);
@@ -79,8 +79,8 @@ stands_start e k n room phase costs base late first capacity begun held reserved
     let m : ℕ = base.transcript.lists in
     let count : ℕ = base.transcript.count in
     record {
-      kept = subst (λ A. IsKept base.expr base.k phase base.room m count A first (stages.Row 0 1)) (sym begun.none)
-          (subst (λ xs. IsKept base.expr base.k phase base.room m count [] xs (stages.Row 0 1)) (sym none)
+      kept = subst (λ A. IsCaKept base.expr base.k phase base.room m count A first (stages.Row 0 1)) (sym begun.none)
+          (subst (λ xs. IsCaKept base.expr base.k phase base.room m count [] xs (stages.Row 0 1)) (sym none)
           (kept_start base.expr base.k phase base.room m count (subst (IsHeld base.expr base.k base.room m count) begun.none held)));
       seen = subst (λ A. AreRenewed base.expr base.k base.room m A late) (sym begun.none)
           (subst (λ r. AreRenewed base.expr base.k r m [] late) (sym begun.in_force) (subst (λ c. AreRenewed base.expr c (min room n) m [] late) (sym begun.asked) (seen base.expr m)));
@@ -187,33 +187,33 @@ may_move before after a phase late first capacity stages.Done stands told = tt
 
 -- ---- what is kept then
 row_moved : (e : Tree) (k phase room m n : ℕ) (A : List Access) (first : List Item) (stage : Stage) (list depth object grade : ℕ)
-    → need_at stage ≡ needs.Row list depth → IsKept e k phase room m n A first stage → SomeAgrees m n (A ++ Sorted list object grade ∷ [])
+    → need_at stage ≡ needs.Row list depth → IsCaKept e k phase room m n A first stage → SomeAgrees m n (A ++ Sorted list object grade ∷ [])
     → MayFollow room A (Sorted list object grade)
-    → IsKept e k phase room m n (A ++ Sorted list object grade ∷ []) (moved (value e) k phase m n (A ++ Sorted list object grade ∷ []) stage first).first (moved (value e) k phase m n (A ++ Sorted list object grade ∷ []) stage first).stage
+    → IsCaKept e k phase room m n (A ++ Sorted list object grade ∷ []) (moved (value e) k phase m n (A ++ Sorted list object grade ∷ []) stage first).first (moved (value e) k phase m n (A ++ Sorted list object grade ∷ []) stage first).stage
 row_moved e k phase room m n A first (stages.Row l d) list depth object grade is kept some follows =
     let list_is = row_list l d list depth is in
-    subst (λ x. IsKept e k phase room m n (A ++ Sorted list object grade ∷ []) (moved (value e) k phase m n (A ++ Sorted list object grade ∷ []) (stages.Row x d) first).first (moved (value e) k phase m n (A ++ Sorted list object grade ∷ []) (stages.Row x d) first).stage) (sym list_is)
-    (row_kept e k phase room m n A first list d object grade (subst (λ x. IsKept e k phase room m n A first (stages.Row x d)) list_is kept) some follows)
+    subst (λ x. IsCaKept e k phase room m n (A ++ Sorted list object grade ∷ []) (moved (value e) k phase m n (A ++ Sorted list object grade ∷ []) (stages.Row x d) first).first (moved (value e) k phase m n (A ++ Sorted list object grade ∷ []) (stages.Row x d) first).stage) (sym list_is)
+    (row_kept e k phase room m n A first list d object grade (subst (λ x. IsCaKept e k phase room m n A first (stages.Row x d)) list_is kept) some follows)
 row_moved e k phase room m n A first (stages.Choice l o d) list depth object grade is kept some follows = absurd (grade_not_row l o list depth is)
 row_moved e k phase room m n A first (stages.Finish l o p) list depth object grade is kept some follows = absurd (grade_not_row l o list depth is)
 row_moved e k phase room m n A first stages.Done list depth object grade is kept some follows = absurd (done_not_row list depth is)
 
 grade_moved : (e : Tree) (k phase room m n : ℕ) (A : List Access) (first : List Item) (stage : Stage) (list object grade : ℕ)
-    → need_at stage ≡ needs.Grade list object → IsKept e k phase room m n A first stage → SomeAgrees m n (A ++ Random list object grade ∷ [])
+    → need_at stage ≡ needs.Grade list object → IsCaKept e k phase room m n A first stage → SomeAgrees m n (A ++ Random list object grade ∷ [])
     → MayFollow room A (Random list object grade)
-    → IsKept e k phase room m n (A ++ Random list object grade ∷ []) (moved (value e) k phase m n (A ++ Random list object grade ∷ []) stage first).first (moved (value e) k phase m n (A ++ Random list object grade ∷ []) stage first).stage
+    → IsCaKept e k phase room m n (A ++ Random list object grade ∷ []) (moved (value e) k phase m n (A ++ Random list object grade ∷ []) stage first).first (moved (value e) k phase m n (A ++ Random list object grade ∷ []) stage first).stage
 grade_moved e k phase room m n A first (stages.Row l d) list object grade is kept some follows = absurd (row_not_grade l d list object is)
 grade_moved e k phase room m n A first (stages.Choice l o d) list object grade is kept some follows =
     let list_is = sym (grade_list l o list object is) in
     let object_is = sym (grade_object l o list object is) in
     let a : Random l o grade ≡ Random list object grade = ap (λ x. Random x o grade) (sym list_is) ∙ ap (λ x. Random list x grade) (sym object_is) in
-    subst (λ (a : Access). IsKept e k phase room m n (A ++ a ∷ []) (moved (value e) k phase m n (A ++ a ∷ []) (stages.Choice l o d) first).first (moved (value e) k phase m n (A ++ a ∷ []) (stages.Choice l o d) first).stage) a
+    subst (λ (a : Access). IsCaKept e k phase room m n (A ++ a ∷ []) (moved (value e) k phase m n (A ++ a ∷ []) (stages.Choice l o d) first).first (moved (value e) k phase m n (A ++ a ∷ []) (stages.Choice l o d) first).stage) a
     (choice_kept e k phase room m n A first l o d grade kept (subst (λ (b : Access). SomeAgrees m n (A ++ b ∷ [])) (sym a) some) (subst (MayFollow room A) (sym a) follows))
 grade_moved e k phase room m n A first (stages.Finish l o p) list object grade is kept some follows =
     let list_is = sym (grade_list l o list object is) in
     let object_is = sym (grade_object l o list object is) in
     let a : Random l o grade ≡ Random list object grade = ap (λ x. Random x o grade) (sym list_is) ∙ ap (λ x. Random list x grade) (sym object_is) in
-    subst (λ (a : Access). IsKept e k phase room m n (A ++ a ∷ []) (moved (value e) k phase m n (A ++ a ∷ []) (stages.Finish l o p) first).first (moved (value e) k phase m n (A ++ a ∷ []) (stages.Finish l o p) first).stage) a
+    subst (λ (a : Access). IsCaKept e k phase room m n (A ++ a ∷ []) (moved (value e) k phase m n (A ++ a ∷ []) (stages.Finish l o p) first).first (moved (value e) k phase m n (A ++ a ∷ []) (stages.Finish l o p) first).stage) a
     (finish_kept e k phase room m n A first l o p grade kept (subst (λ (b : Access). SomeAgrees m n (A ++ b ∷ [])) (sym a) some) (subst (MayFollow room A) (sym a) follows))
 grade_moved e k phase room m n A first stages.Done list object grade is kept some follows = absurd (done_not_grade list object is)
 
@@ -229,7 +229,7 @@ pub row_stands : (before after : Base) (phase : ℕ) (late late' : LateSeen) (fi
     → record { stage = stage'; first = first' } ≡ moved (value after.expr) after.k phase after.transcript.lists after.transcript.count after.transcript.accesses stage first → Stands after phase late' first' capacity' stage'
 row_stands before after phase late late' first first' capacity capacity' stage stage' list depth object grade stands is can told held reserved seen same course = record {
   kept = kept_course after phase stage stage' first first' _ course
-      (carried (λ e k room m n B. IsKept e k phase room m n B (moved (value e) k phase m n B stage first).first (moved (value e) k phase m n B stage first).stage) (Sorted list object grade) before after told
+      (carried (λ e k room m n B. IsCaKept e k phase room m n B (moved (value e) k phase m n B stage first).first (moved (value e) k phase m n B stage first).stage) (Sorted list object grade) before after told
       (row_moved before.expr before.k phase before.room before.transcript.lists before.transcript.count before.transcript.accesses first stage list depth object grade is stands.kept (some_before (Sorted list object grade) before after told held.agreeing) can.follows));
   seen = seen;
   reserved = reserved;
@@ -244,7 +244,7 @@ pub grade_stands : (before after : Base) (phase : ℕ) (late late' : LateSeen) (
     → record { stage = stage'; first = first' } ≡ moved (value after.expr) after.k phase after.transcript.lists after.transcript.count after.transcript.accesses stage first → Stands after phase late' first' capacity' stage'
 grade_stands before after phase late late' first first' capacity capacity' stage stage' list object grade stands is can told held reserved seen same course = record {
   kept = kept_course after phase stage stage' first first' _ course
-      (carried (λ e k room m n B. IsKept e k phase room m n B (moved (value e) k phase m n B stage first).first (moved (value e) k phase m n B stage first).stage) (Random list object grade) before after told
+      (carried (λ e k room m n B. IsCaKept e k phase room m n B (moved (value e) k phase m n B stage first).first (moved (value e) k phase m n B stage first).stage) (Random list object grade) before after told
       (grade_moved before.expr before.k phase before.room before.transcript.lists before.transcript.count before.transcript.accesses first stage list object grade is stands.kept (some_before (Random list object grade) before after told held.agreeing) can.follows));
   seen = seen;
   reserved = reserved;

@@ -8,7 +8,7 @@ use Rattle.topk_theory.specs.Threshold.{item_objects}
 use Rattle.topk_theory.specs.NoRandom.{first_seen}
 use Rattle.topk_theory.specs.Combined.{choice}
 use Rattle.nra_core.specs.Quiet.{is_quiet_seen}
-use Rattle.late_choice.specs.Open.{next_unknown}
+use Rattle.ca_core.specs.Open.{next_unknown}
 use Rattle.ca_core.specs.declared.stage.Stage.{Stage}
 use Rattle.ca_core.specs.declared.stage.Stage.TheVariants as stages
 use Rattle.ca_core.specs.Course.{Course, finish_at, finish_from, block_ended, grade_taken, phase_begun, row_ended, moved}

@@ -1,3 +1,6 @@
+pub mod Grades
+pub mod Noting
+pub mod Highest
 pub mod Pieces
 pub mod Asks
 pub mod Path

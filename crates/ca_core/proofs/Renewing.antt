@@ -2,8 +2,8 @@
 use Rattle.std.proofs.Common.{◌≡◌, ℕ, length, arith, ◌∙◌}
 use Rattle.nra_core.specs.declared.late.LateBounds.{LateBounds}
 use Rattle.nra_core.specs.LatePlaces.{KeepsLate, WasLate}
-use Rattle.late_choice.specs.declared.open_highs.OpenHighs.{OpenHighs}
-use Rattle.late_choice.specs.Open.{KeepsOpen, WasOpen}
+use Rattle.ca_core.specs.declared.open_highs.OpenHighs.{OpenHighs}
+use Rattle.ca_core.specs.Open.{KeepsOpen, WasOpen}
 use Rattle.machine_base.specs.declared.base.Base.{Base}
 use Rattle.machine_base.specs.Base.{Holds}
 use Rattle.ca_core.specs.declared.late_seen.LateSeen.{LateSeen}

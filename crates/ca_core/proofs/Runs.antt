@@ -20,9 +20,9 @@ use Rattle.topk_theory.specs.Machine.{need_of, IsAt, CanServe}
 use Rattle.topk_theory.proofs.Agreement.{seen_in_table}
 use Rattle.topk_theory.proofs.AgreementLists.{get_front}
 use Rattle.access_log.specs.Log.{Log, AgreesWith}
-use Rattle.access_log.specs.Machine.{IsOfSeen}
-use Rattle.late_choice.specs.Open.{next_unknown}
-use Rattle.late_choice.proofs.Grades.{some_unknown}
+use Rattle.machine_base.specs.Machine.{IsOfSeen}
+use Rattle.ca_core.specs.Open.{next_unknown}
+use Rattle.ca_core.proofs.Grades.{some_unknown}
 use Rattle.machine_base.specs.declared.base.Base.{Base}
 use Rattle.machine_base.specs.Base.{shown}
 use Rattle.machine_base.proofs.Held.{held_asked}

@@ -26,15 +26,15 @@ use Rattle.topk_theory.proofs.ThresholdRun.{seen_more}
 use Rattle.topk_theory.proofs.CombinedChoice.{choice_law}
 use Rattle.nra_core.specs.Quiet.{is_quiet_seen}
 use Rattle.nra_core.proofs.Shown.{quiet_same}
-use Rattle.late_choice.specs.Open.{next_unknown}
-use Rattle.late_choice.proofs.Grades.{no_unknown}
+use Rattle.ca_core.specs.Open.{next_unknown}
+use Rattle.ca_core.proofs.Grades.{no_unknown}
 use Rattle.machine_base.specs.Base.{IsHeld, MayFollow}
 use Rattle.machine_base.specs.Depths.{IsReached}
 use Rattle.machine_base.proofs.Held.{held_more, held_asked}
 use Rattle.ca_core.specs.declared.stage.Stage.TheVariants as stages
 use Rattle.ca_core.specs.Course.{Course, finish_from, block_ended, grade_taken, phase_begun, row_ended, moved}
 use Rattle.ca_core.specs.OnTable.{quiet_at, OnChoice, OnTable}
-use Rattle.ca_core.specs.Kept.{IsAsked, AreListed, IsFinishing, IsKept}
+use Rattle.ca_core.specs.Kept.{IsAsked, AreListed, IsFinishing, IsCaKept}
 use Rattle.ca_core.proofs.Pieces.{none_before}
 use Rattle.ca_core.proofs.Asks.{grade_given, missing_none, choice_asked, finish_asked, known_after, listed_after, sound_finish, on_finish, next_below}
 use Rattle.ca_core.proofs.Path.{list_follows, row_follows, nothing_between, nobody_asked, one_asked, blocks_made, run_left, depth_follows}
@@ -77,7 +77,7 @@ finish_on e k phase room m n A D depth held agrees on q =
 -- after all of a depth
 ended : (e : Tree) (k phase room m n : ℕ) (A : List Access) (depth : ℕ) (first : List Item) → IsHeld e k room m n A → item_objects first ≡ []
     → ((D : List (List Row)) → Agrees m n D A → OnDepth (value e) k phase n D A depth)
-    → IsKept e k phase room m n A (block_ended (value e) k m n A depth first).first (block_ended (value e) k m n A depth first).stage
+    → IsCaKept e k phase room m n A (block_ended (value e) k m n A depth first).first (block_ended (value e) k m n A depth first).stage
 ended e k phase room m n A depth first held none on = by_quiet (is_quiet_seen (value e) k m n A) refl
   where
     finish : Course
@@ -87,15 +87,15 @@ ended e k phase room m n A depth first held none on = by_quiet (is_quiet_seen (v
     next = record { stage = stages.Row 0 (depth + 1); first = first }
 
     by_quiet : (b : Bool) → is_quiet_seen (value e) k m n A ≡ b
-        → IsKept e k phase room m n A (cond {A = Course} (is_quiet_seen (value e) k m n A) finish next).first (cond {A = Course} (is_quiet_seen (value e) k m n A) finish next).stage
+        → IsCaKept e k phase room m n A (cond {A = Course} (is_quiet_seen (value e) k m n A) finish next).first (cond {A = Course} (is_quiet_seen (value e) k m n A) finish next).stage
     by_quiet true q =
-        subst (λ b. IsKept e k phase room m n A (cond {A = Course} b finish next).first (cond {A = Course} b finish next).stage) (sym q) (record {
+        subst (λ b. IsCaKept e k phase room m n A (cond {A = Course} b finish next).first (cond {A = Course} b finish next).stage) (sym q) (record {
           base = held;
           sound = sound_finish m A (item_objects (first_seen (value e) k m A)) (item_objects (first_seen (value e) k m A)) 0 (first_listed (value e) k m A) refl (All-nil (λ o. unknown_lists m A o ≡ []));
           on_table = λ D agrees. finish_on e k phase room m n A D depth held agrees (on D agrees) q;
         })
     by_quiet false q =
-        subst (λ b. IsKept e k phase room m n A (cond {A = Course} b finish next).first (cond {A = Course} b finish next).stage) (sym q) (record {
+        subst (λ b. IsCaKept e k phase room m n A (cond {A = Course} b finish next).first (cond {A = Course} b finish next).stage) (sym q) (record {
           base = held;
           sound = (omega (arith, held.some_list), none);
           on_table = λ D agrees.
@@ -106,13 +106,13 @@ ended e k phase room m n A depth first held none on = by_quiet (is_quiet_seen (v
 -- with the next unknown grade of the choice, if it has one
 taken : (e : Tree) (k phase room m n : ℕ) (A : List Access) (depth : ℕ) (first : List Item) (object : ℕ) → IsHeld e k room m n A → item_objects first ≡ []
     → Contains (seen_objects A) object → ((D : List (List Row)) → Agrees m n D A → OnChoice (value e) k phase n D A object depth)
-    → IsKept e k phase room m n A (grade_taken (value e) k m n A depth first object (next_unknown m A object)).first (grade_taken (value e) k m n A depth first object (next_unknown m A object)).stage
+    → IsCaKept e k phase room m n A (grade_taken (value e) k m n A depth first object (next_unknown m A object)).first (grade_taken (value e) k m n A depth first object (next_unknown m A object)).stage
 taken e k phase room m n A depth first object held none seen on = by_next (next_unknown m A object) refl
   where
     by_next : (next : Option ℕ) → next_unknown m A object ≡ next
-        → IsKept e k phase room m n A (grade_taken (value e) k m n A depth first object (next_unknown m A object)).first (grade_taken (value e) k m n A depth first object (next_unknown m A object)).stage
+        → IsCaKept e k phase room m n A (grade_taken (value e) k m n A depth first object (next_unknown m A object)).first (grade_taken (value e) k m n A depth first object (next_unknown m A object)).stage
     by_next None is =
-        subst (λ found. IsKept e k phase room m n A (grade_taken (value e) k m n A depth first object found).first (grade_taken (value e) k m n A depth first object found).stage) (sym is)
+        subst (λ found. IsCaKept e k phase room m n A (grade_taken (value e) k m n A depth first object found).first (grade_taken (value e) k m n A depth first object found).stage) (sym is)
         (ended e k phase room m n A depth first held none (λ D agrees.
         let o = on D agrees in
         record {
@@ -120,7 +120,7 @@ taken e k phase room m n A depth first object held none seen on = by_next (next_
           made = sym (append-nil A) ∙ ap (λ xs. A ++ xs) (sym (missing_none D A object (subst (λ c. unknown_lists c A object ≡ []) (sym agrees.lists) (no_unknown m A object is)))) ∙ o.made;
         }))
     by_next (Some list) is =
-        subst (λ found. IsKept e k phase room m n A (grade_taken (value e) k m n A depth first object found).first (grade_taken (value e) k m n A depth first object found).stage) (sym is) (record {
+        subst (λ found. IsCaKept e k phase room m n A (grade_taken (value e) k m n A depth first object found).first (grade_taken (value e) k m n A depth first object found).stage) (sym is) (record {
           base = held;
           sound = (record { seen = seen; next = is }, none);
           on_table = on;
@@ -132,7 +132,7 @@ not_both x e = cc
 -- after a whole row
 row_over : (e : Tree) (k phase room m n : ℕ) (A : List Access) (depth : ℕ) (first : List Item) → IsHeld e k room m n A → item_objects first ≡ []
     → ((D : List (List Row)) → Agrees m n D A → OnRowEnd (value e) k phase n D A depth)
-    → IsKept e k phase room m n A (row_ended (value e) k phase m n A depth first).first (row_ended (value e) k phase m n A depth first).stage
+    → IsCaKept e k phase room m n A (row_ended (value e) k phase m n A depth first).first (row_ended (value e) k phase m n A depth first).stage
 row_over e k phase room m n A depth first held none on = by_phase ((depth % phase) == 0) refl
   where
     V : List ℕ → ℕ
@@ -148,14 +148,14 @@ row_over e k phase room m n A depth first held none on = by_phase ((depth % phas
     here D chosen agrees is = subst (λ c. choice V k c A ≡ chosen) (sym agrees.lists) is
 
     by_choice : (chosen : Option ℕ) → choice V k m A ≡ chosen → ((depth % phase) == 0) ≡ true
-        → IsKept e k phase room m n A (phase_begun V k m n A depth first (choice V k m A)).first (phase_begun V k m n A depth first (choice V k m A)).stage
+        → IsCaKept e k phase room m n A (phase_begun V k m n A depth first (choice V k m A)).first (phase_begun V k m n A depth first (choice V k m A)).stage
     by_choice None is t =
-        subst (λ found. IsKept e k phase room m n A (phase_begun V k m n A depth first found).first (phase_begun V k m n A depth first found).stage) (sym is)
+        subst (λ found. IsCaKept e k phase room m n A (phase_begun V k m n A depth first found).first (phase_begun V k m n A depth first found).stage) (sym is)
         (ended e k phase room m n A depth first held none (λ D agrees.
         let o = on D agrees in
         record { at = o.at; made = nobody_asked V k phase depth D A (ca_run_to V k phase D depth) t (here D None agrees is) o.made }))
     by_choice (Some object) is t =
-        subst (λ found. IsKept e k phase room m n A (phase_begun V k m n A depth first found).first (phase_begun V k m n A depth first found).stage) (sym is)
+        subst (λ found. IsCaKept e k phase room m n A (phase_begun V k m n A depth first found).first (phase_begun V k m n A depth first found).stage) (sym is)
         (taken e k phase room m n A depth first object held none
         (elim (choice_law V k m A) [
           | inl some ↦ subst (λ x. Contains (seen_objects A) x) (same_Some some.0 object (sym some.1 ∙ is)) some.2.may.seen
@@ -166,11 +166,11 @@ row_over e k phase room m n A depth first held none on = by_phase ((depth % phas
         record { at = o.at; made = one_asked V k phase depth object D A (ca_run_to V k phase D depth) t (here D (Some object) agrees is) o.made }))
 
     by_phase : (b : Bool) → ((depth % phase) == 0) ≡ b
-        → IsKept e k phase room m n A (cond {A = Course} ((depth % phase) == 0) begun over).first (cond {A = Course} ((depth % phase) == 0) begun over).stage
+        → IsCaKept e k phase room m n A (cond {A = Course} ((depth % phase) == 0) begun over).first (cond {A = Course} ((depth % phase) == 0) begun over).stage
     by_phase true t =
-        subst (λ b. IsKept e k phase room m n A (cond {A = Course} b begun over).first (cond {A = Course} b begun over).stage) (sym t) (by_choice (choice V k m A) refl t)
+        subst (λ b. IsCaKept e k phase room m n A (cond {A = Course} b begun over).first (cond {A = Course} b begun over).stage) (sym t) (by_choice (choice V k m A) refl t)
     by_phase false f =
-        subst (λ b. IsKept e k phase room m n A (cond {A = Course} b begun over).first (cond {A = Course} b begun over).stage) (sym f)
+        subst (λ b. IsCaKept e k phase room m n A (cond {A = Course} b begun over).first (cond {A = Course} b begun over).stage) (sym f)
         (ended e k phase room m n A depth first held none (λ D agrees.
         let o = on D agrees in
         record { at = o.at; made = nothing_between V k phase depth D A (ca_run_to V k phase D depth) f o.made }))
@@ -180,19 +180,19 @@ at_length : (m n : ℕ) (D : List (List Row)) (A : List Access) → Agrees m n D
 at_length m n D A agrees = subst (λ c. Agrees c n D A) (sym agrees.lists) agrees
 
 pub row_kept : (e : Tree) (k phase room m n : ℕ) (A : List Access) (first : List Item) (list depth object grade : ℕ)
-    → IsKept e k phase room m n A first (stages.Row list depth) → SomeAgrees m n (A ++ Sorted list object grade ∷ [])
+    → IsCaKept e k phase room m n A first (stages.Row list depth) → SomeAgrees m n (A ++ Sorted list object grade ∷ [])
     → MayFollow room A (Sorted list object grade)
-    → IsKept e k phase room m n (A ++ Sorted list object grade ∷ []) (moved (value e) k phase m n (A ++ Sorted list object grade ∷ []) (stages.Row list depth) first).first (moved (value e) k phase m n (A ++ Sorted list object grade ∷ []) (stages.Row list depth) first).stage
+    → IsCaKept e k phase room m n (A ++ Sorted list object grade ∷ []) (moved (value e) k phase m n (A ++ Sorted list object grade ∷ []) (stages.Row list depth) first).first (moved (value e) k phase m n (A ++ Sorted list object grade ∷ []) (stages.Row list depth) first).stage
 row_kept e k phase room m n A first list depth object grade kept some follows =
     elim (cases_lt (list + 1) m) [
       | inl short ↦
-          subst (λ b. IsKept e k phase room m n A' (cond {A = Course} b next over).first (cond {A = Course} b next over).stage) (sym (lt-ltb (list + 1) m short)) (record {
+          subst (λ b. IsCaKept e k phase room m n A' (cond {A = Course} b next over).first (cond {A = Course} b next over).stage) (sym (lt-ltb (list + 1) m short)) (record {
             base = base;
             sound = (short, kept.sound.1);
             on_table = λ D agrees. list_follows (value e) k phase n D A list depth object grade (before D agrees) (within D agrees) (at_length m n D A' agrees);
           })
       | inr whole ↦
-          subst (λ b. IsKept e k phase room m n A' (cond {A = Course} b next over).first (cond {A = Course} b next over).stage) (sym (le-ltb (list + 1) m whole))
+          subst (λ b. IsCaKept e k phase room m n A' (cond {A = Course} b next over).first (cond {A = Course} b next over).stage) (sym (le-ltb (list + 1) m whole))
           (row_over e k phase room m n A' depth first base kept.sound.1 (λ D agrees.
           let on = before D agrees in
           record { at = on.at; made = row_follows (value e) k phase n D A list depth object grade on (within D agrees) (omega (arith, whole, agrees.lists)) (at_length m n D A' agrees) }))
@@ -217,9 +217,9 @@ row_kept e k phase room m n A first list depth object grade kept some follows =
     within D agrees = omega (arith, kept.sound.0, agrees.lists)
 
 pub choice_kept : (e : Tree) (k phase room m n : ℕ) (A : List Access) (first : List Item) (list object depth grade : ℕ)
-    → IsKept e k phase room m n A first (stages.Choice list object depth) → SomeAgrees m n (A ++ Random list object grade ∷ [])
+    → IsCaKept e k phase room m n A first (stages.Choice list object depth) → SomeAgrees m n (A ++ Random list object grade ∷ [])
     → MayFollow room A (Random list object grade)
-    → IsKept e k phase room m n (A ++ Random list object grade ∷ []) (moved (value e) k phase m n (A ++ Random list object grade ∷ []) (stages.Choice list object depth) first).first (moved (value e) k phase m n (A ++ Random list object grade ∷ []) (stages.Choice list object depth) first).stage
+    → IsCaKept e k phase room m n (A ++ Random list object grade ∷ []) (moved (value e) k phase m n (A ++ Random list object grade ∷ []) (stages.Choice list object depth) first).first (moved (value e) k phase m n (A ++ Random list object grade ∷ []) (stages.Choice list object depth) first).stage
 choice_kept e k phase room m n A first list object depth grade kept some follows =
     let a : Access = Random list object grade in
     let asked : IsAsked m A object list = kept.sound.0 in
@@ -232,9 +232,9 @@ choice_kept e k phase room m n A first list object depth grade kept some follows
     })
 
 pub finish_kept : (e : Tree) (k phase room m n : ℕ) (A : List Access) (first : List Item) (list object place grade : ℕ)
-    → IsKept e k phase room m n A first (stages.Finish list object place) → SomeAgrees m n (A ++ Random list object grade ∷ [])
+    → IsCaKept e k phase room m n A first (stages.Finish list object place) → SomeAgrees m n (A ++ Random list object grade ∷ [])
     → MayFollow room A (Random list object grade)
-    → IsKept e k phase room m n (A ++ Random list object grade ∷ []) (moved (value e) k phase m n (A ++ Random list object grade ∷ []) (stages.Finish list object place) first).first (moved (value e) k phase m n (A ++ Random list object grade ∷ []) (stages.Finish list object place) first).stage
+    → IsCaKept e k phase room m n (A ++ Random list object grade ∷ []) (moved (value e) k phase m n (A ++ Random list object grade ∷ []) (stages.Finish list object place) first).first (moved (value e) k phase m n (A ++ Random list object grade ∷ []) (stages.Finish list object place) first).stage
 finish_kept e k phase room m n A first list object place grade kept some follows =
     let a : Access = Random list object grade in
     let objects : List ℕ = item_objects first in

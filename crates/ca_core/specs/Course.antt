@@ -9,7 +9,7 @@ use Rattle.topk_theory.specs.Threshold.{item_objects}
 use Rattle.topk_theory.specs.NoRandom.{first_seen}
 use Rattle.topk_theory.specs.Combined.{choice}
 use Rattle.nra_core.specs.Quiet.{is_quiet_seen}
-use Rattle.late_choice.specs.Open.{next_unknown}
+use Rattle.ca_core.specs.Open.{next_unknown}
 use Rattle.machine_base.specs.declared.base.Base.{Base}
 use Rattle.ca_core.specs.declared.stage.Stage.{Stage}
 use Rattle.ca_core.specs.declared.stage.Stage.TheVariants as stages

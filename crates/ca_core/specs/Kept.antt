@@ -8,7 +8,7 @@ use Rattle.topk_theory.specs.declared.access.Access.{Access}
 use Rattle.topk_theory.specs.Transcript.{Agrees, seen_objects}
 use Rattle.topk_theory.specs.Threshold.{item_objects}
 use Rattle.topk_theory.specs.Combined.{phase_length, unknown_lists}
-use Rattle.late_choice.specs.Open.{next_unknown}
+use Rattle.ca_core.specs.Open.{next_unknown}
 use Rattle.machine_base.specs.declared.base.Base.{Base}
 use Rattle.machine_base.specs.Base.{IsHeld, IsReserved}
 use Rattle.ca_core.specs.declared.late_seen.LateSeen.{LateSeen}
@@ -51,13 +51,13 @@ IsSound m A objects (stages.Finish list object place) = IsFinishing m A objects 
 IsSound m A objects stages.Done = AreFinished m A objects
 
 -- what is kept over m lists of n objects after the accesses A
-pub record IsKept (e : Tree) (k phase room m n : ℕ) (A : List Access) (first : List Item) (stage : Stage) : Type 0 where
+pub record IsCaKept (e : Tree) (k phase room m n : ℕ) (A : List Access) (first : List Item) (stage : Stage) : Type 0 where
   pub base : IsHeld e k room m n A
   pub sound : IsSound m A (item_objects first) stage
   pub on_table : (D : List (List Row)) → Agrees m n D A → OnTable (value e) k phase n D A (item_objects first) stage
 
 abbrev pub Keeps : Base → ℕ → List Item → Stage → Type 0
-Keeps base phase first stage = IsKept base.expr base.k phase base.room base.transcript.lists base.transcript.count base.transcript.accesses first stage
+Keeps base phase first stage = IsCaKept base.expr base.k phase base.room base.transcript.lists base.transcript.count base.transcript.accesses first stage
 
 -- and what is kept of the seen objects, and the room that is reserved
 pub record Stands (base : Base) (phase : ℕ) (late : LateSeen) (first : List Item) (capacity : ℕ) (stage : Stage) : Type 0 where

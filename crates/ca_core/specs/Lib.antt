@@ -1,3 +1,4 @@
+pub mod Open
 pub mod Course
 pub mod Seen
 pub mod OnTable

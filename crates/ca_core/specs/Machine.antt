@@ -2,7 +2,7 @@
 use Rattle.std.specs.Prelude.{List}
 use Rattle.ranked_list.specs.declared.item.Item.{Item}
 use Rattle.topk_theory.specs.Asked.{combined_run, combined_answer}
-use Rattle.access_log.specs.Machine.{MachineState, MakesRun, IsAnswerBy}
+use Rattle.machine_base.specs.Machine.{MachineState, MakesRun, IsAnswerBy}
 
 -- the machine makes the run of the combined algorithm
 abbrev pub MakesItsRun : MachineState → Type 0

@@ -5,7 +5,7 @@ use Rattle.topk_theory.specs.Transcript.{object_of, seen_objects}
 use Rattle.monotone_fn.specs.Tree.{Tree}
 use Rattle.monotone_fn.specs.Value.{value}
 use Rattle.nra_core.specs.LatePlaces.{IsLateAfter}
-use Rattle.late_choice.specs.Open.{AreOpen}
+use Rattle.ca_core.specs.Open.{AreOpen}
 use Rattle.machine_base.specs.declared.base.Base.{Base}
 use Rattle.ca_core.specs.declared.late_seen.LateSeen.{LateSeen}
 

@@ -7,9 +7,9 @@ use super::answering::answer_items;
 use super::following::follow;
 use super::late_seen::LateSeen;
 use super::stage::Stage;
-use access_log::{Access, Answer, CoreFault, Item, Items, Transcript};
+use access_log::{Access, Item, Items, Transcript};
 use limits::MAX_OBJECTS;
-use machine_base::{Base, Memory, Need};
+use machine_base::{Answer, Base, CoreFault, Memory, Need};
 use monotone_fn::{Costs, Expr};
 use ranked_list::Row;
 use std::alloc::Global;
@@ -31,7 +31,7 @@ pub struct Ca {
 impl Model for Ca {
     ghost use Rattle.std.specs.Coded.{codes};
     ghost use Rattle.monotone_fn.specs.Code.{tree_code};
-    ghost use Rattle.access_log.specs.Machine.{MachineState};
+    ghost use Rattle.machine_base.specs.Machine.{MachineState};
 
     ghost Value = { MachineState };
 
@@ -58,7 +58,7 @@ fn phase_length(costs: Costs) -> u32
 
 impl Ca {
     ghost use Rattle.std.specs.Prelude.{◌≡◌, ◌≤◌, IfOk, IsOk};
-    ghost use Rattle.access_log.specs.Machine.{IsBegun, IsInRange, MayBeNextRow, MayBeNextGrade, RowFed, GradeFed, IsSameLog};
+    ghost use Rattle.machine_base.specs.Machine.{IsBegun, IsInRange, MayBeNextRow, MayBeNextGrade, RowFed, GradeFed, IsSameLog};
     ghost use Rattle.ca_core.specs.Machine.{MakesItsRun, IsAnswer};
 
     /// A machine for the first `k` of `count` objects, that sees `room` of them at most. No other call takes

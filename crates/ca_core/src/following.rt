@@ -3,15 +3,15 @@
 ghost use Rattle.std.specs.Prelude.{◌≡◌, ◌≤◌, ◌<◌, [], length, drop, vec_capacity};
 ghost use Rattle.monotone_fn.specs.Value.{value};
 ghost use Rattle.topk_theory.specs.Threshold.{item_objects};
-ghost use Rattle.late_choice.specs.Open.{next_unknown};
+ghost use Rattle.ca_core.specs.Open.{next_unknown};
 ghost use Rattle.machine_base.specs.Base.{Holds};
 ghost use Rattle.ca_core.specs.Course.{finish_from, block_ended, grade_taken, row_ended, moved, MayMove, MayMoveAt};
 ghost use Rattle.ca_core.specs.Seen.{KeepsSeen};
 
 use super::late_seen::LateSeen;
 use super::stage::Stage;
+use super::unknown::next_unknown;
 use access_log::{Item, Transcript};
-use late_choice::next_unknown;
 use machine_base::Base;
 
 /// The finish from a place on: the first of the objects there that has an unknown grade is asked for it.

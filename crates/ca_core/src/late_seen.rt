@@ -7,7 +7,7 @@ ghost use Rattle.nra_core.specs.Quiet.{is_quiet_seen};
 ghost use Rattle.machine_base.specs.Base.{Holds};
 ghost use Rattle.ca_core.specs.Seen.{AreRenewed, KeepsSeen, WasRenewed};
 
-use late_choice::OpenHighs;
+use super::open_highs::OpenHighs;
 use limits::MAX_OBJECTS;
 use machine_base::{Base, Memory};
 use nra_core::LateBounds;

@@ -1,13 +1,20 @@
-//! The combined algorithm of Fagin, Lotem and Naor, as a machine that is fed one access at a time. It reads rows as
-//! the algorithm without random access does, and once in so many depths, by the ratio of the costs, it asks for the
-//! unknown grades of one object. Only `make` takes memory.
+//! The combined algorithm of Fagin, Lotem and Naor, as a machine that is fed one access at a time.
+//!
+//! It reads rows as the algorithm without random access does, and once in so many depths, by the ratio of the costs, it asks
+//! for the unknown grades of one object: of the seen objects with an unknown grade the one of greatest high, if it is viable.
+//! Its bounds are renewed late. Only `make` takes memory.
 #![tactic(auto)]
 
 mod answering;
 mod ca;
+mod choosing;
+mod driven;
 mod following;
+mod kept_high;
 mod late_seen;
+mod open_highs;
 mod stage;
+mod unknown;
 
 pub use ca::Ca;
 pub use machine_base::{CoreFault, Memory, Need};

@@ -8,7 +8,7 @@ use Rattle.catalog_text.specs.Catalog.{Listed as Entry}
 use Rattle.catalog_open.proofs.Moving.{moves_none}
 use Rattle.query_admission.specs.declared.line_outcome.LineOutcome.{LineOutcome}
 use Rattle.command_words.specs.declared.running.RunOptions.{RunOptions}
-use Rattle.command_words.specs.declared.running.RunSettings.{RunSettings}
+use Rattle.limits.specs.declared.settings.Settings.{Settings}
 use Rattle.call_ends.specs.Calls.{Call, KeepsShelf, LeftAlone, WroteWhole}
 use Rattle.call_ends.specs.Shelves.{Shelf, AsksText, GivesText, TextFailed}
 use Rattle.catalog_calls.specs.Taking.{TakesSources}
@@ -70,7 +70,7 @@ takes_none catalog lines s = record {
 }
 
 -- what is said of a text that is no catalog ends so
-pub ends_no_catalog : (s : RunSettings) (text said : List ℕ) (c : Call) (result : Status) → CatalogRefused text c said
+pub ends_no_catalog : (s : Settings) (text said : List ℕ) (c : Call) (result : Status) → CatalogRefused text c said
     → Says c.before.output c.after.output said BadCatalog result → RunsOverCatalog s text c result
 ends_no_catalog s text said c result refused says = elim says [
   | inl whole ↦ subst (RunsOverCatalog s text c) (sym whole.0) (said, refused, record { held = whole.1; faults = whole.2 })
@@ -78,7 +78,7 @@ ends_no_catalog s text said c result refused says = elim says [
 ]
 
 -- a text that should be a catalog ends so for its fault
-pub ends_at_fault : (s : RunSettings) (text : List ℕ) (c : Call) (fault : CatalogFault) (result : Status) → Judges (records_of text) (Err fault) → KeepsShelf c
+pub ends_at_fault : (s : Settings) (text : List ℕ) (c : Call) (fault : CatalogFault) (result : Status) → Judges (records_of text) (Err fault) → KeepsShelf c
     → LeftAlone c → SaysFault c.before.output c.after.output fault result → RunsOverCatalog s text c result
 ends_at_fault s text c (CatalogLine line) result judged kept alone says =
     ends_no_catalog s text (catalog_refused_text (codes "CatalogLine") line) c result
@@ -90,7 +90,7 @@ ends_at_fault s text c NoMemory result judged kept alone says =
     subst (RunsOverCatalog s text c) (sym says.0) (inl (kept, alone), record { held = says.1; faults = says.2 })
 
 -- a reply to lines that was written whole ends with its status
-ends_whole : (s : RunSettings) (text said : List ℕ) (c : Call) (outcomes : List LineOutcome) → LinesReplied s text c (run_status outcomes) said
+ends_whole : (s : Settings) (text said : List ℕ) (c : Call) (outcomes : List LineOutcome) → LinesReplied s text c (run_status outcomes) said
     → WroteWhole c said → RunsOverCatalog s text c (run_status outcomes)
 ends_whole s text said c outcomes replied wrote = elim (is_run_status outcomes) [
   | inl done ↦ subst (RunsOverCatalog s text c) (sym done) (said, subst (λ status. LinesReplied s text c status said) done replied, wrote)
@@ -98,7 +98,7 @@ ends_whole s text said c outcomes replied wrote = elim (is_run_status outcomes) 
 ]
 
 -- what is said in reply to lines ends so
-pub ends_lines : (s : RunSettings) (text said : List ℕ) (c : Call) (outcomes : List LineOutcome) (result : Status)
+pub ends_lines : (s : Settings) (text said : List ℕ) (c : Call) (outcomes : List LineOutcome) (result : Status)
     → LinesReplied s text c (run_status outcomes) said
     → Says c.before.output c.after.output said (run_status outcomes) result → RunsOverCatalog s text c result
 ends_lines s text said c outcomes result replied says = elim says [

@@ -4,7 +4,7 @@ use Rattle.line_text.specs.Lines.{lines}
 use Rattle.csv_records.specs.Records.{records_of}
 use Rattle.catalog_text.specs.Catalog.{Listed as Entry, IsCatalog}
 use Rattle.command_words.specs.declared.running.RunOptions.{RunOptions}
-use Rattle.command_words.specs.declared.running.RunSettings.{RunSettings}
+use Rattle.limits.specs.declared.settings.Settings.{Settings}
 use Rattle.call_ends.specs.Calls.{Call, LeftAlone, KeepsShelf, ReadSome, ReadWhole, ReadFailed, ReadLong, WroteNothing, WroteWhole, WroteFront}
 use Rattle.call_ends.specs.Shelves.{Shelf, AsksText, GivesText, TextFailed}
 use Rattle.catalog_calls.specs.Taking.{TakesSources}
@@ -26,7 +26,7 @@ pub record CatalogStands (text : List ℕ) (c : Call) : Type 0 where
   pub shelf : KeepsShelf c
 
 -- the text is a catalog, and the input was read to its end: this is the reply to its lines
-pub record LinesReplied (settings : RunSettings) (text : List ℕ) (c : Call) (status : Status) (said : List ℕ) : Type 0 where
+pub record LinesReplied (settings : Settings) (text : List ℕ) (c : Call) (status : Status) (said : List ℕ) : Type 0 where
   pub bytes : List ℕ
   pub read : ReadWhole c bytes
   pub replies : RepliesToLines settings text bytes c.before.shelf c.after.shelf status said
@@ -44,7 +44,7 @@ abbrev pub WantsMemory : List ℕ → Call → Type 0
 WantsMemory text c = (KeepsShelf c × LeftAlone c) ⊎ ((CatalogStands text c × ReadSome c) ⊎ LinesLeft text c)
 
 -- how query lines end over the catalog that is this text, once the shelf gave it
-abbrev pub RunsOverCatalog : RunSettings → List ℕ → Call → Status → Type 0
+abbrev pub RunsOverCatalog : Settings → List ℕ → Call → Status → Type 0
 RunsOverCatalog s text c Done = (said : List ℕ) × LinesReplied s text c Done said × WroteWhole c said
 RunsOverCatalog s text c Partial = (said : List ℕ) × LinesReplied s text c Partial said × WroteWhole c said
 RunsOverCatalog s text c BadCatalog = (said : List ℕ) × CatalogRefused text c said × WroteWhole c said

@@ -11,8 +11,7 @@ use Rattle.catalog_text.specs.declared.catalog.CatalogFault.TheVariants.{Catalog
 use Rattle.cert_text.specs.declared.outcome.Outcome.{Outcome}
 use Rattle.cert_text.specs.declared.outcome.Outcome.TheVariants.{Answered, Refused}
 use Rattle.cert_text.specs.Outcome.{outcome_text}
-use Rattle.command_words.specs.declared.running.RunSettings.{RunSettings}
-use Rattle.batch_result.specs.declared.settings.Settings.{Settings}
+use Rattle.limits.specs.declared.settings.Settings.{Settings}
 use Rattle.query_admission.specs.declared.line_outcome.LineOutcome.{LineOutcome}
 use Rattle.catalog_run.specs.Runs.{CatalogRun, IsRun}
 use Rattle.call_ends.specs.declared.status.Status.{Status}
@@ -20,17 +19,13 @@ use Rattle.call_ends.specs.declared.status.Status.TheVariants.{Done, Partial}
 use Rattle.call_ends.specs.Shelves.{Shelf}
 use Rattle.catalog_calls.specs.Taking.{TakesSources}
 
--- the settings that words ask for, as a run takes them
-abbrev pub settings_by : RunSettings → Settings
-settings_by s = record { workers = s.workers; page = s.page; ahead = s.ahead }
-
 -- the run of lines over a catalog, by what the shelf was before and afterwards
-abbrev pub lines_run : RunSettings → List Entry → List (List ℕ) → Shelf → Shelf → CatalogRun
+abbrev pub lines_run : Settings → List Entry → List (List ℕ) → Shelf → Shelf → CatalogRun
 lines_run settings catalog lines before after = record {
   catalog = catalog;
   lines = lines;
   lists = before.lists;
-  settings = settings_by settings;
+  settings = settings;
   before = before.at;
   after = after.at;
 }
@@ -65,7 +60,7 @@ RefusesCatalog text said =
     NamesRecord text said (λ line. CatalogLine line) (codes "CatalogLine") ⊎ NamesRecord text said (λ line. SameName line) (codes "SameName")
 
 -- the text is a catalog, over which the lines of these bytes were run: what is said is the texts of their outcomes
-pub record RepliesToLines (settings : RunSettings) (text bytes : List ℕ) (before after : Shelf) (status : Status) (said : List ℕ) : Type 0 where
+pub record RepliesToLines (settings : Settings) (text bytes : List ℕ) (before after : Shelf) (status : Status) (said : List ℕ) : Type 0 where
   pub catalog : List Entry
   pub is : IsCatalog (records_of text) catalog
   pub takes : TakesSources catalog (lines bytes) before after

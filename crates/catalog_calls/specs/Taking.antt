@@ -1,7 +1,7 @@
 -- The sources that a run takes of a shelf.
 use Rattle.std.specs.Prelude.{ℕ, List}
 use Rattle.catalog_text.specs.Catalog.{Listed as Entry}
-use Rattle.catalog_admission.specs.Wanted.{IsWanted}
+use Rattle.catalog_open.specs.Wanted.{IsWanted}
 use Rattle.catalog_open.specs.Openings.{Used, Moves, KeepsOthers}
 use Rattle.call_ends.specs.Shelves.{Shelf, TellsTheSame}
 

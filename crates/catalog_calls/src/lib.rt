@@ -4,4 +4,4 @@
 mod line_outcomes;
 mod running;
 
-pub use running::{run, settings_of};
+pub use running::run;

@@ -4,20 +4,20 @@ ghost use Rattle.std.specs.Prelude.{◌≡◌, ◌≤◌, ℕ, List, All, IfOk, 
 ghost use Rattle.line_text.specs.Lines.{lines};
 ghost use Rattle.csv_records.specs.Records.{records_of};
 ghost use Rattle.catalog_text.specs.Catalog.{IsCatalog};
-ghost use Rattle.command_words.specs.Running.{AreRunSettings};
+ghost use Rattle.limits.specs.Ranges.{AreSettings};
 ghost use Rattle.catalog_run.specs.Runs.{CanBeWritten, IsRun};
 ghost use Rattle.catalog_calls.specs.Taking.{TakesSources};
 ghost use Rattle.call_ends.specs.Calls.{Input, ReadWhole, output_as, shelf_as, outside_of, call_at, call_of};
 ghost use Rattle.call_ends.specs.Ends.{Says};
 ghost use Rattle.catalog_calls.specs.RunEnds.{RunsOverCatalog, EndsRunning};
 ghost use Rattle.catalog_calls.specs.Faults.{SaysFault};
-ghost use Rattle.catalog_calls.specs.Running.{lines_run, settings_by, catalog_refused_text};
+ghost use Rattle.catalog_calls.specs.Running.{lines_run, catalog_refused_text};
 
 use super::line_outcomes::write_outcomes;
 use call_ends::{Status, ended};
 use catalog_run::{LineOutcome, Memory, Settings, let_go, run_lines};
 use catalog_text::{Catalog, CatalogFault, read_catalog};
-use command_words::{RunOptions, RunSettings};
+use command_words::RunOptions;
 use limits::MAX_INPUT;
 use line_text::first_line;
 use source_api::{Shelf, Trouble};
@@ -49,7 +49,7 @@ pub fn run<W: Threads + Wait + Sync, H: Shelf, R: Intake, K: Sink>(
     input: &mut R,
     out: &mut K,
 ) -> Status
-    requires { AreRunSettings options.now.settings }
+    requires { AreSettings options.now.settings }
     ensures reads { R.faults input.old ≤ R.faults input.new }
     ensures writes { K.faults out.old ≤ K.faults out.new }
     ensures ends { (words : List (List ℕ)) → EndsRunning options.now (call_of R.left R.faults K.held K.faults H.texts H.lists H.at words
@@ -68,12 +68,12 @@ fn run_over<W: Threads + Wait + Sync, H: Shelf, R: Intake, K: Sink>(
     rt: &W,
     alloc: Global,
     text: Vec<u8>,
-    settings: RunSettings,
+    settings: Settings,
     shelf: &mut H,
     input: &mut R,
     out: &mut K,
 ) -> Status
-    requires { AreRunSettings settings }
+    requires { AreSettings settings }
     ensures reads { R.faults input.old ≤ R.faults input.new }
     ensures writes { K.faults out.old ≤ K.faults out.new }
     ensures ends { (words : List (List ℕ)) → RunsOverCatalog settings text.items (call_of R.left R.faults K.held K.faults H.texts H.lists H.at words
@@ -128,12 +128,12 @@ fn run_input<W: Threads + Wait + Sync, H: Shelf, R: Intake, K: Sink>(
     rt: &W,
     alloc: Global,
     catalog: &Catalog,
-    settings: RunSettings,
+    settings: Settings,
     shelf: &mut H,
     input: &mut R,
     out: &mut K,
 ) -> Status
-    requires { AreRunSettings settings }
+    requires { AreSettings settings }
     ensures reads { R.faults input.old ≤ R.faults input.new }
     ensures writes { K.faults out.old ≤ K.faults out.new }
     ensures ends { (words : List (List ℕ)) (text : List ℕ) → IsCatalog (records_of text) catalog.now
@@ -153,12 +153,12 @@ fn reply_to<W: Threads + Wait + Sync, H: Shelf, K: Sink>(
     rt: &W,
     alloc: Global,
     catalog: &Catalog,
-    settings: RunSettings,
+    settings: Settings,
     shelf: &mut H,
     bytes: &[u8],
     out: &mut K,
 ) -> Status
-    requires { AreRunSettings settings }
+    requires { AreSettings settings }
     ensures writes { K.faults out.old ≤ K.faults out.new }
     ensures ends { (words : List (List ℕ)) (text : List ℕ) (before after : Input) → IsCatalog (records_of text) catalog.now
         → let call = call_at words (outside_of before (output_as K.held K.faults out.old) (shelf_as H.texts H.lists H.at shelf.old))
@@ -180,29 +180,18 @@ fn run_text<W: Threads + Wait + Sync, H: Shelf>(
     rt: &W,
     alloc: Global,
     catalog: &Catalog,
-    settings: RunSettings,
+    settings: Settings,
     shelf: &mut H,
     text: &[u8],
 ) -> Result<Vec<LineOutcome>, Memory>
-    requires { AreRunSettings settings }
+    requires { AreSettings settings }
     ensures takes { TakesSources catalog.now (lines text.now) (shelf_as H.texts H.lists H.at shelf.old) (shelf_as H.texts H.lists H.at shelf.new) }
     ensures run { IfOk result (λ outcomes. IsRun (lines_run settings catalog.now (lines text.now)
         (shelf_as H.texts H.lists H.at shelf.old) (shelf_as H.texts H.lists H.at shelf.new)) outcomes.items) }
     ensures writable { IfOk result (λ outcomes. All CanBeWritten outcomes.items) }
 {
     let lines = lines_of(alloc, text)?;
-    run_lines(rt, alloc, shelf, catalog, &lines, settings_of(settings))
-}
-
-/// The settings that the words ask for, as a run takes them.
-pub fn settings_of(settings: RunSettings) -> Settings
-    ensures { result ≡ settings_by settings }
-{
-    Settings {
-        workers: settings.workers,
-        page: settings.page,
-        ahead: settings.ahead,
-    }
+    run_lines(rt, alloc, shelf, catalog, &lines, settings)
 }
 
 /// The lines of a text.

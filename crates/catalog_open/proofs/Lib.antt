@@ -3,3 +3,6 @@ pub mod Moving
 pub mod Opens
 pub mod Unread
 pub mod Back
+-- Lemmas on what query lines want and come to.
+pub mod Marking
+pub mod Admits

@@ -9,7 +9,7 @@ use Rattle.source_api.specs.declared.counts.Counts.{Counts}
 use Rattle.source_api.specs.declared.ledger.PlaceCounts.{PlaceCounts}
 use Rattle.source_api.specs.declared.source.Trouble.{Trouble}
 use Rattle.source_api.specs.declared.source.Trouble.TheVariants.{Failed, Garbled, Memory}
-use Rattle.source_api.specs.Counting.{HasCause, added, no_counts, raised}
+use Rattle.source_api.specs.Counting.{TroubleHasCause, added, no_counts, raised}
 use Rattle.source_api.specs.Places.{CountsTakes, HasTakeCause, SameElsewhere, put_back_at}
 use Rattle.catalog_text.specs.Catalog.{Listed as Entry}
 use Rattle.catalog_open.specs.Openings.{Counted, Used, used_at, added_all, AddsSources, Moves, MovesAt, PutsBack, KeepsOthers, TroubleAt}
@@ -161,7 +161,7 @@ put_known before now knows counts is known = record { counts = counts ∷ []; he
 
 -- and had failed at its first call, or answered it by garbled data
 pub put_troubled : (before now : PlaceCounts) (knows : Bool) (first counts : Counts) (trouble : Trouble) → now ≡ put_back_at knows counts before → knows ≡ true
-    → first ≡ no_counts → HasCause first counts trouble → (trouble ≡ Memory → ⊥) → TroubleAt before now
+    → first ≡ no_counts → TroubleHasCause first counts trouble → (trouble ≡ Memory → ⊥) → TroubleAt before now
 put_troubled before now knows first counts Failed is known fresh cause other =
     let here : now.sources.faults ≡ raised before.sources.faults counts.faults = ap (λ (c : PlaceCounts). c.sources.faults) (is ∙ ap (λ k. put_back_at k counts before) known) in
     let none : first.faults ≡ 0 = ap (λ (c : Counts). c.faults) fresh in
@@ -180,12 +180,12 @@ garbled_not e = cc
 
 -- the same, where the trouble is known
 pub put_failed : (before now : PlaceCounts) (knows : Bool) (first counts : Counts) (trouble : Trouble) → now ≡ put_back_at knows counts before → knows ≡ true
-    → first ≡ no_counts → HasCause first counts trouble → trouble ≡ Failed → TroubleAt before now
-put_failed before now knows first counts trouble is known fresh cause failed = put_troubled before now knows first counts Failed is known fresh (subst (HasCause first counts) failed cause) failed_not
+    → first ≡ no_counts → TroubleHasCause first counts trouble → trouble ≡ Failed → TroubleAt before now
+put_failed before now knows first counts trouble is known fresh cause failed = put_troubled before now knows first counts Failed is known fresh (subst (TroubleHasCause first counts) failed cause) failed_not
 
 pub put_garbled : (before now : PlaceCounts) (knows : Bool) (first counts : Counts) (trouble : Trouble) → now ≡ put_back_at knows counts before → knows ≡ true
-    → first ≡ no_counts → HasCause first counts trouble → trouble ≡ Garbled → TroubleAt before now
-put_garbled before now knows first counts trouble is known fresh cause garbled = put_troubled before now knows first counts Garbled is known fresh (subst (HasCause first counts) garbled cause) garbled_not
+    → first ≡ no_counts → TroubleHasCause first counts trouble → trouble ≡ Garbled → TroubleAt before now
+put_garbled before now knows first counts trouble is known fresh cause garbled = put_troubled before now knows first counts Garbled is known fresh (subst (TroubleHasCause first counts) garbled cause) garbled_not
 
 -- a call that takes a source moves so, and so does one after which the source was put back
 pub take_moves : (before now : PlaceCounts) → CountsTakes before now → MovesAt before now

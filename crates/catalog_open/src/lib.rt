@@ -1,12 +1,19 @@
-//! The sources of a catalog: opening those that are marked, and putting them back.
+//! Query lines over a catalog before they run: which sources they want, opening these, admitting the lines over what became of them, and
+//! putting the sources back.
 #![tactic(auto)]
 
+mod admissions;
+mod catalogued;
 mod closing;
 mod entries;
 mod opened;
 mod opening;
+mod wanted;
 
+pub use admissions::{Admissions, Stage, admit_all};
+pub use catalogued::Catalogued;
 pub use closing::put_back_all;
 pub use memory::Memory;
 pub use opened::{Opened, Opening};
 pub use opening::open_wanted;
+pub use wanted::mark_wanted;

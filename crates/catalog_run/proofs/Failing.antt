@@ -8,7 +8,7 @@ use Rattle.std.proofs.lemmas.List.Sums.{get_or-le-sum_by, sum_by-cons}
 use Rattle.std.proofs.lemmas.Slice.Eq.{bytes_eq-Decides}
 use Rattle.tk_io.specs.Faults.{Rose}
 use Rattle.topk_theory.proofs.AgreementLists.{contains_nil, contains_here, contains_there, contains_cases}
-use Rattle.nra_core.proofs.Counts.{none_counted}
+use Rattle.topk_theory.proofs.Counts.{none_counted}
 use Rattle.source_api.specs.declared.counts.Counts.{Counts}
 use Rattle.source_api.specs.Counting.{added, raised}
 use Rattle.source_log.specs.declared.entry.FailKind.{FailKind}
@@ -27,7 +27,7 @@ use Rattle.batch_result.proofs.EndingLaws.{counted_for, no_calls}
 use Rattle.catalog_text.specs.Catalog.{Listed as Entry}
 use Rattle.catalog_open.specs.Entries.{entry_at}
 use Rattle.catalog_open.specs.Openings.{Counted, Used, used_at, added_all, PutsBack, put_back}
-use Rattle.catalog_batch.proofs.Turned.{contains_back}
+use Rattle.catalog_run.proofs.Turned.{contains_back}
 use Rattle.catalog_run.proofs.Writable.{of_list_is}
 
 -- what is counted of sources that were put back

@@ -1,3 +1,8 @@
+-- Lemmas on outcomes that are put together.
+pub mod Merged
+-- Lemmas on sources that stand in slots.
+pub mod Turned
+pub mod Slotted
 -- Lemmas on the outcomes of lines.
 pub mod Outcomes
 pub mod Readies

@@ -12,12 +12,12 @@ use Rattle.query_turns.specs.declared.ended.Ended.{Ended}
 use Rattle.query_turns.specs.declared.inquiry.Inquiry.{Inquiry}
 use Rattle.query_turns.specs.Made.{IsOf}
 use Rattle.query_turns.specs.Endings.{EndsAs, IsRight}
-use Rattle.catalog_admission.specs.declared.admissions.Stage.{Stage}
-use Rattle.catalog_admission.specs.declared.admissions.Stage.TheVariants.{Refused, Ready}
-use Rattle.catalog_admission.specs.Admissions.{AreAdmitted}
-use Rattle.catalog_admission.specs.Views.{line_over}
+use Rattle.catalog_open.specs.declared.admissions.Stage.{Stage}
+use Rattle.catalog_open.specs.declared.admissions.Stage.TheVariants.{Refused, Ready}
+use Rattle.catalog_open.specs.Admissions.{AreAdmitted}
+use Rattle.catalog_open.specs.Views.{line_over}
 use Rattle.query_admission.specs.declared.line_outcome.LineOutcome.{LineOutcome}
-use Rattle.catalog_outcomes.specs.Merging.{Fit, Merges}
+use Rattle.catalog_run.specs.Merging.{Fit, Merges}
 use Rattle.catalog_run.specs.Runs.{AreOutcomes, IsLineRefused, IsLineRun}
 
 -- as many endings as queries fit the lines

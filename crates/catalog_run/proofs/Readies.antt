@@ -11,7 +11,7 @@ use Rattle.topk_theory.proofs.AgreementLists.{contains_here, member_of_all}
 use Rattle.cert_text.specs.declared.refusal.Refusal.{Refusal}
 use Rattle.cert_text.specs.declared.refusal.Refusal.TheVariants.{ManyQueries}
 use Rattle.query_admission.specs.View.{View}
-use Rattle.query_admission.specs.Causes.{most_queries, Cause, admission_causes, Gives, NoneOf}
+use Rattle.query_admission.specs.Causes.{most_queries, Cause, admission_causes, RefusesFor, NoneOf}
 use Rattle.query_admission.specs.Admission.{IsAdmitted}
 use Rattle.query_admission.specs.declared.lists.Listed.{Listed}
 use Rattle.query_admission.proofs.Positions.{nothing}
@@ -20,12 +20,12 @@ use Rattle.query_turns.specs.Made.{IsReadyFor}
 use Rattle.catalog_text.specs.Catalog.{Listed as Entry}
 use Rattle.catalog_open.specs.declared.opened.Opening.{Opening}
 use Rattle.catalog_open.specs.declared.opened.Opening.TheVariants.{Closed, Open}
-use Rattle.catalog_admission.specs.declared.admissions.Stage.{Stage}
-use Rattle.catalog_admission.specs.declared.admissions.Stage.TheVariants.{Refused, Ready}
-use Rattle.catalog_admission.specs.Views.{place_of, said_of, listed_at, view_over, line_over}
+use Rattle.catalog_open.specs.declared.admissions.Stage.{Stage}
+use Rattle.catalog_open.specs.declared.admissions.Stage.TheVariants.{Refused, Ready}
+use Rattle.catalog_open.specs.Views.{entry_named, said_of, listed_at, view_over, line_over}
 use Rattle.catalog_open.specs.Entries.{entry_at, opening_at}
 use Rattle.catalog_open.specs.Openings.{Counted, Sources, AreOpened, IsOpening, IsSource, run_count}
-use Rattle.catalog_admission.specs.Admissions.{AreAdmitted}
+use Rattle.catalog_open.specs.Admissions.{AreAdmitted}
 use Rattle.catalog_run.specs.Runs.{IsReadyOf}
 use Rattle.limits.specs.declared.TheConstants.{MAX_OBJECTS}
 
@@ -59,9 +59,9 @@ module _ (lists told : List ℕ → Option (List Row)) (catalog : List Entry) (W
       closed_open : {size source : ℕ} → Closed ≡ Open size source → ⊥
       closed_open e = cc
 
-  named_source : (n : ℕ) (name : List ℕ) (l : Listed) → n ≤ MAX_OBJECTS → option_map (listed_at catalog openings) (place_of catalog name) ≡ Some l
+  named_source : (n : ℕ) (name : List ℕ) (l : Listed) → n ≤ MAX_OBJECTS → option_map (listed_at catalog openings) (entry_named catalog name) ≡ Some l
       → l.size ≡ Some n → HasCount s.counts n l.source
-  named_source n name l small e size = at (place_of catalog name) e
+  named_source n name l small e size = at (entry_named catalog name) e
     where
       at : (p : Option ℕ) → option_map (listed_at catalog openings) p ≡ Some l → HasCount s.counts n l.source
       at None e = absurd cc
@@ -136,10 +136,10 @@ pub all_own : (view : View) (lines : List (List ℕ)) (stages : List Stage) (rea
 all_own view lines stages readies are = All-from_recursion (IsReadyOf view lines) readies (owned view lines readies (own_from view 1 lines stages readies are))
 
 -- an admitted line is one of the first
-pub admitted_few : (view : View) (number : ℕ) (bytes : List ℕ) → NoneOf (Gives (line_over view number bytes)) admission_causes → number ≤ most_queries
+pub admitted_few : (view : View) (number : ℕ) (bytes : List ℕ) → NoneOf (RefusesFor (line_over view number bytes)) admission_causes → number ≤ most_queries
 admitted_few view number bytes none =
     elim (cases_lt most_queries number) [
-      | inl late ↦ absurd (member_of_all (λ (c : Cause). (r : Refusal) → ¬ Gives (line_over view number bytes) c r) admission_causes Cause.many_queries none
+      | inl late ↦ absurd (member_of_all (λ (c : Cause). (r : Refusal) → ¬ RefusesFor (line_over view number bytes) c r) admission_causes Cause.many_queries none
           (contains_here Cause.many_queries (Cause.text ∷ Cause.unknown_list ∷ Cause.not_opened ∷ Cause.too_large ∷ Cause.counts_differ ∷ Cause.k_above_count ∷ Cause.no_random ∷ []))
           (ManyQueries most_queries) (refl, late))
       | inr few ↦ few

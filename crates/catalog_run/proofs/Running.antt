@@ -8,15 +8,15 @@ use Rattle.query_core.specs.declared.ready.Ready.{Ready as ReadyQuery}
 use Rattle.query_admission.specs.View.{View}
 use Rattle.query_turns.specs.declared.ended.Ended.{Ended}
 use Rattle.query_turns.specs.Made.{IsReadyFor}
-use Rattle.batch_result.specs.declared.settings.Settings.{Settings}
+use Rattle.limits.specs.declared.settings.Settings.{Settings}
 use Rattle.batch_result.specs.Batches.{BatchState, IsBatch}
-use Rattle.catalog_admission.specs.declared.admissions.Stage.{Stage}
-use Rattle.catalog_admission.specs.Admissions.{AreAdmitted}
+use Rattle.catalog_open.specs.declared.admissions.Stage.{Stage}
+use Rattle.catalog_open.specs.Admissions.{AreAdmitted}
 use Rattle.catalog_open.specs.Openings.{Sources}
 use Rattle.query_admission.specs.declared.line_outcome.LineOutcome.{LineOutcome}
-use Rattle.catalog_outcomes.specs.Merging.{Fit, Merges}
+use Rattle.catalog_run.specs.Merging.{Fit, Merges}
 use Rattle.catalog_run.specs.Runs.{CanBeWritten, RanOver}
-use Rattle.catalog_batch.specs.OpenSources.{batch_over}
+use Rattle.catalog_run.specs.OpenSources.{batch_over}
 use Rattle.catalog_run.proofs.Outcomes.{outcomes_are, right_fit}
 use Rattle.catalog_run.proofs.Readies.{all_own}
 use Rattle.catalog_run.proofs.Writable.{can_be_written}

@@ -6,13 +6,13 @@ use Rattle.source_api.specs.declared.counts.Counts.{Counts}
 use Rattle.catalog_text.specs.Catalog.{Listed as Entry}
 use Rattle.catalog_open.specs.declared.opened.Opening.{Opening}
 use Rattle.catalog_open.specs.declared.opened.Opening.TheVariants.{Closed, Open}
-use Rattle.catalog_admission.specs.Views.{view_over, nothing_told}
+use Rattle.catalog_open.specs.Views.{view_over, nothing_told}
 use Rattle.catalog_open.specs.Entries.{opening_at, IsMarked}
 use Rattle.query_admission.specs.View.{View}
-use Rattle.batch_result.specs.declared.settings.Settings.{Settings}
+use Rattle.limits.specs.declared.settings.Settings.{Settings}
 use Rattle.query_admission.specs.declared.line_outcome.LineOutcome.{LineOutcome}
 use Rattle.catalog_run.specs.Runs.{IsRun, RanOver}
-use Rattle.catalog_admission.specs.Wanted.{IsWanted, AreMarked}
+use Rattle.catalog_open.specs.Wanted.{IsWanted, AreMarked}
 use Rattle.catalog_open.specs.Openings.{Counted, Used, IsUnread, GivesNothing, Moves, PutsBack, KeepsOthers, Sources, IsOpening, AreOpened, put_back}
 use Rattle.catalog_open.proofs.Moving.{moves_then, puts_moves, keeps_then}
 use Rattle.catalog_open.proofs.Opens.{numbered_within}

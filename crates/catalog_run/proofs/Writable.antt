@@ -14,7 +14,7 @@ use Rattle.source_state.specs.declared.look.LookFault.{LookFault}
 use Rattle.source_state.specs.declared.look.LookFault.TheVariants as look
 use Rattle.source_log.specs.declared.entry.SourceFault.{SourceFault}
 use Rattle.source_log.specs.declared.entry.SourceFault.TheVariants as fault
-use Rattle.access_log.specs.declared.core_fault.CoreFault.TheVariants as core
+use Rattle.machine_base.specs.declared.core_fault.CoreFault.TheVariants as core
 use Rattle.query_admission.specs.View.{View}
 use Rattle.query_admission.specs.Causes.{admission_causes}
 use Rattle.query_admission.proofs.Becoming.{answered_writable, refused_writable}
@@ -31,9 +31,9 @@ use Rattle.query_turns.proofs.Serving.{listed, of_some_list}
 use Rattle.query_core.specs.Machines.{state_of}
 use Rattle.ranked_list.specs.declared.need.Need.{Need}
 use Rattle.ranked_list.specs.declared.need.Need.TheVariants as need
-use Rattle.catalog_admission.specs.Views.{line_over}
+use Rattle.catalog_open.specs.Views.{line_over}
 use Rattle.query_admission.specs.declared.line_outcome.LineOutcome.{LineOutcome}
-use Rattle.catalog_outcomes.specs.Outcomes.{ended_outcome, source_refusal}
+use Rattle.catalog_run.specs.Outcomes.{ended_outcome, source_refusal}
 use Rattle.catalog_run.specs.Runs.{AreOutcomes, CanBeWritten, IsLineRefused, IsLineRun}
 
 line_refused : (view : View) (number : ℕ) (bytes : List ℕ) (o : LineOutcome) → IsLineRefused view number bytes o → CanBeWritten o

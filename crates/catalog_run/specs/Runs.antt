@@ -15,16 +15,16 @@ use Rattle.query_turns.specs.declared.ended.Ended.{Ended}
 use Rattle.query_turns.specs.declared.inquiry.Inquiry.{Inquiry}
 use Rattle.query_turns.specs.Made.{IsOf, IsReadyFor}
 use Rattle.query_turns.specs.Endings.{EndsAs, IsRight}
-use Rattle.batch_result.specs.declared.settings.Settings.{Settings}
+use Rattle.limits.specs.declared.settings.Settings.{Settings}
 use Rattle.batch_result.specs.Batches.{BatchState, IsBatch}
 use Rattle.catalog_text.specs.Catalog.{Listed as Entry}
 use Rattle.catalog_open.specs.declared.opened.Opening.{Opening}
-use Rattle.catalog_admission.specs.Views.{view_over, line_over, nothing_told}
-use Rattle.catalog_admission.specs.Wanted.{IsWanted}
+use Rattle.catalog_open.specs.Views.{view_over, line_over, nothing_told}
+use Rattle.catalog_open.specs.Wanted.{IsWanted}
 use Rattle.catalog_open.specs.Openings.{Counted, IsUnread, GivesNothing, PutsBack, Sources, AreOpened, put_back}
-use Rattle.catalog_batch.specs.OpenSources.{batch_over}
+use Rattle.catalog_run.specs.OpenSources.{batch_over}
 use Rattle.query_admission.specs.declared.line_outcome.LineOutcome.{LineOutcome}
-use Rattle.catalog_outcomes.specs.Merging.{IsEndedAs}
+use Rattle.catalog_run.specs.Merging.{IsEndedAs}
 
 -- the line is refused before it runs, for the first of the causes that holds
 pub record IsLineRefused (view : View) (number : ℕ) (bytes : List ℕ) (o : LineOutcome) : Type 0 where

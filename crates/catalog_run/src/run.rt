@@ -3,15 +3,15 @@
 ghost use Rattle.std.specs.Prelude.{◌≡◌, ◌≤◌, ◌<◌, ◌^◌, ℕ, List, All, IfOk, length, map};
 ghost use Rattle.query_admission.specs.View.{View as AnyView};
 ghost use Rattle.query_turns.specs.Made.{IsReadyFor};
-ghost use Rattle.batch_result.specs.Ranges.{AreSettings};
-ghost use Rattle.catalog_admission.specs.Admissions.{AreAdmitted};
+ghost use Rattle.limits.specs.Ranges.{AreSettings};
+ghost use Rattle.catalog_open.specs.Admissions.{AreAdmitted};
 ghost use Rattle.catalog_run.specs.Runs.{CanBeWritten, RanOver};
 
 use super::Memory;
+use super::batch::run_queries;
+use super::merging::{let_admissions_go, merge};
 use batch_run::Settings;
-use catalog_admission::Admissions;
-use catalog_batch::run_queries;
-use catalog_outcomes::{let_admissions_go, merge};
+use catalog_open::Admissions;
 use limits::MAX_OBJECTS;
 use query_admission::LineOutcome;
 use source_api::Source;

@@ -14,16 +14,16 @@ use Rattle.access_log.specs.Log.{Log, IsConsistent}
 use Rattle.query_text.specs.Bytes.{bytes_of}
 use Rattle.cert_text.specs.declared.certificate.Certificate.{Certificate}
 use Rattle.cert_text.specs.Certificate.{answer_line, access_line, access_lines, stop_line}
-use Rattle.cert_reader.specs.Reading.{Spells, IsReadAs, IsCause}
-use Rattle.cert_reader.specs.declared.fault.CertFault.{CertFault}
-use Rattle.cert_reader.specs.declared.fault.CertFault.TheVariants as cert_fault
+use Rattle.cert_text.specs.Reading.{Spells, IsReadAs, IsCause}
+use Rattle.cert_text.specs.declared.fault.CertFault.{CertFault}
+use Rattle.cert_text.specs.declared.fault.CertFault.TheVariants as cert_fault
 use Rattle.judge_core.specs.declared.verdict.Verdict.{Verdict}
 use Rattle.judge_core.specs.declared.verdict.Verdict.TheVariants as verdict
 use Rattle.judge_core.specs.declared.verdict.JudgeFault.{JudgeFault}
 use Rattle.judge_core.specs.Judging.{Judges}
 use Rattle.memory.specs.declared.Memory.{Memory}
-use Rattle.cert_judge.specs.declared.told.Told.{Told}
-use Rattle.cert_judge.specs.declared.told.Told.TheVariants.{BadLine, Inconsistent, WildGuess, WrongSize, UnseenAnswer, Figure, Fixes, Beaten}
+use Rattle.cert_judge.specs.declared.judgement.Judgement.{Judgement}
+use Rattle.cert_judge.specs.declared.judgement.Judgement.TheVariants.{BadLine, Inconsistent, WildGuess, WrongSize, UnseenAnswer, Figure, Fixes, Beaten}
 use Rattle.cert_judge.specs.Transcripts.{log_of}
 use Rattle.cert_judge.specs.Judging.{IsJudged, TellsOfCertificate, TellsOfIts, Tells}
 
@@ -86,11 +86,11 @@ few_accesses bytes c spells =
     omega (arith, lines_short bytes, ap length spells.spelled, rest, accesses)
 
 -- what is told of the certificate that the lines spell is told of the lines
-tells_from : (ls : List (List ℕ)) (c : Certificate) (told : Told) → Spells ls c → ((d : Certificate) → Spells ls d → d ≡ c) → TellsOfCertificate c told
+tells_from : (ls : List (List ℕ)) (c : Certificate) (told : Judgement) → Spells ls c → ((d : Certificate) → Spells ls d → d ≡ c) → TellsOfCertificate c told
     → TellsOfIts ls told
 tells_from ls c told spells same h = record { some = (c, spells); each = λ d s. subst (λ e. TellsOfCertificate e told) (sym (same d s)) h }
 
-tells_lines : (ls : List (List ℕ)) (c : Certificate) (told : Told) → Spells ls c → ((d : Certificate) → Spells ls d → d ≡ c) → TellsOfCertificate c told → Tells ls told
+tells_lines : (ls : List (List ℕ)) (c : Certificate) (told : Judgement) → Spells ls c → ((d : Certificate) → Spells ls d → d ≡ c) → TellsOfCertificate c told → Tells ls told
 tells_lines ls c (BadLine line) spells same h = absurd h
 tells_lines ls c (Inconsistent at kind) spells same h = tells_from ls c (Inconsistent at kind) spells same h
 tells_lines ls c (WildGuess at) spells same h = tells_from ls c (WildGuess at) spells same h
@@ -100,7 +100,7 @@ tells_lines ls c (Figure line) spells same h = tells_from ls c (Figure line) spe
 tells_lines ls c Fixes spells same h = tells_from ls c Fixes spells same h
 tells_lines ls c (Beaten inside outside low high counter) spells same h = tells_from ls c (Beaten inside outside low high counter) spells same h
 
-pub told_result : (ls : List (List ℕ)) (c : Certificate) (r : Result Told Memory) → Spells ls c → ((d : Certificate) → Spells ls d → d ≡ c)
+pub told_result : (ls : List (List ℕ)) (c : Certificate) (r : Result Judgement Memory) → Spells ls c → ((d : Certificate) → Spells ls d → d ≡ c)
     → IfOk r (TellsOfCertificate c) → IfOk r (Tells ls)
 told_result ls c (Ok told) spells same h = tells_lines ls c told spells same h
 told_result ls c (Err memory) spells same h = tt

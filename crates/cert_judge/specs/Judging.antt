@@ -9,14 +9,14 @@ use Rattle.topk_theory.specs.Threshold.{item_objects}
 use Rattle.access_log.specs.Log.{IsConsistent}
 use Rattle.query_text.specs.Query.{printed}
 use Rattle.cert_text.specs.declared.certificate.Certificate.{Certificate}
-use Rattle.cert_reader.specs.Reading.{Spells, IsFirstFault}
+use Rattle.cert_text.specs.Reading.{Spells, IsFirstFault}
 use Rattle.judge_core.specs.declared.verdict.Verdict.{Verdict}
 use Rattle.judge_core.specs.declared.verdict.Verdict.TheVariants as verdict
 use Rattle.judge_core.specs.declared.verdict.JudgeFault.{JudgeFault}
 use Rattle.judge_core.specs.declared.verdict.JudgeFault.TheVariants as fault
 use Rattle.judge_core.specs.Judging.{Judges, IsFair}
-use Rattle.cert_judge.specs.declared.told.Told.{Told}
-use Rattle.cert_judge.specs.declared.told.Told.TheVariants.{BadLine, Inconsistent, WildGuess, WrongSize, UnseenAnswer, Figure, Fixes, Beaten}
+use Rattle.cert_judge.specs.declared.judgement.Judgement.{Judgement}
+use Rattle.cert_judge.specs.declared.judgement.Judgement.TheVariants.{BadLine, Inconsistent, WildGuess, WrongSize, UnseenAnswer, Figure, Fixes, Beaten}
 use Rattle.cert_judge.specs.Transcripts.{log_of, IsFirstInconsistent}
 use Rattle.cert_judge.specs.Figures.{HasItsFigures, IsFirstFigure}
 
@@ -32,7 +32,7 @@ pub record IsCounterOf (c : Certificate) (inside : ℕ) (counter : Bundle) : Typ
   pub query : (content counter).query ≡ printed c.query
 
 -- what is told of a certificate: the first fault of its accesses, of its answer, of its figures, or the verdict
-abbrev pub TellsOfCertificate : Certificate → Told → Type 0
+abbrev pub TellsOfCertificate : Certificate → Judgement → Type 0
 TellsOfCertificate c (BadLine line) = ⊥
 TellsOfCertificate c (Inconsistent at kind) = IsFirstInconsistent (list_count c.query.expr) c.count c.accesses at kind
 TellsOfCertificate c (WildGuess at) = IsJudged c (Err (fault.WildGuess at))
@@ -44,12 +44,12 @@ TellsOfCertificate c (Beaten inside outside low high counter) =
     IsJudged c (Ok (verdict.Beaten inside outside low high)) × HasItsFigures c × IsCounterOf c inside counter
 
 -- the lines are a certificate's, and this is told of the certificate that they spell
-pub record TellsOfIts (ls : List (List ℕ)) (told : Told) : Type 0 where
+pub record TellsOfIts (ls : List (List ℕ)) (told : Judgement) : Type 0 where
   pub some : (c : Certificate) × Spells ls c
   pub each : (c : Certificate) → Spells ls c → TellsOfCertificate c told
 
 -- the lines are no certificate's, and the line told is the first at fault; or this is told of their certificate
-abbrev pub Tells : List (List ℕ) → Told → Type 0
+abbrev pub Tells : List (List ℕ) → Judgement → Type 0
 Tells ls (BadLine line) = ((c : Certificate) → ¬ Spells ls c) × IsFirstFault ls line
 Tells ls (Inconsistent at kind) = TellsOfIts ls (Inconsistent at kind)
 Tells ls (WildGuess at) = TellsOfIts ls (WildGuess at)

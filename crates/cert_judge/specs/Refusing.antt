@@ -1,7 +1,7 @@
 -- The line by which a text is refused, as the code keeps it.
 use Rattle.std.specs.Prelude.{◌≡◌, ℕ, List, [], ◌∷◌, Option, None, Some}
-use Rattle.cert_judge.specs.declared.told.Told.{Told}
-use Rattle.cert_judge.specs.declared.told.Told.TheVariants.{Fixes, Beaten}
+use Rattle.cert_judge.specs.declared.judgement.Judgement.{Judgement}
+use Rattle.cert_judge.specs.declared.judgement.Judgement.TheVariants.{Fixes, Beaten}
 use Rattle.cert_judge.specs.declared.refusal.RefusalLine.{RefusalLine}
 use Rattle.cert_judge.specs.declared.refusal.RefusalLine.TheVariants.{One, Two}
 use Rattle.cert_judge.specs.Text.{refused_line, told_lines}
@@ -12,12 +12,12 @@ shown_refusal (One name fields) = refused_line name.now fields
 shown_refusal (Two name fields) = refused_line name.now fields
 
 -- the text is judged: its answer is fixed, or beaten
-abbrev pub IsJudged : Told → Type 0
+abbrev pub IsJudged : Judgement → Type 0
 IsJudged Fixes = Unit {0}
 IsJudged (Beaten inside outside low high counter) = Unit {0}
 IsJudged told = ⊥
 
 -- the line of the refusal is all that is told, or the text is judged
-abbrev pub RefusesBy : Told → Option RefusalLine → Type 0
+abbrev pub RefusesBy : Judgement → Option RefusalLine → Type 0
 RefusesBy told (Some line) = told_lines told ≡ shown_refusal line ∷ []
 RefusesBy told None = IsJudged told

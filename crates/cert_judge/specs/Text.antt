@@ -4,8 +4,8 @@ use Rattle.std.specs.List.{flat_map, concat}
 use Rattle.std.specs.Fmt.{decimal}
 use Rattle.line_text.specs.Lines.{unlines}
 use Rattle.bundle_text.specs.Bundle.{content, bundle_lines}
-use Rattle.cert_judge.specs.declared.told.Told.{Told}
-use Rattle.cert_judge.specs.declared.told.Told.TheVariants.{BadLine, Inconsistent, WildGuess, WrongSize, UnseenAnswer, Figure, Fixes, Beaten}
+use Rattle.cert_judge.specs.declared.judgement.Judgement.{Judgement}
+use Rattle.cert_judge.specs.declared.judgement.Judgement.TheVariants.{BadLine, Inconsistent, WildGuess, WrongSize, UnseenAnswer, Figure, Fixes, Beaten}
 
 -- `refused NAME` and the fields, each after one space
 abbrev pub refused_line : List ℕ → List ℕ → List ℕ
@@ -21,7 +21,7 @@ beaten_line inside low outside high =
     concat (named (codes "beaten inside ") inside ∷ named (codes " low ") low ∷ named (codes " outside ") outside ∷ named (codes " high ") high ∷ [])
 
 -- the lines of what is told: one, and below that of a beaten answer the lines of the counter
-abbrev pub told_lines : Told → List (List ℕ)
+abbrev pub told_lines : Judgement → List (List ℕ)
 told_lines (BadLine line) = refused_line (codes "BadLine") (line ∷ []) ∷ []
 told_lines (Inconsistent at kind) = refused_line (codes "Inconsistent") (at ∷ kind ∷ []) ∷ []
 told_lines (WildGuess at) = refused_line (codes "WildGuess") (at ∷ []) ∷ []
@@ -32,5 +32,5 @@ told_lines Fixes = codes "fixes" ∷ []
 told_lines (Beaten inside outside low high counter) = beaten_line inside low outside high ∷ bundle_lines (content counter)
 
 -- the text of what is told
-unfoldable pub told_text : Told → List ℕ
+unfoldable pub told_text : Judgement → List ℕ
 told_text told = unlines (told_lines told)

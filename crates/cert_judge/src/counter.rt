@@ -10,7 +10,7 @@ use super::Memory;
 use access_log::Transcript;
 use bundle_text::Bundle;
 use cert_text::Certificate;
-use judge_counter::counter_table;
+use judge_core::counter_table;
 use query_text::{Names, print};
 use std::alloc::Global;
 

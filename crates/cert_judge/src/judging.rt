@@ -11,11 +11,10 @@ ghost use Rattle.cert_judge.specs.Judging.{IsJudged, TellsOfCertificate, Tells};
 use super::Memory;
 use super::counter::counter_of;
 use super::figures::first_figure;
-use super::told::Told;
+use super::judgement::Judgement;
 use super::transcript::transcript_of;
 use access_log::{PushFault, Transcript};
-use cert_reader::{CertFault, read_certificate};
-use cert_text::Certificate;
+use cert_text::{CertFault, Certificate, read_certificate};
 use judge_core::{JudgeFault, Verdict, judge};
 use ranked_list::Items;
 use std::alloc::Global;
@@ -40,7 +39,7 @@ fn told_fair(
     certificate: &Certificate,
     transcript: &Transcript,
     verdict: Verdict,
-) -> Result<Told, Memory>
+) -> Result<Judgement, Memory>
     requires certificate { IsCertificate certificate.now }
     requires few { length certificate.now.accesses < 2 ^ 40 }
     requires made { transcript.now ≡ log_of certificate.now }
@@ -48,17 +47,17 @@ fn told_fair(
     ensures { IfOk result (TellsOfCertificate certificate.now) }
 {
     if let Some(line) = first_figure(certificate, transcript) {
-        return Ok(Told::Figure { line });
+        return Ok(Judgement::Figure { line });
     }
     match verdict {
-        Verdict::Fixes => Ok(Told::Fixes),
+        Verdict::Fixes => Ok(Judgement::Fixes),
         Verdict::Beaten {
             inside,
             outside,
             low,
             high,
         } => match counter_of(alloc, certificate, transcript, inside) {
-            Ok(counter) => Ok(Told::Beaten {
+            Ok(counter) => Ok(Judgement::Beaten {
                 inside,
                 outside,
                 low,
@@ -75,7 +74,7 @@ fn told_over(
     alloc: Global,
     certificate: &Certificate,
     transcript: &Transcript,
-) -> Result<Told, Memory>
+) -> Result<Judgement, Memory>
     requires certificate { IsCertificate certificate.now }
     requires few { length certificate.now.accesses < 2 ^ 40 }
     requires made { transcript.now ≡ log_of certificate.now }
@@ -88,15 +87,15 @@ fn told_over(
     let query = &certificate.query;
     match judge(alloc, transcript, &query.expr, query.k, &answer) {
         Ok(verdict) => told_fair(alloc, certificate, transcript, verdict),
-        Err(JudgeFault::WildGuess { at }) => Ok(Told::WildGuess { at }),
-        Err(JudgeFault::WrongSize { given, k }) => Ok(Told::WrongSize { given, k }),
-        Err(JudgeFault::UnseenAnswer { object }) => Ok(Told::UnseenAnswer { object }),
+        Err(JudgeFault::WildGuess { at }) => Ok(Judgement::WildGuess { at }),
+        Err(JudgeFault::WrongSize { given, k }) => Ok(Judgement::WrongSize { given, k }),
+        Err(JudgeFault::UnseenAnswer { object }) => Ok(Judgement::UnseenAnswer { object }),
         Err(JudgeFault::Memory) => Err(Memory),
     }
 }
 
 /// What is told of a certificate.
-fn told_of(alloc: Global, certificate: &Certificate) -> Result<Told, Memory>
+fn told_of(alloc: Global, certificate: &Certificate) -> Result<Judgement, Memory>
     requires certificate { IsCertificate certificate.now }
     requires few { length certificate.now.accesses < 2 ^ 40 }
     ensures { IfOk result (TellsOfCertificate certificate.now) }
@@ -107,7 +106,7 @@ fn told_of(alloc: Global, certificate: &Certificate) -> Result<Told, Memory>
             transcript.let_go();
             told
         }
-        Err(PushFault::Inconsistent { at, kind }) => Ok(Told::Inconsistent { at, kind }),
+        Err(PushFault::Inconsistent { at, kind }) => Ok(Judgement::Inconsistent { at, kind }),
         Err(PushFault::Memory) => Err(Memory),
     }
 }
@@ -116,7 +115,7 @@ fn told_of(alloc: Global, certificate: &Certificate) -> Result<Told, Memory>
 ///
 /// The accesses are tested in their order, then the question, then the figures line by line. The time is that of
 /// `judge`, and of the counter table where the answer is beaten.
-pub fn judge_text(alloc: Global, bytes: &[u8]) -> Result<Told, Memory>
+pub fn judge_text(alloc: Global, bytes: &[u8]) -> Result<Judgement, Memory>
     requires { length bytes.now < 2 ^ 40 }
     ensures { IfOk result (Tells (lines bytes.now)) }
 {
@@ -126,7 +125,7 @@ pub fn judge_text(alloc: Global, bytes: &[u8]) -> Result<Told, Memory>
             certificate.let_go();
             told
         }
-        Err(CertFault::BadLine { line }) => Ok(Told::BadLine { line }),
+        Err(CertFault::BadLine { line }) => Ok(Judgement::BadLine { line }),
         Err(CertFault::Memory) => Err(Memory),
     }
 }

@@ -9,13 +9,13 @@
 
 mod counter;
 mod figures;
+mod judgement;
 mod judging;
 mod refusal;
-mod told;
 mod transcript;
 mod writing;
 
+pub use judgement::Judgement;
 pub use judging::judge_text;
 pub use memory::Memory;
-pub use told::Told;
 pub use writing::write_told;

@@ -2,7 +2,7 @@
 
 ghost use Rattle.cert_judge.specs.Refusing.{RefusesBy};
 
-use super::told::Told;
+use super::judgement::Judgement;
 
 /// The line of a refusal: its name, and its one field or its two.
 #[derive(Clone, Copy)]
@@ -12,23 +12,23 @@ pub(crate) enum RefusalLine {
 }
 
 /// The line by which a text is refused, or None where it is judged.
-pub(crate) fn refusal_of(told: &Told) -> Option<RefusalLine>
+pub(crate) fn refusal_of(told: &Judgement) -> Option<RefusalLine>
     ensures { RefusesBy told.now result }
 {
     match told {
-        Told::BadLine { line } => Some(RefusalLine::One(b"BadLine", [*line])),
-        Told::Inconsistent { at, kind } => {
+        Judgement::BadLine { line } => Some(RefusalLine::One(b"BadLine", [*line])),
+        Judgement::Inconsistent { at, kind } => {
             Some(RefusalLine::Two(b"Inconsistent", [*at, u64::from(*kind)]))
         }
-        Told::WildGuess { at } => Some(RefusalLine::One(b"WildGuess", [*at])),
-        Told::WrongSize { given, k } => Some(RefusalLine::Two(
+        Judgement::WildGuess { at } => Some(RefusalLine::One(b"WildGuess", [*at])),
+        Judgement::WrongSize { given, k } => Some(RefusalLine::Two(
             b"WrongSize",
             [u64::from(*given), u64::from(*k)],
         )),
-        Told::UnseenAnswer { object } => {
+        Judgement::UnseenAnswer { object } => {
             Some(RefusalLine::One(b"UnseenAnswer", [u64::from(*object)]))
         }
-        Told::Figure { line } => Some(RefusalLine::One(b"Figure", [*line])),
-        Told::Fixes | Told::Beaten { .. } => None,
+        Judgement::Figure { line } => Some(RefusalLine::One(b"Figure", [*line])),
+        Judgement::Fixes | Judgement::Beaten { .. } => None,
     }
 }

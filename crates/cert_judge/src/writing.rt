@@ -11,11 +11,10 @@ ghost use Rattle.bundle_text.specs.Bundle.{content, section, bundle_lines};
 ghost use Rattle.cert_judge.specs.Text.{refused_line, named, beaten_line, told_text};
 ghost use Rattle.cert_judge.specs.Refusing.{IsJudged};
 
+use super::judgement::Judgement;
 use super::refusal::{RefusalLine, refusal_of};
-use super::told::Told;
-use bundle_text::Bundle;
+use bundle_text::{Bundle, put_rows};
 use ranked_list::MemList;
-use table_text::put_rows;
 use tk_io::{Failed, Pieces, Sink};
 
 /// Puts the line of a refusal behind the bytes that wait.
@@ -86,13 +85,13 @@ fn put_bundle<K: Sink>(out: &mut K, pieces: &mut Pieces, bundle: &Bundle)
 }
 
 /// Puts whether the answer is fixed behind the bytes that wait: `fixes`, or the lines of a beaten answer.
-fn put_judged<K: Sink>(out: &mut K, pieces: &mut Pieces, told: &Told)
+fn put_judged<K: Sink>(out: &mut K, pieces: &mut Pieces, told: &Judgement)
     requires { IsJudged told.now }
     ensures { Puts (K.held out.old) (K.held out.new) (K.faults out.old) (K.faults out.new) pieces.old pieces.new
         (told_text told.now) }
 {
     match told {
-        Told::Beaten {
+        Judgement::Beaten {
             inside,
             outside,
             low,
@@ -107,7 +106,7 @@ fn put_judged<K: Sink>(out: &mut K, pieces: &mut Pieces, told: &Told)
 }
 
 /// Puts what is told behind the bytes that wait.
-fn put_told<K: Sink>(out: &mut K, pieces: &mut Pieces, told: &Told)
+fn put_told<K: Sink>(out: &mut K, pieces: &mut Pieces, told: &Judgement)
     ensures { Puts (K.held out.old) (K.held out.new) (K.faults out.old) (K.faults out.new) pieces.old pieces.new
         (told_text told.now) }
 {
@@ -119,7 +118,7 @@ fn put_told<K: Sink>(out: &mut K, pieces: &mut Pieces, told: &Told)
 }
 
 /// Writes what is told, in pieces of `tk_io::PIECE` bytes. Takes no memory.
-pub fn write_told<K: Sink>(out: &mut K, told: &Told) -> Result<(), Failed>
+pub fn write_told<K: Sink>(out: &mut K, told: &Judgement) -> Result<(), Failed>
     ensures whole { OnOk result (Appends (K.held out.old) (K.held out.new) (told_text told.now)) }
     ensures front { OnErr result (TookFront (K.held out.old) (K.held out.new) (told_text told.now)) }
     ensures cause { HasCause (K.faults out.old) (K.faults out.new) result }

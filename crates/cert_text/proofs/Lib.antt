@@ -1,2 +1,13 @@
 pub mod WritingLaws
 pub mod FigureLaws
+-- What each line says, what lines spell, and that what is written is read back.
+pub mod PartLaws
+pub mod LineLaws
+pub mod JudgingLaws
+pub mod SpellLaws
+pub mod QueryLaws
+pub mod ExampleLaws
+pub mod CertificateLaws
+pub mod CountLaws
+pub mod TextLaws
+pub mod CertifiedLaws

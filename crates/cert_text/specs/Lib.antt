@@ -2,3 +2,7 @@ pub mod Refusal
 pub mod Certificate
 pub mod Outcome
 pub mod Writing
+-- How lines spell a certificate, and what reading them finds.
+pub mod Reading
+pub mod Parts
+pub mod Judging

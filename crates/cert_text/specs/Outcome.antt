@@ -6,7 +6,7 @@ use Rattle.monotone_fn.specs.Shape.{list_count}
 use Rattle.monotone_fn.specs.Limits.{IsExpr}
 use Rattle.topk_theory.specs.Transcript.{depth, sorted_count, random_count, cost}
 use Rattle.access_log.specs.Log.{Log, IsWithinLimits}
-use Rattle.access_log.specs.declared.answer.Answer.{Answer}
+use Rattle.machine_base.specs.declared.answer.Answer.{Answer}
 use Rattle.query_text.specs.declared.query.Query.{Query}
 use Rattle.query_text.specs.Costs.{costs_in_force}
 use Rattle.query_text.specs.Query.{IsLawful}

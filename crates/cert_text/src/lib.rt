@@ -1,4 +1,4 @@
-//! Certificates and refusals as text: what is printed of a query line's outcome. `cert_reader` reads certificates back.
+//! Certificates and refusals as text: what is printed of a query line's outcome, and certificates read back.
 //!
 //! ```text
 //! certificate LINE
@@ -16,14 +16,20 @@
 
 mod accesses;
 mod certificate;
+mod fault;
 mod fields;
 mod outcome;
+mod parts;
+mod reader;
+mod reading;
 mod refusal;
 mod words;
 mod writing;
 
 pub use accesses::Accesses;
 pub use certificate::Certificate;
+pub use fault::CertFault;
 pub use outcome::{Outcome, put_outcome, write_outcome};
+pub use reading::read_certificate;
 pub use refusal::Refusal;
 pub use writing::depth_of;

@@ -10,7 +10,7 @@ ghost use Rattle.tk_io.specs.Pieces.{Puts};
 
 use super::refusal::{Refusal, put_refusal};
 use super::writing::put_certificate;
-use access_log::Answer;
+use machine_base::Answer;
 use query_text::Query;
 use tk_io::{Failed, Pieces, Sink};
 

@@ -10,7 +10,8 @@ ghost use Rattle.cert_text.specs.Certificate.{spaced, answer_line, access_line, 
 ghost use Rattle.cert_text.specs.Outcome.{HasCost, certificate_of, figures_line};
 
 use super::words::{Word, put_line};
-use access_log::{Access, Answer, Items, Transcript};
+use access_log::{Access, Items, Transcript};
+use machine_base::Answer;
 use query_text::{Names, Query, put_query};
 use tk_io::{Pieces, Sink};
 

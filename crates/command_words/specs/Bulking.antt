@@ -6,11 +6,12 @@ use Rattle.command_words.specs.Apps.{free_option, needed_option}
 use Rattle.command_words.specs.Line.{OptionRule, Takes, Given}
 use Rattle.command_words.specs.Making.{make_app, make_takes, options_given, options_in, AreMakeOptions}
 use Rattle.command_words.specs.OptionNumbers.{number_by, text_by}
-use Rattle.command_words.specs.Running.{workers_rule, page_rule, ahead_rule, settings_of, settings_in, AreRunSettings}
+use Rattle.command_words.specs.Running.{workers_rule, page_rule, ahead_rule, settings_of, settings_in}
+use Rattle.limits.specs.Ranges.{AreSettings}
 use Rattle.command_words.specs.Taking.{taken}
 use Rattle.command_words.specs.declared.bulking.BulkOptions.{BulkOptions}
 use Rattle.command_words.specs.declared.making.MakeOptions.{MakeOptions}
-use Rattle.command_words.specs.declared.running.RunSettings.{RunSettings}
+use Rattle.limits.specs.declared.settings.Settings.{Settings}
 use Rattle.limits.specs.declared.TheConstants.{MAX_QUERIES}
 
 -- a command with the options of `make`, the option `--queries`, which has to be given too, and those of `run`, which need not be given
@@ -27,15 +28,15 @@ queries_rule = record { name = codes "queries"; least = 1; most = MAX_QUERIES; r
 abbrev pub bulk_takes : Takes
 bulk_takes = record { places = []; options = make_takes.options ++ queries_rule ∷ workers_rule ∷ page_rule ∷ ahead_rule ∷ [] }
 
-abbrev pub with_settings : MakeOptions → ℕ → Option RunSettings → Option BulkOptions
+abbrev pub with_settings : MakeOptions → ℕ → Option Settings → Option BulkOptions
 with_settings table queries settings = option_map (λ s. record { table = table; queries = queries; settings = s }) settings
 
 -- so many queries over a table with these settings, where all are there
-abbrev pub bulk_of : Option MakeOptions → Option ℕ → Option RunSettings → Option BulkOptions
+abbrev pub bulk_of : Option MakeOptions → Option ℕ → Option Settings → Option BulkOptions
 bulk_of table queries settings = option_and_then (λ t. option_and_then (λ n. with_settings t n settings) queries) table
 
 -- the settings that are asked for, and the queries with their table
-abbrev pub settings_given : List Given → Option RunSettings
+abbrev pub settings_given : List Given → Option Settings
 settings_given given = settings_of (text_by workers_rule given) (text_by page_rule given) (text_by ahead_rule given)
 
 abbrev pub bulk_given : List Given → Option BulkOptions
@@ -54,4 +55,4 @@ pub record AreBulkOptions (options : BulkOptions) : Type 0 where
   pub table : AreMakeOptions options.table
   pub some_queries : 1 ≤ options.queries
   pub few_queries : options.queries ≤ MAX_QUERIES
-  pub settings : AreRunSettings options.settings
+  pub settings : AreSettings options.settings

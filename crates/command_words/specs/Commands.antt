@@ -5,7 +5,8 @@ use Rattle.command_words.specs.declared.command.Command.{Command}
 use Rattle.command_words.specs.declared.command.Command.TheVariants.{One, Judge, Make, Run, Bulk}
 use Rattle.command_words.specs.Bulking.{bulk_options, AreBulkOptions}
 use Rattle.command_words.specs.Making.{make_options}
-use Rattle.command_words.specs.Running.{run_options, AreRunSettings}
+use Rattle.command_words.specs.Running.{run_options}
+use Rattle.limits.specs.Ranges.{AreSettings}
 
 -- the word that ends the options
 abbrev pub options_end : List ℕ
@@ -47,5 +48,5 @@ abbrev pub HasSettings : Command → Type 0
 HasSettings One = Unit {0}
 HasSettings Judge = Unit {0}
 HasSettings (Make options) = Unit {0}
-HasSettings (Run options) = AreRunSettings options.settings
+HasSettings (Run options) = AreSettings options.settings
 HasSettings (Bulk options) = AreBulkOptions options

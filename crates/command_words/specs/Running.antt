@@ -7,7 +7,7 @@ use Rattle.command_words.specs.Line.{OptionRule, Takes, Given}
 use Rattle.command_words.specs.OptionNumbers.{free_number_by, text_by}
 use Rattle.command_words.specs.Taking.{given_text, taken}
 use Rattle.command_words.specs.declared.running.RunOptions.{RunOptions}
-use Rattle.command_words.specs.declared.running.RunSettings.{RunSettings}
+use Rattle.limits.specs.declared.settings.Settings.{Settings}
 
 -- a command with a place for the catalog, and the options `--workers`, `--page` and `--ahead`, which need not be given
 abbrev pub run_app : App
@@ -29,17 +29,17 @@ ahead_rule = record { name = codes "ahead"; least = 0; most = 100; required = fa
 abbrev pub run_takes : Takes
 run_takes = record { places = codes "catalog" ∷ []; options = workers_rule ∷ page_rule ∷ ahead_rule ∷ [] }
 
-abbrev pub with_ahead : ℕ → ℕ → Option ℕ → Option RunSettings
+abbrev pub with_ahead : ℕ → ℕ → Option ℕ → Option Settings
 with_ahead workers page ahead = option_map (λ pages. record { workers = workers; page = page; ahead = pages }) ahead
 
 -- the settings of these three texts, where each that there is spells a number within its range: else 4 workers, 100 rows and 2 pages
-abbrev pub settings_of : Option (List ℕ) → Option (List ℕ) → Option (List ℕ) → Option RunSettings
+abbrev pub settings_of : Option (List ℕ) → Option (List ℕ) → Option (List ℕ) → Option Settings
 settings_of workers page ahead =
     option_and_then (λ n. option_and_then (λ rows. with_ahead n rows (free_number_by ahead_rule 2 ahead)) (free_number_by page_rule 100 page))
     (free_number_by workers_rule 4 workers)
 
 -- a run over the catalog at a place with these settings, where both are there
-abbrev pub run_of : Option (List ℕ) → Option RunSettings → Option RunOptions
+abbrev pub run_of : Option (List ℕ) → Option Settings → Option RunOptions
 run_of catalog settings = option_and_then (λ place. option_map (λ s. record { catalog = place; settings = s }) settings) catalog
 
 -- the run that is asked for
@@ -51,16 +51,8 @@ abbrev pub run_options : List (List ℕ) → Option RunOptions
 run_options words = option_and_then run_given (taken run_takes (drop 1 words))
 
 -- what `clap` found: the settings, and the run that is asked for
-abbrev pub settings_in : List Row → Option RunSettings
+abbrev pub settings_in : List Row → Option Settings
 settings_in rows = settings_of (first_of workers_rule.name rows) (first_of page_rule.name rows) (first_of ahead_rule.name rows)
 
 abbrev pub run_in : List Row → Option RunOptions
 run_in rows = run_of (first_of (codes "catalog") rows) (settings_in rows)
-
--- the settings are within their ranges
-pub record AreRunSettings (settings : RunSettings) : Type 0 where
-  pub some_workers : 1 ≤ settings.workers
-  pub few_workers : settings.workers ≤ 32
-  pub some_rows : 1 ≤ settings.page
-  pub few_rows : settings.page ≤ 10000
-  pub few_pages : settings.ahead ≤ 100

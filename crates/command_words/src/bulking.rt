@@ -5,10 +5,10 @@ ghost use Rattle.clap.specs.Words.{rows_of, found_of};
 ghost use Rattle.command_words.specs.Bulking.{bulk_options, bulk_in, AreBulkOptions};
 
 use super::making::{self, MakeOptions, number_of};
-use super::running::{RunSettings, settings_of};
+use super::running::settings_of;
 use super::{Argument, Words, WordsFault, found_in};
 use clap::ArgMatches;
-use limits::MAX_QUERIES;
+use limits::{MAX_QUERIES, Settings};
 use std::alloc::Global;
 
 /// Which made queries are to be run, and over which made table.
@@ -19,7 +19,7 @@ pub struct BulkOptions {
     /// How many queries are made, 1 to 64.
     pub queries: u32,
     /// How they are run.
-    pub settings: RunSettings,
+    pub settings: Settings,
 }
 
 /// Reads the words as those of `bulk`: `--start`, `--count`, `--lists` and `--queries`, each once, and `--workers`, `--page` and

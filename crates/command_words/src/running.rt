@@ -3,11 +3,13 @@
 ghost use Rattle.std.specs.Prelude.{◌≡◌, ◌≤◌, None, Some, IfOk, IfSome};
 ghost use Rattle.clap.specs.Words.{rows_of, found_of};
 ghost use Rattle.command_words.specs.OptionNumbers.{free_number_in};
-ghost use Rattle.command_words.specs.Running.{run_options, run_in, settings_in, AreRunSettings};
+ghost use Rattle.command_words.specs.Running.{run_options, run_in, settings_in};
+ghost use Rattle.limits.specs.Ranges.{AreSettings};
 
 use super::making::number_given;
 use super::{Argument, Words, WordsFault, found_in};
 use clap::ArgMatches;
+use limits::Settings;
 use std::alloc::{AllocError, Global};
 use std::marker::Model;
 
@@ -53,24 +55,13 @@ impl Place {
     }
 }
 
-/// How queries are run.
-#[derive(Clone, Copy)]
-pub struct RunSettings {
-    /// How many queries run at the same time, each on a thread of its own, 1 to 32.
-    pub workers: u32,
-    /// How many rows a page has at most, 1 to 10,000.
-    pub page: u32,
-    /// How many pages are read ahead, 0 to 100.
-    pub ahead: u32,
-}
-
 /// Which queries are to be run.
 #[derive(Drop)]
 pub struct RunOptions {
     /// The place of the catalog of their lists.
     pub catalog: Place,
     /// How they are run.
-    pub settings: RunSettings,
+    pub settings: Settings,
 }
 
 /// Reads the words as those of `run`: the place of a catalog, and `--workers`, `--page` and `--ahead`,
@@ -78,7 +69,7 @@ pub struct RunOptions {
 pub(crate) fn read_run(alloc: Global, words: &Words) -> Result<RunOptions, WordsFault>
     ensures read { IfOk result (λ options. run_options words.now ≡ Some options) }
     ensures refused { result ≡ Err WordsFault.BadWords → run_options words.now ≡ None }
-    ensures settings { IfOk result (λ options. AreRunSettings options.settings) }
+    ensures settings { IfOk result (λ options. AreSettings options.settings) }
 {
     let arguments = [
         Argument::Place("catalog"),
@@ -100,7 +91,7 @@ pub(crate) fn read_run(alloc: Global, words: &Words) -> Result<RunOptions, Words
 fn options_of(alloc: Global, matches: &ArgMatches) -> Result<RunOptions, WordsFault>
     ensures read { IfOk result (λ options. run_in (rows_of (found_of matches.now)) ≡ Some options) }
     ensures refused { result ≡ Err WordsFault.BadWords → run_in (rows_of (found_of matches.now)) ≡ None }
-    ensures settings { IfOk result (λ options. AreRunSettings options.settings) }
+    ensures settings { IfOk result (λ options. AreSettings options.settings) }
 {
     let Some(settings) = settings_of(matches) else {
         return Err(WordsFault::BadWords);
@@ -115,14 +106,14 @@ fn options_of(alloc: Global, matches: &ArgMatches) -> Result<RunOptions, WordsFa
 }
 
 /// What was given of the options, and what stands for those that weren't.
-pub(crate) fn settings_of(matches: &ArgMatches) -> Option<RunSettings>
+pub(crate) fn settings_of(matches: &ArgMatches) -> Option<Settings>
     ensures found { result ≡ settings_in (rows_of (found_of matches.now)) }
-    ensures within { IfSome result AreRunSettings }
+    ensures within { IfSome result AreSettings }
 {
     let workers = number_or(matches, "workers", 4, 1, MAX_WORKERS)? as u32;
     let page = number_or(matches, "page", 100, 1, MAX_PAGE)? as u32;
     let ahead = number_or(matches, "ahead", 2, 0, MAX_AHEAD)? as u32;
-    Some(RunSettings {
+    Some(Settings {
         workers,
         page,
         ahead,

@@ -1,8 +1,11 @@
 //! Runs each example of the input, a file and the words of a command on each line, and says how it ended and
-//! whether it wrote the text that stands beside the file.
+//! whether it wrote the text that stands beside the file. Each runs as a process of the program runs, over real files.
 #![tactic(auto)]
 
-use example_support::run_example;
+mod given;
+mod running;
+
+use running::run_example;
 use std::io;
 
 /// Prints a line for each example.

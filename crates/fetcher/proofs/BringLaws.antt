@@ -5,7 +5,7 @@ use Rattle.std.proofs.lemmas.Bool.{leb-true}
 use Rattle.std.proofs.lemmas.List.Elements.{Contains-append_left}
 use Rattle.ranked_list.specs.declared.row.Row.{Row}
 use Rattle.turn_lock.specs.declared.known.Known.{Known}
-use Rattle.turn_lock.specs.Facts.{Begins}
+use Rattle.turn_lock.specs.Facts.{IsFrontOf}
 use Rattle.turn_lock.proofs.Growth.{begins_on}
 use Rattle.source_log.specs.declared.ask.Ask.{Ask}
 use Rattle.source_log.specs.declared.entry.LogEntry.{LogEntry}
@@ -23,7 +23,7 @@ use Rattle.source_state.proofs.AskLaws.{ask_is_found, pending_parts}
 use Rattle.source_api.specs.declared.counts.Counts.{Counts}
 use Rattle.source_api.specs.declared.source.Trouble.{Trouble}
 use Rattle.source_api.specs.declared.source.Trouble.TheVariants as trouble
-use Rattle.source_api.specs.Counting.{HasCause, GaveNothing, GaveRows, GaveGrade}
+use Rattle.source_api.specs.Counting.{TroubleHasCause, GaveNothing, GaveRows, GaveGrade}
 use Rattle.source_api.specs.Told.{IsPage, IsGrade}
 use Rattle.fetcher.specs.declared.turned.Turned.{Turned}
 use Rattle.fetcher.specs.declared.turned.Turned.TheVariants as turned
@@ -91,11 +91,11 @@ grade_brings page ahead object (Some grade) list counts now before after fed gav
 
 -- a call that failed
 fail_is : (what : FailKind) (why : Trouble) (counts now : Counts) (before after : Known LogEntry) → IsFed (event.Fail what) before after
-    → GaveNothing counts now → HasCause counts now why → BroughtFail what why counts now before after
+    → GaveNothing counts now → TroubleHasCause counts now why → BroughtFail what why counts now before after
 fail_is what why counts now before after fed gave cause = record { fed = fed; seen = fed.sees.log ∙ fed.is.log; tally = fed.sees.tally ∙ ap (counted what) fed.is.tally; gave = gave; cause = cause }
 
 pub fail_brings : (page ahead : ℕ) (why : Trouble) (list : Option (List Row)) (counts now : Counts) (before after : Known LogEntry)
-    → IsFed (event.Fail (kind_of why)) before after → GaveNothing counts now → HasCause counts now why → Brings page ahead list counts now before after (failed_by why)
+    → IsFed (event.Fail (kind_of why)) before after → GaveNothing counts now → TroubleHasCause counts now why → Brings page ahead list counts now before after (failed_by why)
 fail_brings page ahead trouble.Failed list counts now before after fed gave cause = fail_is _ _ counts now before after fed gave cause
 fail_brings page ahead trouble.Garbled list counts now before after fed gave cause = fail_is _ _ counts now before after fed gave cause
 fail_brings page ahead trouble.Memory list counts now before after fed gave cause = fail_is _ _ counts now before after fed gave cause
@@ -227,7 +227,7 @@ planned_reach page ahead from count before after p feeds =
     (subst (λ w. from + count ≤ reach_of w page ahead p.found.count) (sym p.sees.mark) p.serves.reach)
 
 -- a grade that is planned is pending, whatever state is found
-begun_has : {A : Type 0} (xs ys : List A) (x : A) → Begins xs ys → Contains xs x → Contains ys x
+begun_has : {A : Type 0} (xs ys : List A) (x : A) → IsFrontOf xs ys → Contains xs x → Contains ys x
 begun_has xs ys x b c = subst (λ zs. Contains zs x) (sym b.goes_on) (Contains-append_left xs b.rest x c)
 
 pub planned_pending : (page ahead object : ℕ) (before after : Known LogEntry) → IsPlanned page ahead before after (plan.Grade object)

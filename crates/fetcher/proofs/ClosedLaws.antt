@@ -6,7 +6,7 @@ use Rattle.source_log.specs.Log.{rows_in}
 use Rattle.source_state.specs.State.{State}
 use Rattle.source_state.specs.Looking.{reach_of, state_reach}
 use Rattle.source_api.specs.declared.counts.Counts.{Counts}
-use Rattle.source_locks.specs.Closed.{IsClosed}
+use Rattle.source_pool.specs.Closed.{IsClosed}
 use Rattle.fetcher.specs.declared.turned.Fetched.{Fetched}
 use Rattle.fetcher.specs.Metering.{IsMetered, IsCalledFor}
 use Rattle.fetcher.proofs.ReachLaws.{reach_more}

@@ -4,8 +4,8 @@ use Rattle.std.specs.Option.{IfSome, IsSomeAnd}
 use Rattle.atomic_table.specs.Seated.{TableId}
 use Rattle.turn_lock.specs.declared.facts.Facts.{Facts}
 use Rattle.turn_lock.specs.declared.known.Known.{Known}
-use Rattle.turn_lock.specs.Facts.{Grows}
-use Rattle.turn_lock.specs.Known.{Agrees, HasAll, after_turn}
+use Rattle.turn_lock.specs.Facts.{FactsGrow}
+use Rattle.turn_lock.specs.Known.{KnowsOf, HasAll, after_turn}
 use Rattle.turn_lock.proofs.Growth.{begins_on, at_most_on, grows_same}
 use Rattle.source_log.specs.declared.entry.LogEntry.{LogEntry}
 use Rattle.source_state.specs.declared.event.Event.{Event}
@@ -14,16 +14,16 @@ use Rattle.source_state.specs.State.{State, facts_of, IsSound}
 use Rattle.source_state.specs.Events as events
 use Rattle.source_state.specs.Events.{MayCome}
 use Rattle.source_state.specs.Looking.{plan_of, Serves}
-use Rattle.source_locks.specs.Passes.{Feed, IsFeederOf, IsIdleOf, in_turn, turned}
-use Rattle.source_pass.proofs.TurnLaws.{marks_kept}
+use Rattle.source_pool.specs.Passes.{Feed, IsFeederOf, IsIdleOf, in_turn, turned}
+use Rattle.source_pool.proofs.TurnLaws.{marks_kept}
 use Rattle.fetcher.specs.Turning.{IsFound, HasSeen, Feeds, IsPlanned, IsFed, IsOfSource}
 use Rattle.fetcher.proofs.EventLaws.{event_want, event_asks}
 
 -- a state that the writer took
-pub found_by : (s : State) (known : Known LogEntry) → Agrees (facts_of s) known → HasAll (facts_of s) known → IsSound s → IsFound s known
+pub found_by : (s : State) (known : Known LogEntry) → KnowsOf (facts_of s) known → HasAll (facts_of s) known → IsSound s → IsFound s known
 found_by s known agrees all sound = record { sound = sound; name = agrees.name; log = sym all.seen; tally = sym all.tally; asks = agrees.past.met; want = agrees.sight }
 
-pub feeds_by : (s t : State) (known : Known LogEntry) → Agrees (facts_of s) known → Grows (facts_of s) (facts_of t) → t.want ≡ s.want → t.asks ≡ s.asks
+pub feeds_by : (s t : State) (known : Known LogEntry) → KnowsOf (facts_of s) known → FactsGrow (facts_of s) (facts_of t) → t.want ≡ s.want → t.asks ≡ s.asks
     → Feeds known (after_turn (facts_of s) (facts_of t) known)
 feeds_by s t known agrees grows want asks =
     let marks = marks_kept (facts_of s) (facts_of t) known want asks in
@@ -45,9 +45,9 @@ pub seen_by : (s t : State) (known : Known LogEntry) → HasSeen t (after_turn (
 seen_by s t known = record { log = refl; asks = refl; tally = refl; mark = refl; due = refl }
 
 -- the feeder in its turn may give a state that goes on from the one taken
-pub may_give : (before mid : Feed) (taken given : Facts LogEntry) → mid ≡ in_turn taken before → Grows taken given
-    → IsSomeAnd mid.pass.1.held (λ f. Grows f given)
-may_give before mid taken given e grows = subst (λ (m : Feed). IsSomeAnd m.pass.1.held (λ f. Grows f given)) (sym e) grows
+pub may_give : (before mid : Feed) (taken given : Facts LogEntry) → mid ≡ in_turn taken before → FactsGrow taken given
+    → IsSomeAnd mid.pass.1.held (λ f. FactsGrow f given)
+may_give before mid taken given e grows = subst (λ (m : Feed). IsSomeAnd m.pass.1.held (λ f. FactsGrow f given)) (sym e) grows
 
 pub own_in_turn : (pool : List TableId) (before mid : Feed) (taken : Facts LogEntry) → mid ≡ in_turn taken before → IsIdleOf pool before → IsFeederOf pool mid
 own_in_turn pool before mid taken e idle = subst (IsFeederOf pool) (sym e) (record { source = idle.of.source; own = idle.of.own })
@@ -69,7 +69,7 @@ pub record PlanTurn (page ahead : ℕ) (before after : Feed) (next : Plan) : Typ
   pub plan : IsPlanned page ahead before.pass.1 after.pass.1 next
 
 pub plan_turn : (page ahead : ℕ) (before after : Feed) (s : State) (plan : Plan) → after ≡ turned (facts_of s) (facts_of s) before
-    → Agrees (facts_of s) before.pass.1
+    → KnowsOf (facts_of s) before.pass.1
     → HasAll (facts_of s) before.pass.1 → IsSound s → plan ≡ plan_of s page ahead → Serves s page ahead plan → PlanTurn page ahead before after plan
 plan_turn page ahead before after s plan e agrees all sound is serves =
     subst (λ (f : Feed). PlanTurn page ahead before f plan) (sym e)
@@ -87,8 +87,8 @@ pub record EventTurn (event : Event) (before after : Feed) : Type 0 where
   pub fed : IsFed event before.pass.1 after.pass.1
 
 pub event_turn : (event : Event) (before after : Feed) (s t : State) → IsOfSource event → ((state : State) → IsFound state before.pass.1 → MayCome state event)
-    → after ≡ turned (facts_of s) (facts_of t) before → Agrees (facts_of s) before.pass.1 → HasAll (facts_of s) before.pass.1 → IsSound s
-    → t ≡ events.after s event → Grows (facts_of s) (facts_of t) → IsSound t → EventTurn event before after
+    → after ≡ turned (facts_of s) (facts_of t) before → KnowsOf (facts_of s) before.pass.1 → HasAll (facts_of s) before.pass.1 → IsSound s
+    → t ≡ events.after s event → FactsGrow (facts_of s) (facts_of t) → IsSound t → EventTurn event before after
 event_turn event before after s t of may e agrees all sound is grows kept =
     let found = found_by s before.pass.1 agrees all sound in
     let want : t.want ≡ s.want = ap (λ (u : State). u.want) is ∙ event_want s event of in

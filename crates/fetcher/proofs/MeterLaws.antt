@@ -6,7 +6,7 @@ use Rattle.tk_io.specs.Faults.{Rose}
 use Rattle.tk_io.specs.Faults as faults
 use Rattle.turn_lock.specs.declared.facts.Tally.{Tally}
 use Rattle.turn_lock.specs.declared.known.Known.{Known}
-use Rattle.turn_lock.specs.Facts.{Begins}
+use Rattle.turn_lock.specs.Facts.{IsFrontOf}
 use Rattle.turn_lock.proofs.Growth.{begins_same, begins_on, at_most_same, at_most_on}
 use Rattle.topk_theory.proofs.AgreementLists.{distinct_fits}
 use Rattle.source_log.specs.declared.entry.LogEntry.{LogEntry}
@@ -105,7 +105,7 @@ kept_settled : (fetched : Fetched) (k0 k1 k2 : Known LogEntry) → KeepsAll fetc
 kept_settled fetched k0 k1 k2 h s = record { rows = λ none. s.rows ∙ h.rows (sym s.fault ∙ none) }
 
 -- the grades are no more than the asks, however many asks come
-pub asked_on : (grades : ℕ) (asks more : List ℕ) → grades ≤ length asks → Begins asks more → grades ≤ length more
+pub asked_on : (grades : ℕ) (asks more : List ℕ) → grades ≤ length asks → IsFrontOf asks more → grades ≤ length more
 asked_on grades asks more h b =
     let e : length more ≡ length (asks ++ b.rest) = ap (length {A = ℕ}) b.goes_on in
     omega (arith, h, e, length-append asks b.rest)

@@ -2,7 +2,7 @@
 use Rattle.std.specs.Prelude.{◌≡◌, ◌≤◌, ◌<◌, ◌+◌, ◌⊎◌, ℕ, Option, None, Some, List, length, IfSome, IsSome}
 use Rattle.ranked_list.specs.declared.row.Row.{Row}
 use Rattle.turn_lock.specs.declared.known.Known.{Known}
-use Rattle.turn_lock.specs.Facts.{Begins}
+use Rattle.turn_lock.specs.Facts.{IsFrontOf}
 use Rattle.turn_lock.specs.Known.{Follows}
 use Rattle.source_log.specs.declared.entry.LogEntry.{LogEntry}
 use Rattle.source_log.specs.declared.entry.FailKind.{FailKind}
@@ -20,7 +20,7 @@ use Rattle.source_state.specs.Looking.{reach_of, plan_of, Serves}
 use Rattle.source_api.specs.declared.counts.Counts.{Counts}
 use Rattle.source_api.specs.declared.source.Trouble.{Trouble}
 use Rattle.source_api.specs.declared.source.Trouble.TheVariants as trouble
-use Rattle.source_api.specs.Counting.{HasCause, GaveNothing, GaveRows, GaveGrade}
+use Rattle.source_api.specs.Counting.{TroubleHasCause, GaveNothing, GaveRows, GaveGrade}
 use Rattle.source_api.specs.Told.{IsPage, IsGrade}
 use Rattle.fetcher.specs.declared.turned.Turned.{Turned}
 use Rattle.fetcher.specs.declared.turned.Turned.TheVariants as turned
@@ -31,7 +31,7 @@ pub record IsFound (state : State) (known : Known LogEntry) : Type 0 where
   pub name : (state.list, state.count) ≡ known.name
   pub log : state.log ≡ known.seen
   pub tally : state.tally ≡ known.tally
-  pub asks : Begins known.met state.asks
+  pub asks : IsFrontOf known.met state.asks
   pub want : known.sight.mark ≤ state.want
 
 -- a pass has seen a state at the end of its last turn
@@ -101,7 +101,7 @@ pub record BroughtFail (what : FailKind) (why : Trouble) (counts now : Counts) (
   pub seen : after.seen ≡ before.seen
   pub tally : after.tally ≡ counted what before.tally
   pub gave : GaveNothing counts now
-  pub cause : HasCause counts now why
+  pub cause : TroubleHasCause counts now why
 
 -- nothing is to be fetched, as far as the pass saw: the state is paused, or no ask is due, and the rows reach as far as the want tells
 -- or are at fault

@@ -5,7 +5,7 @@ ghost use Rattle.source_log.specs.Log.{rows_in, fault_in};
 ghost use Rattle.source_state.specs.State.{State as StateOf, asked_in};
 ghost use Rattle.source_state.specs.Events.{MayCome};
 ghost use Rattle.source_state.specs.Looking.{reach_of};
-ghost use Rattle.source_locks.specs.Passes.{IsIdleOf};
+ghost use Rattle.source_pool.specs.Passes.{IsIdleOf};
 ghost use Rattle.source_api.specs.Counting.{NoneFell, GaveNothing};
 ghost use Rattle.fetcher.specs.Turning.{IsFound, Feeds, IsPlanned, IsFed, Brings, MayTellPage, MayTellGrade, MayFetch, IsNext};
 ghost use Rattle.fetcher.specs.Turning.{settled_by, answer_by, kind_of, failed_by, IsOfSource};

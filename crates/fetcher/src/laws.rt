@@ -8,7 +8,7 @@ ghost use Rattle.source_log.specs.declared.entry.SourceFault.TheVariants.{Repeat
 ghost use Rattle.source_log.specs.Log.{fault_in};
 ghost use Rattle.source_state.specs.State.{State};
 ghost use Rattle.source_api.specs.declared.counts.Counts.{Counts};
-ghost use Rattle.source_locks.specs.Closed.{IsClosed};
+ghost use Rattle.source_pool.specs.Closed.{IsClosed};
 ghost use Rattle.fetcher.specs.declared.turned.Fetched.{Fetched};
 ghost use Rattle.fetcher.specs.Chaining.{Moment, IsFetched};
 ghost use Rattle.fetcher.specs.Metering.{IsMetered, IsCalledFor};

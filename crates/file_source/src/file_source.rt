@@ -2,7 +2,7 @@
 
 ghost use Rattle.std.specs.Prelude.{◌≡◌, ◌≤◌, ◌<◌, ℕ, nat_eq, length, take, drop, map, vec_len, Some, None, Contains, MatchOption, IfOk, IfErr, IfSome, OnOk, OnErr};
 ghost use Rattle.std.specs.HashMap.{get};
-ghost use Rattle.source_api.specs.Counting.{no_counts, NoneFell, HasCause, GaveNothing, GaveRows, GaveGrade};
+ghost use Rattle.source_api.specs.Counting.{no_counts, NoneFell, TroubleHasCause, GaveNothing, GaveRows, GaveGrade};
 ghost use Rattle.source_api.specs.Told.{IsPage, IsGrade, first_grade};
 ghost use Rattle.file_source.specs.ListFile.{list_records, rows_among, told_records};
 ghost use Rattle.file_source.specs.FileAnswers.{AnswersPage, AnswersGrade, after_page, after_grade};
@@ -89,7 +89,7 @@ impl Source for FileSource {
         ensures answer { AnswersPage (take count (drop from self.old.records)) result }
         ensures after { self.new ≡ after_page result self.old }
         ensures later { NoneFell self.old.counts self.new.counts }
-        ensures cause { IfErr result (HasCause self.old.counts self.new.counts) }
+        ensures cause { IfErr result (TroubleHasCause self.old.counts self.new.counts) }
         ensures given { IfOk result (λ page. GaveRows (vec_len page) self.old.counts self.new.counts) }
         ensures gave_nothing { OnErr result (GaveNothing self.old.counts self.new.counts) }
         ensures bound { IfOk result (λ page. vec_len page ≤ count) }
@@ -112,7 +112,7 @@ impl Source for FileSource {
         ensures answer { AnswersGrade self.old.records object result }
         ensures after { self.new ≡ after_grade result self.old }
         ensures later { NoneFell self.old.counts self.new.counts }
-        ensures cause { IfErr result (HasCause self.old.counts self.new.counts) }
+        ensures cause { IfErr result (TroubleHasCause self.old.counts self.new.counts) }
         ensures given { OnOk result (GaveGrade self.old.counts self.new.counts) }
         ensures gave_nothing { OnErr result (GaveNothing self.old.counts self.new.counts) }
         ensures grade { IfOk result (λ grade. IfSome (told_records self.old.records) (λ rows. IsGrade rows object grade)) }

@@ -3,3 +3,4 @@ pub mod HeapLaws
 pub mod Placing
 pub mod Putting
 pub mod Within
+pub mod SlotChanges

@@ -12,7 +12,7 @@ use Rattle.std.proofs.lemmas.List.Sums.{sum_by-set, sum_by-append, count_by-le-l
 use Rattle.std.proofs.lemmas.Option.{none-some, same_Some, slice_get_within}
 use Rattle.indexed_heap.specs.declared.tree.Ranked.{Ranked}
 use Rattle.indexed_heap.specs.Ranks.{rank_at, one_if, HasNone, IsGreatest}
-use Rattle.indexed_heap.specs.Tree.{node_at, place_of, rank_of, ranks_of, HasKey, IsHeap, IsLoose, IsPlaced, IsExchanged, IsMoved, IsWith, Keeps}
+use Rattle.indexed_heap.specs.Tree.{node_at, place_of_key, rank_of, ranks_of, HasKey, IsHeap, IsLoose, IsPlaced, IsExchanged, IsMoved, IsWith, Keeps}
 use Rattle.indexed_heap.proofs.Getting.{get_set_same, get_set_other, get_last, get_before}
 use Rattle.indexed_heap.proofs.HeapLaws.{none_greater, loose_last, loose_front, heap_front}
 use Rattle.indexed_heap.proofs.Within.{none_ranked, count_of_none}
@@ -24,14 +24,14 @@ get_or-map f (x ∷ xs) (suc i) none = get_or-map f xs i none
 
 -- the rank of a key is that of the node at its place
 pub rank_at-ranks_of : {T : Type 0} (nodes : List (Ranked T)) (places : List (Option ℕ)) (key : ℕ)
-    → rank_at (ranks_of nodes places) key ≡ rank_of nodes (place_of places key)
+    → rank_at (ranks_of nodes places) key ≡ rank_of nodes (place_of_key places key)
 rank_at-ranks_of nodes places key = get_or-map (rank_of nodes) places key refl
 
 pub length-ranks_of : {T : Type 0} (nodes : List (Ranked T)) (places : List (Option ℕ)) → length (ranks_of nodes places) ≡ length places
 length-ranks_of nodes places = length-map places (rank_of nodes)
 
 -- a key with a place is one of the places
-pub key_within : (places : List (Option ℕ)) (key place : ℕ) → place_of places key ≡ Some place → key < length places
+pub key_within : (places : List (Option ℕ)) (key place : ℕ) → place_of_key places key ≡ Some place → key < length places
 key_within places key place there =
     elim (cases_lt key (length places)) [
       | inl here ↦ here
@@ -40,7 +40,7 @@ key_within places key place there =
 
 -- two lists give the same ranks where each key has the same rank in both
 same_ranks : {T : Type 0} (nodes : List (Ranked T)) (places : List (Option ℕ)) (ranks : List (Option T)) → length places ≡ length ranks
-    → ((key : ℕ) → rank_of nodes (place_of places key) ≡ rank_at ranks key) → ranks_of nodes places ≡ ranks
+    → ((key : ℕ) → rank_of nodes (place_of_key places key) ≡ rank_at ranks key) → ranks_of nodes places ≡ ranks
 same_ranks nodes places ranks sizes same =
     ext_get_or None (ranks_of nodes places) ranks (length-ranks_of nodes places ∙ sizes) (λ key _. rank_at-ranks_of nodes places key ∙ same key)
 
@@ -50,51 +50,51 @@ module _ {T : Type 0} (nodes exchanged : List (Ranked T)) (places : List (Option
   abbrev kept : List (Option ℕ)
   kept = set (set places second.key (Some one)) first.key (Some other)
 
-  kept_first : IsPlaced nodes places → node_at nodes one ≡ Some first → place_of kept first.key ≡ Some other
+  kept_first : IsPlaced nodes places → node_at nodes one ≡ Some first → place_of_key kept first.key ≡ Some other
   kept_first placed at_one =
       let inner = length-set places second.key (Some one) in
       let here = key_within places first.key one (placed.of_node one first at_one) in
       get_or-set_same (set places second.key (Some one)) first.key (Some other) None (omega arith)
 
-  kept_second : IsPlaced nodes places → node_at nodes one ≡ Some first → node_at nodes other ≡ Some second → place_of kept second.key ≡ Some one
+  kept_second : IsPlaced nodes places → node_at nodes one ≡ Some first → node_at nodes other ≡ Some second → place_of_key kept second.key ≡ Some one
   kept_second placed at_one at_other =
       let here = key_within places second.key other (placed.of_node other second at_other) in
-      elim (cases_eq second.key first.key) as (λ _. place_of kept second.key ≡ Some one) [
+      elim (cases_eq second.key first.key) as (λ _. place_of_key kept second.key ≡ Some one) [
         | inl e ↦
             let same : other ≡ one =
-            same_Some other one (sym (placed.of_node other second at_other) ∙ ap (place_of places) e ∙ placed.of_node one first at_one) in
-            ap (place_of kept) e ∙ kept_first placed at_one ∙ ap (λ p. Some p) same
+            same_Some other one (sym (placed.of_node other second at_other) ∙ ap (place_of_key places) e ∙ placed.of_node one first at_one) in
+            ap (place_of_key kept) e ∙ kept_first placed at_one ∙ ap (λ p. Some p) same
         | inr n ↦
             get_or-set_other (set places second.key (Some one)) first.key second.key (Some other) None n
             ∙ get_or-set_same places second.key (Some one) None here
       ]
 
-  kept_rest : (key : ℕ) → key ≢ first.key → key ≢ second.key → place_of kept key ≡ place_of places key
+  kept_rest : (key : ℕ) → key ≢ first.key → key ≢ second.key → place_of_key kept key ≡ place_of_key places key
   kept_rest key apart far =
       get_or-set_other (set places second.key (Some one)) first.key key (Some other) None apart ∙ get_or-set_other places second.key key (Some one) None far
 
   of_node_after : IsPlaced nodes places → node_at nodes one ≡ Some first → node_at nodes other ≡ Some second → IsExchanged one other nodes exchanged
-      → (place : ℕ) (node : Ranked T) → node_at exchanged place ≡ Some node → place_of kept node.key ≡ Some place
+      → (place : ℕ) (node : Ranked T) → node_at exchanged place ≡ Some node → place_of_key kept node.key ≡ Some place
   of_node_after placed at_one at_other swapped place node there = at (cases_eq place one) (cases_eq place other)
     where
-      at : (place ≡ one) ⊎ (place ≢ one) → (place ≡ other) ⊎ (place ≢ other) → place_of kept node.key ≡ Some place
+      at : (place ≡ one) ⊎ (place ≢ one) → (place ≡ other) ⊎ (place ≢ other) → place_of_key kept node.key ≡ Some place
       at (inl e) _ =
           let is : second ≡ node = same_Some second node (sym (swapped.at_one ∙ at_other) ∙ ap (node_at exchanged) (sym e) ∙ there) in
-          subst (λ (n : Ranked T). place_of kept n.key ≡ Some place) is (kept_second placed at_one at_other ∙ ap (λ p. Some p) (sym e))
+          subst (λ (n : Ranked T). place_of_key kept n.key ≡ Some place) is (kept_second placed at_one at_other ∙ ap (λ p. Some p) (sym e))
       at (inr _) (inl e) =
           let is : first ≡ node = same_Some first node (sym (swapped.at_other ∙ at_one) ∙ ap (node_at exchanged) (sym e) ∙ there) in
-          subst (λ (n : Ranked T). place_of kept n.key ≡ Some place) is (kept_first placed at_one ∙ ap (λ p. Some p) (sym e))
+          subst (λ (n : Ranked T). place_of_key kept n.key ≡ Some place) is (kept_first placed at_one ∙ ap (λ p. Some p) (sym e))
       at (inr n) (inr m) =
-          let was : place_of places node.key ≡ Some place = placed.of_node place node (sym (swapped.rest place n m) ∙ there) in
+          let was : place_of_key places node.key ≡ Some place = placed.of_node place node (sym (swapped.rest place n m) ∙ there) in
           let not_first : node.key ≢ first.key =
-          λ e. n (same_Some place one (sym was ∙ ap (place_of places) e ∙ placed.of_node one first at_one)) in
+          λ e. n (same_Some place one (sym was ∙ ap (place_of_key places) e ∙ placed.of_node one first at_one)) in
           let not_second : node.key ≢ second.key =
-          λ e. m (same_Some place other (sym was ∙ ap (place_of places) e ∙ placed.of_node other second at_other)) in
+          λ e. m (same_Some place other (sym was ∙ ap (place_of_key places) e ∙ placed.of_node other second at_other)) in
           kept_rest node.key not_first not_second ∙ was
 
   -- each key is one of the two, or has the place that it had, which is neither's
   abbrev Stays : ℕ → Type 0
-  Stays key = (place_of kept key ≡ place_of places key) × ((place : ℕ) → place_of places key ≡ Some place → (place ≢ one) × (place ≢ other))
+  Stays key = (place_of_key kept key ≡ place_of_key places key) × ((place : ℕ) → place_of_key places key ≡ Some place → (place ≢ one) × (place ≢ other))
 
   stays : IsPlaced nodes places → node_at nodes one ≡ Some first → node_at nodes other ≡ Some second → (key : ℕ) → key ≢ first.key → key ≢ second.key → Stays key
   stays placed at_one at_other key apart far = (
@@ -107,15 +107,15 @@ module _ {T : Type 0} (nodes exchanged : List (Ranked T)) (places : List (Option
   )
 
   of_key_after : IsPlaced nodes places → node_at nodes one ≡ Some first → node_at nodes other ≡ Some second → IsExchanged one other nodes exchanged
-      → (key place : ℕ) → place_of kept key ≡ Some place → HasKey key (node_at exchanged place)
+      → (key place : ℕ) → place_of_key kept key ≡ Some place → HasKey key (node_at exchanged place)
   of_key_after placed at_one at_other swapped key place there = at (cases_eq key first.key) (cases_eq key second.key)
     where
       at : (key ≡ first.key) ⊎ (key ≢ first.key) → (key ≡ second.key) ⊎ (key ≢ second.key) → HasKey key (node_at exchanged place)
       at (inl e) _ =
-          let is : other ≡ place = same_Some other place (sym (kept_first placed at_one) ∙ ap (place_of kept) (sym e) ∙ there) in
+          let is : other ≡ place = same_Some other place (sym (kept_first placed at_one) ∙ ap (place_of_key kept) (sym e) ∙ there) in
           (first, ap (node_at exchanged) (sym is) ∙ swapped.at_other ∙ at_one, sym e)
       at (inr _) (inl e) =
-          let is : one ≡ place = same_Some one place (sym (kept_second placed at_one at_other) ∙ ap (place_of kept) (sym e) ∙ there) in
+          let is : one ≡ place = same_Some one place (sym (kept_second placed at_one at_other) ∙ ap (place_of_key kept) (sym e) ∙ there) in
           (second, ap (node_at exchanged) (sym is) ∙ swapped.at_one ∙ at_other, sym e)
       at (inr n) (inr m) =
           let same = stays placed at_one at_other key n m in
@@ -125,7 +125,7 @@ module _ {T : Type 0} (nodes exchanged : List (Ranked T)) (places : List (Option
           (node.0, swapped.rest place apart.0 apart.1 ∙ node.1, node.2)
 
   rank_after : IsPlaced nodes places → node_at nodes one ≡ Some first → node_at nodes other ≡ Some second → IsExchanged one other nodes exchanged
-      → (key : ℕ) → rank_of exchanged (place_of kept key) ≡ rank_of nodes (place_of places key)
+      → (key : ℕ) → rank_of exchanged (place_of_key kept key) ≡ rank_of nodes (place_of_key places key)
   rank_after placed at_one at_other swapped key = at (cases_eq key first.key) (cases_eq key second.key)
     where
       same_place : (place : Option ℕ) → ((at : ℕ) → place ≡ Some at → (at ≢ one) × (at ≢ other)) → rank_of exchanged place ≡ rank_of nodes place
@@ -134,18 +134,18 @@ module _ {T : Type 0} (nodes exchanged : List (Ranked T)) (places : List (Option
           let far = apart place refl in
           ap (option_map (λ (node : Ranked T). node.rank)) (swapped.rest place far.0 far.1)
 
-      at : (key ≡ first.key) ⊎ (key ≢ first.key) → (key ≡ second.key) ⊎ (key ≢ second.key) → rank_of exchanged (place_of kept key) ≡ rank_of nodes (place_of places key)
+      at : (key ≡ first.key) ⊎ (key ≢ first.key) → (key ≡ second.key) ⊎ (key ≢ second.key) → rank_of exchanged (place_of_key kept key) ≡ rank_of nodes (place_of_key places key)
       at (inl e) _ =
-          ap (rank_of exchanged) (ap (place_of kept) e ∙ kept_first placed at_one)
+          ap (rank_of exchanged) (ap (place_of_key kept) e ∙ kept_first placed at_one)
           ∙ ap (option_map (λ (node : Ranked T). node.rank)) swapped.at_other
-          ∙ ap (rank_of nodes) (sym (ap (place_of places) e ∙ placed.of_node one first at_one))
+          ∙ ap (rank_of nodes) (sym (ap (place_of_key places) e ∙ placed.of_node one first at_one))
       at (inr _) (inl e) =
-          ap (rank_of exchanged) (ap (place_of kept) e ∙ kept_second placed at_one at_other)
+          ap (rank_of exchanged) (ap (place_of_key kept) e ∙ kept_second placed at_one at_other)
           ∙ ap (option_map (λ (node : Ranked T). node.rank)) swapped.at_one
-          ∙ ap (rank_of nodes) (sym (ap (place_of places) e ∙ placed.of_node other second at_other))
+          ∙ ap (rank_of nodes) (sym (ap (place_of_key places) e ∙ placed.of_node other second at_other))
       at (inr n) (inr m) =
           let same = stays placed at_one at_other key n m in
-          ap (rank_of exchanged) same.0 ∙ same_place (place_of places key) same.1
+          ap (rank_of exchanged) same.0 ∙ same_place (place_of_key places key) same.1
 
   -- two nodes are exchanged, and what is kept of their keys' places
   pub moved : IsPlaced nodes places → node_at nodes one ≡ Some first → node_at nodes other ≡ Some second → IsExchanged one other nodes exchanged
@@ -205,17 +205,17 @@ count_set {T = T} ranks key rank within = sum_by-set (λ (r : Option T). one_if 
 -- ---- a key gets another rank
 module _ {T : Type 0} (cmp : T → T → Ordering) (nodes : List (Ranked T)) (places : List (Option ℕ)) (place : ℕ) (node : Ranked T) where
   -- the node that was there has the key too
-  placed_written : IsPlaced nodes places → place_of places node.key ≡ Some place → IsPlaced (set nodes place node) places
+  placed_written : IsPlaced nodes places → place_of_key places node.key ≡ Some place → IsPlaced (set nodes place node) places
   placed_written placed there =
       let had = placed.of_key node.key place there in
       let within = slice_get_within nodes place had.0 had.1 in
       record {
         few = subst (λ n. n ≤ 200000) (sym (length-set nodes place node)) placed.few;
         small = placed.small;
-        of_node = λ at one found. elim (cases_eq at place) as (λ _. place_of places one.key ≡ Some at) [
+        of_node = λ at one found. elim (cases_eq at place) as (λ _. place_of_key places one.key ≡ Some at) [
           | inl e ↦
               let is : node ≡ one = same_Some node one (sym (get_set_same nodes place node within) ∙ ap (node_at (set nodes place node)) (sym e) ∙ found) in
-              subst (λ (n : Ranked T). place_of places n.key ≡ Some at) is (there ∙ ap (λ p. Some p) (sym e))
+              subst (λ (n : Ranked T). place_of_key places n.key ≡ Some at) is (there ∙ ap (λ p. Some p) (sym e))
           | inr n ↦ placed.of_node at one (sym (get_set_other nodes place at node n) ∙ found)
         ];
         of_key = λ key at found. elim (cases_eq at place) as (λ _. HasKey key (node_at (set nodes place node) at)) [
@@ -230,7 +230,7 @@ module _ {T : Type 0} (cmp : T → T → Ordering) (nodes : List (Ranked T)) (pl
         ];
       }
 
-  ranks_written : IsPlaced nodes places → place_of places node.key ≡ Some place
+  ranks_written : IsPlaced nodes places → place_of_key places node.key ≡ Some place
       → ranks_of (set nodes place node) places ≡ set (ranks_of nodes places) node.key (Some node.rank)
   ranks_written placed there =
       let had = placed.of_key node.key place there in
@@ -240,17 +240,17 @@ module _ {T : Type 0} (cmp : T → T → Ordering) (nodes : List (Ranked T)) (pl
       let inside : node.key < length (ranks_of nodes places) = omega arith in
       same_ranks (set nodes place node) places (set (ranks_of nodes places) node.key (Some node.rank))
       (sym (length-set (ranks_of nodes places) node.key (Some node.rank) ∙ size))
-      (λ key. elim (cases_eq key node.key) as (λ _. rank_of (set nodes place node) (place_of places key) ≡ rank_at (set (ranks_of nodes places) node.key (Some node.rank)) key) [
+      (λ key. elim (cases_eq key node.key) as (λ _. rank_of (set nodes place node) (place_of_key places key) ≡ rank_at (set (ranks_of nodes places) node.key (Some node.rank)) key) [
         | inl e ↦
-            ap (rank_of (set nodes place node)) (ap (place_of places) e ∙ there)
+            ap (rank_of (set nodes place node)) (ap (place_of_key places) e ∙ there)
             ∙ ap (option_map (λ (n : Ranked T). n.rank)) (get_set_same nodes place node within)
             ∙ sym (ap (rank_at (set (ranks_of nodes places) node.key (Some node.rank))) e ∙ get_or-set_same (ranks_of nodes places) node.key (Some node.rank) None inside)
         | inr n ↦
-            elsewhere key n (place_of places key) refl
+            elsewhere key n (place_of_key places key) refl
             ∙ sym (get_or-set_other (ranks_of nodes places) node.key key (Some node.rank) None n ∙ rank_at-ranks_of nodes places key)
       ])
     where
-      elsewhere : (key : ℕ) → key ≢ node.key → (at : Option ℕ) → place_of places key ≡ at → rank_of (set nodes place node) at ≡ rank_of nodes at
+      elsewhere : (key : ℕ) → key ≢ node.key → (at : Option ℕ) → place_of_key places key ≡ at → rank_of (set nodes place node) at ≡ rank_of nodes at
       elsewhere key apart None found = refl
       elsewhere key apart (Some at) found =
           let old = placed.of_key key at found in
@@ -259,11 +259,11 @@ module _ {T : Type 0} (cmp : T → T → Ordering) (nodes : List (Ranked T)) (pl
           λ e. apart (sym old.2 ∙ ap (λ (n : Ranked T). n.key) (same_Some old.0 had.0 (sym old.1 ∙ ap (node_at nodes) e ∙ had.1)) ∙ had.2) in
           ap (option_map (λ (n : Ranked T). n.rank)) (get_set_other nodes place at node far)
 
-  pub place_within : IsPlaced nodes places → place_of places node.key ≡ Some place → place < length nodes
+  pub place_within : IsPlaced nodes places → place_of_key places node.key ≡ Some place → place < length nodes
   place_within placed there = let had = placed.of_key node.key place there in slice_get_within nodes place had.0 had.1
 
   -- as many ranks as nodes, still
-  count_written : Keeps cmp nodes places → place_of places node.key ≡ Some place
+  count_written : Keeps cmp nodes places → place_of_key places node.key ≡ Some place
       → length nodes ≡ count_by is_some (set (ranks_of nodes places) node.key (Some node.rank))
   count_written keeps there =
       let had = keeps.placed.of_key node.key place there in
@@ -276,7 +276,7 @@ module _ {T : Type 0} (cmp : T → T → Ordering) (nodes : List (Ranked T)) (pl
       let count = keeps.count in
       omega arith
 
-  pub written : Keeps cmp nodes places → place_of places node.key ≡ Some place
+  pub written : Keeps cmp nodes places → place_of_key places node.key ≡ Some place
       → IsWith (set nodes place node) places (set (ranks_of nodes places) node.key (Some node.rank))
   written keeps there = record {
     placed = placed_written keeps.placed there;
@@ -292,23 +292,23 @@ module _ {T : Type 0} (cmp : T → T → Ordering) (nodes : List (Ranked T)) (pl
   abbrev known : List (Option ℕ)
   known = set places node.key (Some (length nodes))
 
-  placed_added : IsPlaced nodes places → node.key < length places → place_of places node.key ≡ None → length nodes < 200000 → IsPlaced more known
+  placed_added : IsPlaced nodes places → node.key < length places → place_of_key places node.key ≡ None → length nodes < 200000 → IsPlaced more known
   placed_added placed within absent few = record {
     few = omega (arith, length-append nodes (node ∷ []));
     small = subst (λ n. n ≤ 200000) (sym (length-set places node.key (Some (length nodes)))) placed.small;
-    of_node = λ at one found. elim (cases_eq at (length nodes)) as (λ _. place_of known one.key ≡ Some at) [
+    of_node = λ at one found. elim (cases_eq at (length nodes)) as (λ _. place_of_key known one.key ≡ Some at) [
       | inl e ↦
           let is : node ≡ one = same_Some node one (sym (get_last nodes node) ∙ ap (node_at more) (sym e) ∙ found) in
-          subst (λ (n : Ranked T). place_of known n.key ≡ Some at) is (get_or-set_same places node.key (Some (length nodes)) None within ∙ ap (λ p. Some p) (sym e))
+          subst (λ (n : Ranked T). place_of_key known n.key ≡ Some at) is (get_or-set_same places node.key (Some (length nodes)) None within ∙ ap (λ p. Some p) (sym e))
       | inr n ↦
           let was = placed.of_node at one (sym (get_before nodes node at n) ∙ found) in
-          let apart : one.key ≢ node.key = λ e. none-some at (sym absent ∙ ap (place_of places) (sym e) ∙ was) in
+          let apart : one.key ≢ node.key = λ e. none-some at (sym absent ∙ ap (place_of_key places) (sym e) ∙ was) in
           get_or-set_other places node.key one.key (Some (length nodes)) None apart ∙ was
     ];
     of_key = λ key at found. elim (cases_eq key node.key) as (λ _. HasKey key (node_at more at)) [
       | inl e ↦
           let is : length nodes ≡ at =
-          same_Some (length nodes) at (sym (get_or-set_same places node.key (Some (length nodes)) None within) ∙ ap (place_of known) (sym e) ∙ found) in
+          same_Some (length nodes) at (sym (get_or-set_same places node.key (Some (length nodes)) None within) ∙ ap (place_of_key known) (sym e) ∙ found) in
           (node, ap (node_at more) (sym is) ∙ get_last nodes node, sym e)
       | inr n ↦
           let old = placed.of_key key at (sym (get_or-set_other places node.key key (Some (length nodes)) None n) ∙ found) in
@@ -324,18 +324,18 @@ module _ {T : Type 0} (cmp : T → T → Ordering) (nodes : List (Ranked T)) (pl
       let inside : node.key < length (ranks_of nodes places) = omega arith in
       same_ranks more known (set (ranks_of nodes places) node.key (Some node.rank))
       (length-set places node.key (Some (length nodes)) ∙ sym (length-set (ranks_of nodes places) node.key (Some node.rank) ∙ size))
-      (λ key. elim (cases_eq key node.key) as (λ _. rank_of more (place_of known key) ≡ rank_at (set (ranks_of nodes places) node.key (Some node.rank)) key) [
+      (λ key. elim (cases_eq key node.key) as (λ _. rank_of more (place_of_key known key) ≡ rank_at (set (ranks_of nodes places) node.key (Some node.rank)) key) [
         | inl e ↦
-            ap (rank_of more) (ap (place_of known) e ∙ get_or-set_same places node.key (Some (length nodes)) None within)
+            ap (rank_of more) (ap (place_of_key known) e ∙ get_or-set_same places node.key (Some (length nodes)) None within)
             ∙ ap (option_map (λ (n : Ranked T). n.rank)) (get_last nodes node)
             ∙ sym (ap (rank_at (set (ranks_of nodes places) node.key (Some node.rank))) e ∙ get_or-set_same (ranks_of nodes places) node.key (Some node.rank) None inside)
         | inr n ↦
             ap (rank_of more) (get_or-set_other places node.key key (Some (length nodes)) None n)
-            ∙ elsewhere key (place_of places key) refl
+            ∙ elsewhere key (place_of_key places key) refl
             ∙ sym (get_or-set_other (ranks_of nodes places) node.key key (Some node.rank) None n ∙ rank_at-ranks_of nodes places key)
       ])
     where
-      elsewhere : (key : ℕ) (at : Option ℕ) → place_of places key ≡ at → rank_of more at ≡ rank_of nodes at
+      elsewhere : (key : ℕ) (at : Option ℕ) → place_of_key places key ≡ at → rank_of more at ≡ rank_of nodes at
       elsewhere key None found = refl
       elsewhere key (Some at) found =
           let old = placed.of_key key at found in
@@ -343,7 +343,7 @@ module _ {T : Type 0} (cmp : T → T → Ordering) (nodes : List (Ranked T)) (pl
           let before : at ≢ length nodes = λ e. absurd (omega arith) in
           ap (option_map (λ (n : Ranked T). n.rank)) (get_before nodes node at before)
 
-  count_added : Keeps cmp nodes places → node.key < length places → place_of places node.key ≡ None
+  count_added : Keeps cmp nodes places → node.key < length places → place_of_key places node.key ≡ None
       → length nodes + 1 ≡ count_by is_some (set (ranks_of nodes places) node.key (Some node.rank))
   count_added keeps within absent =
       let size = length-ranks_of nodes places in
@@ -353,7 +353,7 @@ module _ {T : Type 0} (cmp : T → T → Ordering) (nodes : List (Ranked T)) (pl
       omega arith
 
   -- there are fewer nodes than places
-  pub room_left : Keeps cmp nodes places → node.key < length places → place_of places node.key ≡ None → length nodes < length places
+  pub room_left : Keeps cmp nodes places → node.key < length places → place_of_key places node.key ≡ None → length nodes < length places
   room_left keeps within absent =
       let size = length-ranks_of nodes places in
       let bigger = length-set (ranks_of nodes places) node.key (Some node.rank) in
@@ -361,7 +361,7 @@ module _ {T : Type 0} (cmp : T → T → Ordering) (nodes : List (Ranked T)) (pl
       let count = count_added keeps within absent in
       omega arith
 
-  added : Keeps cmp nodes places → node.key < length places → place_of places node.key ≡ None
+  added : Keeps cmp nodes places → node.key < length places → place_of_key places node.key ≡ None
       → IsWith more known (set (ranks_of nodes places) node.key (Some node.rank))
   added keeps within absent =
       let few = keeps.placed.small in
@@ -372,7 +372,7 @@ module _ {T : Type 0} (cmp : T → T → Ordering) (nodes : List (Ranked T)) (pl
         count = length-append nodes (node ∷ []) ∙ count_added keeps within absent;
       }
 
-  pub added_at : (pushed : List (Ranked T)) (last : ℕ) → Keeps cmp nodes places → node.key < length places → place_of places node.key ≡ None → pushed ≡ more
+  pub added_at : (pushed : List (Ranked T)) (last : ℕ) → Keeps cmp nodes places → node.key < length places → place_of_key places node.key ≡ None → pushed ≡ more
       → last ≡ length nodes → IsWith pushed (set places node.key (Some last)) (set (ranks_of nodes places) node.key (Some node.rank))
   added_at pushed last keeps within absent is at =
       subst (λ (n : ℕ). IsWith pushed (set places node.key (Some n)) (set (ranks_of nodes places) node.key (Some node.rank))) (sym at)
@@ -390,7 +390,7 @@ module _ {T : Type 0} (cmp : T → T → Ordering) (front : List (Ranked T)) (no
   abbrev left : List (Option ℕ)
   left = set places node.key None
 
-  last_place : IsPlaced all places → place_of places node.key ≡ Some (length front)
+  last_place : IsPlaced all places → place_of_key places node.key ≡ Some (length front)
   last_place placed = placed.of_node (length front) node (get_last front node)
 
   placed_left : IsPlaced all places → IsPlaced front left
@@ -404,10 +404,10 @@ module _ {T : Type 0} (cmp : T → T → Ordering) (front : List (Ranked T)) (no
             let inside = slice_get_within front at one found in
             let before : at ≢ length front = λ e. absurd (omega arith) in
             let was = placed.of_node at one (get_before front node at before ∙ found) in
-            let apart : one.key ≢ node.key = λ e. before (same_Some at (length front) (sym was ∙ ap (place_of places) e ∙ last_place placed)) in
+            let apart : one.key ≢ node.key = λ e. before (same_Some at (length front) (sym was ∙ ap (place_of_key places) e ∙ last_place placed)) in
             get_or-set_other places node.key one.key None None apart ∙ was;
         of_key = λ key at found. elim (cases_eq key node.key) as (λ _. HasKey key (node_at front at)) [
-          | inl e ↦ absurd (none-some at (sym (get_or-set_same places node.key None None here) ∙ ap (place_of left) (sym e) ∙ found))
+          | inl e ↦ absurd (none-some at (sym (get_or-set_same places node.key None None here) ∙ ap (place_of_key left) (sym e) ∙ found))
           | inr n ↦
               let old = placed.of_key key at (sym (get_or-set_other places node.key key None None n) ∙ found) in
               let before : at ≢ length front =
@@ -423,17 +423,17 @@ module _ {T : Type 0} (cmp : T → T → Ordering) (front : List (Ranked T)) (no
       let inside : node.key < length (ranks_of all places) = omega arith in
       same_ranks front left (set (ranks_of all places) node.key None)
       (length-set places node.key None ∙ sym (length-set (ranks_of all places) node.key None ∙ size))
-      (λ key. elim (cases_eq key node.key) as (λ _. rank_of front (place_of left key) ≡ rank_at (set (ranks_of all places) node.key None) key) [
+      (λ key. elim (cases_eq key node.key) as (λ _. rank_of front (place_of_key left key) ≡ rank_at (set (ranks_of all places) node.key None) key) [
         | inl e ↦
-            ap (rank_of front) (ap (place_of left) e ∙ get_or-set_same places node.key None None here)
+            ap (rank_of front) (ap (place_of_key left) e ∙ get_or-set_same places node.key None None here)
             ∙ sym (ap (rank_at (set (ranks_of all places) node.key None)) e ∙ get_or-set_same (ranks_of all places) node.key None None inside)
         | inr n ↦
             ap (rank_of front) (get_or-set_other places node.key key None None n)
-            ∙ elsewhere key n (place_of places key) refl
+            ∙ elsewhere key n (place_of_key places key) refl
             ∙ sym (get_or-set_other (ranks_of all places) node.key key None None n ∙ rank_at-ranks_of all places key)
       ])
     where
-      elsewhere : (key : ℕ) → key ≢ node.key → (at : Option ℕ) → place_of places key ≡ at → rank_of front at ≡ rank_of all at
+      elsewhere : (key : ℕ) → key ≢ node.key → (at : Option ℕ) → place_of_key places key ≡ at → rank_of front at ≡ rank_of all at
       elsewhere key apart None found = refl
       elsewhere key apart (Some at) found =
           let old = placed.of_key key at found in
@@ -460,7 +460,7 @@ module _ {T : Type 0} (cmp : T → T → Ordering) (nodes exchanged front : List
   -- what was told of it
   pub record IsTaken (gone : Option (Ranked T)) : Type 0 where
     pub keeps : Keeps cmp nodes places
-    pub there : place_of places key ≡ Some place
+    pub there : place_of_key places key ≡ Some place
     pub swapped : IsExchanged place last nodes exchanged
     pub moved : IsMoved nodes exchanged places between
     pub end : last + 1 ≡ length nodes
@@ -512,7 +512,7 @@ module _ {T : Type 0} (cmp : T → T → Ordering) (nodes exchanged front : List
 
 -- what is then left, with the lists as the calls tell of them
 pub dropped : {T : Type 0} (cmp : T → T → Ordering) (total : IsTotalOrder cmp) (nodes lent exchanged front : List (Ranked T)) (places between : List (Option ℕ))
-    (place last key n m : ℕ) (gone : Option (Ranked T)) → Keeps cmp nodes places → place_of places key ≡ Some place → lent ≡ nodes
+    (place last key n m : ℕ) (gone : Option (Ranked T)) → Keeps cmp nodes places → place_of_key places key ≡ Some place → lent ≡ nodes
     → IsExchanged place last lent exchanged → IsMoved lent exchanged places between → n ≡ length nodes → 0 < n → last ≡ n - 1
     → exchanged ≡ front ++ option_to_list gone → MatchOption gone ((n ≡ 0) × (m ≡ 0)) (λ _. m + 1 ≡ n)
     → IsWith front (set between key None) (set (ranks_of nodes places) key None)
@@ -548,9 +548,9 @@ keeps_none cmp = record {
   count = refl;
 }
 
-place_of-more : (places : List (Option ℕ)) (n key : ℕ) → place_of (places ++ replicate n None) key ≡ place_of places key
-place_of-more places n key =
-    elim (cases_lt key (length places)) as (λ _. place_of (places ++ replicate n None) key ≡ place_of places key) [
+place_of_key-more : (places : List (Option ℕ)) (n key : ℕ) → place_of_key (places ++ replicate n None) key ≡ place_of_key places key
+place_of_key-more places n key =
+    elim (cases_lt key (length places)) as (λ _. place_of_key (places ++ replicate n None) key ≡ place_of_key places key) [
       | inl here ↦ get_or_append_left places (replicate n None) None key here
       | inr past ↦ get_or-append_right places (replicate n None) (length places) key None refl past ∙ none_ranked {T = ℕ} n (key - length places) ∙ sym (get_or_past places key None past)
     ]
@@ -567,8 +567,8 @@ keeps_more {T = T} cmp nodes places n keeps fits = record {
   placed = record {
     few = keeps.placed.few;
     small = let size = length-append places (replicate n None) in let more = length-replicate {A = Option ℕ} n None in omega arith;
-    of_node = λ place node there. place_of-more places n node.key ∙ keeps.placed.of_node place node there;
-    of_key = λ key place there. keeps.placed.of_key key place (sym (place_of-more places n key) ∙ there);
+    of_node = λ place node there. place_of_key-more places n node.key ∙ keeps.placed.of_node place node there;
+    of_key = λ key place there. keeps.placed.of_key key place (sym (place_of_key-more places n key) ∙ there);
   };
   heap = keeps.heap;
   count =
@@ -581,13 +581,13 @@ keeps_more {T = T} cmp nodes places n keeps fits = record {
 
 -- ---- the greatest rank
 pub none_first : {T : Type 0} (nodes : List (Ranked T)) (places : List (Option ℕ)) → IsPlaced nodes places → node_at nodes 0 ≡ None → HasNone (ranks_of nodes places)
-none_first {T = T} nodes places placed none key = rank_at-ranks_of nodes places key ∙ at (place_of places key) refl
+none_first {T = T} nodes places placed none key = rank_at-ranks_of nodes places key ∙ at (place_of_key places key) refl
   where
     empty : (ns : List (Ranked T)) → node_at ns 0 ≡ None → (place : ℕ) → node_at ns place ≡ None
     empty [] e place = refl
     empty (n ∷ ns) e place = absurd (none-some n (sym e))
 
-    at : (place : Option ℕ) → place_of places key ≡ place → rank_of nodes place ≡ None
+    at : (place : Option ℕ) → place_of_key places key ≡ place → rank_of nodes place ≡ None
     at None found = refl
     at (Some place) found = ap (option_map (λ (n : Ranked T). n.rank)) (empty nodes none place)
 
@@ -595,10 +595,10 @@ pub greatest_first : {T : Type 0} (cmp : T → T → Ordering) (total : IsTotalO
     → Keeps cmp nodes places → node_at nodes 0 ≡ Some top → IsGreatest cmp (ranks_of nodes places) top.key top.rank
 greatest_first {T = T} cmp total nodes places top keeps first = record {
   there = rank_at-ranks_of nodes places top.key ∙ ap (rank_of nodes) (keeps.placed.of_node 0 top first) ∙ ap (option_map (λ (n : Ranked T). n.rank)) first;
-  none_above = λ other another has. at other another (place_of places other) refl (sym (rank_at-ranks_of nodes places other) ∙ has);
+  none_above = λ other another has. at other another (place_of_key places other) refl (sym (rank_at-ranks_of nodes places other) ∙ has);
 }
   where
-    at : (other : ℕ) (another : T) (place : Option ℕ) → place_of places other ≡ place → rank_of nodes place ≡ Some another → cmp another top.rank ≢ Greater
+    at : (other : ℕ) (another : T) (place : Option ℕ) → place_of_key places other ≡ place → rank_of nodes place ≡ Some another → cmp another top.rank ≢ Greater
     at other another None found has = absurd (none-some another has)
     at other another (Some place) found has =
         let node = keeps.placed.of_key other place found in

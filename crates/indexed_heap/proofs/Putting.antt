@@ -8,7 +8,7 @@ use Rattle.std.proofs.lemmas.List.{length-replicate, length-set, set-get_or}
 use Rattle.std.proofs.lemmas.Option.{slice_get_within}
 use Rattle.indexed_heap.specs.declared.tree.Ranked.{Ranked}
 use Rattle.indexed_heap.specs.Ranks.{rank_at, ranks_within, IsGreatest}
-use Rattle.indexed_heap.specs.Tree.{node_at, place_of, rank_of, ranks_of, Keeps, IsFilled}
+use Rattle.indexed_heap.specs.Tree.{node_at, place_of_key, rank_of, ranks_of, Keeps, IsFilled}
 use Rattle.indexed_heap.proofs.Within.{length-within, rank_within, set_within, within_more, greatest_within}
 use Rattle.indexed_heap.proofs.Placing.{rank_at-ranks_of, key_within, length-ranks_of, keeps_more, ranks_of-more, greatest_first}
 
@@ -50,7 +50,7 @@ module _ {T : Type 0} (cmp : T → T → Ordering) (room : ℕ) (nodes : List (R
 
   -- they are for a key that has a place
   pub reached_here : (key place node_room place_room : ℕ) → IsFilled cmp room nodes places node_room place_room → ranks_within room (ranks_of nodes places) ≡ shown
-      → place_of places key ≡ Some place → IsReached key places
+      → place_of_key places key ≡ Some place → IsReached key places
   reached_here key place node_room place_room filled is there = record {
     keeps = filled.keeps;
     here = key_within places key place there;
@@ -81,7 +81,7 @@ shows_written {T = T} cmp room key node_room place_room nodes after places long 
 
 -- no rank is taken from a key that has none
 pub shown_unset : {T : Type 0} (room key : ℕ) (nodes : List (Ranked T)) (places : List (Option ℕ)) (shown : List (Option T))
-    → ranks_within room (ranks_of nodes places) ≡ shown → place_of places key ≡ None → shown ≡ set shown key None
+    → ranks_within room (ranks_of nodes places) ≡ shown → place_of_key places key ≡ None → shown ≡ set shown key None
 shown_unset {T = T} room key nodes places shown is none =
     let had : rank_at shown key ≡ None =
     ap (λ (rs : List (Option T)). rank_at rs key) (sym is) ∙ rank_within room (ranks_of nodes places) key ∙ rank_at-ranks_of nodes places key ∙ ap (rank_of nodes) none in
@@ -90,14 +90,14 @@ shown_unset {T = T} room key nodes places shown is none =
 -- the rank of a key that has a node
 pub shown_rank : {T : Type 0} (cmp : T → T → Ordering) (room key place : ℕ) (nodes : List (Ranked T)) (places : List (Option ℕ)) (shown : List (Option T))
     (node : Ranked T)
-    → ranks_within room (ranks_of nodes places) ≡ shown → place_of places key ≡ Some place → node_at nodes place ≡ Some node → Some node.rank ≡ rank_at shown key
+    → ranks_within room (ranks_of nodes places) ≡ shown → place_of_key places key ≡ Some place → node_at nodes place ≡ Some node → Some node.rank ≡ rank_at shown key
 shown_rank {T = T} cmp room key place nodes places shown node is there at =
     sym (ap (λ (rs : List (Option T)). rank_at rs key) (sym is) ∙ rank_within room (ranks_of nodes places) key ∙ rank_at-ranks_of nodes places key
     ∙ ap (rank_of nodes) there ∙ ap (option_map (λ (n : Ranked T). n.rank)) at)
 
 -- the place that is kept for a key has a node
 pub place_here : {T : Type 0} (cmp : T → T → Ordering) (key place : ℕ) (nodes : List (Ranked T)) (places : List (Option ℕ)) → Keeps cmp nodes places
-    → place_of places key ≡ Some place → place < length nodes
+    → place_of_key places key ≡ Some place → place < length nodes
 place_here cmp key place nodes places keeps there = let had = keeps.placed.of_key key place there in slice_get_within nodes place had.0 had.1
 
 -- the first node is the greatest of what is shown

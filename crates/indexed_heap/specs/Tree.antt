@@ -78,8 +78,8 @@ pub record IsExchanged {T : Type 0} (one other : ℕ) (nodes exchanged : List (R
   pub rest : (place : ℕ) → place ≢ one → place ≢ other → node_at exchanged place ≡ node_at nodes place
 
 -- the place that is kept for a key
-abbrev pub place_of : List (Option ℕ) → ℕ → Option ℕ
-place_of places key = slice_index_or places key None
+abbrev pub place_of_key : List (Option ℕ) → ℕ → Option ℕ
+place_of_key places key = slice_index_or places key None
 
 -- a node has this key
 abbrev pub HasKey : {T : Type 0} → ℕ → Option (Ranked T) → Type 0
@@ -89,8 +89,8 @@ HasKey key node = (ranked : _) × (node ≡ Some ranked) × (ranked.key ≡ key)
 pub record IsPlaced {T : Type 0} (nodes : List (Ranked T)) (places : List (Option ℕ)) : Type 0 where
   pub few : length nodes ≤ MAX_OBJECTS
   pub small : length places ≤ MAX_OBJECTS
-  pub of_node : (place : ℕ) (node : Ranked T) → node_at nodes place ≡ Some node → place_of places node.key ≡ Some place
-  pub of_key : (key place : ℕ) → place_of places key ≡ Some place → HasKey key (node_at nodes place)
+  pub of_node : (place : ℕ) (node : Ranked T) → node_at nodes place ≡ Some node → place_of_key places node.key ≡ Some place
+  pub of_key : (key place : ℕ) → place_of_key places key ≡ Some place → HasKey key (node_at nodes place)
 
 -- the rank at a place, if one is kept
 abbrev pub rank_of : {T : Type 0} → List (Ranked T) → Option ℕ → Option T

@@ -1,13 +1,13 @@
 //! Changes of one key's rank.
 
 ghost use Rattle.std.specs.Prelude.{◌≡◌, ◌+◌, ◌-◌, ◌<◌, ◌≤◌, ◌++◌, length, replicate, slice_set, vec_capacity};
-ghost use Rattle.indexed_heap.specs.Tree.{place_of, ranks_of, IsHeap, IsLoose, IsWith, Keeps};
+ghost use Rattle.indexed_heap.specs.Tree.{place_of_key, ranks_of, IsHeap, IsLoose, IsWith, Keeps};
 
 use super::tree::{Ranked, exchange, settle};
 
 /// The place that is kept for a key, None where none is.
-pub(crate) fn place_of(places: &[Option<u32>], key: u32) -> Option<u32>
-    ensures { result ≡ place_of places.now key }
+pub(crate) fn place_of_key(places: &[Option<u32>], key: u32) -> Option<u32>
+    ensures { result ≡ place_of_key places.now key }
 {
     match places.get(key as usize) {
         Some(place) => *place,
@@ -35,7 +35,7 @@ pub(crate) fn change<T: Ord + Copy>(
     node: Ranked<T>,
 )
     requires keeps { Keeps T.cmp nodes.old places.old }
-    requires there { place_of places.old node.key ≡ Some place }
+    requires there { place_of_key places.old node.key ≡ Some place }
     requires within { place < length nodes.old }
     ensures keeps { Keeps T.cmp nodes.new places.new }
     ensures ranks { ranks_of nodes.new places.new ≡ slice_set (ranks_of nodes.old places.old) node.key (Some node.rank) }
@@ -54,7 +54,7 @@ pub(crate) fn add<T: Ord + Copy>(
 )
     requires keeps { Keeps T.cmp nodes.old.items places.old }
     requires within { node.key < length places.old }
-    requires absent { place_of places.old node.key ≡ None }
+    requires absent { place_of_key places.old node.key ≡ None }
     requires room { length places.old ≤ vec_capacity nodes.old }
     ensures keeps { Keeps T.cmp nodes.new.items places.new }
     ensures ranks { ranks_of nodes.new.items places.new ≡ slice_set (ranks_of nodes.old.items places.old) node.key (Some node.rank) }
@@ -75,7 +75,7 @@ fn drop_node<T: Ord + Copy>(
     key: u32,
 )
     requires keeps { Keeps T.cmp nodes.old.items places.old }
-    requires there { place_of places.old key ≡ Some place }
+    requires there { place_of_key places.old key ≡ Some place }
     ensures left { IsWith nodes.new.items places.new (slice_set (ranks_of nodes.old.items places.old) key None) }
     ensures loose { place < length nodes.new.items → IsLoose T.cmp place nodes.new.items }
     ensures heap { length nodes.new.items ≤ place → IsHeap T.cmp nodes.new.items }
@@ -96,7 +96,7 @@ pub(crate) fn take_out<T: Ord + Copy>(
     key: u32,
 )
     requires keeps { Keeps T.cmp nodes.old.items places.old }
-    requires there { place_of places.old key ≡ Some place }
+    requires there { place_of_key places.old key ≡ Some place }
     ensures keeps { Keeps T.cmp nodes.new.items places.new }
     ensures ranks { ranks_of nodes.new.items places.new ≡ slice_set (ranks_of nodes.old.items places.old) key None }
     ensures places { length places.new ≡ length places.old }

@@ -4,7 +4,7 @@ ghost use Rattle.std.specs.Prelude.{◌≡◌, ◌-◌, ◌<◌, ◌≤◌, ◌+
 ghost use Rattle.indexed_heap.specs.Ranks.{rank_at, IsGreatest, HasNone};
 
 use super::Memory;
-use super::changes::{add, change, place_of, reach, take_out};
+use super::changes::{add, change, place_of_key, reach, take_out};
 use super::tree::Ranked;
 use limits::MAX_OBJECTS;
 use std::alloc::Global;
@@ -73,7 +73,7 @@ impl<T: Ord + Copy> IndexedHeap<T> {
     pub fn get(&self, key: u32) -> Option<T>
         ensures { result ≡ rank_at self.now key }
     {
-        let place = place_of(&self.places, key)?;
+        let place = place_of_key(&self.places, key)?;
         Some(self.nodes[place as usize].rank)
     }
 
@@ -99,7 +99,7 @@ impl<T: Ord + Copy> IndexedHeap<T> {
     {
         reach(&mut self.places, key);
         let node = Ranked { key, rank };
-        match place_of(&self.places, key) {
+        match place_of_key(&self.places, key) {
             Some(place) => change(&mut self.nodes, &mut self.places, place, node),
             None => add(&mut self.nodes, &mut self.places, node),
         }
@@ -110,7 +110,7 @@ impl<T: Ord + Copy> IndexedHeap<T> {
         requires { key < length self.old }
         ensures { self.new ≡ slice_set self.old key None }
     {
-        if let Some(place) = place_of(&self.places, key) {
+        if let Some(place) = place_of_key(&self.places, key) {
             take_out(&mut self.nodes, &mut self.places, place, key);
         }
     }

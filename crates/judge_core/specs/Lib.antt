@@ -4,3 +4,5 @@ pub mod Objects
 pub mod Question
 pub mod Verdicts
 pub mod Outside
+-- What the table against an object is.
+pub mod CounterTable

@@ -1,14 +1,17 @@
-//! Whether a transcript fixes an answer, on every table that agrees with it; and where it does not, two objects of which one beats the
-//! other on a table that agrees.
+//! Whether a transcript fixes an answer on every table that agrees with it, and where it does not, a table on which the answer is beaten.
+//!
+//! On that table an object of the answer has its low and every other object its high.
 #![tactic(auto)]
 
 mod bound;
+mod counter;
 mod decision;
 mod extremes;
 mod objects;
 mod question;
 mod verdict;
 
+pub use counter::counter_table;
 pub use decision::judge;
 pub use memory::Memory;
 pub use objects::Objects;

@@ -1,5 +1,9 @@
-//! The limits of topk, each stated once: every other crate cites them from here.
+//! The limits of topk, each stated once, and the settings of a run within them: every other crate cites them from here.
 #![tactic(auto)]
+
+mod settings;
+
+pub use settings::Settings;
 
 /// The most objects, and so the most rows of a list.
 pub const MAX_OBJECTS: u32 = 200_000;

@@ -6,7 +6,7 @@ ghost use Rattle.std.specs.Option.{option_map};
 ghost use Rattle.line_text.specs.Cuts.{cut_at, rest_after};
 
 /// The place of the first of a byte.
-fn place_of(text: &[u8], byte: u8) -> Option<usize>
+fn place_of_byte(text: &[u8], byte: u8) -> Option<usize>
     ensures { result ≡ position (λ b. b == byte) text.now }
 {
     text.iter().position(|b| *b == byte)
@@ -17,7 +17,7 @@ fn place_of(text: &[u8], byte: u8) -> Option<usize>
 pub fn cut_at(text: &[u8], byte: u8) -> Option<(&[u8], &[u8])>
     ensures { option_map (λ cut. (cut.0.now, cut.1.now)) result ≡ cut_at byte text.now }
 {
-    let place = place_of(text, byte)?;
+    let place = place_of_byte(text, byte)?;
     Some((&text[..place], &text[place + 1..]))
 }
 

@@ -5,7 +5,7 @@ use Rattle.monotone_fn.specs.declared.costs.Costs.{Costs}
 use Rattle.monotone_fn.specs.Tree.{Tree}
 use Rattle.monotone_fn.specs.Shape.{list_count, NumbersLists}
 use Rattle.access_log.specs.Log.{Log}
-use Rattle.access_log.specs.Machine.{IsBegun}
+use Rattle.machine_base.specs.Machine.{IsBegun}
 use Rattle.machine_base.specs.declared.base.Base.{Base}
 use Rattle.machine_base.specs.Base.{shown, IsHeld, IsReserved}
 use Rattle.machine_base.proofs.Held.{held_start}

@@ -21,9 +21,9 @@ use Rattle.topk_theory.proofs.Agreement.{random_rows_random, random_rows_other, 
 use Rattle.topk_theory.proofs.AgreementNames.{has, has_contains, has_not, each_once_within, each_once_complete}
 use Rattle.topk_theory.proofs.Consistent.{empty_agrees}
 use Rattle.topk_theory.proofs.ThresholdRun.{seen_from_access, seen_more}
-use Rattle.access_log.specs.Machine.{MachineState, IsBegun, Takes, RowFed, MayBeNextRow, MayBeNextGrade}
-use Rattle.access_log.specs.declared.core_fault.CoreFault.{CoreFault}
-use Rattle.access_log.specs.declared.core_fault.CoreFault.TheVariants.{Strangers, RoomFull}
+use Rattle.machine_base.specs.Machine.{MachineState, IsBegun, Takes, RowFed, MayBeNextRow, MayBeNextGrade}
+use Rattle.machine_base.specs.declared.core_fault.CoreFault.{CoreFault}
+use Rattle.machine_base.specs.declared.core_fault.CoreFault.TheVariants.{Strangers, RoomFull}
 use Rattle.machine_base.specs.declared.base.Base.{Base}
 use Rattle.machine_base.specs.Base.{shown, asked_of_list, IsHeld, Holds, IsTold, MayFollow, HasNoRoom}
 

@@ -1,3 +1,4 @@
+pub mod MachineLaws
 pub mod Depths
 pub mod Held
 pub mod Makes

@@ -14,7 +14,7 @@ use Rattle.topk_theory.specs.Asked.{Run, Answering}
 use Rattle.topk_theory.specs.Machine.{need_of, IsAt, CanServe}
 use Rattle.topk_theory.proofs.AgreementLists.{all_from_members, member_of_all, begins_with, slice_get_behind}
 use Rattle.access_log.specs.Log.{AgreesWith, IsConsistent}
-use Rattle.access_log.specs.Machine.{MachineState, asked_of, IsOfSeen, MakesRun, IsAnswerBy}
+use Rattle.machine_base.specs.Machine.{MachineState, asked_of, IsOfSeen, MakesRun, IsAnswerBy}
 use Rattle.machine_base.specs.declared.base.Base.{Base}
 use Rattle.machine_base.specs.Base.{shown, Holds}
 

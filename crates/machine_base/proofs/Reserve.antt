@@ -22,7 +22,7 @@ use Rattle.access_log.specs.Refusal.{Refuses}
 use Rattle.access_log.specs.declared.fault.PushFault.{PushFault}
 use Rattle.access_log.specs.declared.fault.PushFault.TheVariants.{Inconsistent, Memory}
 use Rattle.ranked_list.specs.declared.need.Need.TheVariants.{Done}
-use Rattle.access_log.specs.Machine.{HasRoomFor}
+use Rattle.machine_base.specs.Machine.{HasRoomFor}
 use Rattle.machine_base.specs.declared.base.Base.{Base}
 use Rattle.machine_base.specs.Base.{shown, asked_of_list, IsHeld, Holds, IsReserved, MayFollow, CanTake}
 use Rattle.machine_base.proofs.Held.{held_more}

@@ -4,9 +4,9 @@ use Rattle.std.proofs.lemmas.Bool.{cases_Bool, eq-eqb, eqb-true}
 use Rattle.ranked_list.specs.declared.need.Need.TheVariants.{Done}
 use Rattle.topk_theory.specs.declared.access.Access.{Access}
 use Rattle.topk_theory.specs.Transcript.{seen_objects}
-use Rattle.access_log.specs.Machine.{HasRoomFor}
-use Rattle.access_log.specs.declared.core_fault.CoreFault.{CoreFault}
-use Rattle.access_log.specs.declared.core_fault.CoreFault.TheVariants.{Strangers, RoomFull}
+use Rattle.machine_base.specs.Machine.{HasRoomFor}
+use Rattle.machine_base.specs.declared.core_fault.CoreFault.{CoreFault}
+use Rattle.machine_base.specs.declared.core_fault.CoreFault.TheVariants.{Strangers, RoomFull}
 use Rattle.machine_base.specs.declared.base.Base.{Base}
 use Rattle.machine_base.specs.Base.{shown, Holds, TellsNew, HasNoRoom}
 

@@ -8,9 +8,9 @@ use Rattle.topk_theory.specs.declared.access.Access.{Access}
 use Rattle.topk_theory.specs.declared.access.Access.TheVariants.{Sorted, Random}
 use Rattle.topk_theory.specs.Transcript.{random_rows, seen_objects, named_objects}
 use Rattle.topk_theory.specs.Consistent.{Kind, IsOfKind, SomeAgrees}
-use Rattle.access_log.specs.Machine.{MachineState, IsPosed, IsOneMore, HasRoomFor}
-use Rattle.access_log.specs.declared.core_fault.CoreFault.{CoreFault}
-use Rattle.access_log.specs.declared.core_fault.CoreFault.TheVariants.{Strangers, RoomFull}
+use Rattle.machine_base.specs.Machine.{MachineState, IsPosed, IsOneMore, HasRoomFor}
+use Rattle.machine_base.specs.declared.core_fault.CoreFault.{CoreFault}
+use Rattle.machine_base.specs.declared.core_fault.CoreFault.TheVariants.{Strangers, RoomFull}
 use Rattle.machine_base.specs.declared.base.Base.{Base}
 use Rattle.limits.specs.declared.TheConstants.{MAX_LISTS, MAX_OBJECTS}
 

@@ -2,10 +2,11 @@
 
 ghost use Rattle.std.specs.Prelude.{◌≡◌, ◌≤◌, ◌*◌, [], IfOk, IfErr, OnOk};
 ghost use Rattle.access_log.specs.Log.{IsWithinLimits};
-ghost use Rattle.access_log.specs.Machine.{IsBegun, HasRoomFor};
+ghost use Rattle.machine_base.specs.Machine.{IsBegun, HasRoomFor};
 ghost use Rattle.machine_base.specs.Base.{shown, Holds, IsReserved, IsTold, CanTake, TellsNew, HasNoRoom};
 
-use access_log::{Access, CoreFault, Memory, Transcript};
+use super::core_fault::CoreFault;
+use access_log::{Access, Memory, Transcript};
 use limits::MAX_OBJECTS;
 use monotone_fn::{Costs, Expr};
 use ranked_list::Need;

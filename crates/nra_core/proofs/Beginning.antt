@@ -3,8 +3,8 @@ use Rattle.std.proofs.Common.{◌≡◌, ◌≤◌, ℕ, true, false, min, List,
 use Rattle.std.proofs.lemmas.List.{length-replicate}
 use Rattle.std.proofs.lemmas.Option.{none-some, slice_get_past}
 use Rattle.indexed_heap.proofs.Within.{none_ranked}
-use Rattle.ranked_slots.specs.declared.slots.Entry.{Entry}
-use Rattle.ranked_slots.specs.Slots.{Slots}
+use Rattle.indexed_heap.specs.declared.slots.Entry.{Entry}
+use Rattle.indexed_heap.specs.Slots.{Slots}
 use Rattle.topk_theory.specs.Bounds.{low, high}
 use Rattle.topk_theory.proofs.AgreementLists.{contains_nil}
 use Rattle.nra_core.specs.Late.{Keeps}

@@ -8,7 +8,7 @@ use Rattle.ranked_list.specs.declared.item.Item.{Item}
 use Rattle.topk_theory.specs.Order.{IsBefore, IsInOrder}
 use Rattle.topk_theory.proofs.AgreementLists.{contains_nil, contains_cases, slice_get_contains}
 use Rattle.topk_theory.proofs.NoRandomTop.{before_low}
-use Rattle.nra_core.proofs.Counts.{count_yes, count_no, count_none, none_counted}
+use Rattle.topk_theory.proofs.Counts.{count_yes, count_no, count_none, none_counted}
 
 pub in_order_first : (x : Item) (xs : List Item) (y : Item) → IsInOrder (x ∷ xs) → Contains xs y → IsBefore x y
 in_order_first x xs y ordered c = subst (λ z. IsBefore x z) c.2 (ordered 0 (suc c.0) y (omega arith) (let l = c.1 in omega arith))

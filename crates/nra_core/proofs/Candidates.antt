@@ -6,7 +6,8 @@ use Rattle.std.proofs.lemmas.List.Elements.{Contains-append_left}
 use Rattle.topk_theory.proofs.AgreementLists.{contains_nil}
 use Rattle.nra_core.proofs.Stop.{counted_top}
 use Rattle.nra_core.specs.Late.{AreApart, AreFirstByLow, IsLeastLow, is_tied, is_open, AreOthersWithin, Keeps, with_one, without, exchanged, IsWitness, AreNextBounds}
-use Rattle.nra_core.proofs.Counts.{count_le, count_less, count_same, with_itself, with_other, without_itself, without_other}
+use Rattle.topk_theory.proofs.Counts.{count_le, count_less, count_same}
+use Rattle.nra_core.proofs.SetCounts.{with_itself, with_other, without_itself, without_other}
 use Rattle.nra_core.proofs.Members.{differs, in_exchanged, not_in_exchanged, exchange_first, exchange_least, all_in, least_rises, first_of_member, first_of_few, first_of_outside, first_of_exchange}
 
 -- ---- for good: who was given up stays so

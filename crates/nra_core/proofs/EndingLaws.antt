@@ -16,7 +16,7 @@ use Rattle.topk_theory.proofs.FirstK.{first_k-is, first_k-only}
 use Rattle.topk_theory.proofs.KthLow.{kth_low-counts}
 use Rattle.nra_core.specs.Late.{at_least, above_low, at_low}
 use Rattle.topk_theory.proofs.NoRandomTop.{before_low}
-use Rattle.nra_core.proofs.Counts.{count_map, count_upto}
+use Rattle.topk_theory.proofs.Counts.{count_map, count_upto}
 use Rattle.nra_core.proofs.Behind.{in_order_first, in_order_rest}
 use Rattle.nra_core.proofs.Stop.{in_order_from, in_order_to}
 

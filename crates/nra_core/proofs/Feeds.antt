@@ -19,7 +19,7 @@ use Rattle.topk_theory.proofs.AgreementLists.{contains_here}
 use Rattle.topk_theory.proofs.Agreement.{agrees_front, seen_objects_old, seen_objects_new}
 use Rattle.topk_theory.proofs.AgreementNames.{has, has_contains, has_not}
 use Rattle.access_log.specs.Log.{Log}
-use Rattle.access_log.specs.Machine.{MachineState, IsBegun, MayBeNextRow, HasRoomFor, Takes, row_access}
+use Rattle.machine_base.specs.Machine.{MachineState, IsBegun, MayBeNextRow, HasRoomFor, Takes, row_access}
 use Rattle.machine_base.specs.declared.base.Base.{Base}
 use Rattle.machine_base.specs.Base.{shown, IsHeld, Holds, IsReserved, IsTold, CanTake, MayFollow}
 use Rattle.machine_base.specs.Depths.{IsReached}
@@ -30,7 +30,7 @@ use Rattle.nra_core.specs.declared.place.Place.{Place}
 use Rattle.nra_core.specs.Place.{need_at, place_after}
 use Rattle.nra_core.specs.Quiet.{is_quiet_seen}
 use Rattle.nra_core.specs.OnTable.{quiet_at, OnRow}
-use Rattle.nra_core.specs.Kept.{IsKept, Keeps, Stands}
+use Rattle.nra_core.specs.Kept.{IsNraKept, Keeps, Stands}
 use Rattle.nra_core.proofs.Shown.{quiet_same}
 use Rattle.nra_core.specs.declared.late.LateBounds.{LateBounds}
 use Rattle.nra_core.specs.LatePlaces.{IsLateAfter, WasLate}
@@ -39,7 +39,7 @@ use Rattle.nra_core.proofs.Runs.{need_of_row, need_when_done, kept_depth}
 
 -- at the beginning
 pub kept_start : (e : Tree) (k room m n : ℕ) (late : LateBounds) → IsHeld e k room m n [] → IsLateAfter e m [] late → late.k ≡ k
-    → IsKept e k room m n [] late (record { list = 0; depth = 1; done = false })
+    → IsNraKept e k room m n [] late (record { list = 0; depth = 1; done = false })
 kept_start e k room m n late held bounds asked = record {
   base = held;
   in_row = omega (arith, held.some_list);
@@ -60,7 +60,7 @@ stands_start e k n room costs base late items capacity begun held reserved bound
     let count : ℕ = base.transcript.count in
     let place : Place = record { list = 0; depth = 1; done = false } in
     record {
-      kept = subst (λ A. IsKept base.expr base.k base.room m count A late place) (sym begun.none)
+      kept = subst (λ A. IsNraKept base.expr base.k base.room m count A late place) (sym begun.none)
           (kept_start base.expr base.k base.room m count late (subst (IsHeld base.expr base.k base.room m count) begun.none held) (bounds base.expr m) (asked ∙ sym begun.asked));
       reserved = reserved;
       bounded = omega (arith, begun.in_force);
@@ -93,7 +93,7 @@ record IsAfterRow (e : Tree) (k n : ℕ) (before A : List Access) (place : Place
   in_row : place.list < length D
 
 row_before : (e : Tree) (k room m n : ℕ) (A : List Access) (late : LateBounds) (place : Place) (a : Access) (D : List (List Row))
-    → IsKept e k room m n A late place → place.done ≡ false → Agrees m n D (A ++ a ∷ []) → IsAfterRow e k n A (A ++ a ∷ []) place D
+    → IsNraKept e k room m n A late place → place.done ≡ false → Agrees m n D (A ++ a ∷ []) → IsAfterRow e k n A (A ++ a ∷ []) place D
 row_before e k room m n A late place a D kept open' agrees = record {
   agrees = subst (λ c. Agrees c n D (A ++ a ∷ [])) (sym agrees.lists) agrees;
   on = row_of (value e) k n D A place open' (kept.on_table D (agrees_front m n D A (a ∷ []) agrees));
@@ -101,9 +101,9 @@ row_before e k room m n A late place a D kept open' agrees = record {
 }
 
 -- a row that isn't the last of its depth
-kept_list : (e : Tree) (k room m n : ℕ) (A : List Access) (late late' : LateBounds) (place : Place) (object grade : ℕ) → IsKept e k room m n A late place
+kept_list : (e : Tree) (k room m n : ℕ) (A : List Access) (late late' : LateBounds) (place : Place) (object grade : ℕ) → IsNraKept e k room m n A late place
     → place.done ≡ false → SomeAgrees m n (A ++ Sorted place.list object grade ∷ []) → MayFollow room A (Sorted place.list object grade)
-    → IsLateAfter e m (A ++ Sorted place.list object grade ∷ []) late' → late'.k ≡ k → place.list + 1 < m → IsKept e k room m n (A ++ Sorted place.list object grade ∷ []) late' (record place { list = place.list + 1 })
+    → IsLateAfter e m (A ++ Sorted place.list object grade ∷ []) late' → late'.k ≡ k → place.list + 1 < m → IsNraKept e k room m n (A ++ Sorted place.list object grade ∷ []) late' (record place { list = place.list + 1 })
 kept_list e k room m n A late late' place object grade kept open' some follows bounds asked short =
     let a : Access = Sorted place.list object grade in
     record {
@@ -125,7 +125,7 @@ record IsRead (e : Tree) (k n : ℕ) (place : Place) (A : List Access) (D : List
   told : is_quiet (value e) k (length D) D A ≡ quiet
 
 read_of : (e : Tree) (k room m n : ℕ) (A : List Access) (late : LateBounds) (place : Place) (object grade : ℕ) (quiet : Bool) (D : List (List Row))
-    → IsKept e k room m n A late place → place.done ≡ false → IsHeld e k room m n (A ++ Sorted place.list object grade ∷ []) → m ≤ place.list + 1
+    → IsNraKept e k room m n A late place → place.done ≡ false → IsHeld e k room m n (A ++ Sorted place.list object grade ∷ []) → m ≤ place.list + 1
     → is_quiet_seen (value e) k m n (A ++ Sorted place.list object grade ∷ []) ≡ quiet → Agrees m n D (A ++ Sorted place.list object grade ∷ [])
     → IsRead e k n place (A ++ Sorted place.list object grade ∷ []) D quiet
 read_of e k room m n A late place object grade quiet D kept open' base last shows agrees =
@@ -145,9 +145,9 @@ enough_seen V k m n A quiet = leb-true k (length (seen_objects A)) (and_parts (n
 
 -- the last row of a depth
 kept_end : (e : Tree) (k room m n : ℕ) (A : List Access) (late late' : LateBounds) (place : Place) (object grade : ℕ) (quiet : Bool)
-    → IsKept e k room m n A late place → place.done ≡ false → IsHeld e k room m n (A ++ Sorted place.list object grade ∷ [])
+    → IsNraKept e k room m n A late place → place.done ≡ false → IsHeld e k room m n (A ++ Sorted place.list object grade ∷ [])
     → IsLateAfter e m (A ++ Sorted place.list object grade ∷ []) late' → late'.k ≡ k → m ≤ place.list + 1 → is_quiet_seen (value e) k m n (A ++ Sorted place.list object grade ∷ []) ≡ quiet
-    → IsKept e k room m n (A ++ Sorted place.list object grade ∷ []) late' (cond {A = Place} quiet (record place { done = true }) (record { list = 0; depth = place.depth + 1; done = false }))
+    → IsNraKept e k room m n (A ++ Sorted place.list object grade ∷ []) late' (cond {A = Place} quiet (record place { done = true }) (record { list = 0; depth = place.depth + 1; done = false }))
 kept_end e k room m n A late late' place object grade true kept open' base bounds asked last shows = record {
   base = base;
   in_row = kept.in_row;
@@ -170,19 +170,19 @@ kept_end e k room m n A late late' place object grade false kept open' base boun
 }
 
 -- a machine that is told a row
-kept_row : (e : Tree) (k room m n : ℕ) (A : List Access) (late late' : LateBounds) (place : Place) (object grade : ℕ) → IsKept e k room m n A late place
+kept_row : (e : Tree) (k room m n : ℕ) (A : List Access) (late late' : LateBounds) (place : Place) (object grade : ℕ) → IsNraKept e k room m n A late place
     → place.done ≡ false → SomeAgrees m n (A ++ Sorted place.list object grade ∷ []) → MayFollow room A (Sorted place.list object grade)
     → IsLateAfter e m (A ++ Sorted place.list object grade ∷ []) late' → late'.k ≡ k
-    → IsKept e k room m n (A ++ Sorted place.list object grade ∷ []) late' (place_after m (is_quiet_seen (value e) k m n (A ++ Sorted place.list object grade ∷ [])) place)
+    → IsNraKept e k room m n (A ++ Sorted place.list object grade ∷ []) late' (place_after m (is_quiet_seen (value e) k m n (A ++ Sorted place.list object grade ∷ [])) place)
 kept_row e k room m n A late late' place object grade kept open' some follows bounds asked =
     let A' : List Access = A ++ Sorted place.list object grade ∷ [] in
     let quiet : Bool = is_quiet_seen (value e) k m n A' in
     elim (cases_lt (place.list + 1) m) [
       | inl short ↦
-          subst (λ (p : Place). IsKept e k room m n A' late' p) (sym (after_list m quiet place short))
+          subst (λ (p : Place). IsNraKept e k room m n A' late' p) (sym (after_list m quiet place short))
           (kept_list e k room m n A late late' place object grade kept open' some follows bounds asked short)
       | inr whole ↦
-          subst (λ (p : Place). IsKept e k room m n A' late' p) (sym (after_depth m quiet place whole))
+          subst (λ (p : Place). IsNraKept e k room m n A' late' p) (sym (after_depth m quiet place whole))
           (kept_end e k room m n A late late' place object grade quiet kept open' (held_more e k room m n A (Sorted place.list object grade) kept.base follows some) bounds asked whole refl)
     ]
 
@@ -254,7 +254,7 @@ row_kept before after late late' place place' row kept may follows tells some bo
     let some' : SomeAgrees m n (A ++ a ∷ []) = some_before a before after tells some in
     let then : IsLateAfter after.expr after.transcript.lists after.transcript.accesses late' → late'.k ≡ after.k
     → Keeps after late' (place_after after.transcript.lists (is_quiet_seen (value after.expr) after.k after.transcript.lists after.transcript.count after.transcript.accesses) place) =
-    carried (λ e k room c d B. IsLateAfter e c B late' → late'.k ≡ k → IsKept e k room c d B late' (place_after c (is_quiet_seen (value e) k c d B) place)) a before after tells
+    carried (λ e k room c d B. IsLateAfter e c B late' → late'.k ≡ k → IsNraKept e k room c d B late' (place_after c (is_quiet_seen (value e) k c d B) place)) a before after tells
     (λ b q. kept_row before.expr before.k before.room m n A late late' place row.object row.grade kept (next_row_is before.transcript place row may) some' follows b q) in
     subst (λ (p : Place). Keeps after late' p) (sym is_place) (then bounds asked)
 

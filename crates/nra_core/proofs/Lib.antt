@@ -1,4 +1,4 @@
-pub mod Counts
+pub mod SetCounts
 pub mod Behind
 pub mod Stop
 pub mod SeenItems

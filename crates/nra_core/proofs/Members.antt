@@ -6,7 +6,8 @@ use Rattle.std.proofs.lemmas.List.Elements.{Contains-append_left, Contains-appen
 use Rattle.topk_theory.proofs.AgreementLists.{contains_nil, contains_here, contains_cases}
 use Rattle.topk_theory.proofs.ThresholdLists.{count_all}
 use Rattle.nra_core.specs.Late.{AreApart, AreFirstByLow, IsLeastLow, with_one, without, exchanged, AreNextBounds}
-use Rattle.nra_core.proofs.Counts.{count_less, count_short, count_longer, count_append, count_none, some_differs, with_itself, with_other, without_itself, without_other, count_exchanged}
+use Rattle.topk_theory.proofs.Counts.{count_less, count_short, count_longer, count_append, count_none, some_differs}
+use Rattle.nra_core.proofs.SetCounts.{with_itself, with_other, without_itself, without_other, count_exchanged}
 
 -- ---- members of a set with one in place of another
 pub differs : (is_in : ℕ → Bool) (one other : ℕ) → is_in one ≡ true → is_in other ≡ false → one ≢ other

@@ -10,9 +10,9 @@ use Rattle.topk_theory.specs.declared.access.Access.{Access}
 use Rattle.topk_theory.specs.Transcript.{Agrees, object_of, seen_objects}
 use Rattle.topk_theory.specs.Bounds.{low, high}
 use Rattle.access_log.specs.Log.{Log, IsConsistent}
-use Rattle.access_records.proofs.RecordKept.{placed}
-use Rattle.ranked_slots.specs.declared.slots.Entry.{Entry}
-use Rattle.ranked_slots.specs.Slots.{Slots, HasNone, IsAt, IsLeast, AreDistinctKeys, IsRenewed}
+use Rattle.access_log.proofs.RecordKept.{placed}
+use Rattle.indexed_heap.specs.declared.slots.Entry.{Entry}
+use Rattle.indexed_heap.specs.Slots.{Slots, HasNone, IsAt, IsLeast, AreDistinctKeys, IsRenewed}
 use Rattle.nra_core.specs.Late.{AreNextBounds}
 use Rattle.nra_core.proofs.Renewed.{next_bounds}
 use Rattle.nra_core.specs.declared.late.LateBounds.{LateBounds}

@@ -10,7 +10,7 @@ use Rattle.topk_theory.specs.Asked.{no_random_run}
 use Rattle.topk_theory.specs.NoRandom.{nra_run}
 use Rattle.topk_theory.specs.Machine.{IsAt, CanServe}
 use Rattle.access_log.specs.Log.{Log, AgreesWith}
-use Rattle.access_log.specs.Machine.{IsOfSeen, IsNoGrade}
+use Rattle.machine_base.specs.Machine.{IsOfSeen, IsNoGrade}
 use Rattle.machine_base.specs.declared.base.Base.{Base}
 use Rattle.machine_base.specs.Base.{shown}
 use Rattle.machine_base.proofs.Held.{held_asked}

@@ -19,7 +19,7 @@ use Rattle.topk_theory.proofs.KthLow.{kth_low-counts, IsKthLargest-only}
 use Rattle.topk_theory.proofs.NoRandomTop.{all_passes}
 use Rattle.nra_core.specs.Late.{with_bounds, AreApart, AreFirstByLow, IsLeastLow, is_tied, is_open, AreOthersWithin, MayStop}
 use Rattle.nra_core.specs.Quiet.{is_idle, is_quiet_seen}
-use Rattle.nra_core.proofs.Counts.{count_le, count_less, count_map, count_sum}
+use Rattle.topk_theory.proofs.Counts.{count_le, count_less, count_map, count_sum}
 use Rattle.nra_core.proofs.Behind.{is_above, highs_behind, none_below_from, few_above_from}
 
 -- ---- items of different objects

@@ -9,10 +9,10 @@ use Rattle.topk_theory.specs.declared.access.Access.{Access}
 use Rattle.topk_theory.specs.Transcript.{seen_objects}
 use Rattle.topk_theory.specs.Bounds.{low, high}
 use Rattle.topk_theory.proofs.Agreement.{seen_distinct}
-use Rattle.access_records.proofs.RecordKept.{placed}
+use Rattle.access_log.proofs.RecordKept.{placed}
 use Rattle.indexed_heap.specs.Ranks.{rank_at}
-use Rattle.ranked_slots.specs.declared.slots.Entry.{Entry}
-use Rattle.ranked_slots.specs.Slots.{Slots, HasNone, AreDistinctKeys}
+use Rattle.indexed_heap.specs.declared.slots.Entry.{Entry}
+use Rattle.indexed_heap.specs.Slots.{Slots, HasNone, AreDistinctKeys}
 use Rattle.indexed_heap.proofs.Getting.{get_set_same, get_set_other}
 use Rattle.nra_core.specs.Late.{IsLeastLow, AreOthersWithin, without, exchanged}
 use Rattle.nra_core.proofs.Members.{exchange_least}

@@ -14,7 +14,7 @@ use Rattle.nra_core.specs.declared.place.Place.{Place}
 use Rattle.nra_core.specs.OnTable.{OnTable}
 
 -- what is kept over m lists of n objects after the accesses A
-pub record IsKept (e : Tree) (k room m n : ℕ) (A : List Access) (late : LateBounds) (place : Place) : Type 0 where
+pub record IsNraKept (e : Tree) (k room m n : ℕ) (A : List Access) (late : LateBounds) (place : Place) : Type 0 where
   pub base : IsHeld e k room m n A
   pub in_row : place.list < m
   pub bounds : IsLateAfter e m A late
@@ -23,7 +23,7 @@ pub record IsKept (e : Tree) (k room m n : ℕ) (A : List Access) (late : LateBo
   pub on_table : (D : List (List Row)) → Agrees m n D A → OnTable (value e) k n D A place
 
 abbrev pub Keeps : Base → LateBounds → Place → Type 0
-Keeps base late place = IsKept base.expr base.k base.room base.transcript.lists base.transcript.count base.transcript.accesses late place
+Keeps base late place = IsNraKept base.expr base.k base.room base.transcript.lists base.transcript.count base.transcript.accesses late place
 
 -- and room is reserved for the accesses to come, for as many objects as may be seen, and for the items of the answer, of which there are none yet
 pub record Stands (base : Base) (late : LateBounds) (items : List Item) (capacity : ℕ) (place : Place) : Type 0 where

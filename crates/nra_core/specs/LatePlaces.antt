@@ -2,8 +2,8 @@
 use Rattle.std.specs.Prelude.{◌≡◌, ◌<◌, ◌≤◌, ◌⊎◌, ◌==◌, ℕ, Bool, false, Option, Some, None, List, [], ◌∷◌, ◌++◌, length, min, is_some, nat_eq, position, slice_get, Contains}
 use Rattle.std.specs.List.{list_any}
 use Rattle.indexed_heap.specs.Ranks.{rank_at}
-use Rattle.ranked_slots.specs.declared.slots.Entry.{Entry}
-use Rattle.ranked_slots.specs.Slots.{Slots, IsLeast, AreDistinctKeys}
+use Rattle.indexed_heap.specs.declared.slots.Entry.{Entry}
+use Rattle.indexed_heap.specs.Slots.{Slots, IsLeast, AreDistinctKeys}
 use Rattle.topk_theory.specs.declared.access.Access.{Access}
 use Rattle.topk_theory.specs.Transcript.{object_of, seen_objects}
 use Rattle.topk_theory.specs.Bounds.{low, high, threshold}
@@ -18,15 +18,15 @@ abbrev pub at_place : (ℕ → Bool) → Option ℕ → Bool
 at_place passes None = false
 at_place passes (Some place) = passes place
 
-abbrev pub place_of : List Access → ℕ → Option ℕ
-place_of A object = position (nat_eq object) (seen_objects A)
+abbrev pub place_seen : List Access → ℕ → Option ℕ
+place_seen A object = position (nat_eq object) (seen_objects A)
 
 -- whether the object is among the first by low; whether it is a candidate
 abbrev pub is_first : List Access → List Entry → ℕ → Bool
-is_first A entries object = at_place (λ place. list_any (λ (entry : Entry). entry.key == place) entries) (place_of A object)
+is_first A entries object = at_place (λ place. list_any (λ (entry : Entry). entry.key == place) entries) (place_seen A object)
 
 abbrev pub is_candidate : List Access → List (Option ℕ) → ℕ → Bool
-is_candidate A highs object = at_place (λ place. is_some (rank_at highs place)) (place_of A object)
+is_candidate A highs object = at_place (λ place. is_some (rank_at highs place)) (place_seen A object)
 
 -- the slots have places of seen objects
 abbrev pub AreSeen : List Access → List Entry → Type 0

@@ -7,7 +7,7 @@ use Rattle.topk_theory.specs.Aggregate.{aggregate}
 use Rattle.topk_theory.specs.Bounds.{low, high}
 use Rattle.topk_theory.specs.Asked.{no_random_run, no_random_answer}
 use Rattle.access_log.specs.Log.{AgreesWith}
-use Rattle.access_log.specs.Machine.{MachineState, MakesRun, IsAnswerBy}
+use Rattle.machine_base.specs.Machine.{MachineState, MakesRun, IsAnswerBy}
 
 -- the machine makes the run of the algorithm without random access
 abbrev pub MakesItsRun : MachineState → Type 0

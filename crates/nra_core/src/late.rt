@@ -11,10 +11,9 @@ ghost use Rattle.nra_core.specs.LatePlaces.{IsLateAfter, KeepsLate, WasLate, Has
 
 use super::Memory;
 use access_log::Transcript;
-use indexed_heap::IndexedHeap;
+use indexed_heap::{IndexedHeap, RankedSlots};
 use limits::MAX_OBJECTS;
 use monotone_fn::Expr;
-use ranked_slots::RankedSlots;
 use std::alloc::Global;
 
 /// The seen objects of a machine, by their places in the order of first sight: the k with the greatest lows, ties as

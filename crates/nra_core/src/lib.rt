@@ -6,6 +6,7 @@
 //! kept of the seen objects so that the stop is decided exactly and the answer is read at the end.
 #![tactic(auto)]
 
+mod driven;
 mod ending;
 mod late;
 mod laws;

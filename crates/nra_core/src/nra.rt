@@ -9,9 +9,9 @@ ghost use Rattle.nra_core.specs.Place.{place_after};
 
 use super::late::LateBounds;
 use super::place::Place;
-use access_log::{Access, Answer, CoreFault, Item, Items, Transcript};
+use access_log::{Access, Item, Items, Transcript};
 use limits::MAX_OBJECTS;
-use machine_base::{Base, Memory, Need};
+use machine_base::{Answer, Base, CoreFault, Memory, Need};
 use monotone_fn::{Costs, Expr};
 use ranked_list::Row;
 use std::alloc::Global;
@@ -32,7 +32,7 @@ pub struct Nra {
 impl Model for Nra {
     ghost use Rattle.std.specs.Coded.{codes};
     ghost use Rattle.monotone_fn.specs.Code.{tree_code};
-    ghost use Rattle.access_log.specs.Machine.{MachineState};
+    ghost use Rattle.machine_base.specs.Machine.{MachineState};
 
     ghost Value = { MachineState };
 
@@ -50,7 +50,7 @@ impl Model for Nra {
 
 impl Nra {
     ghost use Rattle.std.specs.Prelude.{◌≡◌, ◌≤◌, IfOk, IsOk};
-    ghost use Rattle.access_log.specs.Machine.{IsBegun, IsInRange, IsNoGrade, MayBeNextRow, RowFed, IsSameLog};
+    ghost use Rattle.machine_base.specs.Machine.{IsBegun, IsInRange, IsNoGrade, MayBeNextRow, RowFed, IsSameLog};
     ghost use Rattle.nra_core.specs.Machine.{MakesItsRun, IsAnswer, HaveTrueBounds};
 
     /// A machine for the first `k` of `count` objects, that sees `room` of them at most. No other call

@@ -10,14 +10,14 @@ use Rattle.query_text.specs.declared.query.Query.{Query}
 use Rattle.query_text.specs.declared.fault.QueryFault.{QueryFault}
 use Rattle.query_text.specs.declared.fault.QueryFault.TheVariants.{LongLine, Syntax, Number, TooManyLists, TooManyNodes, TooDeep, TooBig, Memory}
 use Rattle.query_text.specs.Reading.{Reads}
-use Rattle.query_reading.proofs.BackLaws.{read_back}
+use Rattle.query_text.proofs.BackLaws.{read_back}
 use Rattle.cert_text.specs.declared.refusal.Refusal.{Refusal}
 use Rattle.cert_text.specs.declared.refusal.Refusal.TheVariants.{ManyQueries, UnknownList, KAboveCount}
 use Rattle.cert_text.specs.Refusal.{refused_lists}
 use Rattle.query_core.specs.declared.ready.Ready.{Ready}
 use Rattle.query_core.proofs.ListCount.{lists_counted}
 use Rattle.query_admission.specs.View.{View, AreListed}
-use Rattle.query_admission.specs.Causes.{most_queries, QueryLine, Cause, admission_causes, text_refusal, Over, ListsGive, Gives, NoneOf}
+use Rattle.query_admission.specs.Causes.{most_queries, QueryLine, Cause, admission_causes, text_refusal, Over, ListsGive, RefusesFor, NoneOf}
 use Rattle.query_admission.specs.Admission.{RefusesLine, IsAdmitted, Admits}
 use Rattle.query_admission.specs.Screening.{list_causes, Screens, Weighs, admitted_as}
 use Rattle.query_admission.specs.declared.admission.Weighed.{Weighed}
@@ -79,7 +79,7 @@ of_lists : (cause : Cause) → Contains list_causes cause → IsOfLists cause
 of_lists cause h = member_of_all IsOfLists list_causes cause (All-from_recursion IsOfLists list_causes (tt, (tt, (tt, (tt, (tt, tt)))))) h
 
 gives_here : (x : QueryLine) (q : Query) (lists : List Listed) (cause : Cause) (refusal : Refusal) → IsHere x q lists → ListsGive q lists cause refusal
-    → Gives x cause refusal
+    → RefusesFor x cause refusal
 gives_here x q lists Cause.many_queries refusal here h = absurd h
 gives_here x q lists Cause.text refusal here h = absurd h
 gives_here x q lists Cause.unknown_list refusal here h = absurd h
@@ -90,7 +90,7 @@ gives_here x q lists Cause.counts_differ refusal here h = record { query = q; li
 gives_here x q lists Cause.k_above_count refusal here h = record { query = q; lists = lists; reads = here.reads; listed = here.listed; holds = h }
 gives_here x q lists Cause.no_random refusal here h = record { query = q; lists = lists; reads = here.reads; listed = here.listed; holds = h }
 
-gives_back : (x : QueryLine) (q : Query) (lists : List Listed) (cause : Cause) (refusal : Refusal) → IsHere x q lists → IsOfLists cause → Gives x cause refusal
+gives_back : (x : QueryLine) (q : Query) (lists : List Listed) (cause : Cause) (refusal : Refusal) → IsHere x q lists → IsOfLists cause → RefusesFor x cause refusal
     → ListsGive q lists cause refusal
 gives_back x q lists Cause.many_queries refusal here of h = absurd of
 gives_back x q lists Cause.text refusal here of h = absurd of
@@ -104,7 +104,7 @@ gives_back x q lists Cause.no_random refusal here of h = over_here x q lists (λ
 
 -- the causes before those of the lists don't hold
 abbrev Never : QueryLine → Cause → Type 0
-Never x cause = (refusal : Refusal) → ¬ Gives x cause refusal
+Never x cause = (refusal : Refusal) → ¬ RefusesFor x cause refusal
 
 not_many : (x : QueryLine) → x.number ≤ most_queries → Never x Cause.many_queries
 not_many x few = λ refusal h. absurd (omega (arith, h.1))
@@ -135,7 +135,7 @@ all_cons P cause causes here rest =
 
 none_before : (x : QueryLine) (q : Query) (lists : List Listed) (earlier : List Cause) → IsHere x q lists
     → ((cause : Cause) → Contains earlier cause → IsOfLists cause) → NoneOf (ListsGive q lists) earlier
-    → NoneOf (Gives x) (Cause.many_queries ∷ Cause.text ∷ Cause.unknown_list ∷ earlier)
+    → NoneOf (RefusesFor x) (Cause.many_queries ∷ Cause.text ∷ Cause.unknown_list ∷ earlier)
 none_before x q lists earlier here of none =
     let rest : All (Never x) earlier = all_from_members (Never x) earlier
     (λ cause h refusal gives. member_of_all (λ c. (any : Refusal) → ¬ ListsGive q lists c any) earlier cause none h refusal (gives_back x q lists cause refusal here (of cause h) gives)) in

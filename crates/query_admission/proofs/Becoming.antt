@@ -4,7 +4,7 @@ use Rattle.std.proofs.lemmas.List.Elements.{All-from_recursion, All-push}
 use Rattle.ranked_list.specs.declared.row.Row.{Row}
 use Rattle.monotone_fn.specs.declared.costs.Costs.{Costs}
 use Rattle.access_log.specs.Log.{AgreesWith}
-use Rattle.access_log.specs.declared.answer.Answer.{Answer}
+use Rattle.machine_base.specs.declared.answer.Answer.{Answer}
 use Rattle.query_text.specs.declared.query.Query.{Query}
 use Rattle.query_text.specs.Query.{IsCount}
 use Rattle.cert_text.specs.declared.refusal.Refusal.{Refusal}
@@ -17,7 +17,7 @@ use Rattle.query_core.specs.Driving.{AnswersOver}
 use Rattle.query_core.specs.Ready.{IsReady}
 use Rattle.query_core.proofs.Answering.{answered_short}
 use Rattle.query_admission.specs.View.{AreTold, count_of}
-use Rattle.query_admission.specs.Causes.{QueryLine, Cause, admission_causes, Gives}
+use Rattle.query_admission.specs.Causes.{QueryLine, Cause, admission_causes, RefusesFor}
 use Rattle.query_admission.specs.Admission.{RefusesLine, IsAdmitted}
 use Rattle.query_admission.specs.Becomes.{Becomes}
 use Rattle.query_admission.proofs.Admitting.{read_once, lists_once}
@@ -79,7 +79,7 @@ full_line x ready D room count admitted told over = record {
 
 -- a query that is ready and fits its room isn't refused
 fits_room : (x : QueryLine) (ready : Ready) (D : List (List Row)) → IsAdmitted x ready → AreTold x.view ready.query D
-    → ((room : ℕ) → ¬ IsOverRoom ready.query ready.count D room) → (refusal : Refusal) → ¬ Gives x Cause.room_full refusal
+    → ((room : ℕ) → ¬ IsOverRoom ready.query ready.count D room) → (refusal : Refusal) → ¬ RefusesFor x Cause.room_full refusal
 fits_room x ready D admitted told fits refusal over =
     let q = ready.query in
     let h = over.holds in
@@ -99,7 +99,7 @@ one_more_cause P causes cause all here = All-push P causes cause all here
 pub answered_line : (x : QueryLine) (ready : Ready) (D : List (List Row)) (answer : Answer) → IsAdmitted x ready → AreTold x.view ready.query D
     → AnswersOver ready D answer → Becomes x (Some ready.query) ready.count (Answered answer)
 answered_line x ready D answer admitted told over = record {
-  unrefused = one_more_cause (λ cause. (refusal : Refusal) → ¬ Gives x cause refusal) admission_causes Cause.room_full admitted.unrefused (fits_room x ready D admitted told over.roomy);
+  unrefused = one_more_cause (λ cause. (refusal : Refusal) → ¬ RefusesFor x cause refusal) admission_causes Cause.room_full admitted.unrefused (fits_room x ready D admitted told over.roomy);
   reads = admitted.reads;
   lists = admitted.lists;
   listed = admitted.listed;

@@ -8,13 +8,13 @@ use Rattle.cert_text.specs.declared.refusal.Refusal.TheVariants.{NotOpened, Coun
 use Rattle.query_core.specs.declared.ready.Ready.{Ready}
 use Rattle.query_core.specs.Algorithms.{asks_grades}
 use Rattle.query_admission.specs.View.{size_passes, is_closed, differs, lacks_random, size_stated}
-use Rattle.query_admission.specs.Causes.{QueryLine, Cause, admission_causes, Gives}
+use Rattle.query_admission.specs.Causes.{QueryLine, Cause, admission_causes, RefusesFor}
 use Rattle.query_admission.specs.Admission.{IsAdmitted}
 use Rattle.query_admission.proofs.Positions.{nothing, none_at, found_within, size_there}
 
 never : (x : QueryLine) (ready : Ready) (cause : Cause) (place : ℕ) (refusal : Refusal) → IsAdmitted x ready → place < length admission_causes
-    → slice_index_or admission_causes place cause ≡ cause → ¬ Gives x cause refusal
-never x ready cause place refusal admitted l is = member_of_all (λ c. (any : Refusal) → ¬ Gives x c any) admission_causes cause admitted.unrefused (place, l, is) refusal
+    → slice_index_or admission_causes place cause ≡ cause → ¬ RefusesFor x cause refusal
+never x ready cause place refusal admitted l is = member_of_all (λ c. (any : Refusal) → ¬ RefusesFor x c any) admission_causes cause admitted.unrefused (place, l, is) refusal
 
 -- where a test is passed nowhere, no place is found
 no_place : (found : Option ℕ) → ((place : ℕ) → found ≡ Some place → ⊥) → found ≡ None

@@ -8,20 +8,20 @@ use Rattle.cert_text.specs.Outcome.{names_of}
 use Rattle.query_core.specs.declared.ready.Ready.{Ready}
 use Rattle.query_core.specs.Ready.{IsReady}
 use Rattle.query_admission.specs.View.{AreListed, count_of}
-use Rattle.query_admission.specs.Causes.{QueryLine, Cause, admission_causes, Gives, NoneOf, IsFirstOf}
+use Rattle.query_admission.specs.Causes.{QueryLine, Cause, admission_causes, RefusesFor, NoneOf, IsFirstOf}
 use Rattle.query_admission.specs.declared.lists.Listed.{Listed}
 use Rattle.query_admission.specs.declared.admitted.Admitted.{Admitted}
 use Rattle.query_admission.specs.declared.admitted.Admitted.TheVariants.{Ready as IsReadyNow, Refused}
 
 -- the line is refused for the first of the causes that holds; the query beside is the line's, and has the lists that the refusal names
 pub record RefusesLine (causes : List Cause) (x : QueryLine) (refusal : Refusal) (query : Option Query) : Type 0 where
-  pub first : IsFirstOf (Gives x) causes refusal
+  pub first : IsFirstOf (RefusesFor x) causes refusal
   pub reads : IfSome query (λ q. Reads x.bytes (Ok q))
   pub named : All (λ list. list < length (names_of query)) (refused_lists refusal)
 
 -- nothing refuses the line before it runs; it is ready with its query, with the count of that, and with the sources of its lists
 pub record IsAdmitted (x : QueryLine) (ready : Ready) : Type 0 where
-  pub unrefused : NoneOf (Gives x) admission_causes
+  pub unrefused : NoneOf (RefusesFor x) admission_causes
   pub sound : IsReady ready
   pub reads : Reads x.bytes (Ok ready.query)
   pub lists : List Listed

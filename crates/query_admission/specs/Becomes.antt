@@ -2,21 +2,21 @@
 use Rattle.std.specs.Prelude.{◌≡◌, ℕ, List, Option, None, Some, Ok}
 use Rattle.ranked_list.specs.declared.row.Row.{Row}
 use Rattle.access_log.specs.Log.{AgreesWith}
-use Rattle.access_log.specs.declared.answer.Answer.{Answer}
+use Rattle.machine_base.specs.declared.answer.Answer.{Answer}
 use Rattle.query_text.specs.declared.query.Query.{Query}
 use Rattle.query_text.specs.Reading.{Reads}
 use Rattle.cert_text.specs.declared.outcome.Outcome.{Outcome}
 use Rattle.cert_text.specs.declared.outcome.Outcome.TheVariants.{Answered, Refused}
 use Rattle.query_core.specs.OneAnswer.{IsAnswered}
 use Rattle.query_admission.specs.View.{AreListed, AreTold, count_of}
-use Rattle.query_admission.specs.Causes.{QueryLine, line_causes, Gives, NoneOf}
+use Rattle.query_admission.specs.Causes.{QueryLine, line_causes, RefusesFor, NoneOf}
 use Rattle.query_admission.specs.Admission.{RefusesLine}
 use Rattle.query_admission.specs.declared.lists.Listed.{Listed}
 
 -- nothing refuses the line, and its query is answered over lists of so many objects: the answer is right,
 -- and where the rows of its lists are told they agree with its transcript
 pub record AnswersLine (x : QueryLine) (q : Query) (count : ℕ) (answer : Answer) : Type 0 where
-  pub unrefused : NoneOf (Gives x) line_causes
+  pub unrefused : NoneOf (RefusesFor x) line_causes
   pub reads : Reads x.bytes (Ok q)
   pub lists : List Listed
   pub listed : AreListed x.view q lists

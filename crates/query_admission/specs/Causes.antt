@@ -84,14 +84,14 @@ ListsGive q lists Cause.no_random refusal =
 ListsGive q lists other refusal = ⊥
 
 -- the cause holds of the line, and gives this refusal
-abbrev pub Gives : QueryLine → Cause → Refusal → Type 0
-Gives x Cause.many_queries refusal = (refusal ≡ ManyQueries most_queries) × (most_queries < x.number)
-Gives x Cause.text refusal = (fault : QueryFault) × (text_refusal fault ≡ Some refusal) × Reads x.bytes (Err fault)
-Gives x Cause.unknown_list refusal = Spelled x (λ q. (list : ℕ) × (refusal ≡ UnknownList list) × (position is_none (map x.view.listed q.names) ≡ Some list))
-Gives x Cause.room_full refusal =
+abbrev pub RefusesFor : QueryLine → Cause → Refusal → Type 0
+RefusesFor x Cause.many_queries refusal = (refusal ≡ ManyQueries most_queries) × (most_queries < x.number)
+RefusesFor x Cause.text refusal = (fault : QueryFault) × (text_refusal fault ≡ Some refusal) × Reads x.bytes (Err fault)
+RefusesFor x Cause.unknown_list refusal = Spelled x (λ q. (list : ℕ) × (refusal ≡ UnknownList list) × (position is_none (map x.view.listed q.names) ≡ Some list))
+RefusesFor x Cause.room_full refusal =
     Over x (λ q lists. (D : List (List Row)) × (n room : ℕ) × (refusal ≡ RoomFull room) × AreTold x.view q D × (count_of lists ≡ Some n)
     × IsOverRoom q n D room)
-Gives x cause refusal = Over x (λ q lists. ListsGive q lists cause refusal)
+RefusesFor x cause refusal = Over x (λ q lists. ListsGive q lists cause refusal)
 
 -- none of the causes holds
 abbrev pub NoneOf : (Cause → Refusal → Type 0) → List Cause → Type 0

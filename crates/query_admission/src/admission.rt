@@ -15,8 +15,7 @@ use super::seek::{Sought, seek};
 use cert_text::Refusal;
 use limits::{MAX_LISTS, MAX_QUERIES};
 use query_core::Ready;
-use query_reading::read;
-use query_text::{Query, QueryFault};
+use query_text::{Query, QueryFault, read};
 use std::alloc::Global;
 
 /// What a query comes to over lists: ready with its count and the numbers of its sources, or refused.

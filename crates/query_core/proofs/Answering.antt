@@ -17,11 +17,11 @@ use Rattle.topk_theory.specs.Transcript.{Told, whole, Agrees, seen_objects}
 use Rattle.topk_theory.proofs.Agreement.{agrees_none}
 use Rattle.topk_theory.proofs.AgreementLists.{member_of_all, contains_here, contains_nil}
 use Rattle.access_log.specs.Log.{Log, AgreesWith}
-use Rattle.access_log.specs.declared.answer.Answer.{Answer}
+use Rattle.machine_base.specs.declared.answer.Answer.{Answer}
 use Rattle.query_core.specs.declared.drive_fault.DriveFault.{DriveFault}
 use Rattle.query_core.specs.declared.drive_fault.DriveFault.TheVariants.{RoomFull, Memory}
-use Rattle.access_log.specs.Machine.{MachineState, asked_of, IsBegun, IsSameLog, MakesRun, IsAnswerBy}
-use Rattle.access_log.proofs.MachineLaws.{whole_run}
+use Rattle.machine_base.specs.Machine.{MachineState, asked_of, IsBegun, IsSameLog, MakesRun, IsAnswerBy}
+use Rattle.machine_base.proofs.MachineLaws.{whole_run}
 use Rattle.monotone_fn.specs.Value.{IsMonotone}
 use Rattle.optimal_law.specs.Optimal.{IsAlwaysRun}
 use Rattle.optimal_law.proofs.Runs.{ta_near_best, nra_near_shallowest}

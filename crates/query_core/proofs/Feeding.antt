@@ -21,11 +21,11 @@ use Rattle.topk_theory.proofs.Agreement.{drawn_push, agrees_front, agrees_gives,
 use Rattle.topk_theory.proofs.Consistent.{kind_excludes}
 use Rattle.topk_theory.proofs.ThresholdRun.{seen_more}
 use Rattle.access_log.specs.Log.{AgreesWith, with_access}
-use Rattle.access_log.specs.Machine.{MachineState, asked_of, IsNextRow, IsInRange, IsNoGrade, MakesRun, MayBeNextRow, MayBeNextGrade, Takes, HasRoomFor, RowFed, GradeFed, row_access, grade_access}
-use Rattle.access_log.proofs.MachineLaws.{in_range}
+use Rattle.machine_base.specs.Machine.{MachineState, asked_of, IsNextRow, IsInRange, IsNoGrade, MakesRun, MayBeNextRow, MayBeNextGrade, Takes, HasRoomFor, RowFed, GradeFed, row_access, grade_access}
+use Rattle.machine_base.proofs.MachineLaws.{in_range}
 use Rattle.query_text.specs.declared.algorithm.Algorithm.{Algorithm}
-use Rattle.access_log.specs.declared.core_fault.CoreFault.{CoreFault}
-use Rattle.access_log.specs.declared.core_fault.CoreFault.TheVariants.{Strangers, RoomFull}
+use Rattle.machine_base.specs.declared.core_fault.CoreFault.{CoreFault}
+use Rattle.machine_base.specs.declared.core_fault.CoreFault.TheVariants.{Strangers, RoomFull}
 use Rattle.query_core.specs.declared.drive_fault.DriveFault.TheVariants.{RoomFull as NoRoom}
 use Rattle.query_core.specs.Algorithms.{run_by}
 use Rattle.query_core.specs.Driving.{run_sees, Continues, IsFedFrom, TookOne, CanDrive, StopsDriving}

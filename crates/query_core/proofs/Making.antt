@@ -2,7 +2,7 @@
 use Rattle.std.proofs.Common.{◌≡◌, ℕ, unwrap_or, subst}
 use Rattle.monotone_fn.specs.declared.costs.Costs.{Costs}
 use Rattle.monotone_fn.specs.Tree.{Tree}
-use Rattle.access_log.specs.Machine.{IsBegun}
+use Rattle.machine_base.specs.Machine.{IsBegun}
 use Rattle.query_text.specs.Costs.{costs_in_force}
 use Rattle.query_core.specs.declared.machine.Machine.{Machine}
 use Rattle.query_core.specs.declared.ready.Ready.{Ready}

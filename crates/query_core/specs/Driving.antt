@@ -5,8 +5,8 @@ use Rattle.ranked_list.specs.declared.need.Need.TheVariants.{Done}
 use Rattle.topk_theory.specs.Transcript.{Told, whole, IsDrawn, seen_objects}
 use Rattle.topk_theory.specs.Threshold.{IsAsked}
 use Rattle.access_log.specs.Log.{AgreesWith}
-use Rattle.access_log.specs.declared.answer.Answer.{Answer}
-use Rattle.access_log.specs.Machine.{MachineState, asked_of, IsSameLog, MakesRun, IsAnswerBy}
+use Rattle.machine_base.specs.declared.answer.Answer.{Answer}
+use Rattle.machine_base.specs.Machine.{MachineState, asked_of, IsSameLog, MakesRun, IsAnswerBy}
 use Rattle.query_text.specs.declared.algorithm.Algorithm.{Algorithm}
 use Rattle.query_core.specs.declared.drive_fault.DriveFault.{DriveFault}
 use Rattle.query_core.specs.declared.drive_fault.DriveFault.TheVariants.{RoomFull, Memory}

@@ -2,7 +2,7 @@
 use Rattle.std.specs.Prelude.{◌≡◌, unwrap_or}
 use Rattle.query_text.specs.declared.algorithm.Algorithm.{Algorithm}
 use Rattle.query_text.specs.declared.algorithm.Algorithm.TheVariants.{Ta, Nra, Ca}
-use Rattle.access_log.specs.Machine.{MachineState, MakesRun, IsBegun}
+use Rattle.machine_base.specs.Machine.{MachineState, MakesRun, IsBegun}
 use Rattle.query_core.specs.declared.machine.Machine.{Machine}
 use Rattle.query_core.specs.declared.machine.Machine.TheVariants.{Ta as TaMachine, Nra as NraMachine, Ca as CaMachine}
 use Rattle.query_core.specs.declared.ready.Ready.{Ready}

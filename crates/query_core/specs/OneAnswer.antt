@@ -10,7 +10,7 @@ use Rattle.topk_theory.specs.Asked.{Asked}
 use Rattle.topk_theory.specs.Transcript.{seen_objects}
 use Rattle.topk_theory.specs.Fixes.{Fixes}
 use Rattle.topk_theory.specs.Threshold.{item_objects}
-use Rattle.access_log.specs.declared.answer.Answer.{Answer}
+use Rattle.machine_base.specs.declared.answer.Answer.{Answer}
 use Rattle.access_log.specs.Log.{AgreesWith, IsConsistent}
 use Rattle.query_text.specs.declared.query.Query.{Query}
 use Rattle.query_text.specs.Costs.{costs_in_force}

@@ -3,7 +3,7 @@
 ghost use Rattle.std.specs.Prelude.{◌≡◌, ℕ, List};
 ghost use Rattle.ranked_list.specs.declared.row.Row.{Row};
 ghost use Rattle.access_log.specs.Log.{AgreesWith};
-ghost use Rattle.access_log.specs.declared.answer.Answer.{Answer as AnyAnswer};
+ghost use Rattle.machine_base.specs.declared.answer.Answer.{Answer as AnyAnswer};
 ghost use Rattle.query_text.specs.declared.query.Query.{Query};
 ghost use Rattle.query_core.specs.OneAnswer.{IsAnswered};
 

@@ -3,7 +3,7 @@
 ghost use Rattle.std.specs.Prelude.{◌≡◌, false, IfOk};
 ghost use Rattle.ranked_list.specs.declared.need.Need.{Need};
 ghost use Rattle.monotone_fn.specs.Value.{value};
-ghost use Rattle.access_log.specs.Machine.{asked_of, MayBeNextRow, MayBeNextGrade, RowFed, GradeFed, IsInRange, IsNoGrade, IsAnswerBy, IsSameLog};
+ghost use Rattle.machine_base.specs.Machine.{asked_of, MayBeNextRow, MayBeNextGrade, RowFed, GradeFed, IsInRange, IsNoGrade, IsAnswerBy, IsSameLog};
 ghost use Rattle.query_core.specs.Algorithms.{asks_grades, items_by, IsNearBy};
 ghost use Rattle.query_core.specs.OneAnswer.{HasTrueItems};
 ghost use Rattle.query_core.specs.Ready.{IsReady};
@@ -11,8 +11,9 @@ ghost use Rattle.query_core.specs.Machines.{algorithm_of, state_of, MakesItsRun,
 
 use super::Memory;
 use super::ready::Ready;
-use access_log::{Answer, CoreFault, Transcript};
+use access_log::Transcript;
 use ca_core::Ca;
+use machine_base::{Answer, CoreFault};
 use nra_core::Nra;
 use query_text::Algorithm;
 use ranked_list::{Need, Row};

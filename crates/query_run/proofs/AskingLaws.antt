@@ -3,7 +3,7 @@ use Rattle.std.proofs.Common.{◌≡◌, ◌≤◌, ◌<◌, ◌+◌, ◌==◌, 
 use Rattle.std.specs.List.{cons_option}
 use Rattle.std.proofs.lemmas.List.{length-append}
 use Rattle.std.proofs.lemmas.List.Elements.{Contains-append_left, Contains-append_right, Contains-append_cases}
-use Rattle.nra_core.proofs.Counts.{count_append, count_longer}
+use Rattle.topk_theory.proofs.Counts.{count_append, count_longer}
 use Rattle.ranked_list.specs.declared.row.Row.{Row}
 use Rattle.ranked_list.specs.declared.need.Need.{Need}
 use Rattle.ranked_list.specs.declared.need.Need.TheVariants as need
@@ -12,7 +12,7 @@ use Rattle.topk_theory.specs.declared.access.Access.TheVariants.{Sorted, Random}
 use Rattle.topk_theory.specs.Transcript.{list_of, object_of, is_sorted, depth_of}
 use Rattle.topk_theory.proofs.Agreement.{sorted_rows_append}
 use Rattle.topk_theory.proofs.AgreementLists.{contains_nil, contains_here, contains_cases}
-use Rattle.access_log.specs.Machine.{MachineState, row_access, grade_access}
+use Rattle.machine_base.specs.Machine.{MachineState, row_access, grade_access}
 use Rattle.turn_lock.specs.declared.known.Known.{Known}
 use Rattle.source_log.specs.declared.entry.LogEntry.{LogEntry}
 use Rattle.query_core.specs.Machines.{state_of}

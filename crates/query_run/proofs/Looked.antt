@@ -7,7 +7,7 @@ use Rattle.std.proofs.lemmas.List.Elements.{All-set}
 use Rattle.ranked_list.specs.declared.row.Row.{Row}
 use Rattle.ranked_list.specs.declared.need.Need.{Need}
 use Rattle.ranked_list.specs.declared.need.Need.TheVariants as need
-use Rattle.turn_lock.specs.Facts.{Begins}
+use Rattle.turn_lock.specs.Facts.{IsFrontOf}
 use Rattle.turn_lock.specs.Known.{Follows}
 use Rattle.turn_lock.proofs.Growth.{begins_same, begins_on}
 use Rattle.topk_theory.specs.Transcript.{Grows}
@@ -19,9 +19,9 @@ use Rattle.source_state.specs.declared.look.LookFault.{LookFault}
 use Rattle.source_state.specs.declared.look.LookFault.TheVariants as why
 use Rattle.source_state.specs.State.{State, IsSound, state_at}
 use Rattle.source_state.specs.Looking.{decided, is_full, Ends, Refuses}
-use Rattle.source_pass.specs.declared.hold.Hold.{Hold}
-use Rattle.source_locks.specs.Passes.{hold_at, OthersStay}
-use Rattle.source_pass.specs.Looks.{IsTurn}
+use Rattle.source_pool.specs.declared.hold.Hold.{Hold}
+use Rattle.source_pool.specs.Passes.{hold_at, OthersStay}
+use Rattle.source_pool.specs.Looks.{IsTurn}
 use Rattle.query_core.specs.Machines.{state_of}
 use Rattle.query_turns.specs.declared.inquiry.Inquiry.{Inquiry}
 use Rattle.query_turns.specs.Inquiries.{told_to}
@@ -113,10 +113,10 @@ pub record SeesOn (source : ℕ) (before after : List Hold) : Type 0 where
   pub others : OthersStay source before after
 
 seen_on : (source other : ℕ) (before after : List Hold) → SeesOn source before after
-    → Begins (hold_at before other).pass.1.seen (hold_at after other).pass.1.seen
+    → IsFrontOf (hold_at before other).pass.1.seen (hold_at after other).pass.1.seen
 seen_on source other before after on = elim (eqb_tells other source) [
-  | inl t ↦ subst (λ o. Begins (hold_at before o).pass.1.seen (hold_at after o).pass.1.seen) (sym t.1) on.follows.seen
-  | inr f ↦ subst (λ (hold : Hold). Begins (hold_at before other).pass.1.seen hold.pass.1.seen) (sym (on.others.stay other f.1)) (begins_same (hold_at before other).pass.1.seen)
+  | inl t ↦ subst (λ o. IsFrontOf (hold_at before o).pass.1.seen (hold_at after o).pass.1.seen) (sym t.1) on.follows.seen
+  | inr f ↦ subst (λ (hold : Hold). IsFrontOf (hold_at before other).pass.1.seen hold.pass.1.seen) (sym (on.others.stay other f.1)) (begins_same (hold_at before other).pass.1.seen)
 ]
 
 pub name_on : (source other : ℕ) (before after : List Hold) → SeesOn source before after
@@ -147,11 +147,11 @@ feeds_later source before after q states on h there sound count many =
     let u = state_seen (hold_at after source).pass.1 in
     let within : source < length states = let long = h.long in omega (arith, there, long) in
     let set : state_at (slice_set states source u) source ≡ u = state_set states source u within in
-    let grown : (other : ℕ) → Begins (state_at states other).log (state_at (slice_set states source u) other).log
+    let grown : (other : ℕ) → IsFrontOf (state_at states other).log (state_at (slice_set states source u) other).log
     = λ other. elim (eqb_tells other source) [
-      | inl t ↦ subst (λ o. Begins (state_at states o).log (state_at (slice_set states source u) o).log) (sym t.1)
-          (subst (λ (s : State). Begins (state_at states source).log s.log) (sym set) (begins_on (h.seen source) on.follows.seen))
-      | inr f ↦ subst (λ (s : State). Begins (state_at states other).log s.log) (sym (state_other states source other u f.1)) (begins_same (state_at states other).log)
+      | inl t ↦ subst (λ o. IsFrontOf (state_at states o).log (state_at (slice_set states source u) o).log) (sym t.1)
+          (subst (λ (s : State). IsFrontOf (state_at states source).log s.log) (sym set) (begins_on (h.seen source) on.follows.seen))
+      | inr f ↦ subst (λ (s : State). IsFrontOf (state_at states other).log s.log) (sym (state_other states source other u f.1)) (begins_same (state_at states other).log)
     ] in
     record {
       long = length-set states source u ∙ (h.long ∙ sym on.long);
@@ -161,9 +161,9 @@ feeds_later source before after q states on h there sound count many =
         | inr f ↦ ap (λ (s : State). s.count) (state_other states source other u f.1) ∙ h.counted other (let same = length-set states source u in omega (arith, l, same))
       ];
       seen = λ other. elim (eqb_tells other source) [
-        | inl t ↦ subst (λ o. Begins (state_at (slice_set states source u) o).log (hold_at after o).pass.1.seen) (sym t.1)
-            (subst (λ (s : State). Begins s.log (hold_at after source).pass.1.seen) (sym set) (begins_same (hold_at after source).pass.1.seen))
-        | inr f ↦ subst (λ (s : State). Begins s.log (hold_at after other).pass.1.seen) (sym (state_other states source other u f.1))
+        | inl t ↦ subst (λ o. IsFrontOf (state_at (slice_set states source u) o).log (hold_at after o).pass.1.seen) (sym t.1)
+            (subst (λ (s : State). IsFrontOf s.log (hold_at after source).pass.1.seen) (sym set) (begins_same (hold_at after source).pass.1.seen))
+        | inr f ↦ subst (λ (s : State). IsFrontOf s.log (hold_at after other).pass.1.seen) (sym (state_other states source other u f.1))
             (begins_on (h.seen other) (seen_on source other before after on))
       ];
       fed = record {

@@ -3,10 +3,10 @@ use Rattle.std.proofs.Common.{inl, inr, â„•, List, length, slice_index_or, ap, â
 use Rattle.std.proofs.lemmas.Bool.{cases_lt}
 use Rattle.std.proofs.lemmas.List.{get_or_past}
 use Rattle.atomic_table.specs.Seated.{TableId}
-use Rattle.source_pass.specs.declared.hold.Hold.{Hold}
-use Rattle.source_pass.specs.Passes.{no_hold}
-use Rattle.source_locks.specs.Passes.{Feed}
-use Rattle.source_locks.specs.Sharing.{IsOpened}
+use Rattle.source_pool.specs.declared.hold.Hold.{Hold}
+use Rattle.source_pool.specs.Holds.{no_hold}
+use Rattle.source_pool.specs.Passes.{Feed}
+use Rattle.source_pool.specs.Sharing.{IsOpened}
 use Rattle.query_core.specs.declared.ready.Ready.{Ready}
 use Rattle.query_turns.specs.Made.{IsReadyFor}
 use Rattle.query_run.specs.Advancing.{WaitsForNothing, HasSourcesIn}

@@ -1,14 +1,14 @@
 -- What a pass saw, as states; and what is told by logs that go on.
 use Rattle.std.proofs.Common.{◌≡◌, ℕ, zero, suc, List, [], ◌∷◌, length, map, slice_index_or, Contains, refl, sym, subst}
 use Rattle.std.proofs.lemmas.List.{length-map}
-use Rattle.turn_lock.specs.Facts.{Begins}
+use Rattle.turn_lock.specs.Facts.{IsFrontOf}
 use Rattle.topk_theory.specs.Transcript as transcript
 use Rattle.topk_theory.specs.Transcript.{Grows, list_at}
 use Rattle.source_log.specs.Log.{rows_in}
 use Rattle.source_state.specs.State.{State, state_at}
 use Rattle.source_state.specs.Drawing.{told_by}
-use Rattle.source_pass.specs.declared.hold.Hold.{Hold}
-use Rattle.source_locks.specs.Passes.{hold_at}
+use Rattle.source_pool.specs.declared.hold.Hold.{Hold}
+use Rattle.source_pool.specs.Passes.{hold_at}
 use Rattle.query_turns.specs.Inquiries.{logs_of}
 use Rattle.query_turns.proofs.Causes.{rows_begin, known_more}
 use Rattle.query_turns.proofs.Serving.{rows_told, known_told}
@@ -25,7 +25,7 @@ seen_long holds = length-map holds (λ (hold : Hold). state_seen hold.pass.1)
 
 -- where the log of each source goes on, more is told
 pub told_goes : (states laters : List State) (sources : List ℕ)
-    → ((source : ℕ) → Begins (state_at states source).log (state_at laters source).log)
+    → ((source : ℕ) → IsFrontOf (state_at states source).log (state_at laters source).log)
     → Grows (length sources) (told_by (logs_of states sources)) (told_by (logs_of laters sources))
 told_goes states laters sources on = record {
   rows = λ list l.

@@ -5,12 +5,12 @@ use Rattle.ranked_list.specs.declared.need.Need.{Need}
 use Rattle.ranked_list.specs.declared.need.Need.TheVariants as need
 use Rattle.ranked_list.proofs.OptionLaws.{option_cases}
 use Rattle.turn_lock.specs.declared.facts.Tally.{Tally}
-use Rattle.turn_lock.specs.Facts.{Begins, AtMost}
+use Rattle.turn_lock.specs.Facts.{IsFrontOf, AtMost}
 use Rattle.turn_lock.proofs.Growth.{at_most_same}
 use Rattle.topk_theory.specs.Transcript.{Grows}
 use Rattle.topk_theory.proofs.Agreement.{drawn_more}
-use Rattle.access_log.specs.Machine.{MachineState}
-use Rattle.access_log.specs.declared.core_fault.CoreFault.{CoreFault}
+use Rattle.machine_base.specs.Machine.{MachineState}
+use Rattle.machine_base.specs.declared.core_fault.CoreFault.{CoreFault}
 use Rattle.source_log.specs.declared.entry.FailKind.{FailKind}
 use Rattle.source_state.specs.declared.look.Waiting.{Waiting}
 use Rattle.source_state.specs.declared.look.Look.TheVariants as look
@@ -19,9 +19,9 @@ use Rattle.source_state.specs.declared.look.LookFault.TheVariants as why
 use Rattle.source_state.specs.Looking.{waits_for, is_same, newer, told, Refuses}
 use Rattle.source_state.specs.State.{State, state_at}
 use Rattle.source_log.proofs.Lists.{none_not_some, eqb_same}
-use Rattle.source_pass.specs.declared.hold.Hold.{Hold}
-use Rattle.source_locks.specs.Passes.{hold_at, OthersStay}
-use Rattle.source_pass.specs.Looks.{KeepsMarks, shown_fault, Ends, BeginsToWait}
+use Rattle.source_pool.specs.declared.hold.Hold.{Hold}
+use Rattle.source_pool.specs.Passes.{hold_at, OthersStay}
+use Rattle.source_pool.specs.Looks.{KeepsMarks, shown_fault, Ends, BeginsToWait}
 use Rattle.query_core.specs.Machines.{state_of, MakesItsRun}
 use Rattle.query_turns.specs.declared.ended.Refusal.TheVariants as refusal
 use Rattle.query_turns.specs.declared.inquiry.Inquiry.{Inquiry}
@@ -141,7 +141,7 @@ pub open_waits : (before now after : List Hold) (q r : Inquiry) → Place now q 
     → (hold_at after (source_needed q)).shown ≡ (hold_at now (source_needed q)).shown
     → r.sources.items ≡ q.sources.items → state_of r.machine ≡ state_of q.machine → is_done (needed q) ≡ false
     → AtMost (hold_at before (source_needed q)).pass.1.tally (hold_at after (source_needed q)).pass.1.tally
-    → Rattle.source_pass.specs.Looks.Waits (needed q) (hold_at now (source_needed q)) (hold_at after (source_needed q)) look.NotYet → IsOnItsWay before after r
+    → Rattle.source_pool.specs.Looks.Waits (needed q) (hold_at now (source_needed q)) (hold_at after (source_needed q)) look.NotYet → IsOnItsWay before after r
 open_waits before now after q r place h others shown sources same going most waits = record {
   waits = λ source n e. elim (eqb_tells source (source_needed q)) [
     | inl t ↦ subst (λ s. WaitsAt r s n (hold_at before s) (hold_at after s)) (sym t.1)
@@ -192,7 +192,7 @@ stop_served after r last states many each run feeds none cause = record {
     drawn = drawn_more (state_of r.machine).log.lists (told_to states r) (told_to (states_seen after) r) (state_of r.machine).log.accesses
         (subst (λ m. Grows m (told_to states r) (told_to (states_seen after) r)) many
         (told_goes states (states_seen after) r.sources.items
-        (λ source. subst (λ (s : State). Begins (state_at states source).log s.log) (sym (state_is after source)) (feeds.seen source))))
+        (λ source. subst (λ (s : State). IsFrontOf (state_at states source).log s.log) (sym (state_is after source)) (feeds.seen source))))
         feeds.fed.drawn;
     roomy = feeds.fed.roomy;
   };

@@ -5,8 +5,8 @@ use Rattle.std.proofs.lemmas.List.{get_or_read}
 use Rattle.ranked_list.specs.declared.need.Need.{Need}
 use Rattle.ranked_list.specs.declared.need.Need.TheVariants as need
 use Rattle.turn_lock.specs.declared.known.Known.{Known}
-use Rattle.access_log.specs.Machine.{MachineState, IsInRange}
-use Rattle.access_log.proofs.MachineLaws.{in_range}
+use Rattle.machine_base.specs.Machine.{MachineState, IsInRange}
+use Rattle.machine_base.proofs.MachineLaws.{in_range}
 use Rattle.source_log.specs.declared.entry.LogEntry.{LogEntry}
 use Rattle.source_state.specs.declared.look.Waiting.{Waiting}
 use Rattle.source_state.specs.declared.look.Look.{Look}
@@ -14,9 +14,9 @@ use Rattle.source_state.specs.declared.look.Look.TheVariants as look
 use Rattle.source_state.specs.Looking.{decided, IsDecided}
 use Rattle.source_state.specs.State.{State, IsSound, state_at}
 use Rattle.source_log.proofs.Lists.{none_not_some}
-use Rattle.source_pass.specs.declared.hold.Hold.{Hold}
-use Rattle.source_locks.specs.Passes.{hold_at, OthersStay}
-use Rattle.source_pass.specs.Looks.{MayLookFor, shown_by, IsTurn, IsWithin, TookTurn, Waits}
+use Rattle.source_pool.specs.declared.hold.Hold.{Hold}
+use Rattle.source_pool.specs.Passes.{hold_at, OthersStay}
+use Rattle.source_pool.specs.Looks.{MayLookFor, shown_by, IsTurn, IsWithin, TookTurn, Waits}
 use Rattle.query_core.specs.Algorithms.{run_by}
 use Rattle.query_core.specs.Machines.{algorithm_of, state_of, MakesItsRun}
 use Rattle.query_turns.specs.declared.inquiry.Inquiry.{Inquiry}

@@ -9,8 +9,8 @@ use Rattle.turn_lock.proofs.Growth.{begins_same, begins_nothing, begins_on, at_m
 use Rattle.topk_theory.specs.Transcript.{IsDrawn, seen_objects}
 use Rattle.topk_theory.proofs.Agreement.{drawn_none}
 use Rattle.topk_theory.proofs.AgreementLists.{all_from_members, contains_at, contains_map_from}
-use Rattle.access_log.specs.declared.core_fault.CoreFault.{CoreFault}
-use Rattle.access_log.specs.declared.core_fault.CoreFault.TheVariants.{Strangers, RoomFull}
+use Rattle.machine_base.specs.declared.core_fault.CoreFault.{CoreFault}
+use Rattle.machine_base.specs.declared.core_fault.CoreFault.TheVariants.{Strangers, RoomFull}
 use Rattle.source_state.specs.declared.look.Waiting.{Waiting}
 use Rattle.source_state.specs.declared.look.Look.{Look}
 use Rattle.source_state.specs.declared.look.Look.TheVariants as look
@@ -18,9 +18,9 @@ use Rattle.source_state.specs.declared.look.LookFault.{LookFault}
 use Rattle.source_state.specs.State.{State, opened, IsSound, state_at}
 use Rattle.source_state.specs.Drawing.{told_by}
 use Rattle.source_log.proofs.Lists.{none_not_some}
-use Rattle.source_pass.specs.declared.hold.Hold.{Hold}
-use Rattle.source_locks.specs.Passes.{hold_at}
-use Rattle.source_pass.specs.Looks.{IsWithin, TookTurn}
+use Rattle.source_pool.specs.declared.hold.Hold.{Hold}
+use Rattle.source_pool.specs.Passes.{hold_at}
+use Rattle.source_pool.specs.Looks.{IsWithin, TookTurn}
 use Rattle.query_core.specs.declared.ready.Ready.{Ready}
 use Rattle.query_core.specs.Driving.{Continues, IsFedFrom}
 use Rattle.query_core.specs.Machines.{state_of}
@@ -92,14 +92,14 @@ row_stands : (before now after : List Hold) (q r : Inquiry) (row : Row) (states 
     → FeedsFrom after r states → Went states q r → r.refusal ≡ refused → RowTaken row q r refused → Stands before after r refused
 row_stands before now after q r row states None h reading going on l is seen feeds w e taken =
     open_given before now after q r h l.others
-    (over_of _ _ (subst (Rattle.source_pass.specs.Looks.Waits (needed q) (hold_at now (source_needed q)) (hold_at after (source_needed q))) is l.waits))
-    (l.shown ∙ ap (λ a. Rattle.source_pass.specs.Looks.shown_by a (hold_at now (source_needed q)).shown) is)
-    (record { sources = l.sources; access = Rattle.access_log.specs.Machine.row_access (needed q) row; accesses = taken.1.log.accesses; meets = row_meets (needed q) row going })
+    (over_of _ _ (subst (Rattle.source_pool.specs.Looks.Waits (needed q) (hold_at now (source_needed q)) (hold_at after (source_needed q))) is l.waits))
+    (l.shown ∙ ap (λ a. Rattle.source_pool.specs.Looks.shown_by a (hold_at now (source_needed q)).shown) is)
+    (record { sources = l.sources; access = Rattle.machine_base.specs.Machine.row_access (needed q) row; accesses = taken.1.log.accesses; meets = row_meets (needed q) row going })
 row_stands before now after q r row states (Some (refusal.Core fault)) h reading going on l is seen feeds w e taken =
     let same : state_of r.machine ≡ state_of q.machine = stays fault taken in
     core_stops before now after q r states fault h l.others
-    (over_of _ _ (subst (Rattle.source_pass.specs.Looks.Waits (needed q) (hold_at now (source_needed q)) (hold_at after (source_needed q))) is l.waits))
-    (l.shown ∙ ap (λ a. Rattle.source_pass.specs.Looks.shown_by a (hold_at now (source_needed q)).shown) is)
+    (over_of _ _ (subst (Rattle.source_pool.specs.Looks.Waits (needed q) (hold_at now (source_needed q)) (hold_at after (source_needed q))) is l.waits))
+    (l.shown ∙ ap (λ a. Rattle.source_pool.specs.Looks.shown_by a (hold_at now (source_needed q)).shown) is)
     l.sources same e (many_on now q r reading l.sources (same_goes q r same)) (each_on now after q r on reading l.sources (same_goes q r same)) l.run feeds
     (elim w.cause [
       | inl none ↦ absurd (none_not_some (sym none ∙ e))
@@ -122,7 +122,7 @@ step_row before now after q r row h reading ending on l is =
     let s = source_needed q in
     let parts = open_parts q ending in
     let place = place_of now q reading ending in
-    let turn = subst (Rattle.source_pass.specs.Looks.IsTurn (needed q) (hold_at now s) (hold_at after s)) is l.turn in
+    let turn = subst (Rattle.source_pool.specs.Looks.IsTurn (needed q) (hold_at now s) (hold_at after s)) is l.turn in
     let by = row_seen (needed q) (hold_at now s) (hold_at after s) row turn in
     let states = slice_set reading.states s (state_seen (hold_at after s).pass.1) in
     let f = fresh now after q reading parts.0 place on by.sound in
@@ -144,7 +144,7 @@ step_grade before now after q r grade h reading ending on l is =
     let s = source_needed q in
     let parts = open_parts q ending in
     let place = place_of now q reading ending in
-    let turn = subst (Rattle.source_pass.specs.Looks.IsTurn (needed q) (hold_at now s) (hold_at after s)) is l.turn in
+    let turn = subst (Rattle.source_pool.specs.Looks.IsTurn (needed q) (hold_at now s) (hold_at after s)) is l.turn in
     let by = grade_seen (needed q) (hold_at now s) (hold_at after s) grade turn in
     let states = slice_set reading.states s (state_seen (hold_at after s).pass.1) in
     let f = fresh now after q reading parts.0 place on by.sound in
@@ -157,9 +157,9 @@ step_grade before now after q r grade h reading ending on l is =
       feeds = feeds_on after q r states f.feeds l.sources w.goes w.fed;
       stands = subst (Stands before after r) (sym answers.0)
           (open_given before now after q r h l.others
-          (over_of _ _ (subst (Rattle.source_pass.specs.Looks.Waits (needed q) (hold_at now s) (hold_at after s)) is l.waits))
-          (l.shown ∙ ap (λ a. Rattle.source_pass.specs.Looks.shown_by a (hold_at now s).shown) is)
-          (record { sources = l.sources; access = Rattle.access_log.specs.Machine.grade_access (needed q) grade; accesses = answers.1.log.accesses; meets = grade_meets (needed q) grade parts.1 }));
+          (over_of _ _ (subst (Rattle.source_pool.specs.Looks.Waits (needed q) (hold_at now s) (hold_at after s)) is l.waits))
+          (l.shown ∙ ap (λ a. Rattle.source_pool.specs.Looks.shown_by a (hold_at now s).shown) is)
+          (record { sources = l.sources; access = Rattle.machine_base.specs.Machine.grade_access (needed q) grade; accesses = answers.1.log.accesses; meets = grade_meets (needed q) grade parts.1 }));
     }
 
 -- the pass knows at least as much as at first
@@ -184,9 +184,9 @@ step_waits sources before now after q r advances h reading ending on l is =
       feeds = feeds_on after q r reading.states feeds l.sources goes (subst (IsFedFrom (told_to reading.states q)) (sym same) reading.feeds.fed);
       stands = subst (Stands before after r) (sym answers.0)
           (open_waits before now after q r place h l.others
-          (l.shown ∙ ap (λ a. Rattle.source_pass.specs.Looks.shown_by a (hold_at now s).shown) is)
+          (l.shown ∙ ap (λ a. Rattle.source_pool.specs.Looks.shown_by a (hold_at now s).shown) is)
           l.sources same parts.1 (tally_more sources before now after q advances on)
-          (subst (Rattle.source_pass.specs.Looks.Waits (needed q) (hold_at now s) (hold_at after s)) is l.waits));
+          (subst (Rattle.source_pool.specs.Looks.Waits (needed q) (hold_at now s) (hold_at after s)) is l.waits));
     }
 
 -- where it can't be had
@@ -198,7 +198,7 @@ step_fault before now after q r fault h reading ending on l is =
     let answers = subst (Rattle.query_turns.specs.Turns.Answers q r) is l.answers in
     let same : state_of r.machine ≡ state_of q.machine = ap state_of answers.1 in
     let goes = same_goes q r same in
-    let turn = subst (Rattle.source_pass.specs.Looks.IsTurn (needed q) (hold_at now s) (hold_at after s)) is l.turn in
+    let turn = subst (Rattle.source_pool.specs.Looks.IsTurn (needed q) (hold_at now s) (hold_at after s)) is l.turn in
     let feeds = feeds_on after q r reading.states (feeds_still s now after q reading.states on reading.feeds) l.sources goes (subst (IsFedFrom (told_to reading.states q)) (sym same) reading.feeds.fed) in
     record {
       goes = goes;
@@ -206,8 +206,8 @@ step_fault before now after q r fault h reading ending on l is =
       feeds = feeds;
       stands = subst (Stands before after r) (sym answers.0)
           (fault_stops before now after q r reading.states fault h l.others
-          (over_of _ _ (subst (Rattle.source_pass.specs.Looks.Waits (needed q) (hold_at now s) (hold_at after s)) is l.waits))
-          (l.shown ∙ ap (λ a. Rattle.source_pass.specs.Looks.shown_by a (hold_at now s).shown) is)
+          (over_of _ _ (subst (Rattle.source_pool.specs.Looks.Waits (needed q) (hold_at now s) (hold_at after s)) is l.waits))
+          (l.shown ∙ ap (λ a. Rattle.source_pool.specs.Looks.shown_by a (hold_at now s).shown) is)
           l.sources same answers.0 parts.1 (many_on now q r reading l.sources goes) (each_on now after q r on reading l.sources goes) l.run feeds
           (fault_seen (needed q) (hold_at now s) (hold_at after s) fault turn));
     }
@@ -349,7 +349,7 @@ fresh_reads holds ready q in_pool is =
         long = begun_long t.log.count holds;
         sound = all_from_members IsSound states (λ s c. let from = contains_map_from (λ (hold : Hold). opened 0 t.log.count) holds s c in subst IsSound from.2 (opened_sound 0 t.log.count (omega (arith, small, count))));
         counted = λ source l. begun_count t.log.count holds source (let long = begun_long t.log.count holds in omega (arith, l, long));
-        seen = λ source. subst (λ log. Rattle.turn_lock.specs.Facts.Begins log (hold_at holds source).pass.1.seen) (sym (begun_log t.log.count holds source)) (begins_nothing (hold_at holds source).pass.1.seen);
+        seen = λ source. subst (λ log. Rattle.turn_lock.specs.Facts.IsFrontOf log (hold_at holds source).pass.1.seen) (sym (begun_log t.log.count holds source)) (begins_nothing (hold_at holds source).pass.1.seen);
         fed = record {
           drawn = subst (IsDrawn t.log.lists (told_to states q)) (sym begins.none) (drawn_none t.log.lists (told_to states q));
           roomy = subst (λ A. length (seen_objects A) ≤ t.room) (sym begins.none) (omega arith);

@@ -3,7 +3,7 @@ use Rattle.std.proofs.Common.{◌≡◌, ◌≤◌, ◌<◌, ◌+◌, ◌==◌, 
 use Rattle.std.proofs.lemmas.Bool.{cases_lt}
 use Rattle.std.proofs.lemmas.Bool.Decides.{eqb_tells}
 use Rattle.std.proofs.lemmas.List.Elements.{Contains-append_right, Contains-append_cases}
-use Rattle.nra_core.proofs.Counts.{count_append}
+use Rattle.topk_theory.proofs.Counts.{count_append}
 use Rattle.ranked_list.specs.declared.need.Need.{Need}
 use Rattle.ranked_list.specs.declared.need.Need.TheVariants as need
 use Rattle.turn_lock.specs.declared.known.Known.{Known}
@@ -11,12 +11,12 @@ use Rattle.topk_theory.specs.declared.access.Access.TheVariants.{Random}
 use Rattle.topk_theory.specs.Transcript.{depth_of}
 use Rattle.topk_theory.proofs.Agreement.{depth_of_sorted}
 use Rattle.topk_theory.proofs.AgreementLists.{contains_nil, contains_here, contains_cases}
-use Rattle.access_log.specs.Machine.{IsInRange}
+use Rattle.machine_base.specs.Machine.{IsInRange}
 use Rattle.source_log.specs.declared.entry.LogEntry.{LogEntry}
 use Rattle.source_state.specs.declared.look.Waiting.{Waiting}
 use Rattle.source_log.proofs.Lists.{none_not_some}
-use Rattle.source_pass.specs.declared.hold.Hold.{Hold}
-use Rattle.source_pass.specs.Looks.{KeepsMarks, HasCalled, BeginsToWait}
+use Rattle.source_pool.specs.declared.hold.Hold.{Hold}
+use Rattle.source_pool.specs.Looks.{KeepsMarks, HasCalled, BeginsToWait}
 use Rattle.query_core.specs.Machines.{state_of}
 use Rattle.query_turns.specs.declared.inquiry.Inquiry.{Inquiry}
 use Rattle.query_turns.specs.Inquiries.{needed, list_needed, source_of, source_needed}

@@ -1,9 +1,9 @@
 -- What a query needs of the pass of a pool, and what it leaves of it.
 use Rattle.std.specs.Prelude.{◌≡◌, ◌<◌, ℕ, None, List, All, Contains, length}
 use Rattle.turn_lock.specs.Known.{Follows}
-use Rattle.source_pass.specs.declared.hold.Hold.{Hold}
-use Rattle.source_locks.specs.Passes.{hold_at}
-use Rattle.source_pass.specs.Looks.{IsWithin}
+use Rattle.source_pool.specs.declared.hold.Hold.{Hold}
+use Rattle.source_pool.specs.Passes.{hold_at}
+use Rattle.source_pool.specs.Looks.{IsWithin}
 use Rattle.query_core.specs.declared.ready.Ready.{Ready}
 
 -- the pass waits for nothing

@@ -1,15 +1,15 @@
 -- A query on its way through a pass: what it keeps from look to look, what a look does, and what all of them did.
 use Rattle.std.specs.Prelude.{◌≡◌, ◌≤◌, ◌<◌, ◌+◌, ℕ, Bool, true, false, Option, Some, None, List, All, length, count_by}
 use Rattle.ranked_list.specs.declared.need.Need.{Need}
-use Rattle.turn_lock.specs.Facts.{Begins, AtMost}
+use Rattle.turn_lock.specs.Facts.{IsFrontOf, AtMost}
 use Rattle.source_state.specs.declared.look.Look.{Look}
 use Rattle.source_state.specs.declared.look.LookFault.{LookFault}
 use Rattle.source_state.specs.declared.look.LookFault.TheVariants as why
 use Rattle.source_state.specs.declared.look.Waiting.{Waiting}
 use Rattle.source_state.specs.State.{State, IsSound, state_at}
-use Rattle.source_pass.specs.declared.hold.Hold.{Hold}
-use Rattle.source_locks.specs.Passes.{hold_at, OthersStay}
-use Rattle.source_pass.specs.Looks.{shown_by, IsTurn, IsWithin, TookTurn, Waits}
+use Rattle.source_pool.specs.declared.hold.Hold.{Hold}
+use Rattle.source_pool.specs.Passes.{hold_at, OthersStay}
+use Rattle.source_pool.specs.Looks.{shown_by, IsTurn, IsWithin, TookTurn, Waits}
 use Rattle.query_core.specs.Driving.{Continues, IsFedFrom}
 use Rattle.query_core.specs.Machines.{algorithm_of, state_of, MakesItsRun}
 use Rattle.query_turns.specs.declared.ended.Refusal.{Refusal}
@@ -28,7 +28,7 @@ pub record FeedsFrom (holds : List Hold) (q : Inquiry) (states : List State) : T
   pub long : length states ≡ length holds
   pub sound : All IsSound states
   pub counted : (source : ℕ) → source < length states → (state_at states source).count ≡ (state_of q.machine).log.count
-  pub seen : (source : ℕ) → Begins (state_at states source).log (hold_at holds source).pass.1.seen
+  pub seen : (source : ℕ) → IsFrontOf (state_at states source).log (hold_at holds source).pass.1.seen
   pub fed : IsFedFrom (told_to states q) (state_of q.machine)
 
 -- a query that reads through a pass: its sources are there, its machine is on its run, and was fed from what the pass saw

@@ -3,9 +3,9 @@ use Rattle.std.specs.Prelude.{◌≡◌, ◌≢◌, ◌==◌, ℕ, Option, Some,
 use Rattle.turn_lock.specs.declared.facts.Tally.{Tally}
 use Rattle.turn_lock.specs.Facts.{AtMost}
 use Rattle.source_state.specs.declared.look.LookFault.TheVariants as why
-use Rattle.source_pass.specs.declared.hold.Hold.{Hold}
-use Rattle.source_locks.specs.Passes.{hold_at}
-use Rattle.source_pass.specs.Looks.{shown_fault}
+use Rattle.source_pool.specs.declared.hold.Hold.{Hold}
+use Rattle.source_pool.specs.Passes.{hold_at}
+use Rattle.source_pool.specs.Looks.{shown_fault}
 use Rattle.query_core.specs.declared.ready.Ready.{Ready}
 use Rattle.query_turns.specs.declared.ended.Ended.{Ended}
 use Rattle.query_turns.specs.declared.ended.Refusal.{Refusal}

@@ -3,7 +3,7 @@ use Rattle.std.specs.Prelude.{false, None, List, map}
 use Rattle.turn_lock.specs.declared.known.Known.{Known}
 use Rattle.source_log.specs.declared.entry.LogEntry.{LogEntry}
 use Rattle.source_state.specs.State.{State}
-use Rattle.source_pass.specs.declared.hold.Hold.{Hold}
+use Rattle.source_pool.specs.declared.hold.Hold.{Hold}
 
 -- the state of a source as a pass saw it last: its log, its asks and how many fails of each kind came. How far rows are wanted, which kind of
 -- fail came last, and whether the state is paused, isn't told by it

@@ -1,7 +1,7 @@
 //! Running a query over a pool.
 
 ghost use Rattle.std.specs.Prelude.{◌≡◌, ◌<◌, true, false, None, IfOk, length};
-ghost use Rattle.source_locks.specs.Passes.{IsPassOf};
+ghost use Rattle.source_pool.specs.Passes.{IsPassOf};
 ghost use Rattle.query_core.specs.Ready.{IsReady};
 ghost use Rattle.query_turns.specs.Inquiries.{is_ended};
 ghost use Rattle.query_turns.specs.Endings.{IsRight};

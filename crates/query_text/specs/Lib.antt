@@ -6,3 +6,10 @@ pub mod Query
 pub mod Costs
 pub mod Reading
 pub mod Printing
+pub mod Words
+pub mod Front
+pub mod Course
+pub mod Named
+pub mod Draft
+pub mod Reached
+pub mod Finish

@@ -9,14 +9,14 @@ use Rattle.ranked_list.specs.declared.row.Row.{Row}
 use Rattle.ranked_list.specs.declared.need.Need.{Need}
 use Rattle.ranked_list.specs.declared.need.Need.TheVariants as need
 use Rattle.turn_lock.specs.declared.facts.Tally.{Tally}
-use Rattle.turn_lock.specs.Facts.{Begins as GoesOnAs, AtMost}
+use Rattle.turn_lock.specs.Facts.{IsFrontOf as GoesOnAs, AtMost}
 use Rattle.ranked_list.proofs.OptionLaws.{none_if_is_none}
-use Rattle.topk_theory.specs.Transcript.{Begins}
+use Rattle.topk_theory.specs.Transcript.{IsFrontOf}
 use Rattle.topk_theory.specs.Bounds.{grade_among}
 use Rattle.topk_theory.proofs.AgreementLists.{begins_with, begins_get}
 use Rattle.topk_theory.proofs.AgreementRows.{grade_among_row}
-use Rattle.access_log.specs.Machine.{MachineState}
-use Rattle.access_log.specs.declared.core_fault.CoreFault.TheVariants.{Strangers, RoomFull}
+use Rattle.machine_base.specs.Machine.{MachineState}
+use Rattle.machine_base.specs.declared.core_fault.CoreFault.TheVariants.{Strangers, RoomFull}
 use Rattle.source_log.specs.declared.entry.LogEntry.{LogEntry}
 use Rattle.source_log.specs.declared.entry.Asked.{Asked}
 use Rattle.source_log.specs.declared.entry.Asked.TheVariants as became
@@ -42,10 +42,10 @@ use Rattle.query_turns.specs.Causes.{RowLacksRoom, IsAtFault, IsMissed, AreAsksF
 use Rattle.query_turns.proofs.Asking.{asked_settled, not_asked, as_graded, as_bad, as_missed}
 
 -- what is told of a log is told of each that goes on as it
-pub rows_begin : (log more : List LogEntry) → GoesOnAs log more → Begins (rows_in log) (rows_in more)
+pub rows_begin : (log more : List LogEntry) → GoesOnAs log more → IsFrontOf (rows_in log) (rows_in more)
 rows_begin log more b =
     let parts : rows_in more ≡ rows_in log ++ rows_in b.rest = ap rows_in b.goes_on ∙ filter_map-append kept_row log b.rest in
-    subst (λ rows. Begins (rows_in log) rows) (sym parts) (begins_with (rows_in log) (rows_in b.rest))
+    subst (λ rows. IsFrontOf (rows_in log) rows) (sym parts) (begins_with (rows_in log) (rows_in b.rest))
 
 pub known_more : (log more : List LogEntry) (row : Row) → GoesOnAs log more → Contains (rows_in log ++ graded_in log) row
     → Contains (rows_in more ++ graded_in more) row

@@ -4,7 +4,7 @@ use Rattle.ranked_list.specs.declared.need.Need.{Need}
 use Rattle.ranked_list.specs.declared.need.Need.TheVariants as need
 use Rattle.source_log.proofs.Lists.{none_not_some}
 use Rattle.source_state.specs.State.{State}
-use Rattle.access_log.specs.declared.answer.Answer.{Answer}
+use Rattle.machine_base.specs.declared.answer.Answer.{Answer}
 use Rattle.query_core.specs.declared.ready.Ready.{Ready}
 use Rattle.query_core.specs.OneAnswer.{IsAnswered}
 use Rattle.query_core.specs.Machines.{algorithm_of, state_of}

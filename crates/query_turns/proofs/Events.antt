@@ -5,7 +5,7 @@ use Rattle.ranked_list.specs.declared.row.Row.{Row}
 use Rattle.ranked_list.specs.declared.need.Need.{Need}
 use Rattle.ranked_list.specs.declared.need.Need.TheVariants as need
 use Rattle.turn_lock.specs.declared.facts.Tally.{Tally}
-use Rattle.turn_lock.specs.Facts.{AtMost, Grows}
+use Rattle.turn_lock.specs.Facts.{AtMost, FactsGrow}
 use Rattle.turn_lock.proofs.Growth.{begins_same, at_most_same, grows_same}
 use Rattle.source_log.specs.declared.entry.LogEntry.TheVariants as entry
 use Rattle.source_log.specs.declared.entry.Settling.TheVariants as settling
@@ -44,7 +44,7 @@ counted_fits kind.Failed tally h = record { failed = omega arith; garbled = h.ga
 counted_fits kind.Garbled tally h = record { failed = h.failed; garbled = omega arith; memory = h.memory }
 counted_fits kind.Memory tally h = record { failed = h.failed; garbled = h.garbled; memory = omega arith }
 
-grows : (s : State) (e : Event) → IsSound s → Grows (facts_of s) (facts_of (after s e))
+grows : (s : State) (e : Event) → IsSound s → FactsGrow (facts_of s) (facts_of (after s e))
 grows s (Want depth) sound = record { name = refl; log = begins_same s.log; asks = begins_same s.asks; mark = omega arith; tally = at_most_same s.tally }
 grows s (Ask object) sound = ask_grows s object
 grows s (Page []) sound = logged_grows s (entry.Fault (ShortList s.count (length (rows_in s.log))))

@@ -16,8 +16,8 @@ use Rattle.topk_theory.proofs.Agreement.{drawn_more}
 use Rattle.topk_theory.proofs.AgreementLists.{all_from_members, member_of_all, contains_map, contains_at, contains_nil, contains_cases, begins_splits, begins_get, distinct_fits}
 use Rattle.topk_theory.proofs.AgreementRows.{list_at_ranked, list_at_length, objects_in_each}
 use Rattle.access_log.specs.Log.{AgreesWith}
-use Rattle.access_log.specs.Machine.{MachineState, HasRoomFor}
-use Rattle.access_log.specs.declared.core_fault.CoreFault.TheVariants.{Strangers, RoomFull}
+use Rattle.machine_base.specs.Machine.{MachineState, HasRoomFor}
+use Rattle.machine_base.specs.declared.core_fault.CoreFault.TheVariants.{Strangers, RoomFull}
 use Rattle.source_log.specs.declared.entry.Settling.TheVariants.{Graded, Bad, Missed}
 use Rattle.source_log.specs.declared.entry.SourceFault.{SourceFault}
 use Rattle.source_state.specs.declared.look.LookFault.{LookFault}

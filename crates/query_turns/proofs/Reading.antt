@@ -7,8 +7,8 @@ use Rattle.ranked_list.specs.declared.row.Row.{Row}
 use Rattle.topk_theory.specs.declared.access.Access.{Access}
 use Rattle.topk_theory.specs.Transcript.{Begins}
 use Rattle.topk_theory.proofs.AgreementLists.{begins_with, begins_trans}
-use Rattle.access_log.specs.Machine.{MachineState, Takes}
-use Rattle.access_log.specs.declared.core_fault.CoreFault.TheVariants.{Strangers, RoomFull}
+use Rattle.machine_base.specs.Machine.{MachineState, Takes}
+use Rattle.machine_base.specs.declared.core_fault.CoreFault.TheVariants.{Strangers, RoomFull}
 use Rattle.source_state.specs.declared.look.Look.{Look}
 use Rattle.source_state.specs.declared.look.Look.TheVariants as look
 use Rattle.source_state.specs.State.{State}

@@ -13,10 +13,10 @@ use Rattle.topk_theory.specs.Transcript.{Grows, Gives, list_at, depth_of, seen_o
 use Rattle.topk_theory.specs.Consistent.{IsOfKind, too_many_objects}
 use Rattle.topk_theory.proofs.Agreement.{drawn_more, seen_is_named}
 use Rattle.topk_theory.proofs.AgreementLists.{all_from_members, contains_map_from, member_of_all, contains_at}
-use Rattle.access_log.specs.Machine.{MachineState, IsNextRow, IsInRange, IsOfSeen, HasRoomFor, Takes, grade_access, MayBeNextRow, MayBeNextGrade}
-use Rattle.access_log.specs.declared.core_fault.CoreFault.{CoreFault}
-use Rattle.access_log.specs.declared.core_fault.CoreFault.TheVariants.{Strangers, RoomFull}
-use Rattle.access_log.proofs.MachineLaws.{in_range}
+use Rattle.machine_base.specs.Machine.{MachineState, IsNextRow, IsInRange, IsOfSeen, HasRoomFor, Takes, grade_access, MayBeNextRow, MayBeNextGrade}
+use Rattle.machine_base.specs.declared.core_fault.CoreFault.{CoreFault}
+use Rattle.machine_base.specs.declared.core_fault.CoreFault.TheVariants.{Strangers, RoomFull}
+use Rattle.machine_base.proofs.MachineLaws.{in_range}
 use Rattle.source_state.specs.declared.look.Waiting.{Waiting}
 use Rattle.source_state.specs.declared.look.Look.{Look}
 use Rattle.source_state.specs.declared.look.Look.TheVariants as look
@@ -37,7 +37,7 @@ use Rattle.query_turns.specs.declared.ended.Refusal.TheVariants as refusal
 use Rattle.query_turns.specs.declared.inquiry.Inquiry.{Inquiry}
 use Rattle.query_turns.specs.Histories.{HasHistory}
 use Rattle.query_turns.specs.Inquiries.{logs_of, told_to, needed, list_needed, source_of, source_needed, is_done, is_ended}
-use Rattle.query_turns.specs.Causes.{RowLacksRoom, LacksRoom, IsOfList, IsCause, HasCause, CanNotBeHad}
+use Rattle.query_turns.specs.Causes.{RowLacksRoom, LacksRoom, IsOfList, IsCause, IsRefusedForCause, CanNotBeHad}
 use Rattle.query_turns.specs.Turns.{MayFeed, RowTaken, Answers, Turns}
 use Rattle.query_turns.specs.Kept.{IsSourceOf, HasSources, IsServed}
 use Rattle.query_turns.proofs.Events.{Moved, goes_same, look_moved}
@@ -407,7 +407,7 @@ turned states laters q r sound histories h going turns =
     cause_at : (states laters : List State) (q r : Inquiry) (u : State) → IsLater (state_at states (source_needed q)) u
         → laters ≡ slice_set states (source_needed q) u → source_needed q < length states → r.sources.items ≡ q.sources.items
         → state_of r.machine ≡ state_of q.machine
-        → IsCause (state_at states (source_needed q)) (state_of r.machine) r.waiting.noted r.refusal → HasCause laters r
+        → IsCause (state_at states (source_needed q)) (state_of r.machine) r.waiting.noted r.refusal → IsRefusedForCause laters r
     cause_at states laters q r u later others l sources same cause =
         let source : source_needed r ≡ source_needed q = ap (λ (xs : List ℕ). slice_index_or xs (list_needed (needed r)) 0) sources ∙ ap (λ (t : MachineState). source_of q (list_needed t.need)) same in
         let there : state_at laters (source_needed r) ≡ u = ap (state_at laters) source ∙ ap (λ ss. state_at ss (source_needed q)) others ∙ state_set states (source_needed q) u l in

@@ -53,13 +53,13 @@ turn_may states q u left answer n place source s h going sound need list read at
 
 -- what a query makes of an answer rests on its machine alone
 row_same : (row : Row) (p q r : Inquiry) (refused : Option Refusal) → p.machine ≡ q.machine → RowTaken row p r refused → RowTaken row q r refused
-row_same row p q r None same h = subst (λ m. Rattle.access_log.specs.Machine.RowFed row (state_of m) (state_of r.machine) {A = Unit {0}} (Rattle.std.proofs.Common.Ok tt)) same h
-row_same row p q r (Some (refusal.Core fault)) same h = subst (λ m. Rattle.access_log.specs.Machine.RowFed row (state_of m) (state_of r.machine) {A = Unit {0}} (Rattle.std.proofs.Common.Err fault)) same h
+row_same row p q r None same h = subst (λ m. Rattle.machine_base.specs.Machine.RowFed row (state_of m) (state_of r.machine) {A = Unit {0}} (Rattle.std.proofs.Common.Ok tt)) same h
+row_same row p q r (Some (refusal.Core fault)) same h = subst (λ m. Rattle.machine_base.specs.Machine.RowFed row (state_of m) (state_of r.machine) {A = Unit {0}} (Rattle.std.proofs.Common.Err fault)) same h
 row_same row p q r (Some (refusal.Look list fault)) same h = h
 
 answers_same : (p q r : Inquiry) (answer : Look) → p.machine ≡ q.machine → Answers p r answer → Answers q r answer
 answers_same p q r (look.Row row) same h = row_same row p q r r.refusal same h
-answers_same p q r (look.Grade grade) same h = (h.0, subst (λ m. Rattle.access_log.specs.Machine.Takes (Rattle.access_log.specs.Machine.grade_access (state_of m).need grade) (state_of m) (state_of r.machine)) same h.1)
+answers_same p q r (look.Grade grade) same h = (h.0, subst (λ m. Rattle.machine_base.specs.Machine.Takes (Rattle.machine_base.specs.Machine.grade_access (state_of m).need grade) (state_of m) (state_of r.machine)) same h.1)
 answers_same p q r look.NotYet same h = (h.0, h.1 ∙ same)
 answers_same p q r (look.Fault fault) same h = (h.0 ∙ ap (λ (m : Machine). Some (refusal.Look (list_needed (state_of m).need) fault)) same, h.1 ∙ same)
 

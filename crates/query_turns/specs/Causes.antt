@@ -4,9 +4,9 @@ use Rattle.ranked_list.specs.declared.row.Row.{Row}
 use Rattle.ranked_list.specs.declared.need.Need.{Need}
 use Rattle.ranked_list.specs.declared.need.Need.TheVariants.{Row as RowAt, Grade, Done}
 use Rattle.turn_lock.specs.declared.facts.Tally.{Tally}
-use Rattle.access_log.specs.Machine.{MachineState, HasRoomFor}
-use Rattle.access_log.specs.declared.core_fault.CoreFault.{CoreFault}
-use Rattle.access_log.specs.declared.core_fault.CoreFault.TheVariants.{Strangers, RoomFull}
+use Rattle.machine_base.specs.Machine.{MachineState, HasRoomFor}
+use Rattle.machine_base.specs.declared.core_fault.CoreFault.{CoreFault}
+use Rattle.machine_base.specs.declared.core_fault.CoreFault.TheVariants.{Strangers, RoomFull}
 use Rattle.source_log.specs.declared.entry.FailKind.{FailKind}
 use Rattle.source_log.specs.declared.entry.FailKind.TheVariants as kind
 use Rattle.source_log.specs.declared.entry.SourceFault.{SourceFault}
@@ -80,5 +80,5 @@ IsCause s t noted None = Unit {0}
 IsCause s t noted (Some (Core fault)) = LacksRoom s t fault
 IsCause s t noted (Some (Look list fault)) = IsOfList list t.need × CanNotBeHad s t.need noted fault
 
-abbrev pub HasCause : List State → Inquiry → Type 0
-HasCause states q = IsCause (state_at states (source_needed q)) (state_of q.machine) q.waiting.noted q.refusal
+abbrev pub IsRefusedForCause : List State → Inquiry → Type 0
+IsRefusedForCause states q = IsCause (state_at states (source_needed q)) (state_of q.machine) q.waiting.noted q.refusal

@@ -1,8 +1,8 @@
 -- How the queries of a world end.
 use Rattle.std.specs.Prelude.{◌≡◌, Some, None}
 use Rattle.ranked_list.specs.declared.need.Need.TheVariants.{Done}
-use Rattle.access_log.specs.declared.answer.Answer.{Answer}
-use Rattle.access_log.specs.Machine.{IsSameLog, IsAnswerBy}
+use Rattle.machine_base.specs.declared.answer.Answer.{Answer}
+use Rattle.machine_base.specs.Machine.{IsSameLog, IsAnswerBy}
 use Rattle.query_core.specs.declared.ready.Ready.{Ready}
 use Rattle.query_core.specs.Algorithms.{items_by}
 use Rattle.query_core.specs.OneAnswer.{IsAnswered}

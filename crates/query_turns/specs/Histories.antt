@@ -1,6 +1,6 @@
 -- The histories of sources, and what never changes of what was read.
 use Rattle.std.specs.Prelude.{◌≡◌, Some, List}
-use Rattle.turn_lock.specs.Facts.{Grows}
+use Rattle.turn_lock.specs.Facts.{FactsGrow}
 use Rattle.source_log.specs.declared.entry.SourceFault.{SourceFault}
 use Rattle.source_state.specs.declared.event.Event.{Event}
 use Rattle.source_log.specs.Log.{rows_in, fault_in}
@@ -15,5 +15,5 @@ pub record HasHistory (s : State) : Type 0 where
 
 -- what was read of a source never changes: the log and the asks go on, no count of fails falls, and no row follows a row fault
 pub record GoesOn (before after : State) : Type 0 where
-  pub grows : Grows (facts_of before) (facts_of after)
+  pub grows : FactsGrow (facts_of before) (facts_of after)
   pub closed : (fault : SourceFault) → fault_in before.log ≡ Some fault → rows_in after.log ≡ rows_in before.log

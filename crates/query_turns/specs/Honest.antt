@@ -4,8 +4,8 @@ use Rattle.ranked_list.specs.declared.row.Row.{Row}
 use Rattle.ranked_list.specs.Table.{IsTable, objects}
 use Rattle.topk_theory.specs.Transcript.{Begins, list_at}
 use Rattle.access_log.specs.Log.{AgreesWith}
-use Rattle.access_log.specs.Machine.{asked_of}
-use Rattle.access_log.specs.declared.core_fault.CoreFault.TheVariants.{RoomFull}
+use Rattle.machine_base.specs.Machine.{asked_of}
+use Rattle.machine_base.specs.declared.core_fault.CoreFault.TheVariants.{RoomFull}
 use Rattle.source_log.specs.declared.entry.Settling.{Settling}
 use Rattle.source_log.specs.declared.entry.Settling.TheVariants.{Graded}
 use Rattle.source_state.specs.declared.look.LookFault.TheVariants as why

@@ -7,7 +7,7 @@ use Rattle.query_core.specs.Driving.{Continues, IsFedFrom}
 use Rattle.query_core.specs.Machines.{algorithm_of, state_of, MakesItsRun}
 use Rattle.query_turns.specs.declared.inquiry.Inquiry.{Inquiry}
 use Rattle.query_turns.specs.Inquiries.{told_to, needed, is_ended}
-use Rattle.query_turns.specs.Causes.{HasCause}
+use Rattle.query_turns.specs.Causes.{IsRefusedForCause}
 
 -- each list of the query has a source, which has as many objects as the query counts
 abbrev pub IsSourceOf : List State → ℕ → ℕ → Type 0
@@ -24,7 +24,7 @@ pub record IsServed (states : List State) (q : Inquiry) : Type 0 where
   pub run : MakesItsRun q.machine
   pub drawn : IsFedFrom (told_to states q) (state_of q.machine)
   pub waits : (need : Need) → q.waiting.need ≡ Some need → need ≡ needed q
-  pub cause : HasCause states q
+  pub cause : IsRefusedForCause states q
 
 -- a query later on: it asks the same of the same sources by the same algorithm, its transcript goes on, and once it has ended it stays
 pub record ReadsOn (before after : Inquiry) : Type 0 where

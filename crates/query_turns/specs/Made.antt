@@ -1,7 +1,7 @@
 -- Queries that are ready, and sources before any event.
 use Rattle.std.specs.Prelude.{◌≡◌, ◌<◌, ◌+◌, ℕ, None, List, [], ◌∷◌, All, length, unwrap_or}
 use Rattle.std.specs.List.{slice_index_or}
-use Rattle.access_log.specs.Machine.{MachineState, IsBegun}
+use Rattle.machine_base.specs.Machine.{MachineState, IsBegun}
 use Rattle.source_state.specs.State.{State, opened}
 use Rattle.query_core.specs.declared.ready.Ready.{Ready}
 use Rattle.query_core.specs.Ready.{IsReady}

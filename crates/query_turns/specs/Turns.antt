@@ -2,7 +2,7 @@
 use Rattle.std.specs.Prelude.{◌≡◌, Option, Some, None, List, Ok, Err}
 use Rattle.std.specs.List.{slice_set}
 use Rattle.ranked_list.specs.declared.row.Row.{Row}
-use Rattle.access_log.specs.Machine.{MachineState, MayBeNextRow, MayBeNextGrade, RowFed, Takes, grade_access}
+use Rattle.machine_base.specs.Machine.{MachineState, MayBeNextRow, MayBeNextGrade, RowFed, Takes, grade_access}
 use Rattle.source_state.specs.declared.look.Look.{Look}
 use Rattle.source_state.specs.declared.look.Look.TheVariants as look
 use Rattle.source_state.specs.State.{State, state_at}

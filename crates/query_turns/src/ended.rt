@@ -6,7 +6,7 @@ ghost use Rattle.std.specs.Slice.Iter.{iter_rest};
 ghost use Rattle.std.specs.Iterator.Adapters.{IterYieldsInOrder};
 ghost use Rattle.query_turns.specs.declared.ended.Ended.{Ended};
 
-use access_log::{Answer, CoreFault};
+use machine_base::{Answer, CoreFault};
 use source_state::LookFault;
 use std::marker::Model;
 use std::slice::Iter;

@@ -10,7 +10,7 @@ use Rattle.ranked_list.specs.declared.need.Need.TheVariants as need
 use Rattle.turn_lock.specs.declared.facts.Tally.{Tally}
 use Rattle.topk_theory.proofs.AgreementLists.{member_of_all, contains_here, slice_get_contains, slice_get_in_range}
 use Rattle.indexed_heap.proofs.Getting.{get_set_same, get_set_other}
-use Rattle.access_log.specs.Machine.{MachineState}
+use Rattle.machine_base.specs.Machine.{MachineState}
 use Rattle.source_log.specs.declared.entry.FailKind.{FailKind}
 use Rattle.source_log.specs.declared.entry.FailKind.TheVariants as kind
 use Rattle.source_state.specs.declared.event.Event.{Event}
@@ -24,7 +24,7 @@ use Rattle.source_log.specs.declared.entry.SourceFault.{SourceFault}
 use Rattle.source_log.specs.Log.{rows_in}
 use Rattle.source_state.specs.State.{State, asks_of, row_fault, state_at}
 use Rattle.source_state.specs.Events.{logged, with_rows, row_or, after}
-use Rattle.source_state.specs.Looking.{waits_for, newer, told, refusal_of, called, Refuses, IsTold, Looks}
+use Rattle.source_state.specs.Looking.{waits_for, newer, told, refusal_of, called, Refuses, IsFailTold, Looks}
 use Rattle.source_log.proofs.Lists.{none_not_some}
 use Rattle.query_core.specs.declared.ready.Ready.{Ready}
 use Rattle.query_turns.specs.declared.ended.Refusal.TheVariants as refusal
@@ -186,7 +186,7 @@ look_tally n s t waiting left look.NotYet h = elim h.waits [
 look_tally n s t waiting left (look.Fault fault) h = ap (λ (u : State). u.tally) (fault_ends n s t waiting left fault h).same
 
 -- a fail that is told
-refusal_told : (n : Need) (s t : State) (waiting left : Waiting) (what : FailKind) → Refuses n s t waiting left (refusal_of what) → IsTold n s t waiting left what
+refusal_told : (n : Need) (s t : State) (waiting left : Waiting) (what : FailKind) → Refuses n s t waiting left (refusal_of what) → IsFailTold n s t waiting left what
 refusal_told n s t waiting left kind.Failed h = h
 refusal_told n s t waiting left kind.Garbled h = h
 refusal_told n s t waiting left kind.Memory h = h

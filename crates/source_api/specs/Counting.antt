@@ -44,10 +44,10 @@ pub record NoneFell (before now : Counts) : Type 0 where
   pub grades_given : before.grades_given ≤ now.grades_given
 
 -- the count that stands behind a call that ended so went up, or stands at its last value; want of memory needs none
-abbrev pub HasCause : Counts → Counts → Trouble → Type 0
-HasCause before now Failed = Rose before.faults now.faults
-HasCause before now Garbled = Rose before.garbles now.garbles
-HasCause before now Memory = Unit {0}
+abbrev pub TroubleHasCause : Counts → Counts → Trouble → Type 0
+TroubleHasCause before now Failed = Rose before.faults now.faults
+TroubleHasCause before now Garbled = Rose before.garbles now.garbles
+TroubleHasCause before now Memory = Unit {0}
 
 -- neither a row nor a grade was given
 pub record GaveNothing (before now : Counts) : Type 0 where

@@ -70,7 +70,7 @@ impl Ledger {
     pub fn at(&self, place: &str) -> PlaceCounts
         ensures { result ≡ counts_at self.now place.now }
     {
-        match place_of(&self.entries, place.as_bytes()) {
+        match entry_at(&self.entries, place.as_bytes()) {
             Some(at) => self.entries[at].counts,
             None => PlaceCounts::none(),
         }
@@ -84,7 +84,7 @@ impl Ledger {
         ensures same { SameAtEach (counts_at self.old) (counts_at self.new) }
         ensures refused { OnErr result (self.new ≡ self.old) }
     {
-        if place_of(&self.entries, place.as_bytes()).is_some() {
+        if entry_at(&self.entries, place.as_bytes()).is_some() {
             return Ok(());
         }
         let place = Vec::from_slice(alloc, place.as_bytes())?;
@@ -124,7 +124,7 @@ impl Ledger {
     pub fn knows(&self, place: &str) -> bool
         ensures { result ≡ is_known self.now place.now }
     {
-        place_of(&self.entries, place.as_bytes()).is_some()
+        entry_at(&self.entries, place.as_bytes()).is_some()
     }
 
     /// Adds what a source counted to the counts of its place. Where the place isn't known nothing changes.
@@ -148,7 +148,7 @@ impl Ledger {
         ensures elsewhere { SameElsewhere place.now (counts_at self.old) (counts_at self.new) }
         ensures known { (other : List ℕ) → is_known self.new other ≡ is_known self.old other }
     {
-        let Some(at) = place_of(&self.entries, place.as_bytes()) else {
+        let Some(at) = entry_at(&self.entries, place.as_bytes()) else {
             unreachable!();
         };
         self.entries[at].counts = counts;
@@ -156,7 +156,7 @@ impl Ledger {
 }
 
 /// Where the first entry of a place stands.
-fn place_of(entries: &[Entry], place: &[u8]) -> Option<usize>
+fn entry_at(entries: &[Entry], place: &[u8]) -> Option<usize>
     ensures { result ≡ position (λ entry. bytes_eq entry.place.items place.now) entries.now }
 {
     entries

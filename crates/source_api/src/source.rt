@@ -3,7 +3,7 @@
 ghost use Rattle.std.specs.Prelude.{◌≡◌, ◌≤◌, List, Option, length, vec_len, IfOk, IfErr, IfSome, OnErr, OnOk};
 ghost use Rattle.ranked_list.specs.declared.row.Row.{Row as RowOf};
 ghost use Rattle.source_api.specs.declared.counts.Counts.{Counts as CountsOf};
-ghost use Rattle.source_api.specs.Counting.{NoneFell, HasCause, GaveNothing, GaveRows, GaveGrade};
+ghost use Rattle.source_api.specs.Counting.{NoneFell, TroubleHasCause, GaveNothing, GaveRows, GaveGrade};
 ghost use Rattle.source_api.specs.Told.{HasEachOnce, IsPage, IsGrade};
 
 use ranked_list::Row;
@@ -34,7 +34,7 @@ pub trait Source: Send + Drop {
     fn size(&mut self, alloc: Global) -> Result<u64, Trouble>
         ensures list { list self.new ≡ list self.old }
         ensures later { NoneFell (counts self.old) (counts self.new) }
-        ensures cause { IfErr result (HasCause (counts self.old) (counts self.new)) }
+        ensures cause { IfErr result (TroubleHasCause (counts self.old) (counts self.new)) }
         ensures given { GaveNothing (counts self.old) (counts self.new) }
         ensures size { IfOk result (λ size. IfSome (list self.old) (λ rows. size ≡ length rows)) };
 
@@ -44,7 +44,7 @@ pub trait Source: Send + Drop {
         requires { 1 ≤ count }
         ensures list { list self.new ≡ list self.old }
         ensures later { NoneFell (counts self.old) (counts self.new) }
-        ensures cause { IfErr result (HasCause (counts self.old) (counts self.new)) }
+        ensures cause { IfErr result (TroubleHasCause (counts self.old) (counts self.new)) }
         ensures given { IfOk result (λ page. GaveRows (vec_len page) (counts self.old) (counts self.new)) }
         ensures gave_nothing { OnErr result (GaveNothing (counts self.old) (counts self.new)) }
         ensures bound { IfOk result (λ page. vec_len page ≤ count) }
@@ -54,7 +54,7 @@ pub trait Source: Send + Drop {
     fn grade(&mut self, alloc: Global, object: u32) -> Result<Option<u32>, Trouble>
         ensures list { list self.new ≡ list self.old }
         ensures later { NoneFell (counts self.old) (counts self.new) }
-        ensures cause { IfErr result (HasCause (counts self.old) (counts self.new)) }
+        ensures cause { IfErr result (TroubleHasCause (counts self.old) (counts self.new)) }
         ensures given { OnOk result (GaveGrade (counts self.old) (counts self.new)) }
         ensures gave_nothing { OnErr result (GaveNothing (counts self.old) (counts self.new)) }
         ensures grade { IfOk result (λ grade. IfSome (list self.old) (λ rows. IsGrade rows object grade)) };

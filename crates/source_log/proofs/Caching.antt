@@ -9,8 +9,8 @@ use Rattle.std.proofs.lemmas.List.Quantifiers.{all_pairs_push}
 use Rattle.std.proofs.lemmas.Option.{slice_get-map, slice_get_within}
 use Rattle.ranked_list.specs.declared.row.Row.{Row}
 use Rattle.ranked_list.specs.Table.{objects}
-use Rattle.room_map.specs.Keys.{Keys}
-use Rattle.grade_tree.specs.Grades.{grade_at, AreWithin, IsFirstAbove}
+use Rattle.object_map.specs.Keys.{Keys}
+use Rattle.source_log.specs.Grades.{grade_at, AreWithin, IsFirstAbove}
 use Rattle.topk_theory.specs.Transcript.{last_grade}
 use Rattle.topk_theory.specs.Bounds.{grade_among}
 use Rattle.topk_theory.proofs.ThresholdRun.{contains_from_filter_map}

@@ -1,3 +1,5 @@
+pub mod TreeLaws
+pub mod Keeping
 pub mod Lists
 pub mod LogLaws
 pub mod Caching

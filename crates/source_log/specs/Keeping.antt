@@ -3,7 +3,7 @@ use Rattle.std.specs.Prelude.{◌≡◌, ◌≢◌, ◌≤◌, ◌-◌, ◌++◌
 use Rattle.std.specs.List.{position_or_len}
 use Rattle.ranked_list.specs.declared.row.Row.{Row}
 use Rattle.ranked_list.specs.Table.{objects}
-use Rattle.room_map.specs.Keys.{Keys}
+use Rattle.object_map.specs.Keys.{Keys}
 use Rattle.source_log.specs.declared.ask.Ask.{Ask}
 use Rattle.source_log.specs.Asks.{open_grade, is_due}
 use Rattle.limits.specs.declared.TheConstants.{MAX_OBJECTS}

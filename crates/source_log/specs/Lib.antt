@@ -1,3 +1,5 @@
+pub mod Grades
+pub mod Nodes
 pub mod Log
 pub mod Asks
 pub mod Keeping

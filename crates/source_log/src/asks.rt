@@ -9,10 +9,10 @@ ghost use Rattle.source_log.specs.Keeping.{AskList, ask_objects};
 use super::Memory;
 use super::ask::Ask;
 use super::entry::Settling;
-use grade_tree::GradeTree;
+use super::tree::GradeTree;
 use limits::MAX_OBJECTS;
+use object_map::RoomMap;
 use ranked_list::Row;
-use room_map::RoomMap;
 use std::alloc::Global;
 use std::marker::Model;
 

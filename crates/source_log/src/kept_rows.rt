@@ -9,8 +9,8 @@ ghost use Rattle.source_log.specs.Keeping.{RowList};
 
 use super::Memory;
 use limits::{MAX_OBJECTS, TOP_GRADE};
+use object_map::RoomMap;
 use ranked_list::Row;
-use room_map::RoomMap;
 use std::alloc::Global;
 use std::marker::Model;
 

@@ -3,9 +3,9 @@ use Rattle.std.proofs.Common.{◌≡◌, ◌<◌, inl, inr, ℕ, List, length, s
 use Rattle.std.proofs.lemmas.List.{get_or-set_same, get_or-set_other}
 use Rattle.std.proofs.lemmas.Bool.Decides.{eqb_tells}
 use Rattle.atomic_table.specs.Seated.{TableId}
-use Rattle.source_pass.specs.declared.hold.Hold.{Hold}
-use Rattle.source_pass.specs.Passes.{no_hold, IsFree}
-use Rattle.source_locks.specs.Passes.{lock_at, hold_at, IsPassOf, OthersStay}
+use Rattle.source_pool.specs.declared.hold.Hold.{Hold}
+use Rattle.source_pool.specs.Holds.{no_hold, IsFree}
+use Rattle.source_pool.specs.Passes.{lock_at, hold_at, IsPassOf, OthersStay}
 
 pub read_set : (holds : List Hold) (source : ℕ) (hold : Hold) → source < length holds → hold_at (set holds source hold) source ≡ hold
 read_set holds source hold within = get_or-set_same holds source hold no_hold within

@@ -2,7 +2,7 @@
 
 ghost use Rattle.std.specs.Prelude.{◌≡◌, ◌<◌, ◌^◌, vec_len};
 
-use source_locks::Feeder;
+use super::feeder::Feeder;
 use std::marker::Model;
 
 /// Feeders, which contracts see as their list.
@@ -13,7 +13,7 @@ pub struct Feeders {
 
 impl Model for Feeders {
     ghost use Rattle.std.specs.Prelude.{List, ◌<◌, ◌^◌, vec_len};
-    ghost use Rattle.source_locks.specs.Passes.{Feed};
+    ghost use Rattle.source_pool.specs.Passes.{Feed};
 
     ghost Value = { List Feed };
 

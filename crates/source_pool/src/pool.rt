@@ -1,21 +1,24 @@
 //! Pools.
 
 ghost use Rattle.std.specs.Prelude.{◌≡◌, ◌≤◌, ◌<◌, ◌^◌, length, All, IfOk, OnOk, OnErr, IfSome, IsSomeAnd, None};
-ghost use Rattle.turn_lock.specs.Facts.{Grows};
-ghost use Rattle.turn_lock.specs.Known.{Agrees, HasAll};
+ghost use Rattle.turn_lock.specs.Facts.{FactsGrow};
+ghost use Rattle.turn_lock.specs.Known.{KnowsOf, HasAll};
 ghost use Rattle.source_state.specs.State.{facts_of};
-ghost use Rattle.source_locks.specs.Passes.{hold_at, IsPassOf, OthersStay, IsFeederOf, IsIdleOf, AreFeedersOf, in_turn, turned};
-ghost use Rattle.source_pass.specs.Looks.{MayLookFor, Answers, Waits, shown_by, TookTurn, IsTurn, IsWithin};
-ghost use Rattle.source_locks.specs.Sharing.{IsOpened, MaySplit, IsSplit, IsJoined};
-ghost use Rattle.source_locks.specs.Closed.{HaveAll, AreClosed};
+ghost use Rattle.source_pool.specs.Passes.{hold_at, IsPassOf, OthersStay, IsFeederOf, IsIdleOf, AreFeedersOf, in_turn, turned};
+ghost use Rattle.source_pool.specs.Looks.{MayLookFor, Answers, Waits, shown_by, TookTurn, IsTurn, IsWithin};
+ghost use Rattle.source_pool.specs.Sharing.{IsOpened, MaySplit, IsSplit, IsJoined};
+ghost use Rattle.source_pool.specs.Closed.{HaveAll, AreClosed};
 
+use super::closing::close_all;
+use super::feeder::Feeder;
 use super::feeders::Feeders;
+use super::look::look_once;
+use super::opening::open_all;
 use super::pool_pass::PoolPass;
+use super::sharing::{join_all, split_all};
 use super::states::States;
 use limits::MAX_OBJECTS;
 use ranked_list::Need;
-use source_locks::{Feeder, close_all, join_all, open_all, split_all};
-use source_pass::look_once;
 use source_state::{Look, Memory, SourceState};
 use std::alloc::Global;
 use std::marker::Model;
@@ -171,7 +174,7 @@ impl Pool {
     pub fn take(&self, rt: &impl Wait, feeder: &mut Feeder) -> SourceState
         requires own { IsIdleOf self.now feeder.old }
         ensures feeder { feeder.new ≡ in_turn (facts_of result) feeder.old }
-        ensures state { Agrees (facts_of result) feeder.old.pass.1 }
+        ensures state { KnowsOf (facts_of result) feeder.old.pass.1 }
         ensures all { HasAll (facts_of result) feeder.old.pass.1 }
     {
         let lock = &self.locks[feeder.source() as usize];
@@ -182,7 +185,7 @@ impl Pool {
     /// those that were taken.
     pub fn give(&self, feeder: &mut Feeder, state: SourceState)
         requires own { IsFeederOf self.now feeder.old }
-        requires turn { IsSomeAnd feeder.old.pass.1.held (λ f. Grows f (facts_of state)) }
+        requires turn { IsSomeAnd feeder.old.pass.1.held (λ f. FactsGrow f (facts_of state)) }
         ensures { IfSome feeder.old.pass.1.held (λ f. feeder.new ≡ turned f (facts_of state) feeder.old) }
     {
         let lock = &self.locks[feeder.source() as usize];

@@ -1,6 +1,6 @@
 //! A pass of a pool.
 
-use source_pass::Hold;
+use super::hold::Hold;
 use std::marker::Model;
 
 /// A right to look at the sources of a pool. To a contract it is what it holds of each source, by the sources' numbers.
@@ -11,7 +11,7 @@ pub struct PoolPass {
 
 impl Model for PoolPass {
     ghost use Rattle.std.specs.Prelude.{List};
-    ghost use Rattle.source_pass.specs.declared.hold.Hold.{Hold};
+    ghost use Rattle.source_pool.specs.declared.hold.Hold.{Hold};
 
     ghost Value = { List Hold };
 

@@ -1,7 +1,7 @@
 -- Each event lets the facts grow.
 use Rattle.std.proofs.Common.{◌≡◌, Option, Some, None, List, [], ◌∷◌, refl, le_refl, ℕ, ◌∙◌, ap}
 use Rattle.ranked_list.specs.declared.row.Row.{Row}
-use Rattle.turn_lock.specs.Facts.{Begins, Grows}
+use Rattle.turn_lock.specs.Facts.{IsFrontOf, FactsGrow}
 use Rattle.turn_lock.proofs.Growth.{begins_same, begins_more, at_most_same, grows_same, grows_on}
 use Rattle.source_log.specs.declared.ask.Ask.{Ask}
 use Rattle.source_log.specs.declared.entry.LogEntry.{LogEntry}
@@ -14,22 +14,22 @@ use Rattle.source_state.specs.State.{State, asks_of, row_fault, facts_of}
 use Rattle.source_state.specs.Events.{logged, one_asked, with_ask, row_or, with_rows, IsApplied}
 use Rattle.source_log.proofs.LogLaws.{fault_first}
 
-pub logged_grows : (s : State) (entry : LogEntry) → Grows (facts_of s) (facts_of (logged s entry))
+pub logged_grows : (s : State) (entry : LogEntry) → FactsGrow (facts_of s) (facts_of (logged s entry))
 logged_grows s entry = record { name = refl; log = begins_more s.log (entry ∷ []); asks = begins_same s.asks; mark = le_refl _; tally = at_most_same s.tally }
 
-asked_begins : (found : Option Ask) (object : ℕ) (asks : List ℕ) → Begins asks (one_asked found object asks)
+asked_begins : (found : Option Ask) (object : ℕ) (asks : List ℕ) → IsFrontOf asks (one_asked found object asks)
 asked_begins None object asks = begins_more asks (object ∷ [])
 asked_begins (Some ask) object asks = begins_same asks
 
-pub ask_grows : (s : State) (object : ℕ) → Grows (facts_of s) (facts_of (with_ask s object))
+pub ask_grows : (s : State) (object : ℕ) → FactsGrow (facts_of s) (facts_of (with_ask s object))
 ask_grows s object = record { name = refl; log = begins_same s.log; asks = asked_begins (ask_of (asks_of s) object) object s.asks; mark = le_refl _; tally = at_most_same s.tally }
 
-row_grows : (o : Option SourceFault) (s : State) (row : Row) (next : State → State) → ((t : State) → Grows (facts_of t) (facts_of (next t)))
-    → Grows (facts_of s) (facts_of (row_or o s row next))
+row_grows : (o : Option SourceFault) (s : State) (row : Row) (next : State → State) → ((t : State) → FactsGrow (facts_of t) (facts_of (next t)))
+    → FactsGrow (facts_of s) (facts_of (row_or o s row next))
 row_grows None s row next h = grows_on (logged_grows s (Kept row)) (h (logged s (Kept row)))
 row_grows (Some fault) s row next h = logged_grows s (Fault fault)
 
-pub rows_grow : (s : State) (rows : List Row) → Grows (facts_of s) (facts_of (with_rows s rows))
+pub rows_grow : (s : State) (rows : List Row) → FactsGrow (facts_of s) (facts_of (with_rows s rows))
 rows_grow s [] = grows_same (facts_of s)
 rows_grow s (row ∷ rows) = row_grows (row_fault (rows_in s.log) (asks_of s) row) s row (λ t. with_rows t rows) (λ t. rows_grow t rows)
 

@@ -15,7 +15,7 @@ use Rattle.source_state.specs.declared.event.Event.TheVariants.{Want, Ask, Page,
 use Rattle.source_log.specs.Log.{first_of, rows_in, fault_in}
 use Rattle.source_state.specs.State.{State, opened, asks_of, row_fault, settle}
 use Rattle.source_state.specs.Events.{logged, row_or, with_rows, after, MayCome}
-use Rattle.source_state.specs.History.{Moment, moments, settling_by, rows_told, fault_told, fault_added, entries_by, entries_told, log_told, replayed, AllMayCome, kept_by, IsTold}
+use Rattle.source_state.specs.History.{Moment, moments, settling_by, rows_told, fault_told, fault_added, entries_by, entries_told, log_told, replayed, AllMayCome, kept_by, IsByHistory}
 use Rattle.source_log.proofs.LogLaws.{kept_rows, kept_faults, settled_rows, settled_faults, fault_rows, fault_first}
 use Rattle.source_state.proofs.Told.{replayed_push, moments_push, count_stays, told_next, none_told}
 
@@ -112,8 +112,8 @@ settles_told kept E s (Grade object grade) all = ap (λ rows. Some (entry.Settle
 settles_told kept E s (Miss object) all = refl
 settles_told kept E s (Fail what) all = refl
 
-log_next : (kept : List Event → List Row) (count : ℕ) (E : List Event) (s : State) (event : Event) → IsTold kept count E s
-    → IsTold kept count (E ++ event ∷ []) (after s event) → rows_in s.log ≡ kept E → MayCome s event → s.log ≡ log_told kept count E
+log_next : (kept : List Event → List Row) (count : ℕ) (E : List Event) (s : State) (event : Event) → IsByHistory kept count E s
+    → IsByHistory kept count (E ++ event ∷ []) (after s event) → rows_in s.log ≡ kept E → MayCome s event → s.log ≡ log_told kept count E
     → (after s event).log ≡ log_told kept count (E ++ event ∷ [])
 log_next kept count E s event h next all may is =
     let m : Moment = record { before = E; event = event } in
@@ -128,17 +128,17 @@ log_next kept count E s event h next all may is =
     ∙ sym (ap (flat_map (entries_told kept count)) (moments_push [] E event) ∙ flat_map-append (entries_told kept count) (moments E) (m ∷ []))
 
 -- a whole history
-log_along : (start : State) (count : ℕ) (E more : List Event) → IsTold (kept_by start) count E (replayed start E) → (replayed start E).count ≡ count
+log_along : (start : State) (count : ℕ) (E more : List Event) → IsByHistory (kept_by start) count E (replayed start E) → (replayed start E).count ≡ count
     → (replayed start E).log ≡ log_told (kept_by start) count E → AllMayCome (replayed start E) more
     → (replayed (replayed start E) more).log ≡ log_told (kept_by start) count (E ++ more)
 log_along start count E [] h is log may = log ∙ ap (log_told (kept_by start) count) (sym (append-nil E))
 log_along start count E (event ∷ more) h is log may =
-    let next : IsTold (kept_by start) count (E ++ event ∷ []) (after (replayed start E) event) = told_next (kept_by start) count E (replayed start E) event h is refl may.0 in
+    let next : IsByHistory (kept_by start) count (E ++ event ∷ []) (after (replayed start E) event) = told_next (kept_by start) count E (replayed start E) event h is refl may.0 in
     let step : after (replayed start E) event ≡ replayed start (E ++ event ∷ []) = sym (replayed_push start E event) in
     let log2 : (after (replayed start E) event).log ≡ log_told (kept_by start) count (E ++ event ∷ []) = log_next (kept_by start) count E (replayed start E) event h next refl may.0 log in
     ap (λ (t : State). (replayed t more).log) step
     ∙ log_along start count (E ++ event ∷ []) more
-    (subst (λ t. IsTold (kept_by start) count (E ++ event ∷ []) t) step next)
+    (subst (λ t. IsByHistory (kept_by start) count (E ++ event ∷ []) t) step next)
     (ap (λ (t : State). t.count) (sym step) ∙ count_stays (replayed start E) event ∙ is)
     (ap (λ (t : State). t.log) (sym step) ∙ log2)
     (subst (λ t. AllMayCome t more) step may.1)

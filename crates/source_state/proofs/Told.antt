@@ -27,7 +27,7 @@ use Rattle.source_log.specs.Log.{first_of, rows_in, settled_as, settling_in, fau
 use Rattle.source_log.specs.Asks.{ask_in, ask_of}
 use Rattle.source_state.specs.State.{State, opened, asks_of, row_fault, settle, last_count}
 use Rattle.source_state.specs.Events.{logged, wanted, one_asked, with_ask, row_or, with_rows, paged, one_more, counted, failed, after, MayCome}
-use Rattle.source_state.specs.History.{last_of, depth_wanted, object_asked, kind_failed, rows_brought, greatest_want, objects_asked, fails_told, is_failed, is_garbled, is_memory, tally_told, pauses, is_paused, replayed, AllMayCome, Moment, moments_after, moments, settling_by, settlings, Came, page_came, came_after, came, asks_told, fault_came, before_first, rows_told, short_by, fault_told, kept_by, IsTold}
+use Rattle.source_state.specs.History.{last_of, depth_wanted, object_asked, kind_failed, rows_brought, greatest_want, objects_asked, fails_told, is_failed, is_garbled, is_memory, tally_told, pauses, is_paused, replayed, AllMayCome, Moment, moments_after, moments, settling_by, settlings, Came, page_came, came_after, came, asks_told, fault_came, before_first, rows_told, short_by, fault_told, kept_by, IsByHistory}
 use Rattle.source_log.proofs.Lists.{no_first}
 use Rattle.source_log.proofs.LogLaws.{kept_rows, kept_settling, kept_faults, settled_rows, settled_faults, fault_rows, fault_settling, fault_first}
 use Rattle.source_state.proofs.AskLaws.{ask_found, ask_missing}
@@ -274,8 +274,8 @@ stays : (kept : List Event → List Row) (count : ℕ) (E : List Event) (event :
     → ((m : Moment) → short_by count kept m event ≡ None) → Stays kept count E event
 stays kept count E event none short = record { rows = rows_stay kept E event none; fault = fault_stays count kept E event none short }
 
-told_want : (kept : List Event → List Row) (count : ℕ) (E : List Event) (s : State) (depth : ℕ) → IsTold kept count E s
-    → IsTold kept count (E ++ Want depth ∷ []) (wanted s depth)
+told_want : (kept : List Event → List Row) (count : ℕ) (E : List Event) (s : State) (depth : ℕ) → IsByHistory kept count E s
+    → IsByHistory kept count (E ++ Want depth ∷ []) (wanted s depth)
 told_want kept count E s depth h =
     let st = stays kept count E (Want depth) refl (λ m. refl) in
     record {
@@ -300,8 +300,8 @@ asked_once E s object (Some ask) e is =
     ∙ sym (ap each_once (filter_map_push_some object_asked E (Ask object) object refl)
     ∙ each_once_push_old (filter_map object_asked E) object (subst (λ os. Contains os object) is (ask_found s.log s.asks object ask e).0))
 
-told_ask : (kept : List Event → List Row) (count : ℕ) (E : List Event) (s : State) (object : ℕ) → IsTold kept count E s
-    → IsTold kept count (E ++ Ask object ∷ []) (with_ask s object)
+told_ask : (kept : List Event → List Row) (count : ℕ) (E : List Event) (s : State) (object : ℕ) → IsByHistory kept count E s
+    → IsByHistory kept count (E ++ Ask object ∷ []) (with_ask s object)
 told_ask kept count E s object h =
     let st = stays kept count E (Ask object) refl (λ m. refl) in
     record {
@@ -316,9 +316,9 @@ told_ask kept count E s object h =
     }
 
 told_settling : (kept : List Event → List Row) (count : ℕ) (E : List Event) (s : State) (event : Event) (object : ℕ) (settling : Settling)
-    → IsTold kept count E s → depth_wanted event ≡ None → object_asked event ≡ None → kind_failed event ≡ None → pauses event ≡ None → Stays kept count E event
+    → IsByHistory kept count E s → depth_wanted event ≡ None → object_asked event ≡ None → kind_failed event ≡ None → pauses event ≡ None → Stays kept count E event
     → settling_by kept (record { before = E; event = event }) event ≡ Some (entry.Settled object settling)
-    → IsTold kept count (E ++ event ∷ []) (logged s (entry.Settled object settling))
+    → IsByHistory kept count (E ++ event ∷ []) (logged s (entry.Settled object settling))
 told_settling kept count E s event object settling h no_want no_ask no_fail no_pause st some = record {
   want = h.want ∙ want_stays E event no_want;
   asks = h.asks ∙ asks_stay E event no_ask;
@@ -369,8 +369,8 @@ counted_told fails kind.Memory =
     one_more_counted (length (filter is_memory fails)) ∙ ap (λ n. min n last_count) (sym (ap (length {A = FailKind}) (filter-append is_memory fails (kind.Memory ∷ [])) ∙ length_push (filter is_memory fails) kind.Memory)) in
     tally_same f g m
 
-told_fail : (kept : List Event → List Row) (count : ℕ) (E : List Event) (s : State) (what : FailKind) → IsTold kept count E s
-    → IsTold kept count (E ++ Fail what ∷ []) (failed s what)
+told_fail : (kept : List Event → List Row) (count : ℕ) (E : List Event) (s : State) (what : FailKind) → IsByHistory kept count E s
+    → IsByHistory kept count (E ++ Fail what ∷ []) (failed s what)
 unfolding tally_of
 told_fail kept count E s what h =
     let st = stays kept count E (Fail what) refl (λ m. refl) in
@@ -387,8 +387,8 @@ told_fail kept count E s what h =
     }
 
 -- a page
-told_page : (kept : List Event → List Row) (count : ℕ) (E : List Event) (s : State) (rows : List Row) → IsTold kept count E s → s.count ≡ count
-    → rows_in s.log ≡ kept E → fault_in s.log ≡ None → IsTold kept count (E ++ Page rows ∷ []) (paged s rows)
+told_page : (kept : List Event → List Row) (count : ℕ) (E : List Event) (s : State) (rows : List Row) → IsByHistory kept count E s → s.count ≡ count
+    → rows_in s.log ≡ kept E → fault_in s.log ≡ None → IsByHistory kept count (E ++ Page rows ∷ []) (paged s rows)
 told_page kept count E s [] h is all none =
     let parts = none_parts _ _ (sym h.fault ∙ none) in
     let short : filter_map (λ (m : Moment). short_by count kept m m.event) (moments (E ++ Page [] ∷ [])) ≡ filter_map (λ (m : Moment). short_by count kept m m.event) (moments E) ++ ShortList count (length (kept E)) ∷ [] =
@@ -457,8 +457,8 @@ count_stays s (Grade object grade) = refl
 count_stays s (Miss object) = refl
 count_stays s (Fail what) = refl
 
-pub told_next : (kept : List Event → List Row) (count : ℕ) (E : List Event) (s : State) (event : Event) → IsTold kept count E s → s.count ≡ count
-    → rows_in s.log ≡ kept E → MayCome s event → IsTold kept count (E ++ event ∷ []) (after s event)
+pub told_next : (kept : List Event → List Row) (count : ℕ) (E : List Event) (s : State) (event : Event) → IsByHistory kept count E s → s.count ≡ count
+    → rows_in s.log ≡ kept E → MayCome s event → IsByHistory kept count (E ++ event ∷ []) (after s event)
 told_next kept count E s (Want depth) h is all may = told_want kept count E s depth h
 told_next kept count E s (Ask object) h is all may = told_ask kept count E s object h
 told_next kept count E s (Page rows) h is all may = told_page kept count E s rows h is all may.no_fault
@@ -469,20 +469,20 @@ told_next kept count E s (Miss object) h is all may =
     told_settling kept count E s (Miss object) object settling.Missed h refl refl refl refl (stays kept count E (Miss object) refl (λ m. refl)) refl
 told_next kept count E s (Fail what) h is all may = told_fail kept count E s what h
 
-told_along : (start : State) (count : ℕ) (E more : List Event) → IsTold (kept_by start) count E (replayed start E) → (replayed start E).count ≡ count
-    → AllMayCome (replayed start E) more → IsTold (kept_by start) count (E ++ more) (replayed (replayed start E) more)
-told_along start count E [] h is may = subst (λ F. IsTold (kept_by start) count F (replayed start E)) (sym (append-nil E)) h
+told_along : (start : State) (count : ℕ) (E more : List Event) → IsByHistory (kept_by start) count E (replayed start E) → (replayed start E).count ≡ count
+    → AllMayCome (replayed start E) more → IsByHistory (kept_by start) count (E ++ more) (replayed (replayed start E) more)
+told_along start count E [] h is may = subst (λ F. IsByHistory (kept_by start) count F (replayed start E)) (sym (append-nil E)) h
 told_along start count E (event ∷ more) h is may =
-    let next : IsTold (kept_by start) count (E ++ event ∷ []) (after (replayed start E) event) = told_next (kept_by start) count E (replayed start E) event h is refl may.0 in
+    let next : IsByHistory (kept_by start) count (E ++ event ∷ []) (after (replayed start E) event) = told_next (kept_by start) count E (replayed start E) event h is refl may.0 in
     let step : after (replayed start E) event ≡ replayed start (E ++ event ∷ []) = sym (replayed_push start E event) in
-    subst (λ F. IsTold (kept_by start) count F (replayed (after (replayed start E) event) more)) (append_assoc E (event ∷ []) more)
-    (subst (λ t. IsTold (kept_by start) count ((E ++ event ∷ []) ++ more) (replayed t more)) (sym step)
+    subst (λ F. IsByHistory (kept_by start) count F (replayed (after (replayed start E) event) more)) (append_assoc E (event ∷ []) more)
+    (subst (λ t. IsByHistory (kept_by start) count ((E ++ event ∷ []) ++ more) (replayed t more)) (sym step)
     (told_along start count (E ++ event ∷ []) more
-    (subst (λ t. IsTold (kept_by start) count (E ++ event ∷ []) t) step next)
+    (subst (λ t. IsByHistory (kept_by start) count (E ++ event ∷ []) t) step next)
     (ap (λ (t : State). t.count) (sym step) ∙ count_stays (replayed start E) event ∙ is)
     (subst (λ t. AllMayCome t more) step may.1)))
 
-pub none_told : (list count : ℕ) → IsTold (kept_by (opened list count)) count [] (opened list count)
+pub none_told : (list count : ℕ) → IsByHistory (kept_by (opened list count)) count [] (opened list count)
 none_told list count = record {
   want = refl;
   asks = refl;
@@ -495,5 +495,5 @@ none_told list count = record {
 }
 
 pub history_told : (list count : ℕ) (E : List Event) → AllMayCome (opened list count) E
-    → IsTold (kept_by (opened list count)) count E (replayed (opened list count) E)
+    → IsByHistory (kept_by (opened list count)) count E (replayed (opened list count) E)
 history_told list count E may = told_along (opened list count) count [] E (none_told list count) refl may

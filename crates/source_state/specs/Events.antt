@@ -2,7 +2,7 @@
 use Rattle.std.specs.Prelude.{◌≡◌, ◌≤◌, ◌<◌, ◌+◌, ℕ, min, max, true, false, Option, Some, None, List, [], ◌∷◌, ◌++◌, length}
 use Rattle.ranked_list.specs.declared.row.Row.{Row}
 use Rattle.turn_lock.specs.declared.facts.Tally.{Tally}
-use Rattle.turn_lock.specs.Facts.{IsKept}
+use Rattle.turn_lock.specs.Facts.{AreFactsKept}
 use Rattle.source_log.specs.declared.ask.Ask.{Ask as Asking}
 use Rattle.source_log.specs.declared.entry.LogEntry.{LogEntry}
 use Rattle.source_log.specs.declared.entry.LogEntry.TheVariants as entry
@@ -104,8 +104,8 @@ IsApplied before after Broken = (fault_in before.log ≡ None) × (fault : Sourc
 
 -- what a want and an ask keep: the log and the tally
 abbrev pub KeepsLog : Event → State → State → Type 0
-KeepsLog (Want depth) before after = IsKept (facts_of before) (facts_of after)
-KeepsLog (Ask object) before after = IsKept (facts_of before) (facts_of after)
+KeepsLog (Want depth) before after = AreFactsKept (facts_of before) (facts_of after)
+KeepsLog (Ask object) before after = AreFactsKept (facts_of before) (facts_of after)
 KeepsLog (Page rows) before after = Unit {0}
 KeepsLog (Grade object grade) before after = Unit {0}
 KeepsLog (Miss object) before after = Unit {0}

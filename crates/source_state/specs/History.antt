@@ -186,7 +186,7 @@ abbrev pub kept_by : State → List Event → List Row
 kept_by start E = rows_in (replayed start E).log
 
 -- a state is what a history says: its wants, asks, fails and pause, its rows, their fault, and what each object settled as
-pub record IsTold (kept : List Event → List Row) (count : ℕ) (E : List Event) (s : State) : Type 0 where
+pub record IsByHistory (kept : List Event → List Row) (count : ℕ) (E : List Event) (s : State) : Type 0 where
   pub want : s.want ≡ greatest_want E
   pub asks : s.asks ≡ objects_asked E
   pub tally : s.tally ≡ tally_told E

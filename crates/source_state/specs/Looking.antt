@@ -98,7 +98,7 @@ pub record IsDecided (need : Need) (before after : State) (waiting left : Waitin
   pub ends : Ends before after waiting left
 
 -- the log decides nothing, and a fail of this kind is the first that came since the need began to wait
-pub record IsTold (need : Need) (before after : State) (waiting left : Waiting) (what : FailKind) : Type 0 where
+pub record IsFailTold (need : Need) (before after : State) (waiting left : Waiting) (what : FailKind) : Type 0 where
   pub undecided : decided before need ≡ None
   pub tells : told waiting need before.tally ≡ Some what
   pub ends : Ends before after waiting left
@@ -135,9 +135,9 @@ abbrev pub Refuses : Need → State → State → Waiting → Waiting → LookFa
 Refuses need before after waiting left (why.Source fault) = IsDecided need before after waiting left (look.Fault (why.Source fault))
 Refuses need before after waiting left (why.Missing object) = IsDecided need before after waiting left (look.Fault (why.Missing object))
 Refuses need before after waiting left (why.AsksFull kept) = IsRefused need before after waiting left kept
-Refuses need before after waiting left why.Failed = IsTold need before after waiting left kind.Failed
-Refuses need before after waiting left why.Garbled = IsTold need before after waiting left kind.Garbled
-Refuses need before after waiting left why.Memory = IsTold need before after waiting left kind.Memory
+Refuses need before after waiting left why.Failed = IsFailTold need before after waiting left kind.Failed
+Refuses need before after waiting left why.Garbled = IsFailTold need before after waiting left kind.Garbled
+Refuses need before after waiting left why.Memory = IsFailTold need before after waiting left kind.Memory
 
 -- what a look answers of a need, and what it leaves of the state and of what waits: what the log decides comes first, then a
 -- fail since the need began to wait, then that no room is left, then that it is not yet there

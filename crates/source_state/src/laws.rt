@@ -14,7 +14,7 @@ ghost use Rattle.source_state.specs.declared.look.Waiting.{Waiting};
 ghost use Rattle.source_state.specs.State.{State, opened, last_count, IsCounted};
 ghost use Rattle.source_state.specs.Events.{after, count_of};
 ghost use Rattle.source_state.specs.Looking.{told};
-ghost use Rattle.source_state.specs.History.{replayed, kept_by, log_told, AllMayCome, IsTold};
+ghost use Rattle.source_state.specs.History.{replayed, kept_by, log_told, AllMayCome, IsByHistory};
 ghost use Rattle.source_state.specs.Drawing.{told_by, IsSomeSound};
 
 /// After a history whose events may come, one after another, the state is what the history says: the greatest depth that was wanted,
@@ -23,7 +23,7 @@ ghost use Rattle.source_state.specs.Drawing.{told_by, IsSomeSound};
 /// object settled as.
 pub fn each_history_is_told()
     ensures { (list count : ℕ) (E : List Event) → AllMayCome (opened list count) E
-        → IsTold (kept_by (opened list count)) count E (replayed (opened list count) E) }
+        → IsByHistory (kept_by (opened list count)) count E (replayed (opened list count) E) }
 {}
 
 /// After such a history the log is what the history says: event by event the rows that were kept of it, what it settled, and the

@@ -1,7 +1,7 @@
 //! A look at the state for what a query needs.
 
 ghost use Rattle.std.specs.Prelude.{◌≡◌, ◌≤◌, false};
-ghost use Rattle.turn_lock.specs.Facts.{Grows, IsKept};
+ghost use Rattle.turn_lock.specs.Facts.{FactsGrow, AreFactsKept};
 ghost use Rattle.source_state.specs.State.{IsSound, facts_of};
 ghost use Rattle.source_state.specs.Looking.{is_same, waits_for, newer, told, refusal_of, decided_row, decided_grade, decided, is_full, called, Looks, MayLook};
 
@@ -172,8 +172,8 @@ fn call(state: &mut SourceState, need: Need)
     requires room { is_full state.old need ≡ false }
     requires sound { IsSound state.old }
     ensures state { state.new ≡ called state.old need }
-    ensures grows { Grows (facts_of state.old) (facts_of state.new) }
-    ensures keeps { IsKept (facts_of state.old) (facts_of state.new) }
+    ensures grows { FactsGrow (facts_of state.old) (facts_of state.new) }
+    ensures keeps { AreFactsKept (facts_of state.old) (facts_of state.new) }
     ensures sound { IsSound state.new }
 {
     match need {
@@ -189,8 +189,8 @@ fn call(state: &mut SourceState, need: Need)
 pub fn look_at(state: &mut SourceState, waiting: &mut Waiting, need: Need) -> Look
     requires { MayLook state.old need }
     ensures looks { Looks need state.old state.new waiting.old waiting.new result }
-    ensures grows { Grows (facts_of state.old) (facts_of state.new) }
-    ensures keeps { IsKept (facts_of state.old) (facts_of state.new) }
+    ensures grows { FactsGrow (facts_of state.old) (facts_of state.new) }
+    ensures keeps { AreFactsKept (facts_of state.old) (facts_of state.new) }
     ensures sound { IsSound state.new }
 {
     let kept = state.asks();

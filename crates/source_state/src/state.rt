@@ -1,7 +1,7 @@
 //! The state.
 
 ghost use Rattle.std.specs.Prelude.{◌≡◌, ◌<◌, ◌≤◌, [], ◌∷◌, ◌++◌, None, Some, length, slice_get, IfOk, is_some, vec_len, vec_capacity};
-ghost use Rattle.turn_lock.specs.Facts.{Grows};
+ghost use Rattle.turn_lock.specs.Facts.{FactsGrow};
 ghost use Rattle.source_log.specs.Log.{rows_in, fault_in};
 ghost use Rattle.topk_theory.specs.Bounds.{grade_among};
 ghost use Rattle.source_state.specs.State.{opened, asks_of, asked_in, asked_as, first_pending, fails_of, fault_by_grades, row_fault, settle, IsSound, SettlesWell};
@@ -162,7 +162,7 @@ impl SourceState {
         requires { MayCome self.old event }
         ensures state { self.new ≡ after self.old event }
         ensures applied { IsApplied self.old self.new result }
-        ensures grows { Grows (facts_of self.old) (facts_of self.new) }
+        ensures grows { FactsGrow (facts_of self.old) (facts_of self.new) }
         ensures keeps { KeepsLog event self.old self.new }
         ensures sound { IsSound self.new }
     {
@@ -181,7 +181,7 @@ impl SourceState {
     pub(crate) fn add_want(&mut self, depth: u32)
         requires { depth ≤ self.old.count }
         ensures state { self.new ≡ wanted self.old depth }
-        ensures grows { Grows (facts_of self.old) (facts_of self.new) }
+        ensures grows { FactsGrow (facts_of self.old) (facts_of self.new) }
         ensures sound { IsSound self.new }
     {
         self.want = self.want.max(depth);
@@ -192,7 +192,7 @@ impl SourceState {
     pub(crate) fn add_ask(&mut self, object: u32)
         requires { asked_in self.old object ≡ None → length self.old.asks < self.old.count }
         ensures state { self.new ≡ with_ask self.old object }
-        ensures grows { Grows (facts_of self.old) (facts_of self.new) }
+        ensures grows { FactsGrow (facts_of self.old) (facts_of self.new) }
         ensures sound { IsSound self.new }
     {
         let is_held = self.rows.grade(object).is_some();
@@ -203,7 +203,7 @@ impl SourceState {
     /// A call failed.
     fn add_fail(&mut self, what: FailKind)
         ensures state { self.new ≡ failed self.old what }
-        ensures grows { Grows (facts_of self.old) (facts_of self.new) }
+        ensures grows { FactsGrow (facts_of self.old) (facts_of self.new) }
         ensures sound { IsSound self.new }
     {
         self.tally = counted(what, self.tally);
@@ -215,7 +215,7 @@ impl SourceState {
     fn add_grade(&mut self, object: u32, grade: u32)
         requires { asked_in self.old object ≡ Some Asked.Pending }
         ensures state { self.new ≡ logged self.old (LogEntry.Settled object (settle (rows_in self.old.log) object grade)) }
-        ensures grows { Grows (facts_of self.old) (facts_of self.new) }
+        ensures grows { FactsGrow (facts_of self.old) (facts_of self.new) }
         ensures sound { IsSound self.new }
     {
         let _ = &self.count;
@@ -249,7 +249,7 @@ impl SourceState {
         requires pending { asked_in self.old object ≡ Some Asked.Pending }
         requires fits { SettlesWell (rows_in self.old.log) object settling }
         ensures state { self.new ≡ logged self.old (LogEntry.Settled object settling) }
-        ensures grows { Grows (facts_of self.old) (facts_of self.new) }
+        ensures grows { FactsGrow (facts_of self.old) (facts_of self.new) }
         ensures sound { IsSound self.new }
     {
         self.asks.settle(object, settling);
@@ -261,7 +261,7 @@ impl SourceState {
         requires { MayPage self.old rows.now }
         ensures state { self.new ≡ paged self.old rows.now }
         ensures applied { IsApplied self.old self.new result }
-        ensures grows { Grows (facts_of self.old) (facts_of self.new) }
+        ensures grows { FactsGrow (facts_of self.old) (facts_of self.new) }
         ensures sound { IsSound self.new }
     {
         if rows.is_empty() {

@@ -16,13 +16,13 @@ use Rattle.topk_theory.specs.Consistent.{Kind, IsOfKind, SomeAgrees}
 use Rattle.topk_theory.specs.Consistent.Kind.{above_top, too_many_objects}
 use Rattle.topk_theory.proofs.AgreementLists.{member_of_all}
 use Rattle.access_log.specs.Log.{Log}
-use Rattle.access_log.specs.Machine.{MachineState, IsBegun, MayBeNextRow, MayBeNextGrade, HasRoomFor, Takes, row_access, grade_access}
+use Rattle.machine_base.specs.Machine.{MachineState, IsBegun, MayBeNextRow, MayBeNextGrade, HasRoomFor, Takes, row_access, grade_access}
 use Rattle.machine_base.specs.declared.base.Base.{Base}
 use Rattle.machine_base.specs.Base.{shown, IsHeld, Holds, IsReserved, IsTold, CanTake, TellsNew}
 use Rattle.machine_base.proofs.Held.{carried, some_before, takes}
 use Rattle.machine_base.proofs.Reserve.{row_can}
 use Rattle.ta_core.specs.Reading.{RowProgress, first_or_zero, with_new, row_added, grade_added, row_begun, need_at}
-use Rattle.ta_core.specs.Kept.{IsKept, Keeps, Stands}
+use Rattle.ta_core.specs.Kept.{IsTaKept, Keeps, Stands}
 use Rattle.ta_core.proofs.BoardSteps.{waits_from, place_filled, place_left}
 use Rattle.ta_core.proofs.Runs.{need_in_row, need_after_row, need_when_done, kept_depth, first_is_member, first_seen}
 use Rattle.ta_core.proofs.Sound.{sound_row, sound_grade, fed_row}
@@ -36,8 +36,8 @@ stands_start e k n room costs base board r begun held reserved same_k same_room 
     let m : ℕ = base.transcript.lists in
     let count : ℕ = base.transcript.count in
     record {
-      kept = subst (λ A. IsKept base.expr base.k base.room m count A board r) (sym begun.none)
-          (subst (λ (s : RowProgress). IsKept base.expr base.k base.room m count [] board s) (sym is)
+      kept = subst (λ A. IsTaKept base.expr base.k base.room m count A board r) (sym begun.none)
+          (subst (λ (s : RowProgress). IsTaKept base.expr base.k base.room m count [] board s) (sym is)
           (kept_start base.expr base.k base.room m count board (subst (IsHeld base.expr base.k base.room m count) begun.none held) (same_k ∙ sym begun.asked) (same_room ∙ sym begun.in_force) empty));
       reserved = reserved;
     }
@@ -162,7 +162,7 @@ ready_grade base board r told grade kept may is =
 pub record IsFed (before after : Base) (board : Held) (told : RowProgress) (a : Access) : Type 0 where
   pub tells : IsTold a before after
   pub ready : IsReady before.transcript.lists board told
-  pub kept : IsKept before.expr before.k before.room before.transcript.lists before.transcript.count (before.transcript.accesses ++ a ∷ [])
+  pub kept : IsTaKept before.expr before.k before.room before.transcript.lists before.transcript.count (before.transcript.accesses ++ a ∷ [])
       (board_then before.expr before.transcript.lists board told)
       (reading_then before.expr before.transcript.lists (board_then before.expr before.transcript.lists board told) told)
 
@@ -180,9 +180,9 @@ fed_kept before after board board' told then a fed is_board is_then =
     is_board ∙ ap (λ e. board_then e after.transcript.lists board told) fed.tells.expr ∙ ap (λ c. board_then before.expr c board told) fed.tells.log.lists in
     let then_is : then ≡ reading_then before.expr m board' told =
     is_then ∙ ap (λ e. reading_then e after.transcript.lists board' told) fed.tells.expr ∙ ap (λ c. reading_then before.expr c board' told) fed.tells.log.lists in
-    carried (λ e k room c n B. IsKept e k room c n B board' then) a before after fed.tells
-    (subst (IsKept before.expr before.k before.room m before.transcript.count A board') (sym then_is)
-    (subst (λ (b : Held). IsKept before.expr before.k before.room m before.transcript.count A b (reading_then before.expr m b told)) (sym board_is) fed.kept))
+    carried (λ e k room c n B. IsTaKept e k room c n B board' then) a before after fed.tells
+    (subst (IsTaKept before.expr before.k before.room m before.transcript.count A board') (sym then_is)
+    (subst (λ (b : Held). IsTaKept before.expr before.k before.room m before.transcript.count A b (reading_then before.expr m b told)) (sym board_is) fed.kept))
 
 pub row_fed : (before after : Base) (board : Held) (r told : RowProgress) (row : Row) (list : ℕ) (is_new : Bool) → Keeps before board r
     → MayBeNextRow before.transcript (need_at before.transcript.lists r) row → TellsNew before.transcript.accesses row.object is_new
@@ -197,7 +197,7 @@ row_fed before after board r told row list is_new kept may new follows is_list t
     record {
       tells = tells';
       ready = ready_row before board r told row is_new kept may new follows told_is;
-      kept = subst (λ s. IsKept before.expr before.k before.room m before.transcript.count (before.transcript.accesses ++ a ∷ []) (board_then before.expr m board s) (reading_then before.expr m (board_then before.expr m board s) s)) (sym told_is)
+      kept = subst (λ s. IsTaKept before.expr before.k before.room m before.transcript.count (before.transcript.accesses ++ a ∷ []) (board_then before.expr m board s) (reading_then before.expr m (board_then before.expr m board s) s)) (sym told_is)
           (kept_row before.expr before.k before.room m before.transcript.count before.transcript.accesses board r row is_new kept next.0 next.1 next.2 new follows (some_before a before after tells' some));
     }
 
@@ -213,7 +213,7 @@ grade_fed before after board r told grade list object kept may is_list is_object
     record {
       tells = tells';
       ready = ready_grade before board r told grade kept may is_told;
-      kept = subst (λ s. IsKept before.expr before.k before.room m before.transcript.count (before.transcript.accesses ++ a ∷ []) (board_then before.expr m board s) (reading_then before.expr m (board_then before.expr m board s) s)) (sym is_told)
+      kept = subst (λ s. IsTaKept before.expr before.k before.room m before.transcript.count (before.transcript.accesses ++ a ∷ []) (board_then before.expr m board s) (reading_then before.expr m (board_then before.expr m board s) s)) (sym is_told)
           (kept_grade before.expr before.k before.room m before.transcript.count before.transcript.accesses board r grade kept next.0 next.1 next.2 (some_before a before after tells' some));
     }
 

@@ -21,7 +21,7 @@ use Rattle.machine_base.proofs.Held.{held_asked, held_more}
 use Rattle.machine_base.proofs.Depths.{first_reached}
 use Rattle.ta_core.specs.Reading.{RowProgress, first_or_zero, with_new, row_added, grade_added, items_after, row_begun, followed}
 use Rattle.ta_core.specs.OnTable.{OnRow, OnAsks, OnBoard, OnTable}
-use Rattle.ta_core.specs.Kept.{IsSound, IsAtRest, IsKept}
+use Rattle.ta_core.specs.Kept.{IsSound, IsAtRest, IsTaKept}
 use Rattle.ta_core.proofs.Rows.{row_goes_on}
 use Rattle.ta_core.proofs.Asks.{row_is_last, grade_goes_on}
 use Rattle.ta_core.proofs.BoardSteps.{board_after_row, board_after_grade}
@@ -32,7 +32,7 @@ use Rattle.ta_core.proofs.Runs.{first_member, first_is_member}
 
 -- at the beginning
 pub kept_start : (e : Tree) (k room m n : ℕ) (board : Held) → IsHeld e k room m n [] → board.k ≡ k → board.room ≡ room → board.items ≡ []
-    → IsKept e k room m n [] board (row_begun 1)
+    → IsTaKept e k room m n [] board (row_begun 1)
 kept_start e k room m n board held same_k same_room empty = record {
   base = held;
   same_k = same_k;
@@ -119,11 +119,11 @@ kept_with : (e : Tree) (k room m n : ℕ) (A : List Access) (a : Access) (board 
     → IsHeld e k room m n (A ++ a ∷ [])
     → (let items : List Item = items_after (value e) m board.items told in IsSound m (A ++ a ∷ []) (followed (value e) k m items told) × IsAtRest m (followed (value e) k m items told))
     → ((D : List (List Row)) → Agrees m n D (A ++ a ∷ []) → OnTable (value e) k n D (A ++ a ∷ []) (followed (value e) k (length D) (items_after (value e) (length D) board.items told) told) (items_after (value e) (length D) board.items told))
-    → IsKept e k room m n (A ++ a ∷ []) (board_then e m board told) (reading_then e m (board_then e m board told) told)
+    → IsTaKept e k room m n (A ++ a ∷ []) (board_then e m board told) (reading_then e m (board_then e m board told) told)
 kept_with e k room m n A a board told same_k same_room held sound on_table =
     let V = value e in
     let items : List Item = items_after V m board.items told in
-    subst (λ c. IsKept e k room m n (A ++ a ∷ []) (record { k = c; room = board.room; items = items }) (followed V c m items told)) (sym same_k)
+    subst (λ c. IsTaKept e k room m n (A ++ a ∷ []) (record { k = c; room = board.room; items = items }) (followed V c m items told)) (sym same_k)
     (record {
       base = held;
       same_k = refl;
@@ -135,10 +135,10 @@ kept_with e k room m n A a board told same_k same_room held sound on_table =
     })
 
 -- a machine that is fed a row
-pub kept_row : (e : Tree) (k room m n : ℕ) (A : List Access) (board : Held) (r : RowProgress) (row : Row) (is_new : Bool) → IsKept e k room m n A board r
+pub kept_row : (e : Tree) (k room m n : ℕ) (A : List Access) (board : Held) (r : RowProgress) (row : Row) (is_new : Bool) → IsTaKept e k room m n A board r
     → r.done ≡ false → length r.objects < m → row.grade ≤ 1000000 → TellsNew A row.object is_new
     → Contains (seen_objects A) row.object ⊎ (length (seen_objects A) < room) → SomeAgrees m n (A ++ Sorted (length r.objects) row.object row.grade ∷ [])
-    → IsKept e k room m n (A ++ Sorted (length r.objects) row.object row.grade ∷ []) (board_then e m board (row_added m r row is_new)) (reading_then e m (board_then e m board (row_added m r row is_new)) (row_added m r row is_new))
+    → IsTaKept e k room m n (A ++ Sorted (length r.objects) row.object row.grade ∷ []) (board_then e m board (row_added m r row is_new)) (reading_then e m (board_then e m board (row_added m r row is_new)) (row_added m r row is_new))
 kept_row e k room m n A board r row is_new kept open' short capped new follows some =
     let V = value e in
     let a : Access = Sorted (length r.objects) row.object row.grade in
@@ -156,9 +156,9 @@ kept_row e k room m n A board r row is_new kept open' short capped new follows s
     subst (λ c. OnTable V k n D (A ++ a ∷ []) (followed V k (length D) (items_after V (length D) board.items (row_added c r row is_new)) (row_added c r row is_new)) (items_after V (length D) board.items (row_added c r row is_new))) wide then)
 
 -- a machine that is fed a grade
-pub kept_grade : (e : Tree) (k room m n : ℕ) (A : List Access) (board : Held) (r : RowProgress) (grade : ℕ) → IsKept e k room m n A board r → r.done ≡ false
+pub kept_grade : (e : Tree) (k room m n : ℕ) (A : List Access) (board : Held) (r : RowProgress) (grade : ℕ) → IsTaKept e k room m n A board r → r.done ≡ false
     → m ≤ length r.objects → grade ≤ 1000000 → SomeAgrees m n (A ++ Random (length r.grades) (first_or_zero r.waiting) grade ∷ [])
-    → IsKept e k room m n (A ++ Random (length r.grades) (first_or_zero r.waiting) grade ∷ []) (board_then e m board (grade_added r grade)) (reading_then e m (board_then e m board (grade_added r grade)) (grade_added r grade))
+    → IsTaKept e k room m n (A ++ Random (length r.grades) (first_or_zero r.waiting) grade ∷ []) (board_then e m board (grade_added r grade)) (reading_then e m (board_then e m board (grade_added r grade)) (grade_added r grade))
 kept_grade e k room m n A board r grade kept open' whole capped some =
     let V = value e in
     let a : Access = Random (length r.grades) (first_or_zero r.waiting) grade in

@@ -12,7 +12,7 @@ use Rattle.topk_theory.specs.Threshold.{ta_run}
 use Rattle.topk_theory.specs.Machine.{IsAt, CanServe}
 use Rattle.topk_theory.proofs.AgreementLists.{contains_here, member_of_all}
 use Rattle.access_log.specs.Log.{AgreesWith}
-use Rattle.access_log.specs.Machine.{IsOfSeen}
+use Rattle.machine_base.specs.Machine.{IsOfSeen}
 use Rattle.machine_base.specs.declared.base.Base.{Base}
 use Rattle.machine_base.specs.Base.{shown}
 use Rattle.machine_base.proofs.Held.{held_asked}

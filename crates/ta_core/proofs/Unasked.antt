@@ -24,7 +24,7 @@ use Rattle.machine_base.specs.Base.{asked_of_list}
 use Rattle.machine_base.proofs.Reserve.{chosen}
 use Rattle.ta_core.specs.Reading.{RowProgress, first_or_zero}
 use Rattle.ta_core.specs.OnTable.{OnAsks}
-use Rattle.ta_core.specs.Kept.{IsKept}
+use Rattle.ta_core.specs.Kept.{IsTaKept}
 use Rattle.ta_core.proofs.NeedSteps.{grade_ahead}
 use Rattle.ta_core.proofs.Runs.{first_member}
 use Rattle.ta_core.proofs.Steps.{asks_of_reading}
@@ -200,7 +200,7 @@ unasked n D depth list object grade A later t within path =
     distinct_apart (asked_of_list list A) object (asked_of_list list later) (subst (AllPairs (λ (a b : ℕ). a ≢ b)) parts (run_once n D depth list t within))
 
 -- so of the first object that waits no access asked the list that comes next
-pub waiting_unasked : (e : Tree) (k room m n : ℕ) (A : List Access) (board : Held) (r : RowProgress) → IsKept e k room m n A board r → r.done ≡ false
+pub waiting_unasked : (e : Tree) (k room m n : ℕ) (A : List Access) (board : Held) (r : RowProgress) → IsTaKept e k room m n A board r → r.done ≡ false
     → m ≤ length r.objects → ¬ Contains (asked_of_list (length r.grades) A) (first_or_zero r.waiting)
 waiting_unasked e k room m n A board r kept open' whole =
     let V = value e in

@@ -30,7 +30,7 @@ pub record IsAtRest (m : ℕ) (r : RowProgress) : Type 0 where
       → (0 < length r.waiting) × (length r.grades < m) × (slice_index r.objects (length r.grades) ≢ first_or_zero r.waiting)
 
 -- what is kept over m lists of n objects after the accesses A
-pub record IsKept (e : Tree) (k room m n : ℕ) (A : List Access) (board : Held) (r : RowProgress) : Type 0 where
+pub record IsTaKept (e : Tree) (k room m n : ℕ) (A : List Access) (board : Held) (r : RowProgress) : Type 0 where
   pub base : IsHeld e k room m n A
   pub same_k : board.k ≡ k
   pub same_room : board.room ≡ room
@@ -39,7 +39,7 @@ pub record IsKept (e : Tree) (k room m n : ℕ) (A : List Access) (board : Held)
   pub on_table : (D : List (List Row)) → Agrees m n D A → OnTable (value e) k n D A r board.items
 
 abbrev pub Keeps : Base → Held → RowProgress → Type 0
-Keeps base board r = IsKept base.expr base.k base.room base.transcript.lists base.transcript.count base.transcript.accesses board r
+Keeps base board r = IsTaKept base.expr base.k base.room base.transcript.lists base.transcript.count base.transcript.accesses board r
 
 -- and room is reserved for the accesses to come
 pub record Stands (base : Base) (board : Held) (r : RowProgress) : Type 0 where

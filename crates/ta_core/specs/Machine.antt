@@ -2,7 +2,7 @@
 use Rattle.std.specs.Prelude.{List}
 use Rattle.ranked_list.specs.declared.item.Item.{Item}
 use Rattle.topk_theory.specs.Asked.{threshold_run, threshold_answer}
-use Rattle.access_log.specs.Machine.{MachineState, MakesRun, IsAnswerBy}
+use Rattle.machine_base.specs.Machine.{MachineState, MakesRun, IsAnswerBy}
 
 -- the machine makes the run of the threshold algorithm
 abbrev pub MakesItsRun : MachineState → Type 0

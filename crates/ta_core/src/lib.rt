@@ -3,6 +3,7 @@
 //! needed next, and what follows an access that is told.
 #![tactic(auto)]
 
+mod driven;
 mod following;
 mod progress;
 mod ta;

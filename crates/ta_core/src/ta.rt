@@ -2,10 +2,10 @@
 
 use super::following::{follow, score};
 use super::progress::Progress;
-use access_log::{Access, Answer, CoreFault, Transcript};
+use access_log::{Access, Transcript};
 use best_k::Board;
 use limits::MAX_OBJECTS;
-use machine_base::{Base, Memory, Need};
+use machine_base::{Answer, Base, CoreFault, Memory, Need};
 use monotone_fn::{Costs, Expr};
 use ranked_list::Row;
 use std::alloc::Global;
@@ -23,7 +23,7 @@ pub struct Ta {
 impl Model for Ta {
     ghost use Rattle.std.specs.Coded.{codes};
     ghost use Rattle.monotone_fn.specs.Code.{tree_code};
-    ghost use Rattle.access_log.specs.Machine.{MachineState};
+    ghost use Rattle.machine_base.specs.Machine.{MachineState};
 
     ghost Value = { MachineState };
 
@@ -41,7 +41,7 @@ impl Model for Ta {
 
 impl Ta {
     ghost use Rattle.std.specs.Prelude.{◌≡◌, ◌≤◌, IfOk};
-    ghost use Rattle.access_log.specs.Machine.{IsBegun, IsInRange, MayBeNextRow, MayBeNextGrade, RowFed, GradeFed, IsSameLog};
+    ghost use Rattle.machine_base.specs.Machine.{IsBegun, IsInRange, MayBeNextRow, MayBeNextGrade, RowFed, GradeFed, IsSameLog};
     ghost use Rattle.ta_core.specs.Machine.{MakesItsRun, IsAnswer};
 
     /// A machine for the first `k` of `count` objects, that sees `room` of them at most. No other call

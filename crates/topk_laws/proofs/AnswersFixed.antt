@@ -5,13 +5,13 @@ use Rattle.cert_text.specs.declared.outcome.Outcome.{Outcome}
 use Rattle.cert_text.specs.declared.outcome.Outcome.TheVariants.{Answered, Refused}
 use Rattle.cert_text.specs.declared.certificate.Certificate.{Certificate}
 use Rattle.cert_text.specs.Outcome.{outcome_text, certificate_of}
-use Rattle.cert_reader.specs.Reading.{Spells}
-use Rattle.cert_reader.proofs.CertifiedLaws.{certified_spelled}
+use Rattle.cert_text.specs.Reading.{Spells}
+use Rattle.cert_text.proofs.CertifiedLaws.{certified_spelled}
 use Rattle.query_text.specs.declared.query.Query.{Query}
 use Rattle.bundle_text.specs.Bundle.{Content, IsBundle}
 use Rattle.query_admission.specs.Becomes.{Becomes}
-use Rattle.cert_judge.specs.declared.told.Told.{Told}
-use Rattle.cert_judge.specs.declared.told.Told.TheVariants.{BadLine, Inconsistent, WildGuess, WrongSize, UnseenAnswer, Figure, Fixes, Beaten}
+use Rattle.cert_judge.specs.declared.judgement.Judgement.{Judgement}
+use Rattle.cert_judge.specs.declared.judgement.Judgement.TheVariants.{BadLine, Inconsistent, WildGuess, WrongSize, UnseenAnswer, Figure, Fixes, Beaten}
 use Rattle.cert_judge.specs.Judging.{Tells}
 use Rattle.cert_judge.specs.Text.{told_text}
 use Rattle.cert_judge.proofs.Telling.{told_result}
@@ -25,7 +25,7 @@ use Rattle.topk_laws.proofs.OneCertificate.{spells_one}
 use Rattle.topk_laws.proofs.Fixing.{IsFixedBy, only_fixed, fixed_by, fixed_of}
 
 -- the lines spell a certificate that is fixed: nothing else is told
-told_fixed : (ls : List (List ℕ)) (c : Certificate) (told : Told) → Spells ls c → IsFixedBy c → Tells ls told → told ≡ Fixes
+told_fixed : (ls : List (List ℕ)) (c : Certificate) (told : Judgement) → Spells ls c → IsFixedBy c → Tells ls told → told ≡ Fixes
 told_fixed ls c (BadLine line) spells is h = absurd (h.0 c spells)
 told_fixed ls c (Inconsistent at kind) spells is h = only_fixed c (Inconsistent at kind) is (h.each c spells)
 told_fixed ls c (WildGuess at) spells is h = only_fixed c (WildGuess at) is (h.each c spells)

@@ -22,7 +22,7 @@ use Rattle.topk_theory.proofs.AgreementRows.{objects_in_each}
 use Rattle.topk_theory.proofs.Agreement.{row_of, agrees_gives, gives_row, gives_in_range, objects_of_count, contains_access, seen_is_named}
 use Rattle.topk_theory.proofs.ConsistentRows.{ranked_capped}
 use Rattle.topk_theory.proofs.BoundsLaws.{grade_in_le, Falls-from_ranked}
-use Rattle.access_log.specs.declared.answer.Answer.{Answer}
+use Rattle.machine_base.specs.declared.answer.Answer.{Answer}
 use Rattle.query_text.specs.declared.query.Query.{Query}
 use Rattle.cert_text.specs.Certificate.{IsItem, IsAccess}
 use Rattle.cert_text.specs.Outcome.{IsCertified}

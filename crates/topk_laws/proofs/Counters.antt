@@ -19,7 +19,7 @@ use Rattle.query_text.specs.Query.{printed}
 use Rattle.query_core.proofs.ListCount.{lists_counted}
 use Rattle.cert_text.specs.declared.certificate.Certificate.{Certificate}
 use Rattle.cert_text.specs.Certificate.{IsAccess, number_line, query_line, count_line, answer_line, stop_line, access_lines, certificate_lines}
-use Rattle.cert_reader.specs.Reading.{Spells}
+use Rattle.cert_text.specs.Reading.{Spells}
 use Rattle.topk_laws.specs.Laws.{CountersAreBundles}
 
 -- an object that the accesses of a certificate name is small

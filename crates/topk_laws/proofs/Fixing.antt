@@ -17,7 +17,7 @@ use Rattle.topk_theory.proofs.AgreementLists.{contains_here, contains_there, con
 use Rattle.query_core.specs.Algorithms.{items_by}
 use Rattle.topk_theory.proofs.Agreement.{agrees_front, contains_middle, seen_is_named}
 use Rattle.access_log.specs.Log.{IsConsistent}
-use Rattle.access_log.specs.declared.answer.Answer.{Answer}
+use Rattle.machine_base.specs.declared.answer.Answer.{Answer}
 use Rattle.query_text.specs.declared.query.Query.{Query}
 use Rattle.cert_text.specs.declared.certificate.Certificate.{Certificate}
 use Rattle.monotone_fn.specs.Limits.{IsExpr}
@@ -26,8 +26,8 @@ use Rattle.query_text.specs.Costs.{costs_in_force}
 use Rattle.cert_text.specs.Outcome.{certificate_of}
 use Rattle.query_core.specs.OneAnswer.{asked_by, IsAnswered}
 use Rattle.judge_core.specs.Judging.{IsFair, IsWildAfter}
-use Rattle.cert_judge.specs.declared.told.Told.{Told}
-use Rattle.cert_judge.specs.declared.told.Told.TheVariants.{BadLine, Inconsistent, WildGuess, WrongSize, UnseenAnswer, Figure, Fixes as IsFixed, Beaten}
+use Rattle.cert_judge.specs.declared.judgement.Judgement.{Judgement}
+use Rattle.cert_judge.specs.declared.judgement.Judgement.TheVariants.{BadLine, Inconsistent, WildGuess, WrongSize, UnseenAnswer, Figure, Fixes as IsFixed, Beaten}
 use Rattle.cert_judge.specs.Transcripts.{log_of, front}
 use Rattle.cert_judge.specs.Figures.{HasItsFigures, item_figures}
 use Rattle.cert_judge.specs.Judging.{TellsOfCertificate}
@@ -56,7 +56,7 @@ front_consistent c place some = (
       (subst (λ A. Agrees (list_count c.query.expr) c.count some.0 A) (sym (take-append-drop place c.accesses)) some.1),
 )
 
-pub only_fixed : (c : Certificate) (told : Told) → IsFixedBy c → TellsOfCertificate c told → told ≡ IsFixed
+pub only_fixed : (c : Certificate) (told : Judgement) → IsFixedBy c → TellsOfCertificate c told → told ≡ IsFixed
 only_fixed c (BadLine line) is h = absurd h
 only_fixed c (Inconsistent at kind) is h = absurd (h.with_it (front_consistent c at is.consistent))
 only_fixed c (WildGuess at) is h = let guess = h.judged.guess in absurd (no_wild c.accesses (at - 1) guess.0 is.fair.tame guess.1 guess.2)

@@ -13,7 +13,7 @@ use Rattle.topk_theory.specs.declared.access.Access.{Access}
 use Rattle.topk_theory.specs.Transcript.{depth, sorted_count, random_count, cost}
 use Rattle.topk_theory.proofs.Agreement.{contains_middle}
 use Rattle.topk_theory.proofs.AgreementLists.{member_of_all}
-use Rattle.access_log.specs.declared.answer.Answer.{Answer}
+use Rattle.machine_base.specs.declared.answer.Answer.{Answer}
 use Rattle.query_text.specs.declared.query.Query.{Query}
 use Rattle.query_text.specs.declared.fault.QueryFault.{QueryFault}
 use Rattle.query_text.specs.declared.fault.QueryFault.TheVariants.{Memory}
@@ -30,7 +30,7 @@ use Rattle.cert_text.specs.Refusal.{Field, refusal_row, field_word, lists_in, re
 use Rattle.cert_text.specs.Outcome.{names_of, refused_words, refused_line, outcome_text}
 use Rattle.query_core.specs.OneAnswer.{IsOneAnswer, one_run, one_items}
 use Rattle.query_admission.specs.View.{AreListed, AreTold, differs, size_stated, count_of}
-use Rattle.query_admission.specs.Causes.{QueryLine, Cause, line_causes, text_refusal, Over, ListsGive, Gives, NoneOf, IsFirstOf}
+use Rattle.query_admission.specs.Causes.{QueryLine, Cause, line_causes, text_refusal, Over, ListsGive, RefusesFor, NoneOf, IsFirstOf}
 use Rattle.query_admission.specs.Admission.{RefusesLine}
 use Rattle.query_admission.specs.Becomes.{AnswersLine, Becomes}
 use Rattle.query_admission.specs.declared.lists.Listed.{Listed}
@@ -70,7 +70,7 @@ text_gives f g r s e d (inl none) = let no : text_refusal Memory ≡ Some r = su
 text_gives f g r s e d (inr (inl none)) = let no : text_refusal Memory ≡ Some s = subst (λ x. text_refusal x ≡ Some s) none d in absurd cc
 text_gives f g r s e d (inr (inr same)) = same_Some r s (sym e ∙ ap text_refusal same ∙ d)
 
-gives_once : (x : QueryLine) (cause : Cause) (r s : Refusal) → Gives x cause r → Gives x cause s → r ≡ s
+gives_once : (x : QueryLine) (cause : Cause) (r s : Refusal) → RefusesFor x cause r → RefusesFor x cause s → r ≡ s
 gives_once x Cause.many_queries r s h k = h.0 ∙ sym k.0
 gives_once x Cause.text r s (f, e, reads) (g, d, other) = text_gives f g r s e d (fault_once x.bytes f g reads other)
 gives_once x Cause.unknown_list r s h k =
@@ -96,19 +96,19 @@ gives_once x Cause.room_full r s h k =
     one.3 ∙ ap (λ n. RoomFull n) (same_Some one.2 other.2 (sym one.6.stated ∙ stated)) ∙ sym other.3
 
 -- the first of the causes that holds is one
-none_before : (x : QueryLine) (front : List Cause) (cause : Cause) (rest : List Cause) (r : Refusal) → NoneOf (Gives x) (front ++ cause ∷ rest) → Gives x cause r → ⊥
+none_before : (x : QueryLine) (front : List Cause) (cause : Cause) (rest : List Cause) (r : Refusal) → NoneOf (RefusesFor x) (front ++ cause ∷ rest) → RefusesFor x cause r → ⊥
 none_before x front cause rest r none gives =
-    absurd (member_of_all (λ (c : Cause). (refusal : Refusal) → ¬ Gives x c refusal) (front ++ cause ∷ rest) cause none (contains_middle front cause rest) r gives)
+    absurd (member_of_all (λ (c : Cause). (refusal : Refusal) → ¬ RefusesFor x c refusal) (front ++ cause ∷ rest) cause none (contains_middle front cause rest) r gives)
 
-first_once : (x : QueryLine) (causes : List Cause) (r s : Refusal) → IsFirstOf (Gives x) causes r → IsFirstOf (Gives x) causes s → r ≡ s
+first_once : (x : QueryLine) (causes : List Cause) (r s : Refusal) → IsFirstOf (RefusesFor x) causes r → IsFirstOf (RefusesFor x) causes s → r ≡ s
 first_once x causes r s f g = elim (two_splits f.earlier g.earlier f.cause g.cause f.later g.later (sym f.order ∙ g.order)) [
-  | inl same ↦ gives_once x f.cause r s f.gives (subst (λ c. Gives x c s) (sym same.1) g.gives)
-  | inr (inl on) ↦ absurd (none_before x f.earlier f.cause on.rest r (subst (NoneOf (Gives x)) on.is g.first) f.gives)
-  | inr (inr on) ↦ absurd (none_before x g.earlier g.cause on.rest s (subst (NoneOf (Gives x)) on.is f.first) g.gives)
+  | inl same ↦ gives_once x f.cause r s f.gives (subst (λ c. RefusesFor x c s) (sym same.1) g.gives)
+  | inr (inl on) ↦ absurd (none_before x f.earlier f.cause on.rest r (subst (NoneOf (RefusesFor x)) on.is g.first) f.gives)
+  | inr (inr on) ↦ absurd (none_before x g.earlier g.cause on.rest s (subst (NoneOf (RefusesFor x)) on.is f.first) g.gives)
 ]
 
-not_refused : (x : QueryLine) (causes : List Cause) (r : Refusal) → IsFirstOf (Gives x) causes r → NoneOf (Gives x) causes → ⊥
-not_refused x causes r f none = none_before x f.earlier f.cause f.later r (subst (NoneOf (Gives x)) f.order none) f.gives
+not_refused : (x : QueryLine) (causes : List Cause) (r : Refusal) → IsFirstOf (RefusesFor x) causes r → NoneOf (RefusesFor x) causes → ⊥
+not_refused x causes r f none = none_before x f.earlier f.cause f.later r (subst (NoneOf (RefusesFor x)) f.order none) f.gives
 
 -- the words of a refusal don't depend on whether its query was read
 abbrev ReadAs : List ℕ → Option Query → Type 0
@@ -166,7 +166,7 @@ answered_text number query count a = refl
 
 -- the rows of a line's lists are told, where nothing refuses it
 pub record HasRows (x : QueryLine) : Type 0 where
-  pub rows : (q : Query) (lists : List Listed) → NoneOf (Gives x) line_causes → Reads x.bytes (Ok q) → AreListed x.view q lists
+  pub rows : (q : Query) (lists : List Listed) → NoneOf (RefusesFor x) line_causes → Reads x.bytes (Ok q) → AreListed x.view q lists
       → (D : List (List Row)) × AreTold x.view q D
 
 answered_once : (x : QueryLine) (number : ℕ) (p q : Query) (c d : ℕ) (a b : Answer) → HasRows x → AnswersLine x p c a → AnswersLine x q d b

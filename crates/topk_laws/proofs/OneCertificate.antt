@@ -8,14 +8,14 @@ use Rattle.topk_theory.specs.declared.access.Access.{Access}
 use Rattle.query_text.specs.declared.query.Query.{Query}
 use Rattle.query_text.specs.Query.{printed}
 use Rattle.query_text.specs.Reading.{Reads}
-use Rattle.query_reading.proofs.BackLaws.{printed_same}
+use Rattle.query_text.proofs.BackLaws.{printed_same}
 use Rattle.cert_text.specs.declared.certificate.Certificate.{Certificate}
 use Rattle.cert_text.specs.Certificate.{number_line, query_line, count_line, answer_line, stop_line, access_line, access_lines, IsItem, IsAccess}
-use Rattle.cert_reader.specs.Judging.{AreNames, Found, FindsQuery, SpellsAccesses, SpellsFound, SpellsCounted, SpellsQueried}
-use Rattle.cert_reader.specs.Reading.{Spells}
-use Rattle.cert_reader.proofs.LineLaws.{number_in-line, count_in-line, item_in-line, figures_in-line, access_in-line}
-use Rattle.cert_reader.proofs.QueryLaws.{names_of_lawful}
-use Rattle.cert_reader.proofs.SpellLaws.{steps_end, steps_access, steps_item, steps_stop, steps_count, steps_query, steps_number, whole}
+use Rattle.cert_text.specs.Judging.{AreNames, Found, FindsQuery, SpellsAccesses, SpellsFound, SpellsCounted, SpellsQueried}
+use Rattle.cert_text.specs.Reading.{Spells}
+use Rattle.cert_text.proofs.LineLaws.{number_in-line, count_in-line, item_in-line, figures_in-line, access_in-line}
+use Rattle.cert_text.proofs.QueryLaws.{names_of_lawful}
+use Rattle.cert_text.proofs.SpellLaws.{steps_end, steps_access, steps_item, steps_stop, steps_count, steps_query, steps_number, whole}
 
 accesses_one : (names : List (List ℕ)) (ls : List (List ℕ)) (xs ys : List Access) → AreNames names → SpellsAccesses names ls xs → SpellsAccesses names ls ys
     → ys ≡ xs

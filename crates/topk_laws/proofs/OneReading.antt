@@ -16,8 +16,8 @@ use Rattle.query_text.specs.declared.query.Query.{Query}
 use Rattle.query_text.specs.declared.fault.QueryFault.{QueryFault}
 use Rattle.query_text.specs.declared.fault.QueryFault.TheVariants as faults
 use Rattle.query_text.proofs.ListLaws.{names_in-append, once-append, once-extends}
-use Rattle.query_words.proofs.CompleteLaws.{one_shape}
-use Rattle.query_reading.proofs.BackLaws.{printed_same, lawful_shape, no_number_fault, no_name_fault}
+use Rattle.query_text.proofs.CompleteLaws.{one_shape}
+use Rattle.query_text.proofs.BackLaws.{printed_same, lawful_shape, no_number_fault, no_name_fault}
 use Rattle.limits.specs.declared.TheConstants.{MAX_LINE}
 
 -- a list that goes on behind a member

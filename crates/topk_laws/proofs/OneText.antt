@@ -6,13 +6,13 @@ use Rattle.std.proofs.lemmas.List.Elements.{Contains-append_left}
 use Rattle.topk_theory.proofs.AgreementLists.{all_from_members, member_of_all}
 use Rattle.cert_text.specs.declared.refusal.Refusal.{Refusal}
 use Rattle.query_admission.specs.View.{View}
-use Rattle.query_admission.specs.Causes.{QueryLine, Cause, admission_causes, line_causes, Gives, NoneOf}
-use Rattle.catalog_admission.specs.Views.{line_over}
+use Rattle.query_admission.specs.Causes.{QueryLine, Cause, admission_causes, line_causes, RefusesFor, NoneOf}
+use Rattle.catalog_open.specs.Views.{line_over}
 use Rattle.catalog_open.specs.Entries.{entry_told}
 use Rattle.query_admission.specs.declared.line_outcome.LineOutcome.{LineOutcome}
 use Rattle.catalog_run.specs.Runs.{CatalogRun}
-use Rattle.catalog_laws.specs.Told.{AllBecome, ShelfTellsTables, told_listed, view_told}
-use Rattle.catalog_laws.proofs.ToldLists.{rows_of, known_places, named_wanted, admitted_few, names_told}
+use Rattle.topk_laws.specs.Told.{AllBecome, ShelfTellsTables, told_listed, view_told}
+use Rattle.topk_laws.proofs.ToldLists.{rows_of, known_places, named_wanted, admitted_few, names_told}
 use Rattle.catalog_calls.specs.Running.{is_answer, outcomes_text, run_status}
 use Rattle.topk_laws.specs.RunLaws.{ComeTo}
 use Rattle.call_ends.specs.declared.status.Status.{Status}
@@ -57,8 +57,8 @@ module _ (r : CatalogRun) (tells : ShelfTellsTables r) where
     rows = λ q lists none reads listed.
         let view = view_told r.catalog r.lists in
         let x : QueryLine = line_over view (at + 1) bytes in
-        let admitted : NoneOf (Gives x) admission_causes = all_from_members (λ (c : Cause). (refusal : Refusal) → ¬ Gives x c refusal) admission_causes
-        (λ c m. member_of_all (λ (d : Cause). (refusal : Refusal) → ¬ Gives x d refusal) line_causes c none
+        let admitted : NoneOf (RefusesFor x) admission_causes = all_from_members (λ (c : Cause). (refusal : Refusal) → ¬ RefusesFor x c refusal) admission_causes
+        (λ c m. member_of_all (λ (d : Cause). (refusal : Refusal) → ¬ RefusesFor x d refusal) line_causes c none
         (Contains-append_left admission_causes (Cause.room_full ∷ []) c m)) in
         let few = admitted_few view (at + 1) bytes admitted in
         let h = known_places r.catalog (told_listed r.lists r.catalog) q.names lists listed in

@@ -12,8 +12,8 @@ use Rattle.catalog_text.specs.Catalog.{Listed as Entry, IsCatalog}
 use Rattle.catalog_open.specs.Openings.{TroubleAt}
 use Rattle.catalog_open.specs.Entries.{entry_at}
 use Rattle.command_words.specs.declared.running.RunOptions.{RunOptions}
-use Rattle.command_words.specs.declared.running.RunSettings.{RunSettings}
-use Rattle.catalog_laws.specs.Told.{AllBecome, ShelfTellsTables, view_told}
+use Rattle.limits.specs.declared.settings.Settings.{Settings}
+use Rattle.topk_laws.specs.Told.{AllBecome, ShelfTellsTables, view_told}
 use Rattle.query_admission.specs.declared.line_outcome.LineOutcome.{LineOutcome}
 use Rattle.catalog_run.specs.Runs.{CatalogRun, IsRun}
 use Rattle.call_ends.specs.Calls.{Call, WroteWhole}
@@ -46,7 +46,7 @@ trouble_at catalog before mid now place asked trouble = go (bytes_eq place catal
         subst (λ counts. TroubleAt counts now) (asked.elsewhere place other) trouble
 
 -- the tables that are told before the catalog's text was asked for are told after that
-tells_since : (s : RunSettings) (catalog : List Entry) (ls : List (List ℕ)) (place : List ℕ) (before given after : Shelf) → AsksText place before given
+tells_since : (s : Settings) (catalog : List Entry) (ls : List (List ℕ)) (place : List ℕ) (before given after : Shelf) → AsksText place before given
     → ShelfTellsTables (lines_run s catalog ls before after) → ShelfTellsTables (lines_run s catalog ls given after)
 tells_since s catalog ls place before given after asked tells =
     let lists : before.lists ≡ given.lists = sym (λ i at. asked.tells.lists at i) in

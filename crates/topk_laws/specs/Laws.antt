@@ -4,8 +4,8 @@ use Rattle.line_text.specs.Lines.{lines}
 use Rattle.bundle_text.specs.declared.bundle.Bundle.{Bundle}
 use Rattle.bundle_text.specs.Bundle.{content, IsBundle}
 use Rattle.cert_text.specs.declared.certificate.Certificate.{Certificate}
-use Rattle.cert_reader.specs.Reading.{Spells}
-use Rattle.cert_judge.specs.declared.told.Told.TheVariants.{Fixes, Beaten}
+use Rattle.cert_text.specs.Reading.{Spells}
+use Rattle.cert_judge.specs.declared.judgement.Judgement.TheVariants.{Fixes, Beaten}
 use Rattle.cert_judge.specs.Figures.{HasItsFigures}
 use Rattle.cert_judge.specs.Judging.{Tells}
 use Rattle.call_ends.specs.declared.status.Status.{Status}

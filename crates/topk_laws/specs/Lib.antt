@@ -1,3 +1,8 @@
+-- What the laws of runs of query lines say.
+pub mod Told
+pub mod Failures
+pub mod Answers
+pub mod Giving
 -- What holds of all calls of the program.
 pub mod Laws
 pub mod Limits

@@ -9,17 +9,17 @@ use Rattle.catalog_text.specs.Catalog.{Listed as Entry, IsCatalog}
 use Rattle.command_words.specs.Commands.{command_of}
 use Rattle.command_words.specs.declared.command.Command.TheVariants.{Run}
 use Rattle.command_words.specs.declared.running.RunOptions.{RunOptions}
-use Rattle.command_words.specs.declared.running.RunSettings.{RunSettings}
+use Rattle.limits.specs.declared.settings.Settings.{Settings}
 use Rattle.batch_result.specs.Numbered.{counts_at}
 use Rattle.batch_result.specs.Batches.{size_at}
 use Rattle.catalog_open.specs.Openings.{used_at, put_back}
 use Rattle.query_admission.specs.declared.line_outcome.LineOutcome.{LineOutcome}
-use Rattle.catalog_laws.specs.Told.{AllBecome, ShelfTellsTables, view_told}
-use Rattle.catalog_laws.specs.Failures.{RefusesFew}
-use Rattle.catalog_laws.specs.Giving.{GaveWhatIsAsked, RoseByGiven}
+use Rattle.topk_laws.specs.Told.{AllBecome, ShelfTellsTables, view_told}
+use Rattle.topk_laws.specs.Failures.{RefusesFew}
+use Rattle.topk_laws.specs.Giving.{GaveWhatIsAsked, RoseByGiven}
 use Rattle.call_ends.specs.Calls.{Call, WroteWhole, input_limit}
 use Rattle.call_ends.specs.Shelves.{Shelf, TextFailed}
-use Rattle.catalog_calls.specs.Running.{RefusesCatalog, RepliesToLines, outcomes_text, lines_run, run_status, settings_by}
+use Rattle.catalog_calls.specs.Running.{RefusesCatalog, RepliesToLines, outcomes_text, lines_run, run_status}
 use Rattle.topk_top.specs.Ends.{CallEnds}
 use Rattle.call_ends.specs.declared.status.Status.{Status}
 use Rattle.call_ends.specs.declared.status.Status.TheVariants.{BadCatalog, Memory}
@@ -99,10 +99,10 @@ SettingsChangeNothing =
 -- what stands behind the reply to lines: a source gave no more than the lines asked of it, from when it was opened until it was put back, and what the
 -- shelf counted at a place rose by that; and the lines that were refused because calls of a place's sources failed, or were answered by garbled data, are
 -- no more than the workers times such calls
-pub record IsSparing (settings : RunSettings) (text bytes : List ℕ) (before after : Shelf) (status : Status) (said : List ℕ)
+pub record IsSparing (settings : Settings) (text bytes : List ℕ) (before after : Shelf) (status : Status) (said : List ℕ)
     (r : RepliesToLines settings text bytes before after status said) : Type 0 where
   pub gave : (source : ℕ) → source < length r.run.sources.places
-      → GaveWhatIsAsked (settings_by settings) r.run.ran.ran.queries source (size_at r.run.sources.counts source) (counts_at r.run.now source)
+      → GaveWhatIsAsked settings r.run.ran.ran.queries source (size_at r.run.sources.counts source) (counts_at r.run.now source)
   pub counted : (place : List ℕ)
       → RoseByGiven (before.at place) (after.at place) (used_at place (put_back r.catalog r.run.sources.places r.run.now))
   pub refused : (place : List ℕ) → RefusesFew (lines_run settings r.catalog (lines bytes) before after) r.outcomes place
@@ -110,5 +110,5 @@ pub record IsSparing (settings : RunSettings) (text bytes : List ℕ) (before af
 -- each reply to lines is sparing, however many they are
 abbrev pub RepliesAreSparing : Type 0
 RepliesAreSparing =
-    (settings : RunSettings) (text bytes : List ℕ) (before after : Shelf) (status : Status) (said : List ℕ)
+    (settings : Settings) (text bytes : List ℕ) (before after : Shelf) (status : Status) (said : List ℕ)
     (r : RepliesToLines settings text bytes before after status said) → IsSparing settings text bytes before after status said r

@@ -2,7 +2,7 @@
 
 ghost use Rattle.topk_laws.specs.RunLaws.{RepliesAreSparing, SettingsChangeNothing, ToldRunsWriteTheOne, WrongCatalogsAreRefused};
 
-use catalog_laws::{
+use super::laws_catalog::{
     failures_refuse_few_lines, sources_give_what_is_asked, told_tables_give_the_one_outcome,
 };
 

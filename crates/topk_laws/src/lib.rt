@@ -1,10 +1,18 @@
 //! Laws of the top call: what follows of its contract alone, for every input, whatever sources it reads.
+//!
+//! Those on runs over a catalog say which outcomes lines have where the sources tell tables, what stands behind refusals, and
+//! how much the sources give.
 #![tactic(auto)]
 
 mod laws;
+mod laws_catalog;
 mod laws_run;
 
 pub use laws::{answers_are_fixed, counters_are_bundles, limits_are_stated};
+pub use laws_catalog::{
+    answers_over_told_tables_are_the_one, failed_lists_have_causes, failures_refuse_few_lines,
+    outcomes_are_right, sources_give_what_is_asked, told_tables_give_the_one_outcome,
+};
 pub use laws_run::{
     replies_are_sparing, settings_change_nothing, told_runs_write_the_one_text,
     wrong_catalogs_are_refused,

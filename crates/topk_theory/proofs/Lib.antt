@@ -11,6 +11,7 @@ pub mod CombinedRun
 pub mod Consistent
 pub mod ConsistentRows
 pub mod ConsistentTable
+pub mod Counts
 pub mod FirstK
 pub mod InOrder
 pub mod KthLow

@@ -3,13 +3,13 @@ use Rattle.std.proofs.Common.{◌≡◌, subst}
 use Rattle.command_words.specs.declared.bulking.BulkOptions.{BulkOptions}
 use Rattle.command_words.specs.declared.running.RunOptions.{RunOptions}
 use Rattle.command_words.specs.Bulking.{AreBulkOptions}
-use Rattle.command_words.specs.Running.{AreRunSettings}
+use Rattle.limits.specs.Ranges.{AreSettings}
 use Rattle.command_words.specs.Commands.{HasSettings}
 use Rattle.command_words.specs.declared.command.Command.{Command}
 use Rattle.command_words.specs.declared.command.Command.TheVariants.{Run, Bulk}
 
 -- the settings of a run that words ask for
-pub run_settings : (command : Command) (options : RunOptions) → command ≡ Run options → HasSettings command → AreRunSettings options.settings
+pub run_settings : (command : Command) (options : RunOptions) → command ≡ Run options → HasSettings command → AreSettings options.settings
 run_settings command options is has = subst HasSettings is has
 
 -- and the numbers of made queries that they ask for

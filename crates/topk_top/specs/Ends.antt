@@ -5,7 +5,7 @@ use Rattle.command_words.specs.declared.command.Command.{Command}
 use Rattle.command_words.specs.declared.command.Command.TheVariants.{One, Judge, Make, Run, Bulk}
 use Rattle.call_ends.specs.Calls.{Call, LeftAlone, KeepsShelf, WroteNothing, WroteWhole, WroteFront}
 use Rattle.catalog_calls.specs.RunEnds.{EndsRunning}
-use Rattle.topk_top.specs.Bulk.{bulk_text}
+use Rattle.bulk_run.specs.Bulk.{bulk_text}
 use Rattle.call_ends.specs.Codes.{exit_code}
 use Rattle.bundle_calls.specs.Made.{made_text}
 use Rattle.bundle_calls.specs.Reply.{Replies}

@@ -1,3 +1,2 @@
 -- How a top call ends.
-pub mod Bulk
 pub mod Ends

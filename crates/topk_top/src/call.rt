@@ -4,7 +4,7 @@ ghost use Rattle.std.specs.Prelude.{◌≤◌};
 ghost use Rattle.call_ends.specs.Calls.{call_of};
 ghost use Rattle.topk_top.specs.Ends.{CallEnds};
 
-use super::bulking::bulk;
+use bulk_run::bulk;
 use bundle_calls::{judge, make, one};
 use call_ends::{Status, say};
 use catalog_calls::run;

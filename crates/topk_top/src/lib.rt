@@ -1,7 +1,6 @@
 //! The top call: words and an input in, one text and a status out.
 #![tactic(auto)]
 
-mod bulking;
 mod call;
 mod process;
 
@@ -9,7 +8,3 @@ pub use call::top;
 pub use call_ends::Status;
 pub use command_words::{Words, WordsFault, read_words};
 pub use process::run_process;
-
-/// No memory was left.
-#[derive(Clone, Copy)]
-pub(crate) struct Memory;

@@ -5,7 +5,7 @@ use lib.ListN.{get_elem?}
 use Rattle.atomic_table.specs.Table.{Step, step, rest, Allows, Splits, Joins, opening, Final, Seen}
 use Rattle.turn_lock.specs.declared.facts.Facts.{Facts}
 use Rattle.turn_lock.specs.declared.known.Known.{Known}
-use Rattle.turn_lock.specs.Known.{all_parts, Agrees, holding, after_turn}
+use Rattle.turn_lock.specs.Known.{all_parts, KnowsOf, holding, after_turn}
 use Rattle.turn_lock.specs.Rule.{PassState, first_view, spent_view, Ruled}
 use Rattle.turn_lock.specs.Steps.{Draws, Watches, Counts, PassesOn, Compares, kept_view, given_view, joined_view}
 use Rattle.turn_lock.specs.Seats.{Rests, InTurn, Waits, Took, MayGive, Gives, Counted, Gave, Poised}
@@ -115,14 +115,14 @@ module _ {V E : Type 0} (facts : V → Facts E) where
   -- what is in the slot at the close is a value, and agrees with the pass
   pub closed : (id : ℕ) (m : PassState V E) (pass : Known E) (ws : List ℕ) (xs : List (Option V)) (o : Option V)
       → Final (Seen (Ruled facts) id m.0) ws xs → Poised m → m.0.known ≡ pass
-      → pass.held ≡ None → pass.parts ≡ all_parts → get_elem? xs 0 ≡ slot.some o → (y : V) × (o ≡ Some y) × Agrees (facts y) pass
+      → pass.held ≡ None → pass.parts ≡ all_parts → get_elem? xs 0 ≡ slot.some o → (y : V) × (o ≡ Some y) × KnowsOf (facts y) pass
   closed id m pass ws xs o f h is idle whole there =
       let idle' : m.0.known.held ≡ None = ap (λ (k : Known E). k.held) is ∙ idle in
       let c = closes facts id m.0 ws xs f ((h.rests idle').0) idle' (ap (λ (k : Known E). k.parts) is ∙ whole) in
-      (c.0, slot.some-injective o (Some c.0) (sym there ∙ c.1), subst (λ (k : Known E). Agrees (facts c.0) k) is c.2)
+      (c.0, slot.some-injective o (Some c.0) (sym there ∙ c.1), subst (λ (k : Known E). KnowsOf (facts c.0) k) is c.2)
 
-  pub closed_value : (pass : Known E) (o : Option V) (y : V) → o ≡ Some y → (z : V) × (o ≡ Some z) × Agrees (facts z) pass → Agrees (facts y) pass
-  closed_value pass o y is c = subst (λ (z : V). Agrees (facts z) pass) (let same : c.0 ≡ y = (let e = c.1 in cc) in same) c.2
+  pub closed_value : (pass : Known E) (o : Option V) (y : V) → o ≡ Some y → (z : V) × (o ≡ Some z) × KnowsOf (facts z) pass → KnowsOf (facts y) pass
+  closed_value pass o y is c = subst (λ (z : V). KnowsOf (facts z) pass) (let same : c.0 ≡ y = (let e = c.1 in cc) in same) c.2
 
-  pub closed_some : (pass : Known E) (o : Option V) → o ≡ None → (z : V) × (o ≡ Some z) × Agrees (facts z) pass → ⊥
+  pub closed_some : (pass : Known E) (o : Option V) → o ≡ None → (z : V) × (o ≡ Some z) × KnowsOf (facts z) pass → ⊥
   closed_some pass o is c = let e = c.1 in cc

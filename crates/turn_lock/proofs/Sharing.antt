@@ -17,8 +17,8 @@ use Rattle.turn_lock.specs.declared.facts.Tally.{Tally}
 use Rattle.turn_lock.specs.declared.facts.Facts.{Facts}
 use Rattle.turn_lock.specs.declared.known.Known.{Known}
 use Rattle.turn_lock.specs.declared.view.View.{View}
-use Rattle.turn_lock.specs.Facts.{Begins, AtMost}
-use Rattle.turn_lock.specs.Known.{all_parts, IsPastOf, HasAll, Agrees, Follows, longer, greatest, writers, joined}
+use Rattle.turn_lock.specs.Facts.{IsFrontOf, AtMost}
+use Rattle.turn_lock.specs.Known.{all_parts, IsPastOf, HasAll, KnowsOf, Follows, longer, greatest, writers, joined}
 use Rattle.turn_lock.specs.Rule.{PassState, total, count_some, parts_of, asked_of, drew, has_turn, queue, nobody, first_view, spent_view, Knows, Fits, words_of, Shelf, Core, Ruled}
 use Rattle.turn_lock.specs.Steps.{Offers, Compares, kept_view, given_view, joined_view}
 use Rattle.turn_lock.proofs.Growth.{begins_nothing, begins_same, at_most_same}
@@ -28,10 +28,10 @@ use Rattle.turn_lock.proofs.Turning.{agrees}
 
 module _ {A : Type 0} where
   -- of two beginnings of one list the shorter begins the longer
-  pub begins_both : (xs ys zs : List A) → Begins xs zs → Begins ys zs → length xs ≤ length ys → Begins xs ys
+  pub begins_both : (xs ys zs : List A) → IsFrontOf xs zs → IsFrontOf ys zs → length xs ≤ length ys → IsFrontOf xs ys
   begins_both xs ys zs b c = go xs ys b.rest c.rest (sym b.goes_on ∙ c.goes_on)
     where
-      go : (xs ys r t : List A) → xs ++ r ≡ ys ++ t → length xs ≤ length ys → Begins xs ys
+      go : (xs ys r t : List A) → xs ++ r ≡ ys ++ t → length xs ≤ length ys → IsFrontOf xs ys
       go [] ys r t e le = begins_nothing ys
       go (x ∷ xs) [] r t e le = absurd (omega arith)
       go (x ∷ xs) (y ∷ ys) r t e le = let here : x ≡ y = cc in let there : xs ++ r ≡ ys ++ t = cc in
@@ -117,8 +117,8 @@ module _ {E : Type 0} where
     tally = go_tally after.writer refl;
   }
     where
-      go_seen : (t : Bool) → after.writer ≡ t → Begins before.seen after.seen
-      go_seen true w = subst (λ (l : List E). Begins before.seen l) (sym ((all w).seen)) p.seen
+      go_seen : (t : Bool) → after.writer ≡ t → IsFrontOf before.seen after.seen
+      go_seen true w = subst (λ (l : List E). IsFrontOf before.seen l) (sym ((all w).seen)) p.seen
       go_seen false w = begins_both before.seen after.seen now.log p.seen q.seen (c.seen w)
 
       go_tally : (t : Bool) → after.writer ≡ t → AtMost before.tally after.tally
@@ -283,9 +283,9 @@ module _ {V E : Type 0} (facts : V → Facts E) where
   joined_knows writer writer' id other now a b x y live is = record {
     name = λ _. x.name live;
     past = record {
-      seen = writers_of (λ (l : List E). Begins l now.log) a.writer b.writer a.seen b.seen (longer a.seen b.seen) x.past.seen y.past.seen
-          (longer_of (λ (l : List E). Begins l now.log) a.seen b.seen x.past.seen y.past.seen);
-      met = longer_of (λ (l : List ℕ). Begins l now.asks) a.met b.met x.past.met y.past.met;
+      seen = writers_of (λ (l : List E). IsFrontOf l now.log) a.writer b.writer a.seen b.seen (longer a.seen b.seen) x.past.seen y.past.seen
+          (longer_of (λ (l : List E). IsFrontOf l now.log) a.seen b.seen x.past.seen y.past.seen);
+      met = longer_of (λ (l : List ℕ). IsFrontOf l now.asks) a.met b.met x.past.met y.past.met;
       tally = writers_of (λ (t : Tally). AtMost t now.tally) a.writer b.writer a.tally b.tally (greatest a.tally b.tally) x.past.tally y.past.tally
           (greatest_least a.tally b.tally now.tally x.past.tally y.past.tally);
     };
@@ -447,7 +447,7 @@ module _ {V E : Type 0} (facts : V → Facts E) where
   -- the one slot of a lock that the pass with all parts closes has a value that agrees with the pass
   pub closes : (id : ℕ) (v : View E) (ws : List ℕ) (xs : List (Option V)) → Final (Seen (Ruled facts) id v) ws xs → v.ticket ≡ None
       → v.known.held ≡ None → v.known.parts ≡ all_parts
-      → (y : V) × (get_elem? xs 0 ≡ some (Some y)) × Agrees (facts y) v.known
+      → (y : V) × (get_elem? xs 0 ≡ some (Some y)) × KnowsOf (facts y) v.known
   closes id v ws xs f free idle all =
       let s = f.0 in
       let r : Ruled facts s = f.1.0 in
@@ -461,6 +461,6 @@ module _ {V E : Type 0} (facts : V → Facts E) where
       let home : Shelf facts 0 r.now s.homes = subst (λ n. Shelf facts n r.now s.homes) none_inside r.core.shelf in (
         home.0,
         f.4 0 (Some home.0) (ap (λ l. get_elem? l 0) home.1),
-        subst (λ (g : Facts E). Agrees g v.known) (sym home.2)
+        subst (λ (g : Facts E). KnowsOf g v.known) (sym home.2)
             (agrees facts s r id v at (omega arith)),
       )

@@ -13,8 +13,8 @@ use Rattle.atomic_table.proofs.Lists.{set_else, one_turn}
 use Rattle.turn_lock.specs.declared.facts.Facts.{Facts}
 use Rattle.turn_lock.specs.declared.known.Known.{Known}
 use Rattle.turn_lock.specs.declared.view.View.{View}
-use Rattle.turn_lock.specs.Facts.{Begins, Grows, IsKept}
-use Rattle.turn_lock.specs.Known.{IsPastOf, HasAll, Agrees, holding, raised, new_asks, after_turn}
+use Rattle.turn_lock.specs.Facts.{IsFrontOf, FactsGrow, AreFactsKept}
+use Rattle.turn_lock.specs.Known.{IsPastOf, HasAll, KnowsOf, holding, raised, new_asks, after_turn}
 use Rattle.turn_lock.specs.Rule.{LockState, PassState, total, count_some, parts_of, asked_of, drew, has_turn, queue, Knows, Fits, Reached, words_of, Shelf, Ruled}
 use Rattle.turn_lock.specs.Steps.{Draws, Watches, Counts, PassesOn}
 use Rattle.turn_lock.proofs.Growth.{begins_on, begins_same, at_most_on, at_most_same, new_asks_are}
@@ -38,7 +38,7 @@ abbrev pub in_hand : {V : Type 0} → V → List (ℕ × Option V) → V
 in_hand d [] = d
 in_hand d (x ∷ _) = unwrap_or x.1 d
 
-begins_length : {A : Type 0} (xs ys : List A) → Begins xs ys → length xs ≤ length ys
+begins_length : {A : Type 0} (xs ys : List A) → IsFrontOf xs ys → length xs ≤ length ys
 begins_length xs ys b = let e = ap length b.goes_on in let f = length-append xs b.rest in omega arith
 
 -- an empty list has nothing in it
@@ -46,7 +46,7 @@ none_there : {A : Type 0} (xs : List A) (x : A) → length xs ≡ 0 → Contains
 none_there xs x none c = let within = c.1 in absurd (omega arith)
 
 -- an ask in force after a turn was in force before it, or the turn added it
-asks_of_turn : {E : Type 0} (taken given : Facts E) (ask : ℕ) → Begins taken.asks given.asks → Contains given.asks ask
+asks_of_turn : {E : Type 0} (taken given : Facts E) (ask : ℕ) → IsFrontOf taken.asks given.asks → Contains given.asks ask
     → Contains taken.asks ask ⊎ Contains (new_asks taken given) ask
 asks_of_turn taken given ask b c =
     elim (Contains-append_cases taken.asks b.rest ask (subst (λ (l : List ℕ). Contains l ask) b.goes_on c)) [
@@ -57,7 +57,7 @@ asks_of_turn taken given ask b c =
 module _ {V E : Type 0} (facts : V → Facts E) where
   -- what the rule says of a live pass and what is in force
   pub agrees : (s : LockState V E) (r : Ruled facts s) (id : ℕ) (v : View E) → get_elem? s.views id ≡ some v → 0 < v.known.parts
-      → Agrees r.now v.known
+      → KnowsOf r.now v.known
   agrees s r id v at live = let x = (r.core.each id v at).knows in record {
     name = x.name live;
     past = x.past;
@@ -121,7 +121,7 @@ module _ {V E : Type 0} (facts : V → Facts E) where
   -- the ticket of the pass is served
   serves : (slots id : ℕ) (v : View E) (k : ℕ) (s : LockState V E) (r : Ruled facts s) → get_elem? s.views id ≡ some v → v.ticket ≡ Some k
       → k ≡ r.serving → v.known.held ≡ None → 0 < v.known.parts
-      → (y : V) × (a : get_elem? s.homes 0 ≡ some (some (Some y))) × Agrees (facts y) v.known
+      → (y : V) × (a : get_elem? s.homes 0 ≡ some (some (Some y))) × KnowsOf (facts y) v.known
       × Ruled facts record {
         words = s.words;
         homes = slice_set s.homes 0 slot.none;
@@ -146,7 +146,7 @@ module _ {V E : Type 0} (facts : V → Facts E) where
       let le : queue s.views ≤ queue (set s.views id w) = omega arith in (
         y,
         ap (λ l. get_elem? l 0) home.1,
-        subst (λ (f : Facts E). Agrees f v.known) (sym home.2) (agrees s r id v at live),
+        subst (λ (f : Facts E). KnowsOf f v.known) (sym home.2) (agrees s r id v at live),
         rules_on facts s r r.serving id v w s.words _ at refl refl refl refl
             (carries facts s r.serving r.writer r.now r.serving r.writer r.now id v w s.words _ r.core at
             (r.core.words ∙ ap (λ n. words_of r.serving n (length r.now.log)) (sym q))
@@ -164,7 +164,7 @@ module _ {V E : Type 0} (facts : V → Facts E) where
       )
 
   told_hit : (m m' : PassState V E) (k n : ℕ) → m.0.ticket ≡ Some k → k % 2 ^ 64 ≡ n
-      → (y : V) × (m' ≡ (record m.0 { known = holding (facts y) m.0.known }, (0, Some y) ∷ [])) × Agrees (facts y) m.0.known
+      → (y : V) × (m' ≡ (record m.0 { known = holding (facts y) m.0.known }, (0, Some y) ∷ [])) × KnowsOf (facts y) m.0.known
       → Watches facts (step 0 0 0 0 slot.none) m n m'
   told_hit m m' k n drawn hit took k' e = ((λ _. took), λ miss. absurd (miss (ap (λ j. j % 2 ^ 64) (some_same m.0.ticket k' k e drawn) ∙ hit)))
 
@@ -205,8 +205,8 @@ module _ {V E : Type 0} (facts : V → Facts E) where
 
   -- the others still fit once the value in the hand of the pass that has the turn is in force
   others_fit : (s : LockState V E) (r : Ruled facts s) (id : ℕ) (v : View E) (g : Facts E) → get_elem? s.views id ≡ some v
-      → v.ticket ≡ Some r.serving → Grows r.now g
-      → (v.known.writer ≡ false → IsKept r.now g) → (more : ℕ) → queue s.views ≤ more
+      → v.ticket ≡ Some r.serving → FactsGrow r.now g
+      → (v.known.writer ≡ false → AreFactsKept r.now g) → (more : ℕ) → queue s.views ≤ more
       → (j : ℕ) (u : View E) → j ≢ id → get_elem? s.views j ≡ some u → Fits r.serving more r.writer g j u
   others_fit s r id v g at mine grows kept more le j u ne e = let x = r.core.each j u e in let k = x.knows in record {
     ticket = λ n d. let b = x.ticket n d in (b.0, let h = b.1 in omega arith);
@@ -249,7 +249,7 @@ module _ {V E : Type 0} (facts : V → Facts E) where
 
   -- what the pass knows after its turn fits what it gave
   turn_known : (s : LockState V E) (r : Ruled facts s) (id : ℕ) (v : View E) (f g : Facts E) → get_elem? s.views id ≡ some v → f ≡ r.now
-      → Grows r.now g
+      → FactsGrow r.now g
       → (0 < v.known.parts) → Knows r.writer g id (after_turn f g v.known)
   turn_known s r id v f g at taken grows live = let k = (r.core.each id v at).knows in
       let mark : f.mark ≡ r.now.mark = ap (λ (z : Facts E). z.mark) taken in
@@ -268,7 +268,7 @@ module _ {V E : Type 0} (facts : V → Facts E) where
 
   pub counts : (slots id : ℕ) (me : PassState V E) (f : Facts E) (y : V) (n : ℕ) → me.0.known.held ≡ Some f → me.1 ≡ (0, Some y) ∷ []
       → 0 < me.0.known.parts
-      → Grows f (facts y) → (me.0.known.writer ≡ false → IsKept f (facts y)) → n ≡ length (facts y).log
+      → FactsGrow f (facts y) → (me.0.known.writer ≡ false → AreFactsKept f (facts y)) → n ≡ length (facts y).log
       → Allows (Ruled facts) slots id me 2 (λ _. n) (λ _. Counts facts (step slots 2 n 0 slot.none) me n)
   counts slots id me f y n holds hand live grows kept long s r _ at _ =
       let v : View E = me.0 in
@@ -276,8 +276,8 @@ module _ {V E : Type 0} (facts : V → Facts E) where
       let x = r.core.each id v at in
       let turn = x.turn f holds in
       let mine : v.ticket ≡ Some r.serving = turn.0 in
-      let grows' : Grows r.now g = subst (λ (z : Facts E). Grows z g) turn.1 grows in
-      let kept' : v.known.writer ≡ false → IsKept r.now g = λ b. subst (λ (z : Facts E). IsKept z g) turn.1 (kept b) in
+      let grows' : FactsGrow r.now g = subst (λ (z : Facts E). FactsGrow z g) turn.1 grows in
+      let kept' : v.known.writer ≡ false → AreFactsKept r.now g = λ b. subst (λ (z : Facts E). AreFactsKept z g) turn.1 (kept b) in
       let w : View E = record v { known = holding g (after_turn f g v.known) } in
       let mark : f.mark ≡ r.now.mark = ap (λ (z : Facts E). z.mark) turn.1 in
       let asks : length f.asks ≡ length r.now.asks = ap (λ (z : Facts E). length z.asks) turn.1 in

@@ -4,7 +4,7 @@ use Rattle.turn_lock.specs.declared.facts.Tally.{Tally}
 use Rattle.turn_lock.specs.declared.facts.Facts.{Facts}
 
 -- the longer list begins with the shorter one
-pub record Begins {A : Type 0} (shorter longer : List A) : Type 0 where
+pub record IsFrontOf {A : Type 0} (shorter longer : List A) : Type 0 where
   pub rest : List A
   pub goes_on : longer ≡ shorter ++ rest
 
@@ -15,14 +15,14 @@ pub record AtMost (less more : Tally) : Type 0 where
   pub memory : less.memory ≤ more.memory
 
 -- what a turn may do: the log and the asks go on, the mark and the tally don't fall, and the name stays
-pub record Grows {E : Type 0} (before after : Facts E) : Type 0 where
+pub record FactsGrow {E : Type 0} (before after : Facts E) : Type 0 where
   pub name : after.name ≡ before.name
-  pub log : Begins before.log after.log
-  pub asks : Begins before.asks after.asks
+  pub log : IsFrontOf before.log after.log
+  pub asks : IsFrontOf before.asks after.asks
   pub mark : before.mark ≤ after.mark
   pub tally : AtMost before.tally after.tally
 
 -- what a turn that isn't the writer's keeps: the log and the tally
-pub record IsKept {E : Type 0} (before after : Facts E) : Type 0 where
+pub record AreFactsKept {E : Type 0} (before after : Facts E) : Type 0 where
   pub log : after.log ≡ before.log
   pub tally : after.tally ≡ before.tally

@@ -3,7 +3,7 @@ use Rattle.std.specs.Prelude.{◌≡◌, ℕ, ◌+◌, ◌-◌, ◌≤◌, List,
 use Rattle.turn_lock.specs.declared.facts.Tally.{Tally}
 use Rattle.turn_lock.specs.declared.facts.Facts.{Facts}
 use Rattle.turn_lock.specs.declared.known.Known.{Known}
-use Rattle.turn_lock.specs.Facts.{Begins, AtMost}
+use Rattle.turn_lock.specs.Facts.{IsFrontOf, AtMost}
 
 -- all parts of a lock
 abbrev pub all_parts : ℕ
@@ -11,8 +11,8 @@ all_parts = 4294967296
 
 -- what a pass saw is how what is in force begins
 pub record IsPastOf {E : Type 0} (now : Facts E) (pass : Known E) : Type 0 where
-  pub seen : Begins pass.seen now.log
-  pub met : Begins pass.met now.asks
+  pub seen : IsFrontOf pass.seen now.log
+  pub met : IsFrontOf pass.met now.asks
   pub tally : AtMost pass.tally now.tally
 
 -- the writer has seen the whole log and the whole tally
@@ -27,7 +27,7 @@ pub record DidAll {E : Type 0} (now : Facts E) (pass : Known E) : Type 0 where
   pub mine : (ask : ℕ) → Contains now.asks ask → Contains pass.mine ask
 
 -- what holds of a pass and of the value that it takes
-pub record Agrees {E : Type 0} (now : Facts E) (pass : Known E) : Type 0 where
+pub record KnowsOf {E : Type 0} (now : Facts E) (pass : Known E) : Type 0 where
   pub name : now.name ≡ pass.name
   pub past : IsPastOf now pass
   pub writer : pass.writer ≡ true → HasAll now pass
@@ -39,8 +39,8 @@ pub record Agrees {E : Type 0} (now : Facts E) (pass : Known E) : Type 0 where
 
 -- what a pass has seen is how what it sees later begins
 pub record Follows {E : Type 0} (before after : Known E) : Type 0 where
-  pub seen : Begins before.seen after.seen
-  pub met : Begins before.met after.met
+  pub seen : IsFrontOf before.seen after.seen
+  pub met : IsFrontOf before.met after.met
   pub tally : AtMost before.tally after.tally
 
 -- the highest mark that a pass set, after a turn: the value's new mark where the turn raised it

@@ -5,8 +5,8 @@ use Rattle.atomic_table.specs.declared.shared.Seat.{Seat}
 use Rattle.turn_lock.specs.declared.facts.Facts.{Facts}
 use Rattle.turn_lock.specs.declared.known.Known.{Known}
 use Rattle.turn_lock.specs.Rule.{PassState}
-use Rattle.turn_lock.specs.Facts.{Grows, IsKept}
-use Rattle.turn_lock.specs.Known.{Agrees, holding, after_turn}
+use Rattle.turn_lock.specs.Facts.{FactsGrow, AreFactsKept}
+use Rattle.turn_lock.specs.Known.{KnowsOf, holding, after_turn}
 
 -- a table of three words, and a seat of this table
 abbrev pub IsSeatOf : TableId → TableId → Type 0
@@ -44,12 +44,12 @@ module _ {V E : Type 0} where
   pub record Took (facts : V → Facts E) (before after : PassState V E) : Type 0 where
     pub value : V
     pub has : after ≡ (record before.0 { known = holding (facts value) before.0.known }, (0, Some value) ∷ [])
-    pub agrees : Agrees (facts value) before.0.known
+    pub agrees : KnowsOf (facts value) before.0.known
 
 -- a pass may give a value of these facts
 pub record MayGive {E : Type 0} (given : Facts E) (pass : Known E) : Type 0 where
-  pub grows : (taken : Facts E) → pass.held ≡ Some taken → Grows taken given
-  pub keeps : (taken : Facts E) → pass.held ≡ Some taken → pass.writer ≡ false → IsKept taken given
+  pub grows : (taken : Facts E) → pass.held ≡ Some taken → FactsGrow taken given
+  pub keeps : (taken : Facts E) → pass.held ≡ Some taken → pass.writer ≡ false → AreFactsKept taken given
 
 module _ {V E : Type 0} (facts : V → Facts E) where
   -- a live pass in its turn with a value in its slot that it may give, with a log of this length

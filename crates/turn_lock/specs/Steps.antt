@@ -3,7 +3,7 @@ use Rattle.std.specs.Prelude.{◌≡◌, ◌≢◌, ℕ, ◌%◌, ◌^◌, [], �
 use Rattle.atomic_table.specs.Table.{Step, rest}
 use Rattle.turn_lock.specs.declared.facts.Facts.{Facts}
 use Rattle.turn_lock.specs.declared.view.View.{View}
-use Rattle.turn_lock.specs.Known.{Agrees, Follows, holding, after_turn, without, split_off, joined}
+use Rattle.turn_lock.specs.Known.{KnowsOf, Follows, holding, after_turn, without, split_off, joined}
 use Rattle.turn_lock.specs.Rule.{PassState, nobody, resting}
 
 module _ {V E : Type 0} where
@@ -15,7 +15,7 @@ module _ {V E : Type 0} where
   abbrev pub Watches : (V → Facts E) → Step (Option V) → PassState V E → ℕ → PassState V E → Type 0
   Watches facts st m found m' =
       (k : ℕ) → m.0.ticket ≡ Some k
-      → (k % 2 ^ 64 ≡ found → (y : V) × (m' ≡ (record m.0 { known = holding (facts y) m.0.known }, (0, Some y) ∷ [])) × Agrees (facts y) m.0.known)
+      → (k % 2 ^ 64 ≡ found → (y : V) × (m' ≡ (record m.0 { known = holding (facts y) m.0.known }, (0, Some y) ∷ [])) × KnowsOf (facts y) m.0.known)
       × (k % 2 ^ 64 ≢ found → m' ≡ m)
 
   -- what is in force is now the value in its hand

@@ -2,7 +2,7 @@
 ghost use Rattle.std.specs.Prelude.{◌≡◌, ◌≤◌, ◌⊎◌, ◌++◌, ℕ, List, length};
 ghost use Rattle.turn_lock.specs.declared.facts.Facts.{Facts};
 ghost use Rattle.turn_lock.specs.declared.known.Known.{Known};
-ghost use Rattle.turn_lock.specs.Facts.{Begins};
+ghost use Rattle.turn_lock.specs.Facts.{IsFrontOf};
 ghost use Rattle.turn_lock.specs.Known.{new_asks, after_turn, without, split_off, joined, longer};
 
 /// The highest mark that a pass set never falls in a turn, and never passes the value's mark.
@@ -13,7 +13,7 @@ pub fn a_turn_never_lowers_high<E>()
 
 /// The asks that a turn leaves are those that it found, and then those that it added.
 pub fn a_turn_adds_its_asks<E>()
-    ensures { (taken given : Facts E) → Begins taken.asks given.asks → given.asks ≡ taken.asks ++ new_asks taken given }
+    ensures { (taken given : Facts E) → IsFrontOf taken.asks given.asks → given.asks ≡ taken.asks ++ new_asks taken given }
 {}
 
 /// Of two lists the longer one is one of the two, and neither is longer than it.

@@ -1,6 +1,6 @@
 ghost use Rattle.std.specs.Prelude.{◌≡◌, ◌<◌, false, [], ◌∷◌, None, Some, length, IfOk, IfErr, IfSome, IsSomeAnd};
-ghost use Rattle.turn_lock.specs.Facts.{Grows, IsKept};
-ghost use Rattle.turn_lock.specs.Known.{all_parts, Agrees, Follows, opened, holding, after_turn, without, split_off, joined};
+ghost use Rattle.turn_lock.specs.Facts.{FactsGrow, AreFactsKept};
+ghost use Rattle.turn_lock.specs.Known.{all_parts, KnowsOf, Follows, opened, holding, after_turn, without, split_off, joined};
 
 use crate::bell::Bell;
 use crate::logged::Logged;
@@ -89,7 +89,7 @@ impl<V: Logged + Send + Drop> TurnLock<V> {
         requires own { pass.old.0 ≡ self.now }
         requires rests { pass.old.1.held ≡ None }
         ensures pass { pass.new ≡ (self.now, holding (V.facts result) pass.old.1) }
-        ensures value { Agrees (V.facts result) pass.old.1 }
+        ensures value { KnowsOf (V.facts result) pass.old.1 }
     {
         seat::enter(rt, &self.table.shared, &self.queue, &mut pass.seat)
     }
@@ -98,7 +98,7 @@ impl<V: Logged + Send + Drop> TurnLock<V> {
     /// go on from those that were taken; the writer alone may change the log and the tally.
     pub fn give(&self, pass: &mut Pass<V>, value: V)
         requires own { pass.old.0 ≡ self.now }
-        requires turn { IsSomeAnd pass.old.1.held (λ f. Grows f (V.facts value) × (pass.old.1.writer ≡ false → IsKept f (V.facts value))) }
+        requires turn { IsSomeAnd pass.old.1.held (λ f. FactsGrow f (V.facts value) × (pass.old.1.writer ≡ false → AreFactsKept f (V.facts value))) }
         ensures { IfSome pass.old.1.held (λ f. pass.new ≡ (self.now, after_turn f (V.facts value) pass.old.1)) }
     {
         seat::leave(&self.table.shared, &self.queue, &mut pass.seat, value);
@@ -145,7 +145,7 @@ impl<V: Logged + Send + Drop> TurnLock<V> {
         requires own { pass.0 ≡ self }
         requires rests { pass.1.held ≡ None }
         requires whole { pass.1.parts ≡ all_parts }
-        ensures { Agrees (V.facts result) pass.1 }
+        ensures { KnowsOf (V.facts result) pass.1 }
     {
         let TurnLock { table, .. } = self;
         let Pass { seat } = pass;

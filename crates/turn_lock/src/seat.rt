@@ -1,7 +1,7 @@
 // The moves of a pass on the table of a lock, over the seat that the pass is.
 ghost use Rattle.std.specs.Prelude.{◌≡◌, ℕ, ◌%◌, ◌^◌, ◌<◌, [], ◌∷◌, Some, None};
 ghost use Rattle.turn_lock.specs.declared.facts.Facts.{Facts};
-ghost use Rattle.turn_lock.specs.Known.{Agrees, Follows, holding, after_turn, without, split_off, joined};
+ghost use Rattle.turn_lock.specs.Known.{KnowsOf, Follows, holding, after_turn, without, split_off, joined};
 ghost use Rattle.turn_lock.specs.Rule.{resting};
 ghost use Rattle.turn_lock.specs.Seats.{IsSeatOf, IsSameSeat, Rests, InTurn, Waits, Took, MayGive, Gives, Counted, Gave};
 
@@ -69,7 +69,7 @@ pub fn enter<V: Logged + Drop, R: Wait>(
     requires rests { Rests seat.old.me }
     ensures same { IsSameSeat seat.old seat.new }
     ensures turn { InTurn seat.new.me × (seat.new.me.0.known ≡ holding (V.facts result) seat.old.me.0.known) }
-    ensures value { Agrees (V.facts result) seat.old.me.0.known }
+    ensures value { KnowsOf (V.facts result) seat.old.me.0.known }
 {
     let ticket = desk.fetch_add::<Draw>(seat, TICKET, 1);
     wait_for(rt, desk, queue, seat, ticket);

@@ -1,10 +1,10 @@
 use Rattle.std.proofs.Common.{sym, ap, subst, ◌∙◌, arith}
-use Rattle.source_locks.specs.Closed.{HaveAll, AreClosed}
+use Rattle.source_pool.specs.Closed.{HaveAll, AreClosed}
 use Rattle.batch_result.specs.Batches.{IsBatch, batch_of}
-use Rattle.batch_slots.specs.Slots.{states_of}
+use Rattle.batch_sides.specs.Slots.{states_of}
 use Rattle.batch_run.specs.Finishing.{slots_run}
-use Rattle.batch_crew.specs.Crews.{Rejoins}
-use Rattle.batch_crew.proofs.SlotLaws.{states_long}
+use Rattle.batch_run.specs.Crews.{Rejoins}
+use Rattle.batch_run.proofs.SlotLaws.{states_long}
 use Rattle.batch_run.proofs.RunLaws.{none_short, passes_own, left_as, parts_left}
 use Rattle.batch_run.proofs.FinishLaws.{all_ends, some_whole, have_all, Situation, is_batch, their_shares, as_many}
 use Rattle.batch_run.proofs.finish.finish.Goals as goal

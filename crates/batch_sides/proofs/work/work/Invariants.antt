@@ -1,5 +1,5 @@
 use Rattle.std.proofs.Common.{◌≡◌, false, take}
-use Rattle.source_locks.specs.Passes.{IsPassOf}
+use Rattle.source_pool.specs.Passes.{IsPassOf}
 use Rattle.query_run.specs.Advancing.{WaitsForNothing}
 use Rattle.batch_sides.specs.Working.{KnowsAll, RanSo}
 use Rattle.batch_sides.proofs.work.work.Given as goal

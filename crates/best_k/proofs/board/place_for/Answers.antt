@@ -1,6 +1,6 @@
 use Rattle.std.proofs.Common.{◌≡◌, ◌++◌, ◌∷◌, [], ◌∙◌, Bool, refl, sym, ap, subst}
 use Rattle.std.specs.Bool.{MatchBool}
-use Rattle.room_map.specs.Keys.{Keys}
+use Rattle.object_map.specs.Keys.{Keys}
 use Rattle.best_k.proofs.Placing.{position_at, any_at, not_among, position_none, pushed_at, fits_more}
 use Rattle.best_k.proofs.board.place_for.Goals as goal
 

@@ -2,8 +2,8 @@ use Rattle.std.proofs.Common.{◌≡◌, ap, refl, ◌∙◌}
 use Rattle.monotone_fn.specs.Shape.{list_count}
 use Rattle.topk_theory.specs.Transcript.{list_numbers}
 use Rattle.query_text.specs.declared.query.Query.{Query}
-use Rattle.made_queries.specs.Made.{made_tree}
-use Rattle.made_queries.proofs.Trees.{made_fits}
+use Rattle.made_inputs.specs.MadeQueries.{made_tree}
+use Rattle.made_inputs.proofs.Trees.{made_fits}
 use Rattle.bulk_run.proofs.Readying.{ready_made}
 use Rattle.bulk_run.proofs.readies.made_ready.Goals as goal
 

@@ -1,6 +1,6 @@
 use Rattle.std.proofs.Common.{sym, subst, ◌∙◌, arith}
 use Rattle.bulk_run.specs.Endings.{AllEndInOne}
-use Rattle.made_sources.proofs.TableLaws.{slots_long, none_fed}
+use Rattle.bulk_run.proofs.TableLaws.{slots_long, none_fed}
 use Rattle.bulk_run.proofs.Readying.{all_counted, all_ready_for, counts_long, readies_long}
 use Rattle.bulk_run.proofs.OneAnswers.{ran_in_one}
 use Rattle.bulk_run.proofs.run.run_queries.Goals as goal

@@ -1,12 +1,12 @@
 use Rattle.std.proofs.Common.{◌≡◌, ◌≢◌, refl}
-use Rattle.cert_judge.specs.declared.told.Told.{Told}
-use Rattle.cert_judge.specs.declared.told.Told.TheVariants.{BadLine, Inconsistent, WildGuess, WrongSize, UnseenAnswer, Figure, Fixes, Beaten}
+use Rattle.cert_judge.specs.declared.judgement.Judgement.{Judgement}
+use Rattle.cert_judge.specs.declared.judgement.Judgement.TheVariants.{BadLine, Inconsistent, WildGuess, WrongSize, UnseenAnswer, Figure, Fixes, Beaten}
 use Rattle.call_ends.specs.declared.status.Status.TheVariants.{Partial}
 use Rattle.bundle_calls.specs.Judge.{told_status}
 use Rattle.bundle_calls.proofs.judging.told_status.Goals as goal
 
 -- all that is told but `fixes` ends so
-partial : (told : Told) → told ≢ Fixes → Partial ≡ told_status told
+partial : (told : Judgement) → told ≢ Fixes → Partial ≡ told_status told
 partial (BadLine line) other = refl
 partial (Inconsistent at kind) other = refl
 partial (WildGuess at) other = refl

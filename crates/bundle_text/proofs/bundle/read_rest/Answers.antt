@@ -2,7 +2,7 @@ use Rattle.std.proofs.Common.{sym, ◌∙◌, ap, subst, arith, ◌+◌}
 use Rattle.line_text.specs.Lines.{lines}
 use Rattle.line_text.proofs.LineLaws.{lines-nil}
 use Rattle.bundle_text.specs.Reading.{part_read, read_on}
-use Rattle.bundle_text.specs.Tracking.{front_of, Gives}
+use Rattle.bundle_text.specs.Tracking.{front_of, GivesBundle}
 use Rattle.bundle_text.proofs.ReadLaws.{read_on-nil, read_on-takes, read_on-refuses, read_on-query, no_query}
 use Rattle.bundle_text.proofs.bundle.read_rest.Goals as goal
 
@@ -10,7 +10,7 @@ pub returns-in-Query : goal.returns-in-Query
 returns-in-Query c =
     let front = front_of c.loop-line.reader in
     let e = c.loop-line.invariant.same ∙ read_on-query front c.loop-line.number c.in-Some.ensures.line (lines c.in-Some.more.now) (lines c.loop-line.rest.now) c.in-Query.query.now c.in-Some.ensures.whole (ap part_read (sym c.in-Query.is) ∙ c.in-Some.ensures.is) in
-    subst (Gives c.read_end.result) (sym e) c.read_end.ensures
+    subst (GivesBundle c.read_end.result) (sym e) c.read_end.ensures
 
 pub returns-then-not-took : goal.returns-then-not-took
 returns-then-not-took c =

@@ -1,8 +1,8 @@
 use Rattle.std.proofs.Common.{◌≡◌, ◌∙◌, [], All, ap, length, map, refl, subst, sym}
 use Rattle.std.proofs.lemmas.List.{length-map}
 use Rattle.std.proofs.lemmas.List.Elements.{All-from_recursion}
-use Rattle.catalog_admission.specs.Views.{view_over, nothing_told}
-use Rattle.catalog_admission.specs.Wanted.{AreMarked, IsWanted}
+use Rattle.catalog_open.specs.Views.{view_over, nothing_told}
+use Rattle.catalog_open.specs.Wanted.{AreMarked, IsWanted}
 use Rattle.catalog_open.specs.Openings.{IsKnownAt}
 use Rattle.catalog_open.proofs.Opens.{opened_as, opened_none}
 use Rattle.catalog_open.proofs.Unread.{still}

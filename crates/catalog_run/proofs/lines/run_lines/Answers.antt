@@ -1,5 +1,5 @@
 use Rattle.std.proofs.Common.{◌≡◌, ◌∙◌, Contains, length, map, reverse, subst}
-use Rattle.catalog_admission.specs.Wanted.{IsWanted}
+use Rattle.catalog_open.specs.Wanted.{IsWanted}
 use Rattle.catalog_open.specs.Openings.{KeepsOthers, PutsBack, put_back}
 use Rattle.catalog_run.proofs.Whole.{back_keeps, if_ran, is_run, run_moves}
 use Rattle.catalog_run.proofs.lines.run_lines.Goals as goal

@@ -1,7 +1,7 @@
 use Rattle.std.proofs.Common.{rules, All, map, refl, sym, subst}
 use Rattle.query_turns.specs.Made.{IsReadyFor}
-use Rattle.catalog_admission.specs.Admissions.{AreAdmitted}
-use Rattle.catalog_admission.specs.Views.{view_over, nothing_told}
+use Rattle.catalog_open.specs.Admissions.{AreAdmitted}
+use Rattle.catalog_open.specs.Views.{view_over, nothing_told}
 use Rattle.catalog_open.specs.Entries.{IsMarked}
 use Rattle.catalog_run.specs.Runs.{RanOver}
 use Rattle.catalog_run.proofs.Readies.{all_ready}

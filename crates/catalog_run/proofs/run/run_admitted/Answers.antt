@@ -1,5 +1,5 @@
 use Rattle.std.proofs.Common.{map, [], length, subst, arith, ap}
-use Rattle.catalog_outcomes.specs.Merging.{Merges}
+use Rattle.catalog_run.specs.Merging.{Merges}
 use Rattle.catalog_run.proofs.Readies.{readies_few}
 use Rattle.catalog_run.proofs.Running.{as_many, batch_of_readies, if_then, ran_fits, ran_over, ran_written}
 use Rattle.catalog_run.proofs.run.run_admitted.Goals as goal

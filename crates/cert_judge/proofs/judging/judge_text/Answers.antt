@@ -1,7 +1,7 @@
 use Rattle.std.proofs.Common.{sym, subst, arith}
 use Rattle.line_text.specs.Lines.{lines}
 use Rattle.cert_judge.specs.Judging.{Tells}
-use Rattle.cert_judge.specs.declared.told.Told.TheVariants.{BadLine}
+use Rattle.cert_judge.specs.declared.judgement.Judgement.TheVariants.{BadLine}
 use Rattle.cert_judge.proofs.Telling.{few_accesses, told_result, told_no_certificate}
 use Rattle.cert_judge.proofs.judging.judge_text.Goals as goal
 

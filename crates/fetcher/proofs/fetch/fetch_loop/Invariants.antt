@@ -1,5 +1,5 @@
 use Rattle.std.proofs.Common.{◌≡◌}
-use Rattle.source_locks.specs.Passes.{IsIdleOf}
+use Rattle.source_pool.specs.Passes.{IsIdleOf}
 use Rattle.source_api.specs.Counting.{NoneFell}
 use Rattle.fetcher.specs.Turning.{Feeds}
 use Rattle.fetcher.specs.Chaining.{moment, IsFetched}

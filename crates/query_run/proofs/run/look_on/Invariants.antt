@@ -1,4 +1,4 @@
-use Rattle.source_locks.specs.Passes.{IsPassOf}
+use Rattle.source_pool.specs.Passes.{IsPassOf}
 use Rattle.query_run.specs.Looking.{HasLooked}
 use Rattle.query_run.proofs.run.look_on.Given as goal
 

@@ -1,8 +1,8 @@
 use Rattle.std.proofs.Common.{◌≡◌, ◌+◌, ◌<◌, ◌≤◌, ℕ, List, [], ◌∷◌, ◌++◌, length, Option, position, nat_eq, sym, ap, subst, ◌∙◌, arith}
 use Rattle.topk_theory.specs.declared.access.Access.{Access}
 use Rattle.topk_theory.specs.Transcript.{object_of, list_of, named_objects}
-use Rattle.access_records.specs.Objects.{FitsAccess}
-use Rattle.access_records.proofs.ObjectsKept.{list_in_range}
+use Rattle.access_log.specs.Objects.{FitsAccess}
+use Rattle.access_log.proofs.ObjectsKept.{list_in_range}
 use Rattle.access_log.proofs.Pushing.{refusal, no_room, few_named, still_agrees, named_room, spare_room, depth_small, one_more, kept_moved, kept_pushed}
 use Rattle.access_log.proofs.transcript.Transcript.push.Goals as goal
 

@@ -3,7 +3,7 @@ use Rattle.best_k.specs.declared.rank.Rank.{Rank}
 use Rattle.best_k.specs.Rank.{item_of}
 use Rattle.best_k.specs.Held.{Held, put_item, has_object}
 use Rattle.best_k.specs.Halves.{IsHalved}
-use Rattle.best_k.specs.Kept.{IsKept}
+use Rattle.best_k.specs.Kept.{IsBoardKept}
 use Rattle.best_k.proofs.KeptLaws.{unplaced, places_counted, place_within, items_put, kept_put}
 use Rattle.best_k.proofs.board.Board.put.Goals as goal
 
@@ -33,7 +33,7 @@ invariant_of-self c =
     let placed = c.place_for-place.ensures in
     let halved = subst (λ (k : ℕ). IsHalved k after.top after.rest) c.put.ensures.same_k c.put.ensures.halved in
     let kept = kept_put c.self.inside.places c.place_for-place.new.places ranking.k c.args.object c.place_for-place.result rank ranking.top ranking.rest c.self.invariant.0 refl placed.fits placed.same_room placed.at placed.added after.top after.rest halved c.put.ensures.joined in
-    (subst (λ (k : ℕ). IsKept c.place_for-place.new.places k after.top after.rest) (sym c.put.ensures.same_k) kept, c.self.invariant.1)
+    (subst (λ (k : ℕ). IsBoardKept c.place_for-place.new.places k after.top after.rest) (sym c.put.ensures.same_k) kept, c.self.invariant.1)
 
 pub returns : goal.returns
 returns c =

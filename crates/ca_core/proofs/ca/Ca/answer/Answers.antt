@@ -1,7 +1,7 @@
 use Rattle.std.proofs.Common.{◌≡◌, subst, ap, ◌∙◌, arith}
 use Rattle.ranked_list.specs.declared.need.Need.TheVariants.{Done}
 use Rattle.monotone_fn.specs.Value.{value}
-use Rattle.access_log.specs.Machine.{MachineState}
+use Rattle.machine_base.specs.Machine.{MachineState}
 use Rattle.ca_core.specs.Course.{need_at}
 use Rattle.ca_core.specs.Machine.{MakesItsRun, IsAnswer}
 use Rattle.ca_core.proofs.Runs.{kept_makes}

@@ -1,7 +1,7 @@
 use Rattle.std.proofs.Common.{◌≡◌, subst, sym, ap, ◌∙◌}
 use Rattle.topk_theory.specs.Asked.{combined_run}
-use Rattle.access_log.specs.Machine.{MachineState, IsInRange}
-use Rattle.access_log.proofs.MachineLaws.{in_range}
+use Rattle.machine_base.specs.Machine.{MachineState, IsInRange}
+use Rattle.machine_base.proofs.MachineLaws.{in_range}
 use Rattle.ca_core.specs.Machine.{MakesItsRun}
 use Rattle.ca_core.proofs.Runs.{kept_makes}
 use Rattle.ca_core.proofs.ca.Ca.need.Goals as goal

@@ -4,7 +4,7 @@ use Rattle.std.specs.Vec.{with_items}
 use Rattle.std.proofs.lemmas.List.{with_items_is}
 use Rattle.indexed_heap.specs.declared.tree.Ranked.{Ranked}
 use Rattle.indexed_heap.specs.Ranks.{ranks_within}
-use Rattle.indexed_heap.specs.Tree.{place_of, ranks_of, Keeps, IsFilled}
+use Rattle.indexed_heap.specs.Tree.{place_of_key, ranks_of, Keeps, IsFilled}
 use Rattle.indexed_heap.proofs.Putting.{reached, shows_written, place_here}
 use Rattle.indexed_heap.proofs.heap.IndexedHeap.put.Goals as goal
 
@@ -19,8 +19,8 @@ change-requires-clause-keeps g c =
 
 pub change-requires-clause-there : goal.change-requires-clause-there
 change-requires-clause-there g c =
-    ap (λ (ps : List (Option _)). place_of ps c.args.key) c.deref_mut-in-Some.ensures.value
-    ∙ sym (c.in-Some.ensures ∙ ap (λ ps. place_of ps c.args.key) c.deref.ensures.value)
+    ap (λ (ps : List (Option _)). place_of_key ps c.args.key) c.deref_mut-in-Some.ensures.value
+    ∙ sym (c.in-Some.ensures ∙ ap (λ ps. place_of_key ps c.args.key) c.deref.ensures.value)
 
 pub change-requires-clause-within : goal.change-requires-clause-within
 change-requires-clause-within g c =
@@ -28,7 +28,7 @@ change-requires-clause-within g c =
     let long =
     reached g.T.Ord.cmp i.room i.nodes.items i.places.items c.args.self.now c.args.key i.nodes.cap i.places.cap c.reach.new.places.items c.self.invariant c.self.view_is c.requires
     c.reach.ensures.items in
-    let there = sym (c.in-Some.ensures ∙ ap (λ ps. place_of ps c.args.key) c.deref.ensures.value) in
+    let there = sym (c.in-Some.ensures ∙ ap (λ ps. place_of_key ps c.args.key) c.deref.ensures.value) in
     let here = place_here g.T.Ord.cmp c.args.key c.in-Some.place i.nodes.items c.reach.new.places.items long.keeps there in
     let same = ap length c.deref_mut.ensures.value in
     omega arith
@@ -53,8 +53,8 @@ add-requires-clause-within g c =
 
 pub add-requires-clause-absent : goal.add-requires-clause-absent
 add-requires-clause-absent g c =
-    ap (λ (ps : List (Option _)). place_of ps c.args.key) c.deref_mut-in-None.ensures.value
-    ∙ sym (c.in-None.ensures ∙ ap (λ ps. place_of ps c.args.key) c.deref.ensures.value)
+    ap (λ (ps : List (Option _)). place_of_key ps c.args.key) c.deref_mut-in-None.ensures.value
+    ∙ sym (c.in-None.ensures ∙ ap (λ ps. place_of_key ps c.args.key) c.deref.ensures.value)
 
 pub add-requires-clause-room : goal.add-requires-clause-room
 add-requires-clause-room g c =

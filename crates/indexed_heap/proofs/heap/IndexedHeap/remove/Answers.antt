@@ -2,7 +2,7 @@ use Rattle.std.proofs.Common.{◌∙◌, List, Option, None, length, set, sym, a
 use Rattle.std.specs.Prelude.{vec_capacity}
 use Rattle.std.proofs.lemmas.List.{with_items_is}
 use Rattle.indexed_heap.specs.Ranks.{ranks_within}
-use Rattle.indexed_heap.specs.Tree.{place_of, ranks_of, Keeps}
+use Rattle.indexed_heap.specs.Tree.{place_of_key, ranks_of, Keeps}
 use Rattle.indexed_heap.proofs.Putting.{reached_here, shows_written, shown_unset}
 use Rattle.indexed_heap.proofs.heap.IndexedHeap.remove.Goals as goal
 
@@ -12,14 +12,14 @@ take_out-requires-clause-keeps g c =
 
 pub take_out-requires-clause-there : goal.take_out-requires-clause-there
 take_out-requires-clause-there g c =
-    ap (λ (ps : List (Option _)). place_of ps c.args.key) c.deref_mut.ensures.value
-    ∙ sym (c.in-Some.ensures ∙ ap (λ ps. place_of ps c.args.key) c.deref.ensures.value)
+    ap (λ (ps : List (Option _)). place_of_key ps c.args.key) c.deref_mut.ensures.value
+    ∙ sym (c.in-Some.ensures ∙ ap (λ ps. place_of_key ps c.args.key) c.deref.ensures.value)
 
 pub returns-in-Some : goal.returns-in-Some
 returns-in-Some g c =
     let i = c.self.inside in
     let filled = c.self.invariant in
-    let there = sym (c.in-Some.ensures ∙ ap (λ ps. place_of ps c.args.key) c.deref.ensures.value) in
+    let there = sym (c.in-Some.ensures ∙ ap (λ ps. place_of_key ps c.args.key) c.deref.ensures.value) in
     let here = reached_here g.T.Ord.cmp i.room i.nodes.items i.places.items c.args.self.now c.args.key c.in-Some.place i.nodes.cap i.places.cap filled c.self.view_is there in
     let places_is = with_items_is i.places c.take_out.new.places (c.take_out.ensures.places ∙ ap length c.deref_mut.ensures.value ∙ sym i.places.ok.0) in
     let shows =
@@ -32,4 +32,4 @@ returns-in-Some g c =
 pub returns-in_default : goal.returns-in_default
 returns-in_default g c =
     let i = c.self.inside in
-    shown_unset i.room c.args.key i.nodes.items i.places.items c.args.self.now c.self.view_is (sym (c.in_default.ensures ∙ ap (λ ps. place_of ps c.args.key) c.deref.ensures.value))
+    shown_unset i.room c.args.key i.nodes.items i.places.items c.args.self.now c.self.view_is (sym (c.in_default.ensures ∙ ap (λ ps. place_of_key ps c.args.key) c.deref.ensures.value))

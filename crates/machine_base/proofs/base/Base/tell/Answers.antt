@@ -1,5 +1,5 @@
 use Rattle.std.proofs.Common.{refl}
-use Rattle.access_log.proofs.MachineLaws.{one_more}
+use Rattle.machine_base.proofs.MachineLaws.{one_more}
 use Rattle.machine_base.specs.declared.base.Base.{Base}
 use Rattle.machine_base.specs.Base.{IsTold}
 use Rattle.machine_base.proofs.Held.{holds_more}

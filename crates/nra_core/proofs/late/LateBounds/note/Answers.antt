@@ -1,7 +1,7 @@
 use Rattle.std.proofs.Common.{sym, ◌∙◌, arith}
 use Rattle.std.proofs.lemmas.Option.{slice_get_within}
 use Rattle.topk_theory.specs.Transcript.{seen_objects}
-use Rattle.access_records.proofs.RecordKept.{not_placed}
+use Rattle.access_log.proofs.RecordKept.{not_placed}
 use Rattle.nra_core.proofs.Noting.{note_member, note_few, note_outside, note_known, note_exchange, leaves_within, place_in_room, leaves_in_room}
 use Rattle.nra_core.proofs.late.LateBounds.note.Goals as goal
 

@@ -1,6 +1,6 @@
 use Rattle.std.proofs.Common.{◌≡◌, refl, subst, sym, ap, ◌∙◌, arith}
 use Rattle.ranked_list.specs.declared.need.Need.TheVariants.{Done}
-use Rattle.access_log.specs.Machine.{MachineState, IsSameLog}
+use Rattle.machine_base.specs.Machine.{MachineState, IsSameLog}
 use Rattle.nra_core.specs.Place.{need_at}
 use Rattle.nra_core.specs.Machine.{MakesItsRun, IsAnswer, HaveTrueBounds}
 use Rattle.nra_core.proofs.Runs.{kept_makes}

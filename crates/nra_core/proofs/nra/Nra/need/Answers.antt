@@ -1,7 +1,7 @@
 use Rattle.std.proofs.Common.{◌≡◌, subst, sym, ap, ◌∙◌}
 use Rattle.topk_theory.specs.Asked.{no_random_run}
-use Rattle.access_log.specs.Machine.{MachineState, IsInRange, IsNoGrade}
-use Rattle.access_log.proofs.MachineLaws.{in_range}
+use Rattle.machine_base.specs.Machine.{MachineState, IsInRange, IsNoGrade}
+use Rattle.machine_base.proofs.MachineLaws.{in_range}
 use Rattle.nra_core.specs.Machine.{MakesItsRun}
 use Rattle.nra_core.proofs.Runs.{kept_makes, no_grade}
 use Rattle.nra_core.proofs.nra.Nra.need.Goals as goal

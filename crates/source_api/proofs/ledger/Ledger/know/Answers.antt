@@ -8,7 +8,7 @@ pub returns-then-is_some-clause-known : goal.returns-then-is_some-clause-known
 returns-then-is_some-clause-known c =
     let entries = c.self.inside.entries.items in
     rw (← c.self.view_is)
-    (found_some c.deref.result.now entries c.as_bytes.result.now c.args.place.now c.place_of.result c.deref.ensures.value c.as_bytes.ensures.value c.place_of.ensures (sym c.if-is_some.ensures))
+    (found_some c.deref.result.now entries c.as_bytes.result.now c.args.place.now c.entry_at.result c.deref.ensures.value c.as_bytes.ensures.value c.entry_at.ensures (sym c.if-is_some.ensures))
 
 pub returns-clause-known : goal.returns-clause-known
 returns-clause-known c =

@@ -1,10 +1,10 @@
 use Rattle.std.proofs.Common.{◌≡◌, ◌<◌, ℕ, List, length, get_or, set, sym, ap, subst, ◌∙◌}
 use Rattle.std.proofs.lemmas.List.{get_or_read}
 use Rattle.atomic_table.specs.Seated.{TableId}
-use Rattle.source_pass.specs.declared.hold.Hold.{Hold}
-use Rattle.source_pass.specs.Passes.{no_lock, no_hold, IsFree}
-use Rattle.source_pass.specs.Looks.{Answers, Waits, shown_by, TookTurn, IsTurn, IsWithin}
-use Rattle.source_locks.specs.Passes.{hold_at, IsPassOf, OthersStay}
+use Rattle.source_pool.specs.declared.hold.Hold.{Hold}
+use Rattle.source_pool.specs.Holds.{no_lock, no_hold, IsFree}
+use Rattle.source_pool.specs.Looks.{Answers, Waits, shown_by, TookTurn, IsTurn, IsWithin}
+use Rattle.source_pool.specs.Passes.{hold_at, IsPassOf, OthersStay}
 use Rattle.source_pool.proofs.HoldLaws.{read_set, others_set, pass_set}
 use Rattle.source_pool.proofs.pool.Pool.look.Goals as goal
 

@@ -1,5 +1,5 @@
 use Rattle.std.proofs.Common.{◌≡◌, ◌<◌, None, length, is_some, sym, ap, subst, ◌∙◌}
-use Rattle.turn_lock.specs.Facts.{Grows}
+use Rattle.turn_lock.specs.Facts.{FactsGrow}
 use Rattle.source_state.specs.State.{State, asked_in, facts_of}
 use Rattle.source_state.specs.Events.{with_ask}
 use Rattle.source_state.proofs.Stepping.{state_ask, ask_room}
@@ -25,7 +25,7 @@ returns-clause-state c =
     ∙ ap (λ (s : State). with_ask s c.args.object) c.self.view_is
 
 pub returns-clause-grows : goal.returns-clause-grows
-returns-clause-grows c = subst (λ (t : State). Grows (facts_of c.args.self.now) (facts_of t)) (sym (returns-clause-state c)) (ask_grows c.args.self.now c.args.object)
+returns-clause-grows c = subst (λ (t : State). FactsGrow (facts_of c.args.self.now) (facts_of t)) (sym (returns-clause-state c)) (ask_grows c.args.self.now c.args.object)
 
 pub returns-clause-sound : goal.returns-clause-sound
 returns-clause-sound c =

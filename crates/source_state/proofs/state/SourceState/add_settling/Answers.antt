@@ -1,5 +1,5 @@
 use Rattle.std.proofs.Common.{◌≡◌, ◌<◌, Some, length, sym, ap, subst, ◌∙◌, arith, vec_capacity}
-use Rattle.turn_lock.specs.Facts.{Grows}
+use Rattle.turn_lock.specs.Facts.{FactsGrow}
 use Rattle.source_log.specs.declared.entry.Asked.TheVariants.{Pending}
 use Rattle.source_log.specs.declared.entry.LogEntry.TheVariants.{Settled}
 use Rattle.source_log.specs.Log.{rows_in}
@@ -35,7 +35,7 @@ returns-clause-state c =
     ∙ ap (λ (s : State). logged s (Settled c.args.object c.args.settling)) c.self.view_is
 
 pub returns-clause-grows : goal.returns-clause-grows
-returns-clause-grows c = subst (λ (t : State). Grows (facts_of c.args.self.now) (facts_of t)) (sym (returns-clause-state c)) (logged_grows c.args.self.now (Settled c.args.object c.args.settling))
+returns-clause-grows c = subst (λ (t : State). FactsGrow (facts_of c.args.self.now) (facts_of t)) (sym (returns-clause-state c)) (logged_grows c.args.self.now (Settled c.args.object c.args.settling))
 
 pub returns-clause-sound : goal.returns-clause-sound
 returns-clause-sound c =

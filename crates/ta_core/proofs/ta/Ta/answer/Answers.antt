@@ -2,7 +2,7 @@ use Rattle.std.proofs.Common.{◌≡◌, subst, ap, ◌∙◌}
 use Rattle.ranked_list.specs.declared.need.Need.TheVariants.{Done}
 use Rattle.ta_core.specs.Reading.{need_at}
 use Rattle.ta_core.specs.Shown.{reading_of}
-use Rattle.access_log.specs.Machine.{MachineState}
+use Rattle.machine_base.specs.Machine.{MachineState}
 use Rattle.ta_core.specs.Machine.{MakesItsRun, IsAnswer}
 use Rattle.ta_core.proofs.Runs.{kept_makes}
 use Rattle.ta_core.proofs.Answering.{answers}

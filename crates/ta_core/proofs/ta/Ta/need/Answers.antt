@@ -1,7 +1,7 @@
 use Rattle.std.proofs.Common.{◌≡◌, subst, sym, ap, ◌∙◌}
 use Rattle.topk_theory.specs.Asked.{threshold_run}
-use Rattle.access_log.specs.Machine.{MachineState, IsInRange}
-use Rattle.access_log.proofs.MachineLaws.{in_range}
+use Rattle.machine_base.specs.Machine.{MachineState, IsInRange}
+use Rattle.machine_base.proofs.MachineLaws.{in_range}
 use Rattle.ta_core.specs.Reading.{need_at}
 use Rattle.ta_core.specs.Machine.{MakesItsRun}
 use Rattle.ta_core.specs.Shown.{reading_of}

@@ -1,6 +1,0 @@
-pub mod AheadKept
-pub mod EndsKept
-pub mod FirstKind
-pub mod GreatestAhead
-pub mod ObjectsKept
-pub mod RecordKept

@@ -1,9 +1,0 @@
-use Rattle.std.proofs.Common.{◌≡◌, ◌≤◌, [], replicate, vec_capacity}
-use Rattle.access_records.proofs.ahead.Ahead.make.Given as goal
-
--- a heap for each list so far, and room for those of the others
-abbrev pub invariant-loop-list : goal.invariant-loop-list
-invariant-loop-list l = record {
-  none : l.heaps.items ≡ replicate l.list [];
-  room : l.lists ≤ vec_capacity l.heaps;
-}

@@ -1,9 +1,0 @@
-use Rattle.std.proofs.Common.{ℕ, ◌<◌, ◌≤◌, length}
-use Rattle.access_records.specs.Kept.{AreWider, heap_at}
-use Rattle.access_records.proofs.ahead.Ahead.widen.Given as goal
-
-abbrev pub invariant-loop-list : goal.invariant-loop-list
-invariant-loop-list l = record {
-  wider : AreWider l.fn.self.heaps.items l.self.heaps.items;
-  room : (k : ℕ) → k < l.list → l.room ≤ length (heap_at l.self.heaps.items k);
-}

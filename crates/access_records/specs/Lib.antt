@@ -1,4 +1,0 @@
-pub mod FirstKind
-pub mod Kept
-pub mod Objects
-pub mod Tests

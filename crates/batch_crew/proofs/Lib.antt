@@ -1,4 +1,0 @@
--- Lemmas on a crew: its workers, what the fetchers did of the slots, and passes that are joined.
-pub mod CrewLaws
-pub mod SlotLaws
-pub mod JoinLaws

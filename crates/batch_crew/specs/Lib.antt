@@ -1,2 +1,0 @@
--- What a crew of workers and fetchers is, before it runs and after it.
-pub mod Crews

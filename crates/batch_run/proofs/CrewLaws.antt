@@ -1,0 +1,172 @@
+-- Workers that are hired, and what they leave.
+use Rattle.std.proofs.Common.{◌≡◌, ◌≤◌, ◌<◌, ◌-◌, inl, inr, ℕ, None, List, [], ◌∷◌, ◌++◌, length, All, Contains, slice_index_or, refl, sym, ap, subst, ◌∙◌, arith}
+use Rattle.std.proofs.lemmas.Bool.{cases_lt}
+use Rattle.std.proofs.lemmas.List.{get_or_append_left, get_or_at, get_or_past, length_push}
+use Rattle.topk_theory.proofs.AgreementLists.{contains_nil}
+use Rattle.atomic_table.specs.Seated.{TableId}
+use Rattle.turn_lock.specs.Known.{all_parts}
+use Rattle.source_pool.specs.declared.hold.Hold.{Hold}
+use Rattle.source_pool.specs.Holds.{no_hold}
+use Rattle.source_pool.specs.HoldSharing.{kept_hold, new_hold}
+use Rattle.source_pool.specs.Passes.{Feed, hold_at, IsPassOf}
+use Rattle.source_pool.specs.Looks.{IsWithin}
+use Rattle.source_pool.specs.Sharing.{IsOpened, IsSplit, MaySplit}
+use Rattle.query_core.specs.declared.ready.Ready.{Ready}
+use Rattle.query_turns.specs.Made.{IsReadyFor}
+use Rattle.limits.specs.declared.settings.Settings.{Settings}
+use Rattle.batch_sides.specs.declared.work.Worker.{Worker}
+use Rattle.batch_sides.specs.Working.{DidOf, IsAtWork, Worked, AllWorked}
+use Rattle.batch_run.specs.Crews.{fresh_hold, IsHired, IsBase, IsHiring, HasLeft}
+
+-- what a fresh pass holds of a source
+fresh_within : (hold : Hold) → hold.shown ≡ record { failed = 0; garbled = 0; memory = 0 } → hold.waiting.need ≡ None → IsWithin hold
+fresh_within hold none rests = record {
+  shown = subst (λ (t : Rattle.turn_lock.specs.declared.facts.Tally.Tally). Rattle.turn_lock.specs.Facts.AtMost t hold.pass.1.tally) (sym none) (record { failed = omega arith; garbled = omega arith; memory = omega arith });
+  noted = λ some. absurd (some rests);
+}
+
+did_nothing : (source : ℕ) (hold : Hold) → hold.pass.1.high ≡ 0 → hold.pass.1.asked ≡ 0 → hold.pass.1.mine ≡ []
+    → hold.shown ≡ record { failed = 0; garbled = 0; memory = 0 }
+    → hold.waiting.need ≡ None → DidOf [] source hold
+did_nothing source hold high asked mine none rests = record {
+  rows = inl high;
+  grades = omega (arith, asked);
+  mine = λ object c. absurd (contains_nil object (subst (λ os. Contains os object) mine c));
+  failed = omega arith;
+  garbled = omega arith;
+  within = fresh_within hold none rests;
+}
+
+-- what holds of what a hired worker's pass holds, where it holds of what is fresh and of what isn't there
+hired_hold : (P : Hold → Type 0) (pool : List TableId) (counts : List ℕ) (number : ℕ) (worker : Worker) → length pool ≡ length counts
+    → IsHired pool counts number worker
+    → ((source : ℕ) → P (fresh_hold pool counts source)) → P no_hold → (source : ℕ) → P (hold_at worker.pass source)
+hired_hold P pool counts number worker size h fresh none source =
+    elim (cases_lt source (length counts)) [
+      | inl within ↦ subst P (sym (h.fresh source within)) (fresh source)
+      | inr past ↦ subst P (sym (get_or_past worker.pass source no_hold (let long = h.own.size in omega (arith, past, size, long)))) none
+    ]
+
+pub hired_at_work : (pool : List TableId) (counts : List ℕ) (workers number : ℕ) (readies : List Ready) (worker : Worker) → 1 ≤ workers
+    → length pool ≡ length counts
+    → IsHired pool counts number worker → All (IsReadyFor counts) readies → IsAtWork pool workers readies worker
+hired_at_work pool counts workers number readies worker some size h ready = record {
+  some = some;
+  ready = λ i d l. (ready i d l).is;
+  own = h.own;
+  rests = record { rests = hired_hold (λ hold. hold.waiting.need ≡ None) pool counts number worker size h (λ source. refl) refl };
+  sources = λ i d l. record {
+    each = λ k e m.
+        let for = (ready i d l).sources k e m in
+        let source = slice_index_or (slice_index_or readies i d).sources.items k e in
+        let long = h.own.size in
+        (omega (arith, for.0, size, long), ap (λ (hold : Hold). hold.pass.1.name.1) (h.fresh source for.0) ∙ for.1);
+  };
+  none = h.none;
+  idle = λ source. hired_hold (DidOf [] source) pool counts number worker size h (λ s. did_nothing source (fresh_hold pool counts s) refl refl refl refl refl)
+      (did_nothing source no_hold refl refl refl refl refl) source;
+}
+
+pub all_at_work : (pool : List TableId) (counts : List ℕ) (holds : List Hold) (workers : List Worker) (readies : List Ready) → 1 ≤ length workers
+    → IsHiring pool counts holds workers → All (IsReadyFor counts) readies → All (IsAtWork pool (length workers) readies) workers
+all_at_work pool counts holds workers readies some h ready i d l =
+    hired_at_work pool counts (length workers) i readies (slice_index_or workers i d) some h.base.size (h.each i d l) ready
+
+-- what it leaves once it has worked
+pub left_of : (pool : List TableId) (counts : List ℕ) (workers number : ℕ) (readies : List Ready) (before after : Worker) → IsHired pool counts number before
+    → Worked pool workers readies before after → HasLeft pool counts workers readies number after
+left_of pool counts workers number readies before after h w = record {
+  own = w.own;
+  number_is = w.number ∙ h.number_is;
+  name = λ source l. (w.knows.each source).name ∙ ap (λ (hold : Hold). hold.pass.1.name) (h.fresh source l);
+  parts = λ source l. (w.knows.each source).parts ∙ ap (λ (hold : Hold). hold.pass.1.parts) (h.fresh source l);
+  worked = w.worked;
+}
+
+pub all_left : (pool : List TableId) (counts : List ℕ) (holds : List Hold) (before after : List Worker) (readies : List Ready)
+    → IsHiring pool counts holds before
+    → AllWorked pool (length before) readies before after
+    → (i : ℕ) (d : Worker) → i < length after → HasLeft pool counts (length before) readies i (slice_index_or after i d)
+all_left pool counts holds before after readies h w i d l =
+    let within : i < length before = let size = w.size in omega (arith, l, size) in
+    left_of pool counts (length before) i readies (slice_index_or before i d) (slice_index_or after i d) (h.each i d within) (w.each i d within)
+
+-- the first pass of a pool that was opened
+pub hiring_none : (counts : List ℕ) (pool : List TableId) (holds : List Hold) (feeds : List Feed) → IsOpened counts pool holds feeds
+    → IsHiring pool counts holds []
+hiring_none counts pool holds feeds opened = record {
+  base = record {
+    size = opened.size;
+    own = opened.pass;
+    parts = λ source l. let e : (hold_at holds source).pass.1.parts ≡ all_parts - 1 = ap (λ (hold : Hold). hold.pass.1.parts) (opened.held source l) in omega (arith, e);
+    high = λ source l. ap (λ (hold : Hold). hold.pass.1.high) (opened.held source l);
+    asked = λ source l. ap (λ (hold : Hold). hold.pass.1.asked) (opened.held source l);
+    mine = λ source l. ap (λ (hold : Hold). hold.pass.1.mine) (opened.held source l);
+    gives = λ source l. ap new_hold (opened.held source l);
+  };
+  each = λ i d l. absurd (omega (arith, l));
+}
+
+-- one more pass may be split off
+pub may_split : (pool : List TableId) (counts : List ℕ) (holds : List Hold) (workers : List Worker) → length workers < 32
+    → IsHiring pool counts holds workers → MaySplit pool holds
+may_split pool counts holds workers few h = record {
+  parts = λ source l.
+      let size = h.base.size in
+      let parts = h.base.parts source (omega (arith, l, size)) in
+      omega (arith, parts, few);
+}
+
+-- a worker more, with a pass that was split off
+pub hired_more : (pool : List TableId) (counts : List ℕ) (before after : List Hold) (workers now : List Worker) (worker : Worker)
+    → length workers < 32 → now ≡ workers ++ worker ∷ [] → IsPassOf pool after → IsPassOf pool worker.pass → IsSplit pool before after worker.pass
+    → worker.number ≡ length workers → worker.ended.items ≡ [] → IsHiring pool counts before workers → IsHiring pool counts after now
+hired_more pool counts before after workers now worker few push own its split number none h =
+    let within : (source : ℕ) → source < length counts → source < length pool = λ source l. let size = h.base.size in omega (arith, l, size) in
+    let kept : (source : ℕ) → source < length counts → hold_at after source ≡ kept_hold (hold_at before source) = λ source l. split.kept source (within source l) in
+    subst (IsHiring pool counts after) (sym push)
+    (record {
+      base = subst (λ n. IsBase pool counts n after) (sym (length_push workers worker))
+          (record {
+            size = h.base.size;
+            own = own;
+            parts = λ source l.
+                let e : (hold_at after source).pass.1.parts ≡ (hold_at before source).pass.1.parts - 1 = ap (λ (hold : Hold). hold.pass.1.parts) (kept source l) in
+                let was = h.base.parts source l in
+                omega (arith, e, was, few);
+            high = λ source l. ap (λ (hold : Hold). hold.pass.1.high) (kept source l) ∙ h.base.high source l;
+            asked = λ source l. ap (λ (hold : Hold). hold.pass.1.asked) (kept source l) ∙ h.base.asked source l;
+            mine = λ source l. ap (λ (hold : Hold). hold.pass.1.mine) (kept source l) ∙ h.base.mine source l;
+            gives = λ source l. ap new_hold (kept source l) ∙ h.base.gives source l;
+          });
+      each = λ i d l. elim (cases_lt i (length workers)) [
+        | inl front ↦ subst (IsHired pool counts i) (sym (get_or_append_left workers (worker ∷ []) d i front)) (h.each i d front)
+        | inr past ↦
+            let long = length_push workers worker in
+            let here : length workers ≡ i = omega (arith, past, l, long) in
+            subst (IsHired pool counts i) (sym (get_or_at workers worker [] d i here))
+            (record {
+              number_is = number ∙ here;
+              own = its;
+              fresh = λ source s. split.given source (within source s) ∙ h.base.gives source s;
+              none = none;
+            })
+      ];
+    })
+
+-- the workers of a crew that has run
+pub record RanParts (settings : Settings) (counts : List ℕ) (readies : List Ready) (pool : List TableId) (holds : List Hold) (workers : List Worker) : Type 0 where
+  pub base : IsBase pool counts (length workers) holds
+  pub size : length workers ≡ settings.workers
+  pub each : (i : ℕ) (d : Worker) → i < length workers → HasLeft pool counts settings.workers readies i (slice_index_or workers i d)
+
+pub ran_parts : (settings : Settings) (counts : List ℕ) (readies : List Ready) (pool : List TableId) (holds : List Hold) (before after now : List Worker)
+    → IsHiring pool counts holds before → length before ≡ settings.workers → AllWorked pool (length before) readies before after → now ≡ after
+    → RanParts settings counts readies pool holds now
+ran_parts settings counts readies pool holds before after now h size worked same =
+    subst (RanParts settings counts readies pool holds) (sym same)
+    (record {
+      base = subst (λ n. IsBase pool counts n holds) (sym worked.size) h.base;
+      size = worked.size ∙ size;
+      each = λ i d l. subst (λ n. HasLeft pool counts n readies i (slice_index_or after i d)) size (all_left pool counts holds before after readies h worked i d l);
+    })

@@ -1,0 +1,61 @@
+//! The run of a crew.
+
+ghost use Rattle.std.specs.Prelude.{◌≡◌, ◌≤◌, ◌<◌, ℕ, List, None, All, length};
+ghost use Rattle.std.specs.List.{list_any};
+ghost use Rattle.limits.specs.Ranges.{AreSettings};
+ghost use Rattle.query_turns.specs.Made.{IsReadyFor};
+ghost use Rattle.batch_sides.specs.Slots.{states_of};
+ghost use Rattle.batch_run.specs.Crews.{IsNewCrew, HasRun};
+
+use super::hire::Crew;
+use batch_result::Settings;
+use batch_sides::{lend, run_sides, take_back};
+use fetcher::Slot;
+use query_core::Ready;
+use source_api::Source;
+use std::alloc::Global;
+use std::sync::Wait;
+use std::thread::Threads;
+
+impl Crew {
+    /// Runs the queries over the sources. The feeders stand in the slots meanwhile.
+    pub fn run<W: Threads + Wait + Sync, S: Source>(
+        &mut self,
+        rt: &W,
+        alloc: Global,
+        slots: &mut [Slot<S>],
+        queries: &[Ready],
+        settings: Settings,
+    )
+        requires settings { AreSettings settings }
+        requires new { (counts : List ℕ) × IsNewCrew counts (length queries.now) settings.workers self.old
+            × (length counts ≡ length slots.old) × All (IsReadyFor counts) queries.now }
+        ensures ran { (counts : List ℕ) → IsNewCrew counts (length queries.now) settings.workers self.old → All (IsReadyFor counts) queries.now
+            → HasRun settings counts queries.now (states_of S.list S.counts slots.old) (states_of S.list S.counts slots.new) self.new }
+        ensures empty { All (λ slot. slot.feeder ≡ None) slots.new }
+    {
+        lend(&mut self.feeders, slots);
+        run_sides(
+            rt,
+            alloc,
+            &self.pool,
+            &mut self.workers,
+            slots,
+            queries,
+            settings,
+        );
+        take_back(slots, &mut self.feeders);
+    }
+
+    /// Whether a worker wanted memory.
+    pub fn is_short(&self) -> bool
+        ensures { result ≡ list_any (λ worker. worker.short) self.now.workers.items }
+    {
+        self.workers.iter().any(|worker| worker.short)
+    }
+
+    /// Lets the crew go.
+    pub fn let_go(self) {
+        drop(self);
+    }
+}

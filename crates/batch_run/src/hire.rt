@@ -1,0 +1,141 @@
+//! Workers, and what a run needs before it begins.
+
+ghost use Rattle.std.specs.Prelude.{◌≡◌, ◌≤◌, ◌<◌, ◌+◌, ◌^◌, [], ℕ, List, All, length, IfOk, OnOk, vec_len, vec_capacity};
+ghost use Rattle.source_pool.specs.Passes.{IsPassOf};
+ghost use Rattle.batch_run.specs.Crews.{IsHiring, IsNewCrew};
+
+use batch_result::Use;
+use batch_sides::Worker;
+use limits::MAX_OBJECTS;
+use query_run::{Ended, Memory};
+use source_pool::{Feeder, Pool, PoolPass};
+use std::alloc::Global;
+
+/// The pool of a batch with its first pass and its feeders, the workers, and room for what the batch gives.
+#[derive(Drop)]
+pub struct Crew {
+    /// The sources, each behind a lock of its own.
+    pub pool: Pool,
+    /// The first pass, of which the workers' passes were split off.
+    pub pass: PoolPass,
+    /// The feeder of each source.
+    pub feeders: Vec<Feeder>,
+    /// The workers, each at the place of its number.
+    pub workers: Vec<Worker>,
+    /// Room for how the queries end.
+    pub endings: Vec<Ended>,
+    /// Room for what is used of the sources.
+    pub uses: Vec<Use>,
+}
+
+/// One more worker, for whom there is room. The first pass gives it a pass of its own.
+fn hire_next(
+    alloc: Global,
+    pool: &Pool,
+    pass: &mut PoolPass,
+    workers: &mut Vec<Worker>,
+    number: u32,
+) -> Result<(), Memory>
+    requires number { number ≡ vec_len workers.old }
+    requires few { number < 32 }
+    requires room { vec_len workers.old < vec_capacity workers.old }
+    requires own { IsPassOf pool.now pass.old }
+    requires hiring { (counts : List ℕ) × IsHiring pool.now counts pass.old workers.old.items }
+    ensures hired { OnOk result ((counts : List ℕ) → IsHiring pool.now counts pass.old workers.old.items
+        → IsHiring pool.now counts pass.new workers.new.items) }
+    ensures size { OnOk result (vec_len workers.new ≡ number + 1) }
+    ensures room { vec_capacity workers.new ≡ vec_capacity workers.old }
+{
+    let Ok(new) = pool.split(alloc, pass) else {
+        return Err(Memory);
+    };
+    workers.push_reserved(Worker {
+        number,
+        pass: new,
+        ended: Vec::new(alloc),
+        short: false,
+    });
+    Ok(())
+}
+
+/// So many workers.
+fn hire(
+    alloc: Global,
+    pool: &Pool,
+    pass: &mut PoolPass,
+    workers: &mut Vec<Worker>,
+    count: u32,
+) -> Result<(), Memory>
+    requires few { count ≤ 32 }
+    requires none { workers.old.items ≡ [] }
+    requires own { (counts : List ℕ) × IsHiring pool.now counts pass.old workers.old.items }
+    ensures hired { OnOk result ((counts : List ℕ) → IsHiring pool.now counts pass.old workers.old.items
+        → IsHiring pool.now counts pass.new workers.new.items) }
+    ensures size { OnOk result (vec_len workers.new ≡ count) }
+{
+    let Ok(()) = workers.reserve(count as usize) else {
+        return Err(Memory);
+    };
+    for number in 0..count {
+        hire_next(alloc, pool, pass, workers, number)?;
+    }
+    Ok(())
+}
+
+/// Makes room for the endings of so many queries, and for what is used of so many sources.
+fn make_room(
+    endings: &mut Vec<Ended>,
+    queries: usize,
+    uses: &mut Vec<Use>,
+    sources: usize,
+) -> Result<(), Memory>
+    ensures endings { endings.new.items ≡ endings.old.items }
+    ensures uses { uses.new.items ≡ uses.old.items }
+    ensures endings_room { OnOk result (vec_len endings.old + queries ≤ vec_capacity endings.new) }
+    ensures uses_room { OnOk result (vec_len uses.old + sources ≤ vec_capacity uses.new) }
+{
+    let Ok(()) = endings.reserve(queries) else {
+        return Err(Memory);
+    };
+    match uses.reserve(sources) {
+        Ok(()) => Ok(()),
+        Err(_) => Err(Memory),
+    }
+}
+
+impl Crew {
+    /// The pool of sources with these counts of objects, with so many workers, and room for the endings of so many queries.
+    pub fn make(alloc: Global, counts: &[u32], queries: usize, workers: u32) -> Result<Crew, Memory>
+        requires few { length counts.now < 2 ^ 32 }
+        requires counts { All (λ count. count ≤ MAX_OBJECTS) counts.now }
+        requires workers { workers ≤ 32 }
+        ensures { IfOk result (IsNewCrew counts.now queries workers) }
+    {
+        let Ok((pool, pass, feeders)) = Pool::open(alloc, counts) else {
+            return Err(Memory);
+        };
+        let mut crew = Crew {
+            pool,
+            pass,
+            feeders: feeders.into_vec(),
+            workers: Vec::new(alloc),
+            endings: Vec::new(alloc),
+            uses: Vec::new(alloc),
+        };
+        let Ok(()) = make_room(&mut crew.endings, queries, &mut crew.uses, counts.len()) else {
+            drop(crew);
+            return Err(Memory);
+        };
+        let Ok(()) = hire(
+            alloc,
+            &crew.pool,
+            &mut crew.pass,
+            &mut crew.workers,
+            workers,
+        ) else {
+            drop(crew);
+            return Err(Memory);
+        };
+        Ok(crew)
+    }
+}

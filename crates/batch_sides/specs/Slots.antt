@@ -1,0 +1,73 @@
+-- What fetchers do with the slots of the sources.
+use Rattle.std.specs.Prelude.{◌≡◌, ◌<◌, ℕ, Option, Some, None, List, length, map}
+use Rattle.std.specs.List.{slice_index_or}
+use Rattle.ranked_list.specs.declared.row.Row.{Row}
+use Rattle.atomic_table.specs.Seated.{TableId}
+use Rattle.source_api.specs.declared.counts.Counts.{Counts}
+use Rattle.source_api.specs.Counting.{no_counts, NoneFell}
+use Rattle.source_pool.specs.Passes.{Feed, IsIdleOf, feed_at}
+use Rattle.fetcher.specs.declared.slot.Slot.{Slot}
+use Rattle.fetcher.specs.declared.turned.Fetched.{Fetched}
+use Rattle.fetcher.specs.Turning.{Feeds}
+use Rattle.fetcher.specs.Chaining.{moment, IsFetched}
+use Rattle.fetcher.specs.Metering.{IsMetered}
+use Rattle.limits.specs.declared.settings.Settings.{Settings}
+
+-- a slot of any kind of source: the list that its source tells, what the source counted, its feeder, and what was fetched
+pub record SlotState : Type 0 where
+  pub told : Option (List Row)
+  pub counts : Counts
+  pub feeder : Option Feed
+  pub fetched : Fetched
+
+module _ {S : Type 0} (list : S → Option (List Row)) (counts : S → Counts) where
+  abbrev pub state_of : Slot S → SlotState
+  state_of slot = record { told = list slot.source; counts = counts slot.source; feeder = slot.feeder; fetched = slot.fetched }
+
+  abbrev pub states_of : List (Slot S) → List SlotState
+  states_of slots = map state_of slots
+
+-- the state of the slot of a source; none of it where the source isn't there
+abbrev pub slot_at : List SlotState → ℕ → SlotState
+slot_at slots source = slice_index_or slots source (record { told = None; counts = no_counts; feeder = None; fetched = record { rows = 0; grades = 0 } })
+
+-- there is a feeder of this pool, which has no turn
+pub record HasFeeder (pool : List TableId) (feeder : Option Feed) : Type 0 where
+  pub feed : Feed
+  pub is : feeder ≡ Some feed
+  pub idle : IsIdleOf pool feed
+
+-- a fetcher took turns by the feeder of a slot
+pub record Fetches (pool : List TableId) (settings : Settings) (before after : SlotState) : Type 0 where
+  pub feed : Feed
+  pub left : Feed
+  pub had : before.feeder ≡ Some feed
+  pub has : after.feeder ≡ Some left
+  pub idle : IsIdleOf pool left
+  pub source : left.source ≡ feed.source
+  pub told : after.told ≡ before.told
+  pub later : NoneFell before.counts after.counts
+  pub feeds : Feeds feed.pass.1 left.pass.1
+  pub turns : IsFetched settings.page settings.ahead before.told (moment before.counts feed.pass.1) (moment after.counts left.pass.1)
+  pub metered : IsMetered settings.page settings.ahead after.fetched before.counts after.counts feed.pass.1 left.pass.1
+
+module _ {S : Type 0} (list : S → Option (List Row)) (counts : S → Counts) where
+  -- a fetcher took turns in each slot
+  pub record AllFetch (pool : List TableId) (settings : Settings) (before after : List (Slot S)) : Type 0 where
+    pub size : length after ≡ length before
+    pub each : (i : ℕ) (d : Slot S) → i < length before
+        → Fetches pool settings (state_of list counts (slice_index_or before i d)) (state_of list counts (slice_index_or after i d))
+
+  -- each slot got the feeder of its place, and else stays
+  pub record AreLent (feeds : List Feed) (before after : List (Slot S)) : Type 0 where
+    pub size : length after ≡ length before
+    pub each : (i : ℕ) (d : Slot S) → i < length before
+        → state_of list counts (slice_index_or after i d) ≡ record (state_of list counts (slice_index_or before i d)) { feeder = Some (feed_at feeds i) }
+
+  -- the feeders were taken out of the slots, which else stay
+  pub record AreTakenBack (before : List (Slot S)) (feeds : List Feed) (after : List (Slot S)) : Type 0 where
+    pub size : length after ≡ length before
+    pub many : length feeds ≡ length before
+    pub were : (i : ℕ) (d : Slot S) → i < length before → (slice_index_or before i d).feeder ≡ Some (feed_at feeds i)
+    pub each : (i : ℕ) (d : Slot S) → i < length before
+        → state_of list counts (slice_index_or after i d) ≡ record (state_of list counts (slice_index_or before i d)) { feeder = None }

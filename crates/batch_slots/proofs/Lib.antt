@@ -1,2 +1,0 @@
--- Lemmas on feeders that are put into slots and taken back.
-pub mod LendLaws

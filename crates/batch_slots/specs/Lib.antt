@@ -1,2 +1,0 @@
--- What happens to slots.
-pub mod Slots

@@ -1,0 +1,62 @@
+//! A table as text.
+
+ghost use Rattle.std.specs.Prelude.{◌≡◌, ◌++◌, ◌∷◌, [], length, OnOk, OnErr};
+ghost use Rattle.std.specs.Io.KnownBytes.{Appends};
+ghost use Rattle.line_text.specs.Lines.{unlines};
+ghost use Rattle.bundle_text.specs.Bundle.{list_line, section, sections};
+ghost use Rattle.bundle_text.specs.Numbered.{list_name, list_names};
+ghost use Rattle.tk_io.specs.Faults.{HasCause};
+ghost use Rattle.tk_io.specs.Pieces.{Puts};
+ghost use Rattle.tk_io.specs.Whole.{TookFront};
+
+use super::rows::put_rows;
+use ranked_list::MemList;
+use tk_io::{Failed, Pieces, Sink};
+
+/// Puts the line that begins the list with this number, from 1, behind the bytes that wait.
+fn put_heading<K: Sink>(out: &mut K, pieces: &mut Pieces, number: u64)
+    ensures { Puts (K.held out.old) (K.held out.new) (K.faults out.old) (K.faults out.new) pieces.old pieces.new
+        (list_line (list_name number) ++ 10 ∷ []) }
+{
+    pieces.put(out, b"list l");
+    pieces.put_number(out, number);
+    pieces.put(out, b"\n");
+}
+
+/// Puts the section of the list with this number behind the bytes that wait.
+fn put_section<K: Sink>(out: &mut K, pieces: &mut Pieces, number: u64, rows: &MemList)
+    ensures { Puts (K.held out.old) (K.held out.new) (K.faults out.old) (K.faults out.new) pieces.old pieces.new
+        (unlines (section (list_name number) rows.now)) }
+{
+    put_heading(out, pieces, number);
+    put_rows(out, pieces, rows);
+}
+
+/// Puts the sections of lists behind the bytes that wait.
+fn put_sections<K: Sink>(out: &mut K, pieces: &mut Pieces, lists: &[MemList])
+    ensures { Puts (K.held out.old) (K.held out.new) (K.faults out.old) (K.faults out.new) pieces.old pieces.new
+        (unlines (sections (list_names (length lists.now)) lists.now)) }
+{
+    for place in 0..lists.len() {
+        put_section(out, pieces, place as u64 + 1, &lists[place]);
+    }
+}
+
+/// Writes lists under the names `l1`, `l2` and so on, as the sections of a bundle: the line `list NAME`,
+/// and then a line `OBJECT,GRADE` for each row, from the top down. The text goes out in pieces of
+/// `tk_io::PIECE` bytes. Takes no memory.
+///
+/// # Errors
+///
+/// [`Failed`] where a write failed. The stream then took a front of the text.
+pub fn write_table<K: Sink>(out: &mut K, lists: &[MemList]) -> Result<(), Failed>
+    ensures whole { OnOk result (Appends (K.held out.old) (K.held out.new)
+        (unlines (sections (list_names (length lists.now)) lists.now))) }
+    ensures front { OnErr result (TookFront (K.held out.old) (K.held out.new)
+        (unlines (sections (list_names (length lists.now)) lists.now))) }
+    ensures cause { HasCause (K.faults out.old) (K.faults out.new) result }
+{
+    let mut pieces = Pieces::make();
+    put_sections(out, &mut pieces, lists);
+    pieces.end(out)
+}

@@ -1,0 +1,55 @@
+//! The choice of a random phase.
+
+ghost use Rattle.std.specs.Prelude.{◌≡◌, ℕ, length};
+ghost use Rattle.monotone_fn.specs.Shape.{list_count};
+ghost use Rattle.monotone_fn.specs.Value.{value};
+ghost use Rattle.topk_theory.specs.Order.{kth_low};
+ghost use Rattle.topk_theory.specs.NoRandom.{seen_items, exceeds};
+ghost use Rattle.topk_theory.specs.Combined.{choice};
+ghost use Rattle.ca_core.specs.Open.{KeepsOpen};
+
+use super::kept_high::KeptHigh;
+use super::open_highs::OpenHighs;
+use access_log::Transcript;
+use monotone_fn::Expr;
+
+/// Whether a number is above the bound, or there is no bound.
+fn exceeds(bound: Option<u64>, number: u64) -> bool
+    ensures { result ≡ exceeds bound number }
+{
+    match bound {
+        None => true,
+        Some(bound) => bound < number,
+    }
+}
+
+impl OpenHighs {
+    /// The choice, where the bound is the k-th largest low: the viable object with an unknown grade that has the
+    /// greatest high, and of these the smallest, if there is one. Renews a kept high only where none is greater.
+    pub fn choose(
+        &mut self,
+        expr: &Expr,
+        transcript: &Transcript,
+        bound: Option<u64>,
+    ) -> Option<u32>
+        requires lists { transcript.now.lists ≡ list_count expr.now }
+        requires kept { KeepsOpen expr.now transcript.now self.old }
+        ensures chosen { (k : ℕ) → bound ≡ kth_low k (seen_items (value expr.now) transcript.now.lists transcript.now.accesses)
+            → result ≡ choice (value expr.now) k transcript.now.lists transcript.now.accesses }
+        ensures room { length self.new.highs ≡ length self.old.highs }
+        ensures kept { KeepsOpen expr.now transcript.now self.new }
+    {
+        while let Some(top) = self.highs.greatest() {
+            let KeptHigh { high: kept, object } = top.rank;
+            if !exceeds(bound, kept) {
+                return None;
+            }
+            let high = transcript.high(expr, object);
+            if high == kept {
+                return Some(object);
+            }
+            self.highs.put(top.key, KeptHigh { high, object });
+        }
+        None
+    }
+}

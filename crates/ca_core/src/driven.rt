@@ -1,0 +1,43 @@
+//! The machine as a driver sees it.
+
+use super::ca::Ca;
+use machine_base::{Answer, CoreFault, Driven, Need, Task};
+use monotone_fn::Expr;
+use ranked_list::Row;
+use std::alloc::Global;
+
+impl Driven for Ca {
+    ghost state = { λ t. t };
+
+    fn begin(alloc: Global, expr: Expr, task: Task) -> Option<Ca> {
+        match Ca::make(alloc, expr, task.k, task.count, task.room, task.costs) {
+            Ok(machine) => Some(machine),
+            Err(_) => None,
+        }
+    }
+
+    fn needed(&self) -> Need {
+        self.need()
+    }
+
+    fn lists(&self) -> u8 {
+        self.transcript().lists()
+    }
+
+    fn take_row(&mut self, row: Row) -> Result<(), CoreFault> {
+        self.feed_row(row)
+    }
+
+    fn take_grade(&mut self, grade: u32) -> bool {
+        self.feed_grade(grade);
+        true
+    }
+
+    fn finish(self) -> Option<Answer> {
+        self.answer().ok()
+    }
+
+    fn let_go(self) {
+        Ca::let_go(self);
+    }
+}

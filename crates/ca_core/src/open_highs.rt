@@ -1,0 +1,60 @@
+//! What is kept of the objects that have an unknown grade.
+
+ghost use Rattle.std.specs.Prelude.{◌≡◌, ◌≤◌, ℕ, [], length, IfOk};
+ghost use Rattle.monotone_fn.specs.Tree.{Tree};
+ghost use Rattle.monotone_fn.specs.Shape.{list_count};
+ghost use Rattle.monotone_fn.specs.Value.{value};
+ghost use Rattle.access_log.specs.Log.{IsConsistent};
+ghost use Rattle.ca_core.specs.Open.{AreOpen, KeepsOpen, WasOpen};
+
+use super::kept_high::KeptHigh;
+use super::unknown::next_unknown;
+use access_log::Transcript;
+use indexed_heap::IndexedHeap;
+use limits::MAX_OBJECTS;
+use memory::Memory;
+use monotone_fn::Expr;
+use std::alloc::Global;
+
+/// The seen objects that have an unknown grade, by their places in the order of first sight, each with a kept high
+/// that is at least its present one.
+#[derive(Drop)]
+pub struct OpenHighs {
+    pub highs: IndexedHeap<KeptHigh>,
+}
+
+impl OpenHighs {
+    /// Before any access, with room for so many seen objects. No other call takes memory.
+    pub fn make(alloc: Global, room: u32) -> Result<OpenHighs, Memory>
+        requires { room ≤ MAX_OBJECTS }
+        ensures room { IfOk result (λ kept. length kept.highs ≡ room) }
+        ensures kept { IfOk result (λ kept. (e : Tree) (m : ℕ) → AreOpen (value e) m [] kept.highs) }
+    {
+        let Ok(highs) = IndexedHeap::make(alloc, room) else {
+            return Err(Memory);
+        };
+        Ok(OpenHighs { highs })
+    }
+
+    /// Takes note of the access that the transcript was told last, which named this object. A high is computed for
+    /// an object that is new.
+    pub fn note(&mut self, expr: &Expr, transcript: &Transcript, object: u32)
+        requires lists { transcript.now.lists ≡ list_count expr.now }
+        requires agrees { IsConsistent transcript.now }
+        requires before { WasOpen expr.now transcript.now object self.old }
+        ensures room { length self.new.highs ≡ length self.old.highs }
+        ensures kept { KeepsOpen expr.now transcript.now self.new }
+    {
+        let Some(place) = transcript.place_of(object) else {
+            return;
+        };
+        if next_unknown(transcript, object).is_none() {
+            self.highs.remove(place);
+            return;
+        }
+        if !self.highs.contains(place) {
+            let high = transcript.high(expr, object);
+            self.highs.put(place, KeptHigh { high, object });
+        }
+    }
+}

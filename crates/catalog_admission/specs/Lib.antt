@@ -1,4 +1,0 @@
--- Lists that are known by a catalog, and what query lines want of them and come to before they run.
-pub mod Views
-pub mod Wanted
-pub mod Admissions

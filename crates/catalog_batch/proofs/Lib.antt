@@ -1,3 +1,0 @@
--- Lemmas on sources that stand in slots.
-pub mod Turned
-pub mod Slotted

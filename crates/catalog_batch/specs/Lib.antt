@@ -1,2 +1,0 @@
--- What a batch over open sources is.
-pub mod OpenSources

@@ -1,0 +1,56 @@
+//! The lists of a catalog by name.
+
+ghost use Rattle.std.specs.Prelude.{◌≡◌, slice_index_or};
+ghost use Rattle.catalog_open.specs.Views.{said_of};
+ghost use Rattle.catalog_open.specs.declared.opened.Opening.TheVariants as Opening;
+
+use super::opened::Opening;
+use catalog_text::Catalog;
+use query_admission::{Listed, Lists};
+
+/// The lists of a catalog by name, with what became of its sources. A source that the openings have no place for isn't open.
+#[derive(Clone, Copy)]
+pub struct Catalogued<'a> {
+    pub catalog: &'a Catalog,
+    pub openings: &'a [Opening],
+}
+
+/// What became of the source at a place of the catalog.
+fn opening_at(openings: &[Opening], place: u32) -> Opening
+    ensures { result ≡ slice_index_or openings.now place Opening.Closed }
+{
+    match openings.get(place as usize) {
+        Some(opening) => *opening,
+        None => Opening::Closed,
+    }
+}
+
+/// What a list says of itself that offers random access or doesn't, and whose source became this.
+fn said_of(random: bool, opening: Opening) -> Listed
+    ensures { result ≡ said_of random opening }
+{
+    match opening {
+        Opening::Closed => Listed {
+            size: None,
+            random,
+            source: 0,
+        },
+        Opening::Open { size, source } => Listed {
+            size: Some(size),
+            random,
+            source,
+        },
+    }
+}
+
+impl<'a> Lists for Catalogued<'a> {
+    ghost use Rattle.catalog_open.specs.Views.{view_over, nothing_told};
+
+    ghost view = { λ lists. view_over lists.catalog.now lists.openings.now nothing_told };
+
+    fn find(&self, name: &[u8]) -> Option<Listed> {
+        let place = self.catalog.find(name)?;
+        let entry = self.catalog.get(place)?;
+        Some(said_of(entry.random, opening_at(self.openings, place)))
+    }
+}

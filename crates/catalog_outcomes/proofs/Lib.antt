@@ -1,2 +1,0 @@
--- Lemmas on outcomes that are put together.
-pub mod Merged

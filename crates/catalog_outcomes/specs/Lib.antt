@@ -1,3 +1,0 @@
--- What the outcomes of query lines are.
-pub mod Outcomes
-pub mod Merging

@@ -1,0 +1,11 @@
+-- Batches over open sources.
+use Rattle.std.specs.Prelude.{List}
+use Rattle.source_api.specs.declared.counts.Counts.{Counts}
+use Rattle.query_core.specs.declared.ready.Ready.{Ready}
+use Rattle.limits.specs.declared.settings.Settings.{Settings}
+use Rattle.batch_result.specs.Batches.{BatchRun}
+use Rattle.catalog_open.specs.Openings.{Sources}
+
+-- the batch of these queries over the open sources, which had counted so much before it and count so much now
+abbrev pub batch_over : Settings → Sources → List Counts → List Counts → List Ready → BatchRun
+batch_over settings s begun now readies = record { settings = settings; sizes = s.counts; readies = readies; told = s.told; before = begun; now = now }

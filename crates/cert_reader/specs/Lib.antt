@@ -1,4 +1,0 @@
--- How lines spell a certificate, and what reading them finds.
-pub mod Reading
-pub mod Parts
-pub mod Judging

@@ -1,0 +1,15 @@
+use Rattle.std.proofs.Common.{◌≡◌, ℕ, ◌+◌, ◌≤◌, ◌++◌, length}
+use Rattle.line_text.specs.Lines.{lines}
+use Rattle.cert_text.specs.Judging.{SpellsFound}
+use Rattle.cert_text.proofs.JudgingLaws.{Carries}
+use Rattle.cert_text.proofs.reader.read_found.Given as goal
+
+abbrev pub invariant-loop-line : goal.invariant-loop-line
+invariant-loop-line l = record {
+  few : l.number + length l.rest ≤ l.fn.first + length l.fn.text;
+  read : (k : ℕ) × (l.number ≡ l.fn.first + k)
+      × Carries (SpellsFound l.names) (lines l.rest) (λ f. record f { items = l.items.items ++ f.items }) k (SpellsFound l.names) (lines l.fn.text);
+}
+
+abbrev pub decreases-loop-line : goal.decreases-loop-line
+decreases-loop-line l = length l.rest

@@ -1,0 +1,104 @@
+-- What reading lines finds out, for any way to spell values by lines. What it means for certificates is said in `Reading`.
+use Rattle.std.specs.Prelude.{◌≡◌, ◌≢◌, ◌<◌, ◌≤◌, ◌+◌, ◌^◌, ℕ, suc, List, [], ◌∷◌, ◌++◌, length, map, take, All, AllPairs}
+use Rattle.std.specs.declared.result.Result.{Result}
+use Rattle.std.specs.declared.result.Result.TheVariants.{Ok, Err}
+use Rattle.std.specs.declared.option.Option.{Option}
+use Rattle.std.specs.declared.option.Option.TheVariants.{None, Some}
+use Rattle.ranked_list.specs.declared.item.Item.{Item}
+use Rattle.topk_theory.specs.declared.access.Access.{Access}
+use Rattle.query_text.specs.declared.query.Query.{Query}
+use Rattle.query_text.specs.Query.{printed}
+use Rattle.query_text.specs.Reading.{Reads}
+use Rattle.line_text.specs.Names.{IsName}
+use Rattle.cert_text.specs.declared.fault.CertFault.{CertFault}
+use Rattle.cert_text.specs.declared.fault.CertFault.TheVariants.{BadLine, Memory}
+use Rattle.cert_text.specs.declared.parts.Figures.{Figures}
+use Rattle.cert_text.specs.declared.reader.Results.{Results}
+use Rattle.cert_text.specs.Certificate.{query_line, count_line, answer_line, stop_line, access_lines, IsItem, IsAccess}
+use Rattle.limits.specs.declared.TheConstants.{MAX_LISTS, MAX_OBJECTS}
+
+-- some value is spelled by the lines
+abbrev pub Spelled : {X : Type 0} → (List (List ℕ) → X → Type 0) → List (List ℕ) → Type 0
+Spelled {X} S ls = (x : X) × S ls x
+
+-- the lines are the front of such lines
+abbrev pub Leads : {X : Type 0} → (List (List ℕ) → X → Type 0) → List (List ℕ) → Type 0
+Leads S front = (rest : List (List ℕ)) × Spelled S (front ++ rest)
+
+-- so many lines are the front of lines that spell a value, and with the next line, if there is one, they aren't
+pub record IsFault {X : Type 0} (S : List (List ℕ) → X → Type 0) (ls : List (List ℕ)) (before : ℕ) : Type 0 where
+  pub within : before ≤ length ls
+  pub leads : Leads S (take before ls)
+  pub ends : before < length ls → Leads S (take (suc before) ls) → ⊥
+
+-- what reading finds: the one value that the lines spell; or that they spell none, and how many lines stand before the one at fault
+abbrev pub Judges : {X : Type 0} → (List (List ℕ) → X → Type 0) → List (List ℕ) → Result X ℕ → Type 0
+Judges {X} S ls (Ok x) = S ls x × ((y : X) → S ls y → y ≡ x)
+Judges {X} S ls (Err before) = IsFault S ls before × ((y : X) → S ls y → ⊥)
+
+-- what the code finds, where the first of the lines has this number
+abbrev pub Finds : {X Y : Type 0} → (List (List ℕ) → X → Type 0) → (Y → X) → ℕ → List (List ℕ) → Result Y CertFault → Type 0
+Finds S view first ls (Ok y) = Judges S ls (Ok (view y))
+Finds S view first ls (Err (BadLine line)) = (before : ℕ) × (line ≡ first + before) × Judges S ls (Err before)
+Finds S view first ls (Err Memory) = Unit {0}
+
+-- no line is left, and this is the value
+abbrev pub SpellsNone : {X : Type 0} → X → List (List ℕ) → X → Type 0
+SpellsNone value ls x = (ls ≡ []) × (x ≡ value)
+
+-- the lines spell these accesses of the lists with these names, and end there
+abbrev pub SpellsAccesses : List (List ℕ) → List (List ℕ) → List Access → Type 0
+SpellsAccesses names ls accesses = All (IsAccess (length names)) accesses × (ls ≡ access_lines names accesses)
+
+-- the names of a query's lists: there are few, each is a name, and no two are the same
+pub record AreNames (names : List (List ℕ)) : Type 0 where
+  pub few : length names ≤ MAX_LISTS
+  pub each : All IsName names
+  pub different : AllPairs ◌≢◌ names
+
+-- what a certificate says of an answer: its objects, the figures and the accesses
+pub record Found : Type 0 where
+  pub items : List Item
+  pub figures : Figures
+  pub accesses : List Access
+
+-- what was read of an answer
+abbrev pub found_of : Results → Found
+found_of results = record { items = results.items.items; figures = results.figures; accesses = results.accesses.items }
+
+-- figures of 64 bits
+pub record AreFigures (f : Figures) : Type 0 where
+  pub depth : f.depth < 2 ^ 64
+  pub sorted : f.sorted < 2 ^ 64
+  pub random : f.random < 2 ^ 64
+  pub cost : f.cost < 2 ^ 64
+
+-- the lines spell this answer
+pub record SpellsFound (names : List (List ℕ)) (ls : List (List ℕ)) (found : Found) : Type 0 where
+  pub items : All IsItem found.items
+  pub figures : AreFigures found.figures
+  pub accesses : All (IsAccess (length names)) found.accesses
+  pub spelled : ls ≡ map answer_line found.items
+      ++ stop_line found.figures.depth found.figures.sorted found.figures.random found.figures.cost ∷ access_lines names found.accesses
+
+-- the lines spell this answer under the number of objects of each list
+pub record SpellsCounted (names : List (List ℕ)) (ls : List (List ℕ)) (counted : ℕ × Found) : Type 0 where
+  pub rest : List (List ℕ)
+  pub first : ls ≡ count_line counted.0 ∷ rest
+  pub low : 1 ≤ counted.0
+  pub high : counted.0 ≤ MAX_OBJECTS
+  pub found : SpellsFound names rest counted.1
+
+-- the lines spell this answer under its query
+pub record SpellsQueried (ls : List (List ℕ)) (queried : Query × ℕ × Found) : Type 0 where
+  pub rest : List (List ℕ)
+  pub first : ls ≡ query_line queried.0 ∷ rest
+  pub query : Reads (printed queried.0) (Ok queried.0)
+  pub counted : SpellsCounted queried.0.names rest (queried.1, queried.2)
+
+-- a line is the line of this query alone, or of none
+abbrev pub FindsQuery : List ℕ → Option Query → Type 0
+FindsQuery line (Some query) =
+    (line ≡ query_line query) × Reads (printed query) (Ok query)
+    × ((other : Query) → line ≡ query_line other → Reads (printed other) (Ok other) → other ≡ query)
+FindsQuery line None = (other : Query) → line ≡ query_line other → Reads (printed other) (Ok other) → ⊥

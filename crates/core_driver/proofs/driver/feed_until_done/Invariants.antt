@@ -1,6 +1,0 @@
-use Rattle.core_driver.specs.Wide.{IsWide}
-use Rattle.core_driver.proofs.driver.feed_until_done.Given as goal
-
--- the wide transcript is the machine's, of as many objects as there may be
-abbrev pub invariant-loop-step : goal.invariant-loop-step
-invariant-loop-step g l = IsWide l.wide (g.M.Driven.state l.machine).log

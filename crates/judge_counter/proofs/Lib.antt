@@ -1,3 +1,0 @@
--- Lemmas on the table against an object.
-pub mod Completing
-pub mod Countering

@@ -1,2 +1,0 @@
--- What the table against an object is.
-pub mod CounterTable

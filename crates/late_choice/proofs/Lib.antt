@@ -1,3 +1,0 @@
-pub mod Grades
-pub mod Noting
-pub mod Highest

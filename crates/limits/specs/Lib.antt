@@ -1,0 +1,2 @@
+-- What is within the limits.
+pub mod Ranges

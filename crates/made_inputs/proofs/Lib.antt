@@ -1,0 +1,5 @@
+pub mod Making
+-- Made queries are lawful.
+mod Growing
+pub mod Trees
+mod Lawful

@@ -1,0 +1,4 @@
+-- Tables that are made from a number.
+pub mod Made
+-- Queries that are made from a number.
+pub mod MadeQueries

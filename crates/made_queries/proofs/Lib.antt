@@ -1,4 +1,0 @@
--- Made queries are lawful.
-mod Growing
-pub mod Trees
-mod Lawful

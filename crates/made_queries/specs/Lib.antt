@@ -1,2 +1,0 @@
--- Queries that are made from a number.
-pub mod Made

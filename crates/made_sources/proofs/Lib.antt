@@ -1,3 +1,0 @@
--- Lemmas on made lists as sources.
-pub mod HeldLaws
-pub mod TableLaws

@@ -1,2 +1,0 @@
--- What a made list is as a source.
-pub mod Held

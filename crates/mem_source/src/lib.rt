@@ -1,8 +1,0 @@
-//! Ranked lists in memory behind calls that fail on demand: a source of rows, and the shelf of texts and sources.
-#![tactic(auto)]
-
-mod mem_shelf;
-mod mem_source;
-
-pub use mem_shelf::MemShelf;
-pub use mem_source::MemSource;

@@ -1,9 +1,0 @@
-pub mod DraftLaws
-pub mod TakeLaws
-pub mod ReachLaws
-pub mod StateLaws
-pub mod ReadLaws
-pub mod FinalLaws
-pub mod NumberingLaws
-pub mod AnswerLaws
-pub mod BackLaws

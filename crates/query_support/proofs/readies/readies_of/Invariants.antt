@@ -1,7 +1,0 @@
-use Rattle.std.proofs.Common.{All}
-use Rattle.query_turns.specs.Made.{IsReadyFor}
-use Rattle.query_support.proofs.readies.readies_of.Given as goal
-
--- the queries so far are ready
-abbrev pub invariant-loop-one : goal.invariant-loop-one
-invariant-loop-one l = All (IsReadyFor l.counts) l.readies.items

@@ -1,0 +1,46 @@
+//! Where a reader of a query line stands.
+
+ghost use Rattle.std.specs.Prelude.{◌≡◌};
+ghost use Rattle.query_text.specs.Course.{may_end};
+
+/// Which piece of a query line comes next.
+#[derive(Clone, Copy)]
+pub enum Stage {
+    /// `top `
+    Top,
+    /// k
+    Count,
+    /// ` by `
+    By,
+    /// A name, or an operator with its `(`.
+    Operand,
+    /// `,` or `)` inside an operator, else ` using `.
+    Behind,
+    /// A weight.
+    Weight,
+    /// `*`
+    Times,
+    /// The word of an algorithm.
+    Algorithm,
+    /// ` cost `, ` room ` or the end.
+    Options,
+    /// The cost of a sorted access.
+    Sorted,
+    /// The blank between the costs.
+    Between,
+    /// The cost of a random access.
+    Random,
+    /// ` room ` or the end.
+    Priced,
+    /// The room.
+    Room,
+    /// The end.
+    Done,
+}
+
+/// Whether a line may end before what comes next.
+pub fn may_end(stage: Stage) -> bool
+    ensures { result ≡ may_end stage }
+{
+    matches!(stage, Stage::Options | Stage::Priced | Stage::Done)
+}

@@ -1,0 +1,154 @@
+//! The words that may stand at a place of a query line.
+
+ghost use Rattle.std.specs.Prelude.{◌≡◌, ◌∷◌, [], ◌<◌, ◌≤◌, length, true, false};
+ghost use Rattle.std.specs.List.{prefix_len};
+ghost use Rattle.std.specs.Char.{is_ascii_digit};
+ghost use Rattle.line_text.specs.Names.{is_name_byte};
+ghost use Rattle.query_text.specs.Words.{Class, begins, is_whole, class_at, IsLongest, IsLongestName};
+
+use super::algorithm::Algorithm;
+use super::named::{algorithm_of, is_text, opened_by};
+use super::stage::Stage;
+use line_text::is_name_byte;
+
+/// How many bytes a word and a text have in common at their fronts.
+fn common(word: &[u8], text: &[u8]) -> usize
+    ensures { IsLongest (Class.words (word.now ∷ [])) text.now result }
+{
+    let mut count = 0;
+    while count < word.len() && count < text.len() {
+        if word[count] != text[count] {
+            return count;
+        }
+        count += 1;
+    }
+    count
+}
+
+/// How many digits a text begins with.
+fn digits_len(text: &[u8]) -> usize
+    ensures { result ≡ prefix_len is_ascii_digit text.now }
+{
+    text.iter().take_while(|byte| byte.is_ascii_digit()).count()
+}
+
+/// How many bytes of a text begin a number.
+fn number_len(text: &[u8]) -> usize
+    ensures { IsLongest Class.digits text.now result }
+{
+    let Some((first, _)) = text.split_first() else {
+        return 0;
+    };
+    if *first == b'0' {
+        return 1;
+    }
+    digits_len(text)
+}
+
+/// How many bytes of names a text begins with.
+fn name_bytes_len(text: &[u8]) -> usize
+    ensures { result ≡ prefix_len is_name_byte text.now }
+{
+    text.iter().take_while(|byte| is_name_byte(**byte)).count()
+}
+
+/// How many bytes of a text begin a name.
+fn name_len(text: &[u8]) -> usize
+    ensures { IsLongestName text.now result }
+{
+    let Some((first, rest)) = text.split_first() else {
+        return 0;
+    };
+    if !first.is_ascii_alphabetic() {
+        return 0;
+    }
+    1 + name_bytes_len(rest).min(31)
+}
+
+/// How many bytes of a text begin a name or an operator with its parenthesis.
+fn operand_len(text: &[u8]) -> usize
+    ensures { IsLongest Class.operand text.now result }
+{
+    let count = name_len(text);
+    if count < text.len() && opened_by(&text[..count + 1]).is_some() {
+        return count + 1;
+    }
+    count
+}
+
+/// How many bytes of a text begin a word that may come at a stage.
+pub fn longest(stage: Stage, inside: bool, text: &[u8]) -> usize
+    ensures { IsLongest (class_at stage inside) text.now result }
+{
+    match stage {
+        Stage::Top => common(b"top ", text),
+        Stage::By => common(b" by ", text),
+        Stage::Operand => operand_len(text),
+        Stage::Behind => behind_len(inside, text),
+        Stage::Times => common(b"*", text),
+        Stage::Algorithm => algorithm_len(text),
+        Stage::Options => common(b" cost ", text).max(common(b" room ", text)),
+        Stage::Between => common(b" ", text),
+        Stage::Priced => common(b" room ", text),
+        Stage::Count | Stage::Weight | Stage::Sorted | Stage::Random | Stage::Room => {
+            number_len(text)
+        }
+        Stage::Done => 0,
+    }
+}
+
+/// How many bytes of a text begin the word of an algorithm.
+fn algorithm_len(text: &[u8]) -> usize
+    ensures { IsLongest (class_at Stage.Algorithm false) text.now result }
+{
+    let threshold = common(Algorithm::Ta.word(), text);
+    let without_random = common(Algorithm::Nra.word(), text);
+    let combined = common(Algorithm::Ca.word(), text);
+    threshold.max(without_random.max(combined))
+}
+
+/// How many bytes of a text begin what may stand behind an operand.
+fn behind_len(inside: bool, text: &[u8]) -> usize
+    ensures { IsLongest (class_at Stage.Behind inside) text.now result }
+{
+    if inside {
+        common(b",", text).max(common(b")", text))
+    } else {
+        common(b" using ", text)
+    }
+}
+
+/// Whether what begins a word that may come at a stage is the whole word.
+pub fn is_whole(stage: Stage, inside: bool, word: &[u8]) -> bool
+    requires { 0 < length word.now → begins (class_at stage inside) word.now ≡ true }
+    ensures { result ≡ is_whole (class_at stage inside) word.now }
+{
+    match stage {
+        Stage::Top => is_text(word, b"top "),
+        Stage::By => is_text(word, b" by "),
+        Stage::Behind => is_whole_behind(inside, word),
+        Stage::Times => is_text(word, b"*"),
+        Stage::Algorithm => algorithm_of(word).is_some(),
+        Stage::Options => is_text(word, b" cost ") || is_text(word, b" room "),
+        Stage::Between => is_text(word, b" "),
+        Stage::Priced => is_text(word, b" room "),
+        Stage::Operand
+        | Stage::Count
+        | Stage::Weight
+        | Stage::Sorted
+        | Stage::Random
+        | Stage::Room => !word.is_empty(),
+        Stage::Done => false,
+    }
+}
+
+/// Whether what begins a word that may stand behind an operand is the whole word.
+fn is_whole_behind(inside: bool, word: &[u8]) -> bool
+    ensures { result ≡ is_whole (class_at Stage.Behind inside) word.now }
+{
+    if inside {
+        is_text(word, b",") || is_text(word, b")")
+    } else {
+        is_text(word, b" using ")
+    }
+}

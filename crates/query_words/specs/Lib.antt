@@ -1,4 +1,0 @@
-pub mod Words
-pub mod Front
-pub mod Course
-pub mod Named

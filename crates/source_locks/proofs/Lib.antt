@@ -1,4 +1,0 @@
-mod Fronts
-mod OpenLaws
-mod Walks
-mod CloseLaws

@@ -1,4 +1,0 @@
-pub mod Passes
-pub mod Sharing
-pub mod Closed
-pub mod Rooms

@@ -1,3 +1,0 @@
-pub mod SaidLaws
-pub mod TurnLaws
-pub mod SaidMeans

@@ -1,0 +1,7 @@
+pub mod Holds
+pub mod Looks
+pub mod HoldSharing
+pub mod Passes
+pub mod Sharing
+pub mod Closed
+pub mod Rooms

@@ -1,0 +1,74 @@
+//! A look at one source.
+
+ghost use Rattle.std.specs.Prelude.{◌≡◌, ◌<◌, None};
+ghost use Rattle.source_pool.specs.Holds.{IsFree};
+ghost use Rattle.source_pool.specs.Looks.{MayLookFor, Answers, Waits, shown_fault, shown_by, TookTurn, IsTurn, IsWithin};
+ghost use Rattle.source_state.specs.Events.{counted};
+
+use super::hold::Hold;
+use ranked_list::Need;
+use source_state::{FailKind, Look, LookFault, SourceState, Tally, look_at};
+use std::sync::Wait;
+use turn_lock::TurnLock;
+
+/// One more fail of a kind.
+fn count_one(what: FailKind, shown: Tally) -> Tally
+    ensures { result ≡ counted what shown }
+{
+    match what {
+        FailKind::Failed => Tally {
+            failed: shown.failed.saturating_add(1),
+            ..shown
+        },
+        FailKind::Garbled => Tally {
+            garbled: shown.garbled.saturating_add(1),
+            ..shown
+        },
+        FailKind::Memory => Tally {
+            memory: shown.memory.saturating_add(1),
+            ..shown
+        },
+    }
+}
+
+/// What was shown, with one more where a fail is told.
+fn shown_fault(fault: LookFault, shown: Tally) -> Tally
+    ensures { result ≡ shown_fault fault shown }
+{
+    match fault {
+        LookFault::Failed => count_one(FailKind::Failed, shown),
+        LookFault::Garbled => count_one(FailKind::Garbled, shown),
+        LookFault::Memory => count_one(FailKind::Memory, shown),
+        LookFault::Source(_) | LookFault::Missing { .. } | LookFault::AsksFull { .. } => shown,
+    }
+}
+
+/// What was shown after a look.
+fn shown_by(answer: Look, shown: Tally) -> Tally
+    ensures { result ≡ shown_by answer shown }
+{
+    match answer {
+        Look::Fault(fault) => shown_fault(fault, shown),
+        Look::Row(_) | Look::Grade(_) | Look::NotYet => shown,
+    }
+}
+
+/// Looks for a need in one turn.
+pub fn look_once(rt: &impl Wait, lock: &TurnLock<SourceState>, hold: &mut Hold, need: Need) -> Look
+    requires own { IsFree lock.now hold.old.pass }
+    requires need { MayLookFor hold.old.pass.1 need }
+    ensures own { IsFree lock.now hold.new.pass }
+    ensures turn { IsTurn need hold.old hold.new result }
+    ensures answer { Answers need hold.old hold.new result }
+    ensures waits { Waits need hold.old hold.new result }
+    ensures shown { hold.new.shown ≡ shown_by result hold.old.shown }
+    ensures took { TookTurn hold.old.pass.1 hold.new.pass.1 }
+    ensures within { IsWithin hold.old → IsWithin hold.new }
+{
+    let mut state = lock.take(rt, &mut hold.pass);
+    let _ = state.count();
+    let answer = look_at(&mut state, &mut hold.waiting, need);
+    lock.give(&mut hold.pass, state);
+    hold.shown = shown_by(answer, hold.shown);
+    answer
+}

@@ -1,2 +1,0 @@
--- Tables that are made from a number.
-pub mod Made

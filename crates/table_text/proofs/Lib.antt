@@ -1,2 +1,0 @@
--- Lemmas on sections.
-pub mod Sections

@@ -1,2 +1,0 @@
--- The names of lists that have numbers.
-pub mod Numbered

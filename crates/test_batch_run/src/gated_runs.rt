@@ -1,0 +1,214 @@
+//! Batches over sources that wait, as plain data.
+
+ghost use Rattle.std.specs.Prelude.{◌≡◌, None, All, OnSome};
+
+use super::batch_runs::{Ran, Used, run_ends_so};
+use super::waiting::{Call, Gate, Gated};
+use batch_run::Settings;
+use fetcher::Slot;
+use source_api::Trouble;
+use std::alloc::Global;
+use std::sync::Wait;
+use std::sync::atomic::AtomicU64;
+use std::test::Fail;
+use std::thread::Threads;
+use test_query_support::{Asked, Expected};
+use test_source_support::{Held, source_of};
+
+/// A source, and its call that waits.
+pub type Waiter = (Held, Option<Gate>);
+
+/// A batch: sources, how many objects each has, queries, settings, how the queries end, and how many calls of the first source have
+/// failed by then.
+#[derive(Clone, Copy)]
+pub struct Case {
+    pub waiters: &'static [Waiter],
+    pub counts: &'static [u32],
+    pub asked: &'static [Asked],
+    pub settings: Settings,
+    pub ends: &'static [Expected],
+    pub faults: u64,
+}
+
+/// The first call for a page waits for that of the first source, and fails if it waits in vain.
+pub const GATE: Gate = Gate {
+    call: Call::Page(1),
+    source: 0,
+    until: 1,
+    patience: 1_000_000_000,
+    trouble: Trouble::Failed,
+};
+
+/// No call made of any of three sources.
+fn no_calls() -> [AtomicU64; 3] {
+    [AtomicU64::new(0), AtomicU64::new(0), AtomicU64::new(0)]
+}
+
+/// Adds a slot of a source that waits, with its number. None without memory.
+fn add_slot<'a>(
+    alloc: Global,
+    waiter: &Waiter,
+    pages: &'a [AtomicU64],
+    number: usize,
+    slots: &mut Vec<Slot<Gated<'a>>>,
+) -> Option<()>
+    requires { All (λ slot. slot.feeder ≡ None) slots.old.items }
+    ensures { OnSome result (All (λ slot. slot.feeder ≡ None) slots.new.items) }
+{
+    let Ok(()) = slots.reserve(1) else {
+        return None;
+    };
+    let Some(rows) = source_of(alloc, &waiter.0) else {
+        return None;
+    };
+    let slot = Slot::make(Gated::make(rows, pages, number, waiter.1));
+    slots.push_reserved(slot);
+    Some(())
+}
+
+/// Adds a slot of each source. The calls for their pages are counted in `pages`, by their numbers. None without memory.
+fn add_slots<'a>(
+    alloc: Global,
+    waiters: &[Waiter],
+    pages: &'a [AtomicU64],
+    slots: &mut Vec<Slot<Gated<'a>>>,
+) -> Option<()>
+    requires { All (λ slot. slot.feeder ≡ None) slots.old.items }
+    ensures { OnSome result (All (λ slot. slot.feeder ≡ None) slots.new.items) }
+{
+    for (number, waiter) in waiters.iter().enumerate() {
+        add_slot(alloc, waiter, pages, number, slots)?;
+    }
+    Some(())
+}
+
+/// Whether a batch goes like this over its slots, whatever is used of its sources.
+fn runs_as<R: Threads + Wait + Sync>(
+    rt: &R,
+    alloc: Global,
+    slots: &mut [Slot<Gated>],
+    case: &Case,
+    expected: Ran,
+) -> Result<bool, Fail>
+    requires { All (λ slot. slot.feeder ≡ None) slots.old }
+    ensures { All (λ slot. slot.feeder ≡ None) slots.new }
+{
+    let used: &[Used] = &[];
+    let ran = run_ends_so(
+        rt,
+        alloc,
+        slots,
+        case.counts,
+        case.asked,
+        case.settings,
+        (case.ends, used),
+    )?;
+    Ok(ran == expected)
+}
+
+/// The calls of the first source that have failed.
+fn faults_of(slots: &[Slot<Gated>]) -> u64 {
+    match slots.first() {
+        Some(slot) => slot.source.counts().faults,
+        None => 0,
+    }
+}
+
+/// How often a batch runs over the same slots.
+#[derive(Clone, Copy)]
+enum Runs {
+    /// Once, and it goes as it is to.
+    Once,
+    /// Twice: there is no batch at first, for want of memory, and then the queries end as they are to.
+    Twice,
+}
+
+/// Whether a batch goes so over its slots.
+fn goes_once<R: Threads + Wait + Sync>(
+    rt: &R,
+    alloc: Global,
+    slots: &mut [Slot<Gated>],
+    case: &Case,
+) -> Result<bool, Fail>
+    requires { All (λ slot. slot.feeder ≡ None) slots.old }
+{
+    let so = runs_as(rt, alloc, slots, case, Ran::So)?;
+    Ok(so && faults_of(slots) == case.faults)
+}
+
+/// Whether a batch wants memory at first, and goes so over the same slots where it is run again.
+fn goes_twice<R: Threads + Wait + Sync>(
+    rt: &R,
+    alloc: Global,
+    slots: &mut [Slot<Gated>],
+    case: &Case,
+) -> Result<bool, Fail>
+    requires { All (λ slot. slot.feeder ≡ None) slots.old }
+{
+    if runs_as(rt, alloc, slots, case, Ran::Short)? {
+        runs_as(rt, alloc, slots, case, Ran::So)
+    } else {
+        Ok(false)
+    }
+}
+
+/// Whether a batch goes so over its slots, so often.
+fn is_run_so<R: Threads + Wait + Sync>(
+    rt: &R,
+    alloc: Global,
+    slots: &mut [Slot<Gated>],
+    case: &Case,
+    runs: Runs,
+) -> Result<bool, Fail>
+    requires { All (λ slot. slot.feeder ≡ None) slots.old }
+{
+    match runs {
+        Runs::Once => goes_once(rt, alloc, slots, case),
+        Runs::Twice => goes_twice(rt, alloc, slots, case),
+    }
+}
+
+/// Whether a batch goes so over its sources, for which the slots are added.
+fn go_so<'a, R: Threads + Wait + Sync>(
+    rt: &R,
+    alloc: Global,
+    pages: &'a [AtomicU64],
+    slots: &mut Vec<Slot<Gated<'a>>>,
+    case: &Case,
+    runs: Runs,
+) -> Result<bool, Fail>
+    requires { All (λ slot. slot.feeder ≡ None) slots.old.items }
+{
+    match add_slots(alloc, case.waiters, pages, slots) {
+        Some(()) => is_run_so(rt, alloc, slots, case, runs),
+        None => Err("memory".into()),
+    }
+}
+
+/// Whether a batch goes so over its sources.
+fn goes<R: Threads + Wait + Sync>(
+    rt: &R,
+    alloc: Global,
+    case: &Case,
+    runs: Runs,
+) -> Result<bool, Fail> {
+    let pages = no_calls();
+    let mut slots = Vec::new(alloc);
+    let so = go_so(rt, alloc, &pages, &mut slots, case, runs);
+    drop(slots);
+    so
+}
+
+/// Whether a batch goes as it is to.
+pub fn goes_so<R: Threads + Wait + Sync>(rt: &R, alloc: Global, case: &Case) -> Result<bool, Fail> {
+    goes(rt, alloc, case, Runs::Once)
+}
+
+/// Whether a batch wants memory at first, and goes as it is to where it is run again.
+pub fn goes_again<R: Threads + Wait + Sync>(
+    rt: &R,
+    alloc: Global,
+    case: &Case,
+) -> Result<bool, Fail> {
+    goes(rt, alloc, case, Runs::Twice)
+}

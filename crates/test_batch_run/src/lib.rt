@@ -1,0 +1,29 @@
+//! Tests of batches with workers and fetchers that really run: rows that were worked out by hand, over lists that are a table and over
+//! sources whose rows, grades or calls are at fault.
+//!
+//! Some sources have calls that wait until calls of another source were made, which shows that the queries and the fetchers
+//! run at the same time.
+#![tactic(auto)]
+
+#[cfg(test)]
+mod ahead;
+#[cfg(test)]
+mod batch_runs;
+#[cfg(test)]
+mod beside;
+#[cfg(test)]
+mod cases;
+#[cfg(test)]
+mod faults;
+#[cfg(test)]
+mod gated_runs;
+#[cfg(test)]
+mod grades;
+#[cfg(test)]
+mod runs;
+#[cfg(test)]
+mod shortage;
+#[cfg(test)]
+mod tables;
+#[cfg(test)]
+mod waiting;

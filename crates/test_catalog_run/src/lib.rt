@@ -1,0 +1,18 @@
+//! Tests of query lines over catalogs whose sources are held in memory: rows that were worked out by hand, and made queries over made
+//! tables, by the list files that `make` writes, which come to what `bulk` comes to.
+#![tactic(auto)]
+
+#[cfg(test)]
+mod cases;
+#[cfg(test)]
+mod drives;
+#[cfg(test)]
+mod figures;
+#[cfg(test)]
+mod made_runs;
+#[cfg(test)]
+mod rows;
+#[cfg(test)]
+mod runs;
+#[cfg(test)]
+mod shelves;

@@ -1,0 +1,201 @@
+//! Texts that are read: the first example, and texts with the line at fault.
+
+use super::{holds, none_is_wrong};
+use access_log::Items;
+use cert_text::{Accesses, CertFault, Certificate, read_certificate};
+use query_text::{Query, print};
+use std::alloc::Global;
+use test_support::{FIRST_ACCESSES, FIRST_ITEM, FIRST_QUERY, FIRST_TEXT};
+
+/// Whether a query has this text.
+fn is_printed(alloc: Global, query: &Query, expected: &[u8]) -> bool {
+    let Ok(text) = print(alloc, query) else {
+        return false;
+    };
+    let is_so = text.as_slice() == expected;
+    drop(text);
+    is_so
+}
+
+/// Whether the numbers of a certificate are those of the first example.
+fn has_numbers(certificate: &Certificate) -> bool {
+    let figures = [
+        certificate.line,
+        u64::from(certificate.count),
+        certificate.depth,
+        certificate.sorted,
+        certificate.random,
+        certificate.cost,
+    ];
+    figures == [1, 3, 2, 4, 3, 7]
+}
+
+/// Whether an answer is that of the first example.
+fn has_item(items: Items) -> bool {
+    let items = items.into_vec();
+    let is_so = items.as_slice() == [FIRST_ITEM].as_slice();
+    drop(items);
+    is_so
+}
+
+/// Whether accesses are those of the first example.
+fn has_accesses(made: Accesses) -> bool {
+    let made = made.into_vec();
+    let are_so = made.as_slice() == FIRST_ACCESSES.as_slice();
+    drop(made);
+    are_so
+}
+
+/// Whether a certificate is that of the first example.
+fn is_first(alloc: Global, certificate: Certificate) -> bool {
+    let is_printed = is_printed(alloc, &certificate.query, FIRST_QUERY);
+    let is_so = is_printed && has_numbers(&certificate);
+    let Certificate {
+        query,
+        items,
+        accesses,
+        ..
+    } = certificate;
+    query.let_go();
+    let are_so = has_item(items) & has_accesses(accesses);
+    is_so && are_so
+}
+
+/// Whether a text is read as the certificate of the first example.
+fn is_read_as_first(alloc: Global, text: &[u8]) -> bool {
+    match read_certificate(alloc, text) {
+        Ok(certificate) => is_first(alloc, certificate),
+        Err(_) => false,
+    }
+}
+
+/// The same of the first example where each line ends by two bytes.
+fn is_read_by_two_bytes(alloc: Global) -> bool {
+    let Ok(text) = FIRST_TEXT.replace(alloc, "\n", "\r\n") else {
+        return false;
+    };
+    let is_so = is_read_as_first(alloc, text.as_bytes());
+    drop(text);
+    is_so
+}
+
+/// Its lines may end by one byte or by two.
+#[test]
+fn reads_the_first_example(rt: HostRuntime) {
+    let is_read = is_read_as_first(rt.alloc(), FIRST_TEXT.as_bytes());
+    let is_read_so_too = is_read_by_two_bytes(rt.alloc());
+    holds(&rt, is_read && is_read_so_too);
+}
+
+/// Whether this line of a text is at fault, or the text is read where it is none.
+fn is_at_fault(alloc: Global, text: &str, expected: Option<u64>) -> bool {
+    match read_certificate(alloc, text.as_bytes()) {
+        Ok(certificate) => {
+            certificate.let_go();
+            expected.is_none()
+        }
+        Err(CertFault::BadLine { line }) => expected == Some(line),
+        Err(CertFault::Memory) => false,
+    }
+}
+
+/// A text of the first example, another in its place, and the line at fault, or None where it is read.
+type Row = (&'static str, &'static str, Option<u64>);
+
+/// Whether the first example comes to this with one text in place of another.
+fn is_changed_so(alloc: Global, row: &Row) -> bool {
+    let (old, new, line) = *row;
+    let Ok(text) = FIRST_TEXT.replace(alloc, old, new) else {
+        return false;
+    };
+    let is_so = is_at_fault(alloc, &text, line);
+    drop(text);
+    is_so
+}
+
+/// The number of the first row that comes to something else.
+fn first_wrong(alloc: Global, rows: &[Row]) -> Option<usize> {
+    for (number, row) in rows.iter().enumerate() {
+        if !is_changed_so(alloc, row) {
+            return Some(number);
+        }
+    }
+    None
+}
+
+/// Each kind of fault, on each kind of line, and what is read.
+const ROWS: &[Row] = &[
+    ("certificate 1", "certificate 01", Some(1)),
+    ("certificate 1", "certificate 0", Some(1)),
+    ("certificate 1", "certificate 9223372036854775808", Some(1)),
+    ("certificate 1\n", "certificate\n", Some(1)),
+    ("query top 1", "query top 0", Some(2)),
+    ("query top 1", "query  top 1", Some(2)),
+    ("sum(A,B)", "foo(A,B)", Some(2)),
+    ("using ta", "using tb", Some(2)),
+    ("count 3", "count 0", Some(3)),
+    ("count 3", "count 03", Some(3)),
+    ("count 3", "count 200001", Some(3)),
+    ("count 3\n", "count 3\r\r\n", Some(3)),
+    ("answer 2", "answer 02", Some(4)),
+    ("answer 2", "answer 4294967296", Some(4)),
+    ("1500 1500", "1500", Some(4)),
+    ("1500\n", "1500 \n", Some(4)),
+    ("1500\n", "18446744073709551616\n", Some(4)),
+    ("stop", "end\nstop", Some(5)),
+    ("sorted 4", "sorted 04", Some(5)),
+    ("cost 7", "cost 18446744073709551616", Some(5)),
+    (" cost 7", "", Some(5)),
+    ("s A 1 900", "answer 1 1400 1400\ns A 1 900", Some(6)),
+    ("s A 1 900", "s C 1 900", Some(6)),
+    ("s A 1 900", "s A 01 900", Some(6)),
+    ("s A 1 900", "t A 1 900", Some(6)),
+    ("r A 3 100", "r A 4294967296 100", Some(12)),
+    ("r A 3 100", "r A 3 4294967296", Some(12)),
+    ("r A 3 100", "r A 3", Some(12)),
+    ("end", "end ", Some(13)),
+    ("end\n", "end\r", Some(13)),
+    ("end\n", "end\n\n", Some(14)),
+    ("end\n", "end\nend\n", Some(14)),
+    // each number at the end of its range, and lines that a certificate need not have
+    ("certificate 1", "certificate 9223372036854775807", None),
+    ("using ta", "using nra", None),
+    ("using ta", "using ca", None),
+    ("count 3", "count 200000", None),
+    ("answer 2", "answer 4294967295", None),
+    (
+        "1500 1500",
+        "18446744073709551615 18446744073709551615",
+        None,
+    ),
+    ("answer 2 1500 1500\n", "", None),
+    ("depth 2", "depth 18446744073709551615", None),
+    ("sorted 4", "sorted 18446744073709551615", None),
+    ("random 3", "random 18446744073709551615", None),
+    ("cost 7", "cost 18446744073709551615", None),
+    ("s A 1 900", "s A 4294967295 4294967295", None),
+    ("s A 1 900\n", "", None),
+    ("end\n", "end", None),
+];
+
+/// How many bytes of the first example stand before each of its lines.
+const STARTS: &[usize] = &[0, 14, 47, 55, 74, 112, 122, 132, 142, 152, 162, 172, 182];
+
+/// The number, from 0, of the first line of the first example that isn't named where the text ends before it.
+fn first_unnamed(alloc: Global, starts: &[usize]) -> Option<usize> {
+    for (number, start) in starts.iter().enumerate() {
+        let front = FIRST_TEXT.get(..*start).unwrap_or("");
+        let line = (number as u64).saturating_add(1);
+        if !is_at_fault(alloc, front, Some(line)) {
+            return Some(number);
+        }
+    }
+    None
+}
+
+/// Each line at fault, what is read though it is no answer, and each line that is missing.
+#[test]
+fn names_the_first_line_at_fault(rt: HostRuntime) {
+    none_is_wrong(&rt, first_wrong(rt.alloc(), ROWS));
+    none_is_wrong(&rt, first_unnamed(rt.alloc(), STARTS));
+}

@@ -1,0 +1,403 @@
+//! Verdicts worked out by hand.
+
+ghost use Rattle.std.specs.Prelude.{◌≡◌};
+ghost use Rattle.monotone_fn.specs.Shape.{list_count};
+
+use super::none_is_wrong;
+use access_log::{Access, Transcript};
+use judge_core::{JudgeFault, Verdict, counter_table, judge};
+use monotone_fn::Expr;
+use query_text::read;
+use ranked_list::{MemList, is_table};
+use std::alloc::Global;
+use test_support::{random_row, sorted_row};
+
+/// The expression of a query over so many lists of so many objects, a transcript, and an answer of k objects.
+#[derive(Clone, Copy)]
+struct Question {
+    query: &'static [u8],
+    lists: u8,
+    count: u32,
+    accesses: &'static [Access],
+    k: u32,
+    answer: &'static [u32],
+}
+
+/// What is told of an answer.
+type Told = Result<Verdict, JudgeFault>;
+
+/// The text of a query, and how many lists it names.
+type Asked = (&'static [u8], u8);
+
+/// What is asked, how many objects there are, the accesses, k, the answer, and what is told of it.
+type Row = (Asked, u32, &'static [Access], u32, &'static [u32], Told);
+
+/// How many objects there are, the accesses, and the sums of objects in the table that beats the answer.
+type Countered = (u32, &'static [Access], &'static [(u32, u64)]);
+
+/// What is told of an answer, and the lists of the table that beats it, or none.
+#[derive(Drop)]
+struct Judged {
+    told: Told,
+    against: Vec<MemList>,
+}
+
+/// Takes accesses, and tells whether it took all.
+fn takes_all(log: &mut Transcript, accesses: &[Access]) -> bool {
+    for access in accesses {
+        if log.push(*access).is_err() {
+            return false;
+        }
+    }
+    true
+}
+
+/// The accesses of a question over a few small lists. None where no table agrees with them, and without memory.
+fn transcript_of(alloc: Global, question: &Question) -> Option<Transcript> {
+    let (lists, count) = (question.lists, question.count);
+    if lists == 0 || lists >= 5 || count == 0 || count >= 10 {
+        return None;
+    }
+    let Ok(mut log) = Transcript::make(alloc, lists, count) else {
+        return None;
+    };
+    if takes_all(&mut log, question.accesses) {
+        Some(log)
+    } else {
+        drop(log);
+        None
+    }
+}
+
+/// What is told of a question's small answer over a transcript. None without memory.
+fn verdict_over(alloc: Global, log: &Transcript, expr: &Expr, question: &Question) -> Option<Judged>
+    requires { list_count expr.now ≡ log.now.lists }
+{
+    if question.answer.len() >= 10 {
+        return None;
+    }
+    let told = judge(alloc, log, expr, question.k, question.answer);
+    let against = match told {
+        Ok(Verdict::Beaten { inside, .. }) if log.is_seen(inside) => {
+            match counter_table(alloc, log, inside) {
+                Ok(table) => table,
+                Err(_) => return None,
+            }
+        }
+        _ => Vec::new(alloc),
+    };
+    Some(Judged { told, against })
+}
+
+/// What is told of a question's answer by its expression, of as many lists as the query names. None without memory.
+fn verdict_by(alloc: Global, expr: &Expr, question: &Question) -> Option<Judged> {
+    let Some(log) = transcript_of(alloc, question) else {
+        return None;
+    };
+    let judged = if expr.lists() == log.lists() {
+        verdict_over(alloc, &log, expr, question)
+    } else {
+        None
+    };
+    drop(log);
+    judged
+}
+
+/// What is told of a question's answer. None without memory.
+fn verdict_of(alloc: Global, question: &Question) -> Option<Judged> {
+    let Ok(query) = read(alloc, question.query) else {
+        return None;
+    };
+    let judged = verdict_by(alloc, &query.expr, question);
+    query.let_go();
+    judged
+}
+
+/// The sum of an object's grades.
+fn sum_of(lists: &[MemList], object: u32) -> u64 {
+    let mut sum: u64 = 0;
+    for list in lists {
+        for place in 0..list.len() {
+            match list.get(place) {
+                Some(row) if row.object == object => {
+                    sum = sum.saturating_add(u64::from(row.grade));
+                }
+                _ => {}
+            }
+        }
+    }
+    sum
+}
+
+/// Whether lists are a table that gives objects these sums.
+fn has_sums(alloc: Global, lists: &[MemList], sums: &[(u32, u64)]) -> bool {
+    for (object, sum) in sums {
+        if sum_of(lists, *object) != *sum {
+            return false;
+        }
+    }
+    match is_table(alloc, lists) {
+        Ok(is_table) => is_table,
+        Err(_) => false,
+    }
+}
+
+/// Whether this is told of a row's answer.
+fn is_so(alloc: Global, row: &Row) -> bool {
+    let ((query, lists), count, accesses, k, answer, told) = *row;
+    let question = Question {
+        query,
+        lists,
+        count,
+        accesses,
+        k,
+        answer,
+    };
+    let Some(judged) = verdict_of(alloc, &question) else {
+        return false;
+    };
+    let is_so = judged.told == told;
+    drop(judged);
+    is_so
+}
+
+/// The number of the first row of whose answer something else is told.
+fn first_wrong(alloc: Global, rows: &[Row]) -> Option<usize> {
+    for (number, row) in rows.iter().enumerate() {
+        if !is_so(alloc, row) {
+            return Some(number);
+        }
+    }
+    None
+}
+
+/// Two lists by sum.
+const SUM: Asked = (b"top 1 by sum(A,B) using ta", 2);
+
+/// A whole run of the threshold algorithm.
+const RUN: [Access; 7] = [
+    sorted_row!(0, 1, 900),
+    sorted_row!(1, 2, 700),
+    random_row!(1, 1, 500),
+    random_row!(0, 2, 800),
+    sorted_row!(0, 2, 800),
+    sorted_row!(1, 3, 600),
+    random_row!(0, 3, 100),
+];
+
+/// Its first depth.
+const FIRST: [Access; 4] = [
+    sorted_row!(0, 1, 900),
+    sorted_row!(1, 2, 700),
+    random_row!(1, 1, 500),
+    random_row!(0, 2, 800),
+];
+
+/// The rows of its first depth.
+const ROWS: [Access; 2] = [sorted_row!(0, 1, 900), sorted_row!(1, 2, 700)];
+
+/// The two of the runs that are beaten.
+static COUNTERED: [Countered; 2] = [
+    (3, &FIRST, &[(2, 1500), (0, 1600), (1, 1400)]),
+    (2, &ROWS, &[(2, 700), (1, 1600)]),
+];
+
+/// Whether what beats object 2 is a table that gives objects these sums.
+fn is_countered(alloc: Global, row: &Countered) -> bool {
+    let (query, lists) = SUM;
+    let (count, accesses, sums) = *row;
+    let question = Question {
+        query,
+        lists,
+        count,
+        accesses,
+        k: 1,
+        answer: &[2],
+    };
+    let Some(judged) = verdict_of(alloc, &question) else {
+        return false;
+    };
+    let is_so = has_sums(alloc, &judged.against, sums);
+    drop(judged);
+    is_so
+}
+
+/// The number of the first row that is countered otherwise.
+fn first_uncountered(alloc: Global, rows: &[Countered]) -> Option<usize> {
+    for (number, row) in rows.iter().enumerate() {
+        if !is_countered(alloc, row) {
+            return Some(number);
+        }
+    }
+    None
+}
+
+/// Three objects of one grade in the first of two lists.
+const NINES: &[Access] = &[
+    sorted_row!(0, 5, 9),
+    sorted_row!(0, 4, 9),
+    sorted_row!(0, 3, 9),
+];
+
+/// An object with one grade of 9 is beaten by another one.
+macro_rules! beaten {
+    ($inside:expr, $outside:expr) => {
+        Ok(Verdict::Beaten {
+            inside: $inside,
+            outside: $outside,
+            low: 9,
+            high: 1_000_009,
+        })
+    };
+}
+
+/// One list.
+const ONE: Asked = (b"top 1 by A using ta", 1);
+
+const TAME: &[Access] = &[sorted_row!(0, 9, 0)];
+
+const WILD: &[Access] = &[sorted_row!(0, 9, 0), random_row!(0, 8, 0)];
+
+const WILD_AT_ONCE: &[Access] = &[random_row!(0, 9, 0), sorted_row!(0, 9, 0)];
+
+/// The greatest aggregates of 64 bits.
+const GREATEST: Asked = (
+    b"top 1 by sum(wsum(4611686018427*A),wsum(4611686018427*B)) using ta",
+    2,
+);
+
+/// What is told of answers.
+static JUDGED: [Row; 21] = [
+    // The run, and the same without its last accesses: beaten by an unseen object, fixed where there is none, and beaten by an object
+    // that was seen.
+    (SUM, 3, &RUN, 1, &[2], Ok(Verdict::Fixes)),
+    (
+        SUM,
+        3,
+        &FIRST,
+        1,
+        &[2],
+        Ok(Verdict::Beaten {
+            inside: 2,
+            outside: 0,
+            low: 1500,
+            high: 1600,
+        }),
+    ),
+    (SUM, 2, &FIRST, 1, &[2], Ok(Verdict::Fixes)),
+    (
+        SUM,
+        2,
+        &ROWS,
+        1,
+        &[2],
+        Ok(Verdict::Beaten {
+            inside: 2,
+            outside: 1,
+            low: 700,
+            high: 1600,
+        }),
+    ),
+    // Of equal lows inside, and of equal highs outside, the object of the smallest id is named.
+    (SUM, 4, NINES, 1, &[5], beaten!(5, 0)),
+    (SUM, 4, NINES, 2, &[5, 4], beaten!(4, 0)),
+    (SUM, 3, NINES, 1, &[5], beaten!(5, 3)),
+    (SUM, 3, NINES, 1, &[3], beaten!(3, 4)),
+    // Each fault, and the first of two.
+    (ONE, 1, TAME, 1, &[9], Ok(Verdict::Fixes)),
+    (
+        ONE,
+        1,
+        &[],
+        1,
+        &[9],
+        Err(JudgeFault::UnseenAnswer { object: 9 }),
+    ),
+    (
+        ONE,
+        1,
+        TAME,
+        1,
+        &[9, 9],
+        Err(JudgeFault::WrongSize { given: 2, k: 1 }),
+    ),
+    (
+        ONE,
+        1,
+        TAME,
+        2,
+        &[9, 9],
+        Err(JudgeFault::WrongSize { given: 2, k: 2 }),
+    ),
+    (
+        ONE,
+        2,
+        &[],
+        2,
+        &[7, 7],
+        Err(JudgeFault::WrongSize { given: 2, k: 2 }),
+    ),
+    (
+        ONE,
+        1,
+        TAME,
+        2,
+        &[9],
+        Err(JudgeFault::WrongSize { given: 1, k: 2 }),
+    ),
+    (
+        ONE,
+        1,
+        TAME,
+        2,
+        &[9, 3],
+        Err(JudgeFault::UnseenAnswer { object: 3 }),
+    ),
+    (
+        ONE,
+        3,
+        TAME,
+        3,
+        &[4, 9, 3],
+        Err(JudgeFault::UnseenAnswer { object: 4 }),
+    ),
+    (
+        ONE,
+        3,
+        WILD,
+        3,
+        &[4, 4, 9],
+        Err(JudgeFault::WildGuess { at: 2 }),
+    ),
+    (
+        ONE,
+        3,
+        WILD_AT_ONCE,
+        1,
+        &[9],
+        Err(JudgeFault::WildGuess { at: 1 }),
+    ),
+    (ONE, 3, TAME, 0, &[], Ok(Verdict::Fixes)),
+    (ONE, 3, TAME, 1, &[9], Ok(Verdict::Fixes)),
+    (
+        GREATEST,
+        2,
+        &[sorted_row!(0, 1, 1_000_000), sorted_row!(1, 2, 1_000_000)],
+        1,
+        &[1],
+        Ok(Verdict::Beaten {
+            inside: 1,
+            outside: 2,
+            low: 4_611_686_018_427_000_000,
+            high: 9_223_372_036_854_000_000,
+        }),
+    ),
+];
+
+/// A run and its beginnings, ties, each fault, and the greatest aggregates. What beats an answer is a table: the object inside has its
+/// low there, and each other object its high.
+#[test]
+fn judges_each_row(rt: HostRuntime) {
+    none_is_wrong(&rt, first_wrong(rt.alloc(), &JUDGED));
+    none_is_wrong(&rt, first_uncountered(rt.alloc(), &COUNTERED));
+}

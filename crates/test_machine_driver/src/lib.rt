@@ -1,0 +1,6 @@
+//! One driver for the machines of all algorithms, over lists that a test gives, which need be no table.
+#![tactic(auto)]
+
+mod driver;
+
+pub use driver::{NoAnswer, let_go, run};

@@ -1,0 +1,8 @@
+//! Ranked lists in memory behind calls that fail on demand: a source of rows, and the shelf of texts and sources.
+#![tactic(auto)]
+
+mod mem_shelf;
+mod source_in_memory;
+
+pub use mem_shelf::MemShelf;
+pub use source_in_memory::MemSource;

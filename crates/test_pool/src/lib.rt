@@ -1,0 +1,14 @@
+//! Tests of a pool of one source: on one thread, looks through two passes and the turns of its fetcher; and a fetcher and a reader on threads
+//! of their own that really run.
+#![tactic(auto)]
+
+#[cfg(test)]
+mod beside;
+#[cfg(test)]
+mod fetched;
+#[cfg(test)]
+mod shared;
+#[cfg(test)]
+mod sides;
+#[cfg(test)]
+mod slow;

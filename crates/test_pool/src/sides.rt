@@ -1,0 +1,143 @@
+//! The two sides of a run over one source.
+
+ghost use Rattle.std.specs.Prelude.{◌≡◌, ◌≤◌, ◌<◌, ◌+◌, None, length};
+ghost use Rattle.source_pool.specs.Passes.{IsIdleOf};
+ghost use Rattle.test_pool.specs.Reading.{IsReader};
+
+use fetcher::{Fetched, Slot, Stop, fetch_loop};
+use ranked_list::Need;
+use source_api::Source;
+use source_pool::{Feeder, Pool, PoolPass};
+use source_state::Look;
+use std::alloc::Global;
+use std::sync::Wait;
+use std::sync::atomic::{AtomicU64, Ordering};
+use std::thread;
+use std::thread::{Threads, join_mut};
+use test_pool_support::only;
+
+/// The fetcher's side: it fetches page by page until the sign is set.
+pub fn fetch_side<S: Source>(
+    rt: &impl Wait,
+    alloc: Global,
+    pool: &Pool,
+    feeder: &mut Feeder,
+    source: &mut S,
+    fetched: &mut Fetched,
+    stop: &Stop,
+)
+    requires { IsIdleOf pool.now feeder.old }
+    ensures { IsIdleOf pool.now feeder.new }
+{
+    *fetched = fetch_loop(rt, alloc, pool, feeder, source, 1, 0, stop);
+}
+
+/// Looks for a row until it is there or can't be had, and counts the looks.
+fn wait_for(
+    rt: &impl Wait,
+    pool: &Pool,
+    pass: &mut PoolPass,
+    count: u32,
+    depth: u32,
+    looks: &AtomicU64,
+) -> Look
+    requires reader { IsReader pool.now count pass.old }
+    requires depth { (1 ≤ depth) × (depth ≤ count) }
+    ensures { IsReader pool.now count pass.new }
+{
+    for _ in rt.forever() {
+        let look = pool.look(rt, pass, 0, Need::Row { list: 0, depth });
+        looks.fetch_add(1, Ordering::SeqCst);
+        if look != Look::NotYet {
+            return look;
+        }
+        thread::yield_now();
+    }
+    unreachable!()
+}
+
+/// The reader's side: it reads the rows from the top, adds their grades up, and sets the sign.
+pub fn read_side(
+    rt: &impl Wait,
+    pool: &Pool,
+    pass: &mut PoolPass,
+    count: u32,
+    sum: &mut u32,
+    looks: &AtomicU64,
+    stop: &Stop,
+)
+    requires { IsReader pool.now count pass.old }
+    ensures { IsReader pool.now count pass.new }
+{
+    for place in 0..count {
+        if let Look::Row(row) = wait_for(rt, pool, pass, count, place + 1, looks) {
+            *sum = sum.saturating_add(row.grade);
+        }
+    }
+    stop.set(pool);
+}
+
+/// A fetcher and a reader of a list of `count` rows at the same time: the sum of the grades that were read, and what was fetched.
+pub fn read_beside<R: Threads + Wait + Sync, S: Source>(
+    rt: &R,
+    alloc: Global,
+    source: S,
+    count: u32,
+    looks: &AtomicU64,
+) -> Option<(u32, Fetched)>
+    requires { count ≤ 200000 }
+{
+    let Ok((pool, mut pass, feeders)) = Pool::open(alloc, &[count]) else {
+        return None;
+    };
+    let mut feeder = only(feeders)?;
+    let mut slot = Slot::make(source);
+    let stop = Stop::make();
+    let mut sum: u32 = 0;
+    run_both(
+        rt,
+        alloc,
+        &pool,
+        &mut pass,
+        &mut feeder,
+        &mut slot,
+        count,
+        &mut sum,
+        looks,
+        &stop,
+    );
+    let fetched = slot.fetched;
+    drop(slot.into_source());
+    Some((sum, fetched))
+}
+
+/// Both sides, each in a thread of its own.
+fn run_both<R: Threads + Wait + Sync, S: Source>(
+    rt: &R,
+    alloc: Global,
+    pool: &Pool,
+    pass: &mut PoolPass,
+    feeder: &mut Feeder,
+    slot: &mut Slot<S>,
+    count: u32,
+    sum: &mut u32,
+    looks: &AtomicU64,
+    stop: &Stop,
+)
+    requires feeder { IsIdleOf pool.now feeder.old }
+    requires reader { IsReader pool.now count pass.old }
+    requires empty { slot.old.feeder ≡ None }
+    ensures { slot.new.feeder ≡ None }
+{
+    let source = &mut slot.source;
+    let fetched = &mut slot.fetched;
+    join_mut(
+        rt,
+        &mut ||
+            requires { IsIdleOf pool.now feeder.now }
+        { fetch_side(rt, alloc, pool, feeder, source, fetched, stop) },
+        &mut ||
+            requires { IsReader pool.now count pass.now }
+        { read_side(rt, pool, pass, count, sum, looks, stop) },
+    );
+}

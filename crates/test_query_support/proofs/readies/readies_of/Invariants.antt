@@ -1,0 +1,7 @@
+use Rattle.std.proofs.Common.{All}
+use Rattle.query_turns.specs.Made.{IsReadyFor}
+use Rattle.test_query_support.proofs.readies.readies_of.Given as goal
+
+-- the queries so far are ready
+abbrev pub invariant-loop-one : goal.invariant-loop-one
+invariant-loop-one l = All (IsReadyFor l.counts) l.readies.items

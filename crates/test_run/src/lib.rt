@@ -1,0 +1,28 @@
+//! Tests of the command `run` over catalogs and sources in memory: rows that were worked out by hand, and each fault in turn.
+#![tactic(auto)]
+
+#[cfg(test)]
+mod answers;
+#[cfg(test)]
+mod cases;
+#[cfg(test)]
+mod catalogs;
+#[cfg(test)]
+mod drives;
+#[cfg(test)]
+mod fault_cases;
+#[cfg(test)]
+mod faults;
+#[cfg(test)]
+mod outcomes;
+#[cfg(test)]
+mod refusals;
+
+#[cfg(test)]
+use std::process::Abort;
+
+/// Every run of a table goes as it says: there is no first one that doesn't.
+#[cfg(test)]
+fn none_is_wrong(rt: &impl Abort, first_wrong: Option<usize>) {
+    assert_eq!(rt; first_wrong, None);
+}

@@ -1,2 +1,0 @@
--- Lemmas on the grades of a list that is told.
-pub mod Grading

@@ -1,8 +1,0 @@
-use Rattle.std.proofs.Common.{◌≡◌, ℕ, drop}
-use Rattle.object_map.specs.Values.{value_of}
-use Rattle.topk_theory.specs.Bounds.{grade_among}
-use Rattle.told_run.proofs.told.put_all.Given as goal
-
--- the grades of the rows from this place down
-abbrev pub invariant-loop-place : goal.invariant-loop-place
-invariant-loop-place l = (object : ℕ) → value_of l.grades object ≡ grade_among (drop l.place l.rows) object

@@ -1,2 +1,0 @@
--- What is kept of a list that is told.
-pub mod Grades

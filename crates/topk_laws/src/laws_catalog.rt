@@ -1,0 +1,59 @@
+//! Laws of runs of query lines.
+
+ghost use Rattle.std.specs.Prelude.{◌<◌, ℕ, List, All, length};
+ghost use Rattle.query_turns.specs.Causes.{IsRefusedForCause};
+ghost use Rattle.batch_result.specs.Batches.{size_at};
+ghost use Rattle.batch_result.specs.Numbered.{counts_at};
+ghost use Rattle.catalog_open.specs.Openings.{put_back, used_at};
+ghost use Rattle.query_admission.specs.declared.line_outcome.LineOutcome.{LineOutcome as AnyOutcome};
+ghost use Rattle.catalog_run.specs.Runs.{CatalogRun, IsRun};
+ghost use Rattle.topk_laws.specs.Told.{AllBecome, ShelfTellsTables, view_told};
+ghost use Rattle.topk_laws.specs.Answers.{IsOneOverTold, IsRightLine};
+ghost use Rattle.topk_laws.specs.Failures.{HasFailure, RefusesFew};
+ghost use Rattle.topk_laws.specs.Giving.{GaveWhatIsAsked, RoseByGiven};
+
+use batch_result::queries_are_on_their_runs;
+
+/// Where the sources that the lines want tell their lists, the lists of each line that nothing refuses before it runs form a table, and
+/// nothing fails, each line comes to the one outcome that it has over these lists: it is refused for the first of the causes that holds,
+/// or answered by the one answer of its query. The settings don't change it.
+pub fn told_tables_give_the_one_outcome()
+    ensures { (r : CatalogRun) (outcomes : List AnyOutcome) → IsRun r outcomes → ShelfTellsTables r
+        → AllBecome (view_told r.catalog r.lists) 1 r.lines outcomes }
+{
+    queries_are_on_their_runs();
+}
+
+/// Whatever the sources told, each answer is right for its query: some table agrees with its transcript, and on every table that agrees it
+/// is the one answer. Each query that is refused in running has its cause in what was read of its lists, as it stands at the end.
+pub fn outcomes_are_right()
+    ensures answers { (r : CatalogRun) (outcomes : List AnyOutcome) → IsRun r outcomes → All IsRightLine outcomes }
+    ensures refusals { (r : CatalogRun) (outcomes : List AnyOutcome) → (run : IsRun r outcomes) → All (IsRefusedForCause run.ran.ran.states) run.ran.ran.queries }
+{}
+
+/// Whatever else failed in the run, an answer over lists that the shelf tells, and that form a table, is the one answer over them.
+pub fn answers_over_told_tables_are_the_one()
+    ensures { (r : CatalogRun) (outcomes : List AnyOutcome) → IsRun r outcomes → All (IsOneOverTold r) outcomes }
+{}
+
+/// A line is refused for a list that wasn't opened only where the count behind that rose at the list's place on the shelf while the sources
+/// were opened, and for a list that failed or that was garbled only where it rose there while the lines ran; or it stands at its last value.
+pub fn failed_lists_have_causes()
+    ensures { (r : CatalogRun) (outcomes : List AnyOutcome) → (run : IsRun r outcomes) → All (HasFailure r run.mid) outcomes }
+{}
+
+/// One failure isn't for ever. The lines that are refused because calls of a place's sources failed are no more than the workers times such
+/// calls, and so are those that are refused because calls were answered by garbled data, unless the count of these stands at its last value.
+pub fn failures_refuse_few_lines()
+    ensures { (r : CatalogRun) (outcomes : List AnyOutcome) → IsRun r outcomes → (place : List ℕ) → RefusesFew r outcomes place }
+{}
+
+/// However many the lines, a source gives no row beyond the reach of the greatest depth to which one of them asked, and no more grades than
+/// there are objects whose grades were asked for, from when it is opened until it is put back. What the shelf counts of a place rises by
+/// what the open sources of the place gave, and by no more.
+pub fn sources_give_what_is_asked()
+    ensures sources { (r : CatalogRun) (outcomes : List AnyOutcome) → (run : IsRun r outcomes) → (source : ℕ) → source < length run.sources.places
+        → GaveWhatIsAsked r.settings run.ran.ran.queries source (size_at run.sources.counts source) (counts_at run.now source) }
+    ensures places { (r : CatalogRun) (outcomes : List AnyOutcome) → (run : IsRun r outcomes) → (place : List ℕ)
+        → RoseByGiven (r.before place) (r.after place) (used_at place (put_back r.catalog run.sources.places run.now)) }
+{}
