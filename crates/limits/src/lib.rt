@@ -49,3 +49,33 @@ pub const MAX_SOURCES: u32 = 64;
 
 /// The most query lines that are asked at once.
 pub const MAX_QUERIES: u64 = 64;
+
+/// The most bytes of a list's name. The least is 1.
+pub const MAX_NAME: usize = 32;
+
+/// The most queries that run at the same time. The least is 1.
+pub const MAX_WORKERS: u64 = 32;
+
+/// The most rows of a page. The least is 1.
+pub const MAX_PAGE: u64 = 10_000;
+
+/// The most pages that are read ahead. The least is 0.
+pub const MAX_AHEAD: u64 = 100;
+
+/// The most bytes of the head of an HTTP message, and of the trailer lines behind a body in chunks.
+pub const MAX_HEAD: u32 = 16_384;
+
+/// The most header lines of the head of an HTTP message, and the most trailer lines.
+pub const MAX_HEADERS: usize = 64;
+
+/// The most bytes of a line that says how long a chunk is.
+pub const MAX_CHUNK_LINE: u32 = 16_384;
+
+/// The most bytes of the body of an HTTP message.
+pub const MAX_BODY: u32 = 16_777_216;
+
+/// How many seconds a read or a write of a connection may wait without moving a byte.
+pub const MAX_WAIT_SECONDS: u64 = 30;
+
+/// How many seconds a connection may take to come about.
+pub const MAX_CONNECT_SECONDS: u64 = 10;

@@ -1,5 +1,6 @@
 -- Lemmas on streams.
 mod Causes
+mod Giving
 pub mod Putting
 mod Reading
 mod Writing

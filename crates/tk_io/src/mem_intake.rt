@@ -65,6 +65,13 @@ impl MemIntake {
             faults: 0,
         })
     }
+
+    /// How many calls failed.
+    pub(crate) fn faults(&self) -> u64
+        ensures { result ≡ self.now.faults }
+    {
+        self.faults
+    }
 }
 
 impl Intake for MemIntake {

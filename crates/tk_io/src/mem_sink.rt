@@ -68,6 +68,20 @@ impl MemSink {
     {
         self.bytes.as_slice()
     }
+
+    /// The bytes that it has taken, and the stream is no more.
+    pub(crate) fn into_taken(self) -> Vec<u8>
+        ensures { result.items ≡ self.held }
+    {
+        self.bytes
+    }
+
+    /// How many calls failed.
+    pub(crate) fn faults(&self) -> u64
+        ensures { result ≡ self.now.faults }
+    {
+        self.faults
+    }
 }
 
 impl Sink for MemSink {

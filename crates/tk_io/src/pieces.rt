@@ -12,7 +12,8 @@ use arrayvec::ArrayVec;
 use itoa::Buffer;
 use std::marker::Model;
 
-/// How many bytes are written at once. Only the last piece of a text may have fewer.
+/// How many bytes are read at once at most, and written at once. Only the last piece of a text that is
+/// written may have fewer.
 pub const PIECE: usize = 8192;
 
 /// A text on its way to a stream, which gets it in pieces of `PIECE` bytes: the bytes that wait until
@@ -50,6 +51,7 @@ impl Pieces {
     pub fn put<K: Sink>(&mut self, out: &mut K, text: &[u8])
         ensures puts { Puts (K.held out.old) (K.held out.new) (K.faults out.old) (K.faults out.new) self.old self.new text.now }
         ensures waits { WaitsWhole PIECE (K.held out.old) (K.held out.new) self.old self.new text.now }
+        ensures apart { K.aside out.new ≡ K.aside out.old }
     {
         if self.failed {
             return;
@@ -70,6 +72,7 @@ impl Pieces {
     pub fn put_number<K: Sink>(&mut self, out: &mut K, number: u64)
         ensures puts { Puts (K.held out.old) (K.held out.new) (K.faults out.old) (K.faults out.new) self.old self.new (decimal number) }
         ensures waits { WaitsWhole PIECE (K.held out.old) (K.held out.new) self.old self.new (decimal number) }
+        ensures apart { K.aside out.new ≡ K.aside out.old }
     {
         let mut digits = Buffer::new();
         self.put(out, digits.format(number).as_bytes());
@@ -77,7 +80,8 @@ impl Pieces {
 
     /// Writes the bytes that wait. It fails where this or an earlier write failed.
     pub fn end<K: Sink>(mut self, out: &mut K) -> Result<(), Failed>
-        ensures { Ends (K.held out.old) (K.held out.new) (K.faults out.old) (K.faults out.new) self result }
+        ensures ends { Ends (K.held out.old) (K.held out.new) (K.faults out.old) (K.faults out.new) self result }
+        ensures apart { K.aside out.new ≡ K.aside out.old }
     {
         if self.failed {
             return Err(Failed);
@@ -104,6 +108,7 @@ fn send<K: Sink>(waiting: &mut ArrayVec<u8, PIECE>, out: &mut K) -> Result<(), F
     ensures empty { OnOk result (waiting.new.items ≡ []) }
     ensures front { OnErr result (TookFront (K.held out.old) (K.held out.new) waiting.old.items) }
     ensures cause { HasCause (K.faults out.old) (K.faults out.new) result }
+    ensures apart { K.aside out.new ≡ K.aside out.old }
 {
     write_text(out, waiting.as_slice())?;
     waiting.clear();

@@ -52,7 +52,7 @@ impl<R: Read + Drop> Intake for StdIntake<R> {
 }
 
 /// Reads once, and again where the call was interrupted.
-fn read_once<R: Read>(reader: &mut R, into: &mut [u8]) -> Result<usize, Failed>
+pub(crate) fn read_once<R: Read>(reader: &mut R, into: &mut [u8]) -> Result<usize, Failed>
     ensures bound { ReadsAtMost result into.new }
     ensures bytes { ReadConsumes (R.remaining reader.old) (R.remaining reader.new) result into.new }
 {

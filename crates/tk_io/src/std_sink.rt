@@ -53,7 +53,7 @@ impl<W: Write + Drop> Sink for StdSink<W> {
 }
 
 /// Writes once, and again where the call was interrupted.
-fn write_once<W: Write>(writer: &mut W, bytes: &[u8]) -> Result<usize, Failed>
+pub(crate) fn write_once<W: Write>(writer: &mut W, bytes: &[u8]) -> Result<usize, Failed>
     ensures bound { WritesAtMost result bytes.now }
     ensures moves { 0 < length bytes.now → IfOk result (λ count. 0 < count) }
     ensures taken { WriteAppends (W.contents writer.old) (W.contents writer.new) result bytes.now }

@@ -5,7 +5,7 @@ ghost use Rattle.std.specs.Io.KnownBytes.{Appends, Consumes, IsAtEnd};
 ghost use Rattle.tk_io.specs.Faults.{HasCause};
 ghost use Rattle.tk_io.specs.Whole.{GaveAll, StopsReading, StopsPiece, TookFront};
 
-use super::{Failed, Intake, Sink};
+use super::{Failed, Intake, PIECE, Sink};
 use std::alloc::Global;
 
 /// Why a stream wasn't read to its end.
@@ -19,9 +19,6 @@ pub enum ReadError {
     Memory,
 }
 
-/// The most bytes that one read is asked for.
-const PIECE: usize = 8192;
-
 /// Reads a stream to its end, of at most `limit` bytes. No more than one byte beyond the limit is
 /// asked for, so a stream that gives more is too long whatever becomes of it. After an error some
 /// bytes may have been read.
@@ -31,6 +28,7 @@ pub fn read_text<R: Intake>(alloc: Global, input: &mut R, limit: u64) -> Result<
     ensures quiet { OnOk result (R.faults input.new ≡ R.faults input.old) }
     ensures stopped { IfErr result (StopsReading limit (R.left input.old) (R.left input.new)
         (R.faults input.old) (R.faults input.new)) }
+    ensures apart { R.aside input.new ≡ R.aside input.old }
 {
     let mut text = Vec::new(alloc);
     while text.len() as u64 <= limit {
@@ -54,7 +52,11 @@ fn asked(limit: u64, count: u64) -> usize
 
 /// Reads once, at most `most` bytes, and puts what came at the end of the text. 0 is the end of the
 /// stream.
-fn read_piece<R: Intake>(input: &mut R, text: &mut Vec<u8>, most: usize) -> Result<usize, ReadError>
+pub fn read_piece<R: Intake>(
+    input: &mut R,
+    text: &mut Vec<u8>,
+    most: usize,
+) -> Result<usize, ReadError>
     requires some { 0 < most }
     requires piece { most ≤ PIECE }
     ensures given { (piece : List ℕ) × Consumes (R.left input.old) (R.left input.new) piece × (length piece ≤ most)
@@ -63,6 +65,7 @@ fn read_piece<R: Intake>(input: &mut R, text: &mut Vec<u8>, most: usize) -> Resu
     ensures counts { R.faults input.old ≤ R.faults input.new }
     ensures stopped { IfErr result (StopsPiece (R.left input.old) (R.left input.new) (R.faults input.old) (R.faults input.new)) }
     ensures quiet { OnOk result (R.faults input.new ≡ R.faults input.old) }
+    ensures apart { R.aside input.new ≡ R.aside input.old }
 {
     let mut piece = [0; PIECE];
     let Ok(count) = input.read(&mut piece[..most]) else {
@@ -79,6 +82,7 @@ pub fn write_text<K: Sink>(out: &mut K, text: &[u8]) -> Result<(), Failed>
     ensures whole { OnOk result (Appends (K.held out.old) (K.held out.new) text.now) }
     ensures front { OnErr result (TookFront (K.held out.old) (K.held out.new) text.now) }
     ensures cause { HasCause (K.faults out.old) (K.faults out.new) result }
+    ensures apart { K.aside out.new ≡ K.aside out.old }
 {
     let mut done = 0;
     while done < text.len() {

@@ -25,6 +25,7 @@ loop-text-init g c = (
   refl,
   subst (λ (text : List ℕ). Consumes (g.R.Intake.left c.args.input.now) (g.R.Intake.left c.args.input.now) text) (sym c.new-text.ensures.items) (Consumes-nil (g.R.Intake.left c.args.input.now)),
   omega (arith, c.new-text.ensures.len),
+  refl,
 )
 
 pub loop-text-preserved : goal.loop-text-preserved
@@ -35,6 +36,7 @@ loop-text-preserved g c =
       c.in_ok-read_piece.ensures.quiet ∙ c.loop-text.invariant.0,
       subst (λ (all : List ℕ). Consumes (g.R.Intake.left c.args.input.now) (g.R.Intake.left c.read_piece.new.input) all) (sym {A = List ℕ} given.3.1) (Consumes-trans _ _ _ text.items given.0 c.loop-text.invariant.1 given.1),
       omega (arith, ap (length {A = ℕ}) given.3.1, length-append text.items given.0, given.2, c.asked-most.ensures.within, now.ok.0, text.ok.0),
+      c.read_piece.ensures.apart ∙ c.loop-text.invariant.3,
     )
 
 pub returns-then-branch-eq0-clause-whole : goal.returns-then-branch-eq0-clause-whole

@@ -8,6 +8,7 @@ invariant-loop-text g l =
     (g.R.Intake.faults l.input ≡ g.R.Intake.faults l.fn.input)
     × Consumes (g.R.Intake.left l.fn.input) (g.R.Intake.left l.input) l.text.items
     × (vec_len l.text ≤ l.limit + 1)
+    × (g.R.Intake.aside l.input ≡ g.R.Intake.aside l.fn.input)
 
 abbrev pub decreases-loop-text : goal.decreases-loop-text
 decreases-loop-text g l = l.limit + 1 - vec_len l.text

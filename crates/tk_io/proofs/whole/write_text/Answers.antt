@@ -15,6 +15,7 @@ loop-done-preserved g c = (
   omega (arith, c.in_ok-done.ensures.bound, length-take (length c.args.text.now - c.loop-done.done) (drop c.loop-done.done c.args.text.now), length-drop c.loop-done.done c.args.text.now),
   c.in_ok-done.ensures.cause.stays ∙ c.loop-done.invariant.1,
   took_more _ _ _ c.args.text.now c.loop-done.done c.in_ok-done.field-0 c.loop-done.invariant.2 c.in_ok-done.ensures.taken,
+  c.in_ok-done.ensures.apart ∙ c.loop-done.invariant.3,
 )
 
 pub returns-clause-whole : goal.returns-clause-whole

@@ -32,16 +32,17 @@ returns-then-is_err-clause-waits g c =
 pub loop-done-preserved : goal.loop-done-preserved
 loop-done-preserved g c =
     let mid : (c.if-is_full.self-inside.failed ≡ false)
-    × Goes 8192 (g.K.Sink.held c.args.out.now) (g.K.Sink.held c.if-is_full.out) (g.K.Sink.faults c.args.out.now) (g.K.Sink.faults c.if-is_full.out) c.self.inside.waiting.items c.if-is_full.self-inside.waiting.items c.args.text.now c.loop-done.done =
+    × Goes 8192 (g.K.Sink.held c.args.out.now) (g.K.Sink.held c.if-is_full.out) (g.K.Sink.faults c.args.out.now) (g.K.Sink.faults c.if-is_full.out) c.self.inside.waiting.items c.if-is_full.self-inside.waiting.items c.args.text.now c.loop-done.done
+    × (g.K.Sink.aside c.if-is_full.out ≡ g.K.Sink.aside c.args.out.now) =
     elim c.if-is_full.branch [
       | then-is_full+else-is_err w ↦
           let sent = sent_is _ _ _ _ _ _ w.send.result (sym w.is_err.ensures.value ∙ w.if-is_err.false) w.send.ensures.whole w.send.ensures.empty w.send.ensures.cause in
           let full : length c.loop-done.self-inside.waiting.items ≡ 8192 = eqb-true _ _ (sym c.is_full.ensures.value ∙ w.if-is_full.true) in
-          rw (w.out-is, w.self-inside-is) (c.loop-done.invariant.0, goes_sent 8192 _ _ _ _ _ _ _ _ _ _ c.loop-done.done c.loop-done.invariant.1 full c.loop-done-test.true sent.0 sent.2 sent.1)
+          rw (w.out-is, w.self-inside-is) (c.loop-done.invariant.0, goes_sent 8192 _ _ _ _ _ _ _ _ _ _ c.loop-done.done c.loop-done.invariant.1 full c.loop-done-test.true sent.0 sent.2 sent.1, w.send.ensures.apart ∙ c.loop-done.invariant.2)
       | else-is_full w ↦ rw (w.out-is, w.self-inside-is) c.loop-done.invariant
     ] in
     let counted = c.fill-done.ensures.count in
-    (mid.0, goes_filled 8192 _ _ _ _ _ _ _ _ _ c.loop-done.done c.fill-done.result mid.1 (take_rest c.args.text.now c.loop-done.done) (omega (arith, counted)) c.fill-done.ensures.filled)
+    (mid.0, goes_filled 8192 _ _ _ _ _ _ _ _ _ c.loop-done.done c.fill-done.result mid.1 (take_rest c.args.text.now c.loop-done.done) (omega (arith, counted)) c.fill-done.ensures.filled, mid.2)
 
 pub returns-clause-puts : goal.returns-clause-puts
 returns-clause-puts g c =

@@ -1,0 +1,57 @@
+//! The real links, on this machine: one connection, with bytes in both directions.
+
+use super::holds;
+use std::alloc::Global;
+use std::net::{IpAddr, Ipv4Addr, Net, TcpListener, TcpStream};
+use tk_io::{Dial, Intake, Link, NetDial, NetPort, Port, Sink, read_text, write_text};
+
+/// Whether what one link writes is what the other one reads next.
+fn passes_on<A: Link, B: Link>(from: &mut A, to: &mut B, text: &[u8; 4]) -> bool {
+    let mut piece = [0; 8];
+    write_text(from, text).is_ok() && to.read(&mut piece) == Ok(4) && &piece[..4] == text.as_slice()
+}
+
+/// Whether a port and a dial have one connection, which is read to its end once the dial has closed it.
+fn connects<P: Port, D: Dial>(alloc: Global, port: &mut P, dial: &mut D, number: u16) -> bool {
+    let Ok(mut client) = dial.dial("127.0.0.1", number) else {
+        return false;
+    };
+    let Ok(Some(mut server)) = port.accept() else {
+        dial.hang_up(client);
+        return false;
+    };
+    let asks = passes_on(&mut client, &mut server, b"asks");
+    let says = passes_on(&mut server, &mut client, b"says");
+    let is_sent = write_text(&mut client, b"rest").is_ok();
+    dial.hang_up(client);
+    let is_read = match read_text(alloc, &mut server, 100) {
+        Ok(rest) => rest.as_slice() == b"rest".as_slice(),
+        Err(_) => false,
+    };
+    port.hang_up(server);
+    asks && says && is_sent && is_read
+}
+
+/// Whether a port at a free number is reached by a dial, and no longer once it is gone.
+fn is_reached<R: Net<Listener = TcpListener, Stream = TcpStream> + Copy + Send + Drop>(
+    alloc: Global,
+    net: R,
+) -> bool {
+    let mut port = NetPort::make(net, IpAddr::V4(Ipv4Addr::LOCALHOST));
+    let mut dial = NetDial::make(net);
+    let is_deaf = port.accept().is_err();
+    let listens = port.listen(0).is_ok();
+    let Some(number) = port.number() else {
+        return false;
+    };
+    let connects = connects(alloc, &mut port, &mut dial, number);
+    drop(port);
+    let is_gone = dial.dial("127.0.0.1", number).is_err();
+    drop(dial);
+    is_deaf && listens && connects && is_gone
+}
+
+#[test]
+fn a_connection_goes_both_ways(rt: HostRuntime) {
+    holds(&rt, is_reached(rt.alloc(), &rt));
+}

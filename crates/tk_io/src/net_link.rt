@@ -1,0 +1,112 @@
+//! A connection as a link.
+
+ghost use Rattle.std.specs.Prelude.{◌≡◌, IfSome};
+
+use super::std_intake::read_once;
+use super::std_sink::write_once;
+use super::{Failed, Intake, Link, Sink};
+use limits::MAX_WAIT_SECONDS;
+use std::marker::Model;
+use std::net::TcpStream;
+use std::time::Duration;
+
+/// A connection of std. It tells no bytes: it is the trusted edge. A read or a write that moves nothing
+/// for too long fails. Contracts see it as its two counts of faults.
+#[derive(Drop)]
+pub struct NetLink {
+    stream: TcpStream,
+    read_faults: u64,
+    write_faults: u64,
+}
+
+impl Model for NetLink {
+    ghost use Rattle.tk_io.specs.Outside.{Connection};
+
+    ghost Value = { Connection };
+
+    ghost view = { λ l. record { read_faults = l.read_faults; write_faults = l.write_faults } };
+}
+
+impl NetLink {
+    /// The link of a connection, of which no call failed yet. None where the connection takes no limit on
+    /// how long it waits.
+    pub fn make(stream: TcpStream) -> Option<NetLink>
+        ensures { IfSome result (λ link. link ≡ record { read_faults = 0; write_faults = 0 }) }
+    {
+        if !limits_waits(&stream) {
+            return None;
+        }
+        Some(NetLink {
+            stream,
+            read_faults: 0,
+            write_faults: 0,
+        })
+    }
+
+    /// How many of its reads failed.
+    pub(crate) fn read_faults(&self) -> u64
+        ensures { result ≡ self.now.read_faults }
+    {
+        self.read_faults
+    }
+
+    /// How many of its writes failed.
+    pub(crate) fn write_faults(&self) -> u64
+        ensures { result ≡ self.now.write_faults }
+    {
+        self.write_faults
+    }
+}
+
+/// Limits how long a connection waits in a read and in a write, and tells whether it took the limits.
+fn limits_waits(stream: &TcpStream) -> bool {
+    let limit = Duration::from_secs(MAX_WAIT_SECONDS);
+    stream.set_read_timeout(Some(limit)).is_ok() && stream.set_write_timeout(Some(limit)).is_ok()
+}
+
+impl Intake for NetLink {
+    ghost use Rattle.std.specs.Prelude.{None};
+
+    ghost left = { λ _. None };
+
+    ghost faults = { λ l. l.read_faults };
+
+    ghost aside = { λ l. record { bytes = None; faults = l.write_faults } };
+
+    /// Reads once, and again where the call was interrupted. Any other error is a fault.
+    fn read(&mut self, into: &mut [u8]) -> Result<usize, Failed> {
+        let read = read_once(&mut self.stream, into);
+        if read.is_err() {
+            self.read_faults = self.read_faults.saturating_add(1);
+        }
+        read
+    }
+}
+
+impl Sink for NetLink {
+    ghost use Rattle.std.specs.Prelude.{None};
+
+    ghost held = { λ _. None };
+
+    ghost faults = { λ l. l.write_faults };
+
+    ghost aside = { λ l. record { bytes = None; faults = l.read_faults } };
+
+    /// Writes once, and again where the call was interrupted. Any other error is a fault, and so is a
+    /// write that takes nothing of a piece.
+    fn write(&mut self, bytes: &[u8]) -> Result<usize, Failed> {
+        let written = write_once(&mut self.stream, bytes);
+        if written.is_err() {
+            self.write_faults = self.write_faults.saturating_add(1);
+        }
+        written
+    }
+}
+
+impl Link for NetLink {
+    ghost use Rattle.std.specs.Prelude.{refl};
+
+    ghost reads_apart = { λ _. refl };
+
+    ghost writes_apart = { λ _. refl };
+}
