@@ -1,0 +1,9 @@
+-- Lemmas on messages.
+pub mod ChunkLaws
+mod FindLaws
+mod OnlyLaws
+mod PartLaws
+mod ReplyLaws
+mod StepLaws
+pub mod ToldLaws
+mod WritingLaws

@@ -1,0 +1,26 @@
+use Rattle.std.proofs.Common.{refl, arith}
+use Rattle.std.proofs.lemmas.Result.{err_from_is_err_and}
+use Rattle.wire.specs.Told.{told}
+use Rattle.wire.proofs.StepLaws.{chunk_cut, chunk_open, chunk_taken}
+use Rattle.wire.proofs.chunks.take_chunk.Goals as goal
+
+pub returns-in_err-take_bytes-clause-takes : goal.returns-in_err-take_bytes-clause-takes
+returns-in_err-take_bytes-clause-takes g c =
+    let p = err_from_is_err_and c.from_residual-in_err-take_bytes.result c.from_residual-in_err-take_bytes.ensures.1 in
+    rw (p.1, p.2) (chunk_cut (told c.args.feed.now (g.R.Intake.left c.args.link.now)) (told c.take_line.new.feed (g.R.Intake.left c.take_line.new.link)) (told c.take_bytes.new.feed (g.R.Intake.left c.take_bytes.new.link))
+    c.in_ok-size.size c.in_ok-size.size c.args.body.now.items c.args.body.now.items c.take_bytes.new.body.items _
+    c.in_ok-size.ensures.takes c.if-size-eq0.false refl c.in_err-take_bytes.ensures.takes)
+
+pub returns-in_err-take_line_end-clause-takes : goal.returns-in_err-take_line_end-clause-takes
+returns-in_err-take_line_end-clause-takes g c =
+    let p = err_from_is_err_and c.from_residual-in_err-take_line_end.result c.from_residual-in_err-take_line_end.ensures.1 in
+    rw (p.1, p.2) (chunk_open (told c.args.feed.now (g.R.Intake.left c.args.link.now)) (told c.take_line.new.feed (g.R.Intake.left c.take_line.new.link)) (told c.take_bytes.new.feed (g.R.Intake.left c.take_bytes.new.link)) (told c.take_line_end.new.feed (g.R.Intake.left c.take_line_end.new.link))
+    c.in_ok-size.size c.in_ok-size.size c.args.body.now.items c.args.body.now.items c.take_bytes.new.body.items _
+    c.in_ok-size.ensures.takes c.if-size-eq0.false refl c.in_ok-take_bytes.ensures.takes c.in_err-take_line_end.ensures.takes)
+
+pub returns-clause-takes : goal.returns-clause-takes
+returns-clause-takes g c =
+    chunk_taken (told c.args.feed.now (g.R.Intake.left c.args.link.now)) (told c.take_line.new.feed (g.R.Intake.left c.take_line.new.link)) (told c.take_bytes.new.feed (g.R.Intake.left c.take_bytes.new.link)) (told c.take_line_end.new.feed (g.R.Intake.left c.take_line_end.new.link))
+    c.in_ok-size.size c.in_ok-size.size c.args.body.now.items c.take_bytes.new.body.items
+    c.in_ok-size.ensures.takes c.if-size-eq0.false refl (omega (arith, c.if-size-len.false, c.len.ensures, c.requires, c.args.body.now.ok.0))
+    c.in_ok-take_bytes.ensures.takes c.in_ok-take_line_end.ensures.takes

@@ -1,0 +1,20 @@
+use Rattle.std.proofs.Common.{◌∙◌, arith}
+use Rattle.std.proofs.lemmas.Result.{err_from_is_err_and}
+use Rattle.wire.specs.Told.{told}
+use Rattle.wire.proofs.StepLaws.{chunks_cut, chunks_more, body_grew}
+use Rattle.wire.proofs.chunks.take_chunks.Goals as goal
+
+pub returns-in_err-take_chunk-clause-takes : goal.returns-in_err-take_chunk-clause-takes
+returns-in_err-take_chunk-clause-takes g c =
+    let p = err_from_is_err_and c.from_residual.result c.from_residual.ensures.1 in
+    rw (p.1, p.2) (chunks_cut (told c.args.feed.now (g.R.Intake.left c.args.link.now)) (told c.loop.feed (g.R.Intake.left c.loop.link)) (told c.take_chunk.new.feed (g.R.Intake.left c.take_chunk.new.link)) c.loop.body.items c.take_chunk.new.body.items _ c.loop.invariant.3 c.in_err-take_chunk.ensures.takes)
+
+pub loop-preserved : goal.loop-preserved
+loop-preserved g c =
+    let cut = c.in_ok-take_chunk.ensures.takes in
+    let grew = body_grew (told c.loop.feed (g.R.Intake.left c.loop.link)) (told c.take_chunk.new.feed (g.R.Intake.left c.take_chunk.new.link)) c.loop.body.items c.take_chunk.new.body.items c.in_ok-take_chunk.field-0 cut c.if-branch.true in (
+      c.in_ok-take_chunk.ensures.cause ∙ c.loop.invariant.0,
+      c.in_ok-take_chunk.ensures.apart ∙ c.loop.invariant.1,
+      omega (arith, grew.1, c.take_chunk.new.body.ok.0),
+      chunks_more (told c.args.feed.now (g.R.Intake.left c.args.link.now)) (told c.loop.feed (g.R.Intake.left c.loop.link)) (told c.take_chunk.new.feed (g.R.Intake.left c.take_chunk.new.link)) c.loop.body.items c.take_chunk.new.body.items c.in_ok-take_chunk.field-0 c.loop.invariant.3 cut c.if-branch.true,
+    )

@@ -1,0 +1,14 @@
+use Rattle.std.proofs.Common.{◌≡◌, ◌-◌, ◌≤◌, vec_len}
+use Rattle.wire.specs.Told.{told}
+use Rattle.wire.proofs.StepLaws.{Took}
+use Rattle.wire.proofs.chunks.take_chunks.Given as goal
+
+-- some chunks were taken to the body, and no read failed
+abbrev pub invariant-loop : goal.invariant-loop
+invariant-loop g l =
+    (g.R.Intake.faults l.link ≡ g.R.Intake.faults l.fn.link) × (g.R.Intake.aside l.link ≡ g.R.Intake.aside l.fn.link)
+    × (vec_len l.body ≤ 16777216)
+    × Took (told l.fn.feed (g.R.Intake.left l.fn.link)) (told l.feed (g.R.Intake.left l.link)) l.body.items
+
+abbrev pub decreases-loop : goal.decreases-loop
+decreases-loop g l = 16777217 - vec_len l.body

@@ -1,0 +1,10 @@
+use Rattle.std.proofs.Common.{refl, inl}
+use Rattle.wire.specs.Bodies.{AreTrailers, print_trailers, PassesTrailers}
+use Rattle.wire.specs.Steps.{SaysNothing}
+use Rattle.wire.proofs.PartLaws.{takes_beyond}
+use Rattle.wire.proofs.chunks.take_trailers.Goals as goal
+
+pub returns-then-came-clause-takes : goal.returns-then-came-clause-takes
+returns-then-came-clause-takes g c =
+    takes_beyond AreTrailers print_trailers SaysNothing PassesTrailers 16384 _ _ _ _ _ _ c.in_ok-found.field-0 (λ bytes passes. inl (refl, passes))
+    c.loop-found.invariant.0 c.came.ensures c.in_ok-found.ensures c.in-None.is c.came-in-loop-found.ensures c.if-came.true

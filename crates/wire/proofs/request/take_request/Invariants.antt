@@ -1,0 +1,12 @@
+use Rattle.std.proofs.Common.{◌≡◌, ◌-◌, length}
+use Rattle.wire.specs.Told.{SameTold}
+use Rattle.wire.proofs.request.take_request.Given as goal
+
+-- nothing was taken yet, and no read failed
+abbrev pub invariant-loop-found : goal.invariant-loop-found
+invariant-loop-found g l =
+    SameTold l.fn.feed (g.R.Intake.left l.fn.link) l.feed (g.R.Intake.left l.link)
+    × (g.R.Intake.faults l.link ≡ g.R.Intake.faults l.fn.link) × (g.R.Intake.aside l.link ≡ g.R.Intake.aside l.fn.link)
+
+abbrev pub decreases-loop-found : goal.decreases-loop-found
+decreases-loop-found g l = 16385 - length l.feed

@@ -1,0 +1,16 @@
+use Rattle.std.proofs.Common.{sym, ◌∙◌}
+use Rattle.wire.specs.Told.{told}
+use Rattle.wire.proofs.ReplyLaws.{start_interim, start_unframed, body_cut}
+use Rattle.wire.proofs.response.read_into.Goals as goal
+
+pub returns-then-is_interim-clause-answers : goal.returns-then-is_interim-clause-answers
+returns-then-is_interim-clause-answers g c =
+    start_interim (told c.args.feed.now (g.R.Intake.left c.args.link.now)) (told c.take_start.new.feed (g.R.Intake.left c.take_start.new.link)) c.in_ok-start.start c.in_ok-start.ensures.takes (sym c.is_interim.ensures ∙ c.if-is_interim.true)
+
+pub returns-in_default-clause-answers : goal.returns-in_default-clause-answers
+returns-in_default-clause-answers g c =
+    start_unframed (told c.args.feed.now (g.R.Intake.left c.args.link.now)) (told c.take_start.new.feed (g.R.Intake.left c.take_start.new.link)) c.in_ok-start.start c.in_ok-start.ensures.takes c.if-start-ne-OK.false c.in_default.is
+
+pub returns-in-Err-clause-answers : goal.returns-in-Err-clause-answers
+returns-in-Err-clause-answers g c =
+    body_cut (told c.args.feed.now (g.R.Intake.left c.args.link.now)) (told c.take_start.new.feed (g.R.Intake.left c.take_start.new.link)) c.in_ok-start.start c.in-Some.framing c.take_body.new.body.items c.in-Err.fault c.in_ok-start.ensures.takes c.if-start-ne-OK.false c.in-Some.is c.in-Err.ensures.answers

@@ -1,0 +1,20 @@
+use Rattle.std.proofs.lemmas.Result.{err_from_is_err_and}
+use Rattle.wire.specs.Told.{told}
+use Rattle.wire.proofs.StepLaws.{chunked_cut, trailers_cut, chunked_taken}
+use Rattle.wire.proofs.response.take_chunked.Goals as goal
+
+pub returns-in_err-take_chunks-clause-answers : goal.returns-in_err-take_chunks-clause-answers
+returns-in_err-take_chunks-clause-answers g c =
+    let p = err_from_is_err_and c.from_residual.result c.from_residual.ensures.1 in
+    rw (p.1, p.2) (chunked_cut (told c.args.feed.now (g.R.Intake.left c.args.link.now)) (told c.take_chunks.new.feed (g.R.Intake.left c.take_chunks.new.link)) c.take_chunks.new.body.items _ c.in_err-take_chunks.ensures.takes)
+
+pub returns-in_err-take_trailers-clause-answers : goal.returns-in_err-take_trailers-clause-answers
+returns-in_err-take_trailers-clause-answers g c =
+    let p = err_from_is_err_and c.from_residual-in_err-take_trailers.result c.from_residual-in_err-take_trailers.ensures.1 in
+    rw (p.1, p.2) (trailers_cut (told c.args.feed.now (g.R.Intake.left c.args.link.now)) (told c.take_chunks.new.feed (g.R.Intake.left c.take_chunks.new.link)) (told c.take_trailers.new.feed (g.R.Intake.left c.take_trailers.new.link)) c.take_chunks.new.body.items _
+    c.in_ok-take_chunks.ensures.takes c.in_err-take_trailers.ensures.takes)
+
+pub returns-clause-answers : goal.returns-clause-answers
+returns-clause-answers g c =
+    chunked_taken (told c.args.feed.now (g.R.Intake.left c.args.link.now)) (told c.take_chunks.new.feed (g.R.Intake.left c.take_chunks.new.link)) (told c.take_trailers.new.feed (g.R.Intake.left c.take_trailers.new.link)) c.take_chunks.new.body.items
+    c.in_ok-take_chunks.ensures.takes c.in_ok-take_trailers.ensures.takes

@@ -1,0 +1,11 @@
+use Rattle.std.proofs.Common.{arith}
+use Rattle.wire.specs.Told.{told}
+use Rattle.wire.proofs.StepLaws.{rest_ended}
+use Rattle.wire.proofs.response.take_rest.Goals as goal
+
+pub returns-then-branch-eq0-clause-answers : goal.returns-then-branch-eq0-clause-answers
+returns-then-branch-eq0-clause-answers g c =
+    let pulled = c.in_ok-pull.ensures.pulled in
+    rest_ended (told c.args.feed.now (g.R.Intake.left c.args.link.now)) (told c.loop-body.feed (g.R.Intake.left c.loop-body.link)) (told c.pull.new.self (g.R.Intake.left c.pull.new.link)) c.loop-body.body.items c.pull.new.text.items c.in_ok-pull.field-0
+    c.loop-body.invariant.2 (pulled.0, pulled.1, pulled.2, pulled.3, omega (arith, c.if-branch-eq0.true)) c.if-branch-eq0.true (c.in_ok-pull.ensures.ended c.if-branch-eq0.true)
+    (omega (arith, c.loop-body-test.true, c.len.ensures, c.loop-body.body.ok.0))

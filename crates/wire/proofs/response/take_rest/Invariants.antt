@@ -1,0 +1,13 @@
+use Rattle.std.proofs.Common.{◌≡◌, ◌-◌, vec_len}
+use Rattle.std.specs.Io.KnownBytes.{Consumes}
+use Rattle.wire.specs.Told.{told}
+use Rattle.wire.proofs.response.take_rest.Given as goal
+
+-- the body so far was taken, and no read failed
+abbrev pub invariant-loop-body : goal.invariant-loop-body
+invariant-loop-body g l =
+    (g.R.Intake.faults l.link ≡ g.R.Intake.faults l.fn.link) × (g.R.Intake.aside l.link ≡ g.R.Intake.aside l.fn.link)
+    × Consumes (told l.fn.feed (g.R.Intake.left l.fn.link)) (told l.feed (g.R.Intake.left l.link)) l.body.items
+
+abbrev pub decreases-loop-body : goal.decreases-loop-body
+decreases-loop-body g l = 16777217 - vec_len l.body

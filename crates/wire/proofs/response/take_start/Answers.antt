@@ -1,0 +1,11 @@
+use Rattle.std.proofs.Common.{refl, inl}
+use Rattle.httparse.specs.Grammar.{IsResponseHead, print_response}
+use Rattle.wire.specs.Steps.{SaysResponse}
+use Rattle.wire.specs.Responses.{PassesHead}
+use Rattle.wire.proofs.PartLaws.{takes_beyond}
+use Rattle.wire.proofs.response.take_start.Goals as goal
+
+pub returns-then-came-clause-takes : goal.returns-then-came-clause-takes
+returns-then-came-clause-takes g c =
+    takes_beyond IsResponseHead print_response SaysResponse PassesHead 16384 _ _ _ _ _ _ c.in_ok-found.field-0 (λ bytes passes. inl (refl, passes))
+    c.loop-found.invariant.0 c.came.ensures c.in_ok-found.ensures c.in-None.is c.came-in-loop-found.ensures c.if-came.true

@@ -1,0 +1,10 @@
+-- The words of the contracts.
+pub mod Asking
+pub mod Bodies
+pub mod Heads
+pub mod Parts
+pub mod Responses
+pub mod Steps
+pub mod Told
+pub mod Wording
+pub mod Writing

@@ -1,0 +1,63 @@
+-- The requests and the replies that are written.
+use Rattle.std.specs.Prelude.{ℕ, Bool, List, [], ◌∷◌, ◌++◌, length, codes, decimal, if◌then◌else◌, ◌==◌, Option, Some, None, string_bytes}
+use Rattle.std.specs.List.{flat_map, list_any}
+use Rattle.httparse.specs.Ascii.{crlf_bytes}
+use Rattle.wire.specs.declared.writing.Kind.{Kind}
+use Rattle.wire.specs.declared.writing.Kind.TheVariants.{Text, Json}
+use Rattle.wire.specs.declared.writing.Place.{Place}
+
+-- texts, one behind another
+abbrev pub joined : List (List ℕ) → List ℕ
+joined texts = flat_map (λ text. text) texts
+
+-- the request to a host's port for a path with this tail
+abbrev pub asking_text : List ℕ → ℕ → List ℕ → List ℕ → List ℕ
+asking_text host port path tail =
+    joined (codes "GET " ∷ path ∷ tail ∷ codes " HTTP/1.1" ∷ crlf_bytes
+    ∷ codes "Host: " ∷ host ∷ codes ":" ∷ decimal port ∷ crlf_bytes
+    ∷ codes "Connection: close" ∷ crlf_bytes ∷ crlf_bytes ∷ [])
+
+-- the request for a path of a place with this tail
+abbrev pub request_text : Place → List ℕ → List ℕ
+request_text place tail = asking_text (string_bytes place.host) place.port (string_bytes place.path) tail
+
+-- the statuses of the replies that are written
+abbrev pub has_reason : ℕ → Bool
+has_reason status = list_any (λ known. known == status) (200 ∷ 400 ∷ 404 ∷ 405 ∷ 431 ∷ 500 ∷ 503 ∷ [])
+
+-- the reason of a status
+abbrev pub reason_of : ℕ → List ℕ
+reason_of status =
+    if status == 200 then codes "OK"
+    else if status == 400 then codes "Bad Request"
+    else if status == 404 then codes "Not Found"
+    else if status == 405 then codes "Method Not Allowed"
+    else if status == 431 then codes "Request Header Fields Too Large"
+    else if status == 500 then codes "Internal Server Error"
+    else codes "Service Unavailable"
+
+-- the type of a body
+abbrev pub type_of : Kind → List ℕ
+type_of Text = codes "text/plain"
+type_of Json = codes "application/json"
+
+-- the line that says which method is allowed, with status 405 alone
+abbrev pub allow_line : ℕ → List ℕ
+allow_line status = if status == 405 then codes "Allow: GET" ++ crlf_bytes else []
+
+-- the parts of the line that says how long the body is, where there is one
+abbrev pub length_parts : Option (List ℕ) → List (List ℕ)
+length_parts None = []
+length_parts (Some body) = codes "Content-Length: " ∷ decimal (length body) ∷ crlf_bytes ∷ []
+
+-- the bytes of the body, where there is one
+abbrev pub body_parts : Option (List ℕ) → List (List ℕ)
+body_parts None = []
+body_parts (Some body) = body ∷ []
+
+-- the reply of a status with a body of this kind, or with none
+abbrev pub reply_text : ℕ → Kind → Option (List ℕ) → List ℕ
+reply_text status kind body =
+    joined (codes "HTTP/1.1 " ∷ decimal status ∷ codes " " ∷ reason_of status ∷ crlf_bytes
+    ∷ codes "Content-Type: " ∷ type_of kind ∷ crlf_bytes ∷ allow_line status
+    ∷ (length_parts body ++ (codes "Connection: close" ∷ crlf_bytes ∷ crlf_bytes ∷ body_parts body)))

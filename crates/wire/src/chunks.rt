@@ -1,0 +1,190 @@
+//! Bodies in chunks.
+
+ghost use Rattle.std.specs.Prelude.{◌≡◌, ◌≤◌, [], length, IfOk};
+ghost use Rattle.httparse.specs.Ascii.{crlf_bytes};
+ghost use Rattle.httparse.specs.Grammar.{IsChunkLine, print_chunk_line};
+ghost use Rattle.httparse.specs.Spans.{IsSectionOf};
+ghost use Rattle.wire.specs.Bodies.{AreTrailers, print_trailers, PassesLine, PassesTrailers};
+ghost use Rattle.wire.specs.Parts.{Finds, Takes};
+ghost use Rattle.wire.specs.Steps.{SaysSize, SaysNothing, TakesBytes, TakesText, TakesChunk, TakesChunks};
+ghost use Rattle.wire.specs.Told.{told, Counts};
+
+use super::WireFault;
+use super::feed::Feed;
+use super::found::Found;
+use httparse::spans::{EMPTY_HEADER_SPAN, parse_headers};
+use httparse::{Error, Status, parse_chunk_size};
+use limits::{MAX_BODY, MAX_CHUNK_LINE, MAX_HEAD, MAX_HEADERS};
+use tk_io::Intake;
+
+/// Takes all chunks to the body, and the line of the last one.
+pub(crate) fn take_chunks<R: Intake>(
+    link: &mut R,
+    feed: &mut Feed,
+    body: &mut Vec<u8>,
+) -> Result<(), WireFault>
+    requires { body.old.items ≡ [] }
+    ensures takes { TakesChunks (told feed.old (R.left link.old)) (told feed.new (R.left link.new)) body.new.items result }
+    ensures cause { Counts (R.faults link.old) (R.faults link.new) result }
+    ensures apart { R.aside link.new ≡ R.aside link.old }
+{
+    while take_chunk(link, feed, body)? {}
+    Ok(())
+}
+
+/// Takes a chunk to the end of the body, or the line of the last one, and says whether it was a chunk.
+fn take_chunk<R: Intake>(
+    link: &mut R,
+    feed: &mut Feed,
+    body: &mut Vec<u8>,
+) -> Result<bool, WireFault>
+    requires { length body.old.items ≤ MAX_BODY }
+    ensures takes { TakesChunk (told feed.old (R.left link.old)) (told feed.new (R.left link.new)) body.old.items body.new.items result }
+    ensures cause { Counts (R.faults link.old) (R.faults link.new) result }
+    ensures apart { R.aside link.new ≡ R.aside link.old }
+{
+    let size = take_line(link, feed)?;
+    if size == 0 {
+        return Ok(false);
+    }
+    if size > MAX_BODY as u64 - body.len() as u64 {
+        return Err(WireFault::TooLong { limit: MAX_BODY });
+    }
+    take_bytes(link, feed, body, size as usize)?;
+    take_line_end(link, feed)?;
+    Ok(true)
+}
+
+/// Takes the line of a chunk, and says the size that it states.
+fn take_line<R: Intake>(link: &mut R, feed: &mut Feed) -> Result<u64, WireFault>
+    ensures takes { Takes IsChunkLine print_chunk_line SaysSize PassesLine
+        (told feed.old (R.left link.old)) (told feed.new (R.left link.new)) result }
+    ensures cause { Counts (R.faults link.old) (R.faults link.new) result }
+    ensures apart { R.aside link.new ≡ R.aside link.old }
+{
+    loop {
+        match find_line(feed.came())? {
+            Some(found) => {
+                feed.take(found.len);
+                return Ok(found.part);
+            }
+            None => {}
+        }
+        if feed.came().len() > MAX_CHUNK_LINE as usize {
+            return Err(WireFault::TooLong {
+                limit: MAX_CHUNK_LINE,
+            });
+        }
+        if feed.fill(link)? == 0 {
+            return Err(WireFault::BadMessage);
+        }
+    }
+}
+
+/// Finds the line of a chunk at the front of the bytes that came.
+fn find_line(came: &[u8]) -> Result<Option<Found<u64>>, WireFault>
+    ensures { Finds IsChunkLine print_chunk_line SaysSize PassesLine came.now result }
+{
+    match parse_chunk_size(came) {
+        Ok(Status::Complete(found)) => {
+            if found.0 > MAX_CHUNK_LINE as usize {
+                return Err(WireFault::TooLong {
+                    limit: MAX_CHUNK_LINE,
+                });
+            }
+            Ok(Some(Found {
+                len: found.0,
+                part: found.1,
+            }))
+        }
+        Ok(Status::Partial) => Ok(None),
+        Err(_) => Err(WireFault::BadMessage),
+    }
+}
+
+/// Takes so many bytes to the end of the body.
+pub(crate) fn take_bytes<R: Intake>(
+    link: &mut R,
+    feed: &mut Feed,
+    body: &mut Vec<u8>,
+    count: usize,
+) -> Result<(), WireFault>
+    ensures takes { TakesBytes count (told feed.old (R.left link.old)) (told feed.new (R.left link.new)) body.old.items body.new.items result }
+    ensures cause { Counts (R.faults link.old) (R.faults link.new) result }
+    ensures apart { R.aside link.new ≡ R.aside link.old }
+{
+    let mut left = count;
+    while left > 0 {
+        let pulled = feed.pull(link, body, left)?;
+        if pulled == 0 {
+            return Err(WireFault::BadMessage);
+        }
+        left -= pulled;
+    }
+    Ok(())
+}
+
+/// Takes the end of a line, CR and LF.
+fn take_line_end<R: Intake>(link: &mut R, feed: &mut Feed) -> Result<(), WireFault>
+    ensures takes { TakesText crlf_bytes (told feed.old (R.left link.old)) (told feed.new (R.left link.new)) result }
+    ensures cause { Counts (R.faults link.old) (R.faults link.new) result }
+    ensures apart { R.aside link.new ≡ R.aside link.old }
+{
+    while feed.came().len() < 2 {
+        if feed.fill(link)? == 0 {
+            return Err(WireFault::BadMessage);
+        }
+    }
+    if &feed.came()[..2] != b"\r\n".as_slice() {
+        return Err(WireFault::BadMessage);
+    }
+    feed.take(2);
+    Ok(())
+}
+
+/// Takes the trailer lines behind the last chunk, and the empty line that ends them.
+pub(crate) fn take_trailers<R: Intake>(link: &mut R, feed: &mut Feed) -> Result<(), WireFault>
+    ensures takes { Takes AreTrailers print_trailers SaysNothing PassesTrailers
+        (told feed.old (R.left link.old)) (told feed.new (R.left link.new)) result }
+    ensures cause { Counts (R.faults link.old) (R.faults link.new) result }
+    ensures apart { R.aside link.new ≡ R.aside link.old }
+{
+    loop {
+        match find_trailers(feed.came())? {
+            Some(found) => {
+                feed.take(found.len);
+                return Ok(());
+            }
+            None => {}
+        }
+        if feed.came().len() > MAX_HEAD as usize {
+            return Err(WireFault::TooLong { limit: MAX_HEAD });
+        }
+        if feed.fill(link)? == 0 {
+            return Err(WireFault::BadMessage);
+        }
+    }
+}
+
+/// Finds trailer lines at the front of the bytes that came.
+fn find_trailers(came: &[u8]) -> Result<Option<Found<()>>, WireFault>
+    ensures { Finds AreTrailers print_trailers SaysNothing PassesTrailers came.now result }
+{
+    let mut lines = [EMPTY_HEADER_SPAN; MAX_HEADERS];
+    match parse_headers(came, &mut lines) {
+        Ok(Status::Complete(found)) => {
+            if found.0 > MAX_HEAD as usize {
+                return Err(WireFault::TooLong { limit: MAX_HEAD });
+            }
+            Ok(Some(Found {
+                len: found.0,
+                part: (),
+            }))
+        }
+        Ok(Status::Partial) => Ok(None),
+        Err(Error::TooManyHeaders) => Err(WireFault::TooLong {
+            limit: MAX_HEADERS as u32,
+        }),
+        Err(_) => Err(WireFault::BadMessage),
+    }
+}

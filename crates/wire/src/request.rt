@@ -1,0 +1,133 @@
+//! The heads of requests.
+
+ghost use Rattle.std.specs.Prelude.{◌≡◌, ◌≤◌, true, false, IfOk, IfErr, IfSome, length};
+ghost use Rattle.httparse.specs.Grammar.{IsRequestHead, print_request};
+ghost use Rattle.httparse.specs.Spans.{IsRequestWithin, IsRequestOf};
+ghost use Rattle.wire.specs.Asking.{SaysRequest};
+ghost use Rattle.wire.specs.Heads.{AnswersRequest, PassesRequest};
+ghost use Rattle.wire.specs.Parts.{Finds, Takes};
+ghost use Rattle.wire.specs.Told.{told, Counts};
+ghost use Rattle.wire.specs.declared.fault.WireFault.TheVariants.{BadMessage};
+
+use super::WireFault;
+use super::feed::Feed;
+use super::found::Found;
+use super::lines::keeps_host_rule;
+use httparse::spans::{EMPTY_HEADER_SPAN, HeaderSpan, RequestSpans, parse_request};
+use httparse::{Error, Status};
+use limits::{MAX_HEAD, MAX_HEADERS};
+use std::alloc::Global;
+use tk_io::{Intake, Link};
+
+/// The head of a request: its method and its target, as they came.
+#[derive(Drop)]
+pub struct Head {
+    /// The method, a token, as `GET`.
+    pub method: Vec<u8>,
+    /// The target, as `/lists/A/size`.
+    pub target: Vec<u8>,
+}
+
+/// The head of a request, and whether it keeps the rule on Host lines.
+#[derive(Drop)]
+pub(crate) struct Asked {
+    head: Head,
+    has_host: bool,
+}
+
+/// Reads the head of a request. Its body isn't read.
+///
+/// A head that breaks the rule on Host lines is no message: a request of HTTP/1.1 has one such line, a
+/// request of HTTP/1.0 at most one, and its value has only letters, digits and `-._~%!$&'()*+,;=:[]`.
+pub fn read_request<L: Link>(alloc: Global, link: &mut L) -> Result<Head, WireFault>
+    ensures answers { IfSome (L.left link.old) (λ bytes. AnswersRequest bytes result) }
+    ensures cause { Counts (L.Intake.faults link.old) (L.Intake.faults link.new) result }
+    ensures apart { L.Intake.aside link.new ≡ L.Intake.aside link.old }
+    ensures outgoing { (L.held link.new ≡ L.held link.old) × (L.Sink.faults link.new ≡ L.Sink.faults link.old) }
+{
+    let mut feed = Feed::new(alloc);
+    let asked = take_request(alloc, link, &mut feed);
+    drop(feed);
+    match asked {
+        Ok(asked) => with_host(asked),
+        Err(fault) => Err(fault),
+    }
+}
+
+/// The head, where it keeps the rule on Host lines.
+fn with_host(asked: Asked) -> Result<Head, WireFault>
+    ensures kept { IfOk result (λ head. (asked.has_host ≡ true) × (head ≡ asked.head)) }
+    ensures broken { IfErr result (λ fault. (asked.has_host ≡ false) × (fault ≡ BadMessage)) }
+{
+    let Asked { head, has_host } = asked;
+    if has_host {
+        Ok(head)
+    } else {
+        drop(head);
+        Err(WireFault::BadMessage)
+    }
+}
+
+/// Takes the head of a request.
+fn take_request<R: Intake>(alloc: Global, link: &mut R, feed: &mut Feed) -> Result<Asked, WireFault>
+    ensures takes { Takes IsRequestHead print_request SaysRequest PassesRequest
+        (told feed.old (R.left link.old)) (told feed.new (R.left link.new)) result }
+    ensures cause { Counts (R.faults link.old) (R.faults link.new) result }
+    ensures apart { R.aside link.new ≡ R.aside link.old }
+{
+    loop {
+        match find_request(alloc, feed.came())? {
+            Some(found) => {
+                feed.take(found.len);
+                return Ok(found.part);
+            }
+            None => {}
+        }
+        if feed.came().len() > MAX_HEAD as usize {
+            return Err(WireFault::TooLong { limit: MAX_HEAD });
+        }
+        if feed.fill(link)? == 0 {
+            return Err(WireFault::BadMessage);
+        }
+    }
+}
+
+/// Finds the head of a request at the front of the bytes that came.
+fn find_request(alloc: Global, came: &[u8]) -> Result<Option<Found<Asked>>, WireFault>
+    ensures { Finds IsRequestHead print_request SaysRequest PassesRequest came.now result }
+{
+    let mut lines = [EMPTY_HEADER_SPAN; MAX_HEADERS];
+    match parse_request(came, &mut lines) {
+        Ok(Status::Complete(spans)) => request_of(alloc, came, &lines, &spans),
+        Ok(Status::Partial) => Ok(None),
+        Err(Error::TooManyHeaders) => Err(WireFault::TooLong {
+            limit: MAX_HEADERS as u32,
+        }),
+        Err(_) => Err(WireFault::BadMessage),
+    }
+}
+
+/// What the head says that these spans cover.
+fn request_of(
+    alloc: Global,
+    came: &[u8],
+    lines: &[HeaderSpan],
+    spans: &RequestSpans,
+) -> Result<Option<Found<Asked>>, WireFault>
+    requires few { length lines.now ≤ MAX_HEADERS }
+    requires within { IsRequestWithin came.now lines.now spans.now }
+    requires reads { IsRequestOf came.now lines.now spans.now }
+    ensures { Finds IsRequestHead print_request SaysRequest PassesRequest came.now result }
+{
+    if spans.len > MAX_HEAD as usize {
+        return Err(WireFault::TooLong { limit: MAX_HEAD });
+    }
+    let has_host = keeps_host_rule(came, &lines[..spans.headers], spans.version);
+    let method = Vec::from_slice(alloc, spans.method.of(came))?;
+    let target = Vec::from_slice(alloc, spans.path.of(came))?;
+    let head = Head { method, target };
+    Ok(Some(Found {
+        len: spans.len,
+        part: Asked { head, has_host },
+    }))
+}

@@ -1,0 +1,226 @@
+//! Responses.
+
+ghost use Rattle.std.specs.Prelude.{◌≡◌, ◌≤◌, [], IfOk, IfSome, length};
+ghost use Rattle.httparse.specs.Grammar.{IsResponseHead, print_response};
+ghost use Rattle.httparse.specs.Spans.{IsResponseWithin, IsResponseOf};
+ghost use Rattle.wire.specs.Parts.{Finds, Takes};
+ghost use Rattle.wire.specs.Responses.{is_interim, AnswersResponse, PassesHead};
+ghost use Rattle.wire.specs.Steps.{SaysResponse, AnswersBody};
+ghost use Rattle.wire.specs.Told.{told, Counts};
+ghost use Rattle.wire.specs.declared.framing.Framing.TheVariants.{Chunked, Length, ToEnd};
+
+use super::chunks::{take_bytes, take_chunks, take_trailers};
+use super::feed::Feed;
+use super::found::Found;
+use super::framing::framing_of;
+use super::{Framing, WireFault};
+use httparse::spans::{EMPTY_HEADER_SPAN, HeaderSpan, ResponseSpans, parse_response};
+use httparse::{Error, Status};
+use limits::{MAX_BODY, MAX_HEAD, MAX_HEADERS};
+use std::alloc::Global;
+use tk_io::{Intake, Link};
+
+/// A response: its status, and its body where the status is 200.
+#[derive(Drop)]
+pub struct Reply {
+    /// The status, 000 to 999 but for 100 to 199.
+    pub status: u16,
+    /// The body, which is there exactly for the status 200.
+    pub body: Option<Vec<u8>>,
+}
+
+/// What the head of a response says of the body.
+#[derive(Clone, Copy, Debug, PartialEq, Eq)]
+pub(crate) struct Start {
+    status: u16,
+    framing: Option<Framing>,
+}
+
+/// The status of a response that has a body to be read.
+const OK: u16 = 200;
+
+/// Reads a response. The body is read for the status 200 alone. An interim response (100 to 199) is no
+/// message.
+pub fn read_response<L: Link>(alloc: Global, link: &mut L) -> Result<Reply, WireFault>
+    ensures answers { IfSome (L.left link.old) (λ bytes. AnswersResponse bytes result) }
+    ensures cause { Counts (L.Intake.faults link.old) (L.Intake.faults link.new) result }
+    ensures apart { L.Intake.aside link.new ≡ L.Intake.aside link.old }
+    ensures outgoing { (L.held link.new ≡ L.held link.old) × (L.Sink.faults link.new ≡ L.Sink.faults link.old) }
+{
+    let mut feed = Feed::new(alloc);
+    let reply = read_into(alloc, link, &mut feed);
+    drop(feed);
+    reply
+}
+
+/// Reads a response, over what came.
+fn read_into<R: Intake>(alloc: Global, link: &mut R, feed: &mut Feed) -> Result<Reply, WireFault>
+    ensures answers { IfSome (told feed.old (R.left link.old)) (λ bytes. AnswersResponse bytes result) }
+    ensures cause { Counts (R.faults link.old) (R.faults link.new) result }
+    ensures apart { R.aside link.new ≡ R.aside link.old }
+{
+    let start = take_start(link, feed)?;
+    if is_interim(start.status) {
+        return Err(WireFault::BadMessage);
+    }
+    if start.status != OK {
+        return Ok(Reply {
+            status: start.status,
+            body: None,
+        });
+    }
+    let Some(framing) = start.framing else {
+        return Err(WireFault::BadMessage);
+    };
+    let mut body = Vec::new(alloc);
+    match take_body(link, feed, framing, &mut body) {
+        Ok(()) => Ok(Reply {
+            status: OK,
+            body: Some(body),
+        }),
+        Err(fault) => {
+            drop(body);
+            Err(fault)
+        }
+    }
+}
+
+/// Whether a status is that of an interim response.
+fn is_interim(status: u16) -> bool
+    ensures { result ≡ is_interim status }
+{
+    status >= 100 && status <= 199
+}
+
+/// Takes the body by its framing.
+fn take_body<R: Intake>(
+    link: &mut R,
+    feed: &mut Feed,
+    framing: Framing,
+    body: &mut Vec<u8>,
+) -> Result<(), WireFault>
+    requires { body.old.items ≡ [] }
+    ensures answers { IfSome (told feed.old (R.left link.old)) (λ bytes. AnswersBody framing bytes body.new.items result) }
+    ensures cause { Counts (R.faults link.old) (R.faults link.new) result }
+    ensures apart { R.aside link.new ≡ R.aside link.old }
+{
+    match framing {
+        Framing::Chunked => take_chunked(link, feed, body),
+        Framing::Length(count) => take_counted(link, feed, body, count),
+        Framing::ToEnd => take_rest(link, feed, body),
+    }
+}
+
+/// Takes a body in chunks, with the trailer lines behind it.
+fn take_chunked<R: Intake>(
+    link: &mut R,
+    feed: &mut Feed,
+    body: &mut Vec<u8>,
+) -> Result<(), WireFault>
+    requires { body.old.items ≡ [] }
+    ensures answers { IfSome (told feed.old (R.left link.old)) (λ bytes. AnswersBody Chunked bytes body.new.items result) }
+    ensures cause { Counts (R.faults link.old) (R.faults link.new) result }
+    ensures apart { R.aside link.new ≡ R.aside link.old }
+{
+    take_chunks(link, feed, body)?;
+    take_trailers(link, feed)?;
+    Ok(())
+}
+
+/// Takes a body of so many bytes.
+fn take_counted<R: Intake>(
+    link: &mut R,
+    feed: &mut Feed,
+    body: &mut Vec<u8>,
+    count: u64,
+) -> Result<(), WireFault>
+    requires { body.old.items ≡ [] }
+    ensures answers { IfSome (told feed.old (R.left link.old)) (λ bytes. AnswersBody (Length count) bytes body.new.items result) }
+    ensures cause { Counts (R.faults link.old) (R.faults link.new) result }
+    ensures apart { R.aside link.new ≡ R.aside link.old }
+{
+    if count > MAX_BODY as u64 {
+        return Err(WireFault::TooLong { limit: MAX_BODY });
+    }
+    take_bytes(link, feed, body, count as usize)?;
+    Ok(())
+}
+
+/// Takes all that is left as the body.
+fn take_rest<R: Intake>(link: &mut R, feed: &mut Feed, body: &mut Vec<u8>) -> Result<(), WireFault>
+    requires { body.old.items ≡ [] }
+    ensures answers { IfSome (told feed.old (R.left link.old)) (λ bytes. AnswersBody ToEnd bytes body.new.items result) }
+    ensures cause { Counts (R.faults link.old) (R.faults link.new) result }
+    ensures apart { R.aside link.new ≡ R.aside link.old }
+{
+    while body.len() <= MAX_BODY as usize {
+        let most = MAX_BODY as usize + 1 - body.len();
+        if feed.pull(link, body, most)? == 0 {
+            return Ok(());
+        }
+    }
+    Err(WireFault::TooLong { limit: MAX_BODY })
+}
+
+/// Takes the head of a response.
+fn take_start<R: Intake>(link: &mut R, feed: &mut Feed) -> Result<Start, WireFault>
+    ensures takes { Takes IsResponseHead print_response SaysResponse PassesHead
+        (told feed.old (R.left link.old)) (told feed.new (R.left link.new)) result }
+    ensures cause { Counts (R.faults link.old) (R.faults link.new) result }
+    ensures apart { R.aside link.new ≡ R.aside link.old }
+{
+    loop {
+        match find_start(feed.came())? {
+            Some(found) => {
+                feed.take(found.len);
+                return Ok(found.part);
+            }
+            None => {}
+        }
+        if feed.came().len() > MAX_HEAD as usize {
+            return Err(WireFault::TooLong { limit: MAX_HEAD });
+        }
+        if feed.fill(link)? == 0 {
+            return Err(WireFault::BadMessage);
+        }
+    }
+}
+
+/// Finds the head of a response at the front of the bytes that came.
+fn find_start(came: &[u8]) -> Result<Option<Found<Start>>, WireFault>
+    ensures { Finds IsResponseHead print_response SaysResponse PassesHead came.now result }
+{
+    let mut lines = [EMPTY_HEADER_SPAN; MAX_HEADERS];
+    match parse_response(came, &mut lines) {
+        Ok(Status::Complete(spans)) => start_of(came, &lines, &spans),
+        Ok(Status::Partial) => Ok(None),
+        Err(Error::TooManyHeaders) => Err(WireFault::TooLong {
+            limit: MAX_HEADERS as u32,
+        }),
+        Err(_) => Err(WireFault::BadMessage),
+    }
+}
+
+/// What the head says that these spans cover.
+fn start_of(
+    came: &[u8],
+    lines: &[HeaderSpan],
+    spans: &ResponseSpans,
+) -> Result<Option<Found<Start>>, WireFault>
+    requires few { length lines.now ≤ MAX_HEADERS }
+    requires within { IsResponseWithin came.now lines.now spans.now }
+    requires reads { IsResponseOf came.now lines.now spans.now }
+    ensures { Finds IsResponseHead print_response SaysResponse PassesHead came.now result }
+{
+    if spans.len > MAX_HEAD as usize {
+        return Err(WireFault::TooLong { limit: MAX_HEAD });
+    }
+    let framing = framing_of(came, &lines[..spans.headers]);
+    Ok(Some(Found {
+        len: spans.len,
+        part: Start {
+            status: spans.code,
+            framing,
+        },
+    }))
+}

@@ -1,0 +1,223 @@
+//! Requests and replies that are written.
+
+ghost use Rattle.std.specs.Prelude.{◌≡◌, true, map, IfErr, Some, None, option_copied};
+ghost use Rattle.tk_io.specs.Pieces.{Puts, Writes};
+ghost use Rattle.wire.specs.Told.{Counts};
+ghost use Rattle.wire.specs.Wording.{part_text};
+ghost use Rattle.wire.specs.Writing.{joined, asking_text, request_text, reply_text, reason_of, type_of, allow_line, has_reason};
+ghost use Rattle.wire.specs.declared.fault.WireFault.TheVariants.{LinkFault};
+
+use super::WireFault;
+use tk_io::{Link, Pieces, Sink};
+
+/// Where lists are served: a host, its port, and the path before the calls' names.
+#[derive(Drop)]
+pub struct Place {
+    /// The host's name or address.
+    pub host: String,
+    /// The port's number.
+    pub port: u16,
+    /// The path, as `/lists/A`.
+    pub path: String,
+}
+
+/// What a body is.
+#[derive(Clone, Copy, Debug, PartialEq, Eq)]
+pub enum Kind {
+    /// `text/plain`
+    Text,
+    /// `application/json`
+    Json,
+}
+
+/// A part of a text.
+#[derive(Clone, Copy)]
+pub(crate) enum Part<'t> {
+    /// These bytes.
+    Text(&'t [u8]),
+    /// A number in decimal.
+    Number(u64),
+}
+
+/// Writes the request for what stands under the path and the tail. After a failure a front of it was
+/// written. Takes no memory.
+pub fn write_request<L: Link>(link: &mut L, place: &Place, tail: &[u8]) -> Result<(), WireFault>
+    ensures writes { Writes (L.held link.old) (L.held link.new) (L.Sink.faults link.old) (L.Sink.faults link.new) result (request_text place.now tail.now) }
+    ensures fault { IfErr result (λ fault. fault ≡ LinkFault) }
+    ensures apart { L.Sink.aside link.new ≡ L.Sink.aside link.old }
+    ensures incoming { (L.left link.new ≡ L.left link.old) × (L.Intake.faults link.new ≡ L.Intake.faults link.old) }
+{
+    let path = place.path.as_bytes();
+    write_asked(link, place.host.as_bytes(), place.port, path, tail)
+}
+
+/// Writes the request to a host's port for what stands under the path and the tail.
+fn write_asked<'t, K: Sink>(
+    link: &mut K,
+    host: &'t [u8],
+    port: u16,
+    path: &'t [u8],
+    tail: &'t [u8],
+) -> Result<(), WireFault>
+    ensures writes { Writes (K.held link.old) (K.held link.new) (K.faults link.old) (K.faults link.new) result (asking_text host.now port path.now tail.now) }
+    ensures fault { IfErr result (λ fault. fault ≡ LinkFault) }
+    ensures apart { K.aside link.new ≡ K.aside link.old }
+{
+    let parts = [
+        Part::Text(b"GET "),
+        Part::Text(path),
+        Part::Text(tail),
+        Part::Text(b" HTTP/1.1"),
+        Part::Text(b"\r\n"),
+        Part::Text(b"Host: "),
+        Part::Text(host),
+        Part::Text(b":"),
+        Part::Number(port as u64),
+        Part::Text(b"\r\n"),
+        Part::Text(b"Connection: close"),
+        Part::Text(b"\r\n"),
+        Part::Text(b"\r\n"),
+    ];
+    write_parts(link, &parts)
+}
+
+/// Writes the reply of a status, with a body or, as to a request with the method HEAD, without one and
+/// without a line that says its length. After a failure a front of it was written. Takes no memory.
+pub fn write_reply<L: Link>(
+    link: &mut L,
+    status: u16,
+    kind: Kind,
+    body: Option<&[u8]>,
+) -> Result<(), WireFault>
+    requires { has_reason status ≡ true }
+    ensures writes { Writes (L.held link.old) (L.held link.new) (L.Sink.faults link.old) (L.Sink.faults link.new) result (reply_text status kind (option_copied body.entry)) }
+    ensures fault { IfErr result (λ fault. fault ≡ LinkFault) }
+    ensures apart { L.Sink.aside link.new ≡ L.Sink.aside link.old }
+    ensures incoming { (L.left link.new ≡ L.left link.old) × (L.Intake.faults link.new ≡ L.Intake.faults link.old) }
+{
+    match body {
+        Some(body) => write_whole(link, status, kind, body),
+        None => write_head(link, status, kind),
+    }
+}
+
+/// Writes the reply of a status with a body.
+fn write_whole<K: Sink>(link: &mut K, status: u16, kind: Kind, body: &[u8]) -> Result<(), WireFault>
+    ensures writes { Writes (K.held link.old) (K.held link.new) (K.faults link.old) (K.faults link.new) result (reply_text status kind (Some body.now)) }
+    ensures fault { IfErr result (λ fault. fault ≡ LinkFault) }
+    ensures apart { K.aside link.new ≡ K.aside link.old }
+{
+    let parts = [
+        Part::Text(b"HTTP/1.1 "),
+        Part::Number(status as u64),
+        Part::Text(b" "),
+        Part::Text(reason_of(status)),
+        Part::Text(b"\r\n"),
+        Part::Text(b"Content-Type: "),
+        Part::Text(type_of(kind)),
+        Part::Text(b"\r\n"),
+        Part::Text(allow_line(status)),
+        Part::Text(b"Content-Length: "),
+        Part::Number(body.len() as u64),
+        Part::Text(b"\r\n"),
+        Part::Text(b"Connection: close"),
+        Part::Text(b"\r\n"),
+        Part::Text(b"\r\n"),
+        Part::Text(body),
+    ];
+    write_parts(link, &parts)
+}
+
+/// Writes the reply of a status without a body.
+fn write_head<K: Sink>(link: &mut K, status: u16, kind: Kind) -> Result<(), WireFault>
+    ensures writes { Writes (K.held link.old) (K.held link.new) (K.faults link.old) (K.faults link.new) result (reply_text status kind None) }
+    ensures fault { IfErr result (λ fault. fault ≡ LinkFault) }
+    ensures apart { K.aside link.new ≡ K.aside link.old }
+{
+    let parts = [
+        Part::Text(b"HTTP/1.1 "),
+        Part::Number(status as u64),
+        Part::Text(b" "),
+        Part::Text(reason_of(status)),
+        Part::Text(b"\r\n"),
+        Part::Text(b"Content-Type: "),
+        Part::Text(type_of(kind)),
+        Part::Text(b"\r\n"),
+        Part::Text(allow_line(status)),
+        Part::Text(b"Connection: close"),
+        Part::Text(b"\r\n"),
+        Part::Text(b"\r\n"),
+    ];
+    write_parts(link, &parts)
+}
+
+/// The reason of a status.
+fn reason_of(status: u16) -> &'static [u8]
+    ensures { result.now ≡ reason_of status }
+{
+    match status {
+        200 => b"OK",
+        400 => b"Bad Request",
+        404 => b"Not Found",
+        405 => b"Method Not Allowed",
+        431 => b"Request Header Fields Too Large",
+        500 => b"Internal Server Error",
+        _ => b"Service Unavailable",
+    }
+}
+
+/// The type of a body.
+fn type_of(kind: Kind) -> &'static [u8]
+    ensures { result.now ≡ type_of kind }
+{
+    match kind {
+        Kind::Text => b"text/plain",
+        Kind::Json => b"application/json",
+    }
+}
+
+/// The line that says which method is allowed, with status 405 alone.
+fn allow_line(status: u16) -> &'static [u8]
+    ensures { result.now ≡ allow_line status }
+{
+    if status == 405 {
+        b"Allow: GET\r\n"
+    } else {
+        b""
+    }
+}
+
+/// Writes these parts, one behind another.
+fn write_parts<K: Sink>(link: &mut K, parts: &[Part]) -> Result<(), WireFault>
+    ensures writes { Writes (K.held link.old) (K.held link.new) (K.faults link.old) (K.faults link.new) result (joined (map part_text parts.now)) }
+    ensures fault { IfErr result (λ fault. fault ≡ LinkFault) }
+    ensures apart { K.aside link.new ≡ K.aside link.old }
+{
+    let mut pieces = Pieces::make();
+    put_parts(link, &mut pieces, parts);
+    match pieces.end(link) {
+        Ok(()) => Ok(()),
+        Err(_) => Err(WireFault::LinkFault),
+    }
+}
+
+/// Puts these parts behind the bytes that wait, one behind another.
+fn put_parts<K: Sink>(link: &mut K, pieces: &mut Pieces, parts: &[Part])
+    ensures puts { Puts (K.held link.old) (K.held link.new) (K.faults link.old) (K.faults link.new) pieces.old pieces.new (joined (map part_text parts.now)) }
+    ensures apart { K.aside link.new ≡ K.aside link.old }
+{
+    for part in parts {
+        put_part(link, pieces, *part);
+    }
+}
+
+/// Puts a part behind the bytes that wait.
+fn put_part<K: Sink>(link: &mut K, pieces: &mut Pieces, part: Part)
+    ensures puts { Puts (K.held link.old) (K.held link.new) (K.faults link.old) (K.faults link.new) pieces.old pieces.new (part_text part.entry) }
+    ensures apart { K.aside link.new ≡ K.aside link.old }
+{
+    match part {
+        Part::Text(text) => pieces.put(link, text),
+        Part::Number(number) => pieces.put_number(link, number),
+    }
+}
