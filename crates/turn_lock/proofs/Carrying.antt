@@ -1,5 +1,5 @@
 -- A step on one seat keeps the core of the rule where the seat's new view fits, its ticket is nobody's, and the others still fit.
-use Rattle.std.proofs.Common.{◌≡◌, ◌≢◌, ℕ, ◌≤◌, List, set, length, Contains, Option, Some, None, refl, sym, ap, ◌∙◌, subst, ⊎_elim, arith}
+use Rattle.std.proofs.Common.{◌≡◌, ◌<◌, ◌≢◌, ℕ, ◌≤◌, List, set, length, Contains, Option, Some, None, refl, sym, ap, ◌∙◌, subst, ⊎_elim, arith}
 use mathlib.Core.Option as slot
 use mathlib.Core.Option.{some, some-injective, some-ne-none}
 use mathlib.Core.Logic.{dite}
@@ -59,6 +59,7 @@ module _ {E : Type 0} where
     knows = x.knows;
     one = x.one;
     other = x.other;
+    twin = x.twin;
   }
 
   pub queue_same : (views : List (View E)) (id : ℕ) (v w : View E) → get_elem? views id ≡ some v → w.ticket ≡ v.ticket
@@ -149,9 +150,9 @@ module _ {V E : Type 0} (facts : V → Facts E) where
 
   -- a step that leaves the words, the slot, and what the pass knows
   pub stays : (s : LockState V E) (r : Ruled facts s) (id : ℕ) (v w : View E) (ws : List ℕ) → get_elem? s.views id ≡ some v → ws ≡ s.words
-      → w.ticket ≡ v.ticket → w.known ≡ v.known → IsPastOf r.now w.one → IsPastOf r.now w.other
+      → w.ticket ≡ v.ticket → w.known ≡ v.known → IsPastOf r.now w.one → IsPastOf r.now w.other → (0 < w.other.parts → w.other.name ≡ w.known.name)
       → Ruled facts record { words = ws; homes = s.homes; views = set s.views id w }
-  stays s r id v w ws at same ticket known one other = let x = r.core.each id v at in let q = queue_same s.views id v w at ticket in
+  stays s r id v w ws at same ticket known one other twin = let x = r.core.each id v at in let q = queue_same s.views id v w at ticket in
       let le : queue s.views ≤ queue (set s.views id w) = omega arith in
       let held : w.known.held ≡ v.known.held = ap (λ (k : Known E). k.held) known in
       rules_on s r r.serving id v w ws s.homes at (ap (λ (k : Known E). k.parts) known) (ap (λ (k : Known E). k.asked) known)
@@ -166,6 +167,7 @@ module _ {V E : Type 0} (facts : V → Facts E) where
         knows = subst (λ (k : Known E). Knows r.writer r.now id k) (sym known) x.knows;
         one = one;
         other = other;
+        twin = twin;
       }
       (λ j k u ne e mine theirs. ne (r.core.apart j id k u v e at theirs (sym ticket ∙ mine)))
       (subst (λ n. Shelf facts n r.now s.homes) (sym (turns_same s.views id v w at held)) r.core.shelf))

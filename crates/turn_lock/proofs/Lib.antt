@@ -1,5 +1,5 @@
 pub mod Growth
-mod Totals
+pub mod Totals
 mod Carrying
 mod Turning
 mod Sharing

@@ -2,14 +2,16 @@
 use Rattle.std.proofs.Common.{◌≡◌, ℕ, ◌+◌, ◌%◌, ◌^◌, ◌<◌, List, [], ◌∷◌, length, Option, Some, None, refl, sym, ap, ◌∙◌, subst}
 use mathlib.Core.Option as slot
 use lib.ListN.{get_elem?}
+use prog.Atomic.{either}
+use lib.Dec.{eqb}
 use Rattle.atomic_table.specs.Table.{Step, step, rest, Allows, Splits, Joins, opening, Final, Seen}
 use Rattle.turn_lock.specs.declared.facts.Facts.{Facts}
 use Rattle.turn_lock.specs.declared.known.Known.{Known}
 use Rattle.turn_lock.specs.Known.{all_parts, KnowsOf, holding, after_turn}
 use Rattle.turn_lock.specs.Rule.{PassState, first_view, spent_view, Ruled}
-use Rattle.turn_lock.specs.Steps.{Draws, Watches, Counts, PassesOn, Compares, kept_view, given_view, joined_view}
+use Rattle.turn_lock.specs.Steps.{IsDrawn, Grabs, Watches, Counts, PassesOn, Compares, kept_view, given_view, joined_view}
 use Rattle.turn_lock.specs.Seats.{Rests, InTurn, Waits, Took, MayGive, Gives, Counted, Gave, Poised}
-use Rattle.turn_lock.proofs.Turning.{in_hand, draws, watches, counts, passes_on}
+use Rattle.turn_lock.proofs.Turning.{in_hand, grabs, watches, counts, passes_on}
 use Rattle.turn_lock.proofs.Sharing.{covers_first, covers_second, compares, splits, joins, opens, closes}
 
 -- what most steps tell is the same whatever was found
@@ -17,9 +19,14 @@ abbrev no_step : {S : Type 0} → Step S
 no_step = step 0 0 0 0 slot.none
 
 module _ {V E : Type 0} (facts : V → Facts E) where
-  pub draws_at : (slots id : ℕ) (m : PassState V E) → Rests m → Allows (Ruled facts) slots id m 0 (λ n. (n + 1) % 2 ^ 64)
-      (Draws (step slots 0 1 0 slot.none) m)
-  draws_at slots id m h = draws facts slots id m h.free h.live
+  pub grabs_at : (slots id old new : ℕ) (m : PassState V E) → Rests m → new ≡ (old + 1) % 2 ^ 64
+      → Allows (Ruled facts) slots id m 0 (λ n. either (eqb n old) new n) (Grabs (step slots 0 old new slot.none) m)
+  grabs_at slots id old new m h next = grabs facts slots id m old new h.free h.live next
+
+  -- a pass that drew a ticket waits for it
+  pub waits_now : (m m' : PassState V E) (ticket : ℕ) → Rests m → IsDrawn ticket m m' → Waits ticket m'
+  waits_now m m' ticket h d = subst (λ (z : PassState V E). Waits ticket z) (sym d.1)
+      record { live = h.live; drawn = d.0; free = refl; idle = h.idle; empty = h.empty; is = d.2 }
 
   pub watches_at : (slots id ticket : ℕ) (m : PassState V E) → Waits ticket m
       → Allows (Ruled facts) slots id m 1 (λ n. n) (Watches facts (step slots 1 0 0 slot.none) m)
@@ -34,7 +41,7 @@ module _ {V E : Type 0} (facts : V → Facts E) where
       record { value = t.0; has = t.1; agrees = t.2 }
 
   -- the value is taken out of the hand, after a ticket was drawn and served
-  pub entered : (m m₁ m₂ m₃ : PassState V E) (ticket : ℕ) (r : Option V) (y : V) → Rests m → Draws no_step m ticket m₁ → (t : Took facts m₁ m₂)
+  pub entered : (m m₁ m₂ m₃ : PassState V E) (ticket : ℕ) (r : Option V) (y : V) → Rests m → IsDrawn ticket m m₁ → (t : Took facts m₁ m₂)
       → m₂.1 ≡ (0, r) ∷ rest m₂.1 → r ≡ Some y → m₃ ≡ (m₂.0, (0, None) ∷ rest m₂.1)
       → InTurn m₃ × (m₃.0.known ≡ holding (facts y) m.0.known)
   entered m m₁ m₂ m₃ ticket r y h d t out is e =
@@ -105,6 +112,11 @@ module _ {V E : Type 0} (facts : V → Facts E) where
   compares_at slots id m m' u e = subst (λ (z : PassState V E). Allows (Ruled facts) slots id z 0 (λ n. n)
       (Compares (step slots 0 0 0 slot.none) z)) (sym e)
       (compares facts slots id (joined_view m.0 u.0, m.1) (covers_first m.0.known u.0.known) (covers_second m.0.known u.0.known))
+
+-- a pass that was joined to another was one of the same value
+pub named_at : {V E : Type 0} → (m m' u : PassState V E) → m' ≡ (joined_view m.0 u.0, m.1) → (0 < m'.0.other.parts → m'.0.other.name ≡ m'.0.known.name) → Rests u
+    → u.0.known.name ≡ m.0.known.name
+named_at {V} {E} m m' u e h rests = subst (λ (z : PassState V E). (0 < z.0.other.parts → z.0.other.name ≡ z.0.known.name)) e h rests.live
 
 module _ {V E : Type 0} (facts : V → Facts E) where
   pub opens_at : (n : ℕ) (xs : List (Option V)) (z y : V) → n ≡ length (facts y).log → xs ≡ Some y ∷ [] → z ≡ y

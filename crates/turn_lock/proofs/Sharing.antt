@@ -136,7 +136,7 @@ module _ {V E : Type 0} (facts : V → Facts E) where
       let same : either (eqb n parts) parts n ≡ n = exchanged n parts parts (λ (m : ℕ). m ≡ n) (λ e. sym e) (λ _. refl) in
       let words : slice_set s.words 0 (either (eqb n parts) parts n) ≡ s.words = ap (λ m. slice_set s.words 0 m) same
       ∙ ((λ i. slice_set (r.core.words i) 0 (slice_index (r.core.words i) 0)) ∙ sym r.core.words) in
-      (w, keeps, tt, stays facts s r id v w _ at words refl refl x.one x.other, refl)
+      (w, keeps, tt, stays facts s r id v w _ at words refl refl x.one x.other x.twin, refl)
 
   pub compares : (slots id : ℕ) (me : PassState V E) → Covers me.0.one me.0.known → Covers me.0.other me.0.known
       → Allows (Ruled facts) slots id me 0 (λ n. n) (Compares (step slots 0 0 0 slot.none) me)
@@ -150,8 +150,8 @@ module _ {V E : Type 0} (facts : V → Facts E) where
         w,
         keeps,
         tt,
-        stays facts s r id v w _ at words refl refl (nobody_is_past r.now) (nobody_is_past r.now),
-        (refl, follows_past r.now v.one v.known x.one x.knows.past all one, follows_past r.now v.other v.known x.other x.knows.past all other),
+        stays facts s r id v w _ at words refl refl (nobody_is_past r.now) (nobody_is_past r.now) (λ live. absurd (omega arith)),
+        (refl, follows_past r.now v.one v.known x.one x.knows.past all one, follows_past r.now v.other v.known x.other x.knows.past all other, x.twin),
       )
 
   -- a new pass that waits for nothing fits beside the others
@@ -190,9 +190,9 @@ module _ {V E : Type 0} (facts : V → Facts E) where
       let q = queue_same s.views id v left at refl in
       let le : queue s.views ≤ queue views = omega arith in
       let name = k.name (let p : 0 < v.known.parts = omega arith in p) in
-      let past : (parts high asked turns : ℕ) (mine : List ℕ) (w : Bool) → IsPastOf r.now
-      (record v.known { parts = parts; high = high; asked = asked; mine = mine; turns = turns; writer = w }) =
-      λ _ _ _ _ _ _. record { seen = k.past.seen; met = k.past.met; tally = k.past.tally } in
+      let past : (parts high asked turns : ℕ) (mine : List ℕ) (gave : List (Facts E)) (w : Bool) → IsPastOf r.now
+      (record v.known { parts = parts; high = high; asked = asked; mine = mine; turns = turns; gave = gave; writer = w }) =
+      λ _ _ _ _ _ _ _. record { seen = k.past.seen; met = k.past.met; tally = k.past.tally } in
       let cut : Core facts r.serving r.writer r.now record { words = s.words; homes = s.homes; views = views } =
       carries facts s r.serving r.writer r.now r.serving r.writer r.now id v left s.words s.homes r.core at
       (r.core.words ∙ ap (λ n. words_of r.serving n (length r.now.log)) (sym q))
@@ -203,7 +203,7 @@ module _ {V E : Type 0} (facts : V → Facts E) where
         spent = λ _. free;
         knows = record {
           name = λ _. name;
-          past = past (v.known.parts - v.offer) v.known.high v.known.asked v.known.turns v.known.mine v.known.writer;
+          past = past (v.known.parts - v.offer) v.known.high v.known.asked v.known.turns v.known.mine v.known.gave v.known.writer;
           role = λ w. let o = k.role w in (o.0, record { seen = o.1.seen; tally = o.1.tally });
           sight = k.sight;
           high = k.high;
@@ -212,6 +212,7 @@ module _ {V E : Type 0} (facts : V → Facts E) where
         };
         one = x.one;
         other = x.other;
+        twin = x.twin;
       }
       (λ j n u ne e a b. not_some v.ticket n free a)
       (subst (λ n. Shelf facts n r.now s.homes) (sym (turns_same s.views id v left at refl)) r.core.shelf) in
@@ -225,7 +226,7 @@ module _ {V E : Type 0} (facts : V → Facts E) where
           spent = λ _. refl;
           knows = record {
             name = λ _. name;
-            past = past v.offer 0 0 0 [] false;
+            past = past v.offer 0 0 0 [] [] false;
             role = λ w. absurd (cc);
             sight = k.sight;
             high = omega arith;
@@ -234,6 +235,7 @@ module _ {V E : Type 0} (facts : V → Facts E) where
           };
           one = nobody_is_past r.now;
           other = nobody_is_past r.now;
+          twin = λ live. absurd (omega arith);
         });
         whole = let t = total_set parts_of s.views id v left at in let a = total_snoc parts_of views right in let o = r.whole in omega arith;
         asked = let t = total_set asked_of s.views id v left at in let a = total_snoc asked_of views right in let o = r.asked in omega arith;
@@ -259,6 +261,7 @@ module _ {V E : Type 0} (facts : V → Facts E) where
     };
     one = nobody_is_past now;
     other = nobody_is_past now;
+    twin = λ live. absurd (omega arith);
   }
 
   fits_writer : (serving length writer writer' seat : ℕ) (now : Facts E) (u : View E) → (u.known.writer ≡ true → seat ≡ writer → seat ≡ writer')
@@ -270,6 +273,7 @@ module _ {V E : Type 0} (facts : V → Facts E) where
     knows = record { name = k.name; past = k.past; role = λ w. let o = k.role w in (is w o.0, o.1); sight = k.sight; high = k.high; spent = k.spent; mine = k.mine };
     one = x.one;
     other = x.other;
+    twin = x.twin;
   }
 
   or_left : (a b : Bool) → (a || b) ≡ true → b ≡ false → a ≡ true
@@ -347,6 +351,7 @@ module _ {V E : Type 0} (facts : V → Facts E) where
             (λ e. new_writer v.known.writer w.known.writer r.writer id e (λ b. (x.knows.role b).0));
         one = record { seen = x.knows.past.seen; met = x.knows.past.met; tally = x.knows.past.tally };
         other = record { seen = y.knows.past.seen; met = y.knows.past.met; tally = y.knows.past.tally };
+        twin = λ his. sym (y.knows.name his) ∙ x.knows.name live;
       }
       (λ j n u ne e a b. not_some None n refl a)
       (subst (λ n. Shelf facts n r.now s.homes) (sym (turns_same middle id v both here (sym idle))) first.shelf) in
@@ -430,6 +435,7 @@ module _ {V E : Type 0} (facts : V → Facts E) where
             };
             one = nobody_is_past f;
             other = nobody_is_past f;
+            twin = λ live. absurd (omega arith);
           };
           apart = λ i j k a b ea eb ta tb. (only i a ea).0 ∙ sym ((only j b eb).0);
           shelf = (y, refl, refl);

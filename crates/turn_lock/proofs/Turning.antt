@@ -8,15 +8,17 @@ use mathlib.Core.Option.{some, some-injective, some-ne-none}
 use mathlib.Core.Logic.{dite}
 use native.Mathlib.Decide.{ℕ_discrete}
 use lib.ListN.{get_elem?}
-use Rattle.atomic_table.specs.Table.{step, keeps, takes, gives, Allows, homes_after, put_back}
-use Rattle.atomic_table.proofs.Lists.{set_else, one_turn}
+use prog.Atomic.{either}
+use lib.Dec.{eqb}
+use Rattle.atomic_table.specs.Table.{Act, step, keeps, takes, gives, Allows, Valid, stepped, carried_after, homes_after, put_back}
+use Rattle.atomic_table.proofs.Lists.{set_else, one_turn, exchanged}
 use Rattle.turn_lock.specs.declared.facts.Facts.{Facts}
 use Rattle.turn_lock.specs.declared.known.Known.{Known}
 use Rattle.turn_lock.specs.declared.view.View.{View}
 use Rattle.turn_lock.specs.Facts.{IsFrontOf, FactsGrow, AreFactsKept}
 use Rattle.turn_lock.specs.Known.{IsPastOf, HasAll, KnowsOf, holding, raised, new_asks, after_turn}
 use Rattle.turn_lock.specs.Rule.{LockState, PassState, total, count_some, parts_of, asked_of, drew, has_turn, queue, Knows, Fits, Reached, words_of, Shelf, Ruled}
-use Rattle.turn_lock.specs.Steps.{Draws, Watches, Counts, PassesOn}
+use Rattle.turn_lock.specs.Steps.{IsDrawn, Grabs, Watches, Counts, PassesOn}
 use Rattle.turn_lock.proofs.Growth.{begins_on, begins_same, at_most_on, at_most_same, new_asks_are}
 use Rattle.turn_lock.proofs.Totals.{total_set, total_at, total_none, total_alone, total_two, set_there}
 use Rattle.turn_lock.proofs.Carrying.{not_some, some_same, knows_turn, fits_longer, queue_same, turns_same, reached_on, added_on, queue_bounded, alone, carries, rules_on, stays}
@@ -82,8 +84,8 @@ module _ {V E : Type 0} (facts : V → Facts E) where
         };
   }
 
-  pub draws : (slots id : ℕ) (me : PassState V E) → me.0.ticket ≡ None → 0 < me.0.known.parts
-      → Allows (Ruled facts) slots id me 0 (λ n. (n + 1) % 2 ^ 64) (Draws (step slots 0 1 0 slot.none) me)
+  draws : (slots id : ℕ) (me : PassState V E) → me.0.ticket ≡ None → 0 < me.0.known.parts
+      → Allows (Ruled facts) slots id me 0 (λ n. (n + 1) % 2 ^ 64) (λ n m'. IsDrawn n me m')
   draws slots id me free live s r _ at _ =
       let v : View E = me.0 in
       let q : ℕ = queue s.views in
@@ -111,12 +113,31 @@ module _ {V E : Type 0} (facts : V → Facts E) where
               knows = x.knows;
               one = x.one;
               other = x.other;
+              twin = x.twin;
             }
             (λ j n u ne e mine theirs. let same : k ≡ n = some_same (Some k) k n refl mine in let b = ((r.core.each j u e).ticket n theirs).1 in
             absurd (omega arith))
             (subst (λ n. Shelf facts n r.now s.homes) (sym (turns_same s.views id v w at refl)) r.core.shelf)),
         (k, refl, ap (λ l. slice_index l 0) (sym r.core.words)),
       )
+
+  -- a ticket is drawn where it is the one that was expected
+  pub grabs : (slots id : ℕ) (me : PassState V E) (old new : ℕ) → me.0.ticket ≡ None → 0 < me.0.known.parts → new ≡ (old + 1) % 2 ^ 64
+      → Allows (Ruled facts) slots id me 0 (λ n. either (eqb n old) new n) (Grabs (step slots 0 old new slot.none) me)
+  grabs slots id me old new free live next s r sized at bound =
+      let v : View E = me.0 in
+      let x = r.core.each id v at in
+      let n : ℕ = slice_index s.words 0 in
+      let same_words : slice_set s.words 0 n ≡ s.words = (λ i. slice_set (r.core.words i) 0 (slice_index (r.core.words i) 0)) ∙ sym r.core.words in
+      exchanged n old new
+      (λ m. (w : View E) × (a : Act (Option V)) × Valid s.homes me.1 a × Ruled facts (stepped s 0 m id me.1 w a)
+      × Grabs (step slots 0 old new slot.none) me n (w, carried_after me.1 a))
+      (λ hit. let d = draws slots id me free live s r sized at bound in
+      subst (λ m. (w : View E) × (a : Act (Option V)) × Valid s.homes me.1 a × Ruled facts (stepped s 0 m id me.1 w a)
+      × Grabs (step slots 0 old new slot.none) me n (w, carried_after me.1 a))
+      (ap (λ m. (m + 1) % 2 ^ 64) hit ∙ sym next)
+      (d.0, d.1, d.2, d.3, ((λ _. d.4), λ miss. absurd (miss hit))))
+      (λ miss. (v, keeps, tt, stays facts s r id v v _ at same_words refl refl x.one x.other x.twin, ((λ hit. absurd (miss hit)), λ _. refl)))
 
   -- the ticket of the pass is served
   serves : (slots id : ℕ) (v : View E) (k : ℕ) (s : LockState V E) (r : Ruled facts s) → get_elem? s.views id ≡ some v → v.ticket ≡ Some k
@@ -158,6 +179,7 @@ module _ {V E : Type 0} (facts : V → Facts E) where
               knows = knows_turn r.writer id r.now v.known (Some (facts y)) x.knows;
               one = x.one;
               other = x.other;
+              twin = x.twin;
             }
             (λ j n u ne e a b. ne (r.core.apart j id n u v e at b a))
             (subst (λ n. Shelf facts n r.now (slice_set s.homes 0 slot.none)) (sym one_inside) out)),
@@ -199,7 +221,7 @@ module _ {V E : Type 0} (facts : V → Facts E) where
         v,
         keeps,
         tt,
-        stays facts s r id v v _ at same_words refl refl x.one x.other,
+        stays facts s r id v v _ at same_words refl refl x.one x.other x.twin,
         told_miss me k n drawn miss,
       ))
 
@@ -223,6 +245,7 @@ module _ {V E : Type 0} (facts : V → Facts E) where
     };
     one = past_on x.one;
     other = past_on x.other;
+    twin = x.twin;
   }
     where
       past_on : {p : Known E} → IsPastOf r.now p → IsPastOf g p
@@ -306,6 +329,7 @@ module _ {V E : Type 0} (facts : V → Facts E) where
                 knows = knows_turn r.writer id g (after_turn f g v.known) (Some g) (turn_known s r id v f g at turn.1 grows' live);
                 one = past_on v.one x.one;
                 other = past_on v.other x.other;
+                twin = x.twin;
               }
               (λ j m u ne e a b. ne (r.core.apart j id m u v e at b a))
               (subst (λ m. Shelf facts m g s.homes) (sym (turns_of s r id v w at mine))
@@ -362,6 +386,7 @@ module _ {V E : Type 0} (facts : V → Facts E) where
               knows = o.knows;
               one = o.one;
               other = o.other;
+              twin = o.twin;
             })
             record {
               ticket = λ k e. absurd (not_some None k refl e);
@@ -370,6 +395,7 @@ module _ {V E : Type 0} (facts : V → Facts E) where
               knows = knows_turn r.writer id r.now v.known None x.knows;
               one = x.one;
               other = x.other;
+              twin = x.twin;
             }
             (λ j k u ne e a b. not_some None k refl a)
             (subst (λ m. Shelf facts m r.now (homes_after s.homes me.1 gives)) (sym (turns_of s r id v w at mine)) (y, home, turn.1))),

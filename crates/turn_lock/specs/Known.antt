@@ -1,5 +1,5 @@
 -- What a pass knows, what holds of it and the value that it takes, and how a turn, a split and a join change it.
-use Rattle.std.specs.Prelude.{◌≡◌, ℕ, ◌+◌, ◌-◌, ◌≤◌, List, [], ◌++◌, length, drop, Contains, Bool, true, false, ◌||◌, max, Some, None, nat_lt, if◌then◌else◌}
+use Rattle.std.specs.Prelude.{◌≡◌, ℕ, ◌+◌, ◌-◌, ◌≤◌, List, [], ◌∷◌, ◌++◌, length, drop, Contains, Bool, true, false, ◌||◌, max, Some, None, nat_lt, if◌then◌else◌}
 use Rattle.turn_lock.specs.declared.facts.Tally.{Tally}
 use Rattle.turn_lock.specs.declared.facts.Facts.{Facts}
 use Rattle.turn_lock.specs.declared.known.Known.{Known}
@@ -61,6 +61,7 @@ module _ {E : Type 0} where
     mine = f.asks;
     parts = all_parts;
     turns = 0;
+    gave = [];
     writer = true;
     held = None;
   }
@@ -86,6 +87,7 @@ module _ {E : Type 0} where
     mine = pass.mine ++ new_asks taken given;
     parts = pass.parts;
     turns = pass.turns + 1;
+    gave = pass.gave ++ given ∷ [];
     writer = pass.writer;
     held = None;
   }
@@ -96,7 +98,7 @@ module _ {E : Type 0} where
 
   -- the pass that was split off with so many parts: it did nothing yet, and is no writer
   abbrev pub split_off : ℕ → Known E → Known E
-  split_off parts pass = record pass { high = 0; asked = 0; mine = []; parts = parts; turns = 0; writer = false }
+  split_off parts pass = record pass { high = 0; asked = 0; mine = []; parts = parts; turns = 0; gave = []; writer = false }
 
 -- the longer list
 abbrev pub longer : {A : Type 0} → List A → List A → List A
@@ -125,6 +127,7 @@ joined a b = record {
   mine = a.mine ++ b.mine;
   parts = a.parts + b.parts;
   turns = a.turns + b.turns;
+  gave = a.gave ++ b.gave;
   writer = a.writer || b.writer;
   held = None;
 }

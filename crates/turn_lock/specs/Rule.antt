@@ -61,6 +61,7 @@ module _ {E : Type 0} where
     mine = [];
     parts = 0;
     turns = 0;
+    gave = [];
     writer = false;
     held = None;
   }
@@ -87,7 +88,8 @@ module _ {E : Type 0} where
     pub spent : pass.parts ≡ 0 → (pass.high ≡ 0) × (pass.asked ≡ 0)
     pub mine : length pass.mine ≡ pass.asked
 
-  -- the ticket of a pass waits to be served, and who has the turn is served and took what is in force
+  -- the ticket of a pass waits to be served, and who has the turn is served and took what is in force; another pass that was joined to it
+  -- was one of the same value
   pub record Fits (serving length writer : ℕ) (now : Facts E) (seat : ℕ) (v : View E) : Type 0 where
     pub ticket : (k : ℕ) → v.ticket ≡ Some k → (serving ≤ k) × (k < serving + length)
     pub turn : (f : Facts E) → v.known.held ≡ Some f → (v.ticket ≡ Some serving) × (f ≡ now)
@@ -95,6 +97,7 @@ module _ {E : Type 0} where
     pub knows : Knows writer now seat v.known
     pub one : IsPastOf now v.one
     pub other : IsPastOf now v.other
+    pub twin : 0 < v.other.parts → v.other.name ≡ v.known.name
 
   -- no two passes have one ticket
   abbrev pub Apart : List (View E) → Type 0

@@ -1,5 +1,5 @@
 -- What each step on the table of a lock tells the pass that makes it: how its view changes, and what it learns.
-use Rattle.std.specs.Prelude.{◌≡◌, ◌≢◌, ℕ, ◌%◌, ◌^◌, [], ◌∷◌, Option, Some, None}
+use Rattle.std.specs.Prelude.{◌≡◌, ◌≢◌, ◌<◌, ℕ, ◌%◌, ◌^◌, [], ◌∷◌, Option, Some, None}
 use Rattle.atomic_table.specs.Table.{Step, rest}
 use Rattle.turn_lock.specs.declared.facts.Facts.{Facts}
 use Rattle.turn_lock.specs.declared.view.View.{View}
@@ -7,9 +7,13 @@ use Rattle.turn_lock.specs.Known.{KnowsOf, Follows, holding, after_turn, without
 use Rattle.turn_lock.specs.Rule.{PassState, nobody, resting}
 
 module _ {V E : Type 0} where
-  -- it has the ticket that it found, counted without end
-  abbrev pub Draws : Step (Option V) → PassState V E → ℕ → PassState V E → Type 0
-  Draws st m found m' = (k : ℕ) × (m' ≡ (record m.0 { ticket = Some k }, m.1)) × (k % 2 ^ 64 ≡ found)
+  -- it has this ticket, counted without end
+  abbrev pub IsDrawn : ℕ → PassState V E → PassState V E → Type 0
+  IsDrawn ticket m m' = (k : ℕ) × (m' ≡ (record m.0 { ticket = Some k }, m.1)) × (k % 2 ^ 64 ≡ ticket)
+
+  -- where the next ticket is the expected one it has this ticket, else nothing changed
+  abbrev pub Grabs : Step (Option V) → PassState V E → ℕ → PassState V E → Type 0
+  Grabs st m found m' = (found ≡ st.first → IsDrawn found m m') × (found ≢ st.first → m' ≡ m)
 
   -- where its ticket is served it has the slot with the value, which agrees with it
   abbrev pub Watches : (V → Facts E) → Step (Option V) → PassState V E → ℕ → PassState V E → Type 0
@@ -34,6 +38,7 @@ module _ {V E : Type 0} where
   -- it has seen all that the two passes had seen that were joined to it
   abbrev pub Compares : Step (Option V) → PassState V E → ℕ → PassState V E → Type 0
   Compares st m found m' = (m' ≡ (record m.0 { one = nobody; other = nobody }, m.1)) × Follows m.0.one m.0.known × Follows m.0.other m.0.known
+      × (0 < m.0.other.parts → m.0.other.name ≡ m.0.known.name)
 
 module _ {E : Type 0} where
   -- the pass from which another was split off

@@ -34,6 +34,14 @@ impl Bell {
         }
     }
 
+    /// Rings it, and wakes one of those who sleep at it.
+    pub fn ring_one(&self) {
+        self.rings.fetch_add(1, Ordering::SeqCst);
+        if self.sleepers.load(Ordering::SeqCst) > 0 {
+            self.rings.wake_one();
+        }
+    }
+
     /// Sleeps until it was rung since it had been rung so often. It may also return for no reason.
     pub fn sleep(&self, rt: &impl Wait, heard: u64) {
         self.sleepers.fetch_add(1, Ordering::SeqCst);

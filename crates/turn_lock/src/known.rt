@@ -31,6 +31,8 @@ pub struct Known<E> {
     pub parts: u64,
     /// How many turns it had.
     pub turns: u64,
+    /// The facts of the values that it gave, turn by turn.
+    pub gave: LinkedList<Facts<E>>,
     /// Whether it may add to the log and to the tally. One pass at most may.
     pub writer: bool,
     /// While it has the turn, the facts of the value as it was taken.

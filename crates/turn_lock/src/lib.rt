@@ -8,7 +8,6 @@ mod laws;
 mod lock;
 mod logged;
 mod pass;
-mod queue;
 mod rule;
 mod seat;
 mod view;

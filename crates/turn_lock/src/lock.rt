@@ -5,7 +5,6 @@ ghost use Rattle.turn_lock.specs.Known.{all_parts, KnowsOf, Follows, opened, hol
 use crate::bell::Bell;
 use crate::logged::Logged;
 use crate::pass::Pass;
-use crate::queue::Queue;
 use crate::rule::Turns;
 use crate::seat;
 use crate::view::View;
@@ -17,13 +16,14 @@ use std::sync::Wait;
 
 /// A value that passes take and give in turn. To a contract it is the table that the lock stands on.
 ///
-/// The turns are given in the order in which they were asked for. What a pass learned in its turns is how all that
-/// it will learn begins: the log, the asks and the tally only grow, and the writer's turns alone add to the log and
-/// to the tally.
+/// What a pass learned in its turns is how all that it will learn begins: the log, the asks and the tally only grow,
+/// and the writer's turns alone add to the log and to the tally. Who asks first need not have its turn first: a turn
+/// goes to a pass that runs when the lock is free, and who sleeps holds no place.
 #[derive(Drop)]
 pub struct TurnLock<V: Logged + Drop> {
     table: Table<Option<V>, View<V::Entry>, Snapshot<V>, Turns, Global>,
-    queue: Queue,
+    /// The end of a turn rings it, and who waits for a turn sleeps at it.
+    free: Bell,
     /// The writer rings it, and the others sleep at it.
     told: Bell,
     /// The others ring it, and the writer sleeps at it.
@@ -73,7 +73,7 @@ impl<V: Logged + Send + Drop> TurnLock<V> {
             Ok((table, seat)) => {
                 let lock = TurnLock {
                     table,
-                    queue: Queue::make(),
+                    free: Bell::make(),
                     told: Bell::make(),
                     wanted: Bell::make(),
                 };
@@ -83,15 +83,15 @@ impl<V: Logged + Send + Drop> TurnLock<V> {
         }
     }
 
-    /// Waits until all passes that asked before have had their turns, and takes the value. It begins with all that
-    /// the pass has seen, and for the writer it has nothing more.
+    /// Waits until the lock is free, and takes the value. It begins with all that the pass has seen, and for the
+    /// writer it has nothing more.
     pub fn take(&self, rt: &impl Wait, pass: &mut Pass<V>) -> V
         requires own { pass.old.0 ≡ self.now }
         requires rests { pass.old.1.held ≡ None }
         ensures pass { pass.new ≡ (self.now, holding (V.facts result) pass.old.1) }
         ensures value { KnowsOf (V.facts result) pass.old.1 }
     {
-        seat::enter(rt, &self.table.shared, &self.queue, &mut pass.seat)
+        seat::enter(rt, &self.table.shared, &self.free, &mut pass.seat)
     }
 
     /// Gives a value in place of the one that was taken, and ends the turn. Its log, its asks, its mark and its tally
@@ -101,7 +101,7 @@ impl<V: Logged + Send + Drop> TurnLock<V> {
         requires turn { IsSomeAnd pass.old.1.held (λ f. FactsGrow f (V.facts value) × (pass.old.1.writer ≡ false → AreFactsKept f (V.facts value))) }
         ensures { IfSome pass.old.1.held (λ f. pass.new ≡ (self.now, after_turn f (V.facts value) pass.old.1)) }
     {
-        seat::leave(&self.table.shared, &self.queue, &mut pass.seat, value);
+        seat::leave(&self.table.shared, &self.free, &mut pass.seat, value);
     }
 
     /// The bell that the writer rings when a turn of its brought something, and that the others sleep at. Who looked in a turn, and found
@@ -134,6 +134,7 @@ impl<V: Logged + Send + Drop> TurnLock<V> {
         requires rest { (pass.old.1.held ≡ None) × (other.1.held ≡ None) }
         ensures pass { pass.new ≡ (self.now, joined pass.old.1 other.1) }
         ensures follows { Follows pass.old.1 pass.new.1 × Follows other.1 pass.new.1 }
+        ensures name { other.1.name ≡ pass.old.1.name }
     {
         let Pass { seat: other } = other;
         seat::glue(&self.table.shared, &mut pass.seat, other);

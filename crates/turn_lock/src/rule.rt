@@ -14,13 +14,13 @@ impl<V: Logged> TableRule<Option<V>, View<V::Entry>, Snapshot<V>> for Turns {
     ghost first = { λ opening. first_view (V.facts opening.value) };
 }
 
-// The next ticket is drawn.
-pub struct Draw;
+// The next ticket is drawn, where it is the one that was expected.
+pub struct Grab;
 
-impl<V: Logged> Play<Option<V>, View<V::Entry>> for Draw {
-    ghost use Rattle.turn_lock.specs.Steps.{Draws};
+impl<V: Logged> Play<Option<V>, View<V::Entry>> for Grab {
+    ghost use Rattle.turn_lock.specs.Steps.{Grabs};
 
-    ghost then = { λ st m n m'. Draws st m n m' };
+    ghost then = { λ st m n m'. Grabs st m n m' };
 }
 
 // The ticket that is served is read, and the value taken where it is the pass's own.

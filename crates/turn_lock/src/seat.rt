@@ -1,13 +1,14 @@
 // The moves of a pass on the table of a lock, over the seat that the pass is.
-ghost use Rattle.std.specs.Prelude.{◌≡◌, ℕ, ◌%◌, ◌^◌, ◌<◌, [], ◌∷◌, Some, None};
+ghost use Rattle.std.specs.Prelude.{◌≡◌, ℕ, ◌%◌, ◌^◌, ◌<◌, [], ◌∷◌, Some, None, IfSome, IfNone};
 ghost use Rattle.turn_lock.specs.declared.facts.Facts.{Facts};
 ghost use Rattle.turn_lock.specs.Known.{KnowsOf, Follows, holding, after_turn, without, split_off, joined};
 ghost use Rattle.turn_lock.specs.Rule.{resting};
+ghost use Rattle.turn_lock.specs.Steps.{IsDrawn};
 ghost use Rattle.turn_lock.specs.Seats.{IsSeatOf, IsSameSeat, Rests, InTurn, Waits, Took, MayGive, Gives, Counted, Gave};
 
+use crate::bell::Bell;
 use crate::logged::Logged;
-use crate::queue::Queue;
-use crate::rule::{Compare, Count, Cut, Draw, Glue, Offer, PassOn, Turns, Watch};
+use crate::rule::{Compare, Count, Cut, Glue, Grab, Offer, PassOn, Turns, Watch};
 use crate::view::View;
 use atomic_table::{Seat, Shared};
 use std::hint::spin_loop;
@@ -25,35 +26,63 @@ pub type Desk<V> = Shared<Option<V>, View<<V as Logged>::Entry>, Snapshot<V>, Tu
 
 pub type Place<V> = Seat<Option<V>, View<<V as Logged>::Entry>>;
 
-/// How often a pass looks for its turn before it sleeps.
+/// How often a pass looks whether the lock is free before it sleeps.
 const LOOKS: u32 = 100;
 
-// Waits until the ticket is served. A turn takes about as long as the looks, so where the one whose turn it is runs, nobody sleeps.
-fn wait_for<V: Logged, R: Wait>(
-    rt: &R,
-    desk: &Desk<V>,
-    queue: &Queue,
-    seat: &mut Place<V>,
-    ticket: u64,
-)
+// Draws the next ticket, where nobody has the turn or waits for one.
+fn try_draw<V: Logged>(desk: &Desk<V>, seat: &mut Place<V>) -> Option<u64>
     requires desk { IsSeatOf desk.now.table_id seat.old.table_id }
-    requires waits { Waits ticket seat.old.me }
+    requires rests { Rests seat.old.me }
     ensures same { IsSameSeat seat.old seat.new }
-    ensures took { Took V.facts seat.old.me seat.new.me }
+    ensures drawn { IfSome result (λ ticket. IsDrawn ticket seat.old.me seat.new.me) }
+    ensures kept { IfNone result (seat.new.me ≡ seat.old.me) }
 {
-    let bell = queue.bell(ticket);
+    let ticket = desk.peek(TICKET);
+    if desk.peek(SERVING) == ticket
+        && desk.compare_exchange::<Grab>(seat, TICKET, ticket, ticket.wrapping_add(1)) == ticket
+    {
+        Some(ticket)
+    } else {
+        None
+    }
+}
+
+// Draws a ticket as soon as it is served at once, so that nobody holds a place while it sleeps. A turn takes about as long as the looks, so where
+// the pass that has it runs, the others seldom sleep.
+fn draw<V: Logged, R: Wait>(rt: &R, desk: &Desk<V>, free: &Bell, seat: &mut Place<V>) -> u64
+    requires desk { IsSeatOf desk.now.table_id seat.old.table_id }
+    requires rests { Rests seat.old.me }
+    ensures same { IsSameSeat seat.old seat.new }
+    ensures drawn { IsDrawn result seat.old.me seat.new.me }
+{
     let mut looks = 0;
     for _ in rt.forever() {
-        let heard = bell.rings();
-        if desk.load::<Watch>(seat, SERVING) == ticket {
-            return;
+        let heard = free.rings();
+        if let Some(ticket) = try_draw(desk, seat) {
+            return ticket;
         }
         if looks < LOOKS {
             looks += 1;
             spin_loop();
         } else {
-            bell.sleep(rt, heard);
+            free.sleep(rt, heard);
         }
+    }
+    unreachable!()
+}
+
+// Takes the slot once the ticket is served, which it is when it was drawn.
+fn wait_for<V: Logged, R: Wait>(rt: &R, desk: &Desk<V>, seat: &mut Place<V>, ticket: u64)
+    requires desk { IsSeatOf desk.now.table_id seat.old.table_id }
+    requires waits { Waits ticket seat.old.me }
+    ensures same { IsSameSeat seat.old seat.new }
+    ensures took { Took V.facts seat.old.me seat.new.me }
+{
+    for _ in rt.forever() {
+        if desk.load::<Watch>(seat, SERVING) == ticket {
+            return;
+        }
+        spin_loop();
     }
     unreachable!()
 }
@@ -62,7 +91,7 @@ fn wait_for<V: Logged, R: Wait>(
 pub fn enter<V: Logged + Drop, R: Wait>(
     rt: &R,
     desk: &Desk<V>,
-    queue: &Queue,
+    free: &Bell,
     seat: &mut Place<V>,
 ) -> V
     requires desk { IsSeatOf desk.now.table_id seat.old.table_id }
@@ -71,8 +100,8 @@ pub fn enter<V: Logged + Drop, R: Wait>(
     ensures turn { InTurn seat.new.me × (seat.new.me.0.known ≡ holding (V.facts result) seat.old.me.0.known) }
     ensures value { KnowsOf (V.facts result) seat.old.me.0.known }
 {
-    let ticket = desk.fetch_add::<Draw>(seat, TICKET, 1);
-    wait_for(rt, desk, queue, seat, ticket);
+    let ticket = draw(rt, desk, free, seat);
+    wait_for(rt, desk, seat, ticket);
     match desk.exchange(seat, 0, None) {
         Some(value) => value,
         None => unreachable!(),
@@ -104,20 +133,20 @@ fn count<V: Logged>(desk: &Desk<V>, seat: &mut Place<V>, length: u64)
     desk.store::<Count>(seat, LENGTH, length);
 }
 
-// Serves the next ticket, and wakes the pass that has it.
-fn pass_on<V: Logged>(desk: &Desk<V>, queue: &Queue, seat: &mut Place<V>)
+// Serves the next ticket, and wakes a pass that waits for a turn.
+fn pass_on<V: Logged>(desk: &Desk<V>, free: &Bell, seat: &mut Place<V>)
     requires desk { IsSeatOf desk.now.table_id seat.old.table_id }
     requires given { Gave V.facts seat.old.me }
     ensures same { IsSameSeat seat.old seat.new }
     ensures rests { Rests seat.new.me }
     ensures known { seat.new.me.0.known ≡ record seat.old.me.0.known { held = None } }
 {
-    let served = desk.fetch_add::<PassOn>(seat, SERVING, 1);
-    queue.bell(served.wrapping_add(1)).ring();
+    desk.fetch_add::<PassOn>(seat, SERVING, 1);
+    free.ring_one();
 }
 
 // Puts a value home, and ends the turn.
-pub fn leave<V: Logged + Drop>(desk: &Desk<V>, queue: &Queue, seat: &mut Place<V>, value: V)
+pub fn leave<V: Logged + Drop>(desk: &Desk<V>, free: &Bell, seat: &mut Place<V>, value: V)
     requires desk { IsSeatOf desk.now.table_id seat.old.table_id }
     requires turn { InTurn seat.old.me }
     requires change { MayGive (V.facts value) seat.old.me.0.known }
@@ -127,7 +156,7 @@ pub fn leave<V: Logged + Drop>(desk: &Desk<V>, queue: &Queue, seat: &mut Place<V
 {
     let length = put(desk, seat, value);
     count(desk, seat, length);
-    pass_on(desk, queue, seat);
+    pass_on(desk, free, seat);
 }
 
 // Splits a seat off, with so many parts.
@@ -150,6 +179,7 @@ pub fn glue<V: Logged>(desk: &Desk<V>, seat: &mut Place<V>, other: Place<V>)
     ensures same { IsSameSeat seat.old seat.new }
     ensures known { Rests seat.new.me × (seat.new.me.0.known ≡ joined seat.old.me.0.known other.me.0.known) }
     ensures follows { Follows seat.old.me.0.known seat.new.me.0.known × Follows other.me.0.known seat.new.me.0.known }
+    ensures name { other.me.0.known.name ≡ seat.old.me.0.known.name }
 {
     desk.join_seat::<Glue>(seat, other);
     desk.load::<Compare>(seat, TICKET);
