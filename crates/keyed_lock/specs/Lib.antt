@@ -1,0 +1,4 @@
+pub mod Hold
+pub mod Rule
+pub mod Seats
+pub mod Steps

@@ -1,0 +1,18 @@
+//! Values that threads take and give one at a time, each of which keeps a stated fact with a key that was fixed when the lock was opened.
+#![tactic(auto)]
+
+mod filling;
+mod hold;
+mod kept;
+mod laws;
+mod lock;
+mod pass;
+mod rule;
+mod seat;
+mod view;
+
+pub use hold::Hold;
+pub use kept::Kept;
+pub use laws::parts_add_up;
+pub use lock::KeyedLock;
+pub use pass::Pass;
