@@ -1,5 +1,5 @@
 -- What a turn of a feeder leaves of it, by what the calls in the turn ensure.
-use Rattle.std.proofs.Common.{◌≡◌, ◌+◌, ℕ, List, refl, sym, ap, subst, ◌∙◌, le_trans}
+use Rattle.std.proofs.Common.{◌≡◌, ◌+◌, ◌++◌, ◌∷◌, [], ℕ, List, refl, sym, ap, subst, ◌∙◌, le_trans}
 use Rattle.std.specs.Option.{IfSome, IsSomeAnd}
 use Rattle.atomic_table.specs.Seated.{TableId}
 use Rattle.turn_lock.specs.declared.facts.Facts.{Facts}
@@ -17,6 +17,7 @@ use Rattle.source_state.specs.Looking.{plan_of, Serves}
 use Rattle.source_pool.specs.Passes.{Feed, IsFeederOf, IsIdleOf, in_turn, turned}
 use Rattle.source_pool.proofs.TurnLaws.{marks_kept}
 use Rattle.fetcher.specs.Turning.{IsFound, HasSeen, Feeds, IsPlanned, IsFed, IsOfSource}
+use Rattle.fetcher.specs.Calling.{IsLooked, IsTold}
 use Rattle.fetcher.proofs.EventLaws.{event_want, event_asks}
 
 -- a state that the writer took
@@ -67,6 +68,7 @@ pub record PlanTurn (page ahead : ℕ) (before after : Feed) (next : Plan) : Typ
   pub feeds : Feeds before.pass.1 after.pass.1
   pub turns : after.pass.1.turns ≡ before.pass.1.turns + 1
   pub plan : IsPlanned page ahead before.pass.1 after.pass.1 next
+  pub looked : IsLooked page ahead before.pass.1 after.pass.1 next
 
 pub plan_turn : (page ahead : ℕ) (before after : Feed) (s : State) (plan : Plan) → after ≡ turned (facts_of s) (facts_of s) before
     → KnowsOf (facts_of s) before.pass.1
@@ -78,6 +80,7 @@ plan_turn page ahead before after s plan e agrees all sound is serves =
       feeds = feeds_by s s before.pass.1 agrees (grows_same (facts_of s)) refl refl;
       turns = refl;
       plan = record { found = s; is = found_by s before.pass.1 agrees all sound; sees = seen_by s s before.pass.1; plans = is; serves = serves };
+      looked = record { found = s; is = found_by s before.pass.1 agrees all sound; gave = refl; sees = seen_by s s before.pass.1; plans = is };
     })
 
 -- a turn in which an event came
@@ -85,6 +88,7 @@ pub record EventTurn (event : Event) (before after : Feed) : Type 0 where
   pub source : after.source ≡ before.source
   pub feeds : Feeds before.pass.1 after.pass.1
   pub fed : IsFed event before.pass.1 after.pass.1
+  pub told : IsTold event before.pass.1 after.pass.1
 
 pub event_turn : (event : Event) (before after : Feed) (s t : State) → IsOfSource event → ((state : State) → IsFound state before.pass.1 → MayCome state event)
     → after ≡ turned (facts_of s) (facts_of t) before → KnowsOf (facts_of s) before.pass.1 → HasAll (facts_of s) before.pass.1 → IsSound s
@@ -102,6 +106,12 @@ event_turn event before after s t of may e agrees all sound is grows kept =
         is = found;
         may = may s found;
         sound = subst IsSound is kept;
+        sees = subst (λ u. HasSeen u (after_turn (facts_of s) (facts_of t) before.pass.1)) is (seen_by s t before.pass.1);
+      };
+      told = record {
+        found = s;
+        is = found;
+        gave = ap (λ u. before.pass.1.gave ++ facts_of u ∷ []) is;
         sees = subst (λ u. HasSeen u (after_turn (facts_of s) (facts_of t) before.pass.1)) is (seen_by s t before.pass.1);
       };
     })

@@ -7,3 +7,4 @@ mod MeterLaws
 mod ChainLaws
 pub mod ClosedLaws
 pub mod ToldLaws
+pub mod PlanLaws

@@ -1,4 +1,5 @@
 pub mod Turning
+pub mod Calling
 pub mod Causes
 pub mod Metering
 pub mod Chaining

@@ -9,7 +9,8 @@ ghost use Rattle.source_pool.specs.Passes.{IsIdleOf};
 ghost use Rattle.source_api.specs.Counting.{NoneFell, GaveNothing};
 ghost use Rattle.fetcher.specs.Turning.{IsFound, Feeds, IsPlanned, IsFed, Brings, MayTellPage, MayTellGrade, MayFetch, IsNext};
 ghost use Rattle.fetcher.specs.Turning.{settled_by, answer_by, kind_of, failed_by, IsOfSource};
-ghost use Rattle.fetcher.specs.Chaining.{moment, IsFetched};
+ghost use Rattle.fetcher.specs.Calling.{IsLooked, IsTold, CalledForPage, CalledForGrade, IsFetchTurn};
+ghost use Rattle.fetcher.specs.Chaining.{moment, IsFetched, point, MadeItsCalls};
 ghost use Rattle.fetcher.specs.Metering.{IsMetered, HasCountOf, counted_by};
 
 use super::stop::Stop;
@@ -31,6 +32,7 @@ fn read_plan(rt: &impl Wait, pool: &Pool, feeder: &mut Feeder, page: u32, ahead:
     ensures feeds { Feeds feeder.old.pass.1 feeder.new.pass.1 }
     ensures turns { feeder.new.pass.1.turns ≡ feeder.old.pass.1.turns + 1 }
     ensures plan { IsPlanned page ahead feeder.old.pass.1 feeder.new.pass.1 result }
+    ensures looked { IsLooked page ahead feeder.old.pass.1 feeder.new.pass.1 result }
     ensures next { MayFetch page ahead feeder.new.pass.1 result }
 {
     let state = pool.take(rt, feeder);
@@ -48,6 +50,7 @@ fn tell(rt: &impl Wait, pool: &Pool, feeder: &mut Feeder, event: Event)
     ensures source { feeder.new.source ≡ feeder.old.source }
     ensures feeds { Feeds feeder.old.pass.1 feeder.new.pass.1 }
     ensures fed { IsFed event feeder.old.pass.1 feeder.new.pass.1 }
+    ensures told { IsTold event feeder.old.pass.1 feeder.new.pass.1 }
 {
     let mut state = pool.take(rt, feeder);
     let _ = state.count();
@@ -64,6 +67,7 @@ fn tell_page(rt: &impl Wait, pool: &Pool, feeder: &mut Feeder, rows: PageRows) -
     ensures source { feeder.new.source ≡ feeder.old.source }
     ensures feeds { Feeds feeder.old.pass.1 feeder.new.pass.1 }
     ensures fed { IsFed (Event.Page rows) feeder.old.pass.1 feeder.new.pass.1 }
+    ensures told { IsTold (Event.Page rows) feeder.old.pass.1 feeder.new.pass.1 }
     ensures answer { result ≡ Turned.Paged (length rows) }
 {
     let given = rows.len();
@@ -105,6 +109,7 @@ fn tell_grade(
     ensures source { feeder.new.source ≡ feeder.old.source }
     ensures feeds { Feeds feeder.old.pass.1 feeder.new.pass.1 }
     ensures fed { IsFed (settled_by object grade) feeder.old.pass.1 feeder.new.pass.1 }
+    ensures told { IsTold (settled_by object grade) feeder.old.pass.1 feeder.new.pass.1 }
     ensures answer { result ≡ answer_by object grade }
 {
     let event = event_of(object, grade);
@@ -141,6 +146,7 @@ fn tell_fail(rt: &impl Wait, pool: &Pool, feeder: &mut Feeder, trouble: Trouble)
     ensures source { feeder.new.source ≡ feeder.old.source }
     ensures feeds { Feeds feeder.old.pass.1 feeder.new.pass.1 }
     ensures fed { IsFed (Event.Fail (kind_of trouble)) feeder.old.pass.1 feeder.new.pass.1 }
+    ensures told { IsTold (Event.Fail (kind_of trouble)) feeder.old.pass.1 feeder.new.pass.1 }
     ensures answer { result ≡ failed_by trouble }
 {
     let what = kind_of(trouble);
@@ -168,6 +174,7 @@ fn fetch_page<S: Source>(
     ensures brings { (page ahead : ℕ) → 1 ≤ page → from + count ≤ reach_of feeder.old.pass.1.sight.mark page ahead feeder.old.pass.1.name.1
         → Brings page ahead (S.list source.old) (S.counts source.old) (S.counts source.new) feeder.old.pass.1 feeder.new.pass.1 result }
     ensures busy { result ≢ Turned.Idle }
+    ensures called { CalledForPage from count (S.calls source.old) (S.calls source.new) feeder.old.pass.1 feeder.new.pass.1 result }
 {
     match source.page(alloc, from, count) {
         Ok(rows) => tell_page(rt, pool, feeder, PageRows::from_vec(rows)),
@@ -194,6 +201,7 @@ fn fetch_grade<S: Source>(
     ensures brings { (page ahead : ℕ)
         → Brings page ahead (S.list source.old) (S.counts source.old) (S.counts source.new) feeder.old.pass.1 feeder.new.pass.1 result }
     ensures busy { result ≢ Turned.Idle }
+    ensures called { CalledForGrade object (S.calls source.old) (S.calls source.new) feeder.old.pass.1 feeder.new.pass.1 result }
 {
     match source.grade(alloc, object) {
         Ok(grade) => tell_grade(rt, pool, feeder, object, grade),
@@ -203,6 +211,8 @@ fn fetch_grade<S: Source>(
 
 /// A turn of a fetcher: what is to be fetched next is read in a turn of the state, and then the source is called once, outside the
 /// turn, and what it answers is applied in one further turn. Where nothing is to be fetched the source isn't called.
+///
+/// *Cost*: one turn for `plan`; unless that is idle, one call of the source and one turn for `apply`.
 pub fn fetch_turn<S: Source>(
     rt: &impl Wait,
     alloc: Global,
@@ -221,6 +231,7 @@ pub fn fetch_turn<S: Source>(
     ensures list { S.list source.new ≡ S.list source.old }
     ensures later { NoneFell (S.counts source.old) (S.counts source.new) }
     ensures brings { Brings page ahead (S.list source.old) (S.counts source.old) (S.counts source.new) feeder.old.pass.1 feeder.new.pass.1 result }
+    ensures calls { IsFetchTurn page ahead (S.calls source.old) (S.calls source.new) feeder.old.pass.1 feeder.new.pass.1 result }
 {
     match read_plan(rt, pool, feeder, page, ahead) {
         Plan::Idle => Turned::Idle,
@@ -258,6 +269,8 @@ fn rest(rt: &impl Wait, pool: &Pool, feeder: &Feeder, turned: Turned, wanted: u6
 
 /// Takes turns until `stop` is set, and tells how much the source gave. Where nothing is to be fetched it sleeps until something is wanted
 /// or `stop` is set.
+///
+/// *Cost*: its turns; after an idle one it sleeps until something is wanted.
 pub fn fetch_loop<S: Source>(
     rt: &impl Wait,
     alloc: Global,
@@ -277,6 +290,7 @@ pub fn fetch_loop<S: Source>(
     ensures list { S.list source.new ≡ S.list source.old }
     ensures later { NoneFell (S.counts source.old) (S.counts source.new) }
     ensures turns { IsFetched page ahead (S.list source.old) (moment (S.counts source.old) feeder.old.pass.1) (moment (S.counts source.new) feeder.new.pass.1) }
+    ensures calls { MadeItsCalls page ahead (point (S.calls source.old) feeder.old.pass.1) (point (S.calls source.new) feeder.new.pass.1) }
     ensures metered { IsMetered page ahead result (S.counts source.old) (S.counts source.new) feeder.old.pass.1 feeder.new.pass.1 }
 {
     let mut fetched = Fetched { rows: 0, grades: 0 };

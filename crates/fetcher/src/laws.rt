@@ -6,7 +6,8 @@ ghost use Rattle.turn_lock.specs.declared.known.Known.{Known};
 ghost use Rattle.source_log.specs.declared.entry.LogEntry.{LogEntry};
 ghost use Rattle.source_log.specs.declared.entry.SourceFault.TheVariants.{Repeated, Clash};
 ghost use Rattle.source_log.specs.Log.{fault_in};
-ghost use Rattle.source_state.specs.State.{State};
+ghost use Rattle.source_state.specs.State.{State, facts_of};
+ghost use Rattle.source_state.specs.Looking.{plan_of};
 ghost use Rattle.source_api.specs.declared.counts.Counts.{Counts};
 ghost use Rattle.source_pool.specs.Closed.{IsClosed};
 ghost use Rattle.fetcher.specs.declared.turned.Fetched.{Fetched};
@@ -37,4 +38,9 @@ pub fn told_lists_neither_repeat_nor_clash()
 pub fn what_is_fetched_is_called_for()
     ensures { (page ahead : ℕ) (fetched : Fetched) (counts now : Counts) (before after pass : Known LogEntry) (state : State) → 1 ≤ page
         → IsMetered page ahead fetched counts now before after → IsClosed after pass state → IsCalledFor page ahead fetched before state }
+{}
+
+/// What a turn of the lock gave tells the plan of that turn: two states of the same facts have the same plan.
+pub fn what_a_turn_gave_tells_its_plan()
+    ensures { (page ahead : ℕ) (one other : State) → facts_of one ≡ facts_of other → plan_of one page ahead ≡ plan_of other page ahead }
 {}

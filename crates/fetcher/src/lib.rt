@@ -10,7 +10,8 @@ mod turned;
 
 pub use fetch::{fetch_loop, fetch_turn};
 pub use laws::{
-    told_lists_neither_repeat_nor_clash, turns_tell_the_list, what_is_fetched_is_called_for,
+    told_lists_neither_repeat_nor_clash, turns_tell_the_list, what_a_turn_gave_tells_its_plan,
+    what_is_fetched_is_called_for,
 };
 pub use slot::Slot;
 pub use source_state::reach;

@@ -42,6 +42,8 @@ impl FileSource {
     /// The source of a list file: values separated by commas, one record a line. A first record of
     /// the fields `object` and `grade` is a header. Any other record is a row where it has two fields,
     /// each of 1 to 10 digits with a value up to 4,294,967,295.
+    ///
+    /// *Cost*: one pass over the bytes, and a look-up by hash for each record; 12 bytes a record beside the index.
     pub fn open(alloc: Global, bytes: &[u8]) -> Result<FileSource, Memory>
         ensures { IfOk result (λ f. f ≡ record { records = list_records bytes.now; counts = no_counts }) }
     {

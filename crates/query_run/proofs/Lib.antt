@@ -5,5 +5,6 @@ pub mod AskingLaws
 mod Wants
 mod Looked
 mod Steps
+mod Fails
 mod Stands
 pub mod Stops

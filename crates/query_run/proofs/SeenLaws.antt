@@ -12,7 +12,8 @@ use Rattle.source_pool.specs.Passes.{hold_at}
 use Rattle.query_turns.specs.Inquiries.{logs_of}
 use Rattle.query_turns.proofs.Causes.{rows_begin, known_more}
 use Rattle.query_turns.proofs.Serving.{rows_told, known_told}
-use Rattle.query_run.specs.Seen.{state_seen, states_seen}
+use Rattle.source_pool.specs.Seen.{state_seen}
+use Rattle.query_run.specs.Seen.{states_seen}
 
 -- the state of a source, as its pass saw it
 pub state_is : (holds : List Hold) (source : ℕ) → state_at (states_seen holds) source ≡ state_seen (hold_at holds source).pass.1

@@ -13,32 +13,37 @@ use Rattle.machine_base.specs.Machine.{MachineState}
 use Rattle.machine_base.specs.declared.core_fault.CoreFault.{CoreFault}
 use Rattle.source_log.specs.declared.entry.FailKind.{FailKind}
 use Rattle.source_state.specs.declared.look.Waiting.{Waiting}
+use Rattle.source_state.specs.declared.look.Look.{Look}
 use Rattle.source_state.specs.declared.look.Look.TheVariants as look
 use Rattle.source_state.specs.declared.look.LookFault.{LookFault}
 use Rattle.source_state.specs.declared.look.LookFault.TheVariants as why
 use Rattle.source_state.specs.Looking.{waits_for, is_same, newer, told, Refuses}
-use Rattle.source_state.specs.State.{State, state_at}
+use Rattle.source_state.specs.State.{State, state_at, facts_of}
 use Rattle.source_log.proofs.Lists.{none_not_some, eqb_same}
 use Rattle.source_pool.specs.declared.hold.Hold.{Hold}
 use Rattle.source_pool.specs.Passes.{hold_at, OthersStay}
-use Rattle.source_pool.specs.Looks.{KeepsMarks, shown_fault, Ends, BeginsToWait}
+use Rattle.source_pool.specs.Looks.{Answers as LookAnswers}
+use Rattle.source_pool.specs.Looks.{KeepsMarks, shown_fault, Ends, BeginsToWait, IsTurn}
 use Rattle.query_core.specs.Machines.{state_of, MakesItsRun}
 use Rattle.query_turns.specs.declared.ended.Refusal.TheVariants as refusal
 use Rattle.query_turns.specs.declared.inquiry.Inquiry.{Inquiry}
 use Rattle.query_turns.specs.Inquiries.{told_to, needed, list_needed, source_of, source_needed, is_done}
-use Rattle.query_turns.specs.Causes.{IsOfList, CanNotBeHad, IsCause}
+use Rattle.query_turns.specs.Causes.{CanNotBeHad, IsCause}
 use Rattle.query_turns.specs.Kept.{IsServed}
 use Rattle.query_turns.proofs.Serving.{own_list}
 use Rattle.query_turns.proofs.Causes.{refusal_cause}
-use Rattle.query_run.specs.Seen.{state_seen, states_seen}
+use Rattle.source_pool.specs.Seen.{state_seen}
+use Rattle.query_run.specs.Seen.{states_seen}
 use Rattle.query_run.specs.Advancing.{WaitsForNothing, IsSourceIn}
 use Rattle.query_run.specs.Asking.{Wanted}
+use Rattle.query_run.specs.Failing.{HasCalledFor, RefusedBy, LookRefused}
 use Rattle.query_run.specs.Ran.{shown_to}
 use Rattle.query_run.specs.Looking.{FeedsFrom, IsReading, WantsOf, WaitsAt, IsOnItsWay, with_waiting, HasStopped}
 use Rattle.query_run.proofs.SeenLaws.{state_is, seen_long, told_goes}
 use Rattle.query_run.proofs.AskingLaws.{AsksMore, WasGiven, same_asks, wanted_more}
 use Rattle.query_run.proofs.Wants.{marks_same, wanted_kept, wants_given, wants_still, wants_begun}
 use Rattle.query_run.proofs.Steps.{Place}
+use Rattle.query_run.proofs.Fails.{all_turns, gave_one, called_on, called_first, refused_by}
 
 -- a source where nothing is waited for, as long as the query is unrefused
 pub waits_elsewhere : (before now : List Hold) (q : Inquiry) (source : ℕ) → IsOnItsWay before now q → source ≢ source_needed q
@@ -82,27 +87,32 @@ all_shown before now after source other others same h = elim (eqb_tells other so
 ]
 
 -- a query that was given what it needs
-pub open_given : (before now after : List Hold) (q r : Inquiry) → IsOnItsWay before now q → OthersStay (source_needed q) now after
+pub open_given : (before now after : List Hold) (q r : Inquiry) (answer : Look) → IsOnItsWay before now q
+    → IsTurn (needed q) (hold_at now (source_needed q)) (hold_at after (source_needed q)) answer → OthersStay (source_needed q) now after
     → Over (hold_at now (source_needed q)) (hold_at after (source_needed q))
     → (hold_at after (source_needed q)).shown ≡ (hold_at now (source_needed q)).shown → WasGiven q r → IsOnItsWay before after r
-open_given before now after q r h others over shown given = record {
+open_given before now after q r answer h turn others over shown given = record {
   waits = λ source n e. absurd (none_not_some (sym ((all_rest before now after q h others over).rests source) ∙ e));
   shown = λ source. all_shown before now after (source_needed q) source others shown (h.shown source);
   wants = λ source. wants_given q r source (hold_at before source) (hold_at now source) (hold_at after source) given
       (all_marks now after (source_needed q) source others over.marks) (h.wants source);
+  turns = λ source. all_turns (needed q) before now after (source_needed q) source answer others turn (h.turns source);
 }
 
 -- a query that waits, for what it needs
 source_same : (q r : Inquiry) → r.sources.items ≡ q.sources.items → state_of r.machine ≡ state_of q.machine → source_needed r ≡ source_needed q
 source_same q r sources same = ap (λ xs. slice_index_or xs (list_needed (needed r)) 0) sources ∙ ap (λ (t : MachineState). source_of q (list_needed t.need)) same
 
-waits_same : (q r : Inquiry) (source : ℕ) (n : Need) (before now after : Hold) → r.sources.items ≡ q.sources.items → state_of r.machine ≡ state_of q.machine
-    → after.waiting ≡ now.waiting → WaitsAt q source n before now → WaitsAt r source n before after
-waits_same q r source n before now after sources same waiting h = record {
+waits_same : (q r : Inquiry) (source : ℕ) (n m : Need) (answer : Look) (before now after : Hold) → r.sources.items ≡ q.sources.items
+    → state_of r.machine ≡ state_of q.machine
+    → IsTurn m now after answer → after.waiting ≡ now.waiting → WaitsAt q source n before now → WaitsAt r source n before after
+waits_same q r source n m answer before now after sources same turn waiting h = record {
   here = h.here ∙ sym (source_same q r sources same);
   needs = h.needs ∙ ap (λ (t : MachineState). t.need) (sym same);
   going = h.going;
   noted = subst (AtMost before.pass.1.tally) (sym (ap (λ (w : Waiting). w.noted) waiting)) h.noted;
+  called = subst (λ (w : Waiting). HasCalledFor n w.noted before.pass.1 after.pass.1) (sym waiting)
+      (called_on n now.waiting.noted before.pass.1 now.pass.1 after.pass.1 (facts_of turn.left) (gave_one m now after answer turn) h.called);
 }
 
 need_same : (n : Need) → is_done n ≡ false → is_same n n ≡ true
@@ -123,11 +133,13 @@ not_yet before now q h unwaited = elim (option_cases (hold_at now (source_needed
       absurd (cc)
 ]
 
-begun_waits : (before now after : List Hold) (q r : Inquiry) (n : Need) → r.sources.items ≡ q.sources.items → state_of r.machine ≡ state_of q.machine
+begun_waits : (before now after : List Hold) (q r : Inquiry) (n : Need) (answer : Look)
+    → IsFrontOf (hold_at before (source_needed q)).pass.1.gave (hold_at now (source_needed q)).pass.1.gave
+    → IsTurn (needed q) (hold_at now (source_needed q)) (hold_at after (source_needed q)) answer → r.sources.items ≡ q.sources.items → state_of r.machine ≡ state_of q.machine
     → is_done (needed q) ≡ false → AtMost (hold_at before (source_needed q)).pass.1.tally (hold_at after (source_needed q)).pass.1.tally
     → BeginsToWait (needed q) (hold_at now (source_needed q)) (hold_at after (source_needed q)) → (hold_at after (source_needed q)).waiting.need ≡ Some n
     → WaitsAt r (source_needed q) n (hold_at before (source_needed q)) (hold_at after (source_needed q))
-begun_waits before now after q r n sources same going most begins e =
+begun_waits before now after q r n answer front turn sources same going most begins e =
     let is : Some (needed q) ≡ Some n = sym (ap (λ (w : Waiting). w.need) begins.notes) ∙ e in
     let one : needed q ≡ n = cc in
     record {
@@ -135,14 +147,17 @@ begun_waits before now after q r n sources same going most begins e =
       needs = sym one ∙ ap (λ (t : MachineState). t.need) (sym same);
       going = subst (λ m. is_done m ≡ false) one going;
       noted = subst (AtMost (hold_at before (source_needed q)).pass.1.tally) (sym (ap (λ (w : Waiting). w.noted) begins.notes)) most;
+      called = subst (λ m. HasCalledFor m (hold_at after (source_needed q)).waiting.noted (hold_at before (source_needed q)).pass.1 (hold_at after (source_needed q)).pass.1) one
+          (called_first (needed q) answer (hold_at before (source_needed q)).pass.1 (hold_at now (source_needed q)) (hold_at after (source_needed q)) front turn begins);
     }
 
-pub open_waits : (before now after : List Hold) (q r : Inquiry) → Place now q → IsOnItsWay before now q → OthersStay (source_needed q) now after
+pub open_waits : (before now after : List Hold) (q r : Inquiry) → Place now q → IsOnItsWay before now q
+    → IsTurn (needed q) (hold_at now (source_needed q)) (hold_at after (source_needed q)) look.NotYet → OthersStay (source_needed q) now after
     → (hold_at after (source_needed q)).shown ≡ (hold_at now (source_needed q)).shown
     → r.sources.items ≡ q.sources.items → state_of r.machine ≡ state_of q.machine → is_done (needed q) ≡ false
     → AtMost (hold_at before (source_needed q)).pass.1.tally (hold_at after (source_needed q)).pass.1.tally
     → Rattle.source_pool.specs.Looks.Waits (needed q) (hold_at now (source_needed q)) (hold_at after (source_needed q)) look.NotYet → IsOnItsWay before after r
-open_waits before now after q r place h others shown sources same going most waits = record {
+open_waits before now after q r place h turn others shown sources same going most waits = record {
   waits = λ source n e. elim (eqb_tells source (source_needed q)) [
     | inl t ↦ subst (λ s. WaitsAt r s n (hold_at before s) (hold_at after s)) (sym t.1)
         (here n (subst (λ s. (hold_at after s).waiting.need ≡ Some n) t.1 e))
@@ -156,14 +171,15 @@ open_waits before now after q r place h others shown sources same going most wai
         wants_still q r source (hold_at before source) (hold_at now source) (hold_at after source) sources same (marks_same (hold_at now source) (hold_at after source) stays)
         (ap (λ (hold : Hold). hold.waiting) stays) (h.wants source)
   ];
+  turns = λ source. all_turns (needed q) before now after (source_needed q) source look.NotYet others turn (h.turns source);
 }
   where
     here : (n : Need) → (hold_at after (source_needed q)).waiting.need ≡ Some n
         → WaitsAt r (source_needed q) n (hold_at before (source_needed q)) (hold_at after (source_needed q))
     here n e = elim waits [
-      | inl on ↦ waits_same q r (source_needed q) n (hold_at before (source_needed q)) (hold_at now (source_needed q)) (hold_at after (source_needed q)) sources same on.same
+      | inl on ↦ waits_same q r (source_needed q) n (needed q) look.NotYet (hold_at before (source_needed q)) (hold_at now (source_needed q)) (hold_at after (source_needed q)) sources same turn on.same
           (h.waits (source_needed q) n (sym (ap (λ (w : Waiting). w.need) on.same) ∙ e))
-      | inr begins ↦ begun_waits before now after q r n sources same going most begins e
+      | inr begins ↦ begun_waits before now after q r n look.NotYet (h.turns (source_needed q)) turn sources same going most begins e
     ]
 
     wants_here : WantsOf r (source_needed q) (hold_at before (source_needed q)) (hold_at after (source_needed q))
@@ -234,6 +250,7 @@ core_stops before now after q r states fault h others over shown sources same re
             ∙ ap (λ o. shown_to (with_waiting last r) o source (hold_at before source).shown) (sym refused);
         wanted = λ source. all_wanted before now after q (with_waiting last r) source h others over.marks (same_asks q (with_waiting last r) sources same);
       };
+      why = subst (LookRefused r before after) (sym refused) tt;
       rests = all_rest before now after q h others over;
     }
 
@@ -294,6 +311,8 @@ fault_shown before now after q r source fault h others shown sources =
 pub fault_stops : (before now after : List Hold) (q r : Inquiry) (states : List State) (fault : LookFault) → IsOnItsWay before now q
     → OthersStay (source_needed q) now after
     → Over (hold_at now (source_needed q)) (hold_at after (source_needed q))
+    → IsTurn (needed q) (hold_at now (source_needed q)) (hold_at after (source_needed q)) (look.Fault fault)
+    → LookAnswers (needed q) (hold_at now (source_needed q)) (hold_at after (source_needed q)) (look.Fault fault)
     → (hold_at after (source_needed q)).shown ≡ shown_fault fault (hold_at now (source_needed q)).shown
     → r.sources.items ≡ q.sources.items → state_of r.machine ≡ state_of q.machine → r.refusal ≡ Some (refusal.Look (list_needed (needed q)) fault)
     → is_done (needed q) ≡ false → length r.sources.items ≡ (state_of r.machine).log.lists
@@ -302,7 +321,7 @@ pub fault_stops : (before now after : List Hold) (q r : Inquiry) (states : List 
     → Refuses (needed q) (state_seen (hold_at after (source_needed q)).pass.1) (state_seen (hold_at after (source_needed q)).pass.1)
     (hold_at now (source_needed q)).waiting (hold_at after (source_needed q)).waiting fault
     → HasStopped before after r
-fault_stops before now after q r states fault h others over shown sources same refused going many each run feeds refuses =
+fault_stops before now after q r states fault h others over turn said shown sources same refused going many each run feeds refuses =
     let s = source_needed q in
     let u = state_seen (hold_at after s).pass.1 in
     let known = (hold_at before s).pass.1.tally in
@@ -324,6 +343,14 @@ fault_stops before now after q r states fault h others over shown sources same r
             ∙ ap (λ o. shown_to (with_waiting last r) o source (hold_at before source).shown) (sym refused);
         wanted = λ source. all_wanted before now after q (with_waiting last r) source h others over.marks (same_asks q (with_waiting last r) sources same);
       };
+      why = subst (LookRefused r before after) (sym refused)
+          (subst (λ k. RefusedBy fault (needed r) (hold_at before k).pass.1 (hold_at after k).pass.1) (sym there)
+          (subst (λ (t : MachineState). RefusedBy fault t.need (hold_at before s).pass.1 (hold_at after s).pass.1) (sym same)
+          (refused_by (needed q) (hold_at before s).pass.1 (hold_at now s) (hold_at after s) fault turn said
+          (λ what tells.
+          let m = told_waits (hold_at now s).waiting (needed q) (hold_at after s).pass.1.tally what tells in
+          let at = h.waits s m.0 m.1 in
+          subst (λ n. HasCalledFor n (hold_at now s).waiting.noted (hold_at before s).pass.1 (hold_at now s).pass.1) at.needs at.called))));
       rests = all_rest before now after q h others over;
     }
 
@@ -341,6 +368,7 @@ done_stops before now r reading h unrefused done =
         shown = λ source. h.shown source ∙ ap (λ o. shown_to (with_waiting last r) o source (hold_at before source).shown) (sym unrefused);
         wanted = λ source. wanted_more r (with_waiting last r) source (hold_at before source).pass.1 (hold_at now source).pass.1 (same_asks r (with_waiting last r) refl refl) (h.wants source).wanted;
       };
+      why = subst (LookRefused r before now) (sym unrefused) tt;
       rests = record {
         rests = λ source. elim (option_cases (hold_at now source).waiting.need) [
           | inl none ↦ none

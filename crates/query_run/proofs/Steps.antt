@@ -25,7 +25,7 @@ use Rattle.query_turns.specs.Kept.{IsServed}
 use Rattle.query_turns.specs.Causes.{IsCause}
 use Rattle.query_turns.specs.Turns.{MayFeed, Answers}
 use Rattle.query_turns.proofs.Serving.{state_set, listed, open_parts, may_feed}
-use Rattle.query_run.specs.Seen.{state_seen}
+use Rattle.source_pool.specs.Seen.{state_seen}
 use Rattle.query_run.specs.Looking.{FeedsFrom, IsReading, LooksOnce}
 use Rattle.query_run.proofs.Looked.{IsDecidedBy, row_seen, grade_seen, SeesOn, name_on, feeds_later}
 
@@ -166,6 +166,7 @@ pub record LookedAt (n : Need) (source : ℕ) (before after : List Hold) (answer
   pub others : OthersStay source before after
   pub turn : IsTurn n (hold_at before source) (hold_at after source) answer
   pub waits : Waits n (hold_at before source) (hold_at after source) answer
+  pub said : Rattle.source_pool.specs.Looks.Answers n (hold_at before source) (hold_at after source) answer
   pub shown : (hold_at after source).shown ≡ shown_by answer (hold_at before source).shown
   pub took : TookTurn (hold_at before source).pass.1 (hold_at after source).pass.1
   pub within : IsWithin (hold_at before source) → IsWithin (hold_at after source)
@@ -189,6 +190,7 @@ looks_once before after q r answer looked answers run same sources waiting = rec
   answer = answer;
   turn = looked.turn;
   waits = looked.waits;
+  said = looked.said;
   shown = looked.shown;
   took = looked.took;
   within = looked.within;

@@ -39,7 +39,8 @@ use Rattle.query_turns.specs.Turns.{RowTaken}
 use Rattle.query_turns.proofs.Ending.{right}
 use Rattle.query_turns.proofs.Serving.{open_parts, Went, went}
 use Rattle.query_turns.proofs.Opening.{opened_sound}
-use Rattle.query_run.specs.Seen.{state_seen, states_seen}
+use Rattle.source_pool.specs.Seen.{state_seen}
+use Rattle.query_run.specs.Seen.{states_seen}
 use Rattle.query_run.specs.Advancing.{WaitsForNothing, IsSourceIn, HasSourcesIn, KnowsMore, Advances}
 use Rattle.query_run.specs.Ran.{Ran}
 use Rattle.query_run.specs.Looking.{FeedsFrom, IsReading, LooksOnce, IsOnItsWay, with_waiting, HasStopped, Stands, HasLooked, wants_memory}
@@ -91,7 +92,8 @@ row_stands : (before now after : List Hold) (q r : Inquiry) (row : Row) (states 
     → state_at states (source_needed q) ≡ state_seen (hold_at after (source_needed q)).pass.1
     → FeedsFrom after r states → Went states q r → r.refusal ≡ refused → RowTaken row q r refused → Stands before after r refused
 row_stands before now after q r row states None h reading going on l is seen feeds w e taken =
-    open_given before now after q r h l.others
+    open_given before now after q r (look.Row row) h
+    (subst (Rattle.source_pool.specs.Looks.IsTurn (needed q) (hold_at now (source_needed q)) (hold_at after (source_needed q))) is l.turn) l.others
     (over_of _ _ (subst (Rattle.source_pool.specs.Looks.Waits (needed q) (hold_at now (source_needed q)) (hold_at after (source_needed q))) is l.waits))
     (l.shown ∙ ap (λ a. Rattle.source_pool.specs.Looks.shown_by a (hold_at now (source_needed q)).shown) is)
     (record { sources = l.sources; access = Rattle.machine_base.specs.Machine.row_access (needed q) row; accesses = taken.1.log.accesses; meets = row_meets (needed q) row going })
@@ -156,7 +158,7 @@ step_grade before now after q r grade h reading ending on l is =
       states = states;
       feeds = feeds_on after q r states f.feeds l.sources w.goes w.fed;
       stands = subst (Stands before after r) (sym answers.0)
-          (open_given before now after q r h l.others
+          (open_given before now after q r (look.Grade grade) h turn l.others
           (over_of _ _ (subst (Rattle.source_pool.specs.Looks.Waits (needed q) (hold_at now s) (hold_at after s)) is l.waits))
           (l.shown ∙ ap (λ a. Rattle.source_pool.specs.Looks.shown_by a (hold_at now s).shown) is)
           (record { sources = l.sources; access = Rattle.machine_base.specs.Machine.grade_access (needed q) grade; accesses = answers.1.log.accesses; meets = grade_meets (needed q) grade parts.1 }));
@@ -183,7 +185,7 @@ step_waits sources before now after q r advances h reading ending on l is =
       states = reading.states;
       feeds = feeds_on after q r reading.states feeds l.sources goes (subst (IsFedFrom (told_to reading.states q)) (sym same) reading.feeds.fed);
       stands = subst (Stands before after r) (sym answers.0)
-          (open_waits before now after q r place h l.others
+          (open_waits before now after q r place h (subst (Rattle.source_pool.specs.Looks.IsTurn (needed q) (hold_at now s) (hold_at after s)) is l.turn) l.others
           (l.shown ∙ ap (λ a. Rattle.source_pool.specs.Looks.shown_by a (hold_at now s).shown) is)
           l.sources same parts.1 (tally_more sources before now after q advances on)
           (subst (Rattle.source_pool.specs.Looks.Waits (needed q) (hold_at now s) (hold_at after s)) is l.waits));
@@ -207,6 +209,7 @@ step_fault before now after q r fault h reading ending on l is =
       stands = subst (Stands before after r) (sym answers.0)
           (fault_stops before now after q r reading.states fault h l.others
           (over_of _ _ (subst (Rattle.source_pool.specs.Looks.Waits (needed q) (hold_at now s) (hold_at after s)) is l.waits))
+          turn (subst (Rattle.source_pool.specs.Looks.Answers (needed q) (hold_at now s) (hold_at after s)) is l.said)
           (l.shown ∙ ap (λ a. Rattle.source_pool.specs.Looks.shown_by a (hold_at now s).shown) is)
           l.sources same answers.0 parts.1 (many_on now q r reading l.sources goes) (each_on now after q r on reading l.sources goes) l.run feeds
           (fault_seen (needed q) (hold_at now s) (hold_at after s) fault turn));
@@ -303,6 +306,7 @@ looked_none before q rests reading unrefused = record {
       wanted = record { rows = inl (le_refl _); grades = omega arith; mine = λ object c. inl c };
       given = λ none. omega arith;
     };
+    turns = λ source. begins_same _;
   });
 }
 
@@ -379,6 +383,7 @@ ran before after ready first q end is looked stop spared ends = record {
   spared = λ list e. let bad : true ≡ false = ap wants_memory (sym e) ∙ spared in cc;
   served = stop.served;
   uses = stop.uses;
+  why = stop.why;
 }
 
 pub ran_right : (ready : Ready) (before after : List Hold) (end : Ended) → Ran ready before after end → IsRight ready end

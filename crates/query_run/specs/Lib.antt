@@ -2,5 +2,6 @@
 pub mod Seen
 pub mod Advancing
 pub mod Asking
+pub mod Failing
 pub mod Ran
 pub mod Looking

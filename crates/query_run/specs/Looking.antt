@@ -9,6 +9,7 @@ use Rattle.source_state.specs.declared.look.Waiting.{Waiting}
 use Rattle.source_state.specs.State.{State, IsSound, state_at}
 use Rattle.source_pool.specs.declared.hold.Hold.{Hold}
 use Rattle.source_pool.specs.Passes.{hold_at, OthersStay}
+use Rattle.source_pool.specs.Looks.{Answers as LookAnswers}
 use Rattle.source_pool.specs.Looks.{shown_by, IsTurn, IsWithin, TookTurn, Waits}
 use Rattle.query_core.specs.Driving.{Continues, IsFedFrom}
 use Rattle.query_core.specs.Machines.{algorithm_of, state_of, MakesItsRun}
@@ -21,6 +22,7 @@ use Rattle.query_turns.specs.Turns.{Answers}
 use Rattle.query_run.specs.Seen.{states_seen}
 use Rattle.query_run.specs.Advancing.{WaitsForNothing, IsSourceIn, Advances}
 use Rattle.query_run.specs.Asking.{is_grade_of, Wanted}
+use Rattle.query_run.specs.Failing.{HasCalledFor, LookRefused}
 use Rattle.query_run.specs.Ran.{Uses}
 
 -- states from which a query was fed: each is sound and has as many objects as the query counts, and the pass saw its log, or a longer one
@@ -45,6 +47,7 @@ pub record LooksOnce (before after : List Hold) (q r : Inquiry) : Type 0 where
   pub answer : Look
   pub turn : IsTurn (needed q) (hold_at before (source_needed q)) (hold_at after (source_needed q)) answer
   pub waits : Waits (needed q) (hold_at before (source_needed q)) (hold_at after (source_needed q)) answer
+  pub said : LookAnswers (needed q) (hold_at before (source_needed q)) (hold_at after (source_needed q)) answer
   pub shown : (hold_at after (source_needed q)).shown ≡ shown_by answer (hold_at before (source_needed q)).shown
   pub took : TookTurn (hold_at before (source_needed q)).pass.1 (hold_at after (source_needed q)).pass.1
   pub within : IsWithin (hold_at before (source_needed q)) → IsWithin (hold_at after (source_needed q))
@@ -64,12 +67,14 @@ pub record WantsOf (q : Inquiry) (source : ℕ) (before now : Hold) : Type 0 whe
   pub wanted : Wanted q source before.pass.1 now.pass.1
   pub given : now.waiting.need ≡ None → now.pass.1.asked ≤ before.pass.1.asked + grades_given q source
 
--- what is waited for at a source is what the query needs, and what was noted then is no less than what the pass knew at first
+-- what is waited for at a source is what the query needs; the query called for it, and the tally was noted then, which is no less than what
+-- the pass knew at first
 pub record WaitsAt (q : Inquiry) (source : ℕ) (need : Need) (before now : Hold) : Type 0 where
   pub here : source ≡ source_needed q
   pub needs : need ≡ needed q
   pub going : is_done need ≡ false
   pub noted : AtMost before.pass.1.tally now.waiting.noted
+  pub called : HasCalledFor need now.waiting.noted before.pass.1 now.pass.1
 
 -- a query that isn't refused: nothing but its need is waited for, and no fail was shown
 pub record IsOnItsWay (before now : List Hold) (q : Inquiry) : Type 0 where
@@ -77,6 +82,7 @@ pub record IsOnItsWay (before now : List Hold) (q : Inquiry) : Type 0 where
       → WaitsAt q source need (hold_at before source) (hold_at now source)
   pub shown : (source : ℕ) → (hold_at now source).shown ≡ (hold_at before source).shown
   pub wants : (source : ℕ) → WantsOf q source (hold_at before source) (hold_at now source)
+  pub turns : (source : ℕ) → IsFrontOf (hold_at before source).pass.1.gave (hold_at now source).pass.1.gave
 
 -- the query with what it waited for last
 abbrev pub with_waiting : Waiting → Inquiry → Inquiry
@@ -87,6 +93,7 @@ pub record HasStopped (before now : List Hold) (q : Inquiry) : Type 0 where
   pub last : Waiting
   pub served : IsServed (states_seen now) (with_waiting last q)
   pub uses : Uses before now (with_waiting last q)
+  pub why : LookRefused q before now q.refusal
   pub rests : WaitsForNothing now
 
 abbrev pub Stands : List Hold → List Hold → Inquiry → Option Refusal → Type 0

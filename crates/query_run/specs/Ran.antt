@@ -17,6 +17,7 @@ use Rattle.query_turns.specs.Made.{IsOf}
 use Rattle.query_turns.specs.Endings.{EndsAs}
 use Rattle.query_run.specs.Seen.{states_seen}
 use Rattle.query_run.specs.Asking.{Wanted}
+use Rattle.query_run.specs.Failing.{LookRefused}
 
 -- the fails that are shown of a source: one more where a look at it told the fail that refuses the query
 abbrev pub shown_to : Inquiry → Option Refusal → ℕ → Tally → Tally
@@ -33,7 +34,8 @@ pub record Uses (before after : List Hold) (q : Inquiry) : Type 0 where
 
 -- a query that is ready ran through a pass and ended so. There is the query as it stood then: it has the answer of its run, or is refused, but
 -- not for want of memory; its transcript is how its run begins on every table that agrees, and is drawn from the logs that the pass saw;
--- and where it is refused, what it needed next can't be had, by what the pass saw
+-- where it is refused, what it needed next can't be had, by what the pass saw; and a fail that refuses it came after the query itself
+-- called for what it needed then
 pub record Ran (ready : Ready) (before after : List Hold) (end : Ended) : Type 0 where
   pub q : Inquiry
   pub of : IsOf ready q
@@ -41,3 +43,4 @@ pub record Ran (ready : Ready) (before after : List Hold) (end : Ended) : Type 0
   pub spared : (list : ℕ) → q.refusal ≢ Some (Look list why.Memory)
   pub served : IsServed (states_seen after) q
   pub uses : Uses before after q
+  pub why : LookRefused q before after q.refusal

@@ -1,23 +1,8 @@
 -- What the pass of a pool knows of the sources, as states.
-use Rattle.std.specs.Prelude.{false, None, List, map}
-use Rattle.turn_lock.specs.declared.known.Known.{Known}
-use Rattle.source_log.specs.declared.entry.LogEntry.{LogEntry}
+use Rattle.std.specs.Prelude.{List, map}
 use Rattle.source_state.specs.State.{State}
 use Rattle.source_pool.specs.declared.hold.Hold.{Hold}
-
--- the state of a source as a pass saw it last: its log, its asks and how many fails of each kind came. How far rows are wanted, which kind of
--- fail came last, and whether the state is paused, isn't told by it
-abbrev pub state_seen : Known LogEntry → State
-state_seen known = record {
-  list = known.name.0;
-  count = known.name.1;
-  want = 0;
-  log = known.seen;
-  asks = known.met;
-  tally = known.tally;
-  last_fail = None;
-  paused = false;
-}
+use Rattle.source_pool.specs.Seen.{state_seen}
 
 -- the states of all sources, by their numbers, as the pass saw each last
 abbrev pub states_seen : List Hold → List State

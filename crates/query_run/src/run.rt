@@ -76,6 +76,9 @@ fn wants_memory(refusal: Option<Refusal>) -> bool
 /// Runs a query over the sources of a pool, through a pass of it, and may wait. It looks for what the query's machine needs next until that
 /// is there or can't be had, and ends with the answer, or with why the query is refused. Where a call of a source wanted memory while the
 /// query waited for it, this wants memory too.
+///
+/// *Cost*: for each access one `Pool::look` and the feeding of the machine, and a look more each time that it is woken.
+/// No memory from the making of the machine to its answer.
 pub fn run_query(
     rt: &impl Wait,
     alloc: Global,

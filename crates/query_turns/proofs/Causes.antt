@@ -9,9 +9,9 @@ use Rattle.ranked_list.specs.declared.row.Row.{Row}
 use Rattle.ranked_list.specs.declared.need.Need.{Need}
 use Rattle.ranked_list.specs.declared.need.Need.TheVariants as need
 use Rattle.turn_lock.specs.declared.facts.Tally.{Tally}
-use Rattle.turn_lock.specs.Facts.{IsFrontOf as GoesOnAs, AtMost}
+use Rattle.turn_lock.specs.Facts.{IsFrontOf, AtMost}
 use Rattle.ranked_list.proofs.OptionLaws.{none_if_is_none}
-use Rattle.topk_theory.specs.Transcript.{IsFrontOf}
+use Rattle.topk_theory.specs.Transcript.{Begins}
 use Rattle.topk_theory.specs.Bounds.{grade_among}
 use Rattle.topk_theory.proofs.AgreementLists.{begins_with, begins_get}
 use Rattle.topk_theory.proofs.AgreementRows.{grade_among_row}
@@ -42,12 +42,12 @@ use Rattle.query_turns.specs.Causes.{RowLacksRoom, IsAtFault, IsMissed, AreAsksF
 use Rattle.query_turns.proofs.Asking.{asked_settled, not_asked, as_graded, as_bad, as_missed}
 
 -- what is told of a log is told of each that goes on as it
-pub rows_begin : (log more : List LogEntry) → GoesOnAs log more → IsFrontOf (rows_in log) (rows_in more)
+pub rows_begin : (log more : List LogEntry) → IsFrontOf log more → Begins (rows_in log) (rows_in more)
 rows_begin log more b =
     let parts : rows_in more ≡ rows_in log ++ rows_in b.rest = ap rows_in b.goes_on ∙ filter_map-append kept_row log b.rest in
-    subst (λ rows. IsFrontOf (rows_in log) rows) (sym parts) (begins_with (rows_in log) (rows_in b.rest))
+    subst (λ rows. Begins (rows_in log) rows) (sym parts) (begins_with (rows_in log) (rows_in b.rest))
 
-pub known_more : (log more : List LogEntry) (row : Row) → GoesOnAs log more → Contains (rows_in log ++ graded_in log) row
+pub known_more : (log more : List LogEntry) (row : Row) → IsFrontOf log more → Contains (rows_in log ++ graded_in log) row
     → Contains (rows_in more ++ graded_in more) row
 known_more log more row b c =
     let rows : rows_in more ≡ rows_in log ++ rows_in b.rest = ap rows_in b.goes_on ∙ filter_map-append kept_row log b.rest in
@@ -61,18 +61,18 @@ first_more : {X : Type 0} (xs ys : List X) (x : X) → first_of xs ≡ Some x �
 first_more [] ys x e = absurd (none_not_some e)
 first_more (y ∷ xs) ys x e = e
 
-pub settling_more : (log more : List LogEntry) (object : ℕ) (settling : Settling) → GoesOnAs log more → settling_in log object ≡ Some settling
+pub settling_more : (log more : List LogEntry) (object : ℕ) (settling : Settling) → IsFrontOf log more → settling_in log object ≡ Some settling
     → settling_in more object ≡ Some settling
 settling_more log more object settling b e =
     ap (λ l. settling_in l object) b.goes_on ∙ ap (first_of {X = Settling}) (filter_map-append (settled_as object) log b.rest)
     ∙ first_more (filter_map (settled_as object) log) (filter_map (settled_as object) b.rest) settling e
 
-pub fault_more : (log more : List LogEntry) (fault : SourceFault) → GoesOnAs log more → fault_in log ≡ Some fault → fault_in more ≡ Some fault
+pub fault_more : (log more : List LogEntry) (fault : SourceFault) → IsFrontOf log more → fault_in log ≡ Some fault → fault_in more ≡ Some fault
 fault_more log more fault b e =
     ap fault_in b.goes_on ∙ ap (first_of {X = SourceFault}) (filter_map-append fault_set log b.rest) ∙ first_more (faults_in log) (faults_in b.rest) fault e
 
 -- a list that goes on and is no longer is the same
-same_list : (xs ys : List ℕ) → GoesOnAs xs ys → length ys ≤ length xs → ys ≡ xs
+same_list : (xs ys : List ℕ) → IsFrontOf xs ys → length ys ≤ length xs → ys ≡ xs
 same_list xs ys b few =
     let none : length b.rest ≡ 0 = let e : length ys ≡ length (xs ++ b.rest) = ap length b.goes_on in omega (arith, e, few, length-append xs b.rest) in
     b.goes_on ∙ ap (λ rest. xs ++ rest) (no_length b.rest none) ∙ no_more xs

@@ -184,6 +184,8 @@ impl World {
     ///
     /// A page comes where no row fault stands and a row is missing, and its rows are no more than are missing; a grade and a miss
     /// are of an object whose ask is pending; a query that has ended takes no turn.
+    ///
+    /// *Cost*: `SourceState::apply`, or one `look_at` and the feeding of a machine. Takes no memory.
     pub fn step(&mut self, step: Step)
         requires { MayStep self.old step }
         ensures steps { Steps step self.old self.new }

@@ -1,4 +1,5 @@
 -- What sources and shelves promise.
+pub mod Calls
 pub mod Counting
 pub mod EachOnce
 pub mod Entries

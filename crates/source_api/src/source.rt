@@ -1,10 +1,11 @@
 //! A ranked list that is read by calls.
 
-ghost use Rattle.std.specs.Prelude.{◌≡◌, ◌≤◌, List, Option, length, vec_len, IfOk, IfErr, IfSome, OnErr, OnOk};
+ghost use Rattle.std.specs.Prelude.{◌≡◌, ◌≤◌, List, Option, None, Ok, Err, length, vec_len, IfOk, IfErr, IfSome, OnErr, OnOk};
 ghost use Rattle.ranked_list.specs.declared.row.Row.{Row as RowOf};
 ghost use Rattle.source_api.specs.declared.counts.Counts.{Counts as CountsOf};
 ghost use Rattle.source_api.specs.Counting.{NoneFell, TroubleHasCause, GaveNothing, GaveRows, GaveGrade};
 ghost use Rattle.source_api.specs.Told.{HasEachOnce, IsPage, IsGrade};
+ghost use Rattle.source_api.specs.Calls.{Call, with_call};
 
 use ranked_list::Row;
 use std::alloc::Global;
@@ -24,11 +25,14 @@ pub enum Trouble {
 ///
 /// `list` is its rows from the top down, where the source tells them. No call changes them, and a
 /// list that is told has no object twice. `counts` is what the source has counted over its calls.
-/// No count falls, and a count stands still at the last value of its type.
+/// No count falls, and a count stands still at the last value of its type. `calls` are the calls that
+/// were made of the source, in their order, where it tells them.
 pub trait Source: Send + Drop {
     ghost list: { Self → Option (List RowOf) };
 
     ghost counts: { Self → CountsOf };
+
+    ghost calls: { Self → Option (List Call) } = { λ _. None };
 
     /// How many rows the list has.
     fn size(&mut self, alloc: Global) -> Result<u64, Trouble>
@@ -36,7 +40,9 @@ pub trait Source: Send + Drop {
         ensures later { NoneFell (counts self.old) (counts self.new) }
         ensures cause { IfErr result (TroubleHasCause (counts self.old) (counts self.new)) }
         ensures given { GaveNothing (counts self.old) (counts self.new) }
-        ensures size { IfOk result (λ size. IfSome (list self.old) (λ rows. size ≡ length rows)) };
+        ensures size { IfOk result (λ size. IfSome (list self.old) (λ rows. size ≡ length rows)) }
+        ensures answered { IfOk result (λ size. calls self.new ≡ with_call (Call.Size (Ok size)) (calls self.old)) }
+        ensures refused { IfErr result (λ why. calls self.new ≡ with_call (Call.Size (Err why)) (calls self.old)) };
 
     /// Rows after the first `from` of the list, at most `count` of them. Where the list is told there
     /// is at least one unless the list has ended.
@@ -48,7 +54,9 @@ pub trait Source: Send + Drop {
         ensures given { IfOk result (λ page. GaveRows (vec_len page) (counts self.old) (counts self.new)) }
         ensures gave_nothing { OnErr result (GaveNothing (counts self.old) (counts self.new)) }
         ensures bound { IfOk result (λ page. vec_len page ≤ count) }
-        ensures page { IfOk result (λ page. IfSome (list self.old) (λ rows. IsPage rows from page.items)) };
+        ensures page { IfOk result (λ page. IfSome (list self.old) (λ rows. IsPage rows from page.items)) }
+        ensures answered { IfOk result (λ page. calls self.new ≡ with_call (Call.Page from count (Ok page.items)) (calls self.old)) }
+        ensures refused { IfErr result (λ why. calls self.new ≡ with_call (Call.Page from count (Err why)) (calls self.old)) };
 
     /// The grade of an object, or None where the list hasn't the object.
     fn grade(&mut self, alloc: Global, object: u32) -> Result<Option<u32>, Trouble>
@@ -57,7 +65,9 @@ pub trait Source: Send + Drop {
         ensures cause { IfErr result (TroubleHasCause (counts self.old) (counts self.new)) }
         ensures given { OnOk result (GaveGrade (counts self.old) (counts self.new)) }
         ensures gave_nothing { OnErr result (GaveNothing (counts self.old) (counts self.new)) }
-        ensures grade { IfOk result (λ grade. IfSome (list self.old) (λ rows. IsGrade rows object grade)) };
+        ensures grade { IfOk result (λ grade. IfSome (list self.old) (λ rows. IsGrade rows object grade)) }
+        ensures answered { IfOk result (λ grade. calls self.new ≡ with_call (Call.Grade object (Ok grade)) (calls self.old)) }
+        ensures refused { IfErr result (λ why. calls self.new ≡ with_call (Call.Grade object (Err why)) (calls self.old)) };
 
     ghost distinct: { (source : Self) → IfSome (list source) HasEachOnce };
 }

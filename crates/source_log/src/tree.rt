@@ -59,6 +59,8 @@ fn size_for(room: u32) -> Size
 
 impl GradeTree {
     /// A tree without grades, with room for the places below `room`, at most 200,000.
+    ///
+    /// *Cost*: fills twice the least power of two that is no less than the room.
     pub fn make(alloc: Global, room: u32) -> Result<GradeTree, Memory>
         requires { room ≤ MAX_OBJECTS }
         ensures { IfOk result (λ tree. tree ≡ replicate room None) }
@@ -77,6 +79,8 @@ impl GradeTree {
     }
 
     /// Puts a grade under a place, in place of the one that stood there, or takes it away.
+    ///
+    /// *Cost*: the logarithm of the room.
     pub fn set(&mut self, place: u32, grade: Option<u32>)
         requires { place < length self.old }
         ensures { self.new ≡ slice_set self.old place grade }
@@ -85,6 +89,8 @@ impl GradeTree {
     }
 
     /// The first place whose grade is above a bound, None where no grade is.
+    ///
+    /// *Cost*: the logarithm of the room.
     pub fn first_above(&self, bound: u32) -> Option<u32>
         ensures none { IfNone result (AreWithin self.now bound) }
         ensures first { IfSome result (λ place. IsFirstAbove self.now bound place) }

@@ -5,6 +5,8 @@ use Rattle.std.proofs.lemmas.Bool.Decides.{eqb_tells}
 use Rattle.atomic_table.specs.Seated.{TableId}
 use Rattle.source_pool.specs.declared.hold.Hold.{Hold}
 use Rattle.source_pool.specs.Holds.{no_hold, IsFree}
+use Rattle.source_state.specs.State.{IsSound}
+use Rattle.source_pool.specs.Seen.{state_seen}
 use Rattle.source_pool.specs.Passes.{lock_at, hold_at, IsPassOf, OthersStay}
 
 pub read_set : (holds : List Hold) (source : ℕ) (hold : Hold) → source < length holds → hold_at (set holds source hold) source ≡ hold
@@ -14,12 +16,17 @@ pub others_set : (holds : List Hold) (source : ℕ) (hold : Hold) → OthersStay
 others_set holds source hold = record { stay = λ other apart. get_or-set_other holds source other hold no_hold apart }
 
 pub pass_set : (pool : List TableId) (holds : List Hold) (source : ℕ) (hold : Hold) → IsPassOf pool holds → source < length pool
-    → IsFree (lock_at pool source) hold.pass → IsPassOf pool (set holds source hold)
-pass_set pool holds source hold h within free = record {
+    → IsFree (lock_at pool source) hold.pass → IsSound (state_seen hold.pass.1) → IsPassOf pool (set holds source hold)
+pass_set pool holds source hold h within free sound = record {
   size = length-set holds source hold ∙ h.size;
   each = λ other lt. elim (eqb_tells other source) [
     | inl same ↦ subst (λ s. IsFree (lock_at pool s) (hold_at (set holds source hold) s).pass) (sym same.1)
         (subst (λ (one : Hold). IsFree (lock_at pool source) one.pass) (sym (read_set holds source hold (subst (λ n. source < n) (sym h.size) within))) free)
     | inr apart ↦ subst (λ (one : Hold). IsFree (lock_at pool other) one.pass) (sym (get_or-set_other holds source other hold no_hold apart.1)) (h.each other lt)
+  ];
+  sound = λ other lt. elim (eqb_tells other source) [
+    | inl same ↦ subst (λ s. IsSound (state_seen (hold_at (set holds source hold) s).pass.1)) (sym same.1)
+        (subst (λ (one : Hold). IsSound (state_seen one.pass.1)) (sym (read_set holds source hold (subst (λ n. source < n) (sym h.size) within))) sound)
+    | inr apart ↦ subst (λ (one : Hold). IsSound (state_seen one.pass.1)) (sym (get_or-set_other holds source other hold no_hold apart.1)) (h.sound other lt)
   ];
 }

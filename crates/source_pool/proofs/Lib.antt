@@ -5,4 +5,5 @@ mod Fronts
 mod OpenLaws
 mod Walks
 mod CloseLaws
+mod SeenLaws
 mod HoldLaws

@@ -1,16 +1,21 @@
 -- A pool with one more source.
-use Rattle.std.proofs.Common.{◌≡◌, ◌<◌, ◌+◌, inl, inr, ℕ, List, [], ◌∷◌, ◌++◌, length, refl, sym, ap, subst, ◌∙◌, arith}
+use Rattle.std.proofs.Common.{◌≡◌, ◌<◌, ◌≤◌, ◌+◌, inl, inr, ℕ, List, [], ◌∷◌, ◌++◌, length, refl, sym, ap, subst, ◌∙◌, arith}
 use Rattle.std.proofs.lemmas.List.{length_push}
 use Rattle.std.specs.Prelude.{slice_index}
 use Rattle.atomic_table.specs.Seated.{TableId}
 use Rattle.source_pool.specs.declared.hold.Hold.{Hold}
 use Rattle.source_pool.specs.Holds.{no_lock, no_hold, IsFree}
+use Rattle.limits.specs.declared.TheConstants.{MAX_OBJECTS}
+use Rattle.source_state.specs.State.{IsSound}
+use Rattle.source_pool.specs.Seen.{state_seen}
 use Rattle.source_pool.specs.Passes.{Feed, no_feed, lock_at, hold_at, feed_at}
 use Rattle.source_pool.specs.Sharing.{first_hold, first_feed, IsOpened}
+use Rattle.source_pool.proofs.SeenLaws.{sound_first}
 use Rattle.source_pool.proofs.Fronts.{last_or_before, read_before, read_last}
 
 -- what is held of each source, and its feeder
 record Held (counts : List ℕ) (pool : List TableId) (holds : List Hold) (feeds : List Feed) : Type 0 where
+  pub small : (source : ℕ) → source < length counts → slice_index counts source ≤ MAX_OBJECTS
   pub locks : length pool ≡ length counts
   pub holds_size : length holds ≡ length counts
   pub feeds_size : length feeds ≡ length counts
@@ -24,6 +29,8 @@ opened_from counts pool holds feeds h = record {
     size = h.holds_size ∙ sym h.locks;
     each = λ source within. let lt : source < length counts = subst (λ n. source < n) h.locks within in
         subst (λ (hold : Hold). IsFree (lock_at pool source) hold.pass) (sym (h.held source lt)) (record { own = refl; rests = refl });
+    sound = λ source within. let lt : source < length counts = subst (λ n. source < n) h.locks within in
+        subst (λ (hold : Hold). IsSound (state_seen hold.pass.1)) (sym (h.held source lt)) (sound_first source (slice_index counts source) (h.small source lt));
   };
   feeders = record {
     size = h.feeds_size ∙ sym h.locks;
@@ -77,18 +84,30 @@ feed_more counts count pool table feeds feed pool_size size each is source withi
           ∙ ap (λ c. first_feed (lock_at (pool ++ table ∷ []) source) source c) (sym (read_last counts count 0 source same)))))
     ]
 
+small_more : (counts : List ℕ) (count : ℕ) (pool : List TableId) (holds : List Hold) (feeds : List Feed) → IsOpened counts pool holds feeds → count ≤ MAX_OBJECTS
+    → (source : ℕ) → source < length (counts ++ count ∷ []) → slice_index (counts ++ count ∷ []) source ≤ MAX_OBJECTS
+small_more counts count pool holds feeds h small source within =
+    elim (last_or_before (length counts) source (subst (λ n. source < n) (length_push counts count) within)) [
+      | inl lt ↦
+          let sound : IsSound (state_seen (hold_at holds source).pass.1) = h.pass.sound source (subst (λ n. source < n) (sym h.size) lt) in
+          let first : IsSound (state_seen (first_hold (lock_at pool source) source (slice_index counts source)).pass.1) = subst (λ (hold : Hold). IsSound (state_seen hold.pass.1)) (h.held source lt) sound in
+          subst (λ n. n ≤ MAX_OBJECTS) (sym (read_before counts count 0 source lt)) first.small
+      | inr same ↦ subst (λ n. n ≤ MAX_OBJECTS) (sym (read_last counts count 0 source same)) small
+    ]
+
 pushed_size : {X Y : Type 0} (xs : List X) (x : X) (ys : List Y) (y : Y) → length xs ≡ length ys → length (xs ++ x ∷ []) ≡ length (ys ++ y ∷ [])
 pushed_size xs x ys y same = length_push xs x ∙ (ap (λ n. n + 1) same ∙ sym (length_push ys y))
 
 pub opened_more : (counts : List ℕ) (count : ℕ) (pool : List TableId) (table : TableId) (holds : List Hold) (hold : Hold) (feeds : List Feed) (feed : Feed)
     → IsOpened counts pool holds feeds
-    → hold ≡ first_hold table (length counts) count → feed ≡ first_feed table (length counts) count
+    → count ≤ MAX_OBJECTS → hold ≡ first_hold table (length counts) count → feed ≡ first_feed table (length counts) count
     → IsOpened (counts ++ count ∷ []) (pool ++ table ∷ []) (holds ++ hold ∷ []) (feeds ++ feed ∷ [])
-opened_more counts count pool table holds hold feeds feed h is_hold is_feed =
+opened_more counts count pool table holds hold feeds feed h small is_hold is_feed =
     let holds_size : length holds ≡ length counts = h.pass.size ∙ h.size in
     let feeds_size : length feeds ≡ length counts = h.feeders.size ∙ h.size in
     opened_from (counts ++ count ∷ []) (pool ++ table ∷ []) (holds ++ hold ∷ []) (feeds ++ feed ∷ [])
     (record {
+      small = small_more counts count pool holds feeds h small;
       locks = pushed_size pool table counts count h.size;
       holds_size = pushed_size holds hold counts count holds_size;
       feeds_size = pushed_size feeds feed counts count feeds_size;
@@ -97,4 +116,4 @@ opened_more counts count pool table holds hold feeds feed h is_hold is_feed =
     })
 
 pub opened_none : IsOpened [] [] [] []
-opened_none = opened_from [] [] [] [] (record { locks = refl; holds_size = refl; feeds_size = refl; held = λ source h. absurd (omega arith); fed = λ source h. absurd (omega arith) })
+opened_none = opened_from [] [] [] [] (record { small = λ source h. absurd (omega arith); locks = refl; holds_size = refl; feeds_size = refl; held = λ source h. absurd (omega arith); fed = λ source h. absurd (omega arith) })

@@ -3,12 +3,17 @@ use Rattle.std.proofs.Common.{◌≡◌, ◌<◌, ◌≤◌, ◌+◌, inl, inr, 
 use Rattle.std.proofs.lemmas.List.{get_or-set_same, get_or-set_other, length_push, take_all, get_or_read}
 use Rattle.std.proofs.lemmas.Bool.Decides.{eqb_tells}
 use Rattle.atomic_table.specs.Seated.{TableId}
-use Rattle.turn_lock.specs.Known.{Follows}
+use Rattle.turn_lock.specs.declared.known.Known.{Known}
+use Rattle.turn_lock.specs.Known.{Follows, joined}
+use Rattle.source_log.specs.declared.entry.LogEntry.{LogEntry}
+use Rattle.source_state.specs.State.{IsSound}
 use Rattle.source_pool.specs.declared.hold.Hold.{Hold}
 use Rattle.source_pool.specs.Holds.{no_lock, no_hold, IsFree}
+use Rattle.source_pool.specs.Seen.{state_seen}
 use Rattle.source_pool.specs.Passes.{lock_at, hold_at, IsPassOf}
 use Rattle.source_pool.specs.HoldSharing.{kept_hold, new_hold, joined_hold}
 use Rattle.source_pool.specs.Sharing.{IsSplit, IsJoined}
+use Rattle.source_pool.proofs.SeenLaws.{sound_joined}
 use Rattle.source_pool.proofs.Fronts.{last_or_before, read_before, read_last, front_before, front_last, front_within}
 
 -- the sources before a place are split
@@ -57,6 +62,7 @@ pub record IsOne (before other after : Hold) : Type 0 where
   pub is : after ≡ joined_hold before other
   pub follows : Follows before.pass.1 after.pass.1
   pub knows : Follows other.pass.1 after.pass.1
+  pub name : other.pass.1.name ≡ before.pass.1.name
 
 -- the sources from a place on are joined, and the other pass has those before it left
 pub record JoinedFrom (place : ℕ) (before other holds rest_of : List Hold) : Type 0 where
@@ -101,6 +107,7 @@ pub split_kept : (pool : List TableId) (before holds others : List Hold) → IsP
 split_kept pool before holds others own h = record {
   size = h.size ∙ own.size;
   each = λ source lt. subst (λ (one : Hold). IsFree (lock_at pool source) one.pass) (sym (h.kept source lt)) (free_kept (lock_at pool source) (hold_at before source) (own.each source lt));
+  sound = λ source lt. subst (λ (one : Hold). IsSound (state_seen one.pass.1)) (sym (h.kept source lt)) (own.sound source lt);
 }
 
 pub split_given : (pool : List TableId) (before holds others : List Hold) → IsPassOf pool before → SplitTo (length pool) before holds others
@@ -108,6 +115,7 @@ pub split_given : (pool : List TableId) (before holds others : List Hold) → Is
 split_given pool before holds others own h = record {
   size = h.new;
   each = λ source lt. subst (λ (one : Hold). IsFree (lock_at pool source) one.pass) (sym (h.given source lt)) (free_new (lock_at pool source) (hold_at before source) (own.each source lt));
+  sound = λ source lt. subst (λ (one : Hold). IsSound (state_seen one.pass.1)) (sym (h.given source lt)) (own.sound source lt);
 }
 
 pub split_is : (pool : List TableId) (before holds others : List Hold) → SplitTo (length pool) before holds others → IsSplit pool before holds others
@@ -122,13 +130,21 @@ joined_none before other same = record {
   done = λ source ge lt. absurd (omega (arith, same));
 }
 
-pub joined_own : (pool : List TableId) (before other holds rest_of : List Hold) → IsPassOf pool before → JoinedFrom 0 before other holds rest_of
-    → IsPassOf pool holds
-joined_own pool before other holds rest_of own h = record {
+sound_one : (before other after : Hold) → IsOne before other after → IsSound (state_seen before.pass.1) → IsSound (state_seen other.pass.1) → IsSound (state_seen after.pass.1)
+sound_one before other after one mine his =
+    let known : after.pass.1 ≡ joined before.pass.1 other.pass.1 = ap (λ (hold : Hold). hold.pass.1) one.is in
+    subst (λ (k : Known LogEntry). IsSound (state_seen k)) (sym known)
+    (sound_joined before.pass.1 other.pass.1 one.name (subst (Follows before.pass.1) known one.follows) (subst (Follows other.pass.1) known one.knows) mine his)
+
+pub joined_own : (pool : List TableId) (before other holds rest_of : List Hold) → IsPassOf pool before → IsPassOf pool other
+    → JoinedFrom 0 before other holds rest_of → IsPassOf pool holds
+joined_own pool before other holds rest_of own others h = record {
   size = h.size ∙ own.size;
   each = λ source lt.
       let one = h.done source (omega arith) (subst (λ n. source < n) (sym own.size) lt) in
       subst (λ (after : Hold). IsFree (lock_at pool source) after.pass) (sym one.is) (free_joined (lock_at pool source) (hold_at before source) (hold_at other source) (own.each source lt));
+  sound = λ source lt. sound_one (hold_at before source) (hold_at other source) (hold_at holds source)
+      (h.done source (omega arith) (subst (λ n. source < n) (sym own.size) lt)) (own.sound source lt) (others.sound source lt);
 }
 
 pub joined_is : (pool : List TableId) (before other holds rest_of : List Hold) → IsPassOf pool before → JoinedFrom 0 before other holds rest_of

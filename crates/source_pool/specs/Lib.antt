@@ -1,4 +1,5 @@
 pub mod Holds
+pub mod Seen
 pub mod Looks
 pub mod HoldSharing
 pub mod Passes

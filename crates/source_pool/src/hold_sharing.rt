@@ -41,6 +41,7 @@ pub fn join_one(lock: &TurnLock<SourceState>, hold: &mut Hold, other: Hold)
     ensures joined { hold.new ≡ joined_hold hold.old other }
     ensures follows { Follows hold.old.pass.1 hold.new.pass.1 }
     ensures knows { Follows other.pass.1 hold.new.pass.1 }
+    ensures name { other.pass.1.name ≡ hold.old.pass.1.name }
 {
     let Hold { pass, shown, .. } = other;
     lock.join(&mut hold.pass, pass);

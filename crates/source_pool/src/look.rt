@@ -4,6 +4,8 @@ ghost use Rattle.std.specs.Prelude.{◌≡◌, ◌<◌, None};
 ghost use Rattle.source_pool.specs.Holds.{IsFree};
 ghost use Rattle.source_pool.specs.Looks.{MayLookFor, Answers, Waits, shown_fault, shown_by, TookTurn, IsTurn, IsWithin};
 ghost use Rattle.source_state.specs.Events.{counted};
+ghost use Rattle.source_state.specs.State.{IsSound};
+ghost use Rattle.source_pool.specs.Seen.{state_seen};
 
 use super::hold::Hold;
 use ranked_list::Need;
@@ -58,6 +60,7 @@ pub fn look_once(rt: &impl Wait, lock: &TurnLock<SourceState>, hold: &mut Hold, 
     requires own { IsFree lock.now hold.old.pass }
     requires need { MayLookFor hold.old.pass.1 need }
     ensures own { IsFree lock.now hold.new.pass }
+    ensures sound { IsSound (state_seen hold.new.pass.1) }
     ensures turn { IsTurn need hold.old hold.new result }
     ensures answer { Answers need hold.old hold.new result }
     ensures waits { Waits need hold.old hold.new result }

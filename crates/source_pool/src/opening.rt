@@ -56,6 +56,7 @@ impl Opened {
 /// Adds one more source, for which there is room.
 fn add(opened: &mut Opened, lock: TurnLock<SourceState>, mut writer: Pass<SourceState>, count: u32)
     requires few { vec_len opened.old.locks < 2 ^ 32 }
+    requires count { count ≤ MAX_OBJECTS }
     requires room { HasPlace opened.old }
     requires pass { writer ≡ (lock, first_known (length opened.old.locks.items) count) }
     ensures added { (counts : List ℕ) → IsOpened counts opened.old.locks.items opened.old.holds.items opened.old.feeders.items

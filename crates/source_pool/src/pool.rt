@@ -55,6 +55,8 @@ fn wake_feeder(lock: &TurnLock<SourceState>, answer: Look) {
 impl Pool {
     /// A pool of sources with these counts of objects, with a pass and a feeder for each source. A feeder has one part of its source's
     /// lock, and the pass all others.
+    ///
+    /// *Cost*: `SourceState::open` and a lock for each source, and the room for the closing states.
     pub fn open(alloc: Global, counts: &[u32]) -> Result<(Pool, PoolPass, Feeders), Memory>
         requires few { length counts.now < 2 ^ 32 }
         requires counts { All (λ count. count ≤ MAX_OBJECTS) counts.now }
@@ -78,6 +80,9 @@ impl Pool {
     /// Looks for what a query needs of a source, by its number, in one turn of the source's lock, for which it may wait. The row at a
     /// depth or the grade of an object is there, or it can't be had and the fault says why, or the pass waits for it, and the source's
     /// feeder is woken.
+    ///
+    /// *Cost*: one turn of the source's lock, one `look_at` in it, and a ring for the feeder where nothing is there
+    /// yet; no memory, and nothing grows with what is kept.
     pub fn look(&self, rt: &impl Wait, pass: &mut PoolPass, source: u32, need: Need) -> Look
         requires own { IsPassOf self.now pass.old }
         requires source { source < length self.now }
@@ -143,6 +148,8 @@ impl Pool {
     }
 
     /// Splits a pass off, which gets one part of each source. It knows as much, did nothing yet, and waits for nothing.
+    ///
+    /// *Cost*: one split of a pass for each source, and the memory of the new pass.
     pub fn split(&self, alloc: Global, pass: &mut PoolPass) -> Result<PoolPass, Memory>
         requires own { IsPassOf self.now pass.old }
         requires parts { MaySplit self.now pass.old }
@@ -160,6 +167,8 @@ impl Pool {
 
     /// Makes one pass of two. Of each source it has the parts of both, knows what either does, was shown what both were, and waits for
     /// nothing.
+    ///
+    /// *Cost*: one join of a pass for each source.
     pub fn join(&self, pass: &mut PoolPass, other: PoolPass)
         requires own { IsPassOf self.now pass.old }
         requires other { IsPassOf self.now other }
@@ -194,6 +203,8 @@ impl Pool {
 
     /// Takes the pool down, by a pass and the feeders that have all parts between them, and gives the closing states out, in the order of
     /// the sources. It takes no memory.
+    ///
+    /// *Cost*: one join and one `close` for each source. Takes no memory.
     pub fn close(self, pass: PoolPass, feeders: Feeders) -> States
         requires own { IsPassOf self pass }
         requires feeders { AreFeedersOf self feeders }

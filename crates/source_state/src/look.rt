@@ -186,6 +186,8 @@ fn call(state: &mut SourceState, need: Need)
 /// Looks for what a query needs. What the log decides comes first, then a fail since the need began to wait, then that no room is
 /// left for one more ask; else the need waits, and where it begins to wait the state gets its want or its ask. The number of the
 /// need's list is not compared. Each answer but `NotYet` ends the waiting. It takes no memory.
+///
+/// *Cost*: a look-up or two.
 pub fn look_at(state: &mut SourceState, waiting: &mut Waiting, need: Need) -> Look
     requires { MayLook state.old need }
     ensures looks { Looks need state.old state.new waiting.old waiting.new result }

@@ -39,6 +39,8 @@ impl SourceState {
 
     /// What is to be fetched next: nothing where the state is paused, or where no ask is due and the rows reach as far as the want
     /// tells or are at fault; else the grade of the first pending object that the rows don't hold, or the next page.
+    ///
+    /// *Cost*: constant.
     pub fn plan(&self, page: u32, ahead: u32) -> Plan
         requires page { (1 ≤ page) × (page ≤ 10000) }
         requires ahead { ahead ≤ 100 }

@@ -15,9 +15,16 @@ use std::alloc::Global;
 use std::marker::Model;
 use turn_lock::{Logged, Tally};
 
-/// The state of one source. Only `open` takes memory. Contracts see it as `State`.
+/// The state of one source. Only `open` takes memory. Contracts see it as `State`. It is moved by a
+/// pointer, since a lock hands it over at each turn.
 #[derive(Drop)]
 pub struct SourceState {
+    kept: Box<Kept>,
+}
+
+/// What the state of a source holds.
+#[derive(Drop)]
+struct Kept {
     list: u32,
     count: u32,
     want: u32,
@@ -31,34 +38,14 @@ pub struct SourceState {
 }
 
 impl Model for SourceState {
-    ghost use Rattle.std.specs.Prelude.{vec_capacity};
     ghost use Rattle.source_state.specs.State.{State};
-    ghost use Rattle.source_log.specs.Keeping.{ask_objects};
-    ghost use Rattle.source_state.specs.Keeping.{KeepsState};
+    ghost use Rattle.source_state.specs.Keeping.{shown_by, KeepsFields};
 
     ghost Value = { State };
 
-    ghost view = { λ a. record {
-      list = a.list;
-      count = a.count;
-      want = a.want;
-      log = a.log.items;
-      asks = ask_objects a.asks.asks;
-      tally = a.tally;
-      last_fail = a.last_fail;
-      paused = a.paused;
-    } };
+    ghost view = { λ a. shown_by a.kept.value };
 
-    ghost invariant = { λ a. KeepsState (record {
-      list = a.list;
-      count = a.count;
-      want = a.want;
-      log = a.log.items;
-      asks = ask_objects a.asks.asks;
-      tally = a.tally;
-      last_fail = a.last_fail;
-      paused = a.paused;
-    }) a.rows a.asks a.fault (vec_capacity a.log) };
+    ghost invariant = { λ a. KeepsFields a.kept.value };
 }
 
 impl Logged for SourceState {
@@ -69,7 +56,7 @@ impl Logged for SourceState {
     ghost facts = { facts_of };
 
     fn length(&self) -> u64 {
-        self.log.len() as u64
+        self.kept.log.len() as u64
     }
 }
 
@@ -136,7 +123,7 @@ impl SourceState {
         };
         let rows = KeptRows::make(alloc, count)?;
         let asks = Asks::make(alloc, count)?;
-        Ok(SourceState {
+        let held = Kept {
             list,
             count,
             want: 0,
@@ -151,13 +138,19 @@ impl SourceState {
             },
             last_fail: None,
             paused: false,
-        })
+        };
+        let Ok(kept) = Box::new(alloc, held) else {
+            return Err(Memory);
+        };
+        Ok(SourceState { kept })
     }
 
     /// What an event does, and whether it set the row fault. It takes no memory.
     ///
     /// A want has a depth of the list. An ask is there already, or there is room for it. A page comes where no row fault stands
     /// and a row is missing, and its rows are no more than are missing. A grade and a miss are of an object whose ask is pending.
+    ///
+    /// *Cost*: a look-up or two and at most the logarithm of the asks, for each row of a page. Takes no memory.
     pub fn apply(&mut self, event: Event) -> Applied
         requires { MayCome self.old event }
         ensures state { self.new ≡ after self.old event }
@@ -184,8 +177,8 @@ impl SourceState {
         ensures grows { FactsGrow (facts_of self.old) (facts_of self.new) }
         ensures sound { IsSound self.new }
     {
-        self.want = self.want.max(depth);
-        self.paused = false;
+        self.kept.want = self.kept.want.max(depth);
+        self.kept.paused = false;
     }
 
     /// The grade of an object is asked for.
@@ -195,9 +188,10 @@ impl SourceState {
         ensures grows { FactsGrow (facts_of self.old) (facts_of self.new) }
         ensures sound { IsSound self.new }
     {
-        let is_held = self.rows.grade(object).is_some();
-        self.asks.add(object, is_held);
-        self.paused = false;
+        let kept = &mut *self.kept;
+        let is_held = kept.rows.grade(object).is_some();
+        kept.asks.add(object, is_held);
+        kept.paused = false;
     }
 
     /// A call failed.
@@ -206,9 +200,9 @@ impl SourceState {
         ensures grows { FactsGrow (facts_of self.old) (facts_of self.new) }
         ensures sound { IsSound self.new }
     {
-        self.tally = counted(what, self.tally);
-        self.last_fail = Some(what);
-        self.paused = true;
+        self.kept.tally = counted(what, self.kept.tally);
+        self.kept.last_fail = Some(what);
+        self.kept.paused = true;
     }
 
     /// The grade of an object whose ask is pending.
@@ -218,7 +212,7 @@ impl SourceState {
         ensures grows { FactsGrow (facts_of self.old) (facts_of self.new) }
         ensures sound { IsSound self.new }
     {
-        let _ = &self.count;
+        let _ = &self.kept.count;
         let settling = self.settle(object, grade);
         self.add_settling(object, settling);
     }
@@ -227,8 +221,8 @@ impl SourceState {
     fn settle(&self, object: u32, grade: u32) -> Settling
         ensures { result ≡ settle (rows_in self.now.log) object grade }
     {
-        let bottom = self.rows.bottom();
-        match self.rows.grade(object) {
+        let bottom = self.kept.rows.bottom();
+        match self.kept.rows.grade(object) {
             Some(sorted) if sorted == grade => Settling::Graded(grade),
             Some(sorted) => Settling::Bad(SourceFault::Clash {
                 object,
@@ -252,8 +246,9 @@ impl SourceState {
         ensures grows { FactsGrow (facts_of self.old) (facts_of self.new) }
         ensures sound { IsSound self.new }
     {
-        self.asks.settle(object, settling);
-        add_entry(&mut self.log, LogEntry::Settled { object, settling });
+        let kept = &mut *self.kept;
+        kept.asks.settle(object, settling);
+        add_entry(&mut kept.log, LogEntry::Settled { object, settling });
     }
 
     /// The rows of a page.
@@ -277,8 +272,8 @@ impl SourceState {
         ensures { result ≡ SourceFault.ShortList self.now.count (length (rows_in self.now.log)) }
     {
         SourceFault::ShortList {
-            stated: self.count,
-            got: self.rows.len(),
+            stated: self.kept.count,
+            got: self.kept.rows.len(),
         }
     }
 
@@ -289,7 +284,7 @@ impl SourceState {
         ensures applied { IsApplied self.old self.new result }
         ensures sound { IsSound self.new }
     {
-        let _ = &self.count;
+        let _ = &self.kept.count;
         for place in 0..rows.len() {
             let row = row_at(rows, place);
             match self.fault_of(row) {
@@ -307,24 +302,25 @@ impl SourceState {
     fn fault_of(&self, row: Row) -> Option<SourceFault>
         ensures { result ≡ row_fault (rows_in self.now.log) (asks_of self.now) row }
     {
-        let bottom = self.rows.bottom();
+        let kept = &*self.kept;
+        let bottom = kept.rows.bottom();
         if row.grade > TOP_GRADE {
             return Some(SourceFault::TooHigh {
-                place: self.rows.len() + 1,
+                place: kept.rows.len() + 1,
                 grade: row.grade,
             });
         }
         if row.grade > bottom {
             return Some(SourceFault::OutOfOrder {
-                place: self.rows.len() + 1,
+                place: kept.rows.len() + 1,
                 before: bottom,
                 after: row.grade,
             });
         }
-        if self.rows.grade(row.object).is_some() {
+        if kept.rows.grade(row.object).is_some() {
             return Some(SourceFault::Repeated {
                 object: row.object,
-                place: self.rows.len() + 1,
+                place: kept.rows.len() + 1,
             });
         }
         self.fault_by_grades(row)
@@ -334,7 +330,7 @@ impl SourceState {
     fn fault_by_grades(&self, row: Row) -> Option<SourceFault>
         ensures { result ≡ fault_by_grades (asks_of self.now) row }
     {
-        if let Some(ask) = self.asks.ask(row.object) {
+        if let Some(ask) = self.kept.asks.ask(row.object) {
             if let Some(random) = ask.grade() {
                 if random != row.grade {
                     return Some(SourceFault::Clash {
@@ -345,7 +341,7 @@ impl SourceState {
                 }
             }
         }
-        let above = self.asks.first_above(row.grade)?;
+        let above = self.kept.asks.first_above(row.grade)?;
         Some(SourceFault::Above {
             object: above.object,
             grade: above.grade,
@@ -360,9 +356,10 @@ impl SourceState {
         ensures state { self.new ≡ logged self.old (LogEntry.Kept row) }
         ensures sound { IsSound self.new }
     {
-        self.asks.hold(row.object);
-        self.rows.push(row);
-        add_entry(&mut self.log, LogEntry::Kept(row));
+        let kept = &mut *self.kept;
+        kept.asks.hold(row.object);
+        kept.rows.push(row);
+        add_entry(&mut kept.log, LogEntry::Kept(row));
     }
 
     /// Sets the row fault, where none stands.
@@ -371,8 +368,9 @@ impl SourceState {
         ensures state { self.new ≡ logged self.old (LogEntry.Fault fault) }
         ensures sound { IsSound self.new }
     {
-        add_entry(&mut self.log, LogEntry::Fault(fault));
-        self.fault = Some(fault);
+        let kept = &mut *self.kept;
+        add_entry(&mut kept.log, LogEntry::Fault(fault));
+        kept.fault = Some(fault);
     }
 
     /// How many objects the list has.
@@ -380,28 +378,28 @@ impl SourceState {
         ensures count { result ≡ self.now.count }
         ensures sound { IsSound self.now }
     {
-        self.count
+        self.kept.count
     }
 
     /// The row at a place from 0, or None where it isn't there.
     pub fn row(&self, place: u32) -> Option<Row>
         ensures { result ≡ slice_get (rows_in self.now.log) place }
     {
-        self.rows.get(place)
+        self.kept.rows.get(place)
     }
 
     /// How many rows are kept.
     pub fn rows(&self) -> u32
         ensures { result ≡ length (rows_in self.now.log) }
     {
-        self.rows.len()
+        self.kept.rows.len()
     }
 
     /// What became of the ask of an object, or None where it wasn't asked.
     pub fn asked(&self, object: u32) -> Option<Asked>
         ensures { result ≡ asked_in self.now object }
     {
-        let ask = self.asks.ask(object)?;
+        let ask = self.kept.asks.ask(object)?;
         Some(asked_as(ask.settling))
     }
 
@@ -410,14 +408,14 @@ impl SourceState {
         ensures asks { result ≡ length self.now.asks }
         ensures sound { IsSound self.now }
     {
-        self.asks.len()
+        self.kept.asks.len()
     }
 
     /// The first object, in the order of asking, whose ask is pending and that the rows don't hold.
     pub fn first_pending(&self) -> Option<u32>
         ensures { result ≡ first_pending self.now }
     {
-        let ask = self.asks.first_due()?;
+        let ask = self.kept.asks.first_due()?;
         Some(ask.object)
     }
 
@@ -425,51 +423,52 @@ impl SourceState {
     pub fn row_fault(&self) -> Option<SourceFault>
         ensures { result ≡ fault_in self.now.log }
     {
-        self.fault
+        self.kept.fault
     }
 
     /// The greatest depth that was wanted, or 0.
     pub fn want(&self) -> u32
         ensures { result ≡ self.now.want }
     {
-        self.want
+        self.kept.want
     }
 
     /// How many fails came. The count stands still at its last number.
     pub fn fails(&self) -> u64
         ensures { result ≡ fails_of self.now.tally }
     {
-        self.tally
+        self.kept
+            .tally
             .failed
-            .saturating_add(self.tally.garbled)
-            .saturating_add(self.tally.memory)
+            .saturating_add(self.kept.tally.garbled)
+            .saturating_add(self.kept.tally.memory)
     }
 
     /// How many fails of each kind came.
     pub fn tally(&self) -> Tally
         ensures { result ≡ self.now.tally }
     {
-        self.tally
+        self.kept.tally
     }
 
     /// The kind of the last fail.
     pub fn last_fail(&self) -> Option<FailKind>
         ensures { result ≡ self.now.last_fail }
     {
-        self.last_fail
+        self.kept.last_fail
     }
 
     /// Whether the last fail has no later want or ask.
     pub fn paused(&self) -> bool
         ensures { result ≡ self.now.paused }
     {
-        self.paused
+        self.kept.paused
     }
 
     /// The grade that the rows give an object.
     pub(crate) fn grade_in_rows(&self, object: u32) -> Option<u32>
         ensures { result ≡ grade_among (rows_in self.now.log) object }
     {
-        self.rows.grade(object)
+        self.kept.rows.grade(object)
     }
 }

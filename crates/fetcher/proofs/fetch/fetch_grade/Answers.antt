@@ -1,4 +1,5 @@
 use Rattle.std.proofs.Common.{sym, subst}
+use Rattle.std.specs.declared.result.Result.TheVariants.{Ok, Err}
 use Rattle.fetcher.specs.Turning.{Brings}
 use Rattle.fetcher.proofs.BringLaws.{grade_brings, fail_brings, answer_busy, failed_busy}
 use Rattle.fetcher.proofs.fetch.fetch_grade.Goals as goal
@@ -18,3 +19,19 @@ returns-in-Err-clause-brings g c = λ page ahead.
 
 pub returns-in-Err-clause-busy : goal.returns-in-Err-clause-busy
 returns-in-Err-clause-busy g c = failed_busy c.in-Err.trouble c.tell_fail.result c.tell_fail.ensures.answer
+
+pub returns-in-Ok-clause-called : goal.returns-in-Ok-clause-called
+returns-in-Ok-clause-called g c = record {
+  answer = Ok c.in-Ok.grade;
+  called = c.in-Ok.ensures.answered;
+  told = c.tell_grade.ensures.told;
+  is = c.tell_grade.ensures.answer;
+}
+
+pub returns-in-Err-clause-called : goal.returns-in-Err-clause-called
+returns-in-Err-clause-called g c = record {
+  answer = Err c.in-Err.trouble;
+  called = c.in-Err.ensures.refused;
+  told = c.tell_fail.ensures.told;
+  is = c.tell_fail.ensures.answer;
+}

@@ -1,8 +1,8 @@
 use Rattle.std.proofs.Common.{◌∙◌, refl, sym, subst}
 use Rattle.source_api.proofs.CountLaws.{none_fell_same, none_fell_on}
 use Rattle.fetcher.specs.Turning.{Brings}
-use Rattle.fetcher.specs.Chaining.{moment}
-use Rattle.fetcher.proofs.ChainLaws.{fetched_none, fetched_more}
+use Rattle.fetcher.specs.Chaining.{moment, point}
+use Rattle.fetcher.proofs.ChainLaws.{fetched_none, fetched_more, calls_none, calls_more}
 use Rattle.fetcher.proofs.MeterLaws.{Meters, meter_none, meter_more, counts_fit, feeds_same, feeds_on}
 use Rattle.fetcher.proofs.fetch.fetch_loop.Goals as goal
 
@@ -15,6 +15,7 @@ loop-init g c = record {
   later = none_fell_same (g.S.Source.counts c.args.source.now);
   turns = fetched_none c.args.page c.args.ahead (g.S.Source.list c.args.source.now) (moment (g.S.Source.counts c.args.source.now) c.args.feeder.now.pass.1)
       ((g.met.S.Source g.world.𝓛 g.world.𝓜 g.world.𝓡 ((λ s x. x), (λ x. x), (λ x. x), λ x. x)).distinct c.args.source.now);
+  calls = calls_none c.args.page c.args.ahead (point (g.S.Source.calls c.args.source.now) c.args.feeder.now.pass.1);
   meters = meter_none c.args.page c.args.ahead (g.S.Source.counts c.args.source.now) c.args.feeder.now.pass.1;
 }
 
@@ -38,6 +39,10 @@ loop-preserved g c = record {
         feeds = c.fetch_turn-turned.ensures.feeds;
         later = c.fetch_turn-turned.ensures.later;
       });
+  calls = calls_more c.args.page c.args.ahead (point (g.S.Source.calls c.args.source.now) c.args.feeder.now.pass.1)
+      (point (g.S.Source.calls c.loop.source) c.loop.feeder.pass.1)
+      (record { answer = c.fetch_turn-turned.result; next = point (g.S.Source.calls c.fetch_turn-turned.new.source) c.fetch_turn-turned.new.feeder.pass.1 })
+      c.loop.invariant.calls c.fetch_turn-turned.ensures.calls;
   meters = subst (λ fetched. Meters c.args.page c.args.ahead fetched (g.S.Source.counts c.args.source.now) (g.S.Source.counts c.fetch_turn-turned.new.source) c.args.feeder.now.pass.1 c.fetch_turn-turned.new.feeder.pass.1)
       (sym c.counted-fetched.ensures)
       (meter_more c.args.page c.args.ahead c.loop.fetched c.fetch_turn-turned.result _ _ _ _ _ _ _ c.requires.page.0 c.loop.invariant.meters c.fetch_turn-turned.ensures.feeds c.fetch_turn-turned.ensures.later c.fetch_turn-turned.ensures.brings);

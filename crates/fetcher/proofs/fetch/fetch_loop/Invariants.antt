@@ -2,7 +2,7 @@ use Rattle.std.proofs.Common.{◌≡◌}
 use Rattle.source_pool.specs.Passes.{IsIdleOf}
 use Rattle.source_api.specs.Counting.{NoneFell}
 use Rattle.fetcher.specs.Turning.{Feeds}
-use Rattle.fetcher.specs.Chaining.{moment, IsFetched}
+use Rattle.fetcher.specs.Chaining.{moment, IsFetched, point, MadeItsCalls}
 use Rattle.fetcher.proofs.MeterLaws.{Meters}
 use Rattle.fetcher.proofs.fetch.fetch_loop.Given as goal
 
@@ -15,5 +15,6 @@ invariant-loop g l = record {
   later : NoneFell (g.S.Source.counts l.fn.source) (g.S.Source.counts l.source);
   turns : IsFetched l.page l.ahead (g.S.Source.list l.fn.source) (moment (g.S.Source.counts l.fn.source) l.fn.feeder.pass.1)
       (moment (g.S.Source.counts l.source) l.feeder.pass.1);
+  calls : MadeItsCalls l.page l.ahead (point (g.S.Source.calls l.fn.source) l.fn.feeder.pass.1) (point (g.S.Source.calls l.source) l.feeder.pass.1);
   meters : Meters l.page l.ahead l.fetched (g.S.Source.counts l.fn.source) (g.S.Source.counts l.source) l.fn.feeder.pass.1 l.feeder.pass.1;
 }

@@ -2,6 +2,8 @@ use Rattle.std.proofs.Common.{◌≡◌, ◌≤◌, length, sym, ap, subst, arit
 use Rattle.std.specs.Option.{IfSome}
 use Rattle.source_api.specs.Counting.{GaveRows}
 use Rattle.source_api.specs.Told.{IsPage}
+use Rattle.std.specs.declared.result.Result.TheVariants.{Ok, Err}
+use Rattle.source_api.specs.Calls.{Call, with_call}
 use Rattle.fetcher.specs.Turning.{Brings}
 use Rattle.fetcher.proofs.BringLaws.{next_may, page_brings, fail_brings, paged_busy, failed_busy}
 use Rattle.fetcher.proofs.fetch.fetch_page.Goals as goal
@@ -31,3 +33,19 @@ returns-in-Err-clause-brings g c = λ page ahead some reach.
 
 pub returns-in-Err-clause-busy : goal.returns-in-Err-clause-busy
 returns-in-Err-clause-busy g c = failed_busy c.in-Err.trouble c.tell_fail.result c.tell_fail.ensures.answer
+
+pub returns-in-Ok-clause-called : goal.returns-in-Ok-clause-called
+returns-in-Ok-clause-called g c = record {
+  answer = Ok c.from_vec.result;
+  called = subst (λ rows. g.S.Source.calls c.page.new.self ≡ with_call (Call.Page c.args.from c.args.count (Ok rows)) (g.S.Source.calls c.args.source.now)) (sym c.from_vec.ensures) c.in-Ok.ensures.answered;
+  told = c.tell_page.ensures.told;
+  is = c.tell_page.ensures.answer;
+}
+
+pub returns-in-Err-clause-called : goal.returns-in-Err-clause-called
+returns-in-Err-clause-called g c = record {
+  answer = Err c.in-Err.trouble;
+  called = c.in-Err.ensures.refused;
+  told = c.tell_fail.ensures.told;
+  is = c.tell_fail.ensures.answer;
+}

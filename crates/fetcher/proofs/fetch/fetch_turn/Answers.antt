@@ -1,3 +1,5 @@
+use Rattle.std.proofs.Common.{refl}
+use Rattle.source_state.specs.declared.plan.Plan.TheVariants as plan
 use Rattle.source_api.proofs.CountLaws.{none_fell_same}
 use Rattle.fetcher.proofs.BringLaws.{idle_brings, brings_from}
 use Rattle.fetcher.proofs.MeterLaws.{feeds_on}
@@ -27,3 +29,27 @@ pub returns-in-Grade-clause-brings : goal.returns-in-Grade-clause-brings
 returns-in-Grade-clause-brings g c =
     brings_from c.args.page c.args.ahead _ _ _ c.args.feeder.now.pass.1 c.read_plan.new.feeder.pass.1 c.fetch_grade.new.feeder.pass.1 _ c.fetch_grade.result c.in-Grade.ensures.plan c.in-Grade.ensures.feeds
     c.fetch_grade.ensures.busy (c.fetch_grade.ensures.brings c.args.page c.args.ahead)
+
+pub returns-in-Idle-clause-calls : goal.returns-in-Idle-clause-calls
+returns-in-Idle-clause-calls g c = record {
+  next = plan.Idle;
+  looked = c.read_plan.new.feeder.pass.1;
+  looks = c.in-Idle.ensures.looked;
+  carries = record { uncalled = refl; rests = refl; is = refl };
+}
+
+pub returns-in-Page-clause-calls : goal.returns-in-Page-clause-calls
+returns-in-Page-clause-calls g c = record {
+  next = plan.Page c.in-Page.from c.in-Page.count;
+  looked = c.read_plan.new.feeder.pass.1;
+  looks = c.in-Page.ensures.looked;
+  carries = c.fetch_page.ensures.called;
+}
+
+pub returns-in-Grade-clause-calls : goal.returns-in-Grade-clause-calls
+returns-in-Grade-clause-calls g c = record {
+  next = plan.Grade c.in-Grade.object;
+  looked = c.read_plan.new.feeder.pass.1;
+  looks = c.in-Grade.ensures.looked;
+  carries = c.fetch_grade.ensures.called;
+}

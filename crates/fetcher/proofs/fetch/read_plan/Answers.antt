@@ -46,3 +46,9 @@ returns-clause-next g c =
     let t = plan_turn c.args.page c.args.ahead c.args.feeder.now c.give.new.feeder c.take-state.result c.plan-next.result e c.take-state.ensures.state c.take-state.ensures.all
     c.plan-next.ensures.sound c.plan-next.ensures.plan c.plan-next.ensures.serves in
     may_fetch c.args.page c.args.ahead c.args.feeder.now.pass.1 c.give.new.feeder.pass.1 c.plan-next.result t.plan t.feeds
+
+pub returns-clause-looked : goal.returns-clause-looked
+returns-clause-looked g c =
+    let e = given_turn c.args.feeder.now c.take-state.new.feeder c.give.new.feeder (facts_of c.take-state.result) (facts_of c.take-state.result) c.take-state.ensures.feeder c.give.ensures in
+    (plan_turn c.args.page c.args.ahead c.args.feeder.now c.give.new.feeder c.take-state.result c.plan-next.result e c.take-state.ensures.state c.take-state.ensures.all
+    c.plan-next.ensures.sound c.plan-next.ensures.plan c.plan-next.ensures.serves).looked

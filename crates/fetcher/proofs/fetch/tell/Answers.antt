@@ -34,3 +34,9 @@ returns-clause-fed g c =
     let e = given_turn c.args.feeder.now c.take-state.new.feeder c.give.new.feeder (facts_of c.take-state.result) (facts_of c.apply.new.self) c.take-state.ensures.feeder c.give.ensures in
     (event_turn c.args.event c.args.feeder.now c.give.new.feeder c.take-state.result c.apply.new.self c.requires.source c.requires.may e c.take-state.ensures.state c.take-state.ensures.all
     c.count.ensures.sound c.apply.ensures.state c.apply.ensures.grows c.apply.ensures.sound).fed
+
+pub returns-clause-told : goal.returns-clause-told
+returns-clause-told g c =
+    let e = given_turn c.args.feeder.now c.take-state.new.feeder c.give.new.feeder (facts_of c.take-state.result) (facts_of c.apply.new.self) c.take-state.ensures.feeder c.give.ensures in
+    (event_turn c.args.event c.args.feeder.now c.give.new.feeder c.take-state.result c.apply.new.self c.requires.source c.requires.may e c.take-state.ensures.state c.take-state.ensures.all
+    c.count.ensures.sound c.apply.ensures.state c.apply.ensures.grows c.apply.ensures.sound).told

@@ -1,12 +1,12 @@
-use Rattle.std.proofs.Common.{◌≡◌, ◌-◌, ◌∷◌, ◌++◌, [], ℕ, List, length, sym, ap, subst, ◌∙◌, arith}
+use Rattle.std.proofs.Common.{◌≡◌, ◌≤◌, ◌-◌, ◌∷◌, ◌++◌, [], ℕ, List, length, sym, ap, subst, ◌∙◌, arith}
 use Rattle.atomic_table.specs.Seated.{TableId}
 use Rattle.turn_lock.specs.Known.{all_parts, without, split_off}
+use Rattle.limits.specs.declared.TheConstants.{MAX_OBJECTS}
 use Rattle.source_pool.specs.declared.hold.Hold.{Hold}
 use Rattle.source_pool.specs.Holds.{SourcePass, no_fails, no_waiting}
 use Rattle.source_pool.specs.HoldSharing.{first_known}
 use Rattle.source_pool.specs.Passes.{Feed}
 use Rattle.source_pool.specs.Sharing.{first_hold, first_feed, IsOpened}
-use Rattle.source_pool.specs.Rooms.{HasRoom}
 use Rattle.source_pool.proofs.OpenLaws.{opened_more}
 use Rattle.source_pool.proofs.opening.add.Goals as goal
 
@@ -14,11 +14,11 @@ use Rattle.source_pool.proofs.opening.add.Goals as goal
 opened_pushed : (counts : List ℕ) (count : ℕ) (pool more_pool : List TableId) (table : TableId) (holds more_holds : List Hold) (hold : Hold)
     (feeds more_feeds : List Feed) (feed : Feed)
     → more_pool ≡ pool ++ table ∷ [] → more_holds ≡ holds ++ hold ∷ [] → more_feeds ≡ feeds ++ feed ∷ []
-    → hold ≡ first_hold table (length pool) count → feed ≡ first_feed table (length pool) count
+    → count ≤ MAX_OBJECTS → hold ≡ first_hold table (length pool) count → feed ≡ first_feed table (length pool) count
     → IsOpened counts pool holds feeds → IsOpened (counts ++ count ∷ []) more_pool more_holds more_feeds
-opened_pushed counts count pool more_pool table holds more_holds hold feeds more_feeds feed a b d is_hold is_feed h =
+opened_pushed counts count pool more_pool table holds more_holds hold feeds more_feeds feed a b d small is_hold is_feed h =
     let more : IsOpened (counts ++ count ∷ []) (pool ++ table ∷ []) (holds ++ hold ∷ []) (feeds ++ feed ∷ []) =
-    opened_more counts count pool table holds hold feeds feed h (is_hold ∙ ap (λ n. first_hold table n count) h.size) (is_feed ∙ ap (λ n. first_feed table n count) h.size) in
+    opened_more counts count pool table holds hold feeds feed h small (is_hold ∙ ap (λ n. first_hold table n count) h.size) (is_feed ∙ ap (λ n. first_feed table n count) h.size) in
     subst (λ x. IsOpened (counts ++ count ∷ []) x more_holds more_feeds) (sym a)
     (subst (λ x. IsOpened (counts ++ count ∷ []) (pool ++ table ∷ []) x more_feeds) (sym b)
     (subst (λ x. IsOpened (counts ++ count ∷ []) (pool ++ table ∷ []) (holds ++ hold ∷ []) x) (sym d) more))
@@ -38,7 +38,7 @@ fed_first table size source count writer kept is split at =
 pub returns-clause-added : goal.returns-clause-added
 returns-clause-added c = λ counts h.
     let at : c.len-source.result ≡ length c.args.opened.now.locks.items = omega (arith, c.len-source.ensures, c.args.opened.now.locks.ok.0) in
-    opened_pushed counts c.args.count _ _ c.args.lock _ _ _ _ _ _ c.push_reserved-3.ensures.items c.push_reserved.ensures.items c.push_reserved-2.ensures.items
+    opened_pushed counts c.args.count _ _ c.args.lock _ _ _ _ _ _ c.push_reserved-3.ensures.items c.push_reserved.ensures.items c.push_reserved-2.ensures.items c.requires.count
     (held_first c.args.lock (length c.args.opened.now.locks.items) c.args.count c.args.writer c.split-pass.result c.requires.pass c.split-pass.ensures.given)
     (fed_first c.args.lock (length c.args.opened.now.locks.items) c.len-source.result c.args.count c.args.writer c.split-pass.new.pass c.requires.pass c.split-pass.ensures.kept at) h
 

@@ -1,7 +1,9 @@
 use Rattle.std.proofs.Common.{◌≡◌, ◌<◌, ℕ, List, length, get_or, set, sym, ap, subst, ◌∙◌}
 use Rattle.std.proofs.lemmas.List.{get_or_read}
 use Rattle.atomic_table.specs.Seated.{TableId}
+use Rattle.source_state.specs.State.{IsSound}
 use Rattle.source_pool.specs.declared.hold.Hold.{Hold}
+use Rattle.source_pool.specs.Seen.{state_seen}
 use Rattle.source_pool.specs.Holds.{no_lock, no_hold, IsFree}
 use Rattle.source_pool.specs.Looks.{Answers, Waits, shown_by, TookTurn, IsTurn, IsWithin}
 use Rattle.source_pool.specs.Passes.{hold_at, IsPassOf, OthersStay}
@@ -10,11 +12,11 @@ use Rattle.source_pool.proofs.pool.Pool.look.Goals as goal
 
 -- what a change of what is held of a source leaves of the pass, by the lists of the locks and of what is held
 pass_given : (pool locks : List TableId) (holds items : List Hold) (source : ℕ) (table : TableId) (hold : Hold) → locks ≡ pool → items ≡ holds
-    → IsPassOf pool holds → source < length pool → table ≡ get_or locks source table → IsFree table hold.pass → IsPassOf pool (set items source hold)
-pass_given pool locks holds items source table hold pool_is holds_is h within lock free =
+    → IsPassOf pool holds → source < length pool → table ≡ get_or locks source table → IsFree table hold.pass → IsSound (state_seen hold.pass.1) → IsPassOf pool (set items source hold)
+pass_given pool locks holds items source table hold pool_is holds_is h within lock free sound =
     let there : table ≡ get_or pool source table = lock ∙ ap (λ xs. get_or xs source table) pool_is in
     subst (λ xs. IsPassOf pool (set xs source hold)) (sym holds_is)
-    (pass_set pool holds source hold h within (subst (λ t. IsFree t hold.pass) (get_or_read pool source table within there no_lock) free))
+    (pass_set pool holds source hold h within (subst (λ t. IsFree t hold.pass) (get_or_read pool source table within there no_lock) free) sound)
 
 others_given : (holds items : List Hold) (source : ℕ) (hold : Hold) → items ≡ holds → OthersStay source holds (set items source hold)
 others_given holds items source hold holds_is = subst (λ xs. OthersStay source holds (set xs source hold)) (sym holds_is) (others_set holds source hold)
@@ -32,7 +34,7 @@ changed_there P pool holds items source before after holds_is h within held know
 
 pub returns-clause-own : goal.returns-clause-own
 returns-clause-own g c = pass_given c.args.self.now c.self.inside.locks.items c.args.pass.now c.pass.inside.holds.items c.args.source _ _ c.self.view_is c.pass.view_is
-    c.requires.own c.requires.source c.index-lock.ensures c.look_once-answer.ensures.own
+    c.requires.own c.requires.source c.index-lock.ensures c.look_once-answer.ensures.own c.look_once-answer.ensures.sound
 
 pub returns-clause-others : goal.returns-clause-others
 returns-clause-others g c = others_given c.args.pass.now c.pass.inside.holds.items c.args.source _ c.pass.view_is
