@@ -1,5 +1,5 @@
 -- What the calls of a machine need, and what they leave.
-use Rattle.std.proofs.Common.{◌≡◌, ℕ, ◌/◌, ◌≤◌, min, max, List, [], ◌∷◌, ◌++◌, Contains, Some, None, refl, sym, ap, subst, ◌∙◌, arith}
+use Rattle.std.proofs.Common.{◌≡◌, ℕ, ◌/◌, ◌≤◌, min, max, List, [], ◌∷◌, ◌++◌, Contains, refl, sym, ap, subst, ◌∙◌, arith}
 use Rattle.ranked_list.specs.declared.row.Row.{Row}
 use Rattle.ranked_list.specs.declared.item.Item.{Item}
 use Rattle.ranked_list.specs.declared.need.Need.{Need}
@@ -10,21 +10,19 @@ use Rattle.monotone_fn.specs.Tree.{Tree}
 use Rattle.monotone_fn.specs.Value.{value}
 use Rattle.topk_theory.specs.declared.access.Access.{Access}
 use Rattle.topk_theory.specs.declared.access.Access.TheVariants.{Sorted, Random}
-use Rattle.topk_theory.specs.Transcript.{Agrees, object_of, random_rows, given_rows, seen_objects}
-use Rattle.topk_theory.specs.Bounds.{known_grade}
+use Rattle.topk_theory.specs.Transcript.{Agrees, object_of, seen_objects}
 use Rattle.topk_theory.specs.Consistent.{SomeAgrees}
 use Rattle.topk_theory.specs.Threshold.{item_objects}
 use Rattle.topk_theory.specs.Combined.{phase_length}
-use Rattle.topk_theory.proofs.AgreementLists.{contains_here, contains_map_from}
-use Rattle.topk_theory.proofs.ConsistentTable.{random_given}
+use Rattle.topk_theory.proofs.AgreementLists.{contains_here}
 use Rattle.topk_theory.proofs.ThresholdRun.{seen_more, seen_from_access}
 use Rattle.std.proofs.lemmas.List.Elements.{Contains-append_right}
 use Rattle.access_log.specs.Log.{Log}
 use Rattle.machine_base.specs.Machine.{MachineState, IsBegun, MayBeNextRow, MayBeNextGrade, HasRoomFor, Takes, row_access, grade_access}
-use Rattle.access_log.proofs.FirstKind.{known_of_row}
-use Rattle.ca_core.proofs.Grades.{some_unknown, first_is_unknown}
+use Rattle.machine_base.specs.Asking.{IsAskedFor}
+use Rattle.machine_base.proofs.Asks.{asked_for_once}
 use Rattle.machine_base.specs.declared.base.Base.{Base}
-use Rattle.machine_base.specs.Base.{shown, asked_of_list, IsHeld, Holds, IsReserved, IsTold, CanTake, MayFollow}
+use Rattle.machine_base.specs.Base.{shown, IsHeld, Holds, IsReserved, IsTold, CanTake, MayFollow}
 use Rattle.machine_base.proofs.Held.{some_before, carried, takes}
 use Rattle.machine_base.proofs.Depths.{first_reached}
 use Rattle.machine_base.proofs.Reserve.{row_can}
@@ -34,7 +32,7 @@ use Rattle.ca_core.specs.declared.stage.Stage.TheVariants as stages
 use Rattle.ca_core.specs.Course.{Course, need_at, moved, MayMoveAt}
 use Rattle.ca_core.specs.OnTable.{quiet_at}
 use Rattle.ca_core.specs.Seen.{AreRenewed, KeepsSeen, WasRenewed}
-use Rattle.ca_core.specs.Kept.{IsAsked, IsSound, IsCaKept, Keeps, Stands}
+use Rattle.ca_core.specs.Kept.{IsSound, IsCaKept, Keeps, Stands}
 use Rattle.ca_core.proofs.Pieces.{no_items}
 use Rattle.ca_core.proofs.Steps.{row_kept, choice_kept, finish_kept}
 
@@ -95,36 +93,25 @@ pub can_row : (base : Base) (phase : ℕ) (first : List Item) (stage : Stage) (r
     → CanTake base (Sorted list row.object row.grade)
 can_row base phase first stage row list depth kept may is fits = row_can base list row.object row.grade kept.base (subst (λ need. MayBeNextRow base.transcript need row) is may) fits
 
--- a grade that no access gave wasn't asked for
-unasked : (m n : ℕ) (A : List Access) (object list : ℕ) → SomeAgrees m n A → known_grade A object list ≡ None → ¬ Contains (asked_of_list list A) object
-unasked m n A object list some none c =
-    let from = contains_map_from (λ (row : Row). row.object) (random_rows list A) object c in
-    let given : Contains (given_rows list A) (record { object = object; grade = from.0.grade }) = subst (λ o. Contains (given_rows list A) (record { object = o; grade = from.0.grade })) from.2 (random_given list A from.0 from.1) in
-    not_both from.0.grade (sym none ∙ known_of_row m n A list object from.0.grade some given)
-  where
-    not_both : (g : ℕ) → None ≡ Some g → ⊥
-    not_both g e = cc
-
 asked_of : (m : ℕ) (A : List Access) (objects : List ℕ) (stage : Stage) (list object : ℕ) → IsSound m A objects stage → need_at stage ≡ needs.Grade list object
-    → IsAsked m A object list
+    → IsAskedFor m A object list
 asked_of m A objects (stages.Row l d) list object sound is = absurd (row_not_grade l d list object is)
 asked_of m A objects (stages.Choice l o d) list object sound is =
     let list_is = grade_list l o list object is in
     let object_is = grade_object l o list object is in
-    subst (λ x. IsAsked m A x list) object_is (subst (λ x. IsAsked m A o x) list_is sound.0)
-asked_of m A objects (stages.Finish l o p) list object sound is =
-    let list_is = grade_list l o list object is in
-    let object_is = grade_object l o list object is in
-    subst (λ x. IsAsked m A x list) object_is (subst (λ x. IsAsked m A o x) list_is sound.asked)
+    subst (λ x. IsAskedFor m A x list) object_is (subst (λ x. IsAskedFor m A o x) list_is sound.0)
+asked_of m A objects (stages.Finish ask) list object sound is =
+    let list_is = grade_list ask.list ask.object list object is in
+    let object_is = grade_object ask.list ask.object list object is in
+    subst (λ x. IsAskedFor m A x list) object_is (subst (λ x. IsAskedFor m A ask.object x) list_is sound.asked)
 asked_of m A objects stages.Done list object sound is = absurd (done_not_grade list object is)
 
 pub can_grade : (base : Base) (phase : ℕ) (first : List Item) (stage : Stage) (grade list object : ℕ) → Keeps base phase first stage
     → MayBeNextGrade base.transcript (need_at stage) grade → need_at stage ≡ needs.Grade list object → CanTake base (Random list object grade)
 can_grade base phase first stage grade list object kept may is =
     let asked = asked_of base.transcript.lists base.transcript.accesses (item_objects first) stage list object kept.sound is in
-    let r = some_unknown base.transcript.lists base.transcript.accesses object list asked.next in
     record {
-      follows = (asked.seen, unasked base.transcript.lists base.transcript.count base.transcript.accesses object list kept.base.agreeing (first_is_unknown base.transcript.lists base.transcript.accesses object list r.0 r.1));
+      follows = (asked.seen, asked_for_once base.transcript.lists base.transcript.count base.transcript.accesses object list kept.base.agreeing asked);
       consistent = subst (λ need. MayBeNextGrade base.transcript need grade) is may;
     }
 
@@ -182,7 +169,7 @@ may_move before after a phase late first capacity (stages.Choice list object dep
   none = no_items first stands.kept.sound.1;
   roomy = omega (arith, stands.roomy, told.room);
 }
-may_move before after a phase late first capacity (stages.Finish list object place) stands told = tt
+may_move before after a phase late first capacity (stages.Finish ask) stands told = tt
 may_move before after a phase late first capacity stages.Done stands told = tt
 
 -- ---- what is kept then
@@ -195,7 +182,7 @@ row_moved e k phase room m n A first (stages.Row l d) list depth object grade is
     subst (λ x. IsCaKept e k phase room m n (A ++ Sorted list object grade ∷ []) (moved (value e) k phase m n (A ++ Sorted list object grade ∷ []) (stages.Row x d) first).first (moved (value e) k phase m n (A ++ Sorted list object grade ∷ []) (stages.Row x d) first).stage) (sym list_is)
     (row_kept e k phase room m n A first list d object grade (subst (λ x. IsCaKept e k phase room m n A first (stages.Row x d)) list_is kept) some follows)
 row_moved e k phase room m n A first (stages.Choice l o d) list depth object grade is kept some follows = absurd (grade_not_row l o list depth is)
-row_moved e k phase room m n A first (stages.Finish l o p) list depth object grade is kept some follows = absurd (grade_not_row l o list depth is)
+row_moved e k phase room m n A first (stages.Finish ask) list depth object grade is kept some follows = absurd (grade_not_row ask.list ask.object list depth is)
 row_moved e k phase room m n A first stages.Done list depth object grade is kept some follows = absurd (done_not_row list depth is)
 
 grade_moved : (e : Tree) (k phase room m n : ℕ) (A : List Access) (first : List Item) (stage : Stage) (list object grade : ℕ)
@@ -209,12 +196,12 @@ grade_moved e k phase room m n A first (stages.Choice l o d) list object grade i
     let a : Random l o grade ≡ Random list object grade = ap (λ x. Random x o grade) (sym list_is) ∙ ap (λ x. Random list x grade) (sym object_is) in
     subst (λ (a : Access). IsCaKept e k phase room m n (A ++ a ∷ []) (moved (value e) k phase m n (A ++ a ∷ []) (stages.Choice l o d) first).first (moved (value e) k phase m n (A ++ a ∷ []) (stages.Choice l o d) first).stage) a
     (choice_kept e k phase room m n A first l o d grade kept (subst (λ (b : Access). SomeAgrees m n (A ++ b ∷ [])) (sym a) some) (subst (MayFollow room A) (sym a) follows))
-grade_moved e k phase room m n A first (stages.Finish l o p) list object grade is kept some follows =
-    let list_is = sym (grade_list l o list object is) in
-    let object_is = sym (grade_object l o list object is) in
-    let a : Random l o grade ≡ Random list object grade = ap (λ x. Random x o grade) (sym list_is) ∙ ap (λ x. Random list x grade) (sym object_is) in
-    subst (λ (a : Access). IsCaKept e k phase room m n (A ++ a ∷ []) (moved (value e) k phase m n (A ++ a ∷ []) (stages.Finish l o p) first).first (moved (value e) k phase m n (A ++ a ∷ []) (stages.Finish l o p) first).stage) a
-    (finish_kept e k phase room m n A first l o p grade kept (subst (λ (b : Access). SomeAgrees m n (A ++ b ∷ [])) (sym a) some) (subst (MayFollow room A) (sym a) follows))
+grade_moved e k phase room m n A first (stages.Finish ask) list object grade is kept some follows =
+    let list_is = sym (grade_list ask.list ask.object list object is) in
+    let object_is = sym (grade_object ask.list ask.object list object is) in
+    let a : Random ask.list ask.object grade ≡ Random list object grade = ap (λ x. Random x ask.object grade) (sym list_is) ∙ ap (λ x. Random list x grade) (sym object_is) in
+    subst (λ (a : Access). IsCaKept e k phase room m n (A ++ a ∷ []) (moved (value e) k phase m n (A ++ a ∷ []) (stages.Finish ask) first).first (moved (value e) k phase m n (A ++ a ∷ []) (stages.Finish ask) first).stage) a
+    (finish_kept e k phase room m n A first ask grade kept (subst (λ (b : Access). SomeAgrees m n (A ++ b ∷ [])) (sym a) some) (subst (MayFollow room A) (sym a) follows))
 grade_moved e k phase room m n A first stages.Done list object grade is kept some follows = absurd (done_not_grade list object is)
 
 -- the same of a base that was told

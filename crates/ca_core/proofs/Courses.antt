@@ -1,5 +1,5 @@
 -- The course as the code computes it is the one that is defined.
-use Rattle.std.proofs.Common.{◌≡◌, ℕ, zero, suc, ◌+◌, ◌%◌, ◌==◌, ◌<◌, ◌≤◌, Bool, true, false, cond, List, [], ◌∷◌, length, drop, get_or, Option, Some, None, nat_le, leb-true, refl, sym, ap, ◌∙◌, arith}
+use Rattle.std.proofs.Common.{◌≡◌, ℕ, ◌+◌, ◌%◌, ◌==◌, ◌<◌, ◌≤◌, Bool, true, false, cond, List, length, drop, Option, Some, None, nat_le, leb-true, sym, ap, ◌∙◌}
 use Rattle.std.proofs.lemmas.Bool.{and_parts, lt-ltb, le-ltb}
 use Rattle.ranked_list.specs.declared.item.Item.{Item}
 use Rattle.topk_theory.specs.declared.access.Access.{Access}
@@ -8,41 +8,11 @@ use Rattle.topk_theory.specs.Threshold.{item_objects}
 use Rattle.topk_theory.specs.NoRandom.{first_seen}
 use Rattle.topk_theory.specs.Combined.{choice}
 use Rattle.nra_core.specs.Quiet.{is_quiet_seen}
-use Rattle.ca_core.specs.Open.{next_unknown}
+use Rattle.machine_base.specs.declared.asking.Ask.{Ask}
+use Rattle.machine_base.specs.Asking.{next_unknown, ask_from}
 use Rattle.ca_core.specs.declared.stage.Stage.{Stage}
 use Rattle.ca_core.specs.declared.stage.Stage.TheVariants as stages
-use Rattle.ca_core.specs.Course.{Course, finish_at, finish_from, block_ended, grade_taken, phase_begun, row_ended, moved}
-
--- ---- the finish from a place on
-at_object : (items : List Item) (at : ℕ) (d : Item) → at < length items
-    → drop at (item_objects items) ≡ (get_or items at d).object ∷ drop (suc at) (item_objects items)
-at_object [] at d l = absurd (omega arith)
-at_object (item ∷ items) zero d l = refl
-at_object (item ∷ items) (suc at) d l = at_object items at d (omega arith)
-
-pub finish_found : (m : ℕ) (A : List Access) (items : List Item) (at list : ℕ) (d : Item) → at < length items
-    → next_unknown m A (get_or items at d).object ≡ Some list
-    → finish_from m A (drop at (item_objects items)) at ≡ stages.Finish list (get_or items at d).object at
-finish_found m A items at list d l e =
-    ap (λ os. finish_from m A os at) (at_object items at d l)
-    ∙ ap (λ found. finish_at found (get_or items at d).object at (finish_from m A (drop (suc at) (item_objects items)) (at + 1))) e
-
-pub finish_skips : (m : ℕ) (A : List Access) (items : List Item) (at : ℕ) (d : Item) → at < length items → next_unknown m A (get_or items at d).object ≡ None
-    → finish_from m A (drop at (item_objects items)) at ≡ finish_from m A (drop (at + 1) (item_objects items)) (at + 1)
-finish_skips m A items at d l e =
-    let one : suc at ≡ at + 1 = omega arith in
-    ap (λ os. finish_from m A os at) (at_object items at d l)
-    ∙ ap (λ found. finish_at found (get_or items at d).object at (finish_from m A (drop (suc at) (item_objects items)) (at + 1))) e
-    ∙ ap (λ p. finish_from m A (drop p (item_objects items)) (at + 1)) one
-
-past_end : (items : List Item) (at : ℕ) → length items ≤ at → drop at (item_objects items) ≡ []
-past_end [] zero l = refl
-past_end [] (suc at) l = refl
-past_end (item ∷ items) zero l = absurd (omega arith)
-past_end (item ∷ items) (suc at) l = past_end items at (omega arith)
-
-pub finish_over : (m : ℕ) (A : List Access) (items : List Item) (at : ℕ) → length items ≤ at → finish_from m A (drop at (item_objects items)) at ≡ stages.Done
-finish_over m A items at l = ap (λ os. finish_from m A os at) (past_end items at l)
+use Rattle.ca_core.specs.Course.{Course, finish_of, block_ended, grade_taken, phase_begun, row_ended, moved}
 
 -- ---- the end of a depth
 pub enough_seen : (V : List ℕ → ℕ) (k m n : ℕ) (A : List Access) (b : Bool) → b ≡ is_quiet_seen V k m n A → b ≡ true → k ≤ length (seen_objects A)
@@ -51,15 +21,15 @@ enough_seen V k m n A b is t = leb-true k (length (seen_objects A)) (and_parts (
 pub block_goes : (V : List ℕ → ℕ) (k m n : ℕ) (A : List Access) (depth : ℕ) (first : List Item) (b : Bool) → b ≡ is_quiet_seen V k m n A → b ≡ false
     → record { stage = stages.Row 0 (depth + 1); first = first } ≡ block_ended V k m n A depth first
 block_goes V k m n A depth first b is f =
-    sym (ap (λ t. cond {A = Course} t (record { stage = finish_from m A (item_objects (first_seen V k m A)) 0; first = first_seen V k m A }) (record { stage = stages.Row 0 (depth + 1); first = first })) (sym is ∙ f))
+    sym (ap (λ t. cond {A = Course} t (record { stage = finish_of (ask_from m A (item_objects (first_seen V k m A)) 0); first = first_seen V k m A }) (record { stage = stages.Row 0 (depth + 1); first = first })) (sym is ∙ f))
 
 pub block_ends : (V : List ℕ → ℕ) (k m n : ℕ) (A : List Access) (depth : ℕ) (first first' : List Item) (stage : Stage) (b : Bool) → b ≡ is_quiet_seen V k m n A
-    → b ≡ true → first' ≡ first_seen V k m A → stage ≡ finish_from m A (drop 0 (item_objects first')) 0
+    → b ≡ true → first' ≡ first_seen V k m A → stage ≡ finish_of (ask_from m A (drop 0 (item_objects first')) 0)
     → record { stage = stage; first = first' } ≡ block_ended V k m n A depth first
 block_ends V k m n A depth first first' stage b is t same course =
     ap (λ s. record { stage = s; first = first' }) course
-    ∙ ap (λ (xs : List Item). record { stage = finish_from m A (item_objects xs) 0; first = xs }) same
-    ∙ sym (ap (λ t. cond {A = Course} t (record { stage = finish_from m A (item_objects (first_seen V k m A)) 0; first = first_seen V k m A }) (record { stage = stages.Row 0 (depth + 1); first = first })) (sym is ∙ t))
+    ∙ ap (λ (xs : List Item). record { stage = finish_of (ask_from m A (item_objects xs) 0); first = xs }) same
+    ∙ sym (ap (λ t. cond {A = Course} t (record { stage = finish_of (ask_from m A (item_objects (first_seen V k m A)) 0); first = first_seen V k m A }) (record { stage = stages.Row 0 (depth + 1); first = first })) (sym is ∙ t))
 
 -- ---- a grade of the choice
 pub grade_goes : (V : List ℕ → ℕ) (k m n : ℕ) (A : List Access) (depth : ℕ) (first : List Item) (object list : ℕ) (next : Option ℕ)
@@ -109,10 +79,10 @@ pub moved_grade : (V : List ℕ → ℕ) (k phase m n : ℕ) (A : List Access) (
     → course ≡ moved V k phase m n A stage first
 moved_grade V k phase m n A list object depth first stage course is taken = taken ∙ sym (ap (λ s. moved V k phase m n A s first) is)
 
-pub moved_finish : (V : List ℕ → ℕ) (k phase m n : ℕ) (A : List Access) (list object place : ℕ) (first : List Item) (stage next : Stage)
-    → stage ≡ stages.Finish list object place → next ≡ finish_from m A (drop place (item_objects first)) place
+pub moved_finish : (V : List ℕ → ℕ) (k phase m n : ℕ) (A : List Access) (ask : Ask) (first : List Item) (stage next : Stage)
+    → stage ≡ stages.Finish ask → next ≡ finish_of (ask_from m A (drop ask.place (item_objects first)) ask.place)
     → record { stage = next; first = first } ≡ moved V k phase m n A stage first
-moved_finish V k phase m n A list object place first stage next is finish = ap (λ s. record { stage = s; first = first }) finish ∙ sym (ap (λ s. moved V k phase m n A s first) is)
+moved_finish V k phase m n A ask first stage next is finish = ap (λ s. record { stage = s; first = first }) finish ∙ sym (ap (λ s. moved V k phase m n A s first) is)
 
 pub moved_done : (V : List ℕ → ℕ) (k phase m n : ℕ) (A : List Access) (first : List Item) (stage : Stage) → stage ≡ stages.Done
     → record { stage = stages.Done; first = first } ≡ moved V k phase m n A stage first

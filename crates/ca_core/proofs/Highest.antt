@@ -1,11 +1,11 @@
 -- The highest of the kept highs decides the choice.
-use Rattle.std.proofs.Common.{◌≡◌, ◌≢◌, ◌⊎◌, inl, inr, ℕ, ◌+◌, ◌<◌, ◌≤◌, Bool, true, false, List, [], ◌∷◌, length, set, sum_by, Option, Some, None, nat_eq, nat_lt, position, Contains, refl, sym, ap, subst, ◌∙◌, arith}
+use Rattle.std.proofs.Common.{◌≡◌, ◌≢◌, ◌⊎◌, inl, inr, ℕ, ◌+◌, ◌<◌, ◌≤◌, true, false, List, length, set, sum_by, Option, Some, None, nat_eq, position, refl, sym, ap, subst, ◌∙◌, arith}
 use Rattle.std.specs.List.{slice_get}
 use Rattle.std.specs.declared.cmp.Ordering.{Ordering}
-use Rattle.std.specs.declared.cmp.Ordering.TheVariants.{Less, Equal, Greater}
+use Rattle.std.specs.declared.cmp.Ordering.TheVariants.{Equal, Greater}
 use Rattle.std.specs.Ordering.{ordering_then, nat_cmp}
 use Rattle.std.specs.Cmp.{nat_cmp_is}
-use Rattle.std.proofs.lemmas.Bool.{cases_Bool, cases_eq, cases_lt, lt-ltb, ltb-true, true≢false, false≢true}
+use Rattle.std.proofs.lemmas.Bool.{cases_Bool, cases_eq, cases_lt, lt-ltb, ltb-true, true≢false}
 use Rattle.std.proofs.lemmas.List.{length-set, get_or-set_same, get_or-set_other}
 use Rattle.std.proofs.lemmas.List.Sums.{sum_by-set}
 use Rattle.std.proofs.lemmas.Option.{none-some, same_Some, slice_get_within}
@@ -13,8 +13,8 @@ use Rattle.topk_theory.specs.declared.access.Access.{Access}
 use Rattle.topk_theory.specs.Order.{kth_low}
 use Rattle.topk_theory.specs.Transcript.{seen_objects}
 use Rattle.topk_theory.specs.Bounds.{high}
-use Rattle.topk_theory.specs.NoRandom.{seen_items, exceeds, is_viable}
-use Rattle.topk_theory.specs.Combined.{unknown_lists, MayBeAsked, IsChoice, choice}
+use Rattle.topk_theory.specs.NoRandom.{seen_items, exceeds}
+use Rattle.topk_theory.specs.Combined.{MayBeAsked, IsChoice, choice}
 use Rattle.topk_theory.proofs.AgreementLists.{slice_get_contains}
 use Rattle.topk_theory.proofs.CombinedChoice.{choice_law, one_choice}
 use Rattle.access_log.proofs.RecordKept.{placed, not_placed}

@@ -1,4 +1,3 @@
-pub mod Grades
 pub mod Noting
 pub mod Highest
 pub mod Pieces

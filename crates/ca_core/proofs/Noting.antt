@@ -22,8 +22,9 @@ use Rattle.indexed_heap.specs.Ranks.{rank_at}
 use Rattle.nra_core.proofs.Renewed.{high_falls}
 use Rattle.ca_core.specs.declared.kept_high.KeptHigh.{KeptHigh}
 use Rattle.ca_core.specs.declared.open_highs.OpenHighs.{OpenHighs}
-use Rattle.ca_core.specs.Open.{next_unknown, IsOpen, AreOpen, WasOpen}
-use Rattle.ca_core.proofs.Grades.{unknown_other, no_unknown, some_unknown}
+use Rattle.machine_base.specs.Asking.{next_unknown}
+use Rattle.ca_core.specs.Open.{IsOpen, AreOpen, WasOpen}
+use Rattle.machine_base.proofs.Unknown.{unknown_other, no_unknown, some_unknown}
 
 -- ---- what is seen after one more access
 seen_cases : (A : List Access) (a : Access) → (seen_objects (A ++ a ∷ []) ≡ seen_objects A) ⊎ (seen_objects (A ++ a ∷ []) ≡ seen_objects A ++ object_of a ∷ [])

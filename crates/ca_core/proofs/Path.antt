@@ -17,7 +17,8 @@ use Rattle.topk_theory.proofs.CombinedLaws.{run_is, run_within}
 use Rattle.machine_base.specs.Depths.{IsReached, read_to}
 use Rattle.machine_base.proofs.Depths.{IsOwn, is_own, next_reached}
 use Rattle.machine_base.proofs.Rows.{ReadsRows, read_more, read_whole, read_none}
-use Rattle.ca_core.specs.OnTable.{quiet_at, all_missing, OnRow}
+use Rattle.ca_core.specs.OnTable.{quiet_at, OnRow}
+use Rattle.machine_base.specs.Asking.{all_missing}
 use Rattle.ca_core.proofs.Pieces.{flat_map_objects}
 
 -- the run goes by rows and what follows them, and ends at the algorithm's own depth

@@ -1,27 +1,22 @@
 -- What a machine that is done answers.
-use Rattle.std.proofs.Common.{◌≡◌, ◌≢◌, ℕ, suc, ◌<◌, ◌≤◌, inl, inr, List, [], ◌∷◌, length, map, AllPairs, Contains, Option, Some, is_none, unwrap_or, get_or, refl, sym, ap, ap₂, subst, ◌∙◌, arith}
+use Rattle.std.proofs.Common.{◌≡◌, ◌≢◌, ℕ, suc, ◌≤◌, List, [], ◌∷◌, length, map, AllPairs, Contains, get_or, refl, sym, ap, ap₂, subst, ◌∙◌, arith}
 use Rattle.std.proofs.lemmas.List.{length-map, get_or-map, take_all}
 use Rattle.ranked_list.specs.declared.row.Row.{Row}
 use Rattle.ranked_list.specs.declared.item.Item.{Item}
 use Rattle.ranked_list.specs.declared.need.Need.TheVariants as needs
-use Rattle.ranked_list.specs.Table.{grade_in}
-use Rattle.ranked_list.proofs.OptionLaws.{option_cases}
 use Rattle.monotone_fn.specs.Value.{value}
 use Rattle.monotone_fn.proofs.Laws.{value-monotone}
 use Rattle.topk_theory.specs.declared.access.Access.{Access}
 use Rattle.topk_theory.specs.Order.{AreDistinct, in_order, first_k}
 use Rattle.topk_theory.specs.Asked.{combined_answer}
 use Rattle.topk_theory.specs.Aggregate.{IsTop, aggregate}
-use Rattle.topk_theory.specs.Transcript.{Agrees, list_at, list_numbers, seen_objects, named_objects}
-use Rattle.topk_theory.specs.Bounds.{known_grade, low}
+use Rattle.topk_theory.specs.Transcript.{Agrees, seen_objects, named_objects}
+use Rattle.topk_theory.specs.Bounds.{low}
 use Rattle.topk_theory.specs.Threshold.{scored, item_objects}
 use Rattle.topk_theory.specs.NoRandom.{seen_items, first_seen}
-use Rattle.topk_theory.specs.Combined.{phase_length, unknown_lists, ca_blocks, ca_answer}
-use Rattle.topk_theory.proofs.AgreementLists.{contains_nil, contains_map, contains_map_from, member_of_all}
-use Rattle.topk_theory.proofs.Agreement.{known_grade_is, seen_is_named}
-use Rattle.topk_theory.proofs.BoundsLaws.{grades_by_number}
-use Rattle.topk_theory.proofs.ListNumbers.{number_in, number_below}
-use Rattle.topk_theory.proofs.ThresholdLists.{contains_filter, map_same}
+use Rattle.topk_theory.specs.Combined.{phase_length, ca_blocks, ca_answer}
+use Rattle.topk_theory.proofs.AgreementLists.{contains_map, contains_map_from, member_of_all}
+use Rattle.topk_theory.proofs.Agreement.{seen_is_named}
 use Rattle.topk_theory.proofs.InOrder.{length-in_order}
 use Rattle.nra_core.proofs.Stop.{in_order_from}
 use Rattle.topk_theory.proofs.FirstK.{first_k-is}
@@ -31,32 +26,14 @@ use Rattle.access_log.specs.Log.{AgreesWith}
 use Rattle.machine_base.specs.declared.base.Base.{Base}
 use Rattle.machine_base.specs.Base.{shown}
 use Rattle.machine_base.proofs.Held.{held_asked}
+use Rattle.machine_base.proofs.Known.{low_exact}
 use Rattle.machine_base.proofs.Makes.{answer_by}
 use Rattle.ca_core.specs.declared.stage.Stage.{Stage}
 use Rattle.ca_core.specs.declared.stage.Stage.TheVariants as stages
 use Rattle.ca_core.specs.Course.{need_at, valued}
-use Rattle.ca_core.specs.Kept.{AreKnown, AreFinished, Keeps}
+use Rattle.machine_base.specs.Asking.{AreKnown, AreAsked}
+use Rattle.ca_core.specs.Kept.{Keeps}
 use Rattle.ca_core.specs.Machine.{IsAnswer}
-
--- ---- an object whose grades are all known has its aggregate as its low
-known_there : (m : ℕ) (A : List Access) (object list : ℕ) → unknown_lists m A object ≡ [] → list < m → (grade : ℕ) × (known_grade A object list ≡ Some grade)
-known_there m A object list none lt =
-    elim (option_cases (known_grade A object list)) [
-      | inl unknown ↦ absurd (
-          let number : Contains (list_numbers m) list = number_in m list lt in
-          let left : Contains (unknown_lists m A object) list = contains_filter (λ other. is_none (known_grade A object other)) (list_numbers m) list number (ap (λ (o : Option ℕ). is_none o) unknown) in
-          contains_nil list (subst (λ xs. Contains xs list) none left))
-      | inr some ↦ some
-    ]
-
-low_exact : (V : List ℕ → ℕ) (m n : ℕ) (D : List (List Row)) (A : List Access) (object : ℕ) → Agrees m n D A → unknown_lists m A object ≡ []
-    → low V m A object ≡ aggregate V D object
-low_exact V m n D A object agrees none =
-    ap V (map_same (λ list. unwrap_or (known_grade A object list) 0) (λ list. grade_in (list_at D list) object) (list_numbers m) (λ list c.
-    let lt = number_below m list c in
-    let known = known_there m A object list none lt in
-    ap (λ (o : Option ℕ). unwrap_or o 0) known.1 ∙ sym (known_grade_is m n D A object list known.0 agrees lt known.1))
-    ∙ sym (grades_by_number m D object agrees.lists))
 
 -- ---- the items are scored
 pub valued_distinct : (V : List ℕ → ℕ) (m : ℕ) (A : List Access) (first items : List Item)
@@ -97,11 +74,11 @@ grade_not_done list object e = cc
 done_of : (stage : Stage) → need_at stage ≡ needs.Done → stage ≡ stages.Done
 done_of (stages.Row list depth) e = absurd (row_not_done list depth e)
 done_of (stages.Choice list object depth) e = absurd (grade_not_done list object e)
-done_of (stages.Finish list object place) e = absurd (grade_not_done list object e)
+done_of (stages.Finish ask) e = absurd (grade_not_done ask.list ask.object e)
 done_of stages.Done e = refl
 
 pub finished : (base : Base) (phase : ℕ) (first : List Item) (stage : Stage) → Keeps base phase first stage → need_at stage ≡ needs.Done
-    → AreFinished base.transcript.lists base.transcript.accesses (item_objects first)
+    → AreAsked base.transcript.lists base.transcript.accesses (item_objects first)
 finished base phase first stage kept done = (subst (Keeps base phase first) (done_of stage done) kept).sound
 
 -- and they are few

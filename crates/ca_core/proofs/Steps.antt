@@ -1,8 +1,8 @@
 -- What a machine keeps after one more access.
-use Rattle.std.proofs.Common.{◌≡◌, ℕ, ◌+◌, ◌%◌, ◌==◌, ◌<◌, inl, inr, Bool, true, false, cond, List, [], ◌∷◌, ◌++◌, length, drop, take, Contains, Option, Some, None, refl, sym, ap, subst, ◌∙◌, arith, append-nil}
+use Rattle.std.proofs.Common.{◌≡◌, ℕ, ◌+◌, ◌%◌, ◌==◌, ◌<◌, inl, inr, Bool, true, false, cond, List, [], ◌∷◌, ◌++◌, length, drop, Contains, Option, Some, None, refl, sym, ap, subst, ◌∙◌, arith, append-nil}
 use Rattle.std.proofs.lemmas.Bool.{cases_lt, lt-ltb, le-ltb}
 use Rattle.std.proofs.lemmas.Option.{same_Some}
-use Rattle.std.proofs.lemmas.List.Elements.{All-contains, All-nil}
+use Rattle.std.proofs.lemmas.List.Elements.{All-contains}
 use Rattle.ranked_list.specs.declared.row.Row.{Row}
 use Rattle.ranked_list.specs.declared.item.Item.{Item}
 use Rattle.monotone_fn.specs.Tree.{Tree}
@@ -15,7 +15,7 @@ use Rattle.topk_theory.specs.Transcript.{Agrees, seen_objects}
 use Rattle.topk_theory.specs.Consistent.{SomeAgrees}
 use Rattle.topk_theory.specs.Threshold.{item_objects}
 use Rattle.topk_theory.specs.NoRandom.{seen_items, first_seen, is_quiet}
-use Rattle.topk_theory.specs.Combined.{unknown_lists, choice, phase_after, ca_run_to, ca_blocks}
+use Rattle.topk_theory.specs.Combined.{unknown_lists, choice, phase_after, ca_run_to, ca_blocks, ca_run}
 use Rattle.topk_theory.proofs.AgreementLists.{all_from_members, contains_map_from}
 use Rattle.topk_theory.proofs.Agreement.{agrees_front}
 use Rattle.topk_theory.proofs.FirstK.{first_k-is}
@@ -26,17 +26,18 @@ use Rattle.topk_theory.proofs.ThresholdRun.{seen_more}
 use Rattle.topk_theory.proofs.CombinedChoice.{choice_law}
 use Rattle.nra_core.specs.Quiet.{is_quiet_seen}
 use Rattle.nra_core.proofs.Shown.{quiet_same}
-use Rattle.ca_core.specs.Open.{next_unknown}
-use Rattle.ca_core.proofs.Grades.{no_unknown}
 use Rattle.machine_base.specs.Base.{IsHeld, MayFollow}
 use Rattle.machine_base.specs.Depths.{IsReached}
+use Rattle.machine_base.specs.declared.asking.Ask.{Ask}
+use Rattle.machine_base.specs.Asking.{next_unknown, ask_from, IsAskedFor, AreListed, IsAsking}
 use Rattle.machine_base.proofs.Held.{held_more, held_asked}
+use Rattle.machine_base.proofs.Unknown.{no_unknown}
+use Rattle.machine_base.proofs.Asks.{grade_given, missing_none, object_asked, asks_first, asks_more, leaves_asks, leaves_more, next_below}
 use Rattle.ca_core.specs.declared.stage.Stage.TheVariants as stages
-use Rattle.ca_core.specs.Course.{Course, finish_from, block_ended, grade_taken, phase_begun, row_ended, moved}
+use Rattle.ca_core.specs.Course.{Course, finish_of, block_ended, grade_taken, phase_begun, row_ended, moved}
 use Rattle.ca_core.specs.OnTable.{quiet_at, OnChoice, OnTable}
-use Rattle.ca_core.specs.Kept.{IsAsked, AreListed, IsFinishing, IsCaKept}
-use Rattle.ca_core.proofs.Pieces.{none_before}
-use Rattle.ca_core.proofs.Asks.{grade_given, missing_none, choice_asked, finish_asked, known_after, listed_after, sound_finish, on_finish, next_below}
+use Rattle.ca_core.specs.Kept.{IsCaKept}
+use Rattle.ca_core.proofs.Asks.{sound_finish, on_finish}
 use Rattle.ca_core.proofs.Path.{list_follows, row_follows, nothing_between, nobody_asked, one_asked, blocks_made, run_left, depth_follows}
 
 -- all of a depth is read; its row is read
@@ -67,12 +68,14 @@ quiet_on e k room m n A D b held agrees q =
 
 finish_on : (e : Tree) (k phase room m n : ℕ) (A : List Access) (D : List (List Row)) (depth : ℕ) → IsHeld e k room m n A → Agrees m n D A
     → OnDepth (value e) k phase n D A depth → is_quiet_seen (value e) k m n A ≡ true
-    → OnTable (value e) k phase n D A (item_objects (first_seen (value e) k m A)) (finish_from m A (item_objects (first_seen (value e) k m A)) 0)
+    → OnTable (value e) k phase n D A (item_objects (first_seen (value e) k m A)) (finish_of (ask_from m A (item_objects (first_seen (value e) k m A)) 0))
 finish_on e k phase room m n A D depth held agrees on q =
     let V = value e in
     let blocks : A ≡ ca_blocks V k phase D = blocks_made V k phase n depth D A (value-monotone e) (held_asked e k room m n A D held agrees) on.at on.made (quiet_on e k room m n A D true held agrees q) in
-    subst (λ c. OnTable V k phase n D A (item_objects (first_seen V k c A)) (finish_from c A (item_objects (first_seen V k c A)) 0)) agrees.lists
-    (on_finish V k phase n D A (item_objects (first_seen V k (length D) A)) (item_objects (first_seen V k (length D) A)) 0 (ap (λ B. item_objects (first_seen V k (length D) B)) blocks) refl (run_left V k phase D A blocks))
+    let first : List ℕ = item_objects (first_seen V k (length D) A) in
+    subst (λ c. OnTable V k phase n D A (item_objects (first_seen V k c A)) (finish_of (ask_from c A (item_objects (first_seen V k c A)) 0))) agrees.lists
+    (on_finish V k phase n D A first (ask_from (length D) A first 0) (ap (λ B. item_objects (first_seen V k (length D) B)) blocks)
+    (leaves_asks D A (ca_run V k phase D) first first 0 refl (run_left V k phase D A blocks)))
 
 -- after all of a depth
 ended : (e : Tree) (k phase room m n : ℕ) (A : List Access) (depth : ℕ) (first : List Item) → IsHeld e k room m n A → item_objects first ≡ []
@@ -81,7 +84,7 @@ ended : (e : Tree) (k phase room m n : ℕ) (A : List Access) (depth : ℕ) (fir
 ended e k phase room m n A depth first held none on = by_quiet (is_quiet_seen (value e) k m n A) refl
   where
     finish : Course
-    finish = record { stage = finish_from m A (item_objects (first_seen (value e) k m A)) 0; first = first_seen (value e) k m A }
+    finish = record { stage = finish_of (ask_from m A (item_objects (first_seen (value e) k m A)) 0); first = first_seen (value e) k m A }
 
     next : Course
     next = record { stage = stages.Row 0 (depth + 1); first = first }
@@ -91,7 +94,7 @@ ended e k phase room m n A depth first held none on = by_quiet (is_quiet_seen (v
     by_quiet true q =
         subst (λ b. IsCaKept e k phase room m n A (cond {A = Course} b finish next).first (cond {A = Course} b finish next).stage) (sym q) (record {
           base = held;
-          sound = sound_finish m A (item_objects (first_seen (value e) k m A)) (item_objects (first_seen (value e) k m A)) 0 (first_listed (value e) k m A) refl (All-nil (λ o. unknown_lists m A o ≡ []));
+          sound = sound_finish m A (item_objects (first_seen (value e) k m A)) (ask_from m A (item_objects (first_seen (value e) k m A)) 0) (asks_first m A (item_objects (first_seen (value e) k m A)) (first_listed (value e) k m A));
           on_table = λ D agrees. finish_on e k phase room m n A D depth held agrees (on D agrees) q;
         })
     by_quiet false q =
@@ -222,30 +225,28 @@ pub choice_kept : (e : Tree) (k phase room m n : ℕ) (A : List Access) (first :
     → IsCaKept e k phase room m n (A ++ Random list object grade ∷ []) (moved (value e) k phase m n (A ++ Random list object grade ∷ []) (stages.Choice list object depth) first).first (moved (value e) k phase m n (A ++ Random list object grade ∷ []) (stages.Choice list object depth) first).stage
 choice_kept e k phase room m n A first list object depth grade kept some follows =
     let a : Access = Random list object grade in
-    let asked : IsAsked m A object list = kept.sound.0 in
+    let asked : IsAskedFor m A object list = kept.sound.0 in
     taken e k phase room m n (A ++ a ∷ []) depth first object (held_more e k room m n A a kept.base follows some) kept.sound.1 (seen_more A (a ∷ []) object asked.seen) (λ D agrees.
     let on = kept.on_table D (agrees_front m n D A (a ∷ []) agrees) in
     record {
       at = on.at;
-      made = choice_asked D A (ca_run_to (value e) k phase D depth) list object grade (subst (λ c. next_unknown c A object ≡ Some list) (sym agrees.lists) asked.next)
+      made = object_asked D A (ca_run_to (value e) k phase D depth) list object grade (subst (λ c. next_unknown c A object ≡ Some list) (sym agrees.lists) asked.next)
           (grade_given m n D A list object grade agrees (next_below m A object list asked.next)) on.made;
     })
 
-pub finish_kept : (e : Tree) (k phase room m n : ℕ) (A : List Access) (first : List Item) (list object place grade : ℕ)
-    → IsCaKept e k phase room m n A first (stages.Finish list object place) → SomeAgrees m n (A ++ Random list object grade ∷ [])
-    → MayFollow room A (Random list object grade)
-    → IsCaKept e k phase room m n (A ++ Random list object grade ∷ []) (moved (value e) k phase m n (A ++ Random list object grade ∷ []) (stages.Finish list object place) first).first (moved (value e) k phase m n (A ++ Random list object grade ∷ []) (stages.Finish list object place) first).stage
-finish_kept e k phase room m n A first list object place grade kept some follows =
-    let a : Access = Random list object grade in
+pub finish_kept : (e : Tree) (k phase room m n : ℕ) (A : List Access) (first : List Item) (ask : Ask) (grade : ℕ)
+    → IsCaKept e k phase room m n A first (stages.Finish ask) → SomeAgrees m n (A ++ Random ask.list ask.object grade ∷ [])
+    → MayFollow room A (Random ask.list ask.object grade)
+    → IsCaKept e k phase room m n (A ++ Random ask.list ask.object grade ∷ []) (moved (value e) k phase m n (A ++ Random ask.list ask.object grade ∷ []) (stages.Finish ask) first).first (moved (value e) k phase m n (A ++ Random ask.list ask.object grade ∷ []) (stages.Finish ask) first).stage
+finish_kept e k phase room m n A first ask grade kept some follows =
+    let a : Access = Random ask.list ask.object grade in
     let objects : List ℕ = item_objects first in
-    let is : IsFinishing m A objects list object place = kept.sound in
+    let is : IsAsking m A objects ask = kept.sound in
     record {
       base = held_more e k room m n A a kept.base follows some;
-      sound = sound_finish m (A ++ a ∷ []) objects (drop place objects) place (listed_after A a objects is.listed) refl (known_after m A a (take place objects) (none_before objects place object is.listed.apart is.here) is.known);
+      sound = sound_finish m (A ++ a ∷ []) objects (ask_from m (A ++ a ∷ []) (drop ask.place objects) ask.place) (asks_more m A objects ask grade is);
       on_table = λ D agrees.
           let on = kept.on_table D (agrees_front m n D A (a ∷ []) agrees) in
-          subst (λ c. OnTable (value e) k phase n D (A ++ a ∷ []) objects (finish_from c (A ++ a ∷ []) (drop place objects) place)) agrees.lists
-          (on_finish (value e) k phase n D (A ++ a ∷ []) objects (drop place objects) place on.first refl
-          (finish_asked D A _ objects place list object grade is.listed.apart is.here (subst (λ c. next_unknown c A object ≡ Some list) (sym agrees.lists) is.asked.next)
-          (grade_given m n D A list object grade agrees (next_below m A object list is.asked.next)) on.made));
+          on_finish (value e) k phase n D (A ++ a ∷ []) objects (ask_from m (A ++ a ∷ []) (drop ask.place objects) ask.place) on.first
+          (leaves_more m n D A (ca_run (value e) k phase D) objects ask grade is agrees on.made);
     }

@@ -11,10 +11,6 @@ use Rattle.access_log.specs.Log.{Log}
 use Rattle.ca_core.specs.declared.kept_high.KeptHigh.{KeptHigh}
 use Rattle.ca_core.specs.declared.open_highs.OpenHighs.{OpenHighs}
 
--- the first of m lists whose grade of the object no access gave
-abbrev pub next_unknown : ℕ → List Access → ℕ → Option ℕ
-next_unknown m A object = slice_get (unknown_lists m A object) 0
-
 -- the kept high of a place is of its object, which has an unknown grade, and is at least the present high
 pub record IsOpen (V : List ℕ → ℕ) (m : ℕ) (A : List Access) (place : ℕ) (kept : KeptHigh) : Type 0 where
   pub there : slice_get (seen_objects A) place ≡ Some kept.object

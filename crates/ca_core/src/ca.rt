@@ -112,6 +112,9 @@ impl Ca {
     }
 
     /// Tells the row that is needed. Where it is refused nothing has changed. Takes no memory.
+    ///
+    /// *Cost*: `Base::tell`, a note of the object in two heaps, and at the end of a depth the walk of
+    /// `LateBounds::is_quiet`, in a random phase `OpenHighs::choose`. Takes no memory.
     pub fn feed_row(&mut self, row: Row) -> Result<(), CoreFault>
         requires { MayBeNextRow self.old.log self.old.need row }
         ensures fed { RowFed row self.old self.new result }
@@ -171,6 +174,8 @@ impl Ca {
 
     /// The answer, once nothing is needed: the first k objects at its last depth, by aggregate falling, then by id
     /// rising, each with its aggregate as both bounds, and the transcript. Takes no memory.
+    ///
+    /// *Cost*: one evaluation for each of the k, and a sort of them in place.
     pub fn answer(self) -> Result<Answer, Memory>
         requires { self.need ≡ Need.Done }
         ensures run { MakesItsRun self }

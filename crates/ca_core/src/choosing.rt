@@ -26,6 +26,9 @@ fn exceeds(bound: Option<u64>, number: u64) -> bool
 impl OpenHighs {
     /// The choice, where the bound is the k-th largest low: the viable object with an unknown grade that has the
     /// greatest high, and of these the smallest, if there is one. Renews a kept high only where none is greater.
+    ///
+    /// *Cost*: one bound and one change of an indexed heap for each object whose kept high is no less than the greatest
+    /// present one.
     pub fn choose(
         &mut self,
         expr: &Expr,

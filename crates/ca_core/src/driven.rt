@@ -1,5 +1,7 @@
 //! The machine as a driver sees it.
 
+ghost use Rattle.topk_theory.specs.Asked.{combined_run, combined_answer};
+
 use super::ca::Ca;
 use machine_base::{Answer, CoreFault, Driven, Need, Task};
 use monotone_fn::Expr;
@@ -8,6 +10,10 @@ use std::alloc::Global;
 
 impl Driven for Ca {
     ghost state = { λ t. t };
+
+    ghost run = { λ t. combined_run };
+
+    ghost answers = { λ t. combined_answer };
 
     fn begin(alloc: Global, expr: Expr, task: Task) -> Option<Ca> {
         match Ca::make(alloc, expr, task.k, task.count, task.room, task.costs) {

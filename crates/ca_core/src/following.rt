@@ -1,35 +1,16 @@
 //! What follows an access that is told.
 
-ghost use Rattle.std.specs.Prelude.{◌≡◌, ◌≤◌, ◌<◌, [], length, drop, vec_capacity};
+ghost use Rattle.std.specs.Prelude.{◌≡◌, ◌≤◌, ◌<◌, [], length, vec_capacity};
 ghost use Rattle.monotone_fn.specs.Value.{value};
-ghost use Rattle.topk_theory.specs.Threshold.{item_objects};
-ghost use Rattle.ca_core.specs.Open.{next_unknown};
+ghost use Rattle.machine_base.specs.Asking.{next_unknown};
 ghost use Rattle.machine_base.specs.Base.{Holds};
-ghost use Rattle.ca_core.specs.Course.{finish_from, block_ended, grade_taken, row_ended, moved, MayMove, MayMoveAt};
+ghost use Rattle.ca_core.specs.Course.{block_ended, grade_taken, row_ended, moved, MayMove, MayMoveAt};
 ghost use Rattle.ca_core.specs.Seen.{KeepsSeen};
 
 use super::late_seen::LateSeen;
 use super::stage::Stage;
-use super::unknown::next_unknown;
-use access_log::{Item, Transcript};
-use machine_base::Base;
-
-/// The finish from a place on: the first of the objects there that has an unknown grade is asked for it.
-fn finish_from(transcript: &Transcript, first: &[Item], place: usize) -> Stage
-    ensures { result ≡ finish_from transcript.now.lists transcript.now.accesses (drop place (item_objects first.now)) place }
-{
-    for at in place..first.len() {
-        let object = first[at].object;
-        if let Some(list) = next_unknown(transcript, object) {
-            return Stage::Finish {
-                list,
-                object,
-                place: at,
-            };
-        }
-    }
-    Stage::Done
-}
+use access_log::Item;
+use machine_base::{Base, ask_from, next_unknown};
 
 /// The end of a depth: the finish where all is quiet, else the next depth.
 fn end_block(base: &Base, late: &mut LateSeen, first: &mut Vec<Item>, depth: u32) -> Stage
@@ -48,7 +29,7 @@ fn end_block(base: &Base, late: &mut LateSeen, first: &mut Vec<Item>, depth: u32
         };
     }
     late.bounds.first_items(&base.expr, &base.transcript, first);
-    finish_from(&base.transcript, first, 0)
+    Stage::finish(ask_from(&base.transcript, first.as_slice(), 0))
 }
 
 /// The next unknown grade of the object that was chosen, or the end of the depth.
@@ -128,7 +109,11 @@ pub(crate) fn follow(
             end_row(base, phase, late, first, depth)
         }
         Stage::Choice { object, depth, .. } => take_grade(base, late, first, object, depth),
-        Stage::Finish { place, .. } => finish_from(&base.transcript, first, place),
+        Stage::Finish(ask) => Stage::finish(ask_from(
+            &base.transcript,
+            first.as_slice(),
+            ask.place,
+        )),
         Stage::Done => Stage::Done,
     }
 }

@@ -14,7 +14,6 @@ mod kept_high;
 mod late_seen;
 mod open_highs;
 mod stage;
-mod unknown;
 
 pub use ca::Ca;
 pub use machine_base::{CoreFault, Memory, Need};

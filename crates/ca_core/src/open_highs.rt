@@ -8,10 +8,10 @@ ghost use Rattle.access_log.specs.Log.{IsConsistent};
 ghost use Rattle.ca_core.specs.Open.{AreOpen, KeepsOpen, WasOpen};
 
 use super::kept_high::KeptHigh;
-use super::unknown::next_unknown;
 use access_log::Transcript;
 use indexed_heap::IndexedHeap;
 use limits::MAX_OBJECTS;
+use machine_base::next_unknown;
 use memory::Memory;
 use monotone_fn::Expr;
 use std::alloc::Global;
@@ -38,6 +38,8 @@ impl OpenHighs {
 
     /// Takes note of the access that the transcript was told last, which named this object. A high is computed for
     /// an object that is new.
+    ///
+    /// *Cost*: one bound for a new object, and at most a logarithm.
     pub fn note(&mut self, expr: &Expr, transcript: &Transcript, object: u32)
         requires lists { transcript.now.lists ≡ list_count expr.now }
         requires agrees { IsConsistent transcript.now }

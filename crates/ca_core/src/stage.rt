@@ -1,9 +1,9 @@
 //! Where a machine is in its run.
 
 ghost use Rattle.std.specs.Prelude.{◌≡◌};
-ghost use Rattle.ca_core.specs.Course.{need_at};
+ghost use Rattle.ca_core.specs.Course.{need_at, finish_of};
 
-use machine_base::Need;
+use machine_base::{Ask, Need};
 
 /// Which access is next. Lists count from 0 and depths from 1.
 #[derive(Clone, Copy)]
@@ -12,13 +12,23 @@ pub(crate) enum Stage {
     Row { list: u8, depth: u32 },
     /// The grade in a list of the object that was chosen at a depth.
     Choice { list: u8, object: u32, depth: u32 },
-    /// The grade in a list of the object at a place among the first k.
-    Finish { list: u8, object: u32, place: usize },
+    /// A grade of one of the first k.
+    Finish(Ask),
     /// None.
     Done,
 }
 
 impl Stage {
+    /// The finish with what is asked next of the first k, or the end where nothing is.
+    pub(crate) fn finish(next: Option<Ask>) -> Stage
+        ensures { result ≡ finish_of next }
+    {
+        match next {
+            Some(ask) => Stage::Finish(ask),
+            None => Stage::Done,
+        }
+    }
+
     /// What is needed next.
     pub(crate) fn need(self) -> Need
         ensures { result ≡ need_at self }
@@ -26,7 +36,10 @@ impl Stage {
         match self {
             Stage::Row { list, depth } => Need::Row { list, depth },
             Stage::Choice { list, object, .. } => Need::Grade { list, object },
-            Stage::Finish { list, object, .. } => Need::Grade { list, object },
+            Stage::Finish(ask) => Need::Grade {
+                list: ask.list,
+                object: ask.object,
+            },
             Stage::Done => Need::Done,
         }
     }

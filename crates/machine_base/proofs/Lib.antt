@@ -4,5 +4,13 @@ pub mod Held
 pub mod Makes
 pub mod Reserve
 pub mod Rows
+pub mod BoardPuts
+pub mod BoardSteps
+pub mod BoardCounts
+pub mod Fronts
+pub mod Unknown
+pub mod Known
+pub mod Asks
+mod AskFrom
 mod Begins
 mod RoomTest

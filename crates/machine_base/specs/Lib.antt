@@ -1,3 +1,5 @@
 pub mod Machine
 pub mod Base
 pub mod Depths
+pub mod Asking
+pub mod Board

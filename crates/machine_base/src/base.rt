@@ -48,6 +48,9 @@ fn reserved_transcript(
 impl Base {
     /// For the first `k` of `count` objects, of which `room` may be seen at most, before any access. No
     /// other call takes memory.
+    ///
+    /// *Cost*: the room that it reserves: for the lesser of the room and the count, that many objects, and twice as
+    /// many accesses for each list.
     pub fn make(
         alloc: Global,
         expr: Expr,
@@ -81,6 +84,8 @@ impl Base {
 
     /// Whether an object is new. Where it is, and there is no room for one more, it is a stranger if the
     /// room is the count, and else the room is full.
+    ///
+    /// *Cost*: a look-up.
     pub fn test_room(&self, object: u32) -> Result<bool, CoreFault>
         requires { Holds self.now }
         ensures new { IfOk result (TellsNew self.now.transcript.accesses object) }
@@ -95,6 +100,8 @@ impl Base {
     }
 
     /// Tells an access. Takes no memory.
+    ///
+    /// *Cost*: `Transcript::push` on reserved room. Takes no memory.
     pub fn tell(&mut self, access: Access)
         requires held { Holds self.old }
         requires reserved { IsReserved self.old }

@@ -1,5 +1,7 @@
 //! The machine as a driver sees it.
 
+ghost use Rattle.topk_theory.specs.Asked.{no_random_run, no_random_answer};
+
 use super::nra::Nra;
 use machine_base::{Answer, CoreFault, Driven, Need, Task};
 use monotone_fn::Expr;
@@ -8,6 +10,10 @@ use std::alloc::Global;
 
 impl Driven for Nra {
     ghost state = { λ t. t };
+
+    ghost run = { λ t. no_random_run };
+
+    ghost answers = { λ t. no_random_answer };
 
     fn begin(alloc: Global, expr: Expr, task: Task) -> Option<Nra> {
         match Nra::make(alloc, expr, task.k, task.count, task.room, task.costs) {

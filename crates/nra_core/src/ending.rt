@@ -40,6 +40,9 @@ impl LateBounds {
     /// Puts the first k seen objects by low falling, then high falling, then number rising, each with its bounds,
     /// into `items`, which is empty and has room for all seen ones. Goes through the seen objects once: those with
     /// a low below the k-th can't be among the first. Takes no memory.
+    ///
+    /// *Cost*: one value for each seen object, a second for those whose low is no less than the k-th, and their sort;
+    /// once a query.
     pub fn first_items(&self, expr: &Expr, transcript: &Transcript, items: &mut Vec<Item>)
         requires lists { transcript.now.lists ≡ list_count expr.now }
         requires kept { KeepsLate expr.now transcript.now self.now }

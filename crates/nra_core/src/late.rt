@@ -31,6 +31,8 @@ pub struct LateBounds {
 
 impl LateBounds {
     /// For the first `k` of the objects, of which `room` may be seen. No other call takes memory.
+    ///
+    /// *Cost*: linear in k and the room; the only call that takes memory.
     pub fn make(alloc: Global, k: u32, room: u32) -> Result<LateBounds, Memory>
         requires asked { 1 ≤ k }
         requires few { k ≤ MAX_OBJECTS }
@@ -54,6 +56,8 @@ impl LateBounds {
     }
 
     /// The k-th largest low of the seen objects, None while fewer than k are seen. Costs no evaluation.
+    ///
+    /// *Cost*: constant, no value.
     pub fn bound(&self) -> Option<u64>
         ensures { (e : Tree) (log : Log) → KeepsLate e log self.now
             → result ≡ kth_low self.now.k (seen_items (value e) log.lists log.accesses) }
@@ -64,6 +68,8 @@ impl LateBounds {
     /// Takes note of the access that the transcript was told last, which named this object: its low is renewed, and
     /// where it is above the least of the first it takes that one's place, which joins the candidates. At most two
     /// bounds are computed, and four changes made, each at most logarithmic.
+    ///
+    /// *Cost*: at most two values, and three changes of a heap.
     pub fn note(&mut self, expr: &Expr, transcript: &Transcript, object: u32)
         requires lists { transcript.now.lists ≡ list_count expr.now }
         requires agrees { IsConsistent transcript.now }

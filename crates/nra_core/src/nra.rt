@@ -107,6 +107,8 @@ impl Nra {
     }
 
     /// Tells the row that is needed. Where it is refused nothing has changed. Takes no memory.
+    ///
+    /// *Cost*: `Base::tell` and `LateBounds::note`, and at the last list of a depth `is_quiet`. Takes no memory.
     pub fn feed_row(&mut self, row: Row) -> Result<(), CoreFault>
         requires { MayBeNextRow self.old.log self.old.need row }
         ensures fed { RowFed row self.old self.new result }

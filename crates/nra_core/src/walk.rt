@@ -105,6 +105,9 @@ fn are_others_within(
 
 impl LateBounds {
     /// Whether at least k objects were seen, and no object outside the first k is viable, unseen ones included.
+    ///
+    /// *Cost*: one value for the threshold, then one or two for each candidate that is given up or exchanged (each once
+    /// until it becomes one again), and for the witness; k values at a depth that ends at a tie.
     pub fn is_quiet(&mut self, expr: &Expr, transcript: &Transcript) -> bool
         requires lists { transcript.now.lists ≡ list_count expr.now }
         requires agrees { IsConsistent transcript.now }

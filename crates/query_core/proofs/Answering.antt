@@ -22,11 +22,7 @@ use Rattle.query_core.specs.declared.drive_fault.DriveFault.{DriveFault}
 use Rattle.query_core.specs.declared.drive_fault.DriveFault.TheVariants.{RoomFull, Memory}
 use Rattle.machine_base.specs.Machine.{MachineState, asked_of, IsBegun, IsSameLog, MakesRun, IsAnswerBy}
 use Rattle.machine_base.proofs.MachineLaws.{whole_run}
-use Rattle.monotone_fn.specs.Value.{IsMonotone}
-use Rattle.optimal_law.specs.Optimal.{IsAlwaysRun}
-use Rattle.optimal_law.proofs.Runs.{ta_near_best, nra_near_shallowest}
 use Rattle.query_text.specs.declared.algorithm.Algorithm.{Algorithm}
-use Rattle.query_text.specs.declared.algorithm.Algorithm.TheVariants.{Ta, Nra, Ca}
 use Rattle.query_text.specs.declared.query.Query.{Query}
 use Rattle.query_text.specs.Query.{IsCount, IsLawful}
 use Rattle.query_core.specs.declared.machine.Machine.{Machine}
@@ -34,11 +30,12 @@ use Rattle.query_core.specs.declared.ready.Ready.{Ready}
 use Rattle.query_core.specs.Ready.{IsReady}
 use Rattle.query_core.specs.Algorithms.{run_by, items_by, IsNearBy}
 use Rattle.query_text.specs.Costs.{costs_in_force}
-use Rattle.query_core.specs.OneAnswer.{asked_by, one_run, one_items, HasTrueBounds, HasTrueItems, IsOneAnswer, IsAnswered}
+use Rattle.query_core.specs.OneAnswer.{asked_by, method_for, one_run, one_items, HasTrueBounds, HasTrueItems, IsOneAnswer, IsAnswered}
 use Rattle.query_core.specs.Machines.{algorithm_of, state_of, IsMachineFor}
 use Rattle.query_core.specs.Driving.{run_sees, Continues, IsFedFrom, TookOne, IsEnd, CanDrive, Steps, StopsDriving, Finishes, Drives, RunsOver}
 use Rattle.query_core.proofs.ListCount.{lists_counted}
-use Rattle.query_core.proofs.Runs.{items_true}
+use Rattle.query_core.specs.Methods.{with_algorithm}
+use Rattle.query_core.proofs.AllFacts.{facts}
 use Rattle.query_core.proofs.RunLength.{run_short}
 use Rattle.query_core.proofs.Feeding.{continues_same}
 
@@ -87,7 +84,7 @@ one_on a q last answer D same expr k asked some run done items log agrees =
       items = is;
       run = log.accesses ∙ (whole_run (run_by a) last run done D agrees ∙ (ap (λ x. run_by a x D) asked ∙ ap (λ b. run_by b (asked_by q) D) same));
       top = subst (λ e. IsTop (value e) q.k D Y) expr (subst (λ j. IsTop (value last.expr) j D Y) k (items.top.on_each D agrees));
-      bounds = subst (All (HasTrueBounds (value q.expr) D)) (sym is) (items_true q.algorithm (asked_by q) last.log.count D (value-monotone q.expr) posed);
+      bounds = subst (All (HasTrueBounds (value q.expr) D)) (sym is) ((facts (method_for q)).bounds (asked_by q) last.log.count D (value-monotone q.expr) posed);
     }
 
 fixed_same : (q : Query) (last : MachineState) (log : Log) (Y : List ℕ) → last.expr ≡ q.expr → last.k ≡ q.k → IsSameLog log last.log
@@ -98,13 +95,6 @@ fixed_same q last log Y expr k same fixes =
     (subst (λ m. Fixes (value q.expr) q.k m last.log.count last.log.accesses Y) (sym same.lists)
     (subst (λ j. Fixes (value q.expr) j last.log.lists last.log.count last.log.accesses Y) k
     (subst (λ e. Fixes (value e) last.k last.log.lists last.log.count last.log.accesses Y) expr fixes))))
-
--- a transcript that is an algorithm's run on every table that agrees is near the best
-near_of : (a : Algorithm) (asked : Asked) (m n : ℕ) (A : List Access) → IsMonotone asked.value → IsAlwaysRun (run_by a asked) asked.k m n A
-    → IsNearBy a asked m n A
-near_of Ta asked m n A monotone always = ta_near_best asked.value asked.k m n asked.costs.sorted asked.costs.random A monotone always
-near_of Nra asked m n A monotone always = nra_near_shallowest asked.value asked.k m n A monotone always
-near_of Ca asked m n A monotone always = tt
 
 -- a table that has an object has a list, and so has one with a top k
 some_listed : (D : List (List Row)) (object : ℕ) → Contains (objects_of D) object → 0 < length D
@@ -123,7 +113,7 @@ answer_near a t answer run done items same =
     let D = run.consistent.0 in
     let agrees : AgreesWith D t.log = run.consistent.1 in
     let some : 0 < length D = top_listed (value t.expr) t.k D (item_objects answer.items) run.posed.positive (items.top.on_each D agrees) in
-    near_of a (asked_of t) answer.transcript.lists answer.transcript.count answer.transcript.accesses (value-monotone t.expr) (record {
+    (facts (with_algorithm a)).near (asked_of t) answer.transcript.lists answer.transcript.count answer.transcript.accesses (value-monotone t.expr) (record {
       lists = omega (arith, some, agrees.lists, same.lists);
       positive = run.posed.positive;
       fits = omega (arith, run.posed.fits, same.count);
@@ -141,7 +131,7 @@ answer_true a t answer run items same = λ D agrees.
       positive = run.posed.positive;
       fits = run.posed.fits;
     } in
-    subst (All (HasTrueBounds (value t.expr) D)) (sym (items.exact.on_each D on)) (items_true a (asked_of t) t.log.count D (value-monotone t.expr) posed)
+    subst (All (HasTrueBounds (value t.expr) D)) (sym (items.exact.on_each D on)) ((facts (with_algorithm a)).bounds (asked_of t) t.log.count D (value-monotone t.expr) posed)
 
 -- the same of a machine, whose algorithm and state are these
 pub machine_near : (machine : Machine) (a : Algorithm) (t : MachineState) (answer : Answer) → algorithm_of machine ≡ a → state_of machine ≡ t
@@ -223,17 +213,17 @@ room_stated : (room : Option ℕ) (n full : ℕ) → full ≡ min (unwrap_or roo
 room_stated None n full e l = absurd (omega arith)
 room_stated (Some other) n full e l = let same : other ≡ full = omega arith in ap Some same
 
--- what comes of driving the machine of a query over its lists is what comes of the query
-pub drives_ready : (ready : Ready) (D : List (List Row)) (machine : Machine) (result : Result Answer DriveFault) → IsReady ready → IsTable ready.count D
-    → length D ≡ list_count ready.query.expr → 0 < list_count ready.query.expr → IsMachineFor ready machine
-    → Drives (algorithm_of machine) D (state_of machine) result → RunsOver ready D result
-drives_ready ready D machine (Ok answer) is table many some for end =
+-- what comes of driving a machine that began for a query over its lists is what comes of the query
+pub drives_begun : (ready : Ready) (D : List (List Row)) (a : Algorithm) (first : MachineState) (result : Result Answer DriveFault) → IsReady ready
+    → IsTable ready.count D → length D ≡ list_count ready.query.expr → 0 < list_count ready.query.expr → a ≡ ready.query.algorithm
+    → IsBegun ready.query.expr ready.query.k ready.count (unwrap_or ready.query.room ready.count) (costs_in_force ready.query) first
+    → Drives a D first result → RunsOver ready D result
+drives_begun ready D a first (Ok answer) is table many some same begun end =
     let q = ready.query in
-    let first = state_of machine in
     let last = end.last in
     let room = unwrap_or q.room ready.count in
-    let answered = end_answered (algorithm_of machine) q ready.count room (whole D) first answer for.algorithm some for.begun end in
-    let begins = begun_drives ready D room first is table many some for.begun in
+    let answered = end_answered a q ready.count room (whole D) first answer same some begun end in
+    let begins = begun_drives ready D room first is table many some begun in
     let agrees_last : AgreesWith D last.log = record {
       lists = begins.agrees.lists ∙ sym end.goes.lists;
       table = subst (λ n. IsTable n D) (sym end.goes.count) begins.agrees.table;
@@ -246,49 +236,57 @@ drives_ready ready D machine (Ok answer) is table many some for end =
       roomy = λ stated over.
           let sees : length (seen_objects last.log.accesses) ≡ length (seen_objects (one_run q D)) = ap (λ A. length (seen_objects A)) (sym end.log.accesses ∙ (answered.every D agrees).run) in
           let less : min room ready.count ≤ stated = room_less q.room ready.count stated over.stated in
-          omega (arith, over.passed, end.fed.roomy, end.goes.room, for.begun.in_force);
+          omega (arith, over.passed, end.fed.roomy, end.goes.room, begun.in_force);
     }
-drives_ready ready D machine (Err (RoomFull room)) is table many some for stopped =
+drives_begun ready D a first (Err (RoomFull room)) is table many some same begun stopped =
     let q = ready.query in
-    let first = state_of machine in
-    let asked : asked_of first ≡ asked_by q = asked_same q ready.count (unwrap_or q.room ready.count) first first for.begun (continues_same first) in
-    let sees : length (run_sees (algorithm_of machine) D first) ≡ length (seen_objects (one_run q D)) =
-    ap (λ x. length (seen_objects (run_by (algorithm_of machine) x D))) asked ∙ ap (λ b. length (seen_objects (run_by b (asked_by q) D))) for.algorithm in
-    let short : room < ready.count = omega (arith, stopped.1, for.begun.count) in
+    let asked : asked_of first ≡ asked_by q = asked_same q ready.count (unwrap_or q.room ready.count) first first begun (continues_same first) in
+    let sees : length (run_sees a D first) ≡ length (seen_objects (one_run q D)) =
+    ap (λ x. length (seen_objects (run_by a x D))) asked ∙ ap (λ b. length (seen_objects (run_by b (asked_by q) D))) same in
+    let short : room < ready.count = omega (arith, stopped.1, begun.count) in
     record {
-      stated = room_stated q.room ready.count room (stopped.0 ∙ for.begun.in_force) short;
+      stated = room_stated q.room ready.count room (stopped.0 ∙ begun.in_force) short;
       short = short;
       passed = omega (arith, stopped.2, sees);
     }
-drives_ready ready D machine (Err Memory) is table many some for stopped = tt
+drives_begun ready D a first (Err Memory) is table many some same begun stopped = tt
+
+-- and the same of the query's machine
+pub drives_ready : (ready : Ready) (D : List (List Row)) (machine : Machine) (result : Result Answer DriveFault) → IsReady ready → IsTable ready.count D
+    → length D ≡ list_count ready.query.expr → 0 < list_count ready.query.expr → IsMachineFor ready machine
+    → Drives (algorithm_of machine) D (state_of machine) result → RunsOver ready D result
+drives_ready ready D machine result is table many some for drives =
+    drives_begun ready D (algorithm_of machine) (state_of machine) result is table many some for.algorithm for.begun drives
 
 -- the answer of a machine that came to its end is the end of its run
-pub finishes_end : (D : List (List Row)) (first last : Machine) (result : Result Answer DriveFault) → algorithm_of last ≡ algorithm_of first
-    → Continues (state_of first) (state_of last) → IsFedFrom (whole D) (state_of last) → (state_of last).need ≡ Done
-    → Finishes last result → Drives (algorithm_of first) D (state_of first) result
-finishes_end D first last (Ok answer) same goes fed done finishes = record {
+pub finishes_begun : (D : List (List Row)) (a : Algorithm) (first : MachineState) (last : Machine) (result : Result Answer DriveFault) → algorithm_of last ≡ a
+    → Continues first (state_of last) → IsFedFrom (whole D) (state_of last) → (state_of last).need ≡ Done → Finishes last result → Drives a D first result
+finishes_begun D a first last (Ok answer) same goes fed done finishes = record {
   last = state_of last;
   goes = goes;
   fed = fed;
-  run = subst (λ a. MakesRun (run_by a) (state_of last)) same finishes.0;
+  run = subst (λ b. MakesRun (run_by b) (state_of last)) same finishes.0;
   done = done;
-  items = subst (λ a. IsAnswerBy (items_by a) (state_of last) answer.items) same finishes.1;
+  items = subst (λ b. IsAnswerBy (items_by b) (state_of last) answer.items) same finishes.1;
   log = finishes.2;
 }
-finishes_end D first last (Err fault) same goes fed done finishes = subst (StopsDriving (algorithm_of first) D (state_of first)) (sym finishes) tt
+finishes_begun D a first last (Err fault) same goes fed done finishes = subst (StopsDriving a D first) (sym finishes) tt
+
+pub finishes_end : (D : List (List Row)) (first last : Machine) (result : Result Answer DriveFault) → algorithm_of last ≡ algorithm_of first
+    → Continues (state_of first) (state_of last) → IsFedFrom (whole D) (state_of last) → (state_of last).need ≡ Done
+    → Finishes last result → Drives (algorithm_of first) D (state_of first) result
+finishes_end D first last result same goes fed done finishes = finishes_begun D (algorithm_of first) (state_of first) last result same goes fed done finishes
 
 -- what stops a machine later stops the first one
-pub stops_first : (D : List (List Row)) (first last : Machine) (fault : DriveFault) → algorithm_of last ≡ algorithm_of first
-    → Continues (state_of first) (state_of last) → StopsDriving (algorithm_of last) D (state_of last) fault
-    → StopsDriving (algorithm_of first) D (state_of first) fault
-stops_first D first last (RoomFull room) same goes stopped =
-    let s = state_of first in
+pub stops_begun : (D : List (List Row)) (a : Algorithm) (first : MachineState) (last : Machine) (fault : DriveFault) → algorithm_of last ≡ a
+    → Continues first (state_of last) → StopsDriving (algorithm_of last) D (state_of last) fault → StopsDriving a D first fault
+stops_begun D a first last (RoomFull room) same goes stopped =
     let t = state_of last in
-    let asked : asked_of t ≡ asked_of s = asking_same t.expr s.expr t.k s.k t.costs s.costs goes.expr goes.k goes.costs in
-    let sees : length (run_sees (algorithm_of last) D t) ≡ length (run_sees (algorithm_of first) D s) =
-    ap (λ x. length (seen_objects (run_by (algorithm_of last) x D))) asked ∙ ap (λ b. length (seen_objects (run_by b (asked_of s) D))) same in
+    let asked : asked_of t ≡ asked_of first = asking_same t.expr first.expr t.k first.k t.costs first.costs goes.expr goes.k goes.costs in
+    let sees : length (run_sees (algorithm_of last) D t) ≡ length (run_sees a D first) =
+    ap (λ x. length (seen_objects (run_by (algorithm_of last) x D))) asked ∙ ap (λ b. length (seen_objects (run_by b (asked_of first) D))) same in
     (stopped.0 ∙ goes.room, omega (arith, stopped.1, goes.count), omega (arith, stopped.2, sees))
-stops_first D first last Memory same goes stopped = tt
+stops_begun D a first last Memory same goes stopped = tt
 
 -- a machine that took one more access makes its machine step
 pub steps : (D : List (List Row)) (before after : Machine) → algorithm_of after ≡ algorithm_of before

@@ -29,7 +29,8 @@ use Rattle.machine_base.specs.declared.core_fault.CoreFault.TheVariants.{Strange
 use Rattle.query_core.specs.declared.drive_fault.DriveFault.TheVariants.{RoomFull as NoRoom}
 use Rattle.query_core.specs.Algorithms.{run_by}
 use Rattle.query_core.specs.Driving.{run_sees, Continues, IsFedFrom, TookOne, CanDrive, StopsDriving}
-use Rattle.query_core.proofs.Runs.{runs_agree}
+use Rattle.query_core.specs.Methods.{with_algorithm}
+use Rattle.query_core.proofs.AllFacts.{facts}
 
 -- a machine that needs no grade can be fed none
 pub no_grade_fed : (t : MachineState) (need : Need) (grade : ℕ) → IsNoGrade need → MayBeNextGrade t.log need grade → ⊥
@@ -203,7 +204,7 @@ run_goes_on a D t list row asked begins knows =
     let rest = drop (length (made ++ Sorted list object grade ∷ [])) all in
     let split : all ≡ (made ++ Sorted list object grade ∷ []) ++ rest = begins_splits (made ++ Sorted list object grade ∷ []) all front in
     let on_run : Agrees (length D) t.log.count D (made ++ Sorted list object grade ∷ []) =
-    agrees_front (length D) t.log.count D (made ++ Sorted list object grade ∷ []) rest (subst (Agrees (length D) t.log.count D) split (runs_agree a (asked_of t) t.log.count D (value-monotone t.expr) asked)) in
+    agrees_front (length D) t.log.count D (made ++ Sorted list object grade ∷ []) rest (subst (Agrees (length D) t.log.count D) split ((facts (with_algorithm a)).agrees (asked_of t) t.log.count D (value-monotone t.expr) asked)) in
     let given : Gives (whole D) made (Sorted list object grade) = agrees_gives (length D) t.log.count D made (Sorted list object grade) [] on_run in
     let there : slice_get (list_at D list) (depth_of list made) ≡ Some (record { object = row.object; grade = row.grade }) = knows.gives in
     let same_object : object ≡ row.object = cc in

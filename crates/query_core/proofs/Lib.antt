@@ -1,6 +1,13 @@
 -- Lemmas on machines and their runs.
 pub mod ListCount
-pub mod Runs
+pub mod Lengths
+pub mod TrueBounds
+pub mod GivenBounds
+pub mod Facts
+pub mod ThresholdFacts
+pub mod NoRandomFacts
+pub mod CombinedFacts
+pub mod AllFacts
 pub mod RunLength
 pub mod Feeding
 pub mod Answering

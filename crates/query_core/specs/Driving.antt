@@ -6,19 +6,22 @@ use Rattle.topk_theory.specs.Transcript.{Told, whole, IsDrawn, seen_objects}
 use Rattle.topk_theory.specs.Threshold.{IsAsked}
 use Rattle.access_log.specs.Log.{AgreesWith}
 use Rattle.machine_base.specs.declared.answer.Answer.{Answer}
-use Rattle.machine_base.specs.Machine.{MachineState, asked_of, IsSameLog, MakesRun, IsAnswerBy}
+use Rattle.machine_base.specs.Machine.{MachineState, asked_of, IsSameLog, MakesRun}
 use Rattle.query_text.specs.declared.algorithm.Algorithm.{Algorithm}
 use Rattle.query_core.specs.declared.drive_fault.DriveFault.{DriveFault}
 use Rattle.query_core.specs.declared.drive_fault.DriveFault.TheVariants.{RoomFull, Memory}
 use Rattle.query_core.specs.declared.machine.Machine.{Machine}
 use Rattle.query_core.specs.declared.ready.Ready.{Ready}
-use Rattle.query_core.specs.Algorithms.{run_by, items_by}
+use Rattle.query_core.specs.Methods.{Method, with_algorithm, run_with, AnswersWith}
 use Rattle.query_core.specs.OneAnswer.{IsOverRoom, IsAnswered}
-use Rattle.query_core.specs.Machines.{algorithm_of, state_of, MakesItsRun}
+use Rattle.query_core.specs.Machines.{method_of, algorithm_of, state_of, MakesItsRun}
 
--- the objects that a machine's run by an algorithm sees on a table
+-- the objects that a machine's run by a method sees on a table
+abbrev pub sees_with : Method → List (List Row) → MachineState → List ℕ
+sees_with method D t = seen_objects (run_with method (asked_of t) D)
+
 abbrev pub run_sees : Algorithm → List (List Row) → MachineState → List ℕ
-run_sees algorithm D t = seen_objects (run_by algorithm (asked_of t) D)
+run_sees algorithm D t = sees_with (with_algorithm algorithm) D t
 
 -- the machine is the first one some accesses on: what never changes is as it was
 pub record Continues (first now : MachineState) : Type 0 where
@@ -41,14 +44,17 @@ pub record TookOne (T : Told) (before after : MachineState) : Type 0 where
   pub one_more : length after.log.accesses ≡ length before.log.accesses + 1
 
 -- the answer of a machine that came from a first one to the end of its run, fed from what is told: no table is spoken of
-pub record IsEnd (algorithm : Algorithm) (T : Told) (first : MachineState) (answer : Answer) : Type 0 where
+pub record IsEndWith (method : Method) (T : Told) (first : MachineState) (answer : Answer) : Type 0 where
   pub last : MachineState
   pub goes : Continues first last
   pub fed : IsFedFrom T last
-  pub run : MakesRun (run_by algorithm) last
+  pub run : MakesRun (run_with method) last
   pub done : last.need ≡ Done
-  pub items : IsAnswerBy (items_by algorithm) last answer.items
+  pub items : AnswersWith method last answer.items
   pub log : IsSameLog answer.transcript last.log
+
+abbrev pub IsEnd : Algorithm → Told → MachineState → Answer → Type 0
+IsEnd algorithm T first answer = IsEndWith (with_algorithm algorithm) T first answer
 
 -- a machine can be driven over lists that are told whole: they are a table that is asked, and agree with its accesses so far
 pub record CanDrive (D : List (List Row)) (t : MachineState) : Type 0 where
@@ -60,7 +66,7 @@ pub record CanDrive (D : List (List Row)) (t : MachineState) : Type 0 where
 pub record Steps (D : List (List Row)) (before after : Machine) : Type 0 where
   pub algorithm : algorithm_of after ≡ algorithm_of before
   pub took : TookOne (whole D) (state_of before) (state_of after)
-  pub within : length (state_of before).log.accesses < length (run_by (algorithm_of before) (asked_of (state_of before)) D)
+  pub within : length (state_of before).log.accesses < length (run_with (method_of before) (asked_of (state_of before)) D)
 
 -- the machine is the first one some accesses of the lists on, and needs nothing more
 pub record IsDriven (D : List (List Row)) (first last : Machine) : Type 0 where
@@ -72,19 +78,25 @@ pub record IsDriven (D : List (List Row)) (first last : Machine) : Type 0 where
 -- what a machine that needs nothing more answers
 abbrev pub Finishes : Machine → Result Answer DriveFault → Type 0
 Finishes machine (Ok answer) =
-    MakesItsRun machine × IsAnswerBy (items_by (algorithm_of machine)) (state_of machine) answer.items
+    MakesItsRun machine × AnswersWith (method_of machine) (state_of machine) answer.items
     × IsSameLog answer.transcript (state_of machine).log
 Finishes machine (Err fault) = fault ≡ Memory
 
 -- why a machine has no answer over a table: its room is less than the count and less than the number of objects that its run sees, or memory was refused
-abbrev pub StopsDriving : Algorithm → List (List Row) → MachineState → DriveFault → Type 0
-StopsDriving algorithm D t (RoomFull room) = (room ≡ t.room) × (room < t.log.count) × (room < length (run_sees algorithm D t))
-StopsDriving algorithm D t Memory = Unit {0}
+abbrev pub StopsWith : Method → List (List Row) → MachineState → DriveFault → Type 0
+StopsWith method D t (RoomFull room) = (room ≡ t.room) × (room < t.log.count) × (room < length (sees_with method D t))
+StopsWith method D t Memory = Unit {0}
 
--- what comes of driving a machine by an algorithm over a table
+abbrev pub StopsDriving : Algorithm → List (List Row) → MachineState → DriveFault → Type 0
+StopsDriving algorithm D t fault = StopsWith (with_algorithm algorithm) D t fault
+
+-- what comes of driving a machine by a method over a table
+abbrev pub DrivesWith : Method → List (List Row) → MachineState → Result Answer DriveFault → Type 0
+DrivesWith method D t (Ok answer) = IsEndWith method (whole D) t answer
+DrivesWith method D t (Err fault) = StopsWith method D t fault
+
 abbrev pub Drives : Algorithm → List (List Row) → MachineState → Result Answer DriveFault → Type 0
-Drives algorithm D t (Ok answer) = IsEnd algorithm (whole D) t answer
-Drives algorithm D t (Err fault) = StopsDriving algorithm D t fault
+Drives algorithm D t result = DrivesWith (with_algorithm algorithm) D t result
 
 -- a query is answered over its lists D: the answer is right, D agrees with its transcript, and its room wasn't passed
 pub record AnswersOver (ready : Ready) (D : List (List Row)) (answer : Answer) : Type 0 where

@@ -1,5 +1,6 @@
 -- Queries that are ready to run, their machines, and what becomes of them over lists.
 pub mod Algorithms
+pub mod Methods
 pub mod Ready
 pub mod OneAnswer
 pub mod Machines

@@ -6,23 +6,26 @@ use Rattle.machine_base.specs.Machine.{MachineState, MakesRun, IsBegun}
 use Rattle.query_core.specs.declared.machine.Machine.{Machine}
 use Rattle.query_core.specs.declared.machine.Machine.TheVariants.{Ta as TaMachine, Nra as NraMachine, Ca as CaMachine}
 use Rattle.query_core.specs.declared.ready.Ready.{Ready}
-use Rattle.query_core.specs.Algorithms.{run_by}
+use Rattle.query_core.specs.Methods.{Method, with_algorithm, run_with}
 use Rattle.query_text.specs.Costs.{costs_in_force}
 
--- the algorithm of a machine, and what contracts see of its state
+-- by what a machine runs, and what contracts see of its state
+abbrev pub method_of : Machine → Method
+method_of (TaMachine t) = with_algorithm Ta
+method_of (NraMachine t) = with_algorithm Nra
+method_of (CaMachine t) = with_algorithm Ca
+
 abbrev pub algorithm_of : Machine → Algorithm
-algorithm_of (TaMachine t) = Ta
-algorithm_of (NraMachine t) = Nra
-algorithm_of (CaMachine t) = Ca
+algorithm_of machine = (method_of machine).algorithm
 
 abbrev pub state_of : Machine → MachineState
 state_of (TaMachine t) = t
 state_of (NraMachine t) = t
 state_of (CaMachine t) = t
 
--- the machine makes the run of its algorithm
+-- the machine makes the run of its method
 abbrev pub MakesItsRun : Machine → Type 0
-MakesItsRun machine = MakesRun (run_by (algorithm_of machine)) (state_of machine)
+MakesItsRun machine = MakesRun (run_with (method_of machine)) (state_of machine)
 
 -- the machine is of the query's algorithm, is asked what the query asks, may see as many objects as the query states or as there are, and
 -- has made no access yet

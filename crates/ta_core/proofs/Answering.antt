@@ -8,24 +8,21 @@ use Rattle.best_k.specs.Held.{Held}
 use Rattle.monotone_fn.specs.Value.{value}
 use Rattle.monotone_fn.proofs.Laws.{value-monotone}
 use Rattle.topk_theory.specs.Order.{IsFirstK}
-use Rattle.topk_theory.specs.Asked.{threshold_answer}
-use Rattle.topk_theory.specs.Aggregate.{IsTop}
-use Rattle.topk_theory.specs.Transcript.{seen_objects, named_objects}
-use Rattle.topk_theory.specs.Threshold.{IsAsked, ta_depth, ta_run, ta_run_to, ta_answer, item_objects}
-use Rattle.topk_theory.proofs.AgreementLists.{member_of_all}
-use Rattle.topk_theory.proofs.Agreement.{seen_is_named}
-use Rattle.topk_theory.proofs.ThresholdTop.{answer_is_first}
-use Rattle.topk_theory.proofs.ThresholdLaws.{least_depth, top_answer, seen_answer}
+use Rattle.topk_theory.specs.Transcript.{seen_objects}
+use Rattle.topk_theory.specs.Threshold.{ta_run_to, item_objects}
+use Rattle.topk_theory.proofs.AgreementLists.{all_from_members, contains_map_from, member_of_all}
 use Rattle.access_log.specs.Log.{AgreesWith}
 use Rattle.machine_base.specs.declared.base.Base.{Base}
 use Rattle.machine_base.specs.Base.{shown}
+use Rattle.machine_base.specs.Board.{OnBoard}
 use Rattle.machine_base.proofs.Held.{held_asked}
-use Rattle.machine_base.proofs.Makes.{answer_by}
+use Rattle.ta_core.specs.declared.halting.Halting.{Halting}
+use Rattle.ta_core.specs.Halting.{Halt, halting_depth, halting_answer, passes_by}
 use Rattle.ta_core.specs.Reading.{RowProgress, first_or_zero, need_at}
-use Rattle.ta_core.specs.OnTable.{OnBoard}
 use Rattle.ta_core.specs.Kept.{Keeps}
-use Rattle.ta_core.specs.Machine.{IsAnswer}
-use Rattle.ta_core.proofs.BoardSteps.{board_first}
+use Rattle.ta_core.specs.Machine.{IsHaltingAnswer}
+use Rattle.ta_core.proofs.HaltingLaws.{IsHalting, halting_of, own}
+use Rattle.ta_core.proofs.BoardSteps.{depth_first, first_of_depth}
 use Rattle.ta_core.proofs.Runs.{need_in_row, need_after_row}
 use Rattle.ta_core.proofs.Steps.{made_of_reading}
 
@@ -45,31 +42,32 @@ done_from_need m r e =
     not_grade : (l o : ℕ) → Grade l o ≡ Done → ⊥
     not_grade l o e = cc
 
-pub answers : (base : Base) (board : Held) (r : RowProgress) (items : List Item) → Keeps base board r → need_at base.transcript.lists r ≡ Done
-    → ((others : List Item) → IsFirstK board.k board.items others → others ≡ items) → IsAnswer (shown base (need_at base.transcript.lists r)) items
-answers base board r items kept done only =
+-- the first k of the board, once the run is made
+pub answers : (rule : Halting) (base : Base) (board : Held) (r : RowProgress) (items : List Item) → Keeps (passes_by rule) base board r
+    → need_at base.transcript.lists r ≡ Done → ((others : List Item) → IsFirstK board.k board.items others → others ≡ items)
+    → IsHaltingAnswer (record { state = shown base (need_at base.transcript.lists r); halting = rule }) items
+answers rule base board r items kept done only =
     let V = value base.expr in
-    let k : ℕ = base.k in
+    let halt : Halt = record { k = base.k; passes = passes_by rule } in
     let m : ℕ = base.transcript.lists in
     let n : ℕ = base.transcript.count in
     let A = base.transcript.accesses in
-    let up = value-monotone base.expr in
-    let over : (D : List (List Row)) → AgreesWith D base.transcript → IsAsked k n D = λ D agrees. held_asked base.expr k base.room m n A D kept.base agrees in
-    let run : (D : List (List Row)) → AgreesWith D base.transcript → A ≡ ta_run V k D = λ D agrees.
-    (made_of_reading V k n D A r (done_from_need m r done) (kept.on_table D agrees).reading).run in
-    let exact : (D : List (List Row)) → AgreesWith D base.transcript → items ≡ ta_answer V k D = λ D agrees.
+    let first : (D : List (List Row)) → AgreesWith D base.transcript → IsFirstK board.k board.items (halting_answer V halt D) = λ D agrees.
     let on = kept.on_table D agrees in
-    let made = made_of_reading V k n D A r (done_from_need m r done) on.reading in
-    let bare : OnBoard V D (ta_run_to D (ta_depth V k D)) [] board.items = subst (λ B. OnBoard V D B [] board.items) made.run (subst (λ ws. OnBoard V D A ws board.items) made.none on.board) in
-    let first : IsFirstK k board.items (ta_answer V k D) =
-    board_first V k n D (ta_depth V k D) board.items (ta_answer V k D) agrees.table (least_depth V k n D up (over D agrees)).within bare (answer_is_first V k n D agrees.table) in
-    sym (only (ta_answer V k D) (subst (λ c. IsFirstK c board.items (ta_answer V k D)) (sym kept.same_k) first)) in
-    let top : (D : List (List Row)) → AgreesWith D base.transcript → IsTop V k D (item_objects items) = λ D agrees.
-    subst (λ xs. IsTop V k D (item_objects xs)) (sym (exact D agrees)) (top_answer V k n D up (over D agrees)) in
+    let made = made_of_reading V halt n D A r (done_from_need m r done) on.reading in
+    let asked : IsHalting halt n D = halting_of halt n D kept.fit (held_asked base.expr base.k base.room m n A D kept.base agrees) in
+    let bare : OnBoard V D (ta_run_to D (halting_depth V halt D)) [] board.items = subst (λ B. OnBoard V D B [] board.items) made.run (subst (λ ws. OnBoard V D A ws board.items) made.none on.board) in
+    subst (λ c. IsFirstK c board.items (halting_answer V halt D)) (sym kept.same_k)
+    (depth_first V base.k n D (halting_depth V halt D) board.items (halting_answer V halt D) agrees.table (own V halt n D (value-monotone base.expr) asked).within bare (first_of_depth V base.k n D (halting_depth V halt D) agrees.table)) in
+    let exact : (D : List (List Row)) → AgreesWith D base.transcript → items ≡ halting_answer V halt D = λ D agrees. sym (only (halting_answer V halt D) (first D agrees)) in
     let some = kept.base.agreeing.0 in
     let agrees_some : AgreesWith some base.transcript = kept.base.agreeing.1 in
-    let named : (o : ℕ) → Contains (item_objects items) o → Contains (named_objects A) o = λ o h.
-    seen_is_named A o (subst (λ B. Contains (seen_objects B) o) (sym (run some agrees_some))
-    (member_of_all (Contains (seen_objects (ta_run V k some))) (item_objects (ta_answer V k some)) o (seen_answer V k n some up (over some agrees_some))
-    (subst (λ xs. Contains (item_objects xs) o) (exact some agrees_some) h))) in
-    answer_by threshold_answer (shown base (need_at m r)) items kept.base.agreeing exact top named
+    let on_some = kept.on_table some agrees_some in
+    record {
+      exact = record { on_each = exact };
+      seen = all_from_members (Contains (seen_objects A)) (item_objects items) (λ o c.
+          let from = contains_map_from (λ (i : Item). i.object) items o c in
+          let held = first some agrees_some in
+          subst (λ x. Contains (seen_objects A) x) from.2
+          (on_some.board.only from.0 (member_of_all (Contains board.items) (halting_answer V halt some) from.0 held.held (subst (λ xs. Contains xs from.0) (exact some agrees_some) from.1))).0);
+    }

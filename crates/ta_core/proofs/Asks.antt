@@ -12,7 +12,7 @@ use Rattle.topk_theory.specs.declared.access.Access.TheVariants.{Sorted, Random}
 use Rattle.monotone_fn.specs.Value.{IsMonotone}
 use Rattle.topk_theory.specs.Aggregate.{objects_of, grades_of, aggregate}
 use Rattle.topk_theory.specs.Transcript.{Agrees, list_at, seen_objects, each_once}
-use Rattle.topk_theory.specs.Threshold.{IsAsked, row_at, stands, sorted_block, new_objects, random_block, ta_block, ta_run_to, ta_stop, ta_depth}
+use Rattle.topk_theory.specs.Threshold.{row_at, stands, sorted_block, new_objects, random_block, ta_block, ta_run_to}
 use Rattle.topk_theory.proofs.AgreementLists.{contains_here, contains_there, contains_map_from, distinct_tail}
 use Rattle.topk_theory.proofs.AgreementNames.{each_once_within, each_once_distinct}
 use Rattle.topk_theory.proofs.AgreementRows.{list_at_contains}
@@ -22,11 +22,14 @@ use Rattle.ranked_list.proofs.RankLaws.{no_row}
 use Rattle.topk_theory.proofs.ThresholdTables.{place_in-lt, object-at_place}
 use Rattle.topk_theory.proofs.ThresholdDepth.{list_holds, table_holds}
 use Rattle.topk_theory.proofs.ThresholdRun.{row_object, random_block_lower}
-use Rattle.ta_core.specs.Reading.{RowProgress, grades_in_row, filled, filled_first, first_or_zero, with_new, row_added, grade_added, row_begun}
+use Rattle.machine_base.specs.Board.{with_new}
+use Rattle.ta_core.specs.Reading.{RowProgress, grades_in_row, filled, filled_first, first_or_zero, row_added, grade_added, row_begun}
 use Rattle.ta_core.specs.OnTable.{objects_at, bottoms_at, OnRow, asks, AreFirstGrades, OnAsks}
 use Rattle.machine_base.proofs.Depths.{next_reached}
 use Rattle.machine_base.proofs.Rows.{read_none}
-use Rattle.ta_core.proofs.Rows.{own, added}
+use Rattle.ta_core.specs.Halting.{Halt, halts_at, halting_depth}
+use Rattle.ta_core.proofs.HaltingLaws.{IsHalting, own}
+use Rattle.ta_core.proofs.Rows.{added}
 use Rattle.ta_core.proofs.Fills.{skips, row_grades}
 
 drop_more : {X : Type 0} (xs : List X) (j k : ℕ) → drop k (drop j xs) ≡ drop (j + k) xs
@@ -69,12 +72,12 @@ first_grades n D depth [] t positive within = tt
 first_grades n D depth (object ∷ waiting) t positive within = row_grades n D D depth object t (λ rows h. h) positive within
 
 -- the last row of a depth
-pub row_is_last : (V : List ℕ → ℕ) (k n : ℕ) (D : List (List Row)) (A : List Access) (r : RowProgress) (row : Row) (is_new : Bool) → OnRow V k n D A r
+pub row_is_last : (V : List ℕ → ℕ) (halt : Halt) (n : ℕ) (D : List (List Row)) (A : List Access) (r : RowProgress) (row : Row) (is_new : Bool) → OnRow V halt n D A r
     → Agrees (length D) n D (A ++ Sorted (length r.objects) row.object row.grade ∷ []) → (is_new ≡ true → ¬ Contains (seen_objects A) row.object)
     → (is_new ≡ false → Contains (seen_objects A) row.object) → suc (length r.objects) ≡ length D
-    → OnAsks V k n D (A ++ Sorted (length r.objects) row.object row.grade ∷ []) (row_added (length D) r row is_new)
-row_is_last V k n D A r row is_new on agrees unseen seen last =
-    let a = added V k n D A r row is_new on agrees unseen seen in
+    → OnAsks V halt n D (A ++ Sorted (length r.objects) row.object row.grade ∷ []) (row_added (length D) r row is_new)
+row_is_last V halt n D A r row is_new on agrees unseen seen last =
+    let a = added V halt n D A r row is_new on agrees unseen seen in
     let d : ℕ = r.depth in
     let t : IsTable n D = agrees.table in
     let positive : 1 ≤ d = on.at.positive in
@@ -127,11 +130,11 @@ stands_lower n D rows depth object t h positive o new other =
     ]
 
 -- one more grade of the first object that waits
-pub grade_goes_on : (V : List ℕ → ℕ) (k n : ℕ) (D : List (List Row)) (A : List Access) (r : RowProgress) (object : ℕ) (waiting : List ℕ) (grade : ℕ)
-    → OnAsks V k n D A r → r.waiting ≡ object ∷ waiting → length r.grades < length D → slice_index r.objects (length r.grades) ≢ object
+pub grade_goes_on : (V : List ℕ → ℕ) (halt : Halt) (n : ℕ) (D : List (List Row)) (A : List Access) (r : RowProgress) (object : ℕ) (waiting : List ℕ) (grade : ℕ)
+    → OnAsks V halt n D A r → r.waiting ≡ object ∷ waiting → length r.grades < length D → slice_index r.objects (length r.grades) ≢ object
     → Agrees (length D) n D (A ++ Random (length r.grades) object grade ∷ [])
-    → OnAsks V k n D (A ++ Random (length r.grades) object grade ∷ []) (grade_added r grade)
-grade_goes_on V k n D A r object waiting grade on is short other agrees =
+    → OnAsks V halt n D (A ++ Random (length r.grades) object grade ∷ []) (grade_added r grade)
+grade_goes_on V halt n D A r object waiting grade on is short other agrees =
     let d : ℕ = r.depth in
     let t : IsTable n D = agrees.table in
     let positive : 1 ≤ d = on.at.positive in
@@ -198,15 +201,15 @@ grade_goes_on V k n D A r object waiting grade on is short other agrees =
     contains_dropped (y ∷ xs) (suc k) x h = contains_there y xs x (contains_dropped xs k x h)
 
 -- an object whose grades are all there
-pub all_grades : (V : List ℕ → ℕ) (k n : ℕ) (D : List (List Row)) (A : List Access) (r : RowProgress) (object : ℕ) (waiting : List ℕ) → OnAsks V k n D A r
+pub all_grades : (V : List ℕ → ℕ) (halt : Halt) (n : ℕ) (D : List (List Row)) (A : List Access) (r : RowProgress) (object : ℕ) (waiting : List ℕ) → OnAsks V halt n D A r
     → r.waiting ≡ object ∷ waiting → length r.grades ≡ length D → V r.grades ≡ aggregate V D object
-all_grades V k n D A r object waiting on is whole =
+all_grades V halt n D A r object waiting on is whole =
     let known : r.grades ≡ take (length r.grades) (grades_of D object) = subst (λ ws. AreFirstGrades D ws r.grades) is on.grades_are in
     ap V (known ∙ take_all (length r.grades) (grades_of D object) (omega (arith, whole, length-map (λ (rows : List Row). grade_in rows object) D)))
 
-pub object_settles : (V : List ℕ → ℕ) (k n : ℕ) (D : List (List Row)) (A : List Access) (r : RowProgress) (object : ℕ) (waiting : List ℕ) → OnAsks V k n D A r
-    → r.waiting ≡ object ∷ waiting → length r.grades ≡ length D → OnAsks V k n D A (record r { waiting = waiting; grades = [] })
-object_settles V k n D A r object waiting on is whole = record {
+pub object_settles : (V : List ℕ → ℕ) (halt : Halt) (n : ℕ) (D : List (List Row)) (A : List Access) (r : RowProgress) (object : ℕ) (waiting : List ℕ) → OnAsks V halt n D A r
+    → r.waiting ≡ object ∷ waiting → length r.grades ≡ length D → OnAsks V halt n D A (record r { waiting = waiting; grades = [] })
+object_settles V halt n D A r object waiting on is whole = record {
   at = on.at;
   objects_are = on.objects_are;
   bottoms_are = on.bottoms_are;
@@ -229,17 +232,17 @@ object_settles V k n D A r object waiting on is whole = record {
     asks_anew (o ∷ ws) = refl
 
 -- a whole row of which nothing waits
-pub row_is_made : (V : List ℕ → ℕ) (k n : ℕ) (D : List (List Row)) (A : List Access) (r : RowProgress) → OnAsks V k n D A r → r.waiting ≡ []
+pub row_is_made : (V : List ℕ → ℕ) (halt : Halt) (n : ℕ) (D : List (List Row)) (A : List Access) (r : RowProgress) → OnAsks V halt n D A r → r.waiting ≡ []
     → A ≡ ta_run_to D r.depth
-row_is_made V k n D A r on is = sym (append-nil A) ∙ ap (λ ws. A ++ asks D r.depth ws r.grades) (sym is) ∙ on.ahead
+row_is_made V halt n D A r on is = sym (append-nil A) ∙ ap (λ ws. A ++ asks D r.depth ws r.grades) (sym is) ∙ on.ahead
 
-pub row_follows : (V : List ℕ → ℕ) (k n : ℕ) (D : List (List Row)) (A : List Access) (r : RowProgress) → IsMonotone V → IsAsked k n D → OnAsks V k n D A r
-    → r.waiting ≡ [] → ta_stop V k D r.depth ≡ false → OnRow V k n D A (row_begun (r.depth + 1))
-row_follows V k n D A r monotone asked on is goes = record {
-  at = next_reached (ta_stop V k D) n (ta_depth V k D) r.depth (own V k n D monotone asked) on.at goes;
+pub row_follows : (V : List ℕ → ℕ) (halt : Halt) (n : ℕ) (D : List (List Row)) (A : List Access) (r : RowProgress) → IsMonotone V → IsHalting halt n D → OnAsks V halt n D A r
+    → r.waiting ≡ [] → halts_at V halt D r.depth ≡ false → OnRow V halt n D A (row_begun (r.depth + 1))
+row_follows V halt n D A r monotone asked on is goes = record {
+  at = next_reached (halts_at V halt D) n (halting_depth V halt D) r.depth (own V halt n D monotone asked) on.at goes;
   unread = asked.lists;
   objects_are = refl;
   bottoms_are = refl;
   waiting_are = refl;
-  made = row_is_made V k n D A r on is ∙ read_none (ta_run_to D) D r.depth;
+  made = row_is_made V halt n D A r on is ∙ read_none (ta_run_to D) D r.depth;
 }

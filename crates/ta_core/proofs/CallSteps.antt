@@ -7,6 +7,7 @@ use Rattle.ranked_list.specs.declared.item.Item.{Item}
 use Rattle.monotone_fn.specs.Limits.{AreGrades}
 use Rattle.ranked_list.specs.declared.need.Need.TheVariants.{Grade}
 use Rattle.best_k.specs.Held.{Held, item_with, put_item}
+use Rattle.ta_core.specs.Halting.{Halt}
 use Rattle.ta_core.specs.Reading.{RowProgress, grades_in_row, filled, first_or_zero, items_after, is_scored, settled, is_whole, row_begun, moved, enough, followed, need_at}
 use Rattle.ta_core.proofs.Fills.{has_here, grades_in_row_none}
 use Rattle.ta_core.proofs.Runs.{need_after_row}
@@ -38,6 +39,10 @@ settled_bottoms : (m : ℕ) (r : RowProgress) → (settled m r).bottoms ≡ r.bo
 settled_bottoms m r =
     elim (is_scored m r) as (λ b. (cond b (record r { waiting = drop 1 r.waiting; grades = [] }) r).bottoms ≡ r.bottoms) [ true ↦ refl | false ↦ refl ]
 
+settled_depth : (m : ℕ) (r : RowProgress) → (settled m r).depth ≡ r.depth
+settled_depth m r =
+    elim (is_scored m r) as (λ b. (cond b (record r { waiting = drop 1 r.waiting; grades = [] }) r).depth ≡ r.depth) [ true ↦ refl | false ↦ refl ]
+
 settled_objects : (m : ℕ) (r : RowProgress) → (settled m r).objects ≡ r.objects
 settled_objects m r =
     elim (is_scored m r) as (λ b. (cond b (record r { waiting = drop 1 r.waiting; grades = [] }) r).objects ≡ r.objects) [ true ↦ refl | false ↦ refl ]
@@ -56,31 +61,32 @@ pub bottoms_capped : (lists : ℕ) (r s : RowProgress) → s ≡ settled lists r
 bottoms_capped lists r s is capped = subst AreGrades (sym (ap (λ (x : RowProgress). x.bottoms) is ∙ settled_bottoms lists r)) capped
 
 -- nothing follows in a row that isn't whole
-pub waits_on : (V : List ℕ → ℕ) (k m lists : ℕ) (items : List Item) (r s : RowProgress) → lists ≡ m → s ≡ settled lists r → false ≡ is_whole lists s
-    → s ≡ followed V k m items r
-waits_on V k m lists items r s same is waits =
-    ap (λ b. cond b (cond (enough k (V r.bottoms) items) (record s { done = true }) (row_begun (s.depth + 1))) s) waits
-    ∙ ap (moved lists (enough k (V r.bottoms) items)) is
-    ∙ ap (λ l. followed V k l items r) same
+pub waits_on : (V : List ℕ → ℕ) (halt : Halt) (m lists : ℕ) (items : List Item) (r s : RowProgress) → lists ≡ m → s ≡ settled lists r → false ≡ is_whole lists s
+    → s ≡ followed V halt m items r
+waits_on V halt m lists items r s same is waits =
+    ap (λ b. cond b (cond (enough halt r.depth (V r.bottoms) items) (record s { done = true }) (row_begun (s.depth + 1))) s) waits
+    ∙ ap (moved lists (enough halt r.depth (V r.bottoms) items)) is
+    ∙ ap (λ l. followed V halt l items r) same
 
 -- after a whole row it is done or goes on, by whether there are enough
-whole_followed : (V : List ℕ → ℕ) (k m lists : ℕ) (items : List Item) (r s : RowProgress) (bound : ℕ) (enough' : Bool) → lists ≡ m → s ≡ settled lists r
-    → true ≡ is_whole lists s → bound ≡ V s.bottoms → enough' ≡ enough k bound items
-    → cond enough' (record s { done = true }) (row_begun (s.depth + 1)) ≡ followed V k m items r
-whole_followed V k m lists items r s bound enough' same is whole value told =
-    let stops : enough' ≡ enough k (V r.bottoms) items = told ∙ ap (λ b. enough k b items) (value ∙ ap V (ap (λ (x : RowProgress). x.bottoms) is ∙ settled_bottoms lists r)) in
+whole_followed : (V : List ℕ → ℕ) (halt : Halt) (m lists : ℕ) (items : List Item) (r s : RowProgress) (depth bound : ℕ) (enough' : Bool) → lists ≡ m → s ≡ settled lists r
+    → true ≡ is_whole lists s → bound ≡ V s.bottoms → depth ≡ s.depth → enough' ≡ enough halt depth bound items
+    → cond enough' (record s { done = true }) (row_begun (s.depth + 1)) ≡ followed V halt m items r
+whole_followed V halt m lists items r s depth bound enough' same is whole value deep told =
+    let stops : enough' ≡ enough halt r.depth (V r.bottoms) items = told ∙ ap (λ b. enough halt depth b items) (value ∙ ap V (ap (λ (x : RowProgress). x.bottoms) is ∙ settled_bottoms lists r))
+    ∙ ap (λ d. enough halt d (V r.bottoms) items) (deep ∙ ap (λ (x : RowProgress). x.depth) is ∙ settled_depth lists r) in
     ap (λ b. cond b (record s { done = true }) (row_begun (s.depth + 1))) stops
-    ∙ ap (λ b. cond b (cond (enough k (V r.bottoms) items) (record s { done = true }) (row_begun (s.depth + 1))) s) whole
-    ∙ ap (moved lists (enough k (V r.bottoms) items)) is
-    ∙ ap (λ l. followed V k l items r) same
+    ∙ ap (λ b. cond b (cond (enough halt r.depth (V r.bottoms) items) (record s { done = true }) (row_begun (s.depth + 1))) s) whole
+    ∙ ap (moved lists (enough halt r.depth (V r.bottoms) items)) is
+    ∙ ap (λ l. followed V halt l items r) same
 
-pub ends_whole : (V : List ℕ → ℕ) (k m lists : ℕ) (items : List Item) (r s : RowProgress) (bound : ℕ) → lists ≡ m → s ≡ settled lists r
-    → true ≡ is_whole lists s → bound ≡ V s.bottoms → true ≡ enough k bound items → record s { done = true } ≡ followed V k m items r
-ends_whole V k m lists items r s bound same is whole value told = whole_followed V k m lists items r s bound true same is whole value told
+pub ends_whole : (V : List ℕ → ℕ) (halt : Halt) (m lists : ℕ) (items : List Item) (r s : RowProgress) (depth bound : ℕ) → lists ≡ m → s ≡ settled lists r
+    → true ≡ is_whole lists s → bound ≡ V s.bottoms → depth ≡ s.depth → true ≡ enough halt depth bound items → record s { done = true } ≡ followed V halt m items r
+ends_whole V halt m lists items r s depth bound same is whole value deep told = whole_followed V halt m lists items r s depth bound true same is whole value deep told
 
-pub goes_on_whole : (V : List ℕ → ℕ) (k m lists : ℕ) (items : List Item) (r s after : RowProgress) (bound : ℕ) → lists ≡ m → s ≡ settled lists r
-    → true ≡ is_whole lists s → bound ≡ V s.bottoms → false ≡ enough k bound items → after ≡ row_begun (s.depth + 1) → after ≡ followed V k m items r
-goes_on_whole V k m lists items r s after bound same is whole value told begun = begun ∙ whole_followed V k m lists items r s bound false same is whole value told
+pub goes_on_whole : (V : List ℕ → ℕ) (halt : Halt) (m lists : ℕ) (items : List Item) (r s after : RowProgress) (depth bound : ℕ) → lists ≡ m → s ≡ settled lists r
+    → true ≡ is_whole lists s → bound ≡ V s.bottoms → depth ≡ s.depth → false ≡ enough halt depth bound items → after ≡ row_begun (s.depth + 1) → after ≡ followed V halt m items r
+goes_on_whole V halt m lists items r s after depth bound same is whole value deep told begun = begun ∙ whole_followed V halt m lists items r s depth bound false same is whole value deep told
 
 -- where the row has the object in the next list too, its grade is the next one
 pub fills_more : (objects bottoms grades after : List ℕ) (object one other : ℕ) → one ≡ length grades → other ≡ length grades → length bottoms ≡ length objects

@@ -21,24 +21,28 @@ use Rattle.machine_base.specs.declared.base.Base.{Base}
 use Rattle.machine_base.specs.Base.{shown, IsHeld, Holds, IsReserved, IsTold, CanTake, TellsNew}
 use Rattle.machine_base.proofs.Held.{carried, some_before, takes}
 use Rattle.machine_base.proofs.Reserve.{row_can}
-use Rattle.ta_core.specs.Reading.{RowProgress, first_or_zero, with_new, row_added, grade_added, row_begun, need_at}
+use Rattle.machine_base.specs.Board.{with_new}
+use Rattle.ta_core.specs.Reading.{RowProgress, first_or_zero, row_added, grade_added, row_begun, need_at}
+use Rattle.ta_core.specs.declared.halting.Halting.{Halting}
+use Rattle.ta_core.specs.Halting.{Rule, passes_by, IsFair}
+use Rattle.ta_core.proofs.HaltingLaws.{rule_fit}
 use Rattle.ta_core.specs.Kept.{IsTaKept, Keeps, Stands}
-use Rattle.ta_core.proofs.BoardSteps.{waits_from, place_filled, place_left}
+use Rattle.machine_base.proofs.BoardSteps.{waits_from, place_filled, place_left}
 use Rattle.ta_core.proofs.Runs.{need_in_row, need_after_row, need_when_done, kept_depth, first_is_member, first_seen}
 use Rattle.ta_core.proofs.Sound.{sound_row, sound_grade, fed_row}
 use Rattle.ta_core.proofs.Feeds.{board_then, reading_then, kept_start, kept_row, kept_grade}
 use Rattle.ta_core.proofs.Unasked.{waiting_unasked}
 
 -- at the beginning
-pub stands_start : (e : Tree) (k n room : ℕ) (costs : Costs) (base : Base) (board : Held) (r : RowProgress) → IsBegun e k n room costs (shown base Done)
-    → Holds base → IsReserved base → board.k ≡ k → board.room ≡ min room n → board.items ≡ [] → r ≡ row_begun 1 → Stands base board r
-stands_start e k n room costs base board r begun held reserved same_k same_room empty is =
+pub stands_start : (rule : Halting) (e : Tree) (k n room : ℕ) (costs : Costs) (base : Base) (board : Held) (r : RowProgress) → IsFair rule
+    → IsBegun e k n room costs (shown base Done) → Holds base → IsReserved base → board.k ≡ k → board.room ≡ min room n → board.items ≡ [] → r ≡ row_begun 1 → Stands rule base board r
+stands_start rule e k n room costs base board r fair begun held reserved same_k same_room empty is =
     let m : ℕ = base.transcript.lists in
     let count : ℕ = base.transcript.count in
     record {
-      kept = subst (λ A. IsTaKept base.expr base.k base.room m count A board r) (sym begun.none)
-          (subst (λ (s : RowProgress). IsTaKept base.expr base.k base.room m count [] board s) (sym is)
-          (kept_start base.expr base.k base.room m count board (subst (IsHeld base.expr base.k base.room m count) begun.none held) (same_k ∙ sym begun.asked) (same_room ∙ sym begun.in_force) empty));
+      kept = subst (λ A. IsTaKept (passes_by rule) base.expr base.k base.room m count A board r) (sym begun.none)
+          (subst (λ (s : RowProgress). IsTaKept (passes_by rule) base.expr base.k base.room m count [] board s) (sym is)
+          (kept_start (passes_by rule) base.expr base.k base.room m count board (rule_fit rule fair) (subst (IsHeld base.expr base.k base.room m count) begun.none held) (same_k ∙ sym begun.asked) (same_room ∙ sym begun.in_force) empty));
       reserved = reserved;
     }
 
@@ -74,37 +78,37 @@ next_grade_is log r grade may =
     ]
 
 -- what is on the board is seen and doesn't wait
-kept_board : (base : Base) (board : Held) (r : RowProgress) → Keeps base board r → (item : Item) → Contains board.items item
+kept_board : (passes : Rule) (base : Base) (board : Held) (r : RowProgress) → Keeps passes base board r → (item : Item) → Contains board.items item
     → Contains (seen_objects base.transcript.accesses) item.object × (¬ Contains r.waiting item.object)
-kept_board base board r kept item h =
+kept_board passes base board r kept item h =
     let some = kept.base.agreeing in
     let on = (kept.on_table some.0 some.1).board.only item h in
     (on.0, on.1)
 
 -- an object that waits has a place on the board: it was seen and isn't there
-place_waiting : (base : Base) (board : Held) (r : RowProgress) (object : ℕ) → Keeps base board r → Contains r.waiting object → length board.items < board.room
-place_waiting base board r object kept waits =
+place_waiting : (passes : Rule) (base : Base) (board : Held) (r : RowProgress) (object : ℕ) → Keeps passes base board r → Contains r.waiting object → length board.items < board.room
+place_waiting passes base board r object kept waits =
     let seen : List ℕ = seen_objects base.transcript.accesses in
     let some = kept.base.agreeing in
     let on = (kept.on_table some.0 some.1).board in
     let fits : length board.items < length seen =
-    place_left seen board.items object on.distinct (λ item h. let k = kept_board base board r kept item h in (k.0, λ e. k.1 (subst (λ z. Contains r.waiting z) (sym e) waits)))
+    place_left seen board.items object on.distinct (λ item h. let k = kept_board passes base board r kept item h in (k.0, λ e. k.1 (subst (λ z. Contains r.waiting z) (sym e) waits)))
     (member_of_all (Contains seen) r.waiting object kept.sound.waiting_seen waits) in
     omega (arith, kept.same_room, kept.base.roomy)
 
 -- an object that is scored has a place on the board: the new one has room, and one that waited was seen
-place_row : (base : Base) (board : Held) (r : RowProgress) (object : ℕ) (is_new : Bool) → Keeps base board r → TellsNew base.transcript.accesses object is_new
+place_row : (passes : Rule) (base : Base) (board : Held) (r : RowProgress) (object : ℕ) (is_new : Bool) → Keeps passes base board r → TellsNew base.transcript.accesses object is_new
     → HasRoomFor (shown base Done) object → 0 < length (with_new r.waiting object is_new) → length board.items < board.room
-place_row base board r object is_new kept new follows waits =
+place_row passes base board r object is_new kept new follows waits =
     let seen : List ℕ = seen_objects base.transcript.accesses in
     elim (waits_from r.waiting object is_new (first_or_zero (with_new r.waiting object is_new)) (first_is_member (with_new r.waiting object is_new) waits)) [
-      | inl before ↦ place_waiting base board r (first_or_zero (with_new r.waiting object is_new)) kept before
+      | inl before ↦ place_waiting passes base board r (first_or_zero (with_new r.waiting object is_new)) kept before
       | inr fresh ↦ elim follows [
         | inl old ↦ absurd (new.unseen fresh.0 old)
         | inr spare ↦
             let some = kept.base.agreeing in
             let on = (kept.on_table some.0 some.1).board in
-            let fits : length board.items ≤ length seen = place_filled seen board.items on.distinct (λ item h. (kept_board base board r kept item h).0) in
+            let fits : length board.items ≤ length seen = place_filled seen board.items on.distinct (λ item h. (kept_board passes base board r kept item h).0) in
             omega (arith, kept.same_room)
       ]
     ]
@@ -125,10 +129,10 @@ pub record IsReady (m : ℕ) (board : Held) (r : RowProgress) : Type 0 where
   pub room : length r.grades ≡ m → length board.items < board.room
   pub deep : r.depth ≤ 200000
 
-pub ready_row : (base : Base) (board : Held) (r told : RowProgress) (row : Row) (is_new : Bool) → Keeps base board r
+pub ready_row : (passes : Rule) (base : Base) (board : Held) (r told : RowProgress) (row : Row) (is_new : Bool) → Keeps passes base board r
     → MayBeNextRow base.transcript (need_at base.transcript.lists r) row → TellsNew base.transcript.accesses row.object is_new
     → HasRoomFor (shown base Done) row.object → told ≡ row_added base.transcript.lists r row is_new → IsReady base.transcript.lists board told
-ready_row base board r told row is_new kept may new follows is =
+ready_row passes base board r told row is_new kept may new follows is =
     let m : ℕ = base.transcript.lists in
     let next = next_row_is base.transcript r row may in
     let sound = sound_row m base.transcript.accesses r row is_new kept.sound next.1 (kept.rest.in_row next.1) next.2 new.unseen in
@@ -138,13 +142,13 @@ ready_row base board r told row is_new kept may new follows is =
       bottoms = sound.bottoms_capped;
       same = sound.same_length;
       waits = fed.enough_waits;
-      room = λ full. place_row base board r row.object is_new kept new follows (fed.enough_waits full);
-      deep = omega (arith, kept_depth base board r kept next.0, kept.base.counted);
+      room = λ full. place_row passes base board r row.object is_new kept new follows (fed.enough_waits full);
+      deep = omega (arith, kept_depth passes base board r kept next.0, kept.base.counted);
     })
 
-pub ready_grade : (base : Base) (board : Held) (r told : RowProgress) (grade : ℕ) → Keeps base board r
+pub ready_grade : (passes : Rule) (base : Base) (board : Held) (r told : RowProgress) (grade : ℕ) → Keeps passes base board r
     → MayBeNextGrade base.transcript (need_at base.transcript.lists r) grade → told ≡ grade_added r grade → IsReady base.transcript.lists board told
-ready_grade base board r told grade kept may is =
+ready_grade passes base board r told grade kept may is =
     let m : ℕ = base.transcript.lists in
     let next = next_grade_is base.transcript r grade may in
     let rest = kept.rest.after_row next.0 next.1 in
@@ -154,41 +158,41 @@ ready_grade base board r told grade kept may is =
       bottoms = sound.bottoms_capped;
       same = sound.same_length;
       waits = λ full. rest.0;
-      room = λ full. place_waiting base board r (first_or_zero r.waiting) kept (first_is_member r.waiting rest.0);
-      deep = omega (arith, kept_depth base board r kept next.0, kept.base.counted);
+      room = λ full. place_waiting passes base board r (first_or_zero r.waiting) kept (first_is_member r.waiting rest.0);
+      deep = omega (arith, kept_depth passes base board r kept next.0, kept.base.counted);
     })
 
 -- an access is told, and the reading has it: what comes then can be had, and is what is kept
-pub record IsFed (before after : Base) (board : Held) (told : RowProgress) (a : Access) : Type 0 where
+pub record IsFed (passes : Rule) (before after : Base) (board : Held) (told : RowProgress) (a : Access) : Type 0 where
   pub tells : IsTold a before after
   pub ready : IsReady before.transcript.lists board told
-  pub kept : IsTaKept before.expr before.k before.room before.transcript.lists before.transcript.count (before.transcript.accesses ++ a ∷ [])
+  pub kept : IsTaKept passes before.expr before.k before.room before.transcript.lists before.transcript.count (before.transcript.accesses ++ a ∷ [])
       (board_then before.expr before.transcript.lists board told)
-      (reading_then before.expr before.transcript.lists (board_then before.expr before.transcript.lists board told) told)
+      (reading_then passes before.expr before.transcript.lists (board_then before.expr before.transcript.lists board told) told)
 
-pub fed_ready : (before after : Base) (board : Held) (told : RowProgress) (a : Access) → IsFed before after board told a
+pub fed_ready : (passes : Rule) (before after : Base) (board : Held) (told : RowProgress) (a : Access) → IsFed passes before after board told a
     → IsReady after.transcript.lists board told
-fed_ready before after board told a fed = subst (λ m. IsReady m board told) (sym fed.tells.log.lists) fed.ready
+fed_ready passes before after board told a fed = subst (λ m. IsReady m board told) (sym fed.tells.log.lists) fed.ready
 
-pub fed_kept : (before after : Base) (board board' : Held) (told then : RowProgress) (a : Access) → IsFed before after board told a
-    → board' ≡ board_then after.expr after.transcript.lists board told → then ≡ reading_then after.expr after.transcript.lists board' told
-    → Keeps after board' then
-fed_kept before after board board' told then a fed is_board is_then =
+pub fed_kept : (passes : Rule) (before after : Base) (board board' : Held) (told then : RowProgress) (a : Access) → IsFed passes before after board told a
+    → board' ≡ board_then after.expr after.transcript.lists board told → then ≡ reading_then passes after.expr after.transcript.lists board' told
+    → Keeps passes after board' then
+fed_kept passes before after board board' told then a fed is_board is_then =
     let m : ℕ = before.transcript.lists in
     let A : List Access = before.transcript.accesses ++ a ∷ [] in
     let board_is : board' ≡ board_then before.expr m board told =
     is_board ∙ ap (λ e. board_then e after.transcript.lists board told) fed.tells.expr ∙ ap (λ c. board_then before.expr c board told) fed.tells.log.lists in
-    let then_is : then ≡ reading_then before.expr m board' told =
-    is_then ∙ ap (λ e. reading_then e after.transcript.lists board' told) fed.tells.expr ∙ ap (λ c. reading_then before.expr c board' told) fed.tells.log.lists in
-    carried (λ e k room c n B. IsTaKept e k room c n B board' then) a before after fed.tells
-    (subst (IsTaKept before.expr before.k before.room m before.transcript.count A board') (sym then_is)
-    (subst (λ (b : Held). IsTaKept before.expr before.k before.room m before.transcript.count A b (reading_then before.expr m b told)) (sym board_is) fed.kept))
+    let then_is : then ≡ reading_then passes before.expr m board' told =
+    is_then ∙ ap (λ e. reading_then passes e after.transcript.lists board' told) fed.tells.expr ∙ ap (λ c. reading_then passes before.expr c board' told) fed.tells.log.lists in
+    carried (λ e k room c n B. IsTaKept passes e k room c n B board' then) a before after fed.tells
+    (subst (IsTaKept passes before.expr before.k before.room m before.transcript.count A board') (sym then_is)
+    (subst (λ (b : Held). IsTaKept passes before.expr before.k before.room m before.transcript.count A b (reading_then passes before.expr m b told)) (sym board_is) fed.kept))
 
-pub row_fed : (before after : Base) (board : Held) (r told : RowProgress) (row : Row) (list : ℕ) (is_new : Bool) → Keeps before board r
+pub row_fed : (passes : Rule) (before after : Base) (board : Held) (r told : RowProgress) (row : Row) (list : ℕ) (is_new : Bool) → Keeps passes before board r
     → MayBeNextRow before.transcript (need_at before.transcript.lists r) row → TellsNew before.transcript.accesses row.object is_new
     → HasRoomFor (shown before Done) row.object → list ≡ length r.objects → IsTold (Sorted list row.object row.grade) before after
-    → SomeAgrees after.transcript.lists after.transcript.count after.transcript.accesses → told ≡ row_added after.transcript.lists r row is_new → IsFed before after board told (Sorted (length r.objects) row.object row.grade)
-row_fed before after board r told row list is_new kept may new follows is_list tells some is_told =
+    → SomeAgrees after.transcript.lists after.transcript.count after.transcript.accesses → told ≡ row_added after.transcript.lists r row is_new → IsFed passes before after board told (Sorted (length r.objects) row.object row.grade)
+row_fed passes before after board r told row list is_new kept may new follows is_list tells some is_told =
     let next = next_row_is before.transcript r row may in
     let m : ℕ = before.transcript.lists in
     let a : Access = Sorted (length r.objects) row.object row.grade in
@@ -196,46 +200,46 @@ row_fed before after board r told row list is_new kept may new follows is_list t
     let told_is : told ≡ row_added m r row is_new = is_told ∙ ap (λ c. row_added c r row is_new) tells.log.lists in
     record {
       tells = tells';
-      ready = ready_row before board r told row is_new kept may new follows told_is;
-      kept = subst (λ s. IsTaKept before.expr before.k before.room m before.transcript.count (before.transcript.accesses ++ a ∷ []) (board_then before.expr m board s) (reading_then before.expr m (board_then before.expr m board s) s)) (sym told_is)
-          (kept_row before.expr before.k before.room m before.transcript.count before.transcript.accesses board r row is_new kept next.0 next.1 next.2 new follows (some_before a before after tells' some));
+      ready = ready_row passes before board r told row is_new kept may new follows told_is;
+      kept = subst (λ s. IsTaKept passes before.expr before.k before.room m before.transcript.count (before.transcript.accesses ++ a ∷ []) (board_then before.expr m board s) (reading_then passes before.expr m (board_then before.expr m board s) s)) (sym told_is)
+          (kept_row passes before.expr before.k before.room m before.transcript.count before.transcript.accesses board r row is_new kept next.0 next.1 next.2 new follows (some_before a before after tells' some));
     }
 
-pub grade_fed : (before after : Base) (board : Held) (r told : RowProgress) (grade list object : ℕ) → Keeps before board r
+pub grade_fed : (passes : Rule) (before after : Base) (board : Held) (r told : RowProgress) (grade list object : ℕ) → Keeps passes before board r
     → MayBeNextGrade before.transcript (need_at before.transcript.lists r) grade → list ≡ length r.grades → object ≡ first_or_zero r.waiting
     → IsTold (Random list object grade) before after
-    → SomeAgrees after.transcript.lists after.transcript.count after.transcript.accesses → told ≡ grade_added r grade → IsFed before after board told (Random (length r.grades) (first_or_zero r.waiting) grade)
-grade_fed before after board r told grade list object kept may is_list is_object tells some is_told =
+    → SomeAgrees after.transcript.lists after.transcript.count after.transcript.accesses → told ≡ grade_added r grade → IsFed passes before after board told (Random (length r.grades) (first_or_zero r.waiting) grade)
+grade_fed passes before after board r told grade list object kept may is_list is_object tells some is_told =
     let next = next_grade_is before.transcript r grade may in
     let m : ℕ = before.transcript.lists in
     let a : Access = Random (length r.grades) (first_or_zero r.waiting) grade in
     let tells' : IsTold a before after = subst (λ o. IsTold (Random (length r.grades) o grade) before after) is_object (subst (λ l. IsTold (Random l object grade) before after) is_list tells) in
     record {
       tells = tells';
-      ready = ready_grade before board r told grade kept may is_told;
-      kept = subst (λ s. IsTaKept before.expr before.k before.room m before.transcript.count (before.transcript.accesses ++ a ∷ []) (board_then before.expr m board s) (reading_then before.expr m (board_then before.expr m board s) s)) (sym is_told)
-          (kept_grade before.expr before.k before.room m before.transcript.count before.transcript.accesses board r grade kept next.0 next.1 next.2 (some_before a before after tells' some));
+      ready = ready_grade passes before board r told grade kept may is_told;
+      kept = subst (λ s. IsTaKept passes before.expr before.k before.room m before.transcript.count (before.transcript.accesses ++ a ∷ []) (board_then before.expr m board s) (reading_then passes before.expr m (board_then before.expr m board s) s)) (sym is_told)
+          (kept_grade passes before.expr before.k before.room m before.transcript.count before.transcript.accesses board r grade kept next.0 next.1 next.2 (some_before a before after tells' some));
     }
 
 -- the row and the grade that are needed can be told
-pub can_row : (base : Base) (board : Held) (r : RowProgress) (row : Row) (list : ℕ) → Keeps base board r
+pub can_row : (passes : Rule) (base : Base) (board : Held) (r : RowProgress) (row : Row) (list : ℕ) → Keeps passes base board r
     → MayBeNextRow base.transcript (need_at base.transcript.lists r) row → HasRoomFor (shown base Done) row.object → list ≡ length r.objects
     → CanTake base (Sorted list row.object row.grade)
-can_row base board r row list kept may fits is_list =
+can_row passes base board r row list kept may fits is_list =
     let next = next_row_is base.transcript r row may in
     let only : MayBeNextRow base.transcript (RowAt (length r.objects) r.depth) row = subst (λ need. MayBeNextRow base.transcript need row) (need_in_row base.transcript.lists r next.0 next.1) may in
     subst (λ l. CanTake base (Sorted l row.object row.grade)) (sym is_list) (row_can base (length r.objects) row.object row.grade kept.base only fits)
 
-pub can_grade : (base : Base) (board : Held) (r : RowProgress) (grade list object : ℕ) → Keeps base board r
+pub can_grade : (passes : Rule) (base : Base) (board : Held) (r : RowProgress) (grade list object : ℕ) → Keeps passes base board r
     → MayBeNextGrade base.transcript (need_at base.transcript.lists r) grade → list ≡ length r.grades → object ≡ first_or_zero r.waiting
     → CanTake base (Random list object grade)
-can_grade base board r grade list object kept may is_list is_object =
+can_grade passes base board r grade list object kept may is_list is_object =
     let m : ℕ = base.transcript.lists in
     let next = next_grade_is base.transcript r grade may in
     subst (λ o. CanTake base (Random list o grade)) (sym is_object) (subst (λ l. CanTake base (Random l (first_or_zero r.waiting) grade)) (sym is_list) (record {
       follows = (
-        first_seen base board r kept (kept.rest.after_row next.0 next.1).0,
-        waiting_unasked base.expr base.k base.room m base.transcript.count base.transcript.accesses board r kept next.0 next.1,
+        first_seen passes base board r kept (kept.rest.after_row next.0 next.1).0,
+        waiting_unasked passes base.expr base.k base.room m base.transcript.count base.transcript.accesses board r kept next.0 next.1,
       );
       consistent = subst (λ need. MayBeNextGrade base.transcript need grade) (need_after_row m r next.0 next.1) may;
     }))

@@ -1,4 +1,5 @@
 -- Lemmas on the steps of the threshold algorithm in a row, and on its machine.
+pub mod HaltingLaws
 pub mod Rows
 pub mod Fills
 pub mod Asks
@@ -11,4 +12,5 @@ pub mod Sound
 pub mod Feeds
 pub mod Calls
 pub mod Answering
+pub mod ExactLaws
 pub mod Unasked

@@ -9,7 +9,7 @@ use Rattle.monotone_fn.specs.Value.{IsMonotone}
 use Rattle.topk_theory.specs.declared.access.Access.{Access}
 use Rattle.topk_theory.specs.declared.access.Access.TheVariants.{Random}
 use Rattle.topk_theory.specs.Transcript.{list_at}
-use Rattle.topk_theory.specs.Threshold.{row_at, sorted_block, new_objects, random_block, ta_block, ta_run_to, ta_run, ta_depth, ta_stop, IsAsked}
+use Rattle.topk_theory.specs.Threshold.{row_at, sorted_block, new_objects, random_block, ta_block, ta_run_to}
 use Rattle.topk_theory.specs.Machine.{IsAt, CanServe}
 use Rattle.topk_theory.proofs.AgreementLists.{contains_here}
 use Rattle.topk_theory.proofs.AgreementRows.{list_at_contains}
@@ -18,22 +18,24 @@ use Rattle.machine_base.proofs.Depths.{at_on_path}
 use Rattle.machine_base.proofs.Rows.{row_needed}
 use Rattle.ta_core.specs.Reading.{RowProgress}
 use Rattle.ta_core.specs.OnTable.{OnRow, asks, OnAsks}
-use Rattle.ta_core.proofs.Rows.{reads_rows, own}
+use Rattle.ta_core.specs.Halting.{Halt, halts_at, halting_depth, halting_run}
+use Rattle.ta_core.proofs.HaltingLaws.{IsHalting, own}
+use Rattle.ta_core.proofs.Rows.{reads_rows}
 use Rattle.ta_core.proofs.Asks.{run_at, stands_lower, map_at}
 
-pub row_next : (V : List ℕ → ℕ) (k n : ℕ) (D : List (List Row)) (A : List Access) (r : RowProgress) → IsMonotone V → IsAsked k n D → OnRow V k n D A r
-    → IsAt (ta_run V k D) A (RowAt (length r.objects) r.depth) × CanServe D (RowAt (length r.objects) r.depth)
-row_next V k n D A r monotone asked on =
+pub row_next : (V : List ℕ → ℕ) (halt : Halt) (n : ℕ) (D : List (List Row)) (A : List Access) (r : RowProgress) → IsMonotone V → IsHalting halt n D → OnRow V halt n D A r
+    → IsAt (halting_run V halt D) A (RowAt (length r.objects) r.depth) × CanServe D (RowAt (length r.objects) r.depth)
+row_next V halt n D A r monotone asked on =
     let d : ℕ = r.depth in
     let later : List Access = flat_map (λ o. random_block 0 d o D) (new_objects D d) in
-    row_needed (ta_run_to D) (λ p. ta_block D (suc p)) (ta_stop V k D) n (ta_depth V k D) D d (length r.objects) A later (λ p. refl) (reads_rows n D asked.table) asked.table (own V k n D monotone asked) on.at on.unread on.made
+    row_needed (ta_run_to D) (λ p. ta_block D (suc p)) (halts_at V halt D) n (halting_depth V halt D) D d (length r.objects) A later (λ p. refl) (reads_rows n D asked.table) asked.table (own V halt n D monotone asked) on.at on.unread on.made
     (append_assoc (ta_run_to D (d - 1)) (sorted_block 0 d D) later ∙ sym (run_at D d on.at.positive))
 
 -- the run goes on with the random access of the first object that waits in the next list
-pub grade_ahead : (V : List ℕ → ℕ) (k n : ℕ) (D : List (List Row)) (A : List Access) (r : RowProgress) (object : ℕ) (waiting : List ℕ) → IsTable n D
-    → OnAsks V k n D A r → r.waiting ≡ object ∷ waiting → length r.grades < length D → slice_index r.objects (length r.grades) ≢ object
+pub grade_ahead : (V : List ℕ → ℕ) (halt : Halt) (n : ℕ) (D : List (List Row)) (A : List Access) (r : RowProgress) (object : ℕ) (waiting : List ℕ) → IsTable n D
+    → OnAsks V halt n D A r → r.waiting ≡ object ∷ waiting → length r.grades < length D → slice_index r.objects (length r.grades) ≢ object
     → A ++ Random (length r.grades) object (grade_in (list_at D (length r.grades)) object) ∷ (random_block (length r.grades + 1) r.depth object (drop (suc (length r.grades)) D) ++ flat_map (λ o. random_block 0 r.depth o D) waiting) ≡ ta_run_to D r.depth
-grade_ahead V k n D A r object waiting table on is short other =
+grade_ahead V halt n D A r object waiting table on is short other =
     let j : ℕ = length r.grades in
     let d : ℕ = r.depth in
     let rows : List Row = list_at D j in
@@ -46,14 +48,14 @@ grade_ahead V k n D A r object waiting table on is short other =
     ∙ ap (λ ws. A ++ asks D d ws r.grades) (sym is)
     ∙ on.ahead
 
-pub grade_needed : (V : List ℕ → ℕ) (k n : ℕ) (D : List (List Row)) (A : List Access) (r : RowProgress) (object : ℕ) (waiting : List ℕ) → IsMonotone V
-    → IsAsked k n D → OnAsks V k n D A r → r.waiting ≡ object ∷ waiting → length r.grades < length D → slice_index r.objects (length r.grades) ≢ object
-    → IsAt (ta_run V k D) A (Grade (length r.grades) object) × CanServe D (Grade (length r.grades) object)
-grade_needed V k n D A r object waiting monotone asked on is short other =
+pub grade_needed : (V : List ℕ → ℕ) (halt : Halt) (n : ℕ) (D : List (List Row)) (A : List Access) (r : RowProgress) (object : ℕ) (waiting : List ℕ) → IsMonotone V
+    → IsHalting halt n D → OnAsks V halt n D A r → r.waiting ≡ object ∷ waiting → length r.grades < length D → slice_index r.objects (length r.grades) ≢ object
+    → IsAt (halting_run V halt D) A (Grade (length r.grades) object) × CanServe D (Grade (length r.grades) object)
+grade_needed V halt n D A r object waiting monotone asked on is short other =
     let j : ℕ = length r.grades in
     let d : ℕ = r.depth in
     let new = on.new object (subst (λ ws. Contains ws object) (sym is) (contains_here object waiting)) in
     let a : Access = Random j object (grade_in (list_at D j) object) in
     let later : List Access = random_block (j + 1) d object (drop (suc j) D) ++ flat_map (λ o. random_block 0 d o D) waiting in
-    let path : A ++ a ∷ later ≡ ta_run_to D d = grade_ahead V k n D A r object waiting asked.table on is short other in
-    (at_on_path (ta_run_to D) (λ p. ta_block D (suc p)) (ta_stop V k D) n (ta_depth V k D) d A a later (λ p. refl) (own V k n D monotone asked) on.at path, (short, new.1))
+    let path : A ++ a ∷ later ≡ ta_run_to D d = grade_ahead V halt n D A r object waiting asked.table on is short other in
+    (at_on_path (ta_run_to D) (λ p. ta_block D (suc p)) (halts_at V halt D) n (halting_depth V halt D) d A a later (λ p. refl) (own V halt n D monotone asked) on.at path, (short, new.1))

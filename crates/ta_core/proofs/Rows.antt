@@ -10,9 +10,7 @@ use Rattle.topk_theory.specs.declared.access.Access.{Access}
 use Rattle.topk_theory.specs.declared.access.Access.TheVariants.{Sorted}
 use Rattle.topk_theory.specs.Aggregate.{objects_of}
 use Rattle.topk_theory.specs.Transcript.{Agrees, list_at, object_of, seen_objects, each_once}
-use Rattle.monotone_fn.specs.Value.{IsMonotone}
-use Rattle.topk_theory.specs.Threshold.{IsAsked, row_at, stands, sorted_block, ta_stop, ta_depth, ta_run_to}
-use Rattle.topk_theory.proofs.ThresholdLaws.{least_depth}
+use Rattle.topk_theory.specs.Threshold.{row_at, stands, sorted_block, ta_run_to}
 use Rattle.topk_theory.proofs.AgreementLists.{contains_at, contains_map, contains_map_from}
 use Rattle.topk_theory.proofs.AgreementNames.{has, has_contains, has_not, each_once_complete, each_once_within, each_once_push_old, each_once_push_new}
 use Rattle.topk_theory.proofs.AgreementRows.{list_at_contains}
@@ -22,23 +20,19 @@ use Rattle.topk_theory.proofs.ThresholdTables.{object-at_place}
 use Rattle.topk_theory.proofs.ThresholdDepth.{list_sized, table_holds, stands_from}
 use Rattle.topk_theory.proofs.ThresholdRun.{list_number, run_rows, sorted_members, contains_sorted, seen_from_access, access_from_seen, seen_more, run_sees, seen_stands}
 use Rattle.machine_base.specs.Depths.{read_to}
-use Rattle.machine_base.proofs.Depths.{IsOwn}
 use Rattle.machine_base.proofs.Rows.{ReadsRows, given_next, read_more}
-use Rattle.ta_core.specs.Reading.{RowProgress, with_new, row_added}
+use Rattle.ta_core.specs.Halting.{Halt}
+use Rattle.machine_base.specs.Board.{with_new}
+use Rattle.ta_core.specs.Reading.{RowProgress, row_added}
 use Rattle.ta_core.specs.OnTable.{objects_at, bottoms_at, OnRow}
 
 -- one more list
 pub take_one_more : (D : List (List Row)) (j : ℕ) → j < length D → take (suc j) D ≡ take j D ++ list_at D j ∷ []
 take_one_more D j l = take-suc D j [] l
 
--- the run reads the rows of each list, and ends at the algorithm's own depth
+-- the run reads the rows of each list
 pub reads_rows : (n : ℕ) (D : List (List Row)) → IsTable n D → ReadsRows (ta_run_to D) n D
 reads_rows n D t = λ depth list within l. run_rows n D list depth t l within
-
-pub own : (V : List ℕ → ℕ) (k n : ℕ) (D : List (List Row)) → IsMonotone V → IsAsked k n D → IsOwn (ta_stop V k D) n (ta_depth V k D)
-own V k n D monotone asked =
-    let least = least_depth V k n D monotone asked in
-    record { from_one = least.from_one; within = least.within; ends = least.stops; least = least.least }
 
 -- an object that stands is one of the table's
 pub stands_object : (n : ℕ) (D : List (List Row)) (depth object : ℕ) → IsTable n D → depth ≤ n → stands D depth object ≡ true → Contains (objects_of D) object
@@ -103,10 +97,10 @@ pub record Added (n : ℕ) (D : List (List Row)) (A : List Access) (r : RowProgr
   pub waiting_are : with_new r.waiting row.object is_new ≡ filter (λ object. not (stands D (r.depth - 1) object)) (each_once (r.objects ++ row.object ∷ []))
   pub made : A ++ Sorted (length r.objects) row.object row.grade ∷ [] ≡ read_to (ta_run_to D) D r.depth (suc (length r.objects))
 
-pub added : (V : List ℕ → ℕ) (k n : ℕ) (D : List (List Row)) (A : List Access) (r : RowProgress) (row : Row) (is_new : Bool) → OnRow V k n D A r
+pub added : (V : List ℕ → ℕ) (halt : Halt) (n : ℕ) (D : List (List Row)) (A : List Access) (r : RowProgress) (row : Row) (is_new : Bool) → OnRow V halt n D A r
     → Agrees (length D) n D (A ++ Sorted (length r.objects) row.object row.grade ∷ []) → (is_new ≡ true → ¬ Contains (seen_objects A) row.object)
     → (is_new ≡ false → Contains (seen_objects A) row.object) → Added n D A r row is_new
-added V k n D A r row is_new on agrees unseen seen =
+added V halt n D A r row is_new on agrees unseen seen =
     let j : ℕ = length r.objects in
     let d : ℕ = r.depth in
     let t : IsTable n D = agrees.table in
@@ -152,12 +146,12 @@ added V k n D A r row is_new on agrees unseen seen =
     }
 
 -- a row of which lists are left
-pub row_goes_on : (V : List ℕ → ℕ) (k n : ℕ) (D : List (List Row)) (A : List Access) (r : RowProgress) (row : Row) (is_new : Bool) → OnRow V k n D A r
+pub row_goes_on : (V : List ℕ → ℕ) (halt : Halt) (n : ℕ) (D : List (List Row)) (A : List Access) (r : RowProgress) (row : Row) (is_new : Bool) → OnRow V halt n D A r
     → Agrees (length D) n D (A ++ Sorted (length r.objects) row.object row.grade ∷ []) → (is_new ≡ true → ¬ Contains (seen_objects A) row.object)
     → (is_new ≡ false → Contains (seen_objects A) row.object) → suc (length r.objects) < length D
-    → OnRow V k n D (A ++ Sorted (length r.objects) row.object row.grade ∷ []) (row_added (length D) r row is_new)
-row_goes_on V k n D A r row is_new on agrees unseen seen short =
-    let a = added V k n D A r row is_new on agrees unseen seen in
+    → OnRow V halt n D (A ++ Sorted (length r.objects) row.object row.grade ∷ []) (row_added (length D) r row is_new)
+row_goes_on V halt n D A r row is_new on agrees unseen seen short =
+    let a = added V halt n D A r row is_new on agrees unseen seen in
     let long : suc (length r.objects) ≡ length (r.objects ++ row.object ∷ []) = omega (arith, length-append r.objects (row.object ∷ [])) in
     record {
       at = on.at;

@@ -6,9 +6,7 @@ use Rattle.ranked_list.specs.declared.need.Need.TheVariants.{Row as RowAt, Grade
 use Rattle.best_k.specs.Held.{Held}
 use Rattle.monotone_fn.specs.Value.{value}
 use Rattle.monotone_fn.proofs.Laws.{value-monotone}
-use Rattle.topk_theory.specs.Asked.{threshold_run}
 use Rattle.topk_theory.specs.Transcript.{seen_objects}
-use Rattle.topk_theory.specs.Threshold.{ta_run}
 use Rattle.topk_theory.specs.Machine.{IsAt, CanServe}
 use Rattle.topk_theory.proofs.AgreementLists.{contains_here, member_of_all}
 use Rattle.access_log.specs.Log.{AgreesWith}
@@ -17,9 +15,12 @@ use Rattle.machine_base.specs.declared.base.Base.{Base}
 use Rattle.machine_base.specs.Base.{shown}
 use Rattle.machine_base.proofs.Held.{held_asked}
 use Rattle.machine_base.proofs.Makes.{makes_run, at_end}
+use Rattle.ta_core.specs.declared.halting.Halting.{Halting}
+use Rattle.ta_core.specs.Halting.{Rule, Halt, halting_run, passes_by, run_halting}
+use Rattle.ta_core.proofs.HaltingLaws.{halting_of}
 use Rattle.ta_core.specs.Reading.{RowProgress, first_or_zero, need_at}
 use Rattle.ta_core.specs.Kept.{Keeps}
-use Rattle.ta_core.specs.Machine.{MakesItsRun}
+use Rattle.ta_core.specs.Machine.{MakesHaltingRun}
 use Rattle.ta_core.proofs.NeedSteps.{row_next, grade_needed}
 use Rattle.ta_core.proofs.Steps.{row_of_reading, asks_of_reading, made_of_reading}
 
@@ -42,31 +43,31 @@ pub first_member : (xs : List ℕ) → 0 < length xs → (x : ℕ) × (rest : Li
 first_member [] l = absurd (omega arith)
 first_member (x ∷ rest) l = (x, rest, refl)
 
-needed : (base : Base) (board : Held) (r : RowProgress) (D : List (List Row)) → Keeps base board r → AgreesWith D base.transcript
-    → IsAt (ta_run (value base.expr) base.k D) base.transcript.accesses (need_at base.transcript.lists r) × CanServe D (need_at base.transcript.lists r)
-needed base board r D kept agrees =
+needed : (passes : Rule) (base : Base) (board : Held) (r : RowProgress) (D : List (List Row)) → Keeps passes base board r → AgreesWith D base.transcript
+    → IsAt (halting_run (value base.expr) (record { k = base.k; passes = passes }) D) base.transcript.accesses (need_at base.transcript.lists r) × CanServe D (need_at base.transcript.lists r)
+needed passes base board r D kept agrees =
     let V = value base.expr in
-    let k : ℕ = base.k in
+    let halt : Halt = record { k = base.k; passes = passes } in
     let m : ℕ = base.transcript.lists in
     let n : ℕ = base.transcript.count in
     let A = base.transcript.accesses in
     let on = kept.on_table D agrees in
-    let asked = held_asked base.expr k base.room m n A D kept.base agrees in
+    let asked = halting_of halt n D kept.fit (held_asked base.expr base.k base.room m n A D kept.base agrees) in
     elim (cases_Bool r.done) [
       | inl done ↦
-          subst (λ need. IsAt (ta_run V k D) A need × CanServe D need) (sym (need_when_done m r done))
-          (at_end (ta_run V k D) A D (made_of_reading V k n D A r done on.reading).run)
+          subst (λ need. IsAt (halting_run V halt D) A need × CanServe D need) (sym (need_when_done m r done))
+          (at_end (halting_run V halt D) A D (made_of_reading V halt n D A r done on.reading).run)
       | inr open' ↦ elim (cases_lt (length r.objects) m) [
         | inl short ↦
-            subst (λ need. IsAt (ta_run V k D) A need × CanServe D need) (sym (need_in_row m r open' short))
-            (row_next V k n D A r (value-monotone base.expr) asked (row_of_reading V k n D A r open' (omega (arith, agrees.lists)) on.reading))
+            subst (λ need. IsAt (halting_run V halt D) A need × CanServe D need) (sym (need_in_row m r open' short))
+            (row_next V halt n D A r (value-monotone base.expr) asked (row_of_reading V halt n D A r open' (omega (arith, agrees.lists)) on.reading))
         | inr whole ↦
             let rest = kept.rest.after_row open' whole in
             let first = first_member r.waiting rest.0 in
             let same : first_or_zero r.waiting ≡ first.0 = ap first_or_zero first.2 in
             let other : slice_index r.objects (length r.grades) ≢ first.0 = λ e'. rest.2 (e' ∙ sym same) in
-            subst (λ need. IsAt (ta_run V k D) A need × CanServe D need) (sym (need_after_row m r open' whole ∙ ap (Grade (length r.grades)) same))
-            (grade_needed V k n D A r first.0 first.1 (value-monotone base.expr) asked (asks_of_reading V k n D A r open' (omega (arith, agrees.lists)) on.reading) first.2 (omega (arith, rest.1, agrees.lists)) other)
+            subst (λ need. IsAt (halting_run V halt D) A need × CanServe D need) (sym (need_after_row m r open' whole ∙ ap (Grade (length r.grades)) same))
+            (grade_needed V halt n D A r first.0 first.1 (value-monotone base.expr) asked (asks_of_reading V halt n D A r open' (omega (arith, agrees.lists)) on.reading) first.2 (omega (arith, rest.1, agrees.lists)) other)
       ]
     ]
 
@@ -75,28 +76,31 @@ pub first_is_member : (ws : List ℕ) → 0 < length ws → Contains ws (first_o
 first_is_member [] l = absurd (omega arith)
 first_is_member (w ∷ ws) l = contains_here w ws
 
-pub first_seen : (base : Base) (board : Held) (r : RowProgress) → Keeps base board r → 0 < length r.waiting
+pub first_seen : (passes : Rule) (base : Base) (board : Held) (r : RowProgress) → Keeps passes base board r → 0 < length r.waiting
     → Contains (seen_objects base.transcript.accesses) (first_or_zero r.waiting)
-first_seen base board r kept waits = member_of_all (Contains (seen_objects base.transcript.accesses)) r.waiting (first_or_zero r.waiting) kept.sound.waiting_seen (first_is_member r.waiting waits)
+first_seen passes base board r kept waits = member_of_all (Contains (seen_objects base.transcript.accesses)) r.waiting (first_or_zero r.waiting) kept.sound.waiting_seen (first_is_member r.waiting waits)
 
-tame_need : (base : Base) (board : Held) (r : RowProgress) → Keeps base board r → IsOfSeen base.transcript (need_at base.transcript.lists r)
-tame_need base board r kept =
+tame_need : (passes : Rule) (base : Base) (board : Held) (r : RowProgress) → Keeps passes base board r → IsOfSeen base.transcript (need_at base.transcript.lists r)
+tame_need passes base board r kept =
     let m : ℕ = base.transcript.lists in
     elim (cases_Bool r.done) [
       | inl done ↦ subst (IsOfSeen base.transcript) (sym (need_when_done m r done)) tt
       | inr open' ↦ elim (cases_lt (length r.objects) m) [
         | inl short ↦ subst (IsOfSeen base.transcript) (sym (need_in_row m r open' short)) tt
-        | inr whole ↦ subst (IsOfSeen base.transcript) (sym (need_after_row m r open' whole)) (first_seen base board r kept (kept.rest.after_row open' whole).0)
+        | inr whole ↦ subst (IsOfSeen base.transcript) (sym (need_after_row m r open' whole)) (first_seen passes base board r kept (kept.rest.after_row open' whole).0)
       ]
     ]
 
-pub kept_makes : (base : Base) (board : Held) (r : RowProgress) → Keeps base board r → MakesItsRun (shown base (need_at base.transcript.lists r))
-kept_makes base board r kept = makes_run threshold_run base (need_at base.transcript.lists r) kept.base (λ D agrees. needed base board r D kept agrees) (tame_need base board r kept)
+pub kept_makes : (rule : Halting) (base : Base) (board : Held) (r : RowProgress) → Keeps (passes_by rule) base board r
+    → MakesHaltingRun (record { state = shown base (need_at base.transcript.lists r); halting = rule })
+kept_makes rule base board r kept =
+    makes_run (run_halting rule) base (need_at base.transcript.lists r) kept.base (λ D agrees. needed (passes_by rule) base board r D kept agrees) (tame_need (passes_by rule) base board r kept)
 
 -- the depth is one of the tables', so it is small
-pub kept_depth : (base : Base) (board : Held) (r : RowProgress) → Keeps base board r → r.done ≡ false → r.depth ≤ base.transcript.count
-kept_depth base board r kept open' =
+pub kept_depth : (passes : Rule) (base : Base) (board : Held) (r : RowProgress) → Keeps passes base board r → r.done ≡ false → r.depth ≤ base.transcript.count
+kept_depth passes base board r kept open' =
     let V = value base.expr in
+    let halt : Halt = record { k = base.k; passes = passes } in
     let m : ℕ = base.transcript.lists in
     let n : ℕ = base.transcript.count in
     let A = base.transcript.accesses in
@@ -104,6 +108,6 @@ kept_depth base board r kept open' =
     let agrees : AgreesWith D base.transcript = kept.base.agreeing.1 in
     let on = kept.on_table D agrees in
     elim (cases_lt (length r.objects) m) [
-      | inl short ↦ (row_of_reading V base.k n D A r open' (omega (arith, agrees.lists)) on.reading).at.within
-      | inr whole ↦ (asks_of_reading V base.k n D A r open' (omega (arith, agrees.lists)) on.reading).at.within
+      | inl short ↦ (row_of_reading V halt n D A r open' (omega (arith, agrees.lists)) on.reading).at.within
+      | inr whole ↦ (asks_of_reading V halt n D A r open' (omega (arith, agrees.lists)) on.reading).at.within
     ]

@@ -10,10 +10,12 @@ use Rattle.topk_theory.specs.declared.access.Access.TheVariants.{Sorted, Random}
 use Rattle.topk_theory.specs.Transcript.{seen_objects}
 use Rattle.topk_theory.proofs.AgreementLists.{contains_nil, contains_here, contains_there, all_from_members, member_of_all}
 use Rattle.topk_theory.proofs.ThresholdRun.{seen_from_access, seen_more}
-use Rattle.ta_core.specs.Reading.{RowProgress, grades_in_row, filled, filled_first, first_or_zero, with_new, row_added, grade_added, moved, enough, followed}
+use Rattle.machine_base.specs.Board.{with_new}
+use Rattle.ta_core.specs.Halting.{Halt}
+use Rattle.ta_core.specs.Reading.{RowProgress, grades_in_row, filled, filled_first, first_or_zero, row_added, grade_added, moved, enough, followed}
 use Rattle.ta_core.specs.Kept.{IsSound, IsAtRest}
 use Rattle.ta_core.proofs.Fills.{length-grades_in_row, grades_in_row_end}
-use Rattle.ta_core.proofs.BoardSteps.{waits_from}
+use Rattle.machine_base.proofs.BoardSteps.{waits_from}
 use Rattle.ta_core.proofs.Steps.{settled_not, settled_scored, moved_on, moved_down}
 
 -- the grades that a row has are some of its own
@@ -233,10 +235,10 @@ sound_moved m A stops r s positive open' in_row after_row =
           record { in_row = λ l. refl; after_row = λ o l. absurd (omega arith) },
         )
 
-pub sound_followed : (V : List ℕ → ℕ) (k m : ℕ) (A : List Access) (items : List Item) (r : RowProgress) → 1 ≤ m → r.done ≡ false → IsSound m A r → IsFed m r
-    → IsSound m A (followed V k m items r) × IsAtRest m (followed V k m items r)
-sound_followed V k m A items r positive open' s fed =
-    let stops : Bool = enough k (V r.bottoms) items in
+pub sound_followed : (V : List ℕ → ℕ) (halt : Halt) (m : ℕ) (A : List Access) (items : List Item) (r : RowProgress) → 1 ≤ m → r.done ≡ false → IsSound m A r → IsFed m r
+    → IsSound m A (followed V halt m items r) × IsAtRest m (followed V halt m items r)
+sound_followed V halt m A items r positive open' s fed =
+    let stops : Bool = enough halt r.depth (V r.bottoms) items in
     elim (cases_eq (length r.grades) m) [
       | inr n ↦
           subst (λ z. IsSound m A (moved m stops z) × IsAtRest m (moved m stops z)) (sym (settled_not m r n))

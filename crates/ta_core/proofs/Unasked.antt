@@ -24,6 +24,7 @@ use Rattle.machine_base.specs.Base.{asked_of_list}
 use Rattle.machine_base.proofs.Reserve.{chosen}
 use Rattle.ta_core.specs.Reading.{RowProgress, first_or_zero}
 use Rattle.ta_core.specs.OnTable.{OnAsks}
+use Rattle.ta_core.specs.Halting.{Rule}
 use Rattle.ta_core.specs.Kept.{IsTaKept}
 use Rattle.ta_core.proofs.NeedSteps.{grade_ahead}
 use Rattle.ta_core.proofs.Runs.{first_member}
@@ -200,13 +201,13 @@ unasked n D depth list object grade A later t within path =
     distinct_apart (asked_of_list list A) object (asked_of_list list later) (subst (AllPairs (λ (a b : ℕ). a ≢ b)) parts (run_once n D depth list t within))
 
 -- so of the first object that waits no access asked the list that comes next
-pub waiting_unasked : (e : Tree) (k room m n : ℕ) (A : List Access) (board : Held) (r : RowProgress) → IsTaKept e k room m n A board r → r.done ≡ false
+pub waiting_unasked : (passes : Rule) (e : Tree) (k room m n : ℕ) (A : List Access) (board : Held) (r : RowProgress) → IsTaKept passes e k room m n A board r → r.done ≡ false
     → m ≤ length r.objects → ¬ Contains (asked_of_list (length r.grades) A) (first_or_zero r.waiting)
-waiting_unasked e k room m n A board r kept open' whole =
+waiting_unasked passes e k room m n A board r kept open' whole =
     let V = value e in
     let D = kept.base.agreeing.0 in
     let agrees : Agrees m n D A = kept.base.agreeing.1 in
-    let on : OnAsks V k n D A r = asks_of_reading V k n D A r open' (omega (arith, agrees.lists)) (kept.on_table D agrees).reading in
+    let on : OnAsks V (record { k = k; passes = passes }) n D A r = asks_of_reading V (record { k = k; passes = passes }) n D A r open' (omega (arith, agrees.lists)) (kept.on_table D agrees).reading in
     let rest = kept.rest.after_row open' whole in
     let first = first_member r.waiting rest.0 in
     let same : first_or_zero r.waiting ≡ first.0 = ap first_or_zero first.2 in
@@ -214,4 +215,4 @@ waiting_unasked e k room m n A board r kept open' whole =
     let short : j < length D = omega (arith, rest.1, agrees.lists) in
     subst (λ o. ¬ Contains (asked_of_list j A) o) (sym same)
     (unasked n D r.depth j first.0 (grade_in (list_at D j) first.0) A (random_block (j + 1) r.depth first.0 (drop (suc j) D) ++ flat_map (λ o. random_block 0 r.depth o D) first.1) agrees.table on.at.within
-    (grade_ahead V k n D A r first.0 first.1 agrees.table on first.2 short (λ e'. rest.2 (e' ∙ sym same))))
+    (grade_ahead V (record { k = k; passes = passes }) n D A r first.0 first.1 agrees.table on first.2 short (λ e'. rest.2 (e' ∙ sym same))))

@@ -9,6 +9,8 @@ use Rattle.topk_theory.specs.declared.access.Access.{Access}
 use Rattle.topk_theory.specs.Transcript.{Agrees, seen_objects}
 use Rattle.machine_base.specs.declared.base.Base.{Base}
 use Rattle.machine_base.specs.Base.{IsHeld, IsReserved}
+use Rattle.ta_core.specs.declared.halting.Halting.{Halting}
+use Rattle.ta_core.specs.Halting.{Rule, IsFit, passes_by}
 use Rattle.ta_core.specs.Reading.{RowProgress, first_or_zero}
 use Rattle.ta_core.specs.OnTable.{OnTable}
 
@@ -30,18 +32,19 @@ pub record IsAtRest (m : ℕ) (r : RowProgress) : Type 0 where
       → (0 < length r.waiting) × (length r.grades < m) × (slice_index r.objects (length r.grades) ≢ first_or_zero r.waiting)
 
 -- what is kept over m lists of n objects after the accesses A
-pub record IsTaKept (e : Tree) (k room m n : ℕ) (A : List Access) (board : Held) (r : RowProgress) : Type 0 where
+pub record IsTaKept (passes : Rule) (e : Tree) (k room m n : ℕ) (A : List Access) (board : Held) (r : RowProgress) : Type 0 where
   pub base : IsHeld e k room m n A
+  pub fit : IsFit passes
   pub same_k : board.k ≡ k
   pub same_room : board.room ≡ room
   pub sound : IsSound m A r
   pub rest : IsAtRest m r
-  pub on_table : (D : List (List Row)) → Agrees m n D A → OnTable (value e) k n D A r board.items
+  pub on_table : (D : List (List Row)) → Agrees m n D A → OnTable (value e) (record { k = k; passes = passes }) n D A r board.items
 
-abbrev pub Keeps : Base → Held → RowProgress → Type 0
-Keeps base board r = IsTaKept base.expr base.k base.room base.transcript.lists base.transcript.count base.transcript.accesses board r
+abbrev pub Keeps : Rule → Base → Held → RowProgress → Type 0
+Keeps passes base board r = IsTaKept passes base.expr base.k base.room base.transcript.lists base.transcript.count base.transcript.accesses board r
 
 -- and room is reserved for the accesses to come
-pub record Stands (base : Base) (board : Held) (r : RowProgress) : Type 0 where
-  pub kept : Keeps base board r
+pub record Stands (rule : Halting) (base : Base) (board : Held) (r : RowProgress) : Type 0 where
+  pub kept : Keeps (passes_by rule) base board r
   pub reserved : IsReserved base

@@ -1,14 +1,15 @@
--- Where a machine is in the run of the threshold algorithm on a table that agrees with its transcript.
+-- Where a machine is in its run on a table that agrees with its transcript.
 use Rattle.std.specs.Prelude.{◌≡◌, ◌≢◌, ◌<◌, ℕ, ◌-◌, false, not, List, [], ◌∷◌, ◌++◌, length, map, take, drop, filter, AllPairs, Contains, MatchBool, nat_lt}
 use Rattle.std.specs.List.{flat_map}
 use Rattle.ranked_list.specs.declared.row.Row.{Row}
 use Rattle.ranked_list.specs.declared.item.Item.{Item}
-use Rattle.topk_theory.specs.Order.{AreDistinct}
 use Rattle.topk_theory.specs.declared.access.Access.{Access}
 use Rattle.topk_theory.specs.Aggregate.{objects_of, grades_of}
-use Rattle.topk_theory.specs.Transcript.{each_once, seen_objects}
-use Rattle.topk_theory.specs.Threshold.{row_at, stands, random_block, ta_stop, ta_run_to, ta_run, scored}
+use Rattle.topk_theory.specs.Transcript.{each_once}
+use Rattle.topk_theory.specs.Threshold.{row_at, stands, random_block, ta_run_to}
 use Rattle.machine_base.specs.Depths.{IsReached, read_to}
+use Rattle.machine_base.specs.Board.{OnBoard}
+use Rattle.ta_core.specs.Halting.{Halt, halts_at, halting_run}
 use Rattle.ta_core.specs.Reading.{RowProgress}
 
 -- the objects and the grades of lists at a depth
@@ -19,8 +20,8 @@ abbrev pub bottoms_at : ℕ → List (List Row) → List ℕ
 bottoms_at depth lists = map (λ rows. (row_at rows depth).grade) lists
 
 -- in a row: its first lists are read, and those of its objects that are new wait
-pub record OnRow (V : List ℕ → ℕ) (k n : ℕ) (D : List (List Row)) (A : List Access) (r : RowProgress) : Type 0 where
-  pub at : IsReached (ta_stop V k D) n r.depth
+pub record OnRow (V : List ℕ → ℕ) (halt : Halt) (n : ℕ) (D : List (List Row)) (A : List Access) (r : RowProgress) : Type 0 where
+  pub at : IsReached (halts_at V halt D) n r.depth
   pub unread : length r.objects < length D
   pub objects_are : r.objects ≡ objects_at r.depth (take (length r.objects) D)
   pub bottoms_are : r.bottoms ≡ bottoms_at r.depth (take (length r.objects) D)
@@ -39,8 +40,8 @@ AreFirstGrades D [] grades = Unit {0}
 AreFirstGrades D (object ∷ waiting) grades = grades ≡ take (length grades) (grades_of D object)
 
 -- the row is read, and what is missing of the grades of its new objects is to come
-pub record OnAsks (V : List ℕ → ℕ) (k n : ℕ) (D : List (List Row)) (A : List Access) (r : RowProgress) : Type 0 where
-  pub at : IsReached (ta_stop V k D) n r.depth
+pub record OnAsks (V : List ℕ → ℕ) (halt : Halt) (n : ℕ) (D : List (List Row)) (A : List Access) (r : RowProgress) : Type 0 where
+  pub at : IsReached (halts_at V halt D) n r.depth
   pub objects_are : r.objects ≡ objects_at r.depth D
   pub bottoms_are : r.bottoms ≡ bottoms_at r.depth D
   pub new : (object : ℕ) → Contains r.waiting object → (stands D (r.depth - 1) object ≡ false) × Contains (objects_of D) object
@@ -49,20 +50,14 @@ pub record OnAsks (V : List ℕ → ℕ) (k n : ℕ) (D : List (List Row)) (A : 
   pub ahead : A ++ asks D r.depth r.waiting r.grades ≡ ta_run_to D r.depth
 
 -- the run is made
-pub record IsMade (V : List ℕ → ℕ) (k : ℕ) (D : List (List Row)) (A : List Access) (r : RowProgress) : Type 0 where
-  pub run : A ≡ ta_run V k D
+pub record IsMade (V : List ℕ → ℕ) (halt : Halt) (D : List (List Row)) (A : List Access) (r : RowProgress) : Type 0 where
+  pub run : A ≡ halting_run V halt D
   pub none : r.waiting ≡ []
 
-abbrev pub OnReading : (List ℕ → ℕ) → ℕ → ℕ → List (List Row) → List Access → RowProgress → Type 0
-OnReading V k n D A r = MatchBool r.done (IsMade V k D A r) (MatchBool (nat_lt (length r.objects) (length D)) (OnRow V k n D A r) (OnAsks V k n D A r))
-
--- the board has the seen objects that don't wait, each once, with their aggregates
-pub record OnBoard (V : List ℕ → ℕ) (D : List (List Row)) (A : List Access) (waiting : List ℕ) (items : List Item) : Type 0 where
-  pub distinct : AreDistinct items
-  pub held : (object : ℕ) → Contains (seen_objects A) object → ¬ Contains waiting object → Contains items (scored V D object)
-  pub only : (item : Item) → Contains items item → Contains (seen_objects A) item.object × (¬ Contains waiting item.object) × (scored V D item.object ≡ item)
+abbrev pub OnReading : (List ℕ → ℕ) → Halt → ℕ → List (List Row) → List Access → RowProgress → Type 0
+OnReading V halt n D A r = MatchBool r.done (IsMade V halt D A r) (MatchBool (nat_lt (length r.objects) (length D)) (OnRow V halt n D A r) (OnAsks V halt n D A r))
 
 -- the machine is on the run of the table
-pub record OnTable (V : List ℕ → ℕ) (k n : ℕ) (D : List (List Row)) (A : List Access) (r : RowProgress) (items : List Item) : Type 0 where
-  pub reading : OnReading V k n D A r
+pub record OnTable (V : List ℕ → ℕ) (halt : Halt) (n : ℕ) (D : List (List Row)) (A : List Access) (r : RowProgress) (items : List Item) : Type 0 where
+  pub reading : OnReading V halt n D A r
   pub board : OnBoard V D A r.waiting items

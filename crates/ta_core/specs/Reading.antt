@@ -6,6 +6,8 @@ use Rattle.ranked_list.specs.declared.need.Need.{Need}
 use Rattle.ranked_list.specs.declared.need.Need.TheVariants.{Row as RowAt, Grade, Done}
 use Rattle.topk_theory.specs.Order.{lows}
 use Rattle.best_k.specs.Held.{put_item}
+use Rattle.machine_base.specs.Board.{with_new}
+use Rattle.ta_core.specs.Halting.{Halt}
 
 -- the depth of the row, its objects and grades so far, its new objects whose grades are not all there yet,
 -- the grades of the first of these in the lists from the first on, and whether the answer is known
@@ -36,9 +38,6 @@ filled_first objects bottoms (object ∷ waiting) = filled objects bottoms objec
 abbrev pub first_or_zero : List ℕ → ℕ
 first_or_zero [] = 0
 first_or_zero (object ∷ waiting) = object
-
-abbrev pub with_new : List ℕ → ℕ → Bool → List ℕ
-with_new waiting object is_new = if is_new then waiting ++ object ∷ [] else waiting
 
 -- after one more row of m
 abbrev pub row_added : ℕ → RowProgress → Row → Bool → RowProgress
@@ -78,13 +77,13 @@ row_begun depth = record { depth = depth; objects = []; bottoms = []; waiting = 
 abbrev pub moved : ℕ → Bool → RowProgress → RowProgress
 moved m stops r = if is_whole m r then (if stops then record r { done = true } else row_begun (r.depth + 1)) else r
 
--- at least k of the items have a low of at least the bound
-abbrev pub enough : ℕ → ℕ → List Item → Bool
-enough k bound items = nat_le k (count_by (nat_le bound) (lows items))
+-- at least k of the items pass at a depth with such a threshold, by their lows
+abbrev pub enough : Halt → ℕ → ℕ → List Item → Bool
+enough halt depth bound items = nat_le halt.k (count_by (halt.passes depth bound) (lows items))
 
 -- what follows once an access is told: its object is settled, and a whole row is the last one or makes room for the next
-abbrev pub followed : (List ℕ → ℕ) → ℕ → ℕ → List Item → RowProgress → RowProgress
-followed V k m items r = moved m (enough k (V r.bottoms) items) (settled m r)
+abbrev pub followed : (List ℕ → ℕ) → Halt → ℕ → List Item → RowProgress → RowProgress
+followed V halt m items r = moved m (enough halt r.depth (V r.bottoms) items) (settled m r)
 
 -- what is next
 abbrev pub need_at : ℕ → RowProgress → Need

@@ -5,9 +5,11 @@ ghost use Rattle.best_k.specs.Held.{Held};
 ghost use Rattle.monotone_fn.specs.Value.{value};
 ghost use Rattle.monotone_fn.specs.Limits.{AreGrades};
 ghost use Rattle.machine_base.specs.Base.{Holds};
+ghost use Rattle.ta_core.specs.Halting.{IsFit, passes_by};
 ghost use Rattle.ta_core.specs.Reading.{enough, items_after, followed};
 ghost use Rattle.ta_core.specs.Shown.{reading_of};
 
+use super::halting::Halting;
 use super::progress::Progress;
 use best_k::Board;
 use machine_base::Base;
@@ -29,26 +31,28 @@ pub(crate) fn score(base: &Base, board: &mut Board, progress: &Progress)
     }
 }
 
-/// Whether at least k on the board have an aggregate of at least the bound.
-fn has_enough(board: &Board, bound: u64) -> bool
-    ensures { result ≡ enough board.now.k bound board.now.items }
+/// Whether at least k on the board pass at a depth with this threshold, by their aggregates.
+fn has_enough(halting: Halting, board: &Board, depth: u32, threshold: u64) -> bool
+    requires { IsFit (passes_by halting) }
+    ensures { result ≡ enough (record { k = board.now.k; passes = passes_by halting }) depth threshold board.now.items }
 {
     match board.kth() {
-        Some(low) => bound <= low,
+        Some(low) => halting.passes(depth, threshold, low),
         None => false,
     }
 }
 
 /// What follows an access that is told: the object that has all its grades waits no more, and a whole
-/// row is the last one, where the algorithm stops, or makes room for the next.
-pub(crate) fn follow(base: &Base, board: &Board, progress: &mut Progress)
+/// row is the last one, where the machine halts, or makes room for the next.
+pub(crate) fn follow(halting: Halting, base: &Base, board: &Board, progress: &mut Progress)
+    requires fair { IsFit (passes_by halting) }
     requires held { Holds base.now }
     requires bottoms { AreGrades progress.old.bottoms.items }
     requires same { length progress.old.bottoms.items ≡ length progress.old.objects.items }
     requires waits { length progress.old.grades.items ≡ base.now.transcript.lists → 0 < length progress.old.waiting.items }
     requires deep { progress.old.depth < 2 ^ 32 - 1 }
     ensures { reading_of progress.new
-        ≡ followed (value base.now.expr) board.now.k base.now.transcript.lists board.now.items (reading_of progress.old) }
+        ≡ followed (value base.now.expr) (record { k = board.now.k; passes = passes_by halting }) base.now.transcript.lists board.now.items (reading_of progress.old) }
 {
     let lists = base.transcript.lists();
     progress.settle(lists);
@@ -56,7 +60,7 @@ pub(crate) fn follow(base: &Base, board: &Board, progress: &mut Progress)
         return;
     }
     let threshold = base.expr.eval(progress.bottoms.as_slice());
-    if has_enough(board, threshold) {
+    if has_enough(halting, board, progress.depth, threshold) {
         progress.done = true;
         return;
     }

@@ -1,11 +1,10 @@
-//! The machine.
+//! The machine of the threshold algorithm, which halts where k seen objects reach the threshold.
 
-use super::following::{follow, score};
-use super::progress::Progress;
-use access_log::{Access, Transcript};
-use best_k::Board;
+use super::halting::Halting;
+use super::machine::ThresholdMachine;
+use access_log::Transcript;
 use limits::MAX_OBJECTS;
-use machine_base::{Answer, Base, CoreFault, Memory, Need};
+use machine_base::{Answer, CoreFault, Memory, Need};
 use monotone_fn::{Costs, Expr};
 use ranked_list::Row;
 use std::alloc::Global;
@@ -15,12 +14,11 @@ use std::marker::Model;
 /// access gave. Contracts see it as a `MachineState`.
 #[derive(Drop)]
 pub struct Ta {
-    base: Base,
-    board: Board,
-    progress: Progress,
+    machine: ThresholdMachine,
 }
 
 impl Model for Ta {
+    ghost use Rattle.std.specs.Prelude.{◌≡◌};
     ghost use Rattle.std.specs.Coded.{codes};
     ghost use Rattle.monotone_fn.specs.Code.{tree_code};
     ghost use Rattle.machine_base.specs.Machine.{MachineState};
@@ -29,14 +27,12 @@ impl Model for Ta {
 
     ghost coded = { Prim.hlevel (codes, tree_code) };
 
-    ghost use Rattle.ta_core.specs.Reading.{need_at};
-    ghost use Rattle.ta_core.specs.Shown.{reading_of};
-    ghost use Rattle.machine_base.specs.Base.{shown};
-    ghost use Rattle.ta_core.specs.Kept.{Stands};
+    ghost view = { λ a. a.machine.state };
 
-    ghost view = { λ a. shown a.base (need_at a.base.transcript.lists (reading_of a.progress)) };
+    ghost use Rattle.ta_core.specs.declared.halting.Halting.TheVariants.{Exact};
+    ghost use Rattle.ta_core.specs.Machine.{MakesHaltingRun};
 
-    ghost invariant = { λ a. Stands a.base a.board (reading_of a.progress) };
+    ghost invariant = { λ a. (a.machine.halting ≡ Exact) × MakesHaltingRun a.machine };
 }
 
 impl Ta {
@@ -61,19 +57,9 @@ impl Ta {
         ensures begun { IfOk result (IsBegun expr k count room costs) }
         ensures run { IfOk result MakesItsRun }
     {
-        let Ok(board) = Board::make(alloc, k, room.min(count)) else {
-            expr.let_go();
-            return Err(Memory);
-        };
-        let Ok(base) = Base::make(alloc, expr, k, count, room, costs) else {
-            board.let_go();
-            return Err(Memory);
-        };
-        Ok(Ta {
-            base,
-            board,
-            progress: Progress::at(1),
-        })
+        let made = ThresholdMachine::make(alloc, expr, k, count, room, costs, Halting::Exact);
+        let machine = made?;
+        Ok(Ta { machine })
     }
 
     /// What is needed next.
@@ -82,42 +68,29 @@ impl Ta {
         ensures run { MakesItsRun self.now }
         ensures range { IsInRange self.now.log result }
     {
-        self.progress.need(self.base.transcript.lists())
+        self.machine.need()
     }
 
     /// Tells the row that is needed. Where it is refused nothing has changed. Takes no memory.
+    ///
+    /// *Cost*: `Base::tell`, and one `Board::put` for an object. Takes no memory.
     pub fn feed_row(&mut self, row: Row) -> Result<(), CoreFault>
         requires { MayBeNextRow self.old.log self.old.need row }
         ensures fed { RowFed row self.old self.new result }
         ensures run { MakesItsRun self.new }
     {
-        let is_new = self.base.test_room(row.object)?;
-        self.base.tell(Access::Sorted {
-            list: self.progress.objects.len() as u8,
-            object: row.object,
-            grade: row.grade,
-        });
-        self.progress
-            .add_row(self.base.transcript.lists(), row, is_new);
-        score(&self.base, &mut self.board, &self.progress);
-        follow(&self.base, &self.board, &mut self.progress);
-        Ok(())
+        self.machine.feed_row(row)
     }
 
     /// Tells the grade that is needed. Takes no memory.
+    ///
+    /// *Cost*: `Base::tell`, and one `Board::put` for an object. Takes no memory.
     pub fn feed_grade(&mut self, grade: u32)
         requires { MayBeNextGrade self.old.log self.old.need grade }
         ensures fed { GradeFed grade self.old self.new }
         ensures run { MakesItsRun self.new }
     {
-        self.base.tell(Access::Random {
-            list: self.progress.grades.len() as u8,
-            object: self.progress.waiting[0],
-            grade,
-        });
-        self.progress.add_grade(grade);
-        score(&self.base, &mut self.board, &self.progress);
-        follow(&self.base, &self.board, &mut self.progress);
+        self.machine.feed_grade(grade);
     }
 
     /// The accesses so far.
@@ -125,7 +98,7 @@ impl Ta {
         ensures log { result.now ≡ self.now.log }
         ensures run { MakesItsRun self.now }
     {
-        &self.base.transcript
+        self.machine.transcript()
     }
 
     /// The answer, once nothing is needed: the first k objects by aggregate falling, then by id rising,
@@ -136,29 +109,13 @@ impl Ta {
         ensures items { IfOk result (λ answer. IsAnswer self answer.items) }
         ensures transcript { IfOk result (λ answer. IsSameLog answer.transcript self.log) }
     {
-        let Ta {
-            base,
-            board,
-            progress: _,
-        } = self;
-        let transcript = base.into_transcript();
-        match board.first() {
-            Ok(items) => Ok(Answer { items, transcript }),
-            Err(_) => {
-                transcript.let_go();
-                Err(Memory)
-            }
-        }
+        let Ta { machine } = self;
+        machine.answer()
     }
 
     /// Lets the machine go, before it has its answer. Who owns one lets it go by this call.
     pub fn let_go(self) {
-        let Ta {
-            base,
-            board,
-            progress: _,
-        } = self;
-        base.let_go();
-        board.let_go();
+        let Ta { machine } = self;
+        machine.let_go();
     }
 }

@@ -148,8 +148,8 @@ fn feed_all<M: Driven>(alloc: Global, machine: &mut M, lists: Lists<'_>) -> Resu
     feed_until_done(machine, &mut wide, lists)
 }
 
-/// Feeds a machine from the lists until it answers or refuses a row.
-fn drive<M: Driven>(alloc: Global, machine: M, lists: Lists<'_>) -> Result<Answer, NoAnswer>
+/// Feeds a machine that was fed nothing from the lists until it answers or refuses a row.
+pub fn drive<M: Driven>(alloc: Global, machine: M, lists: Lists<'_>) -> Result<Answer, NoAnswer>
     requires { (M.state machine).log.accesses ≡ [] }
 {
     let mut machine = machine;
@@ -190,35 +190,33 @@ fn terms_of(query: &Query, lists: Lists<'_>) -> Option<Task>
     }
 }
 
-/// The answer to an expression on these task, by a machine.
-fn run_on<M: Driven>(
-    alloc: Global,
-    expr: Expr,
-    task: Task,
-    lists: Lists<'_>,
-) -> Result<Answer, NoAnswer>
-    requires k { (1 ≤ task.k) × (task.k ≤ task.count) }
-    requires count { task.count < 10 }
-    requires paid { (1 ≤ task.room) × (1 ≤ task.costs.sorted) }
+/// What a query's text asks over lists, the first of which has as many objects as are counted: its expression and its task.
+pub fn asked(alloc: Global, text: &str, lists: Lists<'_>) -> Option<(Expr, Task)>
+    ensures k { IfSome result (λ asks. (1 ≤ asks.1.k) × (asks.1.k ≤ asks.1.count)) }
+    ensures count { IfSome result (λ asks. asks.1.count < 10) }
+    ensures paid { IfSome result (λ asks. (1 ≤ asks.1.room) × (1 ≤ asks.1.costs.sorted)) }
 {
+    let Ok(query) = read(alloc, text.as_bytes()) else {
+        return None;
+    };
+    let Some(task) = terms_of(&query, lists) else {
+        query.let_go();
+        return None;
+    };
+    let Query { names, expr, .. } = query;
+    drop(names);
+    Some((expr, task))
+}
+
+/// The answer to a query's text over lists, by a machine.
+pub fn run<M: Driven>(alloc: Global, text: &str, lists: Lists<'_>) -> Result<Answer, NoAnswer> {
+    let Some((expr, task)) = asked(alloc, text, lists) else {
+        return Err(NoAnswer::Unasked);
+    };
     match M::begin(alloc, expr, task) {
         Some(machine) => drive(alloc, machine, lists),
         None => Err(NoAnswer::Unasked),
     }
-}
-
-/// The answer to a query's text over lists, the first of which has as many objects as are counted, by a machine.
-pub fn run<M: Driven>(alloc: Global, text: &str, lists: Lists<'_>) -> Result<Answer, NoAnswer> {
-    let Ok(query) = read(alloc, text.as_bytes()) else {
-        return Err(NoAnswer::Unasked);
-    };
-    let Some(task) = terms_of(&query, lists) else {
-        query.let_go();
-        return Err(NoAnswer::Unasked);
-    };
-    let Query { names, expr, .. } = query;
-    drop(names);
-    run_on::<M>(alloc, expr, task, lists)
 }
 
 /// Lets an answer go, its transcript by the transcript's own call.

@@ -3,4 +3,4 @@
 
 mod driver;
 
-pub use driver::{NoAnswer, let_go, run};
+pub use driver::{NoAnswer, asked, drive, let_go, run};

@@ -103,7 +103,7 @@ fn are_accesses(transcript: &Transcript, wanted: Wanted) -> bool {
 }
 
 /// Whether an answer is as it is wanted.
-fn is_as(answer: &Answer, case: &Case) -> bool {
+pub fn is_as(answer: &Answer, case: &Case) -> bool {
     answer.items.iter().as_slice() == case.items
         && are_figures(&answer.transcript, &case.costs, &case.figures)
         && are_accesses(&answer.transcript, case.accesses)

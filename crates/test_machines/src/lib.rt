@@ -13,6 +13,8 @@ mod cases;
 #[cfg(test)]
 mod combined;
 #[cfg(test)]
+mod halting;
+#[cfg(test)]
 mod no_random;
 #[cfg(test)]
 mod nra;

@@ -3,7 +3,8 @@ use Rattle.monotone_fn.specs.Value.{value}
 use Rattle.topk_theory.specs.Threshold.{item_objects}
 use Rattle.topk_theory.specs.Order.{first_k}
 use Rattle.topk_theory.specs.NoRandom.{seen_items}
-use Rattle.ca_core.specs.Course.{finish_from}
+use Rattle.machine_base.specs.Asking.{ask_from}
+use Rattle.ca_core.specs.Course.{finish_of}
 use Rattle.ca_core.proofs.Courses.{enough_seen, block_goes, block_ends}
 use Rattle.ca_core.proofs.following.end_block.Goals as goal
 
@@ -26,7 +27,7 @@ pub returns-clause-moved : goal.returns-clause-moved
 returns-clause-moved c =
     let b = c.args.base.now in
     let kept = c.is_quiet.ensures.kept in
-    block_ends (value b.expr) b.k b.transcript.lists b.transcript.count b.transcript.accesses c.args.depth c.args.first.now.items c.first_items.new.items.items c.finish_from.result c.is_quiet.result
+    block_ends (value b.expr) b.k b.transcript.lists b.transcript.count b.transcript.accesses c.args.depth c.args.first.now.items c.first_items.new.items.items c.finish.result c.is_quiet.result
     c.is_quiet.ensures.quiet c.if-not-is_quiet.false
     (c.first_items.ensures.items ∙ ap (λ k. first_k k (seen_items (value b.expr) b.transcript.lists b.transcript.accesses)) kept.same_k)
-    (c.finish_from.ensures ∙ ap (λ xs. finish_from b.transcript.lists b.transcript.accesses (drop 0 (item_objects xs)) 0) c.deref.ensures.value)
+    (c.finish.ensures ∙ ap finish_of (c.ask_from.ensures ∙ ap (λ xs. ask_from b.transcript.lists b.transcript.accesses (drop 0 (item_objects xs)) 0) c.as_slice.ensures.value))

@@ -1,4 +1,4 @@
-use Rattle.std.proofs.Common.{◌≡◌, not, sym, ap, ◌∙◌}
+use Rattle.std.proofs.Common.{not, sym, ap, ◌∙◌}
 use Rattle.topk_theory.specs.Transcript.{seen_objects}
 use Rattle.access_log.proofs.RecordKept.{not_placed}
 use Rattle.ca_core.proofs.Noting.{note_known, note_new, note_same}

@@ -1,26 +1,8 @@
-use Rattle.std.proofs.Common.{◌≡◌, subst, ap, ◌∙◌}
-use Rattle.ranked_list.specs.declared.need.Need.TheVariants.{Done}
-use Rattle.ta_core.specs.Reading.{need_at}
-use Rattle.ta_core.specs.Shown.{reading_of}
-use Rattle.machine_base.specs.Machine.{MachineState}
-use Rattle.ta_core.specs.Machine.{MakesItsRun, IsAnswer}
-use Rattle.ta_core.proofs.Runs.{kept_makes}
-use Rattle.ta_core.proofs.Answering.{answers}
+use Rattle.ta_core.proofs.ExactLaws.{exact_makes, ends_exact}
 use Rattle.ta_core.proofs.ta.Ta.answer.Goals as goal
 
-pub returns-in-Ok-clause-items : goal.returns-in-Ok-clause-items
-returns-in-Ok-clause-items c =
-    let a = c.self.inside in
-    let done : need_at a.base.transcript.lists (reading_of a.progress) ≡ Done = ap (λ (t : MachineState). t.need) c.self.view_is ∙ c.requires in
-    subst (λ (t : MachineState). IsAnswer t c.in-Ok.items) c.self.view_is
-    (answers a.base a.board (reading_of a.progress) c.in-Ok.items c.self.invariant.kept done c.in-Ok.ensures.only)
+pub returns-clause-run : goal.returns-clause-run
+returns-clause-run c = exact_makes c.self.inside.machine c.args.self c.self.invariant.0 c.self.view_is c.self.invariant.1
 
-pub returns-in-Ok-clause-run : goal.returns-in-Ok-clause-run
-returns-in-Ok-clause-run c =
-    let a = c.self.inside in
-    subst MakesItsRun c.self.view_is (kept_makes a.base a.board (reading_of a.progress) c.self.invariant.kept)
-
-pub returns-in-Err-clause-run : goal.returns-in-Err-clause-run
-returns-in-Err-clause-run c =
-    let a = c.self.inside in
-    subst MakesItsRun c.self.view_is (kept_makes a.base a.board (reading_of a.progress) c.self.invariant.kept)
+pub returns-clause-items : goal.returns-clause-items
+returns-clause-items c = ends_exact c.self.inside.machine c.args.self c.answer.result c.self.invariant.0 c.self.view_is c.self.invariant.1 c.answer.ensures.limits.some_lists c.answer.ensures.items

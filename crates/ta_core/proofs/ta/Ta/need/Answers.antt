@@ -1,21 +1,5 @@
-use Rattle.std.proofs.Common.{◌≡◌, subst, sym, ap, ◌∙◌}
-use Rattle.topk_theory.specs.Asked.{threshold_run}
-use Rattle.machine_base.specs.Machine.{MachineState, IsInRange}
-use Rattle.machine_base.proofs.MachineLaws.{in_range}
-use Rattle.ta_core.specs.Reading.{need_at}
-use Rattle.ta_core.specs.Machine.{MakesItsRun}
-use Rattle.ta_core.specs.Shown.{reading_of}
-use Rattle.ta_core.proofs.Runs.{kept_makes}
+use Rattle.ta_core.proofs.ExactLaws.{exact_makes}
 use Rattle.ta_core.proofs.ta.Ta.need.Goals as goal
 
 pub returns-clause-run : goal.returns-clause-run
-returns-clause-run c =
-    let a = c.self.inside in
-    subst MakesItsRun c.self.view_is (kept_makes a.base a.board (reading_of a.progress) c.self.invariant.kept)
-
-pub returns-clause-range : goal.returns-clause-range
-returns-clause-range c =
-    let a = c.self.inside in
-    let same : c.need.result ≡ c.args.self.now.need =
-    c.need.ensures ∙ ap (λ m. need_at m (reading_of a.progress)) c.lists.ensures.lists ∙ ap (λ (t : MachineState). t.need) c.self.view_is in
-    subst (IsInRange c.args.self.now.log) (sym same) (in_range threshold_run c.args.self.now (returns-clause-run c))
+returns-clause-run c = exact_makes c.self.inside.machine c.args.self.now c.self.invariant.0 c.self.view_is c.self.invariant.1

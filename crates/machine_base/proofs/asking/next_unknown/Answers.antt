@@ -1,7 +1,7 @@
-use Rattle.std.proofs.Common.{◌≡◌, not, sym, ap, ◌∙◌, arith}
+use Rattle.std.proofs.Common.{not, sym, ap, ◌∙◌, arith}
 use Rattle.topk_theory.proofs.UnknownLists.{none_unknown_more}
-use Rattle.ca_core.proofs.Grades.{unknown_found, known_at, known_length, known_of, unknown_of}
-use Rattle.ca_core.proofs.unknown.next_unknown.Goals as goal
+use Rattle.machine_base.proofs.Unknown.{unknown_found, known_at, known_length, known_of, unknown_of}
+use Rattle.machine_base.proofs.asking.next_unknown.Goals as goal
 
 pub bounds-known-list : goal.bounds-known-list
 bounds-known-list c =

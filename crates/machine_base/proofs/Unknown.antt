@@ -1,11 +1,11 @@
 -- The unknown grades of an object: the first list that has one, and what one more access leaves of them.
-use Rattle.std.proofs.Common.{◌≡◌, ◌≢◌, ℕ, zero, suc, ◌+◌, ◌-◌, ◌<◌, inl, inr, Bool, true, false, cond, List, [], ◌∷◌, ◌++◌, length, map, filter, AllPairs, Contains, Option, Some, None, is_none, is_some, refl, sym, ap, subst, ◌∙◌, arith, get_or}
+use Rattle.std.proofs.Common.{◌≡◌, ◌≢◌, ℕ, suc, ◌+◌, ◌-◌, ◌<◌, inl, inr, Bool, true, false, cond, List, [], ◌∷◌, ◌++◌, length, map, filter, AllPairs, Contains, Option, Some, None, is_none, is_some, refl, sym, ap, subst, ◌∙◌, arith, get_or}
 use Rattle.std.specs.List.{slice_get, range_with_len}
 use Rattle.std.proofs.lemmas.Bool.{cases_Bool, cases_eq, cond-true, cond-false, true≢false, false≢true}
 use Rattle.std.proofs.lemmas.List.FromFn.{get_or-map-range_with_len, length-map-range_with_len}
 use Rattle.ranked_list.proofs.OptionLaws.{none_if_is_none}
 use Rattle.topk_theory.specs.declared.access.Access.{Access}
-use Rattle.topk_theory.specs.Transcript.{list_of, object_of, grade_of, list_numbers}
+use Rattle.topk_theory.specs.Transcript.{list_of, object_of, list_numbers}
 use Rattle.topk_theory.specs.Bounds.{known_grade}
 use Rattle.topk_theory.specs.Combined.{unknown_lists}
 use Rattle.topk_theory.proofs.AgreementLists.{contains_here, contains_there}
@@ -13,7 +13,7 @@ use Rattle.topk_theory.proofs.Agreement.{known_grade_same, known_grade_other_obj
 use Rattle.topk_theory.proofs.Consistent.{range_distinct}
 use Rattle.topk_theory.proofs.ThresholdLists.{contains_from_filter}
 use Rattle.topk_theory.proofs.UnknownLists.{unknown_split}
-use Rattle.ca_core.specs.Open.{next_unknown}
+use Rattle.machine_base.specs.Asking.{next_unknown}
 
 -- ---- the first list with an unknown grade
 pub unknown_found : (m list : ℕ) (A : List Access) (object : ℕ) → list < m → unknown_lists list A object ≡ [] → is_none (known_grade A object list) ≡ true

@@ -1,0 +1,10 @@
+use Rattle.std.proofs.Common.{subst}
+use Rattle.ta_core.specs.Machine.{MakesHaltingRun}
+use Rattle.ta_core.specs.Shown.{reading_of}
+use Rattle.ta_core.proofs.Runs.{kept_makes}
+use Rattle.ta_core.proofs.machine.ThresholdMachine.transcript.Goals as goal
+
+pub returns-clause-run : goal.returns-clause-run
+returns-clause-run c =
+    let a = c.self.inside in
+    subst MakesHaltingRun c.self.view_is (kept_makes a.halting a.base a.board (reading_of a.progress) c.self.invariant.kept)

@@ -1,0 +1,177 @@
+//! The machine, whatever its rule of halting.
+
+use super::following::{follow, score};
+use super::halting::Halting;
+use super::progress::Progress;
+use access_log::{Access, Transcript};
+use best_k::Board;
+use limits::MAX_OBJECTS;
+use machine_base::{Answer, Base, CoreFault, Memory, Need};
+use monotone_fn::{Costs, Expr};
+use ranked_list::Row;
+use std::alloc::Global;
+use std::marker::Model;
+
+/// The threshold algorithm on one query, with a rule of halting. It says which access it needs next, and
+/// is fed what that access gave. Contracts see it as a `ThresholdState`.
+#[derive(Drop)]
+pub struct ThresholdMachine {
+    halting: Halting,
+    base: Base,
+    board: Board,
+    progress: Progress,
+}
+
+impl Model for ThresholdMachine {
+    ghost use Rattle.std.specs.Coded.{codes};
+    ghost use Rattle.monotone_fn.specs.Code.{tree_code};
+    ghost use Rattle.ta_core.specs.Machine.{ThresholdState};
+
+    ghost Value = { ThresholdState };
+
+    ghost coded = { Prim.hlevel (codes, tree_code) };
+
+    ghost use Rattle.ta_core.specs.Reading.{need_at};
+    ghost use Rattle.ta_core.specs.Shown.{reading_of};
+    ghost use Rattle.machine_base.specs.Base.{shown};
+    ghost use Rattle.ta_core.specs.Kept.{Stands};
+
+    ghost view = { λ a. record { state = shown a.base (need_at a.base.transcript.lists (reading_of a.progress)); halting = a.halting } };
+
+    ghost invariant = { λ a. Stands a.halting a.base a.board (reading_of a.progress) };
+}
+
+impl ThresholdMachine {
+    ghost use Rattle.std.specs.Prelude.{◌≡◌, ◌≤◌, IfOk};
+    ghost use Rattle.machine_base.specs.Machine.{IsBegun, IsInRange, MayBeNextRow, MayBeNextGrade, RowFed, GradeFed, IsSameLog};
+    ghost use Rattle.access_log.specs.Log.{IsWithinLimits};
+    ghost use Rattle.ta_core.specs.Halting.{IsFair};
+    ghost use Rattle.ta_core.specs.Machine.{MakesHaltingRun, IsHaltingAnswer};
+
+    /// A machine for the first `k` of `count` objects, that sees `room` of them at most. No other call
+    /// but `answer` takes memory.
+    pub fn make(
+        alloc: Global,
+        expr: Expr,
+        k: u32,
+        count: u32,
+        room: u32,
+        costs: Costs,
+        halting: Halting,
+    ) -> Result<ThresholdMachine, Memory>
+        requires asked { 1 ≤ k }
+        requires fits { k ≤ count }
+        requires counted { count ≤ MAX_OBJECTS }
+        requires roomy { 1 ≤ room }
+        requires fair { IsFair halting }
+        ensures begun { IfOk result (λ machine. IsBegun expr k count room costs machine.state) }
+        ensures rule { IfOk result (λ machine. machine.halting ≡ halting) }
+        ensures run { IfOk result MakesHaltingRun }
+    {
+        let Ok(board) = Board::make(alloc, k, room.min(count)) else {
+            expr.let_go();
+            return Err(Memory);
+        };
+        let Ok(base) = Base::make(alloc, expr, k, count, room, costs) else {
+            board.let_go();
+            return Err(Memory);
+        };
+        Ok(ThresholdMachine {
+            halting,
+            base,
+            board,
+            progress: Progress::at(1),
+        })
+    }
+
+    /// What is needed next.
+    pub fn need(&self) -> Need
+        ensures need { result ≡ self.now.state.need }
+        ensures run { MakesHaltingRun self.now }
+        ensures range { IsInRange self.now.state.log result }
+    {
+        self.progress.need(self.base.transcript.lists())
+    }
+
+    /// Tells the row that is needed. Where it is refused nothing has changed. Takes no memory.
+    pub fn feed_row(&mut self, row: Row) -> Result<(), CoreFault>
+        requires { MayBeNextRow self.old.state.log self.old.state.need row }
+        ensures fed { RowFed row self.old.state self.new.state result }
+        ensures rule { self.new.halting ≡ self.old.halting }
+        ensures run { MakesHaltingRun self.new }
+    {
+        let is_new = self.base.test_room(row.object)?;
+        self.base.tell(Access::Sorted {
+            list: self.progress.objects.len() as u8,
+            object: row.object,
+            grade: row.grade,
+        });
+        self.progress
+            .add_row(self.base.transcript.lists(), row, is_new);
+        score(&self.base, &mut self.board, &self.progress);
+        follow(self.halting, &self.base, &self.board, &mut self.progress);
+        Ok(())
+    }
+
+    /// Tells the grade that is needed. Takes no memory.
+    pub fn feed_grade(&mut self, grade: u32)
+        requires { MayBeNextGrade self.old.state.log self.old.state.need grade }
+        ensures fed { GradeFed grade self.old.state self.new.state }
+        ensures rule { self.new.halting ≡ self.old.halting }
+        ensures run { MakesHaltingRun self.new }
+    {
+        self.base.tell(Access::Random {
+            list: self.progress.grades.len() as u8,
+            object: self.progress.waiting[0],
+            grade,
+        });
+        self.progress.add_grade(grade);
+        score(&self.base, &mut self.board, &self.progress);
+        follow(self.halting, &self.base, &self.board, &mut self.progress);
+    }
+
+    /// The accesses so far.
+    pub fn transcript(&self) -> &Transcript
+        ensures log { result.now ≡ self.now.state.log }
+        ensures run { MakesHaltingRun self.now }
+    {
+        &self.base.transcript
+    }
+
+    /// The answer, once nothing is needed: the first k objects by aggregate falling, then by id rising,
+    /// each with its aggregate as both bounds, and the transcript.
+    pub fn answer(self) -> Result<Answer, Memory>
+        requires { self.state.need ≡ Need.Done }
+        ensures run { MakesHaltingRun self }
+        ensures limits { IsWithinLimits self.state.log.lists self.state.log.count }
+        ensures items { IfOk result (λ answer. IsHaltingAnswer self answer.items) }
+        ensures transcript { IfOk result (λ answer. IsSameLog answer.transcript self.state.log) }
+    {
+        let ThresholdMachine {
+            halting: _,
+            base,
+            board,
+            progress: _,
+        } = self;
+        let transcript = base.into_transcript();
+        match board.first() {
+            Ok(items) => Ok(Answer { items, transcript }),
+            Err(_) => {
+                transcript.let_go();
+                Err(Memory)
+            }
+        }
+    }
+
+    /// Lets the machine go, before it has its answer. Who owns one lets it go by this call.
+    pub fn let_go(self) {
+        let ThresholdMachine {
+            halting: _,
+            base,
+            board,
+            progress: _,
+        } = self;
+        base.let_go();
+        board.let_go();
+    }
+}
