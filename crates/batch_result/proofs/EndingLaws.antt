@@ -1,5 +1,5 @@
 -- Where sources tell tables and no call fails, each query of a batch ends over its lists.
-use Rattle.std.proofs.Common.{◌≡◌, ◌≤◌, ◌<◌, ◌==◌, ◌&&◌, ◌*◌, inl, inr, ℕ, Bool, true, false, Some, List, [], ◌∷◌, length, map, All, Contains, count_by, refl, sym, ap, subst, ◌∙◌, arith}
+use Rattle.std.proofs.Common.{◌≡◌, ◌≤◌, ◌<◌, ◌==◌, ◌&&◌, ◌*◌, inl, inr, ℕ, Bool, true, false, Some, List, [], ◌∷◌, length, All, Contains, count_by, refl, sym, ap, subst, ◌∙◌, arith}
 use Rattle.std.specs.List.{AllZip}
 use Rattle.std.proofs.lemmas.Bool.{cases_lt}
 use Rattle.std.proofs.lemmas.Bool.Decides.{eqb_tells}
@@ -8,8 +8,7 @@ use Rattle.ranked_list.specs.declared.row.Row.{Row}
 use Rattle.ranked_list.specs.declared.need.Need.{Need}
 use Rattle.ranked_list.specs.declared.need.Need.TheVariants as need
 use Rattle.ranked_list.specs.Table.{IsTable}
-use Rattle.topk_theory.specs.Transcript.{list_at}
-use Rattle.topk_theory.proofs.AgreementLists.{all_from_members, member_of_all, contains_here, contains_there}
+use Rattle.topk_theory.proofs.AgreementLists.{member_of_all, contains_here, contains_there}
 use Rattle.topk_theory.proofs.Counts.{none_counted}
 use Rattle.source_log.specs.declared.entry.FailKind.{FailKind}
 use Rattle.source_log.specs.declared.entry.FailKind.TheVariants as kind
@@ -28,10 +27,10 @@ use Rattle.query_turns.specs.Honest.{lists_of, HasTable, IsOnItsRun}
 use Rattle.query_turns.specs.Kept.{IsServed}
 use Rattle.query_turns.specs.Made.{IsOf}
 use Rattle.query_turns.proofs.Serving.{of_some_list, source_there}
-use Rattle.query_turns.proofs.Lists.{zip_member}
 use Rattle.batch_result.specs.Using.{is_refused_for, refuses_for, is_fail, IsFewFor}
 use Rattle.batch_result.specs.Batches.{BatchState, BatchRun, IsSpared, IsBatch}
 use Rattle.batch_result.specs.Tables.{lists_for, TellsTables, EndsOver}
+use Rattle.batch_result.proofs.OwnTables.{all_tables, same_lists}
 use Rattle.batch_result.proofs.RunOverLists.{ends_over}
 use Rattle.batch_result.proofs.TableLaws.{on_their_runs}
 
@@ -46,7 +45,7 @@ no_calls workers lines calls before now h none = elim (cases_lt 0 calls) [
       omega (arith, few, nothing)
 ]
 
-need_list : (n : Need) (list : ℕ) → IsOfList list n → list_needed n ≡ list
+pub need_list : (n : Need) (list : ℕ) → IsOfList list n → list_needed n ≡ list
 need_list (need.Row other depth) list h = h
 need_list (need.Grade other object) list h = h
 need_list need.Done list h = absurd h
@@ -67,7 +66,7 @@ not_both : (b : Bool) → b ≡ true → b ≡ false → ⊥
 not_both b is isnt = let bad : true ≡ false = sym is ∙ isnt in cc
 
 -- three lists, place by place
-zip_through : {A B C : Type 0} (R : A → B → Type 0) (S : B → C → Type 0) (T : A → C → Type 0) (xs : List A) (ys : List B) (zs : List C)
+pub zip_through : {A B C : Type 0} (R : A → B → Type 0) (S : B → C → Type 0) (T : A → C → Type 0) (xs : List A) (ys : List B) (zs : List C)
     → ((x : A) (y : B) (z : C) → Contains ys y → R x y → S y z → T x z) → AllZip R xs ys → AllZip S ys zs → AllZip T xs zs
 zip_through R S T [] [] [] f r s = tt
 zip_through R S T [] [] (z ∷ zs) f r s = absurd s
@@ -78,19 +77,8 @@ zip_through R S T (x ∷ xs) (y ∷ ys) (z ∷ zs) f r s =
     (f x y z (contains_here y ys) r.0 s.0, zip_through R S T xs ys zs (λ a b c m. f a b c (contains_there y ys b m)) r.1 s.1)
 
 module _ (run : BatchRun) (batch : BatchState) (lists : List (List Row)) (ran : IsBatch run batch) (tells : TellsTables run lists) where
-  -- the lists of a query are those of what it was made of
-  same_lists : (ready : Ready) (q : Inquiry) → IsOf ready q → lists_for lists ready ≡ lists_of lists q
-  same_lists ready q of = ap (map (list_at lists)) (sym of.sources)
-
-  table_of : (ready : Ready) (q : Inquiry) → IsOf ready q → IsTable ready.count (lists_for lists ready) → HasTable lists q
-  table_of ready q of table =
-      subst (λ n. IsTable n (lists_of lists q)) (sym (of.goes.count ∙ of.begun.count)) (subst (IsTable ready.count) (same_lists ready q of) table)
-
   tables : All (HasTable lists) ran.queries
-  tables = all_from_members (HasTable lists) ran.queries
-      (λ q c.
-      let from = zip_member IsOf run.readies ran.queries q ran.of c in
-      table_of from.0 q from.2 (member_of_all (λ (ready : Ready). IsTable ready.count (lists_for lists ready)) run.readies from.0 tells.tables from.1))
+  tables = all_tables lists run.readies ran.queries ran.of tells.tables
 
   runs : All (IsOnItsRun lists) ran.queries
   runs = on_their_runs run batch ran lists tells.told tables
@@ -117,7 +105,7 @@ module _ (run : BatchRun) (batch : BatchState) (lists : List (List Row)) (ran : 
 
   one_ends : (ready : Ready) (q : Inquiry) (end : Ended) → Contains ran.queries q → IsOf ready q → EndsAs q end → EndsOver (lists_for lists ready) ready end
   one_ends ready q end c of ends =
-      subst (λ D. EndsOver D ready end) (sym (same_lists ready q of))
+      subst (λ D. EndsOver D ready end) (sym (same_lists lists ready q of))
       (ends_over lists ran.states ready q (member_of_all (IsServed ran.states) ran.queries q ran.served c) of (own_table ready q of c)
       (member_of_all (IsOnItsRun lists) ran.queries q runs c) (λ list. none_refused kind.Failed why.Failed q list refl none_failed c)
       (λ list. none_refused kind.Garbled why.Garbled q list refl none_garbled c) (member_of_all IsSpared ran.queries q ran.spared c) end ends)

@@ -12,7 +12,8 @@ use Rattle.query_turns.specs.declared.inquiry.Inquiry.{Inquiry}
 use Rattle.query_turns.specs.Kept.{IsServed}
 use Rattle.query_turns.proofs.Causes.{IsLater}
 use Rattle.query_turns.proofs.Serving.{AreLater, served_stays}
-use Rattle.query_run.specs.Seen.{state_seen, states_seen}
+use Rattle.source_pool.specs.Seen.{state_seen}
+use Rattle.query_run.specs.Seen.{states_seen}
 use Rattle.query_run.proofs.SeenLaws.{state_is, seen_long}
 use Rattle.batch_result.proofs.ShutLaws.{Shut, shut_begins}
 

@@ -5,5 +5,9 @@ pub mod ShutLaws
 pub mod TruthLaws
 pub mod LaterLaws
 pub mod TableLaws
+pub mod OwnTables
 pub mod RunOverLists
 pub mod EndingLaws
+pub mod AskedLaws
+pub mod AccountLaws
+pub mod FaultLaws

@@ -1,26 +1,20 @@
 -- How a query ends that is on its run over its own lists.
-use Rattle.std.proofs.Common.{◌≡◌, ℕ, List, length, Result, Ok, Err, Some, unwrap_or, refl, sym, subst, ◌∙◌}
+use Rattle.std.proofs.Common.{◌≡◌, ℕ, List, length, Result, Ok, Err, Some, refl, subst, ◌∙◌}
 use Rattle.ranked_list.specs.declared.row.Row.{Row}
 use Rattle.ranked_list.specs.Table.{IsTable}
 use Rattle.monotone_fn.specs.Shape.{list_count}
 use Rattle.topk_theory.specs.Transcript.{whole}
 use Rattle.machine_base.specs.declared.answer.Answer.{Answer}
 use Rattle.machine_base.specs.declared.core_fault.CoreFault.TheVariants as core
-use Rattle.machine_base.specs.Machine.{MachineState, IsBegun}
 use Rattle.source_state.specs.declared.look.LookFault.TheVariants as why
 use Rattle.source_state.specs.State.{State, state_at}
-use Rattle.query_text.specs.declared.algorithm.Algorithm.{Algorithm}
-use Rattle.query_text.specs.declared.algorithm.Algorithm.TheVariants.{Ta, Nra, Ca}
-use Rattle.query_text.specs.Costs.{costs_in_force}
 use Rattle.query_core.specs.declared.drive_fault.DriveFault.{DriveFault}
 use Rattle.query_core.specs.declared.drive_fault.DriveFault.TheVariants.{RoomFull}
-use Rattle.query_core.specs.declared.machine.Machine.{Machine}
-use Rattle.query_core.specs.declared.machine.Machine.TheVariants.{Ta as TaMachine, Nra as NraMachine, Ca as CaMachine}
 use Rattle.query_core.specs.declared.ready.Ready.{Ready}
-use Rattle.query_core.specs.Driving.{Continues, AnswersOver, Drives, IsFedFrom, RunsOver}
-use Rattle.query_core.specs.Machines.{algorithm_of, state_of, IsMachineFor}
+use Rattle.query_core.specs.Driving.{AnswersOver, Drives, IsFedFrom, RunsOver}
+use Rattle.query_core.specs.Machines.{state_of}
 use Rattle.query_core.specs.OneAnswer.{IsOverRoom}
-use Rattle.query_core.proofs.Answering.{drives_ready, finishes_end, stops_first}
+use Rattle.query_core.proofs.Answering.{drives_begun, finishes_begun, stops_begun}
 use Rattle.query_turns.specs.declared.ended.Ended.{Ended}
 use Rattle.query_turns.specs.declared.ended.Ended.TheVariants as ended
 use Rattle.query_turns.specs.declared.ended.Refusal.TheVariants as refusal
@@ -32,23 +26,7 @@ use Rattle.query_turns.specs.Honest.{lists_of, MayRefuse, IsOnItsRun}
 use Rattle.query_turns.specs.Kept.{IsServed}
 use Rattle.query_turns.specs.Made.{IsOf}
 use Rattle.batch_result.specs.Batches.{IsSpared}
-use Rattle.batch_result.specs.Tables.{EndsOver}
-
--- a machine of an algorithm in a state
-abbrev machine_of : Algorithm → MachineState → Machine
-machine_of Ta t = TaMachine t
-machine_of Nra t = NraMachine t
-machine_of Ca t = CaMachine t
-
-machine_algorithm : (a : Algorithm) (t : MachineState) → algorithm_of (machine_of a t) ≡ a
-machine_algorithm Ta t = refl
-machine_algorithm Nra t = refl
-machine_algorithm Ca t = refl
-
-machine_state : (a : Algorithm) (t : MachineState) → state_of (machine_of a t) ≡ t
-machine_state Ta t = refl
-machine_state Nra t = refl
-machine_state Ca t = refl
+use Rattle.batch_result.specs.Tables.{EndsOrFails, EndsOver}
 
 -- a query on its run over its own lists, which form a table
 module _ (lists : List (List Row)) (states : List State) (ready : Ready) (q : Inquiry) (served : IsServed states q) (of : IsOf ready q)
@@ -56,41 +34,37 @@ module _ (lists : List (List Row)) (states : List State) (ready : Ready) (q : In
   abbrev D : List (List Row)
   D = lists_of lists q
 
-  -- the machine that the query began with
-  abbrev first_machine : Machine
-  first_machine = machine_of ready.query.algorithm of.first
-
-  goes_on : Continues (state_of first_machine) (state_of q.machine)
-  goes_on = subst (λ t. Continues t (state_of q.machine)) (sym (machine_state ready.query.algorithm of.first)) of.goes
-
-  is_machine : IsMachineFor ready first_machine
-  is_machine = record {
-    algorithm = machine_algorithm ready.query.algorithm of.first;
-    begun = subst (IsBegun ready.query.expr ready.query.k ready.count (unwrap_or ready.query.room ready.count) (costs_in_force ready.query)) (sym (machine_state ready.query.algorithm of.first)) of.begun;
-  }
-
-  same_algorithm : algorithm_of q.machine ≡ algorithm_of first_machine
-  same_algorithm = of.algorithm ∙ sym (machine_algorithm ready.query.algorithm of.first)
-
   fed : IsFedFrom (whole D) (state_of q.machine)
   fed = record { drawn = on.agrees.drawn; roomy = served.drawn.roomy }
 
   many_lists : length D ≡ list_count ready.query.expr
   many_lists = on.agrees.lists ∙ of.goes.lists ∙ of.begun.lists
 
-  comes : (result : Result Answer DriveFault) → Drives (algorithm_of first_machine) D (state_of first_machine) result → RunsOver ready D result
-  comes result drives = drives_ready ready D first_machine result of.is table many_lists of.is.expr.lists.some is_machine drives
+  comes : (result : Result Answer DriveFault) → Drives ready.query.algorithm D of.first result → RunsOver ready D result
+  comes result drives = drives_begun ready D ready.query.algorithm of.first result of.is table many_lists of.is.expr.lists.some refl of.begun drives
 
   pub answers_over : (answer : Answer) → EndsAs q (ended.Answered answer) → AnswersOver ready D answer
   answers_over answer ends =
-      comes (Ok answer) (finishes_end D first_machine q.machine (Ok answer) same_algorithm goes_on fed ends.done (served.run, ends.items, ends.log))
+      comes (Ok answer) (finishes_begun D ready.query.algorithm of.first q.machine (Ok answer) of.algorithm of.goes fed ends.done (served.run, ends.items, ends.log))
 
   pub is_over : (room : ℕ) → q.refusal ≡ Some (refusal.Core (core.RoomFull room)) → IsOverRoom ready.query ready.count D room
   is_over room e =
       let may : MayRefuse D q (Some (refusal.Core (core.RoomFull room))) = subst (MayRefuse D q) e on.refused in
       let cause : IsCause (state_at states (source_needed q)) (state_of q.machine) q.waiting.noted (Some (refusal.Core (core.RoomFull room))) =
       subst (IsCause (state_at states (source_needed q)) (state_of q.machine) q.waiting.noted) e served.cause in
-      comes (Err (RoomFull room)) (stops_first D first_machine q.machine (RoomFull room) same_algorithm goes_on (cause.2, may.0, may.1))
+      comes (Err (RoomFull room)) (stops_begun D ready.query.algorithm of.first q.machine (RoomFull room) of.algorithm of.goes (cause.2, may.0, may.1))
+
+  -- whatever failed, the query ends over its lists, or is refused for a call that failed
+  pub ends_or_fails : IsSpared q → (end : Ended) → EndsAs q end → EndsOrFails D ready end
+  ends_or_fails spared (ended.Answered answer) ends = answers_over answer ends
+  ends_or_fails spared (ended.Core (core.RoomFull room)) ends = is_over room ends
+  ends_or_fails spared (ended.Core (core.Strangers object count)) ends = subst (MayRefuse D q) ends on.refused
+  ends_or_fails spared (ended.Look list (why.Source fault)) ends = subst (MayRefuse D q) ends on.refused
+  ends_or_fails spared (ended.Look list (why.Missing object)) ends = subst (MayRefuse D q) ends on.refused
+  ends_or_fails spared (ended.Look list (why.AsksFull kept)) ends = subst (MayRefuse D q) ends on.refused
+  ends_or_fails spared (ended.Look list why.Failed) ends = tt
+  ends_or_fails spared (ended.Look list why.Garbled) ends = tt
+  ends_or_fails spared (ended.Look list why.Memory) ends = spared list ends
 
   -- where no call that failed refuses it, the query ends over its lists
   pub ends_over : ((list : ℕ) → q.refusal ≡ Some (refusal.Look list why.Failed) → ⊥) → ((list : ℕ) → q.refusal ≡ Some (refusal.Look list why.Garbled) → ⊥)

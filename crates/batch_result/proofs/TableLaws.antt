@@ -163,7 +163,7 @@ module _ (run : BatchRun) (batch : BatchState) (ran : IsBatch run batch) (lists 
   agrees q c = told_agrees lists ran.states q all_sound (served q c) (table q c)
       (λ list l. (read_of q (source_of q list) c (contains_at q.sources.items list 0 l)).tells)
 
-  is_true : (q : Inquiry) (source : ℕ) → Contains ran.queries q → Contains q.sources.items source → IsTrueOf (list_at lists source) (state_at ran.states source)
+  pub is_true : (q : Inquiry) (source : ℕ) → Contains ran.queries q → Contains q.sources.items source → IsTrueOf (list_at lists source) (state_at ran.states source)
   is_true q source c s =
       let read = read_of q source c s in
       read.honest.honest read.ranked read.long

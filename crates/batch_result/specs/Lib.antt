@@ -3,3 +3,5 @@ pub mod Numbered
 pub mod Using
 pub mod Batches
 pub mod Tables
+pub mod Account
+pub mod ToldFaults

@@ -6,6 +6,7 @@ use Rattle.ranked_list.specs.Table.{IsTable}
 use Rattle.topk_theory.specs.Transcript.{list_at}
 use Rattle.machine_base.specs.declared.core_fault.CoreFault.TheVariants.{RoomFull}
 use Rattle.source_api.specs.declared.counts.Counts.{Counts}
+use Rattle.source_state.specs.declared.look.LookFault.TheVariants as why
 use Rattle.query_core.specs.declared.ready.Ready.{Ready}
 use Rattle.query_core.specs.Driving.{AnswersOver}
 use Rattle.query_core.specs.OneAnswer.{IsOverRoom}
@@ -34,3 +35,11 @@ abbrev pub EndsOver : List (List Row) → Ready → Ended → Type 0
 EndsOver D ready (ended.Answered answer) = AnswersOver ready D answer
 EndsOver D ready (ended.Core (RoomFull room)) = IsOverRoom ready.query ready.count D room
 EndsOver _ _ _ = ⊥
+
+-- how a query ends over its lists D whatever failed: as it does alone, or refused because a call failed or was answered by garbled data
+abbrev pub EndsOrFails : List (List Row) → Ready → Ended → Type 0
+EndsOrFails D ready (ended.Answered answer) = AnswersOver ready D answer
+EndsOrFails D ready (ended.Core (RoomFull room)) = IsOverRoom ready.query ready.count D room
+EndsOrFails D ready (ended.Look list why.Failed) = Unit {0}
+EndsOrFails D ready (ended.Look list why.Garbled) = Unit {0}
+EndsOrFails _ _ _ = ⊥

@@ -1,11 +1,16 @@
 //! Laws of batches whose sources tell their lists.
 
-ghost use Rattle.std.specs.Prelude.{◌≡◌, Some, List, All, map};
+ghost use Rattle.std.specs.Prelude.{◌≡◌, ◌<◌, ℕ, Some, List, All, length, map};
 ghost use Rattle.std.specs.List.{AllZip};
 ghost use Rattle.ranked_list.specs.declared.row.Row.{Row};
 ghost use Rattle.query_turns.specs.Honest.{HasTable, IsOnItsRun};
-ghost use Rattle.batch_result.specs.Batches.{BatchState, BatchRun, IsBatch};
-ghost use Rattle.batch_result.specs.Tables.{TellsTables, EndsOver, lists_for};
+ghost use Rattle.ranked_list.specs.Table.{IsTable};
+ghost use Rattle.topk_theory.specs.Transcript.{list_at};
+ghost use Rattle.source_state.specs.State.{state_at};
+ghost use Rattle.batch_result.specs.Account.{IsAnsweredOf, IsWithin, KeepsEach, one_readings, printed_readings};
+ghost use Rattle.batch_result.specs.Batches.{BatchState, BatchRun, IsBatch, size_at, use_at};
+ghost use Rattle.batch_result.specs.Tables.{TellsTables, EndsOver, EndsOrFails, lists_for};
+ghost use Rattle.batch_result.specs.ToldFaults.{HasToldCause};
 
 /// Where each source tells its list, and the lists of each query form a table, each query's transcript is how the run of its algorithm
 /// over them begins, and it is refused for its room or for a call that failed alone.
@@ -19,4 +24,38 @@ pub fn queries_are_on_their_runs()
 pub fn told_tables_give_the_one_ending()
     ensures { (run : BatchRun) (batch : BatchState) (lists : List (List Row)) → IsBatch run batch → TellsTables run lists
         → AllZip (λ ready. EndsOver (lists_for lists ready) ready) run.readies batch.endings }
+{}
+
+/// Where each source tells its list, and the lists of each query form a table, no row of a source is wanted below the greatest depth to which
+/// the one run of a query reads it, and no more rows come than its reach; no more objects are asked than these runs make random accesses
+/// to it, and no more grades come. Each row that came is kept, so the pages follow one another and none has a row twice.
+pub fn told_tables_bound_the_uses()
+    ensures within { (run : BatchRun) (batch : BatchState) → IsBatch run batch → (lists : List (List Row)) → run.told ≡ map Some lists
+        → All (λ ready. IsTable ready.count (lists_for lists ready)) run.readies → (source : ℕ) → source < length run.sizes
+        → IsWithin run.settings (size_at run.sizes source) source (one_readings lists run.readies) (use_at batch.uses source) }
+    ensures kept { (run : BatchRun) (batch : BatchState) → (ran : IsBatch run batch) → (lists : List (List Row)) → run.told ≡ map Some lists
+        → All (λ ready. IsTable ready.count (lists_for lists ready)) run.readies → (source : ℕ) → source < length run.sizes
+        → KeepsEach (list_at lists source) (state_at ran.states source) (use_at batch.uses source) }
+{}
+
+/// Whatever the sources tell: where each query that reads a source is answered, no more is used of it than by the transcripts of the answers.
+pub fn answers_bound_the_uses()
+    ensures { (run : BatchRun) (batch : BatchState) → IsBatch run batch → (source : ℕ) → source < length run.sizes
+        → AllZip (IsAnsweredOf source) run.readies batch.endings
+        → IsWithin run.settings (size_at run.sizes source) source (printed_readings run.readies batch.endings) (use_at batch.uses source) }
+{}
+
+/// Where the sources tell lists that form a table for each query, no query is refused for what was read of a list: whatever failed, each is
+/// answered by the one answer over its lists, or refused for its room, or for a call that failed or was answered by garbled data.
+pub fn told_tables_end_or_fail()
+    ensures { (run : BatchRun) (batch : BatchState) → IsBatch run batch → (lists : List (List Row)) → run.told ≡ map Some lists
+        → All (λ ready. IsTable ready.count (lists_for lists ready)) run.readies
+        → AllZip (λ ready. EndsOrFails (lists_for lists ready) ready) run.readies batch.endings }
+{}
+
+/// A query is refused for a row or a grade of a list that is told only where that list has this fault: its grades rise there, one is too high, or
+/// it is shorter than its source states, and never for an object that comes twice; and for an object that is missing only where the list
+/// hasn't it.
+pub fn told_lists_have_their_faults()
+    ensures { (run : BatchRun) (batch : BatchState) → IsBatch run batch → AllZip (HasToldCause run.told) run.readies batch.endings }
 {}

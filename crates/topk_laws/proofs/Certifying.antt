@@ -30,7 +30,7 @@ use Rattle.query_core.proofs.Answering.{answered_short}
 use Rattle.query_admission.specs.Becomes.{AnswersLine}
 use Rattle.bundle_calls.specs.Bundled.{bundle_line}
 use Rattle.bundle_calls.proofs.Bundling.{told_table}
-use Rattle.topk_laws.proofs.Honest.{AreReached, bounds_reached}
+use Rattle.query_core.proofs.GivenBounds.{AreReached, bounds_reached}
 use Rattle.topk_laws.proofs.Fixing.{fixed_of}
 use Rattle.query_admission.proofs.Becoming.{cost_small}
 

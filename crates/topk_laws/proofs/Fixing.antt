@@ -24,14 +24,15 @@ use Rattle.monotone_fn.specs.Limits.{IsExpr}
 use Rattle.query_text.specs.Query.{IsLawful}
 use Rattle.query_text.specs.Costs.{costs_in_force}
 use Rattle.cert_text.specs.Outcome.{certificate_of}
-use Rattle.query_core.specs.OneAnswer.{asked_by, IsAnswered}
+use Rattle.query_core.specs.OneAnswer.{asked_by, method_for, IsAnswered}
 use Rattle.judge_core.specs.Judging.{IsFair, IsWildAfter}
 use Rattle.cert_judge.specs.declared.judgement.Judgement.{Judgement}
 use Rattle.cert_judge.specs.declared.judgement.Judgement.TheVariants.{BadLine, Inconsistent, WildGuess, WrongSize, UnseenAnswer, Figure, Fixes as IsFixed, Beaten}
 use Rattle.cert_judge.specs.Transcripts.{log_of, front}
 use Rattle.cert_judge.specs.Figures.{HasItsFigures, item_figures}
 use Rattle.cert_judge.specs.Judging.{TellsOfCertificate}
-use Rattle.topk_laws.proofs.Honest.{tame_by, seen_by, bounded_by, IsRunOn}
+use Rattle.query_core.proofs.AllFacts.{facts}
+use Rattle.query_core.proofs.Facts.{IsRunOn}
 
 -- the certificate is of a transcript that fixes its answer, with its figures
 pub record IsFixedBy (c : Certificate) : Type 0 where
@@ -88,7 +89,7 @@ fixed_of q n answer lawful expr fits right =
     let m = list_count q.expr in
     let A = answer.transcript.accesses in
     let some : SomeAgrees m n A = (right.some.0, agrees_as answer.transcript.lists answer.transcript.count m n right.some.0 A right.lists right.count right.some.1) in
-    let every : (D : List (List Row)) → Agrees m n D A → IsRunOn q.algorithm (asked_by q) n A answer.items D = λ D agrees.
+    let every : (D : List (List Row)) → Agrees m n D A → IsRunOn (method_for q) (asked_by q) n A answer.items D = λ D agrees.
     let one = right.every D (agrees_as m n answer.transcript.lists answer.transcript.count D A (sym right.lists) (sym right.count) agrees) in
     record {
       is_asked = record { table = agrees.table; lists = omega (arith, agrees.lists, expr.lists.some); positive = lawful.k.0; fits = fits };
@@ -97,15 +98,15 @@ fixed_of q n answer lawful expr fits right =
     } in
     let D = some.0 in
     let on = every D some.1 in
-    let tame : IsTame A = subst IsTame (sym on.run) (tame_by q.algorithm (asked_by q) n D (value-monotone q.expr) on.is_asked) in
+    let tame : IsTame A = subst IsTame (sym on.run) ((facts (method_for q)).tame (asked_by q) n D (value-monotone q.expr) on.is_asked) in
     let seen : All (Contains (seen_objects A)) (item_objects answer.items) =
     subst (λ items. All (Contains (seen_objects A)) (item_objects items)) (sym on.exact)
-    (subst (λ B. All (Contains (seen_objects B)) (item_objects (items_by q.algorithm (asked_by q) D))) (sym on.run) (seen_by q.algorithm (asked_by q) n D (value-monotone q.expr) on.is_asked)) in
+    (subst (λ B. All (Contains (seen_objects B)) (item_objects (items_by q.algorithm (asked_by q) D))) (sym on.run) ((facts (method_for q)).seen (asked_by q) n D (value-monotone q.expr) on.is_asked)) in
     record {
       some = some;
       tame = tame;
       seen = seen;
-      each = λ item c. bounded_by q.algorithm (asked_by q) m n A answer.items item expr.lists.some some
+      each = λ item c. (facts (method_for q)).given (asked_by q) m n A answer.items item expr.lists.some some
           (seen_is_named A item.object (member_of_all (Contains (seen_objects A)) (item_objects answer.items) item.object seen (contains_map (λ (i : Item). i.object) answer.items item c))) every c;
     }
 

@@ -22,7 +22,7 @@ use Rattle.topk_laws.specs.Giving.{GaveWhatIsAsked, RoseByGiven}
 use Rattle.topk_laws.proofs.FewLines.{sum_turned}
 
 -- a count of what was given, from none on
-given_from_none : (number most before now : ℕ) → before ≡ 0 → raised now 0 ≡ raised before number → number ≤ most → most ≤ 200000 → now ≤ most
+pub given_from_none : (number most before now : ℕ) → before ≡ 0 → raised now 0 ≡ raised before number → number ≤ most → most ≤ 200000 → now ≤ most
 given_from_none number most before now none up few small = omega (arith, none, up, few, small)
 
 -- by what was used of a source that had given nothing, and its closing state

@@ -5,10 +5,10 @@ pub mod Becoming
 pub mod Failures
 pub mod FewLines
 pub mod Given
+pub mod ReadGiven
 pub mod Right
 pub mod OneOver
 -- Lemmas on what calls write.
-mod Honest
 mod Fixing
 mod Certifying
 mod AnswersFixed

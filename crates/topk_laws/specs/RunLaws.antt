@@ -1,5 +1,5 @@
 -- What a run comes to where all that it reads is told.
-use Rattle.std.specs.Prelude.{◌≡◌, ◌⊎◌, ◌≤◌, ◌<◌, ℕ, List, length, Option, Some}
+use Rattle.std.specs.Prelude.{◌≡◌, ◌⊎◌, ◌≤◌, ℕ, List, length, Option, Some}
 use Rattle.tk_io.specs.Faults.{Rose}
 use Rattle.line_text.specs.Lines.{lines}
 use Rattle.ranked_list.specs.declared.row.Row.{Row}
@@ -10,13 +10,11 @@ use Rattle.command_words.specs.Commands.{command_of}
 use Rattle.command_words.specs.declared.command.Command.TheVariants.{Run}
 use Rattle.command_words.specs.declared.running.RunOptions.{RunOptions}
 use Rattle.limits.specs.declared.settings.Settings.{Settings}
-use Rattle.batch_result.specs.Numbered.{counts_at}
-use Rattle.batch_result.specs.Batches.{size_at}
-use Rattle.catalog_open.specs.Openings.{used_at, put_back}
+use Rattle.catalog_run.specs.Runs.{CatalogRun, IsRun}
 use Rattle.query_admission.specs.declared.line_outcome.LineOutcome.{LineOutcome}
 use Rattle.topk_laws.specs.Told.{AllBecome, ShelfTellsTables, view_told}
 use Rattle.topk_laws.specs.Failures.{RefusesFew}
-use Rattle.topk_laws.specs.Giving.{GaveWhatIsAsked, RoseByGiven}
+use Rattle.topk_laws.specs.Giving.{EachGaveSparingly, EachPlaceRose}
 use Rattle.call_ends.specs.Calls.{Call, WroteWhole, input_limit}
 use Rattle.call_ends.specs.Shelves.{Shelf, TextFailed}
 use Rattle.catalog_calls.specs.Running.{RefusesCatalog, RepliesToLines, outcomes_text, lines_run, run_status}
@@ -96,19 +94,16 @@ SettingsChangeNothing =
     (o p : RunOptions) (c d : Call) (status other : Status) (catalog : List Entry) (bytes : List ℕ) → TellTheSame o p c d catalog bytes
     → CallEnds c status → CallEnds d other → (status ≡ Memory) ⊎ ((other ≡ Memory) ⊎ WroteTheSame c d status other)
 
--- what stands behind the reply to lines: a source gave no more than the lines asked of it, from when it was opened until it was put back, and what the
--- shelf counted at a place rose by that; and the lines that were refused because calls of a place's sources failed, or were answered by garbled data, are
--- no more than the workers times such calls
-pub record IsSparing (settings : Settings) (text bytes : List ℕ) (before after : Shelf) (status : Status) (said : List ℕ)
-    (r : RepliesToLines settings text bytes before after status said) : Type 0 where
-  pub gave : (source : ℕ) → source < length r.run.sources.places
-      → GaveWhatIsAsked settings r.run.ran.ran.queries source (size_at r.run.sources.counts source) (counts_at r.run.now source)
-  pub counted : (place : List ℕ)
-      → RoseByGiven (before.at place) (after.at place) (used_at place (put_back r.catalog r.run.sources.places r.run.now))
-  pub refused : (place : List ℕ) → RefusesFew (lines_run settings r.catalog (lines bytes) before after) r.outcomes place
+-- a run of lines is sparing: a source gave no more than the lines asked of it, and no more than their one runs read of it; what the shelf counted at a
+-- place rose by that; and the lines that were refused because calls of a place's sources failed, or were answered by garbled data, are no more than the
+-- workers times such calls
+pub record IsSparing (r : CatalogRun) (outcomes : List LineOutcome) (run : IsRun r outcomes) : Type 0 where
+  pub gave : EachGaveSparingly r outcomes run
+  pub counted : EachPlaceRose r outcomes run
+  pub refused : (place : List ℕ) → RefusesFew r outcomes place
 
 -- each reply to lines is sparing, however many they are
 abbrev pub RepliesAreSparing : Type 0
 RepliesAreSparing =
     (settings : Settings) (text bytes : List ℕ) (before after : Shelf) (status : Status) (said : List ℕ)
-    (r : RepliesToLines settings text bytes before after status said) → IsSparing settings text bytes before after status said r
+    (r : RepliesToLines settings text bytes before after status said) → IsSparing (lines_run settings r.catalog (lines bytes) before after) r.outcomes r.run

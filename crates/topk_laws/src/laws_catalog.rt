@@ -1,16 +1,14 @@
 //! Laws of runs of query lines.
 
-ghost use Rattle.std.specs.Prelude.{◌<◌, ℕ, List, All, length};
+ghost use Rattle.std.specs.Prelude.{ℕ, List, All};
+ghost use Rattle.ranked_list.specs.declared.row.Row.{Row};
 ghost use Rattle.query_turns.specs.Causes.{IsRefusedForCause};
-ghost use Rattle.batch_result.specs.Batches.{size_at};
-ghost use Rattle.batch_result.specs.Numbered.{counts_at};
-ghost use Rattle.catalog_open.specs.Openings.{put_back, used_at};
 ghost use Rattle.query_admission.specs.declared.line_outcome.LineOutcome.{LineOutcome as AnyOutcome};
 ghost use Rattle.catalog_run.specs.Runs.{CatalogRun, IsRun};
 ghost use Rattle.topk_laws.specs.Told.{AllBecome, ShelfTellsTables, view_told};
 ghost use Rattle.topk_laws.specs.Answers.{IsOneOverTold, IsRightLine};
 ghost use Rattle.topk_laws.specs.Failures.{HasFailure, RefusesFew};
-ghost use Rattle.topk_laws.specs.Giving.{GaveWhatIsAsked, RoseByGiven};
+ghost use Rattle.topk_laws.specs.Giving.{EachGaveSparingly, EachPlaceRose, LinesHaveTables};
 
 use batch_result::queries_are_on_their_runs;
 
@@ -49,11 +47,14 @@ pub fn failures_refuse_few_lines()
 {}
 
 /// However many the lines, a source gives no row beyond the reach of the greatest depth to which one of them asked, and no more grades than
-/// there are objects whose grades were asked for, from when it is opened until it is put back. What the shelf counts of a place rises by
-/// what the open sources of the place gave, and by no more.
+/// there are objects whose grades were asked for, from when it is opened until it is put back. Where the sources tell lists that form tables
+/// for the lines that ran, the depth is at most the greatest to which the one run of a line reads the source, and the grades are no more than
+/// the random accesses that these runs make to it; where each line that reads the source is answered, the same holds of the transcripts of
+/// the answers. Where the shelf tells tables and nothing fails, the sources do so. What the shelf counts of a place rises by what the open
+/// sources of the place gave, and by no more.
 pub fn sources_give_what_is_asked()
-    ensures sources { (r : CatalogRun) (outcomes : List AnyOutcome) → (run : IsRun r outcomes) → (source : ℕ) → source < length run.sources.places
-        → GaveWhatIsAsked r.settings run.ran.ran.queries source (size_at run.sources.counts source) (counts_at run.now source) }
-    ensures places { (r : CatalogRun) (outcomes : List AnyOutcome) → (run : IsRun r outcomes) → (place : List ℕ)
-        → RoseByGiven (r.before place) (r.after place) (used_at place (put_back r.catalog run.sources.places run.now)) }
+    ensures sources { (r : CatalogRun) (outcomes : List AnyOutcome) → (run : IsRun r outcomes) → EachGaveSparingly r outcomes run }
+    ensures tables { (r : CatalogRun) (outcomes : List AnyOutcome) → (run : IsRun r outcomes) → ShelfTellsTables r
+        → (lists : List (List Row)) × LinesHaveTables r outcomes run lists }
+    ensures places { (r : CatalogRun) (outcomes : List AnyOutcome) → (run : IsRun r outcomes) → EachPlaceRose r outcomes run }
 {}

@@ -30,7 +30,8 @@ pub fn settings_change_nothing()
 }
 
 /// However many the lines of a run, no source gives a row beyond the reach of the greatest depth to which one of them asked, nor more
-/// grades than there are objects whose grades were asked for. And one failure isn't for ever: the lines that are refused because calls of
+/// grades than there are objects whose grades were asked for; over told tables these are at most the greatest depth to which the one run of
+/// a line reads the source, and the random accesses of all these runs to it. And one failure isn't for ever: the lines that are refused because calls of
 /// a place's sources failed, or were answered by garbled data, are no more than the workers times such calls, unless their count stands at
 /// its last value.
 pub fn replies_are_sparing()

@@ -1,5 +1,5 @@
 use Rattle.topk_theory.proofs.AgreementLists.{all_from_members, member_of_all}
-use Rattle.query_turns.specs.Causes.{HasCause}
+use Rattle.query_turns.specs.Causes.{IsRefusedForCause}
 use Rattle.query_turns.specs.Kept.{IsServed}
 use Rattle.catalog_open.specs.Views.{nothing_told, view_over}
 use Rattle.topk_laws.proofs.Right.{lines_right}
@@ -11,4 +11,4 @@ returns-clause-answers c = λ r outcomes run. lines_right (view_over r.catalog r
 pub returns-clause-refusals : goal.returns-clause-refusals
 returns-clause-refusals c = λ r outcomes run.
     let b = run.ran.ran in
-    all_from_members (HasCause b.states) b.queries (λ q m. (member_of_all (IsServed b.states) b.queries q b.served m).cause)
+    all_from_members (IsRefusedForCause b.states) b.queries (λ q m. (member_of_all (IsServed b.states) b.queries q b.served m).cause)

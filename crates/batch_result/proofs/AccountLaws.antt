@@ -1,0 +1,196 @@
+-- No more was used of a source than the queries of a batch read of it.
+use Rattle.std.proofs.Common.{◌≡◌, ◌≤◌, ◌<◌, ◌+◌, inl, inr, ℕ, Some, List, [], ◌∷◌, ◌++◌, append-nil, length, map, take, drop, All, Contains, refl, sym, ap, subst, ◌∙◌, arith}
+use Rattle.std.specs.List.{AllZip}
+use Rattle.std.proofs.lemmas.List.{length-append}
+use Rattle.std.proofs.lemmas.List.Elements.{All-tail}
+use Rattle.std.proofs.lemmas.List.Sums.{sum_by-cons}
+use Rattle.ranked_list.specs.declared.row.Row.{Row}
+use Rattle.ranked_list.specs.Table.{IsTable}
+use Rattle.topk_theory.specs.Transcript.{list_at}
+use Rattle.topk_theory.proofs.AgreementLists.{begins_splits, contains_at, contains_cases, contains_here, contains_map, contains_nil, contains_there, member_of_all}
+use Rattle.access_log.specs.Log.{AgreesWith}
+use Rattle.machine_base.specs.Machine.{asked_of}
+use Rattle.source_log.specs.Log.{rows_in}
+use Rattle.source_state.specs.State.{State, state_at}
+use Rattle.source_state.specs.Looking.{reach_of}
+use Rattle.query_core.specs.declared.ready.Ready.{Ready}
+use Rattle.query_core.specs.Algorithms.{run_by}
+use Rattle.query_core.specs.Machines.{algorithm_of, state_of}
+use Rattle.query_core.specs.OneAnswer.{one_run}
+use Rattle.query_core.proofs.Answering.{asked_same}
+use Rattle.query_turns.specs.declared.ended.Ended.{Ended}
+use Rattle.query_turns.specs.declared.ended.Ended.TheVariants as ended
+use Rattle.query_turns.specs.declared.inquiry.Inquiry.{Inquiry}
+use Rattle.query_turns.specs.Endings.{EndsAs}
+use Rattle.query_turns.specs.Honest.{lists_of, HasTable, IsOnItsRun}
+use Rattle.query_turns.specs.Kept.{IsServed}
+use Rattle.query_turns.specs.Made.{IsOf}
+use Rattle.query_run.specs.Asking.{access_of, accesses_asked, grades_asked}
+use Rattle.fetcher.specs.Causes.{HasGiven}
+use Rattle.batch_result.specs.Account.{Reading, IsAnsweredOf, IsWithin, KeepsEach, deepest, depth_in, one_reading, one_readings, printed_reading, printed_readings, random_accesses, random_in}
+use Rattle.batch_result.specs.Batches.{BatchRun, BatchState, IsBatch, size_at, use_at}
+use Rattle.batch_result.specs.Tables.{lists_for}
+use Rattle.batch_result.specs.Using.{IsWantedBy, all_grades_asked}
+use Rattle.batch_result.proofs.AskedLaws.{AsksWithin, GoesNoFurther, asked_of_run, asks_nothing, greatest_above, same_far, within_reading}
+use Rattle.batch_result.proofs.OwnTables.{all_tables, same_lists}
+use Rattle.batch_result.proofs.TableLaws.{is_true, on_their_runs}
+
+-- ---- all queries
+-- the second of a pair of lists, place by place
+zip_other : {A B : Type 0} (R : A → B → Type 0) (xs : List A) (ys : List B) (x : A) → AllZip R xs ys → Contains xs x → (y : B) × Contains ys y × R x y
+zip_other R [] ys x h c = absurd (contains_nil x c)
+zip_other R (w ∷ xs) [] x h c = absurd h
+zip_other R (w ∷ xs) (y ∷ ys) x h c =
+    elim (contains_cases w xs x c) [
+      | inl same ↦ (y, contains_here y ys, subst (λ a. R a y) same h.0)
+      | inr there ↦ let rest = zip_other R xs ys x h.1 there in (rest.0, contains_there y ys rest.0 rest.1, rest.2)
+    ]
+
+deep_within : (source depth : ℕ) (queries : List Inquiry) (readings : List Reading) → AllZip (AsksWithin source) queries readings
+    → IsWantedBy queries source depth → depth ≤ deepest source readings
+deep_within source depth queries readings h wanted = elim wanted [
+  | inl none ↦ omega (arith, none)
+  | inr asked ↦
+      let with = zip_other (AsksWithin source) queries readings asked.0 h asked.1 in
+      let deep = with.2.deep depth asked.2 in
+      let above = greatest_above (map (depth_in source) readings) (depth_in source with.0) (contains_map (depth_in source) readings with.0 with.1) in
+      omega (arith, deep, above)
+]
+
+random_within : (source : ℕ) (queries : List Inquiry) (readings : List Reading) → AllZip (AsksWithin source) queries readings
+    → all_grades_asked queries source ≤ random_accesses source readings
+random_within source [] [] h =
+    let none : all_grades_asked [] source ≡ 0 = refl in
+    omega (arith, none)
+random_within source [] (r ∷ readings) h = absurd h
+random_within source (q ∷ queries) [] h = absurd h
+random_within source (q ∷ queries) (r ∷ readings) h =
+    let first = h.0.random in
+    let rest = random_within source queries readings h.1 in
+    let asked : all_grades_asked (q ∷ queries) source ≡ grades_asked q source + all_grades_asked queries source = sum_by-cons (λ (p : Inquiry). grades_asked p source) q queries in
+    let made : random_accesses source (r ∷ readings) ≡ random_in source r + random_accesses source readings = sum_by-cons (random_in source) r readings in
+    omega (arith, first, rest, asked, made)
+
+-- ---- one query
+-- what a query asked for goes no further than its one run
+no_further : (lists : List (List Row)) (states : List State) (ready : Ready) (q : Inquiry) → (of : IsOf ready q) → (served : IsServed states q)
+    → AgreesWith (lists_of lists q) (state_of q.machine).log → GoesNoFurther (accesses_asked q) (one_run ready.query (lists_for lists ready))
+no_further lists states ready q of served agrees =
+    let t = state_of q.machine in
+    let D = lists_of lists q in
+    let same : run_by (algorithm_of q.machine) (asked_of t) D ≡ one_run ready.query (lists_for lists ready)
+    = ap (λ a. run_by a (asked_of t) D) of.algorithm
+    ∙ (ap (λ x. run_by ready.query.algorithm x D) (asked_same ready.query ready.count _ of.first t of.begun of.goes)
+    ∙ ap (one_run ready.query) (sym (same_lists lists ready q of))) in
+    subst (GoesNoFurther (accesses_asked q)) same
+    (asked_of_run (run_by (algorithm_of q.machine) (asked_of t) D) t.log.accesses t.need (served.run.on_run D agrees))
+
+-- and no further than its transcript, where it was answered
+printed_within : (states : List State) (source : ℕ) (ready : Ready) (q : Inquiry) (end : Ended) → IsServed states q → (of : IsOf ready q) → EndsAs q end
+    → IsAnsweredOf source ready end → AsksWithin source q (printed_reading ready end)
+printed_within states source ready q (ended.Answered answer) served of ends answered =
+    let A = (state_of q.machine).log.accesses in
+    let all : accesses_asked q ≡ answer.transcript.accesses = ap (λ n. A ++ access_of n) ends.done ∙ (append-nil A ∙ sym ends.log.accesses) in
+    within_reading source q (printed_reading ready (ended.Answered answer)) (sym of.sources) (same_far (accesses_asked q) answer.transcript.accesses all)
+printed_within states source ready q (ended.Core fault) served of ends answered =
+    asks_nothing states source q (printed_reading ready (ended.Core fault)) served (λ c. answered (subst (λ xs. Contains xs source) of.sources c))
+printed_within states source ready q (ended.Look list fault) served of ends answered =
+    asks_nothing states source q (printed_reading ready (ended.Look list fault)) served (λ c. answered (subst (λ xs. Contains xs source) of.sources c))
+
+all_printed : (states : List State) (source : ℕ) (readies : List Ready) (queries : List Inquiry) (endings : List Ended) → All (IsServed states) queries
+    → AllZip IsOf readies queries → AllZip EndsAs queries endings → AllZip (IsAnsweredOf source) readies endings
+    → AllZip (AsksWithin source) queries (printed_readings readies endings)
+all_printed states source [] [] [] served of ends answered = tt
+all_printed states source [] [] (end ∷ endings) served of ends answered = absurd ends
+all_printed states source [] (q ∷ queries) endings served of ends answered = absurd of
+all_printed states source (ready ∷ readies) [] endings served of ends answered = absurd of
+all_printed states source (ready ∷ readies) (q ∷ queries) [] served of ends answered = absurd ends
+all_printed states source (ready ∷ readies) (q ∷ queries) (end ∷ endings) served of ends answered = (
+  printed_within states source ready q end (member_of_all (IsServed states) (q ∷ queries) q served (contains_here q queries)) of.0 ends.0 answered.0,
+  all_printed states source readies queries endings (All-tail (IsServed states) q queries served) of.1 ends.1 answered.1,
+)
+
+-- ---- a batch
+-- a source that gave no row keeps none
+none_kept : (number count : ℕ) (s : State) → HasGiven number count s.log → number ≤ 0 → rows_in s.log ≡ []
+none_kept number count s h none =
+    let many = h.many in
+    let split : length h.given ≡ length (rows_in s.log) + length (drop (length (rows_in s.log)) h.given) =
+    ap (length {A = Row}) (begins_splits (rows_in s.log) h.given h.comes.rows) ∙ length-append (rows_in s.log) (drop (length (rows_in s.log)) h.given) in
+    nothing (rows_in s.log) (omega (arith, many, split, none))
+  where
+    nothing : (xs : List Row) → length xs ≤ 0 → xs ≡ []
+    nothing [] l = refl
+    nothing (x ∷ xs) l = absurd (omega (arith, l))
+
+reach_none : (want page ahead count rows : ℕ) → want ≡ 0 → rows ≤ reach_of want page ahead count → rows ≤ 0
+reach_none want page ahead count rows none l = subst (λ w. rows ≤ reach_of w page ahead count) none l
+
+module _ (run : BatchRun) (batch : BatchState) (ran : IsBatch run batch) where
+  within : (readings : List Reading) (source : ℕ) → source < length run.sizes → AllZip (AsksWithin source) ran.queries readings
+      → IsWithin run.settings (size_at run.sizes source) source readings (use_at batch.uses source)
+  within readings source l h =
+      let used = ran.used source l in
+      let most = used.asked in
+      let all = random_within source ran.queries readings h in
+      record {
+        want = deep_within source (use_at batch.uses source).want ran.queries readings h used.wanted;
+        rows = subst (λ n. (use_at batch.uses source).rows ≤ reach_of (use_at batch.uses source).want run.settings.page run.settings.ahead n)
+            (ran.closing source l).count used.reach;
+        asks = omega (arith, most, all);
+        grades = used.once;
+      }
+
+  -- where each query that reads the source was answered
+  pub printed_account : (source : ℕ) → source < length run.sizes → AllZip (IsAnsweredOf source) run.readies batch.endings
+      → IsWithin run.settings (size_at run.sizes source) source (printed_readings run.readies batch.endings) (use_at batch.uses source)
+  printed_account source l answered =
+      within (printed_readings run.readies batch.endings) source l
+      (all_printed ran.states source run.readies ran.queries batch.endings ran.served ran.of ran.ends answered)
+
+  -- where the sources tell tables
+  module _ (lists : List (List Row)) (told : run.told ≡ map Some lists)
+      (tables : All (λ ready. IsTable ready.count (lists_for lists ready)) run.readies) where
+    own : All (HasTable lists) ran.queries
+    own = all_tables lists run.readies ran.queries ran.of tables
+
+    runs : All (IsOnItsRun lists) ran.queries
+    runs = on_their_runs run batch ran lists told own
+
+    reads : (source : ℕ) (ready : Ready) (q : Inquiry) → Contains ran.queries q → IsOf ready q → AsksWithin source q (one_reading lists ready)
+    reads source ready q c of =
+        within_reading source q (one_reading lists ready) (sym of.sources)
+        (no_further lists ran.states ready q of (member_of_all (IsServed ran.states) ran.queries q ran.served c)
+        (member_of_all (IsOnItsRun lists) ran.queries q runs c).agrees)
+
+    all_reads : (source : ℕ) (readies : List Ready) (queries : List Inquiry) → ((q : Inquiry) → Contains queries q → Contains ran.queries q)
+        → AllZip IsOf readies queries → AllZip (AsksWithin source) queries (one_readings lists readies)
+    all_reads source [] [] among of = tt
+    all_reads source [] (q ∷ queries) among of = absurd of
+    all_reads source (ready ∷ readies) [] among of = absurd of
+    all_reads source (ready ∷ readies) (q ∷ queries) among of =
+        (reads source ready q (among q (contains_here q queries)) of.0, all_reads source readies queries (λ p c. among p (contains_there q queries p c)) of.1)
+
+    pub told_account : (source : ℕ) → source < length run.sizes
+        → IsWithin run.settings (size_at run.sizes source) source (one_readings lists run.readies) (use_at batch.uses source)
+    told_account source l = within (one_readings lists run.readies) source l (all_reads source run.readies ran.queries (λ q c. c) ran.of)
+
+    pub told_kept : (source : ℕ) → source < length run.sizes → KeepsEach (list_at lists source) (state_at ran.states source) (use_at batch.uses source)
+    told_kept source l =
+        let used = ran.used source l in
+        let s = state_at ran.states source in
+        let list = list_at lists source in
+        let rows = (use_at batch.uses source).rows in
+        elim used.wanted [
+          | inl none ↦
+              let few : rows ≤ 0 = reach_none (use_at batch.uses source).want run.settings.page run.settings.ahead s.count rows none used.reach in
+              let zeros : rows ≡ 0 = omega (arith, few) in
+              none_kept rows s.count s used.comes few ∙ sym (ap (λ n. take n list) zeros)
+          | inr asked ↦
+              let of = asked.2 in
+              let reads_it : Contains asked.0.sources.items source = subst (Contains asked.0.sources.items) of.of (contains_at asked.0.sources.items of.list 0 of.listed) in
+              let true_of = is_true run batch ran lists told own asked.0 source asked.1 reads_it in
+              let all : rows_in s.log ≡ used.comes.given = used.comes.comes.all true_of.faultless in
+              let long : length (rows_in s.log) ≡ rows = ap (length {A = Row}) all ∙ used.comes.many in
+              sym true_of.rows ∙ ap (λ n. take n list) long
+        ]

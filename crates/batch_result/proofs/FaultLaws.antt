@@ -1,0 +1,213 @@
+-- What a query is refused for over told lists is of these lists, and over told tables only a call that failed refuses it otherwise than alone.
+use Rattle.std.proofs.Common.{◌≡◌, ◌≢◌, ◌<◌, inl, inr, ℕ, suc, Option, Some, None, IfSome, List, [], ◌∷◌, ◌++◌, length, map, All, Contains, append_assoc, drop, refl, sym, ap, subst, ◌∙◌, arith}
+use Rattle.std.specs.List.{AllZip, slice_index_or}
+use Rattle.std.proofs.lemmas.List.Elements.{Contains-append_cases}
+use Rattle.ranked_list.specs.declared.row.Row.{Row}
+use Rattle.ranked_list.specs.declared.need.Need.{Need}
+use Rattle.ranked_list.specs.declared.need.Need.TheVariants as need
+use Rattle.ranked_list.specs.Table.{IsTable, objects, top_grade}
+use Rattle.topk_theory.specs.Transcript.{Begins, last_grade}
+use Rattle.topk_theory.proofs.AgreementLists.{begins_splits, contains_cases, contains_map, contains_map_from, contains_nil, member_of_all}
+use Rattle.source_api.specs.Told.{HasEachOnce}
+use Rattle.source_log.specs.declared.entry.LogEntry.{LogEntry}
+use Rattle.source_log.specs.declared.entry.Settling.TheVariants.{Graded, Bad, Missed}
+use Rattle.source_log.specs.declared.entry.SourceFault.{SourceFault}
+use Rattle.source_log.specs.declared.entry.SourceFault.TheVariants.{OutOfOrder, TooHigh, Repeated, Clash, Above, ShortList}
+use Rattle.source_log.specs.Log.{rows_in, fault_in}
+use Rattle.source_state.specs.declared.look.LookFault.{LookFault}
+use Rattle.source_state.specs.declared.look.LookFault.TheVariants as why
+use Rattle.source_state.specs.State.{State, state_at}
+use Rattle.query_core.specs.declared.ready.Ready.{Ready}
+use Rattle.query_core.specs.Machines.{state_of}
+use Rattle.query_turns.specs.declared.ended.Ended.{Ended}
+use Rattle.query_turns.specs.declared.ended.Ended.TheVariants as ended
+use Rattle.query_turns.specs.declared.ended.Refusal.TheVariants as refusal
+use Rattle.query_turns.specs.declared.inquiry.Inquiry.{Inquiry}
+use Rattle.query_turns.specs.Inquiries.{needed, source_needed, source_of}
+use Rattle.query_turns.specs.Causes.{CanNotBeHad, IsAtFault, IsCause, IsMissed}
+use Rattle.query_turns.specs.Endings.{EndsAs}
+use Rattle.query_turns.specs.Honest.{lists_of, HasTable, IsOnItsRun}
+use Rattle.query_turns.specs.Kept.{IsServed}
+use Rattle.query_turns.specs.Made.{IsOf}
+use Rattle.query_turns.proofs.Serving.{of_some_list, source_there}
+use Rattle.fetcher.specs.Causes.{IsUnder}
+use Rattle.fetcher.specs.Telling.{IsTrueSettling, TellsOf}
+use Rattle.fetcher.proofs.ToldLaws.{never_clashes, never_repeated}
+use Rattle.batch_result.specs.Batches.{BatchRun, BatchState, IsBatch, IsSpared}
+use Rattle.batch_result.specs.Numbered.{told_at}
+use Rattle.batch_result.specs.Tables.{EndsOrFails, lists_for}
+use Rattle.batch_result.specs.ToldFaults.{HasFault, HasToldCause, told_list}
+use Rattle.batch_result.proofs.EndingLaws.{need_list, zip_through}
+use Rattle.batch_result.proofs.OwnTables.{all_tables, same_lists}
+use Rattle.batch_result.proofs.RunOverLists.{ends_or_fails}
+use Rattle.batch_result.proofs.TableLaws.{on_their_runs}
+
+-- ---- one list
+head_apart : (row : Row) (rows : List Row) (other : Row) → HasEachOnce (row ∷ rows) → Contains rows other → row.object ≢ other.object
+head_apart row rows other once c = λ e. once 0 (suc c.0) other (omega arith) (omega (arith, c.1)) (e ∙ sym (ap (λ (z : Row). z.object) c.2))
+
+once_tail : (row : Row) (rows : List Row) → HasEachOnce (row ∷ rows) → HasEachOnce rows
+once_tail row rows once = λ i j d l m. once (suc i) (suc j) d (omega arith) (omega arith)
+
+apart_behind : (rows : List Row) (row : Row) (rest : List Row) (other : Row) → HasEachOnce (rows ++ row ∷ rest) → Contains rest other
+    → row.object ≢ other.object
+apart_behind [] row rest other once c = head_apart row rest other once c
+apart_behind (first ∷ rows) row rest other once c = apart_behind rows row rest other (once_tail first (rows ++ row ∷ rest) once) c
+
+last_of_push : (above : ℕ) (rows : List Row) (row : Row) → last_grade above (rows ++ row ∷ []) ≡ row.grade
+last_of_push above [] row = refl
+last_of_push above (first ∷ rows) row = last_of_push first.grade rows row
+
+-- a row behind kept ones, below a grade that the list has of another object
+module _ (rows : List Row) (row : Row) (rest : List Row) (object grade : ℕ) (once : HasEachOnce (rows ++ row ∷ rest))
+    (absent : ¬ Contains (objects rows) object) (under : row.grade < grade)
+    (has : Contains (rows ++ row ∷ rest) (record { object = object; grade = grade })) where
+  abbrev held : Row
+  held = record { object = object; grade = grade }
+
+  not_row : row.object ≢ object
+  not_row = λ e. elim (Contains-append_cases rows (row ∷ rest) held has) [
+    | inl kept ↦ absent (contains_map (λ (z : Row). z.object) rows held kept)
+    | inr behind ↦ elim (contains_cases row rest held behind) [
+      | inl same ↦ let grades : row.grade ≡ grade = ap (λ (z : Row). z.grade) same in omega (arith, grades, under)
+      | inr later ↦ apart_behind rows row rest held once later e
+    ]
+  ]
+
+  none_in_front : ¬ Contains (objects (rows ++ row ∷ [])) object
+  none_in_front = λ c.
+      let from = contains_map_from (λ (z : Row). z.object) (rows ++ row ∷ []) object c in
+      elim (Contains-append_cases rows (row ∷ []) from.0 from.1) [
+        | inl kept ↦ absent (subst (Contains (objects rows)) from.2 (contains_map (λ (z : Row). z.object) rows from.0 kept))
+        | inr last ↦ elim (contains_cases row [] from.0 last) [
+          | inl same ↦ not_row (ap (λ (z : Row). z.object) same ∙ from.2)
+          | inr none ↦ contains_nil from.0 none
+        ]
+      ]
+
+has_under : (list : List Row) (log : List LogEntry) (row : Row) (object grade bottom : ℕ) → (tells : TellsOf list log)
+    → Begins (rows_in log ++ row ∷ []) list → IsUnder log row object grade bottom → HasFault list (Above object grade bottom)
+has_under list log row object grade bottom tells next is =
+    let rows = rows_in log in
+    let rest : List Row = drop (length (rows ++ row ∷ [])) list in
+    let split : list ≡ rows ++ row ∷ rest = begins_splits (rows ++ row ∷ []) list next ∙ append_assoc rows (row ∷ []) rest in
+    let has : Contains list (record { object = object; grade = grade }) = tells.settled object (Graded grade) is.graded in
+    let bottom_is = is.is in
+    let below = is.under in (
+      has,
+      record {
+        front = rows ++ row ∷ [];
+        begins = next;
+        absent = none_in_front rows row rest object grade (subst HasEachOnce split tells.distinct) is.absent (omega (arith, bottom_is, below))
+            (subst (λ xs. Contains xs (record { object = object; grade = grade })) split has);
+        last = bottom_is ∙ sym (last_of_push top_grade rows row);
+        above = below;
+      },
+    )
+
+-- the row fault of a log that tells of a list
+row_fault : (list : List Row) (log : List LogEntry) (fault : SourceFault) → TellsOf list log → fault_in log ≡ Some fault → HasFault list fault
+row_fault list log (Repeated object place) tells e = absurd (never_repeated list log object place tells e)
+row_fault list log (Clash object sorted random) tells e = absurd (never_clashes list log object sorted random tells e)
+row_fault list log (OutOfOrder place above below) tells e = elim (tells.fault (OutOfOrder place above below) e).1 [
+  | inl short ↦ absurd (let bad : OutOfOrder place above below ≡ ShortList _ (length list) = short.is in cc)
+  | inr h ↦ record { before = rows_in log; row = h.row; next = h.next; is = h.faulty }
+]
+row_fault list log (TooHigh place grade) tells e = elim (tells.fault (TooHigh place grade) e).1 [
+  | inl short ↦ absurd (let bad : TooHigh place grade ≡ ShortList _ (length list) = short.is in cc)
+  | inr h ↦ record { before = rows_in log; row = h.row; next = h.next; is = h.faulty }
+]
+row_fault list log (Above object grade bottom) tells e = elim (tells.fault (Above object grade bottom) e).1 [
+  | inl short ↦ absurd (let bad : Above object grade bottom ≡ ShortList _ (length list) = short.is in cc)
+  | inr h ↦ has_under list log h.row object grade bottom tells h.next h.faulty
+]
+row_fault list log (ShortList stated got) tells e = elim (tells.fault (ShortList stated got) e).1 [
+  | inl short ↦ subst (HasFault list) (sym short.is) (refl, short.less)
+  | inr h ↦ absurd h.faulty
+]
+
+-- the bad grade of an object in a log that tells of a list
+grade_fault : (list : List Row) (object : ℕ) (fault : SourceFault) → IsTrueSettling list object (Bad fault) → HasFault list fault
+grade_fault list object (Above other grade bottom) h =
+    subst (λ o. HasFault list (Above o grade bottom)) (sym h.0) (h.1, h.2)
+grade_fault list object (OutOfOrder place above below) h = absurd h
+grade_fault list object (TooHigh place grade) h = absurd h
+grade_fault list object (Repeated other place) h = absurd h
+grade_fault list object (Clash other sorted random) h = absurd h
+grade_fault list object (ShortList stated got) h = absurd h
+
+has_fault : (list : List Row) (s : State) (n : Need) (fault : SourceFault) → TellsOf list s.log → IsAtFault s n fault → HasFault list fault
+has_fault list s (need.Row number depth) fault tells h = row_fault list s.log fault tells h.1
+has_fault list s (need.Grade number object) fault tells h = grade_fault list object fault (tells.settled object (Bad fault) h)
+has_fault list s need.Done fault tells h = absurd h
+
+lacks : (list : List Row) (s : State) (n : Need) (object : ℕ) → TellsOf list s.log → IsMissed s n object → ¬ Contains (objects list) object
+lacks list s (need.Grade number named) object tells h = tells.settled object Missed h.1
+lacks list s (need.Row number depth) object tells h = absurd h
+lacks list s need.Done object tells h = absurd h
+
+if_told : (told : Option (List Row)) (P Q : List Row → Type 0) → IfSome told P → ((rows : List Row) → P rows → Q rows) → IfSome told Q
+if_told None P Q h f = tt
+if_told (Some rows) P Q h f = f rows h
+
+-- ---- a batch
+module _ (run : BatchRun) (batch : BatchState) (ran : IsBatch run batch) where
+  -- the log of the source of a refused query's list tells of the list, where that is told, and the need can't be had there
+  record IsRefusedAt (ready : Ready) (q : Inquiry) (list : ℕ) (fault : LookFault) : Type 0 where
+    tells : IfSome (told_list run.told ready list) (λ rows. TellsOf rows (state_at ran.states (source_needed q)).log)
+    cause : CanNotBeHad (state_at ran.states (source_needed q)) (needed q) q.waiting.noted fault
+
+  refused_at : (ready : Ready) (q : Inquiry) (list : ℕ) (fault : LookFault) → Contains ran.queries q → IsOf ready q
+      → q.refusal ≡ Some (refusal.Look list fault) → IsRefusedAt ready q list fault
+  refused_at ready q list fault c of e =
+      let served = member_of_all (IsServed ran.states) ran.queries q ran.served c in
+      let cause = subst (IsCause (state_at ran.states (source_needed q)) (state_of q.machine) q.waiting.noted) e served.cause in
+      let source : slice_index_or ready.sources.items list 0 ≡ source_needed q =
+      ap (λ (xs : List ℕ). slice_index_or xs list 0) (sym of.sources) ∙ ap (source_of q) (sym (need_list (needed q) list cause.0)) in
+      let there = (source_there ran.states q served.sources served.run (of_some_list list (needed q) cause.0)).0 in
+      let many = ran.many in
+      record {
+        tells = subst (λ k. IfSome (told_at run.told k) (λ rows. TellsOf rows (state_at ran.states (source_needed q)).log)) (sym source)
+            (ran.closing (source_needed q) (omega (arith, there, many))).tells;
+        cause = cause.1;
+      }
+
+  one_cause : (ready : Ready) (q : Inquiry) (end : Ended) → Contains ran.queries q → IsOf ready q → EndsAs q end → HasToldCause run.told ready end
+  one_cause ready q (ended.Look list (why.Source fault)) c of ends =
+      let at = refused_at ready q list (why.Source fault) c of ends in
+      if_told (told_list run.told ready list) _ (λ rows. HasFault rows fault) at.tells
+      (λ rows tells. has_fault rows (state_at ran.states (source_needed q)) (needed q) fault tells at.cause)
+  one_cause ready q (ended.Look list (why.Missing object)) c of ends =
+      let at = refused_at ready q list (why.Missing object) c of ends in
+      if_told (told_list run.told ready list) _ (λ rows. ¬ Contains (objects rows) object) at.tells
+      (λ rows tells. lacks rows (state_at ran.states (source_needed q)) (needed q) object tells at.cause)
+  one_cause ready q (ended.Look list (why.AsksFull kept)) c of ends = tt
+  one_cause ready q (ended.Look list why.Failed) c of ends = tt
+  one_cause ready q (ended.Look list why.Garbled) c of ends = tt
+  one_cause ready q (ended.Look list why.Memory) c of ends = tt
+  one_cause ready q (ended.Core fault) c of ends = tt
+  one_cause ready q (ended.Answered answer) c of ends = tt
+
+  pub told_causes : AllZip (HasToldCause run.told) run.readies batch.endings
+  told_causes = zip_through IsOf EndsAs (HasToldCause run.told) run.readies ran.queries batch.endings one_cause_of ran.of ran.ends
+    where
+      one_cause_of : (ready : Ready) (q : Inquiry) (end : Ended) → Contains ran.queries q → IsOf ready q → EndsAs q end → HasToldCause run.told ready end
+      one_cause_of ready q end c of ends = one_cause ready q end c of ends
+
+  -- where the sources tell tables
+  module _ (lists : List (List Row)) (told : run.told ≡ map Some lists)
+      (tables : All (λ ready. IsTable ready.count (lists_for lists ready)) run.readies) where
+    own : All (HasTable lists) ran.queries
+    own = all_tables lists run.readies ran.queries ran.of tables
+
+    one_ends : (ready : Ready) (q : Inquiry) (end : Ended) → Contains ran.queries q → IsOf ready q → EndsAs q end
+        → EndsOrFails (lists_for lists ready) ready end
+    one_ends ready q end c of ends =
+        let table : IsTable ready.count (lists_of lists q) = subst (λ n. IsTable n (lists_of lists q)) (of.goes.count ∙ of.begun.count) (member_of_all (HasTable lists) ran.queries q own c) in
+        subst (λ D. EndsOrFails D ready end) (sym (same_lists lists ready q of))
+        (ends_or_fails lists ran.states ready q (member_of_all (IsServed ran.states) ran.queries q ran.served c) of table
+        (member_of_all (IsOnItsRun lists) ran.queries q (on_their_runs run batch ran lists told own) c) (member_of_all IsSpared ran.queries q ran.spared c) end ends)
+
+    pub ends_or_fails_all : AllZip (λ ready. EndsOrFails (lists_for lists ready) ready) run.readies batch.endings
+    ends_or_fails_all = zip_through IsOf EndsAs (λ ready. EndsOrFails (lists_for lists ready) ready) run.readies ran.queries batch.endings
+        (λ ready q end c of ends. one_ends ready q end c of ends) ran.of ran.ends

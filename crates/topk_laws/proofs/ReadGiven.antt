@@ -1,0 +1,127 @@
+-- The open sources of a run gave no more than its lines read of them.
+use Rattle.std.proofs.Common.{◌≡◌, ◌≤◌, ◌<◌, ◌+◌, ◌-◌, ◌*◌, ◌/◌, inl, inr, ℕ, cond, min, Some, List, length, map, All, sym, subst, arith, le_trans}
+use Rattle.std.specs.List.{AllZip}
+use Rattle.std.proofs.lemmas.Bool.{cases_lt}
+use Rattle.std.proofs.lemmas.Bool.Decides.{eqb_tells}
+use Rattle.ranked_list.specs.declared.row.Row.{Row}
+use Rattle.ranked_list.specs.Table.{IsTable}
+use Rattle.topk_theory.proofs.AgreementLists.{all_from_members, member_of_all}
+use Rattle.source_state.specs.State.{State, IsSound, state_at}
+use Rattle.source_state.specs.Looking.{reach_of}
+use Rattle.source_api.specs.declared.counts.Counts.{Counts}
+use Rattle.source_api.specs.Counting.{no_counts}
+use Rattle.query_core.specs.declared.ready.Ready.{Ready as ReadyQuery}
+use Rattle.query_turns.specs.declared.inquiry.Inquiry.{Inquiry}
+use Rattle.fetcher.specs.Metering.{WentUp}
+use Rattle.fetcher.proofs.ReachLaws.{reach_more, reach_within}
+use Rattle.limits.specs.declared.settings.Settings.{Settings}
+use Rattle.batch_result.specs.Account.{IsAnsweredOf, IsWithin, Reading, deepest, one_readings, printed_readings, random_accesses}
+use Rattle.batch_result.specs.Batches.{BatchRun, BatchState, IsBatch, size_at, use_at}
+use Rattle.batch_result.specs.Numbered.{counts_at}
+use Rattle.batch_result.specs.Tables.{lists_for}
+use Rattle.batch_result.specs.Using.{IsUsed}
+use Rattle.batch_result.specs.declared.batch.Use.{Use}
+use Rattle.catalog_open.specs.Openings.{IsUnread}
+use Rattle.catalog_open.specs.Views.{nothing_told, view_over}
+use Rattle.catalog_run.specs.OpenSources.{batch_over}
+use Rattle.catalog_run.specs.Runs.{CatalogRun, IsReadyOf, IsRun}
+use Rattle.query_admission.specs.declared.line_outcome.LineOutcome.{LineOutcome}
+use Rattle.topk_laws.specs.Giving.{GaveSparingly, GaveWhatIsRead, LinesHaveTables}
+use Rattle.topk_laws.specs.Told.{ShelfTellsTables}
+use Rattle.topk_laws.proofs.ToldLists.{are_told, has_lists, lists_told}
+use Rattle.topk_laws.proofs.Given.{gave_what_is_asked, given_from_none}
+
+-- the laws of batches, as these lemmas take them
+abbrev pub OneRunsBound : Type 0
+OneRunsBound =
+    (run : BatchRun) (batch : BatchState) → IsBatch run batch → (lists : List (List Row)) → run.told ≡ map Some lists
+    → All (λ ready. IsTable ready.count (lists_for lists ready)) run.readies → (source : ℕ) → source < length run.sizes
+    → IsWithin run.settings (size_at run.sizes source) source (one_readings lists run.readies) (use_at batch.uses source)
+
+abbrev pub AnswersBound : Type 0
+AnswersBound =
+    (run : BatchRun) (batch : BatchState) → IsBatch run batch → (source : ℕ) → source < length run.sizes
+    → AllZip (IsAnsweredOf source) run.readies batch.endings
+    → IsWithin run.settings (size_at run.sizes source) source (printed_readings run.readies batch.endings) (use_at batch.uses source)
+
+-- pages of no rows reach nowhere
+reach_zero : (ahead count w : ℕ) → reach_of w 0 ahead count ≤ 0
+reach_zero ahead count w =
+    let pages : (w + 0 - 1) / 0 * 0 ≡ 0 = grind arith in
+    let behind : ahead * 0 ≡ 0 = grind arith in
+    elim (eqb_tells w 0) [
+      | inl zeros ↦ subst (λ b. cond {A = ℕ} b 0 (min count ((w + 0 - 1) / 0 * 0 + ahead * 0)) ≤ 0) (sym zeros.0) (omega arith)
+      | inr apart ↦ subst (λ b. cond {A = ℕ} b 0 (min count ((w + 0 - 1) / 0 * 0 + ahead * 0)) ≤ 0) (sym apart.0) (omega (arith, pages, behind))
+    ]
+
+reach_rises : (page ahead count w v : ℕ) → w ≤ v → reach_of w page ahead count ≤ reach_of v page ahead count
+reach_rises page ahead count w v l = elim (cases_lt 0 page) [
+  | inl some ↦ reach_more page ahead count w v (omega (arith, some)) l
+  | inr past ↦
+      let none : page ≡ 0 = omega (arith, past) in
+      let zeros : reach_of w page ahead count ≤ 0 = subst (λ p. reach_of w p ahead count ≤ 0) (sym none) (reach_zero ahead count w) in
+      omega (arith, zeros)
+]
+
+-- by what was used of a source that had given nothing
+gave_read : (settings : Settings) (queries : List Inquiry) (source size : ℕ) (readings : List Reading) (s : State) (before now : Counts) (used : Use)
+    → IsUnread before → s.count ≡ size → (sound : IsSound s) → IsUsed settings queries source s before now used → IsWithin settings size source readings used
+    → GaveWhatIsRead settings readings source size now
+gave_read settings queries source size readings s before now used unread count sound is within =
+    let reach = reach_of used.want settings.page settings.ahead size in
+    let small : s.count ≤ 200000 = sound.small in
+    let inside = reach_within settings.page settings.ahead size used.want in
+    let rows : now.rows_given ≤ reach =
+    given_from_none used.rows reach before.rows_given now.rows_given unread.rows is.rows within.rows (omega (arith, inside, count, small)) in
+    let asks : used.asks ≡ length s.asks = is.asks in
+    let fits : length s.asks ≤ s.count = sound.fits in
+    let grades : now.grades_given ≤ used.asks =
+    given_from_none used.grades used.asks before.grades_given now.grades_given unread.grades is.grades within.grades (omega (arith, asks, fits, small)) in
+    record {
+      rows = le_trans rows (reach_rises settings.page settings.ahead size used.want (deepest source readings) within.want);
+      grades = le_trans grades within.asks;
+    }
+
+gave_within : (r : CatalogRun) (outcomes : List LineOutcome) (run : IsRun r outcomes) (readings : List Reading) (source : ℕ)
+    → source < length run.sources.places → (source < length run.sources.counts
+    → IsWithin r.settings (size_at run.sources.counts source) source readings (use_at run.ran.batch.uses source))
+    → GaveWhatIsRead r.settings readings source (size_at run.sources.counts source) (counts_at run.now source)
+gave_within r outcomes run readings source within bound =
+    let b = run.ran.ran in
+    let counts_long = run.opened.many_counts in
+    let told_long = run.opened.many_told in
+    let begun_long = run.ran.many in
+    let sized : source < length run.sources.counts = omega (arith, within, counts_long) in
+    let there : source < length run.begun = omega (arith, within, told_long, begun_long) in
+    let closing = b.closing source sized in
+    gave_read r.settings b.queries source (size_at run.sources.counts source) readings (state_at b.states source) (counts_at run.begun source)
+    (counts_at run.now source) (use_at run.ran.batch.uses source) (run.unread source no_counts there) closing.count closing.sound (b.used source sized) (bound sized)
+
+pub gave_sparingly : OneRunsBound → AnswersBound → (r : CatalogRun) (outcomes : List LineOutcome) (run : IsRun r outcomes) (source : ℕ)
+    → source < length run.sources.places
+    → GaveSparingly r outcomes run source (size_at run.sources.counts source) (counts_at run.now source)
+gave_sparingly one_runs answers r outcomes run source within =
+    let over : BatchRun = batch_over r.settings run.sources run.begun run.now run.ran.readies in
+    record {
+      asked = gave_what_is_asked r outcomes run source within;
+      read = λ lists has.
+          gave_within r outcomes run (one_readings lists run.ran.readies) source within
+          (λ sized. one_runs over run.ran.batch run.ran.ran lists has.told has.tables source sized);
+      answered = λ answered.
+          gave_within r outcomes run (printed_readings run.ran.readies run.ran.batch.endings) source within
+          (λ sized. answers over run.ran.batch run.ran.ran source sized answered);
+    }
+
+-- where the shelf tells tables and nothing fails, the sources tell lists that form tables for the lines that ran
+pub lines_have_tables : (r : CatalogRun) (outcomes : List LineOutcome) (run : IsRun r outcomes) (tells : ShelfTellsTables r)
+    → LinesHaveTables r outcomes run (lists_told r outcomes run tells)
+lines_have_tables r outcomes run tells =
+    let lists = lists_told r outcomes run tells in
+    record {
+      told = sym (are_told r outcomes run tells);
+      tables = all_from_members (λ (ready : ReadyQuery). IsTable ready.count (lists_for lists ready)) run.ran.readies
+          (λ ready c.
+          let own = member_of_all (IsReadyOf (view_over r.catalog run.openings nothing_told) r.lines) run.ran.readies ready run.ran.own c in
+          let has = has_lists r outcomes run tells own.at own.bytes ready own.line own.admitted in
+          subst (IsTable ready.count) has.is has.table);
+    }
