@@ -1,0 +1,2 @@
+-- How a command over memory ends for the caller of the library.
+mod Ending

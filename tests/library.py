@@ -1,0 +1,319 @@
+"""Tests of the library: the proved archive with the heap of c/heap.c as a shared library, called from this process and from python/topk.py."""
+import array
+import ctypes
+import doctest
+import importlib.util
+import pathlib
+import shutil
+import subprocess
+import sys
+import tempfile
+import threading
+
+from special import MAX_INPUT, SECONDS, Skipped, padded_bundle
+
+HERE = pathlib.Path(__file__).resolve().parent
+REPOSITORY = HERE.parent
+EXAMPLES = REPOSITORY / "crates" / "examples" / "data"
+ARCHIVE = REPOSITORY / "crates" / "topk_c" / "out" / "libtopk_c.a"
+BUNDLE = b"list A\n1,900\n2,800\n3,100\nlist B\n2,700\n3,600\n1,500\nquery top 1 by sum(A,B) using ta\n"
+BEATEN = (HERE / "cases" / "judge_beaten" / "input").read_bytes()
+GUARD = b"\xa5"
+_places, _loaded = [], {}
+
+
+def compiler(*names):
+    for name in names:
+        if shutil.which(name):
+            return name
+    raise Skipped(f"there is no compiler {' or '.join(names)}")
+
+
+def built(heap):
+    """The path of the shared library over this heap."""
+    found = compiler("cc", "gcc", "clang")
+    if not ARCHIVE.exists():
+        raise Skipped("there is no proved archive: `make lib` builds it")
+    if heap not in _loaded:
+        place = tempfile.TemporaryDirectory()
+        _places.append(place)
+        path = pathlib.Path(place.name) / "libtopk.so"
+        words = ["-shared", "-fPIC", "-O2", "-o", path, REPOSITORY / heap, "-Wl,--whole-archive", ARCHIVE, "-Wl,--no-whole-archive"]
+        subprocess.run([found, *words], check=True, timeout=SECONDS)
+        _loaded[heap] = path
+    return str(_loaded[heap])
+
+
+def library(heap="c/heap.c"):
+    found = ctypes.CDLL(built(heap))
+    for call in (found.topk_answer, found.topk_judge):
+        call.argtypes = [ctypes.c_char_p, ctypes.c_size_t, ctypes.c_char_p, ctypes.c_size_t, ctypes.POINTER(ctypes.c_size_t)]
+        call.restype = ctypes.c_uint8
+    return found
+
+
+def called(call, given, room):
+    """The status, the length that is told, and the buffer of so much room after a call; a byte behind the room is watched."""
+    out = ctypes.create_string_buffer(GUARD * (room + 1), room + 1)
+    written = ctypes.c_size_t(room + 12345)
+    status = call(given, len(given), out, room, ctypes.byref(written))
+    return status, written.value, out.raw
+
+
+def whole(call, given):
+    """The status and the text, by a call that tells the length and a second one with so much room."""
+    status, length, _ = called(call, given, 0)
+    again = called(call, given, length)
+    return again[0], again[2][:length], (status, length) == again[:2]
+
+
+def module():
+    """python/topk.py over the library that was built here."""
+    spec = importlib.util.spec_from_file_location("topk", REPOSITORY / "python" / "topk.py")
+    found = importlib.util.module_from_spec(spec)
+    sys.modules["topk"] = found
+    spec.loader.exec_module(found)
+    path = built("c/heap.c")
+    found._library_path = lambda: path
+    return found
+
+
+def made_bundle(count, lists, query):
+    """Lists of which each ranks the objects in an order of its own."""
+    text = b""
+    for number in range(lists):
+        text += b"list l%d\n" % number
+        grades = sorted(((it * (2 * number + 3) * 7919 % 1009, it) for it in range(count)), key=lambda row: (-row[0], row[1]))
+        text += b"".join(b"%d,%d\n" % (it, grade) for grade, it in grades)
+    return text + b"query " + query + b"\n"
+
+
+def says(program, word, given):
+    done = subprocess.run([program, word], input=given, capture_output=True, timeout=SECONDS)
+    return done.returncode, done.stdout
+
+
+def compared(program, word, call, given, name):
+    """What is wrong with a call in comparison with the command, or None."""
+    status, text, same = whole(call, given)
+    wanted = says(program, word, given)
+    if not same:
+        return f"{name}: a buffer with room changed the status or the length"
+    return None if (status, text) == wanted else f"{name}: ended with {status} and {text[:200]!r} in place of {wanted[0]} and {wanted[1][:200]!r}"
+
+
+def library_one_as_program(program):
+    """Every bundle of the examples: the text of the program, which is the one that stands beside it."""
+    answer = library().topk_answer
+    for path in sorted(EXAMPLES.glob("*.bundle")):
+        wrong = compared(program, "one", answer, path.read_bytes(), path.name)
+        if wrong is None and path.name != "refused_words.bundle" and whole(answer, path.read_bytes())[1] != path.with_suffix(".text").read_bytes():
+            wrong = f"{path.name}: not the text beside it"
+        if wrong is not None:
+            return wrong
+    return None
+
+
+def library_judge_as_program(program):
+    """Every text of the examples and of the cases of `judge`: the certificates, and what is none."""
+    judge = library().topk_judge
+    paths = sorted(EXAMPLES.glob("*.text")) + sorted((HERE / "cases").glob("judge_*/input"))
+    for path in paths:
+        wrong = compared(program, "judge", judge, path.read_bytes(), str(path))
+        if wrong is not None:
+            return wrong
+    return None
+
+
+def library_short_buffer(program):
+    """A buffer with room for all but one byte, and one for one more: the first stays as it was, and of the second the byte more does."""
+    for call, given in ((library().topk_answer, BUNDLE), (library().topk_judge, BEATEN)):
+        status, text, _ = whole(call, given)
+        length = len(text)
+        if called(call, given, length - 1) != (status, length, GUARD * length):
+            return "a buffer that is too short was told or written otherwise"
+        if called(call, given, length + 1) != (status, length, text + GUARD * 2):
+            return "a buffer with a byte to spare was told or written otherwise"
+    return None
+
+
+def library_empty_input(program):
+    found = library()
+    if whole(found.topk_answer, b"")[:2] != (10, b"refused bundle 1\n"):
+        return f"a bundle of no byte: {whole(found.topk_answer, b'')}"
+    if whole(found.topk_judge, b"")[:2] != (1, b"refused BadLine 1\n"):
+        return f"a certificate of no byte: {whole(found.topk_judge, b'')}"
+    return None
+
+
+def library_largest_input(program):
+    answer = library().topk_answer
+    found = whole(answer, padded_bundle(MAX_INPUT))[:2]
+    if found != (1, b"refused 1 LongLine 4096\n"):
+        return f"the largest input: {found}"
+    if called(answer, padded_bundle(MAX_INPUT + 1), 64) != (9, 0, GUARD * 65):
+        return "an input of one byte more was answered otherwise"
+    return None
+
+
+def library_on_threads(program):
+    """Eight threads at once, each with queries of its own, get what one thread gets."""
+    answer = library().topk_answer
+    bundles = [BUNDLE.replace(b"top 1", b"top %d" % k).replace(b"ta\n", word + b"\n") for k in (1, 2, 3, 4) for word in (b"ta", b"ca")]
+    wanted, wrong = [whole(answer, bundle) for bundle in bundles], []
+
+    def work(it):
+        for _ in range(500):
+            if whole(answer, bundles[it]) != wanted[it]:
+                wrong.append(it)
+
+    threads = [threading.Thread(target=work, args=(it,)) for it in range(8)]
+    for thread in threads:
+        thread.start()
+    for thread in threads:
+        thread.join()
+    return f"threads {sorted(set(wrong))} got another text" if wrong else None
+
+
+def resident():
+    try:
+        with open("/proc/self/statm", encoding="ascii") as file:
+            return int(file.read().split()[1]) * 4
+    except OSError:
+        raise Skipped("there is no /proc") from None
+
+
+def library_keeps_nothing(program):
+    """After 100,000 calls as much memory is resident as after 1,000."""
+    found, out, written = library(), ctypes.create_string_buffer(4096), ctypes.c_size_t()
+
+    def work(calls):
+        for _ in range(calls // 2):
+            found.topk_answer(BUNDLE, len(BUNDLE), out, 4096, ctypes.byref(written))
+            found.topk_judge(BEATEN, len(BEATEN), out, 4096, ctypes.byref(written))
+    work(1_000)
+    before = resident()
+    work(99_000)
+    return None if resident() <= before + 256 else f"{resident() - before} KB more"
+
+
+def library_refused_memory(program):
+    """Each of the first 200 allocations refused in turn: the whole text or none, and every block is given back."""
+    found = library("tests/failing_heap.c")
+    bundle = made_bundle(300, 6, b"top 20 by sum(min(l0,l1),wsum(2*l2,3*l3),median(l3,l4,l5)) using ca cost 1 3")
+    certificate = whole(found.topk_answer, bundle)[1]
+    for call, given in ((found.topk_answer, BUNDLE), (found.topk_judge, BEATEN), (found.topk_answer, bundle), (found.topk_judge, certificate)):
+        found.test_fail_at(0)
+        status, text, _ = whole(call, given)
+        refused = 0
+        for number in range(1, 201):
+            found.test_fail_at(number)
+            ended = called(call, given, len(text))
+            if ended not in ((status, len(text), text + GUARD), (8, 0, GUARD * (len(text) + 1))):
+                return f"allocation {number} was refused: {ended}"
+            if found.test_blocks() != 0:
+                return f"allocation {number} was refused: {found.test_blocks()} blocks weren't given back"
+            refused += ended[0] == 8
+        if refused == 0:
+            return "no allocation was refused"
+    return None
+
+
+def library_header(program):
+    """The header is C and C++, and a program in C is linked with the static library."""
+    built("c/heap.c")
+    with tempfile.TemporaryDirectory() as place:
+        source, ended = pathlib.Path(place) / "call.c", pathlib.Path(place) / "call"
+        source.write_text(f"""#include "{REPOSITORY}/c/topk.h"
+#include <string.h>
+int main(void) {{
+    const char *bundle = "list A\\n1,5\\nquery top 1 by A using ta\\n";
+    uint8_t out[200];
+    size_t written;
+    uint8_t status = topk_answer((const uint8_t *)bundle, strlen(bundle), out, sizeof out, &written);
+    return status == TOPK_DONE && written < sizeof out && memcmp(out, "certificate 1\\n", 14) == 0 ? 0 : 1;
+}}
+""", encoding="utf-8")
+        strict = ["-Wall", "-Wextra", "-Werror"]
+        words = [compiler("cc", "gcc", "clang"), "-std=c11", *strict, "-o", ended, source, REPOSITORY / "c" / "heap.c", ARCHIVE]
+        subprocess.run(words, check=True, timeout=SECONDS)
+        if subprocess.run([ended], timeout=SECONDS).returncode != 0:
+            return "a program in C got another answer"
+        subprocess.run([compiler("c++", "g++", "clang++"), *strict, "-x", "c++", "-fsyntax-only", source], check=True, timeout=SECONDS)
+        return None
+
+
+def python_doctests(program):
+    tried = doctest.testmod(module())
+    return None if tried.failed == 0 and tried.attempted > 0 else f"{tried.failed} of {tried.attempted} doctests fail"
+
+
+def python_answers(program):
+    """The figures of the page on certificates, by pairs, by two arrays, by a text."""
+    topk = module()
+    lists = {"A": [(1, 900), (2, 800), (3, 100)], "B": (array.array("I", [2, 3, 1]), array.array("I", [700, 600, 500]))}
+    answer = topk.answer(lists, "top 1 by sum(A,B) using ta")
+    wanted = topk.Answer((topk.Ranked(2, 1500, 1500),), "top 1 by sum(A,B) using ta", 3, 2, 4, 3, 7, says(program, "one", BUNDLE)[1].decode())
+    if answer != wanted or answer != topk.answer_bundle(BUNDLE):
+        return f"answered {answer}"
+    if topk.judge(answer.certificate) != topk.Fixes():
+        return "its certificate doesn't fix it"
+    beaten = topk.judge(BEATEN)
+    text = says(program, "judge", BEATEN)[1].decode()
+    line = f"beaten inside {beaten.inside} low {beaten.low} outside {beaten.outside} high {beaten.high}\n"
+    return None if text == line + beaten.counter else f"{beaten} was read from {text!r}"
+
+
+def python_refusals(program):
+    """Each kind of error: what it says of itself."""
+    topk = module()
+    wrong = []
+
+    def expect(kind, call, *given, **shown):
+        try:
+            wrong.append(f"{given} gave {call(*given)}")
+        except kind as error:
+            wrong.extend(f"{given}: {key} is {getattr(error, key)!r}" for key, value in shown.items() if getattr(error, key) != value)
+
+    one = {"A": [(1, 5)]}
+    expect(topk.Refused, topk.answer, one, "top 1 by Z using ta", name="UnknownList", fields=("Z",))
+    expect(topk.Refused, topk.answer, one, "top 2 by A using ta", name="KAboveCount", fields=(2, 1))
+    expect(topk.Refused, topk.answer, {"A": [(1, 5), (1, 4)]}, "top 1 by A using ta", name="NoBundle", fields=(3,), hint="row 2 of the list A")
+    expect(topk.Refused, topk.answer_bundle, b"list A\n", name="NoBundle", fields=(2,))
+    expect(topk.Refused, topk.answer_bundle, padded_bundle(MAX_INPUT + 1), name="LongInput", fields=(MAX_INPUT,))
+    expect(topk.Refused, topk.judge, b"", name="BadLine", fields=(1,))
+    expect(ValueError, topk.answer, {"A\n1,5": []}, "top 1 by A using ta")
+    expect(ValueError, topk.answer, one, "top 1 by A using ta\nlist B")
+    expect(ValueError, topk.answer, {"A": (array.array("I", [1, 2]), array.array("I", [5]))}, "top 1 by A using ta")
+    expect(TypeError, topk.answer, {"A": [(1, 0.5)]}, "top 1 by A using ta")
+    return "; ".join(wrong) or None
+
+
+def python_long_text(program):
+    """A certificate that is longer than the room that the module tries first."""
+    topk = module()
+    rows = [(it, 1000) for it in range(3000)]
+    names = [f"a_list_with_a_long_name_{it}" for it in range(8)]
+    found = topk.answer({name: rows for name in names}, f"top 3000 by sum({','.join(names)}) using nra")
+    if len(found.certificate) <= len(topk.bundle_of({name: rows for name in names}, "")):
+        return "the certificate isn't long enough to test anything"
+    return None if len(found.objects) == 3000 and found.certificate.endswith("\nend\n") else "the certificate isn't whole"
+
+
+def python_numpy(program):
+    try:
+        import numpy
+    except ImportError:
+        raise Skipped("there is no numpy") from None
+    topk = module()
+    objects, grades = numpy.array([7, 3]), numpy.array([900, 850])
+    pairs = topk.answer({"A": [(7, 900), (3, 850)]}, "top 1 by A using ta")
+    return None if topk.answer({"A": (objects, grades)}, "top 1 by A using ta") == pairs else "arrays are answered otherwise"
+
+
+def tests():
+    """Each test with its name."""
+    for test in (library_one_as_program, library_judge_as_program, library_short_buffer, library_empty_input, library_largest_input, library_on_threads,
+                 library_keeps_nothing, library_refused_memory, library_header, python_doctests, python_answers, python_refusals, python_long_text,
+                 python_numpy):
+        yield test.__name__, test
