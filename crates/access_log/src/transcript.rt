@@ -83,6 +83,8 @@ impl Transcript {
 
     /// Reserves room for at least so many more objects and accesses, for which `push` then wants no
     /// memory. Where memory is refused nothing has changed.
+    ///
+    /// *Cost*: what it reserves.
     pub fn reserve(&mut self, objects: u32, accesses: u64) -> Result<(), Memory>
         requires { length (named_objects self.old.accesses) + objects ≤ MAX_OBJECTS }
         ensures ok { OnOk result (self.new
@@ -99,6 +101,9 @@ impl Transcript {
 
     /// Adds an access, where some table agrees with it after the others. Where it is refused nothing
     /// has changed. Memory is wanted only where no room is reserved.
+    ///
+    /// *Cost*: a look-up, and at most a logarithm of the objects for the grades ahead; without reserved room it grows
+    /// by doubling.
     pub fn push(&mut self, access: Access) -> Result<(), PushFault>
         ensures ok { OnOk result (self.new ≡ with_access self.old access) }
         ensures agrees { OnOk result (IsConsistent self.new) }
@@ -130,6 +135,8 @@ impl Transcript {
     }
 
     /// How many sorted accesses read the list.
+    ///
+    /// *Cost*: constant.
     pub fn depth(&self, list: u8) -> u32
         requires { list < self.now.lists }
         ensures { result ≡ depth_of list self.now.accesses }
@@ -139,6 +146,8 @@ impl Transcript {
 
     /// The last grade that a sorted access read from the list, and the greatest grade before the
     /// first.
+    ///
+    /// *Cost*: constant.
     pub fn bottom(&self, list: u8) -> u32
         requires { list < self.now.lists }
         ensures { result ≡ bottom_of list self.now.accesses }
@@ -155,6 +164,8 @@ impl Transcript {
     }
 
     /// Whether a sorted access gave the object.
+    ///
+    /// *Cost*: a look-up.
     pub fn is_seen(&self, object: u32) -> bool
         ensures { IsTrue result ↔ Contains (seen_objects self.now.accesses) object }
     {
@@ -169,6 +180,8 @@ impl Transcript {
     }
 
     /// The place of an object in the order of first sight, from 0; None where no sorted access gave it.
+    ///
+    /// *Cost*: a look-up.
     pub fn place_of(&self, object: u32) -> Option<u32>
         ensures { result ≡ position (nat_eq object) (seen_objects self.now.accesses) }
     {
@@ -187,6 +200,8 @@ impl Transcript {
     }
 
     /// The known grades of an object, by the numbers of the lists.
+    ///
+    /// *Cost*: a look-up.
     pub fn known(&self, object: u32) -> &[Option<u32>]
         ensures known { result.now ≡ map (λ list. known_grade self.now.accesses object list) (list_numbers self.now.lists) }
         ensures capped { AreGradesWhereKnown result.now }
@@ -199,6 +214,8 @@ impl Transcript {
     }
 
     /// The least aggregate that the object may have: the value with 0 in place of each unknown grade.
+    ///
+    /// *Cost*: a look-up and one evaluation of the expression.
     pub fn low(&self, expr: &Expr, object: u32) -> u64
         requires { list_count expr.now ≡ self.now.lists }
         ensures { result ≡ low (value expr.now) self.now.lists self.now.accesses object }
@@ -208,6 +225,8 @@ impl Transcript {
 
     /// The greatest aggregate that the object may have: the value with its list's bottom in place of
     /// each unknown grade.
+    ///
+    /// *Cost*: a look-up and one evaluation of the expression.
     pub fn high(&self, expr: &Expr, object: u32) -> u64
         requires { list_count expr.now ≡ self.now.lists }
         ensures { result ≡ high (value expr.now) self.now.lists self.now.accesses object }
@@ -230,6 +249,8 @@ impl Transcript {
     }
 
     /// What the accesses cost.
+    ///
+    /// *Cost*: constant.
     pub fn cost(&self, costs: &Costs) -> u64
         requires sorted { costs.now.sorted ≤ MAX_NUMBER }
         requires random { costs.now.random ≤ MAX_NUMBER }
@@ -272,6 +293,8 @@ impl Transcript {
     }
 
     /// The access at a place from 0, or None past the end.
+    ///
+    /// *Cost*: constant.
     pub fn get(&self, place: u64) -> Option<Access>
         ensures { result ≡ slice_get self.now.accesses place }
     {

@@ -25,6 +25,9 @@ use std::thread::Threads;
 /// from 0 leaves its own number as the remainder. It may wait for ever, and does where the system makes no thread.
 ///
 /// A batch comes only once all queries have ended. Where memory was wanted there is none.
+///
+/// *Cost*: a pool, a pass for each worker, and room for the endings; then each query one `run_query`, each source one
+/// `fetch_loop`; at the end a join for each worker, `Pool::close`, and one pass over the endings.
 pub fn run_all<W: Threads + Wait + Sync, S: Source>(
     rt: &W,
     alloc: Global,

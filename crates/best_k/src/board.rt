@@ -67,6 +67,8 @@ impl Board {
     }
 
     /// Adds an object with its bounds, or replaces the bounds that it had. Takes no memory.
+    ///
+    /// *Cost*: a look-up, and at most four changes of an indexed heap.
     pub fn put(&mut self, object: u32, low: u64, high: u64)
         requires { has_object object self.old.items ≡ false → length self.old.items < self.old.room }
         ensures { self.new
@@ -77,6 +79,8 @@ impl Board {
     }
 
     /// The k-th largest low, None while fewer than k objects are there.
+    ///
+    /// *Cost*: constant.
     pub fn kth(&self) -> Option<u64>
         ensures by_order { result ≡ kth_low self.now.k self.now.items }
         ensures by_count { MatchOption result (length self.now.items < self.now.k)
@@ -89,6 +93,8 @@ impl Board {
     }
 
     /// Whether an object is one of the first k. While no more than k were put, each of them is.
+    ///
+    /// *Cost*: a look-up.
     pub fn is_top(&self, object: u32) -> bool
         ensures by_order { result ≡ has_object object (first_k self.now.k self.now.items) }
         ensures all_of_few { length self.now.items ≤ self.now.k
@@ -101,6 +107,8 @@ impl Board {
     }
 
     /// The first k objects in order, with their bounds; all of them, while they are fewer.
+    ///
+    /// *Cost*: one pass over the room, and a sort of the first k.
     pub fn first(self) -> Result<Items, Memory>
         ensures by_order { IfOk result (λ items. items ≡ first_k self.k self.items) }
         ensures none_ahead { IfOk result (IsFirstK self.k self.items) }

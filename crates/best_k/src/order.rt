@@ -8,6 +8,8 @@ use ranked_list::Item;
 
 /// Puts items of different objects in order: by low falling, then by high falling, then by id rising.
 /// Takes no memory.
+///
+/// *Cost*: a sort in place.
 pub fn put_in_order(items: &mut [Item])
     requires { AreDistinct items.old }
     ensures { items.new ≡ in_order items.old }

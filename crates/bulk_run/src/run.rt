@@ -28,6 +28,8 @@ use std::thread::Threads;
 /// # Errors
 ///
 /// [`Memory`] where no memory was left.
+///
+/// *Cost*: `make_table`, the rows and a vector of grades for each list, `run_all`, and one pass over the answers.
 pub fn run_bulk<W: Threads + Wait + Sync>(
     rt: &W,
     alloc: Global,

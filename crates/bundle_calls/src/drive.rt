@@ -15,6 +15,9 @@ use std::alloc::Global;
 
 /// Runs a query over its lists, which are a table of `ready.count` objects and are told in the order of
 /// the query, and has its answer. It is refused for its room alone.
+///
+/// *Cost*: as often as the run has accesses, the feeding of the machine; a list is indexed by object once, when a
+/// random access needs it.
 pub fn answer_over(
     alloc: Global,
     ready: &Ready,

@@ -120,6 +120,8 @@ fn read_lines(alloc: Global, bytes: &[u8]) -> Result<Bundle, BundleFault>
 ///
 /// There are 1 to 64 lists, whose names differ, of 1 to 200,000 rows each over the same objects.
 /// In a list no object comes twice, and the grades, from 0 to 1,000,000, never rise.
+///
+/// *Cost*: one pass over the bytes, and for each row a look-up of its object by number.
 pub fn read_bundle(alloc: Global, bytes: &[u8]) -> Result<Bundle, BundleFault>
     // What is read is spelled so, and is a bundle.
     ensures found { IfOk result (λ bundle. Spells (lines bytes.now) (content bundle)) }

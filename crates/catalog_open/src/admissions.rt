@@ -33,6 +33,8 @@ pub struct Admissions {
 }
 
 /// What query lines come to over the lists of a catalog before they run. The lines are numbered from 1.
+///
+/// *Cost*: the reading of each line, and one `find` for each of its lists.
 pub fn admit_all(
     alloc: Global,
     lists: &Catalogued<'_>,

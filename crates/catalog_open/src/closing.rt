@@ -9,6 +9,8 @@ use catalog_text::Catalog;
 use source_api::Shelf;
 
 /// Puts the sources back that were taken of the places of these entries of the catalog, the last first. Takes no memory.
+///
+/// *Cost*: one `put_back` for each open source. Takes no memory.
 pub fn put_back_all<H: Shelf>(
     shelf: &mut H,
     catalog: &Catalog,

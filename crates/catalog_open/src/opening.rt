@@ -233,6 +233,8 @@ fn visit_next<H: Shelf>(
 /// Opens the sources of a catalog that are marked, in its order: each is taken of the shelf and asked for its size. What became of
 /// them is put into `opened`, and the open sources into `sources`, both empty before. Where memory is refused, those that are open
 /// by then stand there, to be put back. Nothing is read of the sources.
+///
+/// *Cost*: one `take` and one `size` for each source that is wanted.
 pub fn open_wanted<H: Shelf>(
     alloc: Global,
     shelf: &mut H,

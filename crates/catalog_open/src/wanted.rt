@@ -12,6 +12,8 @@ use std::alloc::Global;
 
 /// Marks the sources of the catalog that lines want: those of the lists that a line names which no cause refuses before its lists
 /// are opened. The lines are numbered from 1.
+///
+/// *Cost*: the reading of each line, and one `find` for each of its lists.
 pub fn mark_wanted(alloc: Global, catalog: &Catalog, lines: &[&[u8]]) -> Result<Vec<bool>, Memory>
     ensures { IfOk result (λ marks. AreMarked catalog.now (map (λ line. line.now) lines.now) marks.items) }
 {

@@ -29,6 +29,8 @@ use std::thread::Threads;
 /// and the queries that are ready run at the same time, over one state of each source: as many workers as the settings say, and beside
 /// them one fetcher a source. A call may wait for ever, and does where the system makes no thread. At last the sources are put back,
 /// where memory is refused too.
+///
+/// *Cost*: `mark_wanted`, `open_wanted`, `admit_all`, `run_all`, one outcome for each line, `put_back_all`.
 pub fn run_lines<W: Threads + Wait + Sync, H: Shelf>(
     rt: &W,
     alloc: Global,

@@ -117,6 +117,8 @@ impl Catalog {
     }
 
     /// Where the source of a name stands, from 0.
+    ///
+    /// *Cost*: a look-up.
     pub fn find(&self, name: &[u8]) -> Option<u32>
         ensures { result ≡ position (λ entry. bytes_eq entry.name name.now) self.now }
     {

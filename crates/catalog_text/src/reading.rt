@@ -19,6 +19,8 @@ use std::alloc::Global;
 /// place of 1 to 255 bytes, and `yes` or `no` for random access. A place is a file's path, which
 /// doesn't begin with `http://` or `https://`. No two sources have one name. The fault names the first
 /// record that is wrong, or the first record where there is none.
+///
+/// *Cost*: one pass, and for each source three look-ups of its name.
 pub fn read_catalog(alloc: Global, bytes: &[u8]) -> Result<Catalog, CatalogFault>
     ensures { Judges (records_of bytes.now) result }
 {

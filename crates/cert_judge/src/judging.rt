@@ -115,6 +115,9 @@ fn told_of(alloc: Global, certificate: &Certificate) -> Result<Judgement, Memory
 ///
 /// The accesses are tested in their order, then the question, then the figures line by line. The time is that of
 /// `judge`, and of the counter table where the answer is beaten.
+///
+/// *Cost*: that of `read_certificate`, one `push` for each access, `judge`, two bounds for each object of the answer;
+/// `counter_table` where the answer is beaten.
 pub fn judge_text(alloc: Global, bytes: &[u8]) -> Result<Judgement, Memory>
     requires { length bytes.now < 2 ^ 40 }
     ensures { IfOk result (Tells (lines bytes.now)) }

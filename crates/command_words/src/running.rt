@@ -9,18 +9,9 @@ ghost use Rattle.limits.specs.Ranges.{AreSettings};
 use super::making::number_given;
 use super::{Argument, Words, WordsFault, found_in};
 use clap::ArgMatches;
-use limits::Settings;
+use limits::{MAX_AHEAD, MAX_PAGE, MAX_WORKERS, Settings};
 use std::alloc::{AllocError, Global};
 use std::marker::Model;
-
-/// The most queries that run at the same time.
-const MAX_WORKERS: u64 = 32;
-
-/// The most rows of a page.
-const MAX_PAGE: u64 = 10_000;
-
-/// The most pages that are read ahead.
-const MAX_AHEAD: u64 = 100;
 
 /// Where a text stands, which contracts see as the bytes of the place.
 #[derive(Drop)]

@@ -38,6 +38,8 @@ impl<T: Ord + Copy> Model for IndexedHeap<T> {
 
 impl<T: Ord + Copy> IndexedHeap<T> {
     /// A heap without ranks, with room for the keys below `room`, at most 200,000.
+    ///
+    /// *Cost*: memory for the room, of which none is written.
     pub fn make(alloc: Global, room: u32) -> Result<IndexedHeap<T>, Memory>
         requires { room ≤ MAX_OBJECTS }
         ensures { IfOk result (λ heap. heap ≡ replicate room None) }
@@ -70,6 +72,8 @@ impl<T: Ord + Copy> IndexedHeap<T> {
     }
 
     /// The rank of a key, None where it has none.
+    ///
+    /// *Cost*: constant.
     pub fn get(&self, key: u32) -> Option<T>
         ensures { result ≡ rank_at self.now key }
     {
@@ -85,6 +89,8 @@ impl<T: Ord + Copy> IndexedHeap<T> {
     }
 
     /// A key with a rank that no other is greater than, None where no key has a rank.
+    ///
+    /// *Cost*: constant.
     pub fn greatest(&self) -> Option<Ranked<T>>
         ensures none { IfNone result (HasNone self.now) }
         ensures greatest { IfSome result (λ top. IsGreatest T.cmp self.now top.key top.rank) }
@@ -93,6 +99,9 @@ impl<T: Ord + Copy> IndexedHeap<T> {
     }
 
     /// Gives a key a rank, in place of the one that it had. Takes no memory.
+    ///
+    /// *Cost*: at most the logarithm of the number of keys that have a rank; a key past all earlier ones has the places
+    /// up to it cleared, once.
     pub fn put(&mut self, key: u32, rank: T)
         requires { key < length self.old }
         ensures { self.new ≡ slice_set self.old key (Some rank) }
@@ -106,6 +115,8 @@ impl<T: Ord + Copy> IndexedHeap<T> {
     }
 
     /// Takes the rank of a key away. Where it has none nothing changes.
+    ///
+    /// *Cost*: at most the logarithm of the number of keys that have a rank.
     pub fn remove(&mut self, key: u32)
         requires { key < length self.old }
         ensures { self.new ≡ slice_set self.old key None }
@@ -116,6 +127,8 @@ impl<T: Ord + Copy> IndexedHeap<T> {
     }
 
     /// Makes the room at least `room`, at most 200,000; the ranks stay. Where memory is refused nothing has changed.
+    ///
+    /// *Cost*: memory for the room, of which none is written.
     pub fn widen(&mut self, room: u32) -> Result<(), Memory>
         requires { room ≤ MAX_OBJECTS }
         ensures ok { OnOk result (self.new ≡ self.old ++ replicate (room - length self.old) None) }

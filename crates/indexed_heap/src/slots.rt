@@ -83,6 +83,8 @@ impl RankedSlots {
     }
 
     /// The slot of a key, None where it has none.
+    ///
+    /// *Cost*: constant.
     pub fn slot(&self, key: u32) -> Option<u32>
         requires { key < self.now.room }
         ensures { MatchOption result (HasNone self.now.entries key) (IsAt self.now.entries key) }
@@ -91,6 +93,8 @@ impl RankedSlots {
     }
 
     /// A slot with the least rank, None where no slot has a key.
+    ///
+    /// *Cost*: constant.
     pub fn least(&self) -> Option<u32>
         ensures { MatchOption result (self.now.entries ≡ []) (IsLeast self.now.entries) }
     {
@@ -101,6 +105,8 @@ impl RankedSlots {
     }
 
     /// Gives a further slot to a key that has none.
+    ///
+    /// *Cost*: logarithmic in the slots.
     pub fn add(&mut self, key: u32, rank: u64)
         requires within { key < self.old.room }
         requires absent { HasNone self.old.entries key }
@@ -116,6 +122,8 @@ impl RankedSlots {
     }
 
     /// Gives the key of a slot another rank.
+    ///
+    /// *Cost*: logarithmic in the slots.
     pub fn renew(&mut self, slot: u32, rank: u64)
         requires { slot < length self.old.entries }
         ensures renewed { IsRenewed slot rank self.old self.new }
@@ -127,6 +135,8 @@ impl RankedSlots {
     }
 
     /// Gives a slot to a key that has none, in place of the key that it had, which is the answer.
+    ///
+    /// *Cost*: logarithmic in the slots.
     pub fn replace(&mut self, slot: u32, key: u32, rank: u64) -> u32
         requires slot { slot < length self.old.entries }
         requires within { key < self.old.room }

@@ -67,6 +67,9 @@ fn judge_seen(
 /// and one with an object that no sorted access gave (`UnseenAnswer`). It takes a look-up by hash for each access and
 /// each object of the answer, and at most two bounds of the expression for each seen object, each linear in the lists
 /// and the nodes of the expression.
+///
+/// *Cost*: a look-up for each access, each object of the answer and each seen object, and two bounds of the expression
+/// for each seen object.
 pub fn judge(
     alloc: Global,
     transcript: &Transcript,

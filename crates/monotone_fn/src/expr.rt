@@ -119,6 +119,8 @@ impl Expr {
 
     /// The value at an object's grades, one for each list. It is at most the value where each grade is the greatest,
     /// which is below 2^63, and grades no smaller give a value no smaller.
+    ///
+    /// *Cost*: the nodes of the expression, at most 64; a median sorts its values.
     pub fn eval(&self, grades: &[u32]) -> u64
         requires lists { length grades.now ≡ list_count self.now }
         requires capped { AreGrades grades.now }

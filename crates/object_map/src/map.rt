@@ -71,6 +71,8 @@ impl<V: Copy> ObjectMap<V> {
     }
 
     /// The value of an object, or None where it has none.
+    ///
+    /// *Cost*: a place of a table where the number is below its reach, else a look-up by hash.
     pub fn get(&self, object: u32) -> Option<V>
         ensures { result ≡ value_of self.now object }
     {
@@ -81,6 +83,8 @@ impl<V: Copy> ObjectMap<V> {
     }
 
     /// Gives an object a value, and answers the one that it had. It can't be refused where memory is held for one more object.
+    ///
+    /// *Cost*: a place of a table where the number is below its reach, else a look-up by hash.
     pub fn insert(&mut self, object: u32, value: V) -> Result<Option<V>, Memory>
         ensures before { IfOk result (λ before. before ≡ value_of self.old object) }
         ensures set { OnOk result (IsSet self.old self.new object value) }
@@ -111,6 +115,8 @@ impl<V: Copy> ObjectMap<V> {
 
     /// Has the objects below `bound`, as far as they are below 1,048,576, found in the table from now on. That takes memory, and
     /// changes no value.
+    ///
+    /// *Cost*: what it clears.
     pub fn widen(&mut self, bound: u32) -> Result<(), Memory>
         ensures same { IsSame self.old self.new }
         ensures spare { self.new.spare ≡ self.old.spare }
@@ -124,6 +130,8 @@ impl<V: Copy> ObjectMap<V> {
 
     /// Has an object below 1,048,576 found in the table from now on. The table grows at least twofold, so that many objects come
     /// to little each. That takes memory, and changes no value.
+    ///
+    /// *Cost*: what it clears; the reach doubles.
     pub fn reach(&mut self, object: u32) -> Result<(), Memory>
         ensures same { IsSame self.old self.new }
         ensures spare { self.new.spare ≡ self.old.spare }

@@ -52,6 +52,8 @@ fn put_place(places: &mut ObjectMap<u32>, key: u32, place: u32)
 
 impl RoomMap {
     /// A map without keys, with room for `room` of them.
+    ///
+    /// *Cost*: twice the room is cleared, 8 bytes each.
     pub fn make(alloc: Global, room: u32) -> Result<RoomMap, Memory>
         requires { room ≤ MAX_OBJECTS }
         ensures { IfOk result (λ map. map ≡ record { room = room; keys = [] }) }
@@ -62,6 +64,8 @@ impl RoomMap {
     }
 
     /// Adds a key that isn't there as the last one, and gives its place, from 0.
+    ///
+    /// *Cost*: a look-up of `ObjectMap`.
     pub fn add(&mut self, key: u32) -> u32
         requires absent { ¬ Contains self.old.keys key }
         requires room { length self.old.keys < self.old.room }
@@ -75,6 +79,8 @@ impl RoomMap {
     }
 
     /// The place of a key, or None where it isn't there.
+    ///
+    /// *Cost*: a look-up of `ObjectMap`.
     pub fn place(&self, key: u32) -> Option<u32>
         ensures { result ≡ position (nat_eq key) self.now.keys }
     {
@@ -82,6 +88,8 @@ impl RoomMap {
     }
 
     /// The key at a place.
+    ///
+    /// *Cost*: constant.
     pub fn key(&self, place: u32) -> u32
         requires { place < length self.now.keys }
         ensures { slice_get self.now.keys place ≡ Some result }
@@ -114,6 +122,8 @@ impl RoomMap {
 
     /// Makes the room at least `room`, and no less than it was. Where memory is refused nothing has
     /// changed.
+    ///
+    /// *Cost*: twice the room is cleared, 8 bytes each.
     pub fn widen(&mut self, room: u32) -> Result<(), Memory>
         requires { room ≤ MAX_OBJECTS }
         ensures at_least { OnOk result (room ≤ self.new.room) }

@@ -33,6 +33,8 @@ pub(crate) enum Weighed {
 /// list has, a list that wasn't opened, one of more than 200,000 objects, one that states another
 /// size than the first, a `k` above that size, and a list without random access where the algorithm
 /// asks for grades.
+///
+/// *Cost*: the reading of the line, and one `find` for each of its lists.
 pub fn admit<L: Lists>(
     alloc: Global,
     lists: &L,

@@ -3,8 +3,8 @@
 ghost use Rattle.limits.specs.Ranges.{AreSettings};
 ghost use Rattle.bulk_run.specs.Sums.{IsInput};
 
-use batch_run::Settings;
 use bulk_run::{BulkInput, run_bulk, write_sums};
+use limits::Settings;
 use std::alloc::Global;
 use std::sync::Wait;
 use std::thread::Threads;

@@ -9,6 +9,8 @@ use std::cmp::Reverse;
 
 /// Puts rows of different objects in order: by grade falling, then by the object's number rising.
 /// Takes no memory.
+///
+/// *Cost*: a sort in place.
 pub fn sort_by_grade(rows: &mut [Row])
     requires { AllPairs (λ (row : Row) (other : Row). row.object ≢ other.object) rows.old }
     ensures rows { rows.new ≡ by_grade rows.old }

@@ -14,7 +14,7 @@ returns-clause-counts g c =
     (puts_written _ _ _ _ _ _ _ _ c.end-written.result (bundle_refused_text c.args.line) c.make-pieces.ensures
     (puts_then _ _ _ _ _ _ _ _ _ (codes "refused bundle ") (concat (number ∷ end ∷ [])) c.put.ensures.puts
     (puts_then _ _ _ _ _ _ _ _ _ number (concat (end ∷ [])) c.put_number.ensures.puts c.put-2.ensures.puts))
-    c.end-written.ensures).cause.later
+    c.end-written.ensures.ends).cause.later
 
 pub returns-clause-says : goal.returns-clause-says
 returns-clause-says g c =
@@ -24,5 +24,5 @@ returns-clause-says g c =
     puts_written _ _ _ _ _ _ _ _ c.end-written.result (bundle_refused_text c.args.line) c.make-pieces.ensures
     (puts_then _ _ _ _ _ _ _ _ _ (codes "refused bundle ") (concat (number ∷ end ∷ [])) c.put.ensures.puts
     (puts_then _ _ _ _ _ _ _ _ _ number (concat (end ∷ [])) c.put_number.ensures.puts c.put-2.ensures.puts))
-    c.end-written.ensures in
+    c.end-written.ensures.ends in
     said _ _ _ _ (bundle_refused_text c.args.line) BadInput c.ended.result c.end-written.result written.whole written.front written.cause c.ended.ensures

@@ -17,7 +17,7 @@ returns-clause-counts g c =
     (puts_then _ _ _ _ _ _ _ _ _ name (concat (codes " " ∷ number ∷ end ∷ [])) c.put-2.ensures.puts
     (puts_then _ _ _ _ _ _ _ _ _ (codes " ") (concat (number ∷ end ∷ [])) c.put-3.ensures.puts
     (puts_then _ _ _ _ _ _ _ _ _ number (concat (end ∷ [])) c.put_number.ensures.puts c.put-4.ensures.puts))))
-    c.end-written.ensures).cause.later
+    c.end-written.ensures.ends).cause.later
 
 pub returns-clause-says : goal.returns-clause-says
 returns-clause-says g c =
@@ -30,5 +30,5 @@ returns-clause-says g c =
     (puts_then _ _ _ _ _ _ _ _ _ name (concat (codes " " ∷ number ∷ end ∷ [])) c.put-2.ensures.puts
     (puts_then _ _ _ _ _ _ _ _ _ (codes " ") (concat (number ∷ end ∷ [])) c.put-3.ensures.puts
     (puts_then _ _ _ _ _ _ _ _ _ number (concat (end ∷ [])) c.put_number.ensures.puts c.put-4.ensures.puts))))
-    c.end-written.ensures in
+    c.end-written.ensures.ends in
     said _ _ _ _ (catalog_refused_text name c.args.record_number) BadCatalog c.ended.result c.end-written.result written.whole written.front written.cause c.ended.ensures
