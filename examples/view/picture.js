@@ -1,0 +1,197 @@
+"use strict";
+
+/** The picture of one outcome: a certificate, a refusal, or a text that is neither. */
+const TopkPicture = (() => {
+  const { element, grouped, percent, counted } = TopkElements;
+  const DEPTHS = { least: 20, most: 200 };
+  const MOST_BOUNDS = 4_000_000;
+  const MOST_SHOWN = 200;
+
+  const hidden = (text) => element("span", { class: "hidden" }, text);
+  const number = (value) => element("td", { class: "number" }, grouped(value));
+
+  /** A table that may be wider than the page. */
+  const scrolling = (label, table) => element("div", { class: "scroll", tabindex: "0", role: "region", "aria-label": label }, table);
+
+  /** What is wrong with an outcome: a few words that stand out, and what explains them. */
+  const wrong = (title, ...rest) => element("div", { class: "fault", role: "alert" }, element("strong", {}, title), " ", ...rest);
+
+  function fault({ at, expected, found }) {
+    const said = found === null ? "The text ends there." : ["It is: ", element("code", {}, found.slice(0, MOST_SHOWN)), "."];
+    // What stands between back quotes is code.
+    const wanted = expected.split("`").map((part, place) => (place % 2 === 1 ? element("code", {}, part) : part));
+    return wrong("This is no certificate.", `At line ${grouped(at)} was expected: `, ...wanted, ". ", ...said);
+  }
+
+  function refusal({ name, fields, text }) {
+    return wrong("Refused: there is no answer.", TopkRefusals.meaning(name, fields), " ", element("code", {}, text));
+  }
+
+  /** The sums of a run, each with a line that explains it. */
+  function sums({ query, count }, figures) {
+    const unread = figures.depths.reduce((sum, depth) => sum + Math.max(0, count - depth), 0);
+    const rows = `${counted(figures.sorted, "row")} at ${grouped(query.costs.sorted)}`;
+    const asked = `${counted(figures.random, "random access", "random accesses")} at ${grouped(query.costs.random)}`;
+    const one = (term, value, note) => {
+      const shown = element("dd", { "data-figure": term }, value, element("small", {}, note));
+      return element("div", {}, element("dt", {}, term), shown);
+    };
+    return element(
+      "dl",
+      { class: "sums" },
+      one("cost", grouped(figures.cost), `${rows}, ${asked}`),
+      one("depth", grouped(figures.depth), `of ${counted(count, "row")} in each of ${counted(query.names.length, "list")}`),
+      one("rows not read", grouped(unread), `of ${grouped(figures.grades)}: ${percent(unread, figures.grades)} of the lists`),
+      one("grades never known", grouped(figures.grades - figures.known), `of ${grouped(figures.grades)}, neither by row nor by random access`),
+    );
+  }
+
+  /** What may still be above the answer, in a sentence. */
+  function verdict(figures, items) {
+    const { rival, leastLow } = figures;
+    if (leastLow === null) return "There is no answer line.";
+    if (rival === null) return "Each object is in the answer.";
+    const who = rival.object === null ? "an object that no access has named" : `object ${rival.object}`;
+    const most = `No other object can have more than ${grouped(rival.high)} (${who})`;
+    if (rival.high > leastLow) return `${most}, which is above the least low of the answer, ${grouped(leastLow)}: these accesses don't fix it.`;
+    const open = items.some((item) => item.high > item.low) ? " (the hatched part is open)" : "";
+    return `${most}, and each answer has at least ${grouped(leastLow)}${open}.`;
+  }
+
+  function answerRow({ object, low, high }, scale, rival) {
+    const bar = (name, style) => element("div", { class: name, style });
+    const bars = [bar("bar-low", `width: ${percent(low, scale)}`)];
+    if (high > low) bars.push(bar("bar-open", `left: ${percent(low, scale)}; width: ${percent(high - low, scale)}`));
+    if (rival !== null) bars.push(bar("bar-rival", `left: ${percent(rival.high, scale)}`));
+    const bounds = element("td", { class: "bounds", "aria-hidden": "true" }, element("div", { class: "track" }, bars));
+    return element("tr", {}, element("th", { class: "number", scope: "row" }, object), bounds, number(low), number(high));
+  }
+
+  function answers({ answers: items }, figures) {
+    const scale = [...items.map((item) => item.high), figures.rival?.high ?? 0n].reduce((a, b) => (b > a ? b : a), 0n);
+    const column = (title) => element("th", { class: "number", scope: "col" }, title);
+    const line = element("td", { "aria-hidden": "true" }, figures.rival === null ? "" : "the upright line: what no other object can pass");
+    const rows = items.map((item) => answerRow(item, scale, figures.rival));
+    const head = element("tr", {}, column("object"), line, column("least"), column("greatest"));
+    const table = element("table", {}, element("thead", {}, head), element("tbody", {}, rows));
+    const title = element("h2", {}, `The ${counted(items.length, "answer")}`);
+    const said = element("p", { class: "note" }, verdict(figures, items));
+    return element("section", { id: "answers" }, title, said, scrolling("Answers with their bounds", table));
+  }
+
+  /** What a list gave at a depth: its row, and the random accesses. */
+  function listCell(row, random, { inside, top }) {
+    const star = (object) => (inside.has(object) ? "★ " : "");
+    const text = ({ object, grade }, name) => [star(object), hidden("object "), element(name, {}, object), hidden(" has"), ` ${grouped(grade)}`];
+    const bar = (grade) => element("i", { style: `width: ${percent(grade, top)}` });
+    const shown = row === null ? null : element("div", { class: "row" }, bar(row.grade), text(row, "b"));
+    const asked = random.map((access) => element("li", {}, "◆ ", hidden("random access: "), text(access, "span")));
+    return element("td", {}, shown, asked.length === 0 ? null : element("ul", { class: "random" }, asked));
+  }
+
+  /** What stands at the end of a stage: a class, a text and a value each. */
+  function metersOf(stage, algorithm) {
+    const meters = [
+      { name: "threshold", title: "threshold", value: stage.threshold },
+      { name: "kth", title: algorithm === "ta" ? "k-th" : "k-th low", value: stage.kthLow },
+      { name: "rival", title: "others up to", value: stage.rival?.high ?? null },
+    ];
+    return meters.filter((meter) => meter.value !== null).map((meter) => ({ ...meter, text: `${meter.title} ${grouped(meter.value)}` }));
+  }
+
+  function meterCell(meters, scale) {
+    const drawn = meters.flatMap(({ name, value, text }) => [
+      element("div", { class: name, "aria-hidden": "true", style: `width: ${percent(value, scale)}` }),
+      element("span", { "data-figure": name }, text),
+    ]);
+    return element("td", {}, element("div", { class: "meter" }, drawn));
+  }
+
+  /** Whether a run may stop at the end of a stage: nothing outside the first k can have more than the k-th low. */
+  function isMet(stage, algorithm) {
+    if (stage.kthLow === null) return false;
+    if (algorithm === "ta") return stage.kthLow >= stage.threshold;
+    return stage.rival === null || stage.kthLow >= stage.rival.high;
+  }
+
+  function unreadRow({ query, count }, figures) {
+    const said = (depth) => (depth === count ? "read whole" : `${grouped(count - depth)} of ${grouped(count)} not read`);
+    const cell = (depth) => element("td", { class: "unread" }, said(depth));
+    return element("tr", {}, element("th", { scope: "row", class: "number" }, "below"), figures.depths.map(cell), element("td", {}));
+  }
+
+  /** One depth of a run: what each list gave there, and what stands at its end. */
+  function stageRow(stage, { algorithm }, drawing) {
+    const met = isMet(stage, algorithm);
+    const cells = stage.rows.map((row, list) => listCell(row, stage.random.filter((access) => access.list === list), drawing));
+    const depth = element("th", { scope: "row", class: "number" }, grouped(stage.depth), met ? hidden(", may stop") : null);
+    return element("tr", met ? { class: "met" } : {}, depth, cells, meterCell(metersOf(stage, algorithm), drawing.greatest));
+  }
+
+  /** What the bars of a run are drawn against: the greatest grade, the greatest value, the answer. */
+  function drawingOf({ answers: items, accesses, query }, stages) {
+    const meters = stages.flatMap((stage) => metersOf(stage, query.algorithm));
+    return {
+      inside: new Set(items.map((item) => item.object)),
+      top: accesses.reduce((most, access) => Math.max(most, access.grade), 0),
+      greatest: meters.reduce((most, { value }) => (value > most ? value : most), 0n),
+      label: meters.reduce((most, { text }) => Math.max(most, text.length), 0),
+    };
+  }
+
+  function lists(certificate, { stages, depth }, figures) {
+    const { query } = certificate;
+    const drawing = drawingOf(certificate, stages);
+    const column = (title) => element("th", { scope: "col" }, title);
+    const depths = element("th", { scope: "col", class: "number" }, "depth");
+    const head = element("tr", {}, depths, query.names.map(column), column("at the end of the depth"));
+    const some = stages.length < depth ? ` Of ${grouped(depth)} depths, ${grouped(stages.length)} are shown.` : "";
+    const caption = element("caption", {}, `A row: an object and its grade. ◆ random access. ★ in the answer.${some}`);
+    const body = element("tbody", {}, stages.map((stage) => stageRow(stage, query, drawing)), unreadRow(certificate, figures));
+    const table = element("table", { style: `--label: ${drawing.label}ch` }, caption, element("thead", {}, head), body);
+    return element("section", { id: "lists" }, element("h2", {}, "The lists, as far as they were read"), scrolling("Lists, depth by depth", table));
+  }
+
+  /** Why a run may stop, by its algorithm. */
+  const THRESHOLD = "The threshold is the value at the last grades read: no object that no row has shown can have more.";
+  const STOPS = {
+    ta: `${THRESHOLD} The run stops where the k-th aggregate meets it.`,
+    nra: `${THRESHOLD} The run stops where the k-th low meets the greatest high of all others, shown or not.`,
+    ca: `${THRESHOLD} The run stops where the k-th low meets the greatest high of all others, and then asks for what is unknown of its answers.`,
+  };
+
+  function courseSection(query, stages, width) {
+    const [title, why] = [element("h2", {}, "Why it stopped there"), element("p", { class: "note" }, STOPS[query.algorithm])];
+    return element("section", { id: "course" }, title, why, TopkChart.chart(query, stages, width));
+  }
+
+  /** How many depths are shown at most: at each one the bounds of all objects are worked out. */
+  const shownDepths = ({ accesses }) => Math.max(DEPTHS.least, Math.min(DEPTHS.most, Math.floor(MOST_BOUNDS / accesses.length)));
+
+  function certificatePicture(certificate, width) {
+    const figures = TopkCourse.figures(certificate);
+    const course = TopkCourse.course(certificate, shownDepths(certificate));
+    const { query } = certificate;
+    const differences = element("ul", {}, figures.differences.map((said) => element("li", {}, said)));
+    const algorithm = TopkQuery.ALGORITHMS[query.algorithm];
+    const about = `Line ${grouped(certificate.line)}, answered by ${algorithm} over ${counted(certificate.count, "object")}.`;
+    const parts = [
+      element("p", { class: "query" }, query.line),
+      element("p", { class: "note" }, about),
+      figures.differences.length === 0 ? null : wrong("Its figures are not those of its accesses.", differences),
+      answers(certificate, figures),
+      element("section", { id: "sums" }, element("h2", {}, "What it took"), sums(certificate, figures)),
+    ];
+    if (course.stages.length > 0) parts.push(courseSection(query, course.stages, width), lists(certificate, course, figures));
+    return element("article", {}, parts);
+  }
+
+  /** The picture of an outcome, so many pixels wide. */
+  function picture(outcome, width) {
+    if (outcome.kind === "fault") return fault(outcome);
+    if (outcome.kind === "refusal") return refusal(outcome);
+    return certificatePicture(outcome, width);
+  }
+
+  return { picture };
+})();

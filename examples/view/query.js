@@ -1,0 +1,121 @@
+"use strict";
+
+/**
+ * Query lines of topk: an expression over lists, and its value at a list of grades.
+ * Values are BigInt throughout, since a weighted sum may pass 2^53.
+ */
+const TopkQuery = (() => {
+  const MAX_DEPTH = 8;
+  const MAX_LISTS = 8;
+  const LINE = /^top (0|[1-9][0-9]*) by (\S+) using (ta|nra|ca)(?: cost (0|[1-9][0-9]*) (0|[1-9][0-9]*))?(?: room (0|[1-9][0-9]*))?$/;
+  const NAME = /[A-Za-z][A-Za-z0-9_]{0,31}/y;
+  const NUMBER = /0|[1-9][0-9]*/y;
+
+  const ALGORITHMS = {
+    ta: "the threshold algorithm",
+    nra: "the algorithm without random access",
+    ca: "the combined algorithm",
+  };
+
+  const least = (values) => values.reduce((one, other) => (other < one ? other : one));
+  const greatest = (values) => values.reduce((one, other) => (other > one ? other : one));
+  const total = (values) => values.reduce((one, other) => one + other, 0n);
+
+  /** The lower one of the two middle values, where their number is even. */
+  function median(values) {
+    const sorted = [...values].sort((one, other) => (one < other ? -1 : one > other ? 1 : 0));
+    return sorted[Math.floor((sorted.length + 1) / 2) - 1];
+  }
+
+  const OPERATORS = { min: least, max: greatest, sum: total, median, wsum: total };
+
+  /** Reads an expression from the left; `names` are its lists in the order of their first use. */
+  class ExpressionReader {
+    constructor(text) {
+      this.text = text;
+      this.at = 0;
+      this.names = [];
+    }
+
+    /** The whole text as an expression. */
+    whole() {
+      const root = this.node(1);
+      if (this.at !== this.text.length) this.refuse();
+      return root;
+    }
+
+    node(depth) {
+      const word = this.word(NAME);
+      if (Object.hasOwn(OPERATORS, word) && this.text[this.at] === "(") return this.operation(word, depth);
+      return { list: this.place(word) };
+    }
+
+    operation(operator, depth) {
+      if (depth === MAX_DEPTH) this.refuse();
+      const terms = [];
+      do {
+        this.at += 1;
+        const weight = operator === "wsum" ? this.weight() : 1n;
+        terms.push({ weight, node: this.node(depth + 1) });
+      } while (this.text[this.at] === ",");
+      this.character(")");
+      return { operator, terms };
+    }
+
+    weight() {
+      const weight = BigInt(this.word(NUMBER));
+      this.character("*");
+      return weight;
+    }
+
+    place(name) {
+      if (!this.names.includes(name)) this.names.push(name);
+      if (this.names.length > MAX_LISTS) this.refuse();
+      return this.names.indexOf(name);
+    }
+
+    word(pattern) {
+      pattern.lastIndex = this.at;
+      const found = pattern.exec(this.text);
+      if (found === null) this.refuse();
+      this.at = pattern.lastIndex;
+      return found[0];
+    }
+
+    character(wanted) {
+      if (this.text[this.at] !== wanted) this.refuse();
+      this.at += 1;
+    }
+
+    refuse() {
+      throw new SyntaxError(`no expression at its character ${this.at + 1}`);
+    }
+  }
+
+  /** The query that a line spells. Throws a `SyntaxError` where it spells none. */
+  function read(line) {
+    const found = LINE.exec(line);
+    if (found === null) throw new SyntaxError("no query");
+    const [, k, expression, algorithm, sorted = "1", random = "1", room] = found;
+    const reader = new ExpressionReader(expression);
+    return {
+      line,
+      k: Number(k),
+      expression: reader.whole(),
+      names: reader.names,
+      algorithm,
+      costs: { sorted: BigInt(sorted), random: BigInt(random) },
+      room: room === undefined ? null : Number(room),
+    };
+  }
+
+  /** The value of an expression at grades, one BigInt for each list. */
+  function value(node, grades) {
+    if (node.operator === undefined) return grades[node.list];
+    return OPERATORS[node.operator](node.terms.map((term) => term.weight * value(term.node, grades)));
+  }
+
+  return { ALGORITHMS, read, value };
+})();
+
+if (typeof module === "object") module.exports = TopkQuery;

@@ -1,0 +1,233 @@
+"use strict";
+
+/** `node --test examples/view`: the logic of the page against texts that were worked out by hand. */
+const test = require("node:test");
+const assert = require("node:assert/strict");
+const fs = require("node:fs");
+const path = require("node:path");
+const Query = require("./query.js");
+const Certificate = require("./certificate.js");
+const Course = require("./course.js");
+const Refusals = require("./refusals.js");
+
+const CRATES = path.join(__dirname, "..", "..", "crates");
+const read = (...parts) => fs.readFileSync(path.join(CRATES, ...parts), "utf8");
+
+/** The only outcome of a text. */
+function only(text) {
+  const outcomes = Certificate.readOutcomes(text);
+  assert.equal(outcomes.length, 1);
+  return outcomes[0];
+}
+
+/** The certificate that docs/CERTIFICATE.md explains. */
+const TWO_LISTS = `certificate 1
+query top 1 by sum(A,B) using ta
+count 3
+answer 2 1500 1500
+stop depth 2 sorted 4 random 3 cost 7
+s A 1 900
+s B 2 700
+r B 1 500
+r A 2 800
+s A 2 800
+s B 3 600
+r A 3 100
+end
+`;
+
+/** An answer whose exact sum stays open: object 1 has 900 in A and at most the 200 that B has come down to. */
+const OPEN = `certificate 1
+query top 1 by sum(A,B) using nra
+count 3
+answer 1 900 1100
+stop depth 2 sorted 4 random 0 cost 4
+s A 1 900
+s B 2 300
+s A 2 100
+s B 3 200
+end
+`;
+
+test("a certificate is read line by line", () => {
+  const { kind, line, query, count, answers, stop, accesses } = only(TWO_LISTS);
+  assert.deepEqual([kind, line, count, query.k, query.algorithm, query.names], ["certificate", 1, 3, 1, "ta", ["A", "B"]]);
+  assert.deepEqual(answers, [{ object: 2, low: 1500n, high: 1500n }]);
+  assert.deepEqual(stop, { depth: 2, sorted: 4, random: 3, cost: 7n });
+  assert.deepEqual(accesses[2], { kind: "random", list: 1, object: 1, grade: 500 });
+  assert.equal(accesses.length, 7);
+});
+
+test("the threshold falls until the k-th aggregate meets it", () => {
+  const { depth, stages } = Course.course(only(TWO_LISTS));
+  assert.equal(depth, 2);
+  assert.deepEqual(stages.map((stage) => stage.bottoms), [[900n, 700n], [800n, 600n]]);
+  assert.deepEqual(stages.map((stage) => stage.threshold), [1600n, 1400n]);
+  assert.deepEqual(stages.map((stage) => stage.kthLow), [1500n, 1500n]);
+  assert.deepEqual(stages.map((stage) => stage.random.map((access) => access.object)), [[1, 2], [3]]);
+  assert.deepEqual(stages[1].rows.map((row) => [row.object, row.grade]), [[2, 800], [3, 600]]);
+});
+
+test("without random access the k-th low has to meet the greatest high of the others", () => {
+  const { stages } = Course.course(only(OPEN));
+  assert.deepEqual(stages.map((stage) => stage.threshold), [1200n, 300n]);
+  assert.deepEqual(stages.map((stage) => stage.kthLow), [900n, 900n]);
+  // At depth 1 an unnamed object and object 2 may both have 900 + 300; at depth 2 object 2 has 100 + 300.
+  assert.deepEqual(stages.map((stage) => stage.rival), [{ object: null, high: 1200n }, { object: 2, high: 400n }]);
+});
+
+test("fewer objects than k have no k-th low", () => {
+  const head = "certificate 1\nquery top 2 by A using nra\ncount 2\nanswer 7 5 5\nanswer 8 3 3\nstop depth 2 sorted 2 random 0 cost 2\n";
+  const text = `${head}s A 7 5\ns A 8 3\nend\n`;
+  const { stages } = Course.course(only(text));
+  assert.deepEqual(stages.map((stage) => stage.kthLow), [null, 3n]);
+  assert.deepEqual(stages.map((stage) => stage.rival), [{ object: null, high: 5n }, null]);
+});
+
+test("a list that is read ahead of another leaves the greatest grade as the other's bottom", () => {
+  const head = "certificate 1\nquery top 1 by sum(A,B) using nra\ncount 9\nanswer 1 900 1600\nstop depth 2 sorted 3 random 0 cost 3\n";
+  const text = `${head}s A 1 900\ns A 2 800\ns B 2 700\nend\n`;
+  const { stages } = Course.course(only(text));
+  assert.deepEqual(stages.map((stage) => stage.threshold), [1_000_900n, 1500n]);
+  assert.deepEqual(stages[0].rows.map((row) => row.object), [1, 2]);
+  assert.deepEqual(stages[1].rows.map((row) => row?.object ?? null), [2, null]);
+});
+
+test("the sums at the end, and what may still be outside", () => {
+  const two = Course.figures(only(TWO_LISTS));
+  assert.deepEqual([two.depth, two.sorted, two.random, two.cost, two.grades, two.known], [2, 4, 3, 7n, 6, 6]);
+  assert.deepEqual([two.leastLow, two.rival], [1500n, { object: 1, high: 1400n }]);
+  const open = Course.figures(only(OPEN));
+  assert.deepEqual([open.depths, open.grades, open.known, open.leastLow, open.rival], [[2, 2], 6, 4, 900n, { object: 2, high: 400n }]);
+  assert.deepEqual([two.differences, open.differences], [[], []]);
+});
+
+test("costs are counted", () => {
+  const text = TWO_LISTS.replace("using ta", "using ta cost 2 30 room 3").replace("cost 7", "cost 98");
+  assert.deepEqual(Course.figures(only(text)).differences, []);
+});
+
+test("figures that aren't those of the accesses are told", () => {
+  const rows = [
+    ["depth 2", "depth 3", "depth"],
+    ["sorted 4", "sorted 5", "sorted"],
+    ["random 3", "random 2", "random"],
+    ["cost 7", "cost 8", "cost"],
+    ["answer 2 1500", "answer 2 1499", "low of object 2"],
+    ["1500\nstop", "1501\nstop", "high of object 2"],
+    ["top 1", "top 2", "answers"],
+  ];
+  for (const [from, to, word] of rows) {
+    const { differences } = Course.figures(only(TWO_LISTS.replace(from, to)));
+    assert.deepEqual(differences.map((said) => said.split(":")[0]), [word]);
+  }
+});
+
+test("values of expressions", () => {
+  const rows = [
+    ["min(A,B,C)", [3n, 1n, 2n], 1n],
+    ["max(A,B,C)", [1n, 3n, 2n], 3n],
+    ["median(A,B,C)", [30n, 10n, 20n], 20n],
+    ["median(A,B,C,D)", [10n, 40n, 20n, 30n], 20n],
+    ["median(A,B)", [9n, 10n], 9n],
+    ["sum(A,A,B)", [1n, 10n], 12n],
+    ["wsum(9007199254740993*A,1*B)", [1n, 0n], 9_007_199_254_740_993n],
+    ["wsum(2*min(A,B),3*B)", [1n, 5n], 17n],
+    ["min", [4n], 4n],
+  ];
+  for (const [text, grades, wanted] of rows) {
+    assert.equal(Query.value(Query.read(`top 1 by ${text} using ta`).expression, grades), wanted, text);
+  }
+});
+
+test("texts that spell no query", () => {
+  const deep = `${"min(".repeat(8)}A${")".repeat(8)}`;
+  const nineLists = "sum(a,b,c,d,e,f,g,h,i)";
+  for (const expression of ["", "min()", "min(A", "min(A))", "A,B", "wsum(A)", "wsum(01*A)", "2*A", "1A", "mean(A)", deep, nineLists]) {
+    assert.throws(() => Query.read(`top 1 by ${expression} using ta`), SyntaxError, expression);
+  }
+  for (const line of ["top 1 by A", "top 01 by A using ta", "top 1 by A using fa", "top 1 by A using ta room 1 cost 1 1", " top 1 by A using ta"]) {
+    assert.throws(() => Query.read(line), SyntaxError, line);
+  }
+});
+
+test("a text that is no certificate is told by its first wrong line", () => {
+  const lines = TWO_LISTS.trimEnd().split("\n");
+  const withLine = (at, line) => lines.with(at - 1, line).join("\n");
+  const rows = [
+    ["hello", 1],
+    ["fixes\n", 1],
+    [withLine(1, "certificate 01"), 1],
+    [withLine(2, "query top 1 by sum(A,B) using fa"), 2],
+    [withLine(3, "count three"), 3],
+    [withLine(4, "answer 4294967296 1 1"), 4],
+    [withLine(5, "stop depth 2"), 5],
+    [withLine(7, "s C 2 700"), 7],
+    [withLine(9, "r A 2 1000001"), 9],
+    [withLine(9, "x A 2 800"), 9],
+    [lines.slice(0, 12).join("\n"), 13],
+    [lines.slice(0, 3).join("\n"), 4],
+  ];
+  for (const [text, at] of rows) {
+    const outcomes = Certificate.readOutcomes(text);
+    assert.deepEqual(outcomes.map((outcome) => [outcome.kind, outcome.at]), [["fault", at]], text);
+  }
+});
+
+test("several outcomes in one text, of which one is broken", () => {
+  const broken = TWO_LISTS.replace("end\n", "");
+  const outcomes = Certificate.readOutcomes(`${TWO_LISTS}refused 2 NoRandom quiet\n${broken}${OPEN.replaceAll("\n", "\r\n")}`);
+  assert.deepEqual(outcomes.map((outcome) => outcome.kind), ["certificate", "refusal", "fault", "certificate"]);
+  assert.equal(outcomes[2].found, "certificate 1");
+  assert.deepEqual(Certificate.readOutcomes(""), []);
+});
+
+test("refusals", () => {
+  const { kind, line, name, fields } = only("refused 6 NoRandom quiet\n");
+  assert.deepEqual([kind, line, name, fields], ["refusal", 6, "NoRandom", ["quiet"]]);
+  assert.deepEqual([only("refused bundle 3").line, only("refused bundle 3").fields], [null, ["3"]]);
+  assert.equal(only("refused words").name, "words");
+  assert.match(Refusals.meaning("NoRandom", ["quiet"]), /quiet offers none/);
+  assert.match(Refusals.meaning("Unheard", []), /no answer/);
+});
+
+test("each refusal of the program has a meaning", () => {
+  const body = read("cert_text", "src", "refusal.rt").match(/pub enum Refusal \{([^]*?)\n\}/)[1];
+  const names = [...body.matchAll(/^ {4}([A-Z]\w*) \{/gm)].map((found) => found[1]);
+  assert.ok(names.length > 20);
+  assert.deepEqual(names.filter((name) => !Refusals.NAMES.includes(name)), []);
+});
+
+test("the examples of the program are read whole, and their figures are those of their accesses", () => {
+  const data = fs.readdirSync(path.join(CRATES, "examples", "data")).filter((name) => name.endsWith(".text"));
+  const written = [read("topk", "stdout"), ...data.map((name) => read("examples", "data", name))];
+  const texts = written.filter((text) => /^(certificate|refused) /.test(text));
+  assert.ok(texts.length > 10);
+  for (const outcome of texts.flatMap((text) => Certificate.readOutcomes(text))) {
+    assert.notEqual(outcome.kind, "fault", outcome.found);
+    if (outcome.kind === "refusal") assert.doesNotMatch(Refusals.meaning(outcome.name, outcome.fields), /the line names/);
+    if (outcome.kind === "certificate") assert.deepEqual(Course.figures(outcome).differences, []);
+  }
+});
+
+test("of many depths some are shown, the first and the last among them", () => {
+  assert.deepEqual(Course.chosenDepths(3, 200), [1, 2, 3]);
+  assert.deepEqual(Course.chosenDepths(9, 3), [1, 5, 9]);
+  assert.deepEqual(Course.chosenDepths(0, 3), []);
+});
+
+test("texts stand out from their ground", () => {
+  const style = fs.readFileSync(path.join(__dirname, "style.css"), "utf8");
+  const colour = (name) => style.match(new RegExp(`--${name}: #([0-9a-f]{6});`))[1];
+  const linear = (part) => (part <= 0.04045 ? part / 12.92 : ((part + 0.055) / 1.055) ** 2.4);
+  // The relative luminance and the contrast of WCAG 2.
+  const part = (name, at) => linear(parseInt(colour(name).slice(2 * at, 2 * at + 2), 16) / 255);
+  const luminance = (name) => [0.2126, 0.7152, 0.0722].reduce((sum, weight, at) => sum + weight * part(name, at), 0);
+  const contrast = (one, other) => (Math.max(luminance(one), luminance(other)) + 0.05) / (Math.min(luminance(one), luminance(other)) + 0.05);
+  for (const [text, ground] of [["ink", "paper"], ["muted", "paper"], ["random", "paper"], ["fault", "paper"], ["ink", "row"]]) {
+    assert.ok(contrast(text, ground) >= 4.5, `${text} on ${ground}: ${contrast(text, ground)}`);
+  }
+  for (const [bar, ground] of [["low", "track"], ["threshold", "paper"], ["low", "paper"], ["rival", "paper"], ["low", "open"]]) {
+    assert.ok(contrast(bar, ground) >= 3, `${bar} on ${ground}: ${contrast(bar, ground)}`);
+  }
+});
