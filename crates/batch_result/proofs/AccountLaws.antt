@@ -22,18 +22,18 @@ use Rattle.query_turns.specs.declared.ended.Ended.{Ended}
 use Rattle.query_turns.specs.declared.ended.Ended.TheVariants as ended
 use Rattle.query_turns.specs.declared.inquiry.Inquiry.{Inquiry}
 use Rattle.query_turns.specs.Endings.{EndsAs}
-use Rattle.query_turns.specs.Honest.{lists_of, HasTable, IsOnItsRun}
+use Rattle.query_turns.specs.Honest.{lists_of, HasTable}
 use Rattle.query_turns.specs.Kept.{IsServed}
 use Rattle.query_turns.specs.Made.{IsOf}
 use Rattle.query_run.specs.Asking.{access_of, accesses_asked, grades_asked}
 use Rattle.fetcher.specs.Causes.{HasGiven}
 use Rattle.batch_result.specs.Account.{Reading, IsAnsweredOf, IsWithin, KeepsEach, deepest, depth_in, one_reading, one_readings, printed_reading, printed_readings, random_accesses, random_in}
 use Rattle.batch_result.specs.Batches.{BatchRun, BatchState, IsBatch, size_at, use_at}
-use Rattle.batch_result.specs.Tables.{lists_for}
+use Rattle.batch_result.specs.Tables.{NoneMoved, lists_for}
 use Rattle.batch_result.specs.Using.{IsWantedBy, all_grades_asked}
 use Rattle.batch_result.proofs.AskedLaws.{AsksWithin, GoesNoFurther, asked_of_run, asks_nothing, greatest_above, same_far, within_reading}
 use Rattle.batch_result.proofs.OwnTables.{all_tables, same_lists}
-use Rattle.batch_result.proofs.TableLaws.{is_true, on_their_runs}
+use Rattle.batch_result.proofs.TableLaws.{agrees, is_true}
 
 -- ---- all queries
 -- the second of a pair of lists, place by place
@@ -154,14 +154,11 @@ module _ (run : BatchRun) (batch : BatchState) (ran : IsBatch run batch) where
     own : All (HasTable lists) ran.queries
     own = all_tables lists run.readies ran.queries ran.of tables
 
-    runs : All (IsOnItsRun lists) ran.queries
-    runs = on_their_runs run batch ran lists told own
-
     reads : (source : ℕ) (ready : Ready) (q : Inquiry) → Contains ran.queries q → IsOf ready q → AsksWithin source q (one_reading lists ready)
     reads source ready q c of =
         within_reading source q (one_reading lists ready) (sym of.sources)
         (no_further lists ran.states ready q of (member_of_all (IsServed ran.states) ran.queries q ran.served c)
-        (member_of_all (IsOnItsRun lists) ran.queries q runs c).agrees)
+        (agrees run batch ran lists told own q c))
 
     all_reads : (source : ℕ) (readies : List Ready) (queries : List Inquiry) → ((q : Inquiry) → Contains queries q → Contains ran.queries q)
         → AllZip IsOf readies queries → AllZip (AsksWithin source) queries (one_readings lists readies)
@@ -175,8 +172,8 @@ module _ (run : BatchRun) (batch : BatchState) (ran : IsBatch run batch) where
         → IsWithin run.settings (size_at run.sizes source) source (one_readings lists run.readies) (use_at batch.uses source)
     told_account source l = within (one_readings lists run.readies) source l (all_reads source run.readies ran.queries (λ q c. c) ran.of)
 
-    pub told_kept : (source : ℕ) → source < length run.sizes → KeepsEach (list_at lists source) (state_at ran.states source) (use_at batch.uses source)
-    told_kept source l =
+    pub told_kept : NoneMoved run → (source : ℕ) → source < length run.sizes → KeepsEach (list_at lists source) (state_at ran.states source) (use_at batch.uses source)
+    told_kept unmoved source l =
         let used = ran.used source l in
         let s = state_at ran.states source in
         let list = list_at lists source in
@@ -189,7 +186,7 @@ module _ (run : BatchRun) (batch : BatchState) (ran : IsBatch run batch) where
           | inr asked ↦
               let of = asked.2 in
               let reads_it : Contains asked.0.sources.items source = subst (Contains asked.0.sources.items) of.of (contains_at asked.0.sources.items of.list 0 of.listed) in
-              let true_of = is_true run batch ran lists told own asked.0 source asked.1 reads_it in
+              let true_of = is_true run batch ran lists told unmoved own asked.0 source asked.1 reads_it in
               let all : rows_in s.log ≡ used.comes.given = used.comes.comes.all true_of.faultless in
               let long : length (rows_in s.log) ≡ rows = ap (length {A = Row}) all ∙ used.comes.many in
               sym true_of.rows ∙ ap (λ n. take n list) long

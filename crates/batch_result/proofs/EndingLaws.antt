@@ -81,7 +81,7 @@ module _ (run : BatchRun) (batch : BatchState) (lists : List (List Row)) (ran : 
   tables = all_tables lists run.readies ran.queries ran.of tells.tables
 
   runs : All (IsOnItsRun lists) ran.queries
-  runs = on_their_runs run batch ran lists tells.told tables
+  runs = on_their_runs run batch ran lists tells.told (λ source l. (tells.untroubled source l).moves) tables
 
   -- no query is refused for a call that failed
   none_refused : (what : FailKind) (fault : LookFault) (q : Inquiry) (list : ℕ) → is_fail what fault ≡ true

@@ -12,7 +12,7 @@ use Rattle.source_api.specs.Told.{HasEachOnce}
 use Rattle.source_log.specs.declared.entry.LogEntry.{LogEntry}
 use Rattle.source_log.specs.declared.entry.Settling.TheVariants.{Graded, Bad, Missed}
 use Rattle.source_log.specs.declared.entry.SourceFault.{SourceFault}
-use Rattle.source_log.specs.declared.entry.SourceFault.TheVariants.{OutOfOrder, TooHigh, Repeated, Clash, Above, ShortList}
+use Rattle.source_log.specs.declared.entry.SourceFault.TheVariants.{OutOfOrder, TooHigh, Repeated, Clash, Above, ShortList, Moved}
 use Rattle.source_log.specs.Log.{rows_in, fault_in}
 use Rattle.source_state.specs.declared.look.LookFault.{LookFault}
 use Rattle.source_state.specs.declared.look.LookFault.TheVariants as why
@@ -35,7 +35,7 @@ use Rattle.fetcher.specs.Telling.{IsTrueSettling, TellsOf}
 use Rattle.fetcher.proofs.ToldLaws.{never_clashes, never_repeated}
 use Rattle.batch_result.specs.Batches.{BatchRun, BatchState, IsBatch, IsSpared}
 use Rattle.batch_result.specs.Numbered.{told_at}
-use Rattle.batch_result.specs.Tables.{EndsOrFails, lists_for}
+use Rattle.batch_result.specs.Tables.{EndsOrFails, NoneMoved, lists_for}
 use Rattle.batch_result.specs.ToldFaults.{HasFault, HasToldCause, told_list}
 use Rattle.batch_result.proofs.EndingLaws.{need_list, zip_through}
 use Rattle.batch_result.proofs.OwnTables.{all_tables, same_lists}
@@ -111,19 +111,28 @@ row_fault list log (Repeated object place) tells e = absurd (never_repeated list
 row_fault list log (Clash object sorted random) tells e = absurd (never_clashes list log object sorted random tells e)
 row_fault list log (OutOfOrder place above below) tells e = elim (tells.fault (OutOfOrder place above below) e).1 [
   | inl short ↦ absurd (let bad : OutOfOrder place above below ≡ ShortList _ (length list) = short.is in cc)
-  | inr h ↦ record { before = rows_in log; row = h.row; next = h.next; is = h.faulty }
+  | inr (inl h) ↦ record { before = rows_in log; row = h.row; next = h.next; is = h.faulty }
+  | inr (inr moved) ↦ absurd (let bad : OutOfOrder place above below ≡ Moved _ _ = moved.is in cc)
 ]
 row_fault list log (TooHigh place grade) tells e = elim (tells.fault (TooHigh place grade) e).1 [
   | inl short ↦ absurd (let bad : TooHigh place grade ≡ ShortList _ (length list) = short.is in cc)
-  | inr h ↦ record { before = rows_in log; row = h.row; next = h.next; is = h.faulty }
+  | inr (inl h) ↦ record { before = rows_in log; row = h.row; next = h.next; is = h.faulty }
+  | inr (inr moved) ↦ absurd (let bad : TooHigh place grade ≡ Moved _ _ = moved.is in cc)
 ]
 row_fault list log (Above object grade bottom) tells e = elim (tells.fault (Above object grade bottom) e).1 [
   | inl short ↦ absurd (let bad : Above object grade bottom ≡ ShortList _ (length list) = short.is in cc)
-  | inr h ↦ has_under list log h.row object grade bottom tells h.next h.faulty
+  | inr (inl h) ↦ has_under list log h.row object grade bottom tells h.next h.faulty
+  | inr (inr moved) ↦ absurd (let bad : Above object grade bottom ≡ Moved _ _ = moved.is in cc)
 ]
 row_fault list log (ShortList stated got) tells e = elim (tells.fault (ShortList stated got) e).1 [
   | inl short ↦ subst (HasFault list) (sym short.is) (refl, short.less)
-  | inr h ↦ absurd h.faulty
+  | inr (inl h) ↦ absurd h.faulty
+  | inr (inr moved) ↦ absurd (let bad : ShortList stated got ≡ Moved _ _ = moved.is in cc)
+]
+row_fault list log (Moved had now) tells e = elim (tells.fault (Moved had now) e).1 [
+  | inl short ↦ absurd (let bad : Moved had now ≡ ShortList _ (length list) = short.is in cc)
+  | inr (inl h) ↦ absurd h.faulty
+  | inr (inr moved) ↦ subst (HasFault list) (sym moved.is) moved.differ
 ]
 
 -- the bad grade of an object in a log that tells of a list
@@ -135,6 +144,7 @@ grade_fault list object (TooHigh place grade) h = absurd h
 grade_fault list object (Repeated other place) h = absurd h
 grade_fault list object (Clash other sorted random) h = absurd h
 grade_fault list object (ShortList stated got) h = absurd h
+grade_fault list object (Moved had now) h = h
 
 has_fault : (list : List Row) (s : State) (n : Need) (fault : SourceFault) → TellsOf list s.log → IsAtFault s n fault → HasFault list fault
 has_fault list s (need.Row number depth) fault tells h = row_fault list s.log fault tells h.1
@@ -194,8 +204,8 @@ module _ (run : BatchRun) (batch : BatchState) (ran : IsBatch run batch) where
       one_cause_of : (ready : Ready) (q : Inquiry) (end : Ended) → Contains ran.queries q → IsOf ready q → EndsAs q end → HasToldCause run.told ready end
       one_cause_of ready q end c of ends = one_cause ready q end c of ends
 
-  -- where the sources tell tables
-  module _ (lists : List (List Row)) (told : run.told ≡ map Some lists)
+  -- where the sources tell tables, and none was replaced
+  module _ (lists : List (List Row)) (told : run.told ≡ map Some lists) (unmoved : NoneMoved run)
       (tables : All (λ ready. IsTable ready.count (lists_for lists ready)) run.readies) where
     own : All (HasTable lists) ran.queries
     own = all_tables lists run.readies ran.queries ran.of tables
@@ -206,7 +216,7 @@ module _ (run : BatchRun) (batch : BatchState) (ran : IsBatch run batch) where
         let table : IsTable ready.count (lists_of lists q) = subst (λ n. IsTable n (lists_of lists q)) (of.goes.count ∙ of.begun.count) (member_of_all (HasTable lists) ran.queries q own c) in
         subst (λ D. EndsOrFails D ready end) (sym (same_lists lists ready q of))
         (ends_or_fails lists ran.states ready q (member_of_all (IsServed ran.states) ran.queries q ran.served c) of table
-        (member_of_all (IsOnItsRun lists) ran.queries q (on_their_runs run batch ran lists told own) c) (member_of_all IsSpared ran.queries q ran.spared c) end ends)
+        (member_of_all (IsOnItsRun lists) ran.queries q (on_their_runs run batch ran lists told unmoved own) c) (member_of_all IsSpared ran.queries q ran.spared c) end ends)
 
     pub ends_or_fails_all : AllZip (λ ready. EndsOrFails (lists_for lists ready) ready) run.readies batch.endings
     ends_or_fails_all = zip_through IsOf EndsAs (λ ready. EndsOrFails (lists_for lists ready) ready) run.readies ran.queries batch.endings

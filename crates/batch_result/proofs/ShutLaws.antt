@@ -6,12 +6,13 @@ use Rattle.turn_lock.specs.declared.known.Known.{Known}
 use Rattle.turn_lock.specs.Facts.{IsFrontOf}
 use Rattle.source_log.specs.declared.entry.LogEntry.{LogEntry}
 use Rattle.source_log.specs.declared.entry.LogEntry.TheVariants.{Kept, Settled, Fault}
-use Rattle.source_log.specs.declared.entry.Settling.TheVariants.{Missed}
+use Rattle.source_log.specs.declared.entry.Settling.TheVariants.{Bad, Missed}
 use Rattle.source_log.specs.declared.entry.SourceFault.{SourceFault}
-use Rattle.source_log.specs.declared.entry.SourceFault.TheVariants.{ShortList}
+use Rattle.source_log.specs.declared.entry.SourceFault.TheVariants.{ShortList, Moved}
 use Rattle.source_log.specs.Log.{first_of, kept_row, rows_in, fault_in}
 use Rattle.source_state.specs.State.{State, asks_of, row_fault, settle}
-use Rattle.source_state.specs.Events.{logged, row_or, with_rows, paged}
+use Rattle.source_state.specs.declared.event.Event.TheVariants.{Move}
+use Rattle.source_state.specs.Events.{logged, row_or, with_rows, paged, after}
 use Rattle.source_log.proofs.Lists.{none_not_some}
 use Rattle.source_log.proofs.LogLaws.{kept_faults}
 use Rattle.source_api.specs.declared.counts.Counts.{Counts}
@@ -79,6 +80,10 @@ shut_paged : (s : State) (rows : List Row) → Shut s.log → fault_in s.log ≡
 shut_paged s [] h none = shut_push s.log (Fault (ShortList s.count (length (rows_in s.log)))) h (λ other e. refl)
 shut_paged s (row ∷ rows) h none = shut_page s (row ∷ rows) h none
 
+shut_moved : (s : State) (object : Option ℕ) (had other : ℕ) → Shut s.log → Shut (after s (Move object had other)).log
+shut_moved s None had other h = shut_push s.log (Fault (Moved had other)) h (λ fault e. refl)
+shut_moved s (Some object) had other h = shut_push s.log (Settled object (Bad (Moved had other))) h (λ fault e. refl)
+
 -- the turns of a fetcher
 shut_turn : (page ahead : ℕ) (list : Option (List Row)) (counts now : Counts) (before after : Known LogEntry) (answer : Turned)
     → Brings page ahead list counts now before after answer → Shut before.seen → Shut after.seen
@@ -94,6 +99,8 @@ shut_turn page ahead list counts now before after (turned.Missed object) b h =
 shut_turn page ahead list counts now before after turned.Failed b h = subst Shut (sym b.seen) h
 shut_turn page ahead list counts now before after turned.Garbled b h = subst Shut (sym b.seen) h
 shut_turn page ahead list counts now before after turned.Memory b h = subst Shut (sym b.seen) h
+shut_turn page ahead list counts now before after (turned.Moved had other) b h =
+    subst Shut (sym b.fed.sees.log) (shut_moved b.fed.found b.object had other (subst Shut (sym b.fed.is.log) h))
 shut_turn page ahead list counts now before after turned.Idle b h = subst Shut (sym b.seen) h
 
 shut_turns : (page ahead : ℕ) (list : Option (List Row)) (before after : Moment) (turns : List OneTurn) → AreTurns page ahead list before turns after

@@ -30,6 +30,7 @@ use Rattle.query_run.specs.Asking.{access_of, AsksGradeOf}
 use Rattle.fetcher.specs.Telling.{TellsOf}
 use Rattle.batch_result.specs.Numbered.{told_at}
 use Rattle.batch_result.specs.Batches.{BatchState, BatchRun, IsHonestFor, IsBatch}
+use Rattle.batch_result.specs.Tables.{NoneMoved}
 use Rattle.batch_result.proofs.Places.{map_at, same_at}
 
 -- where each log of a query's sources tells of the source's list alone, the query's transcript agrees with its lists
@@ -159,23 +160,27 @@ module _ (run : BatchRun) (batch : BatchState) (ran : IsBatch run batch) (lists 
         honest = subst (λ o. IfSome o (λ list. IsHonestFor list (state_at ran.states source))) is closing.honest;
       }
 
-  agrees : (q : Inquiry) → Contains ran.queries q → AgreesWith (lists_of lists q) (state_of q.machine).log
+  pub agrees : (q : Inquiry) → Contains ran.queries q → AgreesWith (lists_of lists q) (state_of q.machine).log
   agrees q c = told_agrees lists ran.states q all_sound (served q c) (table q c)
       (λ list l. (read_of q (source_of q list) c (contains_at q.sources.items list 0 l)).tells)
 
+-- where moreover no list was replaced
+module _ (run : BatchRun) (batch : BatchState) (ran : IsBatch run batch) (lists : List (List Row)) (told : run.told ≡ map Some lists) (unmoved : NoneMoved run)
+    (tables : All (HasTable lists) ran.queries) where
   pub is_true : (q : Inquiry) (source : ℕ) → Contains ran.queries q → Contains q.sources.items source → IsTrueOf (list_at lists source) (state_at ran.states source)
   is_true q source c s =
-      let read = read_of q source c s in
+      let read = read_of run batch ran lists told tables q source c s in
       read.honest.honest read.ranked read.long
       (λ object k.
-      let one = (ran.used source (within q source c s)).named object k in
-      named_in_list lists ran.states one.0 source object (served one.0 one.1) (agrees one.0 one.1) one.2)
+      let one = (ran.used source (within run batch ran lists told tables q source c s)).named object k in
+      named_in_list lists ran.states one.0 source object (served run batch ran lists told tables one.0 one.1) (agrees run batch ran lists told tables one.0 one.1) one.2)
+      (λ had other tells. let here = within run batch ran lists told tables q source c s in unmoved source here ((ran.counted source here).moved had other tells))
 
   true_for : (q : Inquiry) → Contains ran.queries q → IsTrueFor lists ran.states q
   true_for q c = record {
-    table = table q c;
+    table = member_of_all (HasTable lists) ran.queries q tables c;
     each = all_from_members (λ source. IsTrueOf (list_at lists source) (state_at ran.states source)) q.sources.items (λ source s. is_true q source c s);
   }
 
   pub on_their_runs : All (IsOnItsRun lists) ran.queries
-  on_their_runs = all_from_members (IsOnItsRun lists) ran.queries (λ q c. on_its_run lists ran.states q all_sound (served q c) (true_for q c))
+  on_their_runs = all_from_members (IsOnItsRun lists) ran.queries (λ q c. on_its_run lists ran.states q (states_sound run batch ran) (served run batch ran lists told tables q c) (true_for q c))

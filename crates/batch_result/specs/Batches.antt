@@ -15,6 +15,7 @@ use Rattle.query_turns.specs.Made.{IsOf}
 use Rattle.query_turns.specs.Honest.{IsTrueOf}
 use Rattle.query_turns.specs.Endings.{EndsAs, IsRight}
 use Rattle.fetcher.specs.declared.slot.Slot.{Slot}
+use Rattle.fetcher.specs.Moving.{TellsNoMove}
 use Rattle.fetcher.specs.Telling.{TellsOf}
 use Rattle.limits.specs.declared.settings.Settings.{Settings}
 use Rattle.batch_result.specs.Numbered.{told_at, counts_at}
@@ -57,9 +58,10 @@ size_at sizes source = slice_index_or sizes source 0
 abbrev pub use_at : List Use → ℕ → Use
 use_at uses source = slice_index_or uses source (record { rows = 0; grades = 0; want = 0; asks = 0 })
 
--- where a list is ranked and as long as the source counts, and only objects of it were asked, the state tells the truth of it
+-- where a list is ranked and as long as the source counts, only objects of it were asked, and it was never replaced, the state tells the truth of it
 pub record IsHonestFor (list : List Row) (s : State) : Type 0 where
-  pub honest : IsRanked list → length list ≡ s.count → ((object : ℕ) → Contains s.asks object → Contains (objects list) object) → IsTrueOf list s
+  pub honest : IsRanked list → length list ≡ s.count → ((object : ℕ) → Contains s.asks object → Contains (objects list) object) → TellsNoMove s.log
+      → IsTrueOf list s
 
 -- the closing state of a source: it is sound, and tells of the source's list alone, where the source tells one, and honestly
 pub record IsClosing (source size : ℕ) (told : Option (List Row)) (s : State) : Type 0 where

@@ -19,10 +19,15 @@ use Rattle.batch_result.specs.Batches.{BatchRun}
 abbrev pub lists_for : List (List Row) → Ready → List (List Row)
 lists_for lists ready = map (list_at lists) ready.sources.items
 
--- by its counts no call of a source failed, and none was answered by garbled data
+-- by its counts no call of a source failed, and none was answered by garbled data or of another version of its list
 pub record NoneFailed (before now : Counts) : Type 0 where
   pub faults : ¬ Rose before.faults now.faults
   pub garbles : ¬ Rose before.garbles now.garbles
+  pub moves : ¬ Rose before.moves now.moves
+
+-- by their counts no list of a source was replaced in the run
+abbrev pub NoneMoved : BatchRun → Type 0
+NoneMoved run = (source : ℕ) → source < length run.sizes → ¬ Rose (counts_at run.before source).moves (counts_at run.now source).moves
 
 -- the sources of a run tell these lists, those of each query form a table, and no call failed
 pub record TellsTables (run : BatchRun) (lists : List (List Row)) : Type 0 where

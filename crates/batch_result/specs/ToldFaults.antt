@@ -1,11 +1,11 @@
 -- Why a query is refused that reads a told list: the list has the fault, or hasn't the object.
-use Rattle.std.specs.Prelude.{◌≡◌, ◌<◌, ℕ, Option, IfSome, List, [], ◌∷◌, ◌++◌, Contains, length}
+use Rattle.std.specs.Prelude.{◌≡◌, ◌≢◌, ◌<◌, ℕ, Option, IfSome, List, [], ◌∷◌, ◌++◌, Contains, length}
 use Rattle.std.specs.List.{slice_index_or}
 use Rattle.ranked_list.specs.declared.row.Row.{Row}
 use Rattle.ranked_list.specs.Table.{objects}
 use Rattle.topk_theory.specs.Transcript.{Begins}
 use Rattle.source_log.specs.declared.entry.SourceFault.{SourceFault}
-use Rattle.source_log.specs.declared.entry.SourceFault.TheVariants.{OutOfOrder, TooHigh, Repeated, Clash, Above, ShortList}
+use Rattle.source_log.specs.declared.entry.SourceFault.TheVariants.{OutOfOrder, TooHigh, Repeated, Clash, Above, ShortList, Moved}
 use Rattle.source_state.specs.declared.look.LookFault.TheVariants as why
 use Rattle.query_core.specs.declared.ready.Ready.{Ready}
 use Rattle.query_turns.specs.declared.ended.Ended.{Ended}
@@ -20,7 +20,8 @@ pub record HasRow (list : List Row) (Is : List Row → Row → Type 0) : Type 0 
   pub next : Begins (before ++ row ∷ []) list
   pub is : Is before row
 
--- a list has a fault: a row's grade rises or is too high; the grade of an object is above that of rows before it; it has fewer rows than are stated.
+-- a list has a fault: a row's grade rises or is too high; the grade of an object is above that of rows before it; it has fewer rows than are stated;
+-- it was replaced by one of another version.
 -- A list that is told has no object twice, so no row is repeated and no grade clashes
 abbrev pub HasFault : List Row → SourceFault → Type 0
 HasFault list (OutOfOrder place above below) = HasRow list (λ before row. Rises before row place above below)
@@ -29,6 +30,7 @@ HasFault list (Above object grade bottom) = Contains list (record { object = obj
 HasFault list (ShortList stated got) = (got ≡ length list) × (got < stated)
 HasFault list (Repeated object place) = ⊥
 HasFault list (Clash object sorted random) = ⊥
+HasFault list (Moved had now) = had ≢ now
 
 -- what is told of the list of a ready query with this number
 abbrev pub told_list : List (Option (List Row)) → Ready → ℕ → Option (List Row)

@@ -1,6 +1,7 @@
 -- What queries used of a source, and what the source gave for it.
 use Rattle.std.specs.Prelude.{◌≡◌, ◌≤◌, ◌==◌, ◌&&◌, ◌*◌, ◌⊎◌, ℕ, Bool, true, false, Option, Some, None, List, length, Contains, count_by}
 use Rattle.std.specs.List.{sum_by}
+use Rattle.tk_io.specs.Faults.{Rose}
 use Rattle.source_api.specs.declared.counts.Counts.{Counts}
 use Rattle.source_log.specs.declared.entry.FailKind.{FailKind}
 use Rattle.source_log.specs.declared.entry.FailKind.TheVariants as kind
@@ -15,6 +16,7 @@ use Rattle.query_turns.specs.declared.inquiry.Inquiry.{Inquiry}
 use Rattle.query_turns.specs.Inquiries.{source_of}
 use Rattle.query_run.specs.Asking.{IsAskedFor, AsksGradeOf, grades_asked}
 use Rattle.fetcher.specs.Causes.{HasGiven}
+use Rattle.fetcher.specs.Moving.{TellsMove}
 use Rattle.fetcher.specs.Metering.{WentUp, RoseBy}
 use Rattle.limits.specs.declared.settings.Settings.{Settings}
 use Rattle.batch_result.specs.declared.batch.Use.{Use}
@@ -75,7 +77,7 @@ pub record IsUsed (settings : Settings) (queries : List Inquiry) (source : ℕ) 
   pub reach : used.rows ≤ reach_of used.want settings.page settings.ahead s.count
   pub grades : WentUp used.grades before.grades_given now.grades_given
   pub once : used.grades ≤ used.asks
-  pub settled : length (settled_in s.log) ≡ used.grades
+  pub settled : used.grades ≤ length (settled_in s.log)
   pub comes : HasGiven used.rows s.count s.log
 
 -- so many lines, no more than the workers times some number of calls, by which the count rose, or it stands at its last value
@@ -84,7 +86,8 @@ pub record IsFewFor (workers lines calls : ℕ) (before now : ℕ) : Type 0 wher
   pub few : lines ≤ workers * calls
 
 -- the fails that refused queries, of either kind: the calls of the source that failed so, by its closing state, are counted, and the queries that
--- are refused for one are no more than the workers times these calls
+-- are refused for one are no more than the workers times these calls; and by its closing log its list was replaced only where that is counted
 pub record HasCounted (workers : ℕ) (queries : List Inquiry) (source : ℕ) (s : State) (before now : Counts) : Type 0 where
   pub failed : IsFewFor workers (count_by (is_refused_for kind.Failed source) queries) s.tally.failed before.faults now.faults
   pub garbled : IsFewFor workers (count_by (is_refused_for kind.Garbled source) queries) s.tally.garbled before.garbles now.garbles
+  pub moved : (had other : ℕ) → TellsMove s.log had other → Rose before.moves now.moves

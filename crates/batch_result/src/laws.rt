@@ -9,13 +9,13 @@ ghost use Rattle.topk_theory.specs.Transcript.{list_at};
 ghost use Rattle.source_state.specs.State.{state_at};
 ghost use Rattle.batch_result.specs.Account.{IsAnsweredOf, IsWithin, KeepsEach, one_readings, printed_readings};
 ghost use Rattle.batch_result.specs.Batches.{BatchState, BatchRun, IsBatch, size_at, use_at};
-ghost use Rattle.batch_result.specs.Tables.{TellsTables, EndsOver, EndsOrFails, lists_for};
+ghost use Rattle.batch_result.specs.Tables.{TellsTables, NoneMoved, EndsOver, EndsOrFails, lists_for};
 ghost use Rattle.batch_result.specs.ToldFaults.{HasToldCause};
 
-/// Where each source tells its list, and the lists of each query form a table, each query's transcript is how the run of its algorithm
+/// Where each source tells its list and none was replaced, and the lists of each query form a table, each query's transcript is how the run of its algorithm
 /// over them begins, and it is refused for its room or for a call that failed alone.
 pub fn queries_are_on_their_runs()
-    ensures { (run : BatchRun) (batch : BatchState) → (ran : IsBatch run batch) → (lists : List (List Row)) → run.told ≡ map Some lists
+    ensures { (run : BatchRun) (batch : BatchState) → (ran : IsBatch run batch) → (lists : List (List Row)) → run.told ≡ map Some lists → NoneMoved run
         → All (HasTable lists) ran.queries → All (IsOnItsRun lists) ran.queries }
 {}
 
@@ -28,12 +28,12 @@ pub fn told_tables_give_the_one_ending()
 
 /// Where each source tells its list, and the lists of each query form a table, no row of a source is wanted below the greatest depth to which
 /// the one run of a query reads it, and no more rows come than its reach; no more objects are asked than these runs make random accesses
-/// to it, and no more grades come. Each row that came is kept, so the pages follow one another and none has a row twice.
+/// to it, and no more grades come. Where none was replaced, each row that came is kept, so the pages follow one another and none has a row twice.
 pub fn told_tables_bound_the_uses()
     ensures within { (run : BatchRun) (batch : BatchState) → IsBatch run batch → (lists : List (List Row)) → run.told ≡ map Some lists
         → All (λ ready. IsTable ready.count (lists_for lists ready)) run.readies → (source : ℕ) → source < length run.sizes
         → IsWithin run.settings (size_at run.sizes source) source (one_readings lists run.readies) (use_at batch.uses source) }
-    ensures kept { (run : BatchRun) (batch : BatchState) → (ran : IsBatch run batch) → (lists : List (List Row)) → run.told ≡ map Some lists
+    ensures kept { (run : BatchRun) (batch : BatchState) → (ran : IsBatch run batch) → (lists : List (List Row)) → run.told ≡ map Some lists → NoneMoved run
         → All (λ ready. IsTable ready.count (lists_for lists ready)) run.readies → (source : ℕ) → source < length run.sizes
         → KeepsEach (list_at lists source) (state_at ran.states source) (use_at batch.uses source) }
 {}
@@ -45,17 +45,17 @@ pub fn answers_bound_the_uses()
         → IsWithin run.settings (size_at run.sizes source) source (printed_readings run.readies batch.endings) (use_at batch.uses source) }
 {}
 
-/// Where the sources tell lists that form a table for each query, no query is refused for what was read of a list: whatever failed, each is
-/// answered by the one answer over its lists, or refused for its room, or for a call that failed or was answered by garbled data.
+/// Where the sources tell lists that form a table for each query, and none was replaced, no query is refused for what was read of a list: whatever
+/// failed, each is answered by the one answer over its lists, or refused for its room, or for a call that failed or was answered by garbled data.
 pub fn told_tables_end_or_fail()
-    ensures { (run : BatchRun) (batch : BatchState) → IsBatch run batch → (lists : List (List Row)) → run.told ≡ map Some lists
+    ensures { (run : BatchRun) (batch : BatchState) → IsBatch run batch → (lists : List (List Row)) → run.told ≡ map Some lists → NoneMoved run
         → All (λ ready. IsTable ready.count (lists_for lists ready)) run.readies
         → AllZip (λ ready. EndsOrFails (lists_for lists ready) ready) run.readies batch.endings }
 {}
 
 /// A query is refused for a row or a grade of a list that is told only where that list has this fault: its grades rise there, one is too high, or
-/// it is shorter than its source states, and never for an object that comes twice; and for an object that is missing only where the list
-/// hasn't it.
+/// it is shorter than its source states or was replaced, and never for an object that comes twice; and for an object that is missing only where the
+/// list hasn't it.
 pub fn told_lists_have_their_faults()
     ensures { (run : BatchRun) (batch : BatchState) → IsBatch run batch → AllZip (HasToldCause run.told) run.readies batch.endings }
 {}

@@ -15,6 +15,7 @@ use Rattle.source_log.specs.declared.entry.LogEntry.{LogEntry}
 use Rattle.source_log.specs.declared.entry.FailKind.{FailKind}
 use Rattle.source_log.specs.declared.entry.FailKind.TheVariants as kind
 use Rattle.source_log.specs.Log.{settled_in}
+use Rattle.source_log.proofs.Lists.{none_not_some}
 use Rattle.source_state.specs.State.{State, IsSound, last_count, state_at}
 use Rattle.source_state.specs.Looking.{reach_of}
 use Rattle.source_pool.specs.declared.hold.Hold.{Hold}
@@ -31,6 +32,7 @@ use Rattle.query_run.specs.Asking.{grades_asked}
 use Rattle.fetcher.specs.Causes.{HasGiven}
 use Rattle.fetcher.specs.Chaining.{moment, IsFetched}
 use Rattle.fetcher.specs.Telling.{TellsOf}
+use Rattle.fetcher.specs.Moving.{TellsMove}
 use Rattle.fetcher.specs.Metering.{RoseBy, WentUp}
 use Rattle.fetcher.proofs.ToldLaws.{fetched_from_nothing}
 use Rattle.fetcher.proofs.ClosedLaws.{called_for}
@@ -60,6 +62,11 @@ use Rattle.batch_sides.proofs.Zips.{zip_map, zip_part, all_seconds, both_parts}
 pass_at : (workers : List Worker) (i : ℕ) (d : List Hold) (e : Worker) → i < length workers
     → slice_index_or (passes workers) i d ≡ (slice_index_or workers i e).pass
 pass_at workers i d e l = map_at (λ (w : Worker). w.pass) workers i e d l
+
+-- an empty log tells of no move
+none_told : (had other : ℕ) → TellsMove [] had other → ⊥
+none_told had other (inl e) = none_not_some e
+none_told had other (inr at) = none_not_some at.1
 
 -- the parts of a lock come together
 pub have_all : (pool : List TableId) (counts : List ℕ) (workers : List Worker) (base pass : List Hold) (feeds : List Feed)
@@ -428,6 +435,11 @@ module _ (pool : List TableId) (settings : Settings) (counts : List ℕ) (readie
                 let mine = d.garbled in
                 omega (arith, shown, knew, mine));
           };
+          moved = λ had other tells.
+              elim (metered.moved had other (subst (λ log. TellsMove log had other) (h.closed.each source (there source s)).log tells)) [
+                | inl was ↦ absurd (none_told had other was)
+                | inr rose ↦ rose
+              ];
         }
 
     used_by : (source : ℕ) → source < length counts
@@ -450,9 +462,11 @@ module _ (pool : List TableId) (settings : Settings) (counts : List ℕ) (readie
           grades = subst (λ n. WentUp n (slot_at before source).counts.grades_given (slot_at after source).counts.grades_given) (sym u.grades) metered.grades;
           once = subst (λ n. n ≤ (use_at uses source).asks) (sym u.grades) (subst (λ n. (slot_at after source).fetched.grades ≤ n) (sym u.asks) called.grades);
           settled =
-              let grades : 0 + (slot_at after source).fetched.grades ≡ length (settled_in (feed_at feeds source).pass.1.seen) = metered.settled in
-              let settled : (slot_at after source).fetched.grades ≡ length (settled_in (feed_at feeds source).pass.1.seen) = omega (arith, grades) in
-              ap (λ log. length (settled_in log)) (h.closed.each source (there source s)).log ∙ (sym settled ∙ sym u.grades);
+              let grades : 0 + (slot_at after source).fetched.grades ≤ length (settled_in (feed_at feeds source).pass.1.seen) = metered.settled in
+              let log : length (settled_in (state_at states source).log) ≡ length (settled_in (feed_at feeds source).pass.1.seen)
+              = ap (λ log. length (settled_in log)) (h.closed.each source (there source s)).log in
+              let given = u.grades in
+              omega (arith, grades, log, given);
           comes = came_closed (feed_at feeds source).pass.1 (hold_at pass source).pass.1 (state_at states source) (slot_at after source).fetched.rows (use_at uses source).rows
               (h.closed.each source (there source s)) u.rows (metered.comes refl);
         }

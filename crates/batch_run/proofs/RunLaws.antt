@@ -75,7 +75,7 @@ module _ {S : Type 0} (list : S → Option (List Row)) (counts : S → Counts) w
   pub counts_same : (slots : List (Slot S))
       → AllZip NoneFell (map (λ (slot : Slot S). counts slot.source) slots) (map (λ (slot : Slot S). counts slot.source) slots)
   counts_same [] = tt
-  counts_same (slot ∷ slots) = (record { faults = omega arith; garbles = omega arith; rows_given = omega arith; grades_given = omega arith }, counts_same slots)
+  counts_same (slot ∷ slots) = (record { faults = omega arith; garbles = omega arith; moves = omega arith; rows_given = omega arith; grades_given = omega arith }, counts_same slots)
 
 -- no worker wanted memory
 pub none_short : (workers : List Worker) → list_any (λ (w : Worker). w.short) workers ≡ false → (i : ℕ) (d : Worker) → i < length workers

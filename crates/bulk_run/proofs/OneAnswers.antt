@@ -24,7 +24,7 @@ use Rattle.bulk_run.proofs.Readying.{made_lists, all_have_tables}
 
 -- ---- no call failed
 
--- made sources have counted no fault and no garble
+-- made sources have counted no fault, no garble and no move
 no_faults : (slots : List (Slot Held)) (source : ℕ) → (counts_at (map (λ slot. counts_of slot.source) slots) source).faults ≡ 0
 no_faults [] source = refl
 no_faults (slot ∷ slots) zero = refl
@@ -35,6 +35,11 @@ no_garbles [] source = refl
 no_garbles (slot ∷ slots) zero = refl
 no_garbles (slot ∷ slots) (suc source) = no_garbles slots source
 
+no_moves : (slots : List (Slot Held)) (source : ℕ) → (counts_at (map (λ slot. counts_of slot.source) slots) source).moves ≡ 0
+no_moves [] source = refl
+no_moves (slot ∷ slots) zero = refl
+no_moves (slot ∷ slots) (suc source) = no_moves slots source
+
 not_rose : (before now : ℕ) → now ≡ 0 → Rose before now → ⊥
 not_rose before now none rose = omega (arith, none, rose)
 
@@ -44,7 +49,11 @@ tells_tables : (input : BulkInput) (settings : Settings) (counts : List ℕ) (re
 tells_tables input settings counts readies before now are fresh = record {
   told = ap (λ (slots : List (Slot Held)). map (λ slot. told_rows slot.source) slots) fresh ∙ table_told input.start input.count input.lists;
   tables = all_have_tables input readies are;
-  untroubled = λ source l. record { faults = not_rose _ _ (no_faults now source); garbles = not_rose _ _ (no_garbles now source) };
+  untroubled = λ source l. record {
+    faults = not_rose _ _ (no_faults now source);
+    garbles = not_rose _ _ (no_garbles now source);
+    moves = not_rose _ _ (no_moves now source);
+  };
 }
 
 -- ---- how each ends

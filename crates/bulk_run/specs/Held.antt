@@ -32,9 +32,9 @@ told_rows held = told_of None [] held.rows
 pub told_once : (held : Held) → IfSome (told_rows held) HasEachOnce
 told_once held = told_law None [] held.rows
 
--- what it has counted: no call of it ever failed or was garbled
+-- what it has counted: no call of it ever failed, was garbled or met a replaced list
 abbrev pub counts_of : Held → Counts
-counts_of held = record { faults = 0; garbles = 0; rows_given = held.rows_given; grades_given = held.grades_given }
+counts_of held = record { faults = 0; garbles = 0; moves = 0; rows_given = held.rows_given; grades_given = held.grades_given }
 
 -- no object's number is above the number of rows
 abbrev pub AreSmall : List Row → Type 0

@@ -10,7 +10,7 @@ use std::alloc::Global;
 use std::marker::Model;
 
 /// The rows of a list in memory, whose objects are small numbers. A page is copied from the rows, and a grade is found by its object's
-/// number. No call of it ever fails or is garbled. Contracts see it as `Held`.
+/// number. No call of it ever fails, is garbled or is moved: its version is 0. Contracts see it as `Held`.
 #[derive(Drop)]
 pub struct MadeSource {
     rows: Vec<Row>,
@@ -87,11 +87,16 @@ impl MadeSource {
 }
 
 impl Source for MadeSource {
+    ghost use Rattle.std.specs.Prelude.{Some};
     ghost use Rattle.bulk_run.specs.Held.{told_rows, told_once, counts_of};
 
     ghost list = { told_rows };
 
     ghost counts = { counts_of };
+
+    ghost at_hand = { λ _. 0 };
+
+    ghost states = { λ _. Some 0 };
 
     /// The number of rows.
     fn size(&mut self, _: Global) -> Result<u64, Trouble> {
@@ -111,6 +116,11 @@ impl Source for MadeSource {
     fn grade(&mut self, _: Global, object: u32) -> Result<Option<u32>, Trouble> {
         self.grades_given = self.grades_given.saturating_add(1);
         Ok(grade_at(&self.grades, object))
+    }
+
+    /// 0: a made list never changes.
+    fn version(&self) -> u64 {
+        0
     }
 
     ghost distinct = { told_once };

@@ -5,7 +5,7 @@ use Rattle.catalog_open.specs.Wanted.{IsWanted}
 use Rattle.catalog_open.specs.Openings.{Used, Moves, KeepsOthers}
 use Rattle.call_ends.specs.Shelves.{Shelf, TellsTheSame}
 
--- sources of the lists that query lines name were taken of a shelf and put back, and nothing was counted at the places of other lists
+-- sources of the lists that query lines name were taken of a shelf, and all of them were put back; nothing was counted at the places of other lists
 pub record TakesSources (catalog : List Entry) (lines : List (List ℕ)) (before now : Shelf) : Type 0 where
   pub tells : TellsTheSame before now
   pub used : List Used

@@ -28,8 +28,9 @@ use tk_io::{Intake, Pieces, ReadError, Sink, read_text};
 
 /// Answers the query lines that the input has, over the lists of the catalog that the options name, and writes what became of each line,
 /// in their order. The catalog's text is asked of the shelf first; only where it is a catalog is the input read, and the sources that its
-/// lines want are taken of the shelf and put back. The queries are shared out among as many threads as the settings say, and each source
-/// has one more thread that reads it: where the system makes no thread the call may wait for ever.
+/// lines want are taken of the shelf. All that were taken are put back, however the call ends. The queries are shared out among as many
+/// threads as the settings say, and each source has one more thread that reads it: where the system makes no thread the call may wait for
+/// ever.
 ///
 /// - `Done`: each line was answered.
 /// - `Partial`: a line was refused.
@@ -60,6 +61,7 @@ pub fn run<W: Threads + Wait + Sync, H: Shelf, R: Intake, K: Sink>(
         Err(Trouble::Memory) => Status::Memory,
         Err(Trouble::Failed) => Status::OpenFault,
         Err(Trouble::Garbled) => Status::OpenFault,
+        Err(Trouble::Moved { .. }) => unreachable!(),
     }
 }
 

@@ -1,17 +1,20 @@
 -- What lines come to, with one line more.
-use Rattle.std.proofs.Common.{◌≡◌, ℕ, ◌+◌, ◌<◌, List, [], ◌∷◌, ◌++◌, map, take, get_or, length, length-take-le, Bor, Option, Result, Ok, Err, IfOk, OnOk, refl, sym, ap, ◌∙◌, subst, arith}
-use Rattle.std.proofs.lemmas.List.{length-map, map-append, take_more}
+use Rattle.std.proofs.Common.{◌≡◌, ℕ, zero, suc, ◌+◌, ◌<◌, List, [], ◌∷◌, ◌++◌, take, drop, reverse, get_or, slice_get, length, length-take-le, Option, Some, Result, Ok, Err, IfOk, OnOk, refl, sym, ap, ◌∙◌, subst, arith}
+use Rattle.std.proofs.lemmas.Option.{slice_get-get_or}
+use Rattle.std.proofs.lemmas.List.{length-drop, reverse-append, reverse-reverse, take_all, take_more}
 use Rattle.cert_text.specs.declared.refusal.Refusal.{Refusal}
 use Rattle.query_text.specs.declared.query.Query.{Query}
 use Rattle.query_core.specs.declared.ready.Ready.{Ready as ReadyQuery}
 use Rattle.query_admission.specs.View.{View}
 use Rattle.query_admission.specs.Causes.{admission_causes}
-use Rattle.query_admission.specs.Admission.{Admits, RefusesLine, IsAdmitted}
+use Rattle.query_admission.specs.Admission.{Admits, IsReadAs, RefusesLine, IsAdmitted}
+use Rattle.query_admission.specs.declared.reading.ReadLine.{ReadLine}
 use Rattle.query_admission.specs.declared.admitted.Admitted.{Admitted}
 use Rattle.query_admission.specs.declared.admitted.Admitted.TheVariants as admitted
 use Rattle.catalog_open.specs.declared.admissions.Stage.{Stage}
 use Rattle.catalog_open.specs.declared.admissions.Stage.TheVariants.{Refused, Ready}
 use Rattle.catalog_open.specs.Views.{line_over}
+use Rattle.catalog_open.specs.Wanted.{AreRead}
 use Rattle.catalog_open.specs.Admissions.{AreAdmitted}
 
 step : (first : ℕ) (line : List ℕ) (lines : List (List ℕ)) → first + length (line ∷ lines) ≡ first + 1 + length lines
@@ -73,13 +76,64 @@ ready_more view number before bytes stages now readies more a ready is are admit
     (subst (λ ss. AreAdmitted view 1 (before ++ bytes ∷ []) ss (readies ++ ready ∷ [])) (sym put.0)
     (ready_next view 1 before stages readies bytes ready are (subst (λ n. IsAdmitted (line_over view n bytes) ready) e admitted_so)))
 
--- the next of some lines
-pub admitted_next : (view : View) (lines : List (Bor (List ℕ))) (i : ℕ) (d : Bor (List ℕ)) (number : ℕ) (stages now : List Stage) (readies more : List ReadyQuery)
-    → number ≡ i → i < length lines
-    → ((before : List (List ℕ)) → number + 1 ≡ length before + 1 → AreAdmitted view 1 before stages readies → AreAdmitted view 1 (before ++ (get_or lines i d).now ∷ []) now more)
-    → AreAdmitted view 1 (map (λ line. line.now) (take i lines)) stages readies → AreAdmitted view 1 (map (λ line. line.now) (take (i + 1) lines)) now more
-admitted_next view lines i d number stages now readies more is within step are =
-    let front = map (λ (line : Bor (List ℕ)). line.now) (take i lines) in
-    let long : length front ≡ i = length-map (take i lines) (λ (line : Bor (List ℕ)). line.now) ∙ length-take-le i lines (omega (arith, within)) in
-    let next : map (λ (line : Bor (List ℕ)). line.now) (take (i + 1) lines) ≡ front ++ (get_or lines i d).now ∷ [] = ap (map (λ (line : Bor (List ℕ)). line.now)) (take_more lines i d within) ∙ map-append (λ (line : Bor (List ℕ)). line.now) (take i lines) (get_or lines i d ∷ []) in
-    subst (λ ls. AreAdmitted view 1 ls now more) (sym next) (step front (omega (arith, is, long)) are)
+-- some of the lines that were read are admitted, and the others are left, the next one last
+pub record AdmitsSoFar (view : View) (read left : List ReadLine) (stages : List Stage) (readies : List ReadyQuery) : Type 0 where
+  pub at : ℕ
+  pub left_are : reverse left ≡ drop at read
+  pub are : (lines : List (List ℕ)) → AreRead lines read → AreAdmitted view 1 (take at lines) stages readies
+
+pub admits_none : (view : View) (read left : List ReadLine) (stages : List Stage) (readies : List ReadyQuery) → left ≡ reverse read → stages ≡ [] → readies ≡ []
+    → AdmitsSoFar view read left stages readies
+admits_none view read left stages readies turned no_stages no_readies = record {
+  at = 0;
+  left_are = ap reverse turned ∙ reverse-reverse read;
+  are = λ lines is. subst (λ ss. AreAdmitted view 1 [] ss readies) (sym no_stages) no_readies;
+}
+
+-- what is left begins with its first member
+begins : {X : Type 0} (xs : List X) (at : ℕ) (x : X) (rest : List X) → drop at xs ≡ x ∷ rest
+    → (at < length xs) × (slice_get xs at ≡ Some x) × (drop (suc at) xs ≡ rest)
+begins [] zero x rest e = absurd cc
+begins [] (suc at) x rest e = absurd cc
+begins (y ∷ xs) zero x rest e = let here : y ≡ x = cc in let there : xs ≡ rest = cc in (omega arith, ap Some here, there)
+begins (y ∷ xs) (suc at) x rest e = let more = begins xs at x rest e in (omega (arith, more.0), more.1, more.2)
+
+next_left : (read left rest : List ReadLine) (line : ReadLine) (at : ℕ) → reverse left ≡ drop at read → left ≡ rest ++ line ∷ [] → drop at read ≡ line ∷ reverse rest
+next_left read left rest line at is popped = sym is ∙ ap reverse popped ∙ reverse-append rest (line ∷ [])
+
+-- the next line was read so
+pub next_read : (read : List ReadLine) (view : View) (left rest : List ReadLine) (line : ReadLine) (stages : List Stage) (readies : List ReadyQuery) (lines : List (List ℕ))
+    → AreRead lines read → AdmitsSoFar view read left stages readies → left ≡ rest ++ line ∷ [] → (number : ℕ) × (bytes : List ℕ) × IsReadAs number bytes line
+next_read read view left rest line stages readies lines are so_far popped =
+    let b = begins read so_far.at line (reverse rest) (next_left read left rest line so_far.at so_far.left_are popped) in
+    let within : so_far.at < length lines = omega (arith, b.0, are.many) in
+    (so_far.at + 1, get_or lines so_far.at [], are.each so_far.at (get_or lines so_far.at []) line (slice_get-get_or lines so_far.at [] within) b.1)
+
+-- one line more is admitted
+pub admits_more : (view : View) (read left rest : List ReadLine) (line : ReadLine) (stages now : List Stage) (readies more : List ReadyQuery)
+    → AdmitsSoFar view read left stages readies → left ≡ rest ++ line ∷ []
+    → ((before : List (List ℕ)) → (bytes : List ℕ) → IsReadAs (length before + 1) bytes line → AreAdmitted view 1 before stages readies
+    → AreAdmitted view 1 (before ++ bytes ∷ []) now more)
+    → AdmitsSoFar view read rest now more
+admits_more view read left rest line stages now readies more so_far popped step =
+    let at = so_far.at in
+    let b = begins read at line (reverse rest) (next_left read left rest line at so_far.left_are popped) in
+    record {
+      at = at + 1;
+      left_are = sym b.2 ∙ ap (λ n. drop n read) (let e : suc at ≡ at + 1 = omega arith in e);
+      are = λ lines is.
+          let within : at < length lines = omega (arith, b.0, is.many) in
+          let bytes = get_or lines at [] in
+          let long : length (take at lines) ≡ at = length-take-le at lines (omega (arith, within)) in
+          let as_read : IsReadAs (at + 1) bytes line = is.each at bytes line (slice_get-get_or lines at [] within) b.1 in
+          subst (λ ls. AreAdmitted view 1 ls now more) (sym (take_more lines at [] within))
+          (step (take at lines) bytes (subst (λ n. IsReadAs (n + 1) bytes line) (sym long) as_read) (so_far.are lines is));
+    }
+
+-- all are admitted
+pub admits_all : (view : View) (read left : List ReadLine) (stages : List Stage) (readies : List ReadyQuery) → AdmitsSoFar view read left stages readies → left ≡ []
+    → (lines : List (List ℕ)) → AreRead lines read → AreAdmitted view 1 lines stages readies
+admits_all view read left stages readies so_far none lines is =
+    let over : length (drop so_far.at read) ≡ 0 = ap (length {A = ReadLine}) (sym so_far.left_are ∙ ap reverse none) in
+    let past = length-drop so_far.at read in
+    subst (λ ls. AreAdmitted view 1 ls stages readies) (take_all so_far.at lines (omega (arith, over, past, is.many))) (so_far.are lines is)

@@ -2,7 +2,9 @@
 pub mod Moving
 pub mod Opens
 pub mod Unread
+pub mod Once
 pub mod Back
 -- Lemmas on what query lines want and come to.
+pub mod ReadOn
 pub mod Marking
 pub mod Admits

@@ -1,22 +1,25 @@
 -- Which sources lines want, with one line more.
-use Rattle.std.proofs.Common.{◌≡◌, ◌≢◌, ℕ, ◌+◌, ◌<◌, ◌≤◌, zero, suc, Bool, false, List, [], ◌∷◌, ◌++◌, All, Contains, map, take, length, length-append, replicate, get_or, slice_get, slice_set, true, inl, inr, None, Some, Ok, Err, refl, sym, ap, ◌∙◌, subst, length-take-le, Bor, arith}
+use Rattle.std.proofs.Common.{◌≡◌, ℕ, ◌+◌, ◌<◌, ◌≤◌, zero, suc, Bool, false, List, [], ◌∷◌, ◌++◌, All, Contains, map, take, length, length-append, replicate, get_or, slice_get, slice_set, true, inl, inr, None, Some, Ok, refl, sym, ap, ◌∙◌, subst, length-take-le, arith}
 use Rattle.std.specs.List.{AllByRecursion}
 use Rattle.std.specs.Str.{bytes_eq}
 use Rattle.std.proofs.lemmas.Bool.{cases_eq, cases_lt, false≢true}
 use Rattle.std.proofs.lemmas.Option.{slice_get-get_or, slice_get_within, get_or_from_slice_get, slice_get_past, same_Some}
-use Rattle.std.proofs.lemmas.List.{get_or-set_other, get_or-set_same, get_or_past, get_or_push, get_or-replicate, length-map, length-replicate, map-append, take_more}
+use Rattle.std.proofs.lemmas.List.{get_or-set_other, get_or-set_same, get_or_past, get_or_push, get_or-replicate, length-replicate, map-append, take_more}
 use Rattle.std.proofs.lemmas.List.Elements.{All-from_recursion, Contains-append_left, Contains-push, Contains-push_cases}
 use Rattle.std.proofs.lemmas.List.Quantifiers.{position-Some}
 use Rattle.topk_theory.proofs.AgreementLists.{get_front}
 use Rattle.query_text.specs.declared.query.Query.{Query}
-use Rattle.query_text.specs.declared.fault.QueryFault.{QueryFault}
-use Rattle.query_text.specs.declared.fault.QueryFault.TheVariants.{Memory}
-use Rattle.query_text.specs.Reading.{Reads, IsReadBack}
+use Rattle.query_text.specs.Reading.{Reads}
+use Rattle.cert_text.specs.declared.refusal.Refusal.{Refusal}
+use Rattle.query_admission.specs.View.{View}
 use Rattle.query_admission.specs.Causes.{most_queries}
-use Rattle.query_admission.proofs.Admitting.{read_once}
+use Rattle.query_admission.specs.Admission.{IsReadAs}
+use Rattle.query_admission.specs.declared.reading.ReadLine.{ReadLine}
+use Rattle.query_admission.specs.declared.reading.ReadLine.TheVariants.{Refused as NotRead}
+use Rattle.query_admission.proofs.Admitting.{read_once, refused_unread}
 use Rattle.catalog_text.specs.Catalog.{Listed as Entry}
 use Rattle.catalog_open.specs.Views.{entry_named}
-use Rattle.catalog_open.specs.Wanted.{Wants, AreMarked, MarksMore}
+use Rattle.catalog_open.specs.Wanted.{AreRead, Wants, AreMarked, MarksMore}
 use Rattle.catalog_open.specs.Entries.{is_marked}
 
 -- the places of names are known one way
@@ -114,15 +117,12 @@ marked_more catalog lines bytes number before now are is many more = record {
 pub marks_same : (These : ℕ → Type 0) (marks : List Bool) → ((place : ℕ) → ¬ These place) → MarksMore These marks marks
 marks_same These marks none = record { kept = λ place is. is; marked = λ place is. absurd (none place is); others = λ place is. inl is }
 
--- a line too many, and one whose text is at fault or names a list that the catalog hasn't, want nothing
-pub wants_few : (catalog : List Entry) (number : ℕ) (bytes : List ℕ) → most_queries < number → (place : ℕ) → ¬ Wants catalog number bytes place
-wants_few catalog number bytes past place w = absurd (omega (arith, past, w.few))
-
-pub wants_spelled : (catalog : List Entry) (number : ℕ) (bytes : List ℕ) (fault : QueryFault) → fault ≢ Memory → IsReadBack bytes (Err fault) → (place : ℕ)
+-- a line that is refused before its lists are looked at, and one that names a list that the catalog hasn't, want nothing
+pub wants_read : (catalog : List Entry) (number : ℕ) (bytes : List ℕ) (refusal : Refusal) → IsReadAs number bytes (NotRead refusal) → (place : ℕ)
     → ¬ Wants catalog number bytes place
-wants_spelled catalog number bytes fault other back place w =
-    let spells = w.reads.0 in
-    elim (back w.query spells.lawful w.reads.1 spells.text) [ inl read ↦ absurd cc | inr memory ↦ other cc ]
+wants_read catalog number bytes refusal is place w =
+    let view : View = record { listed = λ name. None; told = λ name. None } in
+    refused_unread (record { view = view; number = number; bytes = bytes }) refusal w.query (is view) w.few w.reads
 
 pub wants_known : (catalog : List Entry) (number : ℕ) (bytes : List ℕ) (query : Query) → Reads bytes (Ok query)
     → ((places : List ℕ) → ¬ (map (entry_named catalog) query.names ≡ map Some places))
@@ -182,12 +182,15 @@ mark_more places i d before now within fits more =
     } in
     subst (λ ps. MarksMore (Contains ps) before marks) (sym (take_more places i d within)) all
 
--- the next of some lines
-pub marked_next : (catalog : List Entry) (lines : List (Bor (List ℕ))) (i : ℕ) (d : Bor (List ℕ)) (number : ℕ) (before now : List Bool) → number ≡ i
-    → i < length lines → AreMarked catalog (map (λ line. line.now) (take i lines)) before
-    → length now ≡ length catalog → MarksMore (Wants catalog (number + 1) (get_or lines i d).now) before now → AreMarked catalog (map (λ line. line.now) (take (i + 1) lines)) now
-marked_next catalog lines i d number before now is within are many more =
-    let front = map (λ (line : Bor (List ℕ)). line.now) (take i lines) in
-    let long : length front ≡ i = length-map (take i lines) (λ (line : Bor (List ℕ)). line.now) ∙ length-take-le i lines (omega (arith, within)) in
-    let next : map (λ (line : Bor (List ℕ)). line.now) (take (i + 1) lines) ≡ front ++ (get_or lines i d).now ∷ [] = ap (map (λ (line : Bor (List ℕ)). line.now)) (take_more lines i d within) ∙ map-append (λ (line : Bor (List ℕ)). line.now) (take i lines) (get_or lines i d ∷ []) in
-    subst (λ ls. AreMarked catalog ls now) (sym next) (marked_more catalog front (get_or lines i d).now (number + 1) before now are (omega (arith, is, long)) many more)
+-- the next of the lines that were read
+pub marked_next : (catalog : List Entry) (lines : List (List ℕ)) (read : List ReadLine) (i : ℕ) (line : ReadLine) (before now : List Bool) → i < length read
+    → slice_get read i ≡ Some line → AreRead lines read → AreMarked catalog (take i lines) before → length now ≡ length catalog
+    → ((number : ℕ) → (bytes : List ℕ) → IsReadAs number bytes line → MarksMore (Wants catalog number bytes) before now)
+    → AreMarked catalog (take (i + 1) lines) now
+marked_next catalog lines read i line before now is here are marked many more =
+    let within : i < length lines = omega (arith, is, are.many) in
+    let bytes = get_or lines i [] in
+    let long : length (take i lines) ≡ i = length-take-le i lines (omega (arith, within)) in
+    subst (λ ls. AreMarked catalog ls now) (sym (take_more lines i [] within))
+    (marked_more catalog (take i lines) bytes (i + 1) before now marked (omega (arith, long)) many
+    (more (i + 1) bytes (are.each i bytes line (slice_get-get_or lines i [] within) here)))

@@ -1,18 +1,18 @@
 -- What is counted on a shelf between moments.
-use Rattle.std.proofs.Common.{◌≡◌, ◌≢◌, ℕ, ◌-◌, ◌≤◌, ◌^◌, min, Bool, true, false, List, [], ◌∷◌, ◌++◌, map, inl, inr, refl, sym, ap, ◌∙◌, subst, arith}
+use Rattle.std.proofs.Common.{◌≡◌, ◌≢◌, ℕ, zero, suc, ◌+◌, length, length-append, ◌-◌, ◌≤◌, ◌^◌, min, Bool, true, false, List, [], ◌∷◌, ◌++◌, map, inl, inr, refl, sym, ap, ◌∙◌, subst, arith}
 use Rattle.std.specs.Prelude.{if◌then◌else◌}
 use Rattle.std.specs.Str.{bytes_eq}
 use Rattle.std.proofs.lemmas.Slice.Eq.{bytes_eq-Decides}
 use Rattle.std.proofs.lemmas.Bool.{false≢true}
-use Rattle.tk_io.specs.Faults.{Rose}
+use Rattle.tk_io.specs.Faults.{counted, Rose}
 use Rattle.source_api.specs.declared.counts.Counts.{Counts}
 use Rattle.source_api.specs.declared.ledger.PlaceCounts.{PlaceCounts}
 use Rattle.source_api.specs.declared.source.Trouble.{Trouble}
-use Rattle.source_api.specs.declared.source.Trouble.TheVariants.{Failed, Garbled, Memory}
-use Rattle.source_api.specs.Counting.{TroubleHasCause, added, no_counts, raised}
-use Rattle.source_api.specs.Places.{CountsTakes, HasTakeCause, SameElsewhere, put_back_at}
+use Rattle.source_api.specs.declared.source.Trouble.TheVariants.{Failed, Garbled, Memory, Moved}
+use Rattle.source_api.specs.Counting.{TroubleHasCause, IsNoMove, added, no_counts, raised}
+use Rattle.source_api.specs.Places.{CountsTakes, HasTakeCause, SameElsewhere, counts_taken, put_back_at, with_source}
 use Rattle.catalog_text.specs.Catalog.{Listed as Entry}
-use Rattle.catalog_open.specs.Openings.{Counted, Used, used_at, added_all, AddsSources, Moves, MovesAt, PutsBack, KeepsOthers, TroubleAt}
+use Rattle.catalog_open.specs.Openings.{Counted, Used, one_at, used_at, added_all, counted_times, PutsOneBack, MovesBut, none_held, Moves, MovesAt, TakesNone, PutsBack, KeepsOthers, TroubleAt}
 use Rattle.catalog_open.specs.Entries.{entry_at}
 
 added_append : (c : Counts) (xs ys : List Counts) → added_all c (xs ++ ys) ≡ added_all (added_all c xs) ys
@@ -28,13 +28,89 @@ used_append place (one ∷ u) v = go (bytes_eq one.place place) (used_append pla
     go true e = ap (λ t. one.counts ∷ t) e
     go false e = e
 
-pub moves_none : (before : Counted) → Moves [] before before
-moves_none before = record { texts = λ place. refl; takes = λ place. omega arith; sources = λ place. refl }
+-- a count that went up so many times, and then so many times more
+pub times_add : (m n count : ℕ) → counted_times (m + n) count ≡ counted_times m (counted_times n count)
+times_add zero n count = ap (λ k. counted_times k count) (let e : 0 + n ≡ n = omega arith in e)
+times_add (suc m) n count = ap (λ k. counted_times k count) (let e : suc m + n ≡ suc (m + n) = omega arith in e) ∙ ap counted (times_add m n count)
 
-pub moves_then : (u v : List Used) (before mid now : Counted) → Moves u before mid → Moves v mid now → Moves (u ++ v) before now
-moves_then u v before mid now first second = record {
+times_then : (j k n before mid now : ℕ) → mid ≡ counted_times j before → now ≡ counted_times k mid → n ≡ k + j → now ≡ counted_times n before
+times_then j k n before mid now first second all =
+    second ∙ ap (counted_times k) first ∙ sym (times_add k j before) ∙ ap (λ x. counted_times x before) (sym all)
+
+used_both : (place : List ℕ) (u v : List Used) → length (used_at place (u ++ v)) ≡ length (used_at place u) + length (used_at place v)
+used_both place u v = ap (length {A = Counts}) (used_append place u v) ∙ length-append (used_at place u) (used_at place v)
+
+pub moves_nothing : (held : List ℕ → ℕ) (before : Counted) → ((place : List ℕ) → held place ≡ 0) → MovesBut held [] before before
+moves_nothing held before none = record {
+  texts = λ place. refl;
+  takes = λ place. omega arith;
+  taken = λ place. ap (λ n. counted_times n (before place).taken) (let no = none place in let e : 0 ≡ 0 + held place = omega (arith, no) in e);
+  returned = λ place. refl;
+  sources = λ place. refl;
+}
+
+pub moves_none : (before : Counted) → Moves [] before before
+moves_none before = moves_nothing none_held before (λ place. refl)
+
+pub moves_on : (f g h : List ℕ → ℕ) (u v : List Used) (before mid now : Counted) → MovesBut f u before mid → MovesBut g v mid now
+    → ((place : List ℕ) → h place ≡ f place + g place) → MovesBut h (u ++ v) before now
+moves_on f g h u v before mid now first second all = record {
   texts = λ place. second.texts place ∙ first.texts place;
   takes = λ place. omega (arith, first.takes place, second.takes place);
+  taken = λ place.
+      let both = used_both place u v in
+      let here = all place in
+      times_then (length (used_at place u) + f place) (length (used_at place v) + g place) (length (used_at place (u ++ v)) + h place)
+      (before place).taken (mid place).taken (now place).taken (first.taken place) (second.taken place) (omega (arith, both, here));
+  returned = λ place.
+      let both = used_both place u v in
+      times_then (length (used_at place u)) (length (used_at place v)) (length (used_at place (u ++ v))) (before place).returned (mid place).returned (now place).returned
+      (first.returned place) (second.returned place) (omega (arith, both));
+  sources = λ place.
+      second.sources place
+      ∙ ap (λ c. added_all c (used_at place v)) (first.sources place)
+      ∙ sym (added_append (before place).sources (used_at place u) (used_at place v))
+      ∙ ap (added_all (before place).sources) (sym (used_append place u v));
+}
+
+pub moves_then : (held : List ℕ → ℕ) (u v : List Used) (before mid now : Counted) → MovesBut held u before mid → Moves v mid now → MovesBut held (u ++ v) before now
+moves_then held u v before mid now first second = moves_on held none_held held u v before mid now first second (λ place. omega arith)
+
+-- what was held was put back
+pub moves_back : (held : List ℕ → ℕ) (u back : List Used) (before mid now : Counted) → MovesBut held u before mid → PutsBack back mid now
+    → ((place : List ℕ) → length (used_at place back) ≡ held place) → Moves (u ++ back) before now
+moves_back held u back before mid now first second all = record {
+  texts = λ place. second.texts place ∙ first.texts place;
+  takes = λ place. let e = second.takes place in omega (arith, first.takes place, e);
+  taken = λ place.
+      let both = used_both place u back in
+      let here = all place in
+      second.taken place ∙ first.taken place
+      ∙ ap (λ n. counted_times n (before place).taken) (let e : length (used_at place u) + held place ≡ length (used_at place (u ++ back)) + 0 = omega (arith, both, here) in e);
+  returned = λ place.
+      let both = used_both place u back in
+      times_then (length (used_at place u)) (length (used_at place back)) (length (used_at place (u ++ back))) (before place).returned (mid place).returned (now place).returned
+      (first.returned place) (second.returned place) (omega (arith, both));
+  sources = λ place.
+      second.sources place
+      ∙ ap (λ c. added_all c (used_at place back)) (first.sources place)
+      ∙ sym (added_append (before place).sources (used_at place u) (used_at place back))
+      ∙ ap (added_all (before place).sources) (sym (used_append place u back));
+}
+
+-- putting back, one after another
+pub puts_none : (before : Counted) → PutsBack [] before before
+puts_none before = record { texts = λ place. refl; takes = λ place. refl; taken = λ place. refl; returned = λ place. refl; sources = λ place. refl }
+
+pub puts_then : (u v : List Used) (before mid now : Counted) → PutsBack u before mid → PutsBack v mid now → PutsBack (u ++ v) before now
+puts_then u v before mid now first second = record {
+  texts = λ place. second.texts place ∙ first.texts place;
+  takes = λ place. second.takes place ∙ first.takes place;
+  taken = λ place. second.taken place ∙ first.taken place;
+  returned = λ place.
+      let both = used_both place u v in
+      times_then (length (used_at place u)) (length (used_at place v)) (length (used_at place (u ++ v))) (before place).returned (mid place).returned (now place).returned
+      (first.returned place) (second.returned place) (omega (arith, both));
   sources = λ place.
       second.sources place
       ∙ ap (λ c. added_all c (used_at place v)) (first.sources place)
@@ -55,59 +131,134 @@ used_elsewhere place other [] e = refl
 used_elsewhere place other (c ∷ counts) e = ap (λ b. if b then c ∷ used_at other (at_place place counts) else used_at other (at_place place counts)) e ∙ used_elsewhere place other counts e
 
 -- what was counted at one place
-record Here (used : List Used) (before now : Counted) (other : List ℕ) : Type 0 where
+record Here (held : List ℕ → ℕ) (used : List Used) (before now : Counted) (other : List ℕ) : Type 0 where
   texts : (now other).text_faults ≡ (before other).text_faults
   takes : (before other).take_faults ≤ (now other).take_faults
+  taken : (now other).taken ≡ counted_times (length (used_at other used) + held other) (before other).taken
+  returned : (now other).returned ≡ counted_times (length (used_at other used)) (before other).returned
   sources : (now other).sources ≡ added_all (before other).sources (used_at other used)
 
-here_one : (place : List ℕ) (before now : Counted) → SameElsewhere place before now → (at : MovesAt (before place) (now place)) → (other : List ℕ)
-    → Here (at_place place at.counts) before now other
-here_one place before now elsewhere at other = elim (bytes_eq place other) as (λ t. bytes_eq place other ≡ t → Here (at_place place at.counts) before now other) [
-  | true ↦ λ e. subst (Here (at_place place at.counts) before now) ((bytes_eq-Decides place other).0 e) (record {
-    texts = at.texts;
-    takes = at.takes;
-    sources = at.sources ∙ ap (added_all (before place).sources) (sym (used_here place place at.counts ((bytes_eq-Decides place place).1 refl)));
-  })
-  | false ↦ λ e.
-      let apart : other ≢ place = λ same. false≢true (sym e ∙ (bytes_eq-Decides place other).1 (sym same)) in
-      let still : now other ≡ before other = elsewhere other apart in
-      record {
-        texts = ap (λ (c : PlaceCounts). c.text_faults) still;
-        takes = subst (λ (c : PlaceCounts). (before other).take_faults ≤ c.take_faults) (sym still) (omega arith);
-        sources = ap (λ (c : PlaceCounts). c.sources) still ∙ ap (added_all (before other).sources) (sym (used_elsewhere place other at.counts e));
-      }
-] refl
+here_all : (held : List ℕ → ℕ) (used : List Used) (before now : Counted) → ((other : List ℕ) → Here held used before now other) → MovesBut held used before now
+here_all held used before now each = record {
+  texts = λ other. (each other).texts;
+  takes = λ other. (each other).takes;
+  taken = λ other. (each other).taken;
+  returned = λ other. (each other).returned;
+  sources = λ other. (each other).sources;
+}
 
--- where the failed takes of a place stay, and what is counted elsewhere, no take failed
-pub takes_here : (place : List ℕ) (before now : Counted) → SameElsewhere place before now → (now place).take_faults ≡ (before place).take_faults
-    → (other : List ℕ) → (now other).take_faults ≡ (before other).take_faults
-takes_here place before now elsewhere at other =
-    elim (bytes_eq place other) as (λ t. bytes_eq place other ≡ t → (now other).take_faults ≡ (before other).take_faults) [
-      | true ↦ λ e. subst (λ o. (now o).take_faults ≡ (before o).take_faults) ((bytes_eq-Decides place other).0 e) at
+-- nothing was counted there
+here_still : (held : List ℕ → ℕ) (used : List Used) (before now : Counted) (other : List ℕ) → now other ≡ before other → used_at other used ≡ [] → held other ≡ 0
+    → Here held used before now other
+here_still held used before now other still none free =
+    let zero_used : length (used_at other used) ≡ 0 = ap (length {A = Counts}) none in
+    record {
+      texts = ap (λ (c : PlaceCounts). c.text_faults) still;
+      takes = subst (λ (c : PlaceCounts). (before other).take_faults ≤ c.take_faults) (sym still) (omega arith);
+      taken = ap (λ (c : PlaceCounts). c.taken) still ∙ ap (λ n. counted_times n (before other).taken) (let e : 0 ≡ length (used_at other used) + held other = omega (arith, zero_used, free) in e);
+      returned = ap (λ (c : PlaceCounts). c.returned) still ∙ ap (λ n. counted_times n (before other).returned) (sym zero_used);
+      sources = ap (λ (c : PlaceCounts). c.sources) still ∙ ap (added_all (before other).sources) (sym none);
+    }
+
+here_one : (place : List ℕ) (before now : Counted) → SameElsewhere place before now → (at : TakesNone (before place) (now place)) → (other : List ℕ)
+    → Here none_held (at_place place at.moves.counts) before now other
+here_one place before now elsewhere at other =
+    let counts = at.moves.counts in
+    elim (bytes_eq place other) as (λ t. bytes_eq place other ≡ t → Here none_held (at_place place counts) before now other) [
+      | true ↦ λ e.
+          let used = used_here place place counts ((bytes_eq-Decides place place).1 refl) in
+          let many : length (used_at place (at_place place counts)) ≡ length counts = ap (length {A = Counts}) used in
+          subst (Here none_held (at_place place counts) before now) ((bytes_eq-Decides place other).0 e) (record {
+            texts = at.moves.texts;
+            takes = at.moves.takes;
+            taken = at.taken ∙ ap (λ n. counted_times n (before place).taken) (let e : length counts ≡ length (used_at place (at_place place counts)) + 0 = omega (arith, many) in e);
+            returned = at.returned ∙ ap (λ n. counted_times n (before place).returned) (sym many);
+            sources = at.moves.sources ∙ ap (added_all (before place).sources) (sym used);
+          })
       | false ↦ λ e.
           let apart : other ≢ place = λ same. false≢true (sym e ∙ (bytes_eq-Decides place other).1 (sym same)) in
-          ap (λ (c : PlaceCounts). c.take_faults) (elsewhere other apart)
+          here_still none_held (at_place place counts) before now other (elsewhere other apart) (used_elsewhere place other counts e) refl
     ] refl
 
--- sources that are put back move so
-pub puts_moves : (u : List Used) (before now : Counted) → PutsBack u before now → Moves u before now
-puts_moves u before now puts = record {
-  texts = puts.texts;
-  takes = λ place. let e = puts.takes place in omega (arith, e);
-  sources = puts.sources;
+-- of one place one source more is held
+here_taken : (place : List ℕ) (before now : Counted) → SameElsewhere place before now → now place ≡ counts_taken (before place) → (other : List ℕ)
+    → Here (one_at place) [] before now other
+here_taken place before now elsewhere is other =
+    elim (bytes_eq place other) as (λ t. bytes_eq place other ≡ t → Here (one_at place) [] before now other) [
+      | true ↦ λ e.
+          let one : one_at place place ≡ 1 = ap (λ b. if b then 1 else 0) ((bytes_eq-Decides place place).1 refl) in
+          let same : (now place).take_faults ≡ (before place).take_faults = ap (λ (c : PlaceCounts). c.take_faults) is in
+          subst (Here (one_at place) [] before now) ((bytes_eq-Decides place other).0 e) (record {
+            texts = ap (λ (c : PlaceCounts). c.text_faults) is;
+            takes = omega (arith, same);
+            taken = ap (λ (c : PlaceCounts). c.taken) is ∙ ap (λ n. counted_times n (before place).taken) (let e : 1 ≡ 0 + one_at place place = omega (arith, one) in e);
+            returned = ap (λ (c : PlaceCounts). c.returned) is;
+            sources = ap (λ (c : PlaceCounts). c.sources) is;
+          })
+      | false ↦ λ e.
+          let apart : other ≢ place = λ same. false≢true (sym e ∙ (bytes_eq-Decides place other).1 (sym same)) in
+          here_still (one_at place) [] before now other (elsewhere other apart) refl (ap (λ b. if b then 1 else 0) e)
+    ] refl
+
+-- one source more was taken
+pub moves_taken : (place : List ℕ) (before now : Counted) → SameElsewhere place before now → now place ≡ counts_taken (before place)
+    → MovesBut (one_at place) [] before now
+moves_taken place before now elsewhere is = here_all (one_at place) [] before now (here_taken place before now elsewhere is)
+
+-- what was counted at one place, where one source was put back at another or there
+record PutHere (place : List ℕ) (one : Counts) (before now : Counted) (other : List ℕ) : Type 0 where
+  texts : (now other).text_faults ≡ (before other).text_faults
+  takes : (now other).take_faults ≡ (before other).take_faults
+  taken : (now other).taken ≡ (before other).taken
+  returned : (now other).returned ≡ counted_times (length (used_at other (at_place place (one ∷ [])))) (before other).returned
+  sources : (now other).sources ≡ added_all (before other).sources (used_at other (at_place place (one ∷ [])))
+
+-- one source was put back
+pub puts_here : (place : List ℕ) (one : Counts) (before now : Counted) → SameElsewhere place before now → now place ≡ with_source one (before place)
+    → PutsBack (record { place = place; counts = one } ∷ []) before now
+puts_here place one before now elsewhere is = record {
+  texts = λ other. (each other).texts;
+  takes = λ other. (each other).takes;
+  taken = λ other. (each other).taken;
+  returned = λ other. (each other).returned;
+  sources = λ other. (each other).sources;
 }
+  where
+    each : (other : List ℕ) → PutHere place one before now other
+    each other = elim (bytes_eq place other) as (λ t. bytes_eq place other ≡ t → PutHere place one before now other) [
+      | true ↦ λ e.
+          let used = used_here place place (one ∷ []) ((bytes_eq-Decides place place).1 refl) in
+          subst (PutHere place one before now) ((bytes_eq-Decides place other).0 e) (record {
+            texts = ap (λ (c : PlaceCounts). c.text_faults) is;
+            takes = ap (λ (c : PlaceCounts). c.take_faults) is;
+            taken = ap (λ (c : PlaceCounts). c.taken) is;
+            returned = ap (λ (c : PlaceCounts). c.returned) is ∙ ap (λ (cs : List Counts). counted_times (length cs) (before place).returned) (sym used);
+            sources = ap (λ (c : PlaceCounts). c.sources) is ∙ ap (added_all (before place).sources) (sym used);
+          })
+      | false ↦ λ e.
+          let apart : other ≢ place = λ same. false≢true (sym e ∙ (bytes_eq-Decides place other).1 (sym same)) in
+          let still = elsewhere other apart in
+          let none = used_elsewhere place other (one ∷ []) e in
+          record {
+            texts = ap (λ (c : PlaceCounts). c.text_faults) still;
+            takes = ap (λ (c : PlaceCounts). c.take_faults) still;
+            taken = ap (λ (c : PlaceCounts). c.taken) still;
+            returned = ap (λ (c : PlaceCounts). c.returned) still ∙ ap (λ (cs : List Counts). counted_times (length cs) (before other).returned) (sym none);
+            sources = ap (λ (c : PlaceCounts). c.sources) still ∙ ap (added_all (before other).sources) (sym none);
+          }
+    ] refl
 
 -- what changes at one place alone moves so
-pub moves_here : (place : List ℕ) (before now : Counted) → SameElsewhere place before now → (at : MovesAt (before place) (now place))
-    → Moves (at_place place at.counts) before now
-moves_here place before now elsewhere at = record {
-  texts = λ other. (here_one place before now elsewhere at other).texts;
-  takes = λ other. (here_one place before now elsewhere at other).takes;
-  sources = λ other. (here_one place before now elsewhere at other).sources;
-}
+pub moves_here : (place : List ℕ) (before now : Counted) → SameElsewhere place before now → (at : TakesNone (before place) (now place))
+    → Moves (at_place place at.moves.counts) before now
+moves_here place before now elsewhere at = here_all none_held (at_place place at.moves.counts) before now (here_one place before now elsewhere at)
 
-pub moves_at : (u : List Used) (before now : Counted) (place : List ℕ) → Moves u before now → MovesAt (before place) (now place)
+pub moves_at : {held : List ℕ → ℕ} (u : List Used) (before now : Counted) (place : List ℕ) → MovesBut held u before now → MovesAt (before place) (now place)
 moves_at u before now place moves = record { texts = moves.texts place; takes = moves.takes place; counts = used_at place u; sources = moves.sources place }
+
+pub puts_at : (u : List Used) (before now : Counted) (place : List ℕ) → PutsBack u before now → MovesAt (before place) (now place)
+puts_at u before now place puts =
+    record { texts = puts.texts place; takes = (let e = puts.takes place in omega (arith, e)); counts = used_at place u; sources = puts.sources place }
 
 -- no count falls below where it stood, or the last value
 faults_on : (c : Counts) (xs : List Counts) → min c.faults (2 ^ 64 - 1) ≤ (added_all c xs).faults
@@ -117,6 +268,10 @@ faults_on c (x ∷ xs) = let rest = faults_on (added c x) xs in let here : (adde
 garbles_on : (c : Counts) (xs : List Counts) → min c.garbles (2 ^ 64 - 1) ≤ (added_all c xs).garbles
 garbles_on c [] = omega arith
 garbles_on c (x ∷ xs) = let rest = garbles_on (added c x) xs in let here : (added c x).garbles ≡ raised c.garbles x.garbles = refl in omega (arith, rest, here)
+
+replaced_on : (c : Counts) (xs : List Counts) → min c.moves (2 ^ 64 - 1) ≤ (added_all c xs).moves
+replaced_on c [] = omega arith
+replaced_on c (x ∷ xs) = let rest = replaced_on (added c x) xs in let here : (added c x).moves ≡ raised c.moves x.moves = refl in omega (arith, rest, here)
 
 rose_on : (a b c : ℕ) → Rose a b → min b (2 ^ 64 - 1) ≤ c → Rose a c
 rose_on a b c rose on = omega (arith, rose, on)
@@ -146,6 +301,12 @@ trouble_from before mid now moves trouble = elim trouble [
   ]
 ]
 
+-- a list that was replaced since some moment was replaced since any earlier one
+pub moved_from : (before mid now : PlaceCounts) → MovesAt before mid → Rose mid.sources.moves now.sources.moves → Rose before.sources.moves now.sources.moves
+moved_from before mid now moves rose =
+    rose_from before.sources.moves mid.sources.moves now.sources.moves
+    (subst (λ (c : Counts). min before.sources.moves (2 ^ 64 - 1) ≤ c.moves) (sym moves.sources) (replaced_on before.sources moves.counts)) rose
+
 pub keeps_then : (catalog : List Entry) (These : ℕ → Type 0) (before mid now : Counted) → KeepsOthers catalog These before mid
     → KeepsOthers catalog These mid now → KeepsOthers catalog These before now
 keeps_then catalog These before mid now first second = λ place apart. second place apart ∙ first place apart
@@ -156,21 +317,22 @@ pub keeps_here : (catalog : List Entry) (These : ℕ → Type 0) (entry : ℕ) (
 keeps_here catalog These entry place before now is at elsewhere = λ other apart. elsewhere other (λ same. apart entry is (at ∙ sym same))
 
 -- a source was put back at a place where it counts
-pub put_known : (before now : PlaceCounts) (knows : Bool) (counts : Counts) → now ≡ put_back_at knows counts before → knows ≡ true → AddsSources before now
-put_known before now knows counts is known = record { counts = counts ∷ []; here = is ∙ ap (λ k. put_back_at k counts before) known }
+pub put_known : (before now : PlaceCounts) (knows : Bool) (counts : Counts) → now ≡ put_back_at knows counts before → knows ≡ true → PutsOneBack before now
+put_known before now knows counts is known = (counts, is ∙ ap (λ k. put_back_at k counts before) known)
 
 -- and had failed at its first call, or answered it by garbled data
 pub put_troubled : (before now : PlaceCounts) (knows : Bool) (first counts : Counts) (trouble : Trouble) → now ≡ put_back_at knows counts before → knows ≡ true
-    → first ≡ no_counts → TroubleHasCause first counts trouble → (trouble ≡ Memory → ⊥) → TroubleAt before now
-put_troubled before now knows first counts Failed is known fresh cause other =
+    → first ≡ no_counts → TroubleHasCause first counts trouble → (trouble ≡ Memory → ⊥) → IsNoMove trouble → TroubleAt before now
+put_troubled before now knows first counts Failed is known fresh cause other still =
     let here : now.sources.faults ≡ raised before.sources.faults counts.faults = ap (λ (c : PlaceCounts). c.sources.faults) (is ∙ ap (λ k. put_back_at k counts before) known) in
     let none : first.faults ≡ 0 = ap (λ (c : Counts). c.faults) fresh in
     inr (inl (omega (arith, here, none, cause)))
-put_troubled before now knows first counts Garbled is known fresh cause other =
+put_troubled before now knows first counts Garbled is known fresh cause other still =
     let here : now.sources.garbles ≡ raised before.sources.garbles counts.garbles = ap (λ (c : PlaceCounts). c.sources.garbles) (is ∙ ap (λ k. put_back_at k counts before) known) in
     let none : first.garbles ≡ 0 = ap (λ (c : Counts). c.garbles) fresh in
     inr (inr (omega (arith, here, none, cause)))
-put_troubled before now knows first counts Memory is known fresh cause other = absurd (other refl)
+put_troubled before now knows first counts Memory is known fresh cause other still = absurd (other refl)
+put_troubled before now knows first counts (Moved had stated) is known fresh cause other still = absurd still
 
 failed_not : Failed ≡ Memory → ⊥
 failed_not e = cc
@@ -181,13 +343,13 @@ garbled_not e = cc
 -- the same, where the trouble is known
 pub put_failed : (before now : PlaceCounts) (knows : Bool) (first counts : Counts) (trouble : Trouble) → now ≡ put_back_at knows counts before → knows ≡ true
     → first ≡ no_counts → TroubleHasCause first counts trouble → trouble ≡ Failed → TroubleAt before now
-put_failed before now knows first counts trouble is known fresh cause failed = put_troubled before now knows first counts Failed is known fresh (subst (TroubleHasCause first counts) failed cause) failed_not
+put_failed before now knows first counts trouble is known fresh cause failed = put_troubled before now knows first counts Failed is known fresh (subst (TroubleHasCause first counts) failed cause) failed_not tt
 
 pub put_garbled : (before now : PlaceCounts) (knows : Bool) (first counts : Counts) (trouble : Trouble) → now ≡ put_back_at knows counts before → knows ≡ true
     → first ≡ no_counts → TroubleHasCause first counts trouble → trouble ≡ Garbled → TroubleAt before now
-put_garbled before now knows first counts trouble is known fresh cause garbled = put_troubled before now knows first counts Garbled is known fresh (subst (TroubleHasCause first counts) garbled cause) garbled_not
+put_garbled before now knows first counts trouble is known fresh cause garbled = put_troubled before now knows first counts Garbled is known fresh (subst (TroubleHasCause first counts) garbled cause) garbled_not tt
 
--- a call that takes a source moves so, and so does one after which the source was put back
+-- a call that takes a source moves so
 pub take_moves : (before now : PlaceCounts) → CountsTakes before now → MovesAt before now
 take_moves before now takes = record {
   texts = ap (λ (c : PlaceCounts). c.text_faults) takes.others;
@@ -196,14 +358,33 @@ take_moves before now takes = record {
   sources = ap (λ (c : PlaceCounts). c.sources) takes.others;
 }
 
-pub take_then : (before mid now : PlaceCounts) → CountsTakes before mid → AddsSources mid now → MovesAt before now
-take_then before mid now takes adds =
-    let same : now.take_faults ≡ mid.take_faults = ap (λ (c : PlaceCounts). c.take_faults) adds.here in
+-- no source was taken, or one was taken and put back
+pub took_none : (before now : PlaceCounts) → CountsTakes before now → now.taken ≡ before.taken → TakesNone before now
+took_none before now takes same = record {
+  moves = record {
+    texts = ap (λ (c : PlaceCounts). c.text_faults) takes.others;
+    takes = takes.later;
+    counts = [];
+    sources = ap (λ (c : PlaceCounts). c.sources) takes.others;
+  };
+  taken = same;
+  returned = ap (λ (c : PlaceCounts). c.returned) takes.others;
+  once = omega arith;
+}
+
+pub took_back : (before mid now : PlaceCounts) → mid ≡ counts_taken before → PutsOneBack mid now → TakesNone before now
+took_back before mid now took put =
+    let first : (now.take_faults) ≡ before.take_faults = ap (λ (c : PlaceCounts). c.take_faults) put.1 ∙ ap (λ (c : PlaceCounts). c.take_faults) took in
     record {
-      texts = ap (λ (c : PlaceCounts). c.text_faults) adds.here ∙ ap (λ (c : PlaceCounts). c.text_faults) takes.others;
-      takes = omega (arith, same, takes.later);
-      counts = adds.counts;
-      sources = ap (λ (c : PlaceCounts). c.sources) adds.here ∙ ap (λ (c : PlaceCounts). added_all c.sources adds.counts) takes.others;
+      moves = record {
+        texts = ap (λ (c : PlaceCounts). c.text_faults) put.1 ∙ ap (λ (c : PlaceCounts). c.text_faults) took;
+        takes = omega (arith, first);
+        counts = put.0 ∷ [];
+        sources = ap (λ (c : PlaceCounts). c.sources) put.1 ∙ ap (λ (c : PlaceCounts). added c.sources put.0) took;
+      };
+      taken = ap (λ (c : PlaceCounts). c.taken) put.1 ∙ ap (λ (c : PlaceCounts). c.taken) took;
+      returned = ap (λ (c : PlaceCounts). c.returned) put.1 ∙ ap (λ (c : PlaceCounts). counted c.returned) took;
+      once = omega arith;
     }
 
 -- a take that failed or was answered by garbled data is trouble at its place
@@ -211,3 +392,11 @@ pub take_trouble : (before now : PlaceCounts) (trouble : Trouble) → HasTakeCau
 take_trouble before now Failed cause other = inl cause
 take_trouble before now Garbled cause other = inl cause
 take_trouble before now Memory cause other = absurd (other refl)
+take_trouble before now (Moved had stated) cause other = absurd cause
+
+-- the same, where the trouble is known
+pub take_failed : (before now : PlaceCounts) (trouble : Trouble) → HasTakeCause before now trouble → trouble ≡ Failed → TroubleAt before now
+take_failed before now trouble cause failed = take_trouble before now Failed (subst (HasTakeCause before now) failed cause) failed_not
+
+pub take_garbled : (before now : PlaceCounts) (trouble : Trouble) → HasTakeCause before now trouble → trouble ≡ Garbled → TroubleAt before now
+take_garbled before now trouble cause garbled = take_trouble before now Garbled (subst (HasTakeCause before now) garbled cause) garbled_not

@@ -1,18 +1,20 @@
 -- What became of the sources of the first entries of a catalog, with one more.
-use Rattle.std.proofs.Common.{◌≡◌, ◌⊎◌, ℕ, ◌+◌, ◌<◌, ◌≤◌, Bool, true, false, cond, nat_le, List, [], ◌∷◌, ◌++◌, All, length, length-append, slice_index_or, inl, inr, slice_get, MatchOption, Option, None, Some, Result, Ok, Err, IfOk, IfSome, OnOk, OnErr, refl, sym, ap, ◌∙◌, subst, arith}
+use Rattle.std.proofs.Common.{◌≡◌, ◌⊎◌, ℕ, suc, ◌+◌, ◌<◌, ◌≤◌, Bool, true, false, cond, nat_le, List, [], ◌∷◌, ◌++◌, All, length, length-append, slice_index_or, inl, inr, slice_get, MatchOption, Option, None, Some, Result, Ok, Err, IfOk, IfSome, OnOk, OnErr, refl, sym, ap, ◌∙◌, subst, arith}
 use Rattle.std.proofs.lemmas.List.{get_or_append_left, get_or_past, get_or_push}
 use Rattle.std.proofs.lemmas.Bool.{cases_lt, leb-true}
 use Rattle.std.proofs.lemmas.List.Elements.{All-push, All-from_recursion, All-weaker}
 use Rattle.std.proofs.lemmas.Option.{get_or_from_slice_get, same_Some}
+use Rattle.std.specs.Prelude.{if◌then◌else◌}
+use Rattle.std.specs.Str.{bytes_eq}
 use Rattle.ranked_list.specs.declared.row.Row.{Row}
 use Rattle.source_api.specs.declared.ledger.PlaceCounts.{PlaceCounts}
-use Rattle.source_api.specs.Places.{SameElsewhere}
+use Rattle.source_api.specs.Places.{SameElsewhere, counts_taken}
 use Rattle.catalog_text.specs.Catalog.{Listed as Entry}
 use Rattle.catalog_open.specs.declared.opened.Opening.{Opening}
 use Rattle.catalog_open.specs.declared.opened.Opening.TheVariants.{Closed, Open}
 use Rattle.catalog_open.specs.Entries.{no_entry, entry_at, opening_at, entry_told}
-use Rattle.catalog_open.specs.Openings.{Counted, Used, Moves, MovesAt, KeepsOthers, TroubleAt, Sources, run_count, IsToldAs, IsSource, IsOpening, IsNumbered, AreOpened, IsKnownAt}
-use Rattle.catalog_open.proofs.Moving.{at_place, moves_none, moves_then, moves_here, moves_at, trouble_on, trouble_from, keeps_then, keeps_here}
+use Rattle.catalog_open.specs.Openings.{Counted, Used, Moves, MovesAt, PutsOneBack, TakesNone, KeepsOthers, TroubleAt, one_at, standing, Sources, run_count, IsToldAs, IsSource, IsOpening, IsNumbered, AreOpened, IsKnownAt}
+use Rattle.catalog_open.proofs.Moving.{at_place, moves_nothing, moves_on, moves_then, moves_here, moves_at, moves_taken, took_back, trouble_on, trouble_from, keeps_then, keeps_here}
 use Rattle.limits.specs.declared.TheConstants.{MAX_OBJECTS}
 
 -- nothing is open yet
@@ -25,7 +27,7 @@ opened_none lists catalog Wanted before = record {
   many_counts = refl;
   small = All-from_recursion (λ count. count ≤ MAX_OBJECTS) [] tt;
   used = [];
-  moves = moves_none before;
+  moves = moves_nothing (standing catalog []) before (λ place. refl);
   others = λ place apart. refl;
 }
 
@@ -46,7 +48,7 @@ opened_moved lists catalog Wanted before mid now openings s u are moves others =
   many_counts = are.many_counts;
   small = are.small;
   used = are.used ++ u;
-  moves = moves_then are.used u before mid now are.moves moves;
+  moves = moves_then (standing catalog s.places) are.used u before mid now are.moves moves;
   others = keeps_then catalog Wanted before mid now are.others others;
 }
 
@@ -123,19 +125,39 @@ run_count_small size = small (nat_le size MAX_OBJECTS) (leb-true size MAX_OBJECT
     small true is = is refl
     small false is = omega arith
 
+-- how many entries have a place, with one entry more
+standing_more : (catalog : List Entry) (entries : List ℕ) (entry : ℕ) (place : List ℕ)
+    → standing catalog (entries ++ entry ∷ []) place ≡ standing catalog entries place + one_at (entry_at catalog entry).place place
+standing_more catalog [] entry place = go (bytes_eq (entry_at catalog entry).place place)
+  where
+    go : (b : Bool) → (if b then 1 else 0) ≡ 0 + (if b then 1 else 0)
+    go true = omega arith
+    go false = omega arith
+standing_more catalog (e ∷ entries) entry place = go (bytes_eq (entry_at catalog e).place place) (standing_more catalog entries entry place)
+  where
+    go : (b : Bool) → standing catalog (entries ++ entry ∷ []) place ≡ standing catalog entries place + one_at (entry_at catalog entry).place place
+        → (if b then suc (standing catalog (entries ++ entry ∷ []) place) else standing catalog (entries ++ entry ∷ []) place)
+        ≡ (if b then suc (standing catalog entries place) else standing catalog entries place) + one_at (entry_at catalog entry).place place
+    go true e = omega (arith, e)
+    go false e = e
+
 -- the next source is open
 pub opened_open : (lists : List ℕ → Option (List Row)) (catalog : List Entry) (Wanted : ℕ
-    → Type 0) (before now : Counted) (openings : List Opening) (s : Sources) (next size : ℕ) (told : Option (List Row))
-    → AreOpened lists catalog Wanted before now openings s → length openings ≡ next → next < length catalog → Wanted next → IsToldAs (entry_told lists catalog next) told size
+    → Type 0) (before mid now : Counted) (openings : List Opening) (s : Sources) (next size : ℕ) (told : Option (List Row))
+    → AreOpened lists catalog Wanted before mid openings s → length openings ≡ next → next < length catalog → Wanted next → IsToldAs (entry_told lists catalog next) told size
+    → SameElsewhere (entry_at catalog next).place mid now → now (entry_at catalog next).place ≡ counts_taken (mid (entry_at catalog next).place)
     → AreOpened lists catalog Wanted before now (openings ++ Open size (length s.places) ∷ []) (more_sources s told next (run_count size))
-opened_open lists catalog Wanted before now openings s next size told are long inside wanted is_told =
+opened_open lists catalog Wanted before mid now openings s next size told are long inside wanted is_told elsewhere here_taken =
     let o = Open size (length s.places) in
+    let text = (entry_at catalog next).place in
+    let step = moves_taken text mid now elsewhere here_taken in
     record {
       each = λ place within.
           let within_more : place < length openings + 1 = omega (arith, within, length-append openings (o ∷ [])) in
           elim (last_or place (length openings) within_more) [
             | inl old ↦ subst (IsOpening lists catalog (more_sources s told next (run_count size)) Wanted before now place) (sym (get_or_append_left openings (o ∷ []) Closed place old))
-                (still_opening lists catalog s told next (run_count size) Wanted before now place (opening_at openings place) are.many_told are.many_counts (are.each place old))
+                (still_opening lists catalog s told next (run_count size) Wanted before now place (opening_at openings place) are.many_told are.many_counts
+                (opening_on lists catalog s Wanted before mid now place (opening_at openings place) (moves_at [] mid now (entry_at catalog place).place step) (are.each place old)))
             | inr new ↦
                 let here : opening_at (openings ++ o ∷ []) place ≡ o = get_or_push openings o Closed place (sym new) in
                 let same : next ≡ place = sym long ∙ sym new in
@@ -164,9 +186,10 @@ opened_open lists catalog Wanted before now openings s next size told are long i
       many_told = omega (arith, length-append s.told (told ∷ []), length-append s.places (next ∷ []), are.many_told);
       many_counts = omega (arith, length-append s.counts (run_count size ∷ []), length-append s.places (next ∷ []), are.many_counts);
       small = All-push (λ count. count ≤ MAX_OBJECTS) s.counts (run_count size) are.small (run_count_small size);
-      used = are.used;
-      moves = are.moves;
-      others = are.others;
+      used = are.used ++ [];
+      moves = moves_on (standing catalog s.places) (one_at text) (standing catalog (s.places ++ next ∷ [])) are.used [] before mid now are.moves step
+          (standing_more catalog s.places next);
+      others = keeps_then catalog Wanted before mid now are.others (keeps_here catalog Wanted next text mid now wanted refl elsewhere);
     }
 
 -- the entry at a place
@@ -199,14 +222,14 @@ opened_as lists catalog Wanted before now os os_now told told_now places places_
 -- a source was tried to be opened
 pub opened_tried : (lists : List ℕ → Option (List Row)) (catalog : List Entry) (Wanted : ℕ
     → Type 0) (before mid now : Counted) (place : ℕ) (text : List ℕ) (os : List Opening) (s : Sources)
-    → Wanted place → (entry_at catalog place).place ≡ text → SameElsewhere text mid now → MovesAt (mid text) (now text) → AreOpened lists catalog Wanted before mid os s → AreOpened lists catalog Wanted before now os s
+    → Wanted place → (entry_at catalog place).place ≡ text → SameElsewhere text mid now → TakesNone (mid text) (now text) → AreOpened lists catalog Wanted before mid os s → AreOpened lists catalog Wanted before now os s
 opened_tried lists catalog Wanted before mid now place text os s wanted at elsewhere moves are =
-    opened_moved lists catalog Wanted before mid now os s (at_place text moves.counts) are (moves_here text mid now elsewhere moves) (keeps_here catalog Wanted place text mid now wanted at elsewhere)
+    opened_moved lists catalog Wanted before mid now os s (at_place text moves.moves.counts) are (moves_here text mid now elsewhere moves) (keeps_here catalog Wanted place text mid now wanted at elsewhere)
 
 -- it isn't open
 pub opened_not : (lists : List ℕ → Option (List Row)) (catalog : List Entry) (Wanted : ℕ
     → Type 0) (before mid now : Counted) (place : ℕ) (text : List ℕ) (os os_now : List Opening) (s : Sources)
-    → Wanted place → length os ≡ place → (entry_at catalog place).place ≡ text → SameElsewhere text mid now → MovesAt (mid text) (now text) → TroubleAt (mid text) (now text) → os_now ≡ os ++ Closed ∷ []
+    → Wanted place → length os ≡ place → (entry_at catalog place).place ≡ text → SameElsewhere text mid now → TakesNone (mid text) (now text) → TroubleAt (mid text) (now text) → os_now ≡ os ++ Closed ∷ []
     → AreOpened lists catalog Wanted before mid os s → AreOpened lists catalog Wanted before now os_now s
 opened_not lists catalog Wanted before mid now place text os os_now s wanted long at elsewhere moves trouble put are =
     let tried = opened_tried lists catalog Wanted before mid now place text os s wanted at elsewhere moves are in
@@ -219,13 +242,13 @@ opened_not lists catalog Wanted before mid now place text os os_now s wanted lon
 pub opened_some : (lists : List ℕ → Option (List Row)) (catalog : List Entry) (Wanted : ℕ
     → Type 0) (before mid now : Counted) (place size number : ℕ) (text : List ℕ) (os os_now : List Opening)
     (told told_now : List (Option (List Row))) (one : Option (List Row)) (places places_now counts counts_now : List ℕ)
-    → Wanted place → place < length catalog → length os ≡ place → number ≡ length places → (entry_at catalog place).place ≡ text → SameElsewhere text mid now → MovesAt (mid text) (now text) → IsToldAs (lists text) one size
+    → Wanted place → place < length catalog → length os ≡ place → number ≡ length places → (entry_at catalog place).place ≡ text → SameElsewhere text mid now → now text ≡ counts_taken (mid text) → IsToldAs (lists text) one size
     → os_now ≡ os ++ Open size number ∷ [] → told_now ≡ told ++ one ∷ [] → places_now ≡ places ++ place ∷ [] → counts_now ≡ counts ++ run_count size ∷ []
     → AreOpened lists catalog Wanted before mid os (sources_of told places counts) → AreOpened lists catalog Wanted before now os_now (sources_of told_now places_now counts_now)
-opened_some lists catalog Wanted before mid now place size number text os os_now told told_now one places places_now counts counts_now wanted inside long many at elsewhere moves is_told o t p c are =
-    let tried = opened_tried lists catalog Wanted before mid now place text os (sources_of told places counts) wanted at elsewhere moves are in
+opened_some lists catalog Wanted before mid now place size number text os os_now told told_now one places places_now counts counts_now wanted inside long many at elsewhere took is_told o t p c are =
     let told_here : IsToldAs (entry_told lists catalog place) one size = subst (λ x. IsToldAs (lists x) one size) (sym at) is_told in
-    let now_open = opened_open lists catalog Wanted before now os (sources_of told places counts) place size one tried long inside wanted told_here in
+    let now_open = opened_open lists catalog Wanted before mid now os (sources_of told places counts) place size one are long inside wanted told_here
+    (subst (λ x. SameElsewhere x mid now) (sym at) elsewhere) (subst (λ x. now x ≡ counts_taken (mid x)) (sym at) took) in
     opened_as lists catalog Wanted before now (os ++ Open size (length places) ∷ []) os_now (told ++ one ∷ []) told_now (places ++ place ∷ []) places_now (counts ++ run_count size ∷ []) counts_now
     (o ∙ ap (λ n. os ++ Open size n ∷ []) many) t p c now_open
 
@@ -283,9 +306,14 @@ told_as (Some rows) one tells size list same stated = (same ∙ list, subst (λ 
 -- a source that was taken, and asked for its size
 pub asked : {S E : Type 0} (r : Result (Option S) E) (list_of : S → Option (List Row)) (size_of : S → ℕ) (before mid now : PlaceCounts) (Known : Type 0)
     (told one : Option (List Row))
-    → MovesAt before mid → Known → IfSome told (λ rows. one ≡ Some rows)
-    → IfOk r (λ found. MatchOption found (TroubleAt mid now) (λ taken. (list_of taken ≡ one) × IfSome one (λ rows. size_of taken ≡ length rows)))
-    → IfOk r (λ found. MatchOption found (TroubleAt before now) (λ taken. Known × IsToldAs told (list_of taken) (size_of taken)))
-asked (Ok None) list_of size_of before mid now Known told one moves known list found = trouble_from before mid now moves found
-asked (Ok (Some taken)) list_of size_of before mid now Known told one moves known list found = (known, told_as told one (list_of taken) (size_of taken) list found.0 found.1)
-asked (Err e) list_of size_of before mid now Known told one moves known list found = tt
+    → MovesAt before mid → mid ≡ counts_taken before → Known → IfSome told (λ rows. one ≡ Some rows)
+    → IfOk r (λ found. MatchOption found (TroubleAt mid now × PutsOneBack mid now) (λ taken. (now ≡ mid) × (list_of taken ≡ one) × IfSome one (λ rows. size_of taken ≡ length rows)))
+    → IfOk r (λ found. MatchOption found (TroubleAt before now × TakesNone before now) (λ taken. Known × IsToldAs told (list_of taken) (size_of taken) × (now ≡ counts_taken before)))
+asked (Ok None) list_of size_of before mid now Known told one moves took known list found = (trouble_from before mid now moves found.0, took_back before mid now took found.1)
+asked (Ok (Some taken)) list_of size_of before mid now Known told one moves took known list found = (known, told_as told one (list_of taken) (size_of taken) list found.1 found.2, found.0 ∙ took)
+asked (Err e) list_of size_of before mid now Known told one moves took known list found = tt
+
+-- memory was refused once a source was taken
+pub asked_short : {A E : Type 0} (r : Result A E) (before mid now : PlaceCounts) → mid ≡ counts_taken before → OnErr r (PutsOneBack mid now) → OnErr r (TakesNone before now)
+asked_short (Ok x) before mid now took put = tt
+asked_short (Err e) before mid now took put = took_back before mid now took put

@@ -1,11 +1,12 @@
 -- What opening sources and putting them back do to a shelf.
-use Rattle.std.specs.Prelude.{◌≡◌, ◌≢◌, ◌⊎◌, ◌≤◌, ◌<◌, ℕ, Bool, true, List, [], ◌∷◌, All, Option, None, Some, IfSome, length, nat_le, if◌then◌else◌, slice_index_or}
+use Rattle.std.specs.Prelude.{◌≡◌, ◌≢◌, ◌⊎◌, ◌≤◌, ◌<◌, ◌+◌, ℕ, zero, suc, Bool, true, List, [], ◌∷◌, All, Option, None, Some, IfSome, length, nat_le, if◌then◌else◌, slice_index_or}
 use Rattle.std.specs.Str.{bytes_eq}
-use Rattle.tk_io.specs.Faults.{Rose}
+use Rattle.tk_io.specs.Faults.{counted, Rose}
 use Rattle.ranked_list.specs.declared.row.Row.{Row}
 use Rattle.source_api.specs.declared.counts.Counts.{Counts}
 use Rattle.source_api.specs.declared.ledger.PlaceCounts.{PlaceCounts}
 use Rattle.source_api.specs.Counting.{added, raised}
+use Rattle.source_api.specs.Places.{with_source}
 use Rattle.catalog_text.specs.Catalog.{Listed as Entry}
 use Rattle.catalog_open.specs.declared.opened.Opening.{Opening}
 use Rattle.catalog_open.specs.declared.opened.Opening.TheVariants.{Closed, Open}
@@ -31,22 +32,38 @@ abbrev pub added_all : Counts → List Counts → Counts
 added_all counts [] = counts
 added_all counts (more ∷ others) = added_all (added counts more) others
 
--- between two moments these sources were put back on a shelf, and calls that take a source failed; no text was asked for that failed
-pub record Moves (used : List Used) (before now : Counted) : Type 0 where
+-- a count that went up so many times
+abbrev pub counted_times : ℕ → ℕ → ℕ
+counted_times zero count = count
+counted_times (suc times) count = counted (counted_times times count)
+
+-- between two moments sources were taken of a shelf and these put back, and of each place so many are still held; calls that take a source failed,
+-- and no text was asked for that failed
+pub record MovesBut (held : List ℕ → ℕ) (used : List Used) (before now : Counted) : Type 0 where
   pub texts : (place : List ℕ) → (now place).text_faults ≡ (before place).text_faults
   pub takes : (place : List ℕ) → (before place).take_faults ≤ (now place).take_faults
+  pub taken : (place : List ℕ) → (now place).taken ≡ counted_times (length (used_at place used) + held place) (before place).taken
+  pub returned : (place : List ℕ) → (now place).returned ≡ counted_times (length (used_at place used)) (before place).returned
   pub sources : (place : List ℕ) → (now place).sources ≡ added_all (before place).sources (used_at place used)
 
--- between two moments these sources were put back on a shelf, and neither a text nor a source was asked for that failed
+-- no source is held; between two moments all sources that were taken were put back, and these are they
+abbrev pub none_held : List ℕ → ℕ
+none_held place = 0
+
+abbrev pub Moves : List Used → Counted → Counted → Type 0
+Moves used before now = MovesBut none_held used before now
+
+-- between two moments these sources were put back on a shelf, and neither a text nor a source was asked for
 pub record PutsBack (used : List Used) (before now : Counted) : Type 0 where
   pub texts : (place : List ℕ) → (now place).text_faults ≡ (before place).text_faults
   pub takes : (place : List ℕ) → (now place).take_faults ≡ (before place).take_faults
+  pub taken : (place : List ℕ) → (now place).taken ≡ (before place).taken
+  pub returned : (place : List ℕ) → (now place).returned ≡ counted_times (length (used_at place used)) (before place).returned
   pub sources : (place : List ℕ) → (now place).sources ≡ added_all (before place).sources (used_at place used)
 
--- at a place sources were put back, and nothing else was counted
-pub record AddsSources (before now : PlaceCounts) : Type 0 where
-  pub counts : List Counts
-  pub here : now ≡ record before { sources = added_all before.sources counts }
+-- at a place one source was put back, and nothing else was counted
+abbrev pub PutsOneBack : PlaceCounts → PlaceCounts → Type 0
+PutsOneBack before now = (counts : Counts) × (now ≡ with_source counts before)
 
 -- at a place sources were put back, and calls that take one failed
 pub record MovesAt (before now : PlaceCounts) : Type 0 where
@@ -54,6 +71,13 @@ pub record MovesAt (before now : PlaceCounts) : Type 0 where
   pub takes : before.take_faults ≤ now.take_faults
   pub counts : List Counts
   pub sources : now.sources ≡ added_all before.sources counts
+
+-- at a place one source at most was taken, and it was put back; calls that take one failed
+pub record TakesNone (before now : PlaceCounts) : Type 0 where
+  pub moves : MovesAt before now
+  pub taken : now.taken ≡ counted_times (length moves.counts) before.taken
+  pub returned : now.returned ≡ counted_times (length moves.counts) before.returned
+  pub once : length moves.counts ≤ 1
 
 -- a source has given neither a row nor a grade
 pub record IsUnread (counts : Counts) : Type 0 where
@@ -78,6 +102,12 @@ KeepsOthers catalog These before now = (place : List ℕ) → ((entry : ℕ) →
 abbrev pub TroubleAt : PlaceCounts → PlaceCounts → Type 0
 TroubleAt before now =
     Rose before.take_faults now.take_faults ⊎ (Rose before.sources.faults now.sources.faults ⊎ Rose before.sources.garbles now.sources.garbles)
+
+-- how many of these entries of the catalog have a place
+abbrev pub standing : List Entry → List ℕ → List ℕ → ℕ
+standing catalog [] place = 0
+standing catalog (entry ∷ entries) place =
+    if bytes_eq (entry_at catalog entry).place place then suc (standing catalog entries place) else standing catalog entries place
 
 -- the open sources, by their numbers: the lists that they tell, where they stand in the catalog, and how many objects they have
 pub record Sources : Type 0 where
@@ -112,7 +142,8 @@ pub record IsNumbered (catalog : List Entry) (openings : List Opening) (place so
   pub size : ℕ
   pub open_as : opening_at openings place ≡ Open size source
 
--- the sources of the first entries of a catalog were opened, those that are wanted: what became of each, and what the shelf has counted
+-- the sources of the first entries of a catalog were opened, those that are wanted: what became of each, and what the shelf has counted. The open ones
+-- were taken of their places, one for each entry, and all others that were taken were put back
 pub record AreOpened (lists : List ℕ → Option (List Row)) (catalog : List Entry) (Wanted : ℕ → Type 0) (before now : Counted)
     (openings : List Opening) (s : Sources) : Type 0 where
   pub each : (place : ℕ) → place < length openings → IsOpening lists catalog s Wanted before now place (opening_at openings place)
@@ -121,7 +152,7 @@ pub record AreOpened (lists : List ℕ → Option (List Row)) (catalog : List En
   pub many_counts : length s.counts ≡ length s.places
   pub small : All (λ count. count ≤ MAX_OBJECTS) s.counts
   pub used : List Used
-  pub moves : Moves used before now
+  pub moves : MovesBut (standing catalog s.places) used before now
   pub others : KeepsOthers catalog Wanted before now
 
 -- sources that were put back at the places of their entries, by what they had counted
@@ -129,6 +160,25 @@ abbrev pub put_back : List Entry → List ℕ → List Counts → List Used
 put_back catalog [] counts = []
 put_back catalog (place ∷ places) [] = []
 put_back catalog (place ∷ places) (one ∷ counts) = record { place = (entry_at catalog place).place; counts = one } ∷ put_back catalog places counts
+
+-- an entry has a place or hasn't, as a number; how many of the entries that are marked have it
+abbrev pub one_at : List ℕ → List ℕ → ℕ
+one_at here place = if bytes_eq here place then 1 else 0
+
+abbrev pub marked_at : List Entry → List Bool → List ℕ → ℕ
+marked_at [] marks place = 0
+marked_at (entry ∷ catalog) [] place = 0
+marked_at (entry ∷ catalog) (marked ∷ marks) place = (if marked then one_at entry.place place else 0) + marked_at catalog marks place
+
+-- no more sources were taken of a place than so many
+pub record TakesAtMost (most : ℕ) (before now : PlaceCounts) : Type 0 where
+  pub times : ℕ
+  pub few : times ≤ most
+  pub taken : now.taken ≡ counted_times times before.taken
+
+-- the source of each entry that is marked was taken at most once, and that of no other
+abbrev pub TakesOnce : List Entry → List Bool → Counted → Counted → Type 0
+TakesOnce catalog marks before now = (place : List ℕ) → TakesAtMost (marked_at catalog marks place) (before place) (now place)
 
 -- these entries are of the catalog, and sources that are put back at their places count there
 pub record IsKnownAt (catalog : List Entry) (knows : List ℕ → Bool) (place : ℕ) : Type 0 where

@@ -1,11 +1,18 @@
--- Which sources of a catalog query lines want.
+-- How query lines are read, and which sources of a catalog they want.
 use Rattle.std.specs.Prelude.{◌≡◌, ◌≤◌, ◌+◌, ◌⊎◌, ℕ, Bool, true, List, map, length, Contains, Some, Ok, slice_get}
 use Rattle.query_text.specs.declared.query.Query.{Query}
 use Rattle.query_text.specs.Reading.{Reads}
 use Rattle.query_admission.specs.Causes.{most_queries}
+use Rattle.query_admission.specs.Admission.{IsReadAs}
+use Rattle.query_admission.specs.declared.reading.ReadLine.{ReadLine}
 use Rattle.catalog_text.specs.Catalog.{Listed as Entry}
 use Rattle.catalog_open.specs.Entries.{is_marked}
 use Rattle.catalog_open.specs.Views.{entry_named}
+
+-- the lines, which are numbered from 1, were read so
+pub record AreRead (lines : List (List ℕ)) (read : List ReadLine) : Type 0 where
+  pub many : length read ≡ length lines
+  pub each : (at : ℕ) (bytes : List ℕ) (line : ReadLine) → slice_get lines at ≡ Some bytes → slice_get read at ≡ Some line → IsReadAs (at + 1) bytes line
 
 -- a line of this number wants the source at a place of the catalog: it is one of the first lines,
 -- it spells a query all of whose lists are in the catalog, and one of them is there

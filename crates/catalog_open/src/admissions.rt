@@ -1,14 +1,17 @@
 //! The admission of query lines.
 
-ghost use Rattle.std.specs.Prelude.{◌≡◌, ◌+◌, ◌++◌, ◌∷◌, [], ℕ, List, IfOk, OnOk, length, map};
+ghost use Rattle.std.specs.Prelude.{◌≡◌, ◌+◌, ◌++◌, ◌∷◌, [], ℕ, List, IfOk, OnOk, length};
+ghost use Rattle.query_admission.specs.Admission.{IsReadAs};
 ghost use Rattle.catalog_open.specs.Views.{view_over, nothing_told};
+ghost use Rattle.catalog_open.specs.Wanted.{AreRead};
 ghost use Rattle.catalog_open.specs.Admissions.{AreAdmitted};
 ghost use Rattle.catalog_open.specs.declared.admissions.Stage.TheVariants as Stage;
 
 use super::Memory;
 use super::catalogued::Catalogued;
+use super::reading::let_lines_go;
 use cert_text::Refusal;
-use query_admission::{Admitted, admit};
+use query_admission::{Admitted, ReadLine, admit_read};
 use query_core::Ready;
 use query_text::Query;
 use std::alloc::Global;
@@ -32,22 +35,25 @@ pub struct Admissions {
     pub readies: Vec<Ready>,
 }
 
-/// What query lines come to over the lists of a catalog before they run. The lines are numbered from 1.
+/// What query lines that were read come to over the lists of a catalog before they run.
 ///
-/// *Cost*: the reading of each line, and one `find` for each of its lists.
+/// *Cost*: `admit_read` for each line.
 pub fn admit_all(
     alloc: Global,
     lists: &Catalogued<'_>,
-    lines: &[&[u8]],
+    mut read: Vec<ReadLine>,
 ) -> Result<Admissions, Memory>
-    ensures { IfOk result (λ a. AreAdmitted (view_over lists.now.catalog.now lists.now.openings.now nothing_told) 1
-        (map (λ line. line.now) lines.now) a.stages.items a.readies.items) }
+    requires { (lines : List (List ℕ)) × AreRead lines read.items }
+    ensures { (lines : List (List ℕ)) → AreRead lines read.items
+        → IfOk result (λ a. AreAdmitted (view_over lists.now.catalog.now lists.now.openings.now nothing_told) 1 lines a.stages.items a.readies.items) }
 {
     let mut admissions = Admissions {
         stages: Vec::new(alloc),
         readies: Vec::new(alloc),
     };
-    match admit_lines(alloc, lists, lines, &mut admissions) {
+    let admitted = admit_lines(alloc, lists, &mut read, &mut admissions);
+    let_lines_go(read);
+    match admitted {
         Ok(()) => Ok(admissions),
         Err(_) => {
             drop(admissions);
@@ -56,22 +62,23 @@ pub fn admit_all(
     }
 }
 
-/// Admits lines, the first of which is the first of all.
+/// Admits lines, the first of which is the first of all; they are taken out of theirs.
 fn admit_lines(
     alloc: Global,
     lists: &Catalogued<'_>,
-    lines: &[&[u8]],
+    read: &mut Vec<ReadLine>,
     admissions: &mut Admissions,
 ) -> Result<(), Memory>
     requires stages { admissions.old.stages.items ≡ [] }
     requires readies { admissions.old.readies.items ≡ [] }
-    ensures { OnOk result (AreAdmitted (view_over lists.now.catalog.now lists.now.openings.now nothing_told) 1
-        (map (λ line. line.now) lines.now) admissions.new.stages.items admissions.new.readies.items) }
+    requires read { (lines : List (List ℕ)) × AreRead lines read.old.items }
+    ensures { (lines : List (List ℕ)) → AreRead lines read.old.items
+        → OnOk result (AreAdmitted (view_over lists.now.catalog.now lists.now.openings.now nothing_told) 1 lines
+        admissions.new.stages.items admissions.new.readies.items) }
 {
-    let mut number: u64 = 0;
-    for line in lines {
-        number += 1;
-        admit_next(alloc, lists, number, line, admissions)?;
+    read.reverse();
+    while let Some(line) = read.pop() {
+        admit_next(alloc, lists, line, admissions)?;
     }
     Ok(())
 }
@@ -80,16 +87,16 @@ fn admit_lines(
 fn admit_next(
     alloc: Global,
     lists: &Catalogued<'_>,
-    number: u64,
-    bytes: &[u8],
+    line: ReadLine,
     admissions: &mut Admissions,
 ) -> Result<(), Memory>
-    ensures { (before : List (List ℕ)) → number ≡ length before + 1
+    requires { (number : ℕ) × (bytes : List ℕ) × IsReadAs number bytes line }
+    ensures { (before : List (List ℕ)) → (bytes : List ℕ) → IsReadAs (length before + 1) bytes line
         → AreAdmitted (view_over lists.now.catalog.now lists.now.openings.now nothing_told) 1 before admissions.old.stages.items admissions.old.readies.items
-        → IfOk result (λ _. AreAdmitted (view_over lists.now.catalog.now lists.now.openings.now nothing_told) 1 (before ++ bytes.now ∷ [])
+        → IfOk result (λ _. AreAdmitted (view_over lists.now.catalog.now lists.now.openings.now nothing_told) 1 (before ++ bytes ∷ [])
         admissions.new.stages.items admissions.new.readies.items) }
 {
-    let Ok(admitted) = admit(alloc, lists, number, bytes) else {
+    let Ok(admitted) = admit_read(alloc, lists, line) else {
         return Err(Memory);
     };
     match admitted {

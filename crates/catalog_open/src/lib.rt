@@ -1,4 +1,4 @@
-//! Query lines over a catalog before they run: which sources they want, opening these, admitting the lines over what became of them, and
+//! Query lines over a catalog before they run: reading them, which sources they want, opening these, admitting the lines over what became of them, and
 //! putting the sources back.
 #![tactic(auto)]
 
@@ -8,6 +8,7 @@ mod closing;
 mod entries;
 mod opened;
 mod opening;
+mod reading;
 mod wanted;
 
 pub use admissions::{Admissions, Stage, admit_all};
@@ -16,4 +17,5 @@ pub use closing::put_back_all;
 pub use memory::Memory;
 pub use opened::{Opened, Opening};
 pub use opening::open_wanted;
+pub use reading::{let_lines_go, read_lines};
 pub use wanted::mark_wanted;

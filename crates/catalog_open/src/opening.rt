@@ -1,17 +1,19 @@
 //! Opening the sources that are wanted.
 
-ghost use Rattle.std.specs.Prelude.{◌≡◌, ◌≤◌, ◌<◌, ◌+◌, ◌^◌, ◌++◌, ◌∷◌, [], true, ℕ, List, Option, Bool, All, IfOk, IfSome, OnOk, OnErr, MatchOption, length, map, vec_len, vec_capacity};
+ghost use Rattle.std.specs.Prelude.{◌≡◌, ◌≤◌, ◌<◌, ◌+◌, ◌^◌, ◌++◌, ◌∷◌, [], true, ℕ, List, Option, Bool, All, IfOk, IfSome, OnOk, OnErr, MatchOption, length, map, vec_len, vec_capacity, if◌then◌else◌};
 ghost use Rattle.ranked_list.specs.declared.row.Row.{Row};
 ghost use Rattle.source_api.specs.Counting.{no_counts};
-ghost use Rattle.source_api.specs.Places.{SameAtEach, SameElsewhere};
-ghost use Rattle.catalog_open.specs.Entries.{is_marked, IsMarked};
-ghost use Rattle.catalog_open.specs.Openings.{Counted, AddsSources, AreOpened, GivesNothing, IsKnownAt, IsToldAs, IsUnread, MovesAt, ReadsNothing, TroubleAt, run_count};
+ghost use Rattle.source_api.specs.Places.{SameAtEach, SameElsewhere, counts_taken};
+ghost use Rattle.catalog_open.specs.Entries.{entry_at, is_marked, IsMarked};
+ghost use Rattle.catalog_open.specs.Openings.{Counted, AreOpened, GivesNothing, IsKnownAt, IsToldAs, IsUnread, PutsOneBack, ReadsNothing, TakesAtMost, TakesNone, TakesOnce, TroubleAt, one_at, run_count};
+ghost use Rattle.catalog_open.specs.Slots.{IsIdle, fresh_slot, of_slot};
 ghost use Rattle.catalog_open.specs.declared.opened.Opening.TheVariants as Opening;
 
 use super::Memory;
 use super::entries::place_of;
 use super::opened::{Opened, Opening};
 use catalog_text::Catalog;
+use fetcher::Slot;
 use limits::MAX_OBJECTS;
 use source_api::{Shelf, Source, Trouble};
 use std::alloc::Global;
@@ -49,12 +51,13 @@ fn ask_size<H: Shelf>(
     ensures lists { SameAtEach (H.lists shelf.old) (H.lists shelf.new) }
     ensures known { (other : List ℕ) → H.knows shelf.old other ≡ true → H.knows shelf.new other ≡ true }
     ensures elsewhere { SameElsewhere place.now (H.at shelf.old) (H.at shelf.new) }
-    ensures used { AddsSources (H.at shelf.old place.now) (H.at shelf.new place.now) }
     ensures back { GivesNothing (H.at shelf.old place.now) (H.at shelf.new place.now) }
     ensures unread { IfOk result (λ found. IfSome found (λ taken. IsUnread (H.Item.counts taken.source))) }
     ensures opens { IfOk result (λ found. MatchOption found
-        (TroubleAt (H.at shelf.old place.now) (H.at shelf.new place.now))
-        (λ taken. (H.Item.list taken.source ≡ H.Item.list source) × IfSome (H.Item.list source) (λ rows. taken.size ≡ length rows))) }
+        (TroubleAt (H.at shelf.old place.now) (H.at shelf.new place.now) × PutsOneBack (H.at shelf.old place.now) (H.at shelf.new place.now))
+        (λ taken. (H.at shelf.new place.now ≡ H.at shelf.old place.now) × (H.Item.list taken.source ≡ H.Item.list source)
+        × IfSome (H.Item.list source) (λ rows. taken.size ≡ length rows))) }
+    ensures short { OnErr result (PutsOneBack (H.at shelf.old place.now) (H.at shelf.new place.now)) }
 {
     match source.size(alloc) {
         Ok(size) => Ok(Some(OpenSource { source, size })),
@@ -63,14 +66,15 @@ fn ask_size<H: Shelf>(
             match trouble {
                 Trouble::Failed => Ok(None),
                 Trouble::Garbled => Ok(None),
+                Trouble::Moved { .. } => unreachable!(),
                 Trouble::Memory => Err(Memory),
             }
         }
     }
 }
 
-/// Takes the source of a place and asks for its size. None is a source that couldn't be taken, or that failed at this or answered by
-/// garbled data.
+/// Takes the source of a place once, and asks for its size. None is a source that couldn't be taken, or that failed at this or answered
+/// by garbled data: it was put back, and so it is where memory is refused.
 fn open_source<H: Shelf>(
     alloc: Global,
     shelf: &mut H,
@@ -80,17 +84,20 @@ fn open_source<H: Shelf>(
     ensures lists { SameAtEach (H.lists shelf.old) (H.lists shelf.new) }
     ensures known { (other : List ℕ) → H.knows shelf.old other ≡ true → H.knows shelf.new other ≡ true }
     ensures elsewhere { SameElsewhere place.now (H.at shelf.old) (H.at shelf.new) }
-    ensures moves { MovesAt (H.at shelf.old place.now) (H.at shelf.new place.now) }
     ensures back { GivesNothing (H.at shelf.old place.now) (H.at shelf.new place.now) }
     ensures unread { IfOk result (λ found. IfSome found (λ taken. IsUnread (H.Item.counts taken.source))) }
     ensures opens { IfOk result (λ found. MatchOption found
-        (TroubleAt (H.at shelf.old place.now) (H.at shelf.new place.now))
-        (λ taken. (H.knows shelf.new place.now ≡ true) × IsToldAs (H.lists shelf.old place.now) (H.Item.list taken.source) taken.size)) }
+        (TroubleAt (H.at shelf.old place.now) (H.at shelf.new place.now) × TakesNone (H.at shelf.old place.now) (H.at shelf.new place.now))
+        (λ taken. (H.knows shelf.new place.now ≡ true) × IsToldAs (H.lists shelf.old place.now) (H.Item.list taken.source) taken.size
+        × (H.at shelf.new place.now ≡ counts_taken (H.at shelf.old place.now)))) }
+    ensures short { OnErr result (TakesNone (H.at shelf.old place.now) (H.at shelf.new place.now)) }
 {
     match shelf.take(alloc, place) {
         Ok(source) => ask_size(alloc, shelf, place, source),
-        Err(Trouble::Failed | Trouble::Garbled) => Ok(None),
+        Err(Trouble::Failed) => Ok(None),
+        Err(Trouble::Garbled) => Ok(None),
         Err(Trouble::Memory) => Err(Memory),
+        Err(Trouble::Moved { .. }) => unreachable!(),
     }
 }
 
@@ -120,25 +127,30 @@ fn make_room<S: Drop>(opened: &mut Opened, sources: &mut Vec<S>) -> Result<(), M
     }
 }
 
-/// Puts the open source of the next place of the catalog behind the others.
-fn put_open<S: Drop>(opened: &mut Opened, sources: &mut Vec<S>, place: u32, taken: OpenSource<S>)
-    requires few { length sources.old.items < 2 ^ 32 }
+/// Puts the open source of the next place of the catalog behind the others, in a slot of its own.
+fn put_open<S: Source>(
+    opened: &mut Opened,
+    slots: &mut Vec<Slot<S>>,
+    place: u32,
+    taken: OpenSource<S>,
+)
+    requires few { length slots.old.items < 2 ^ 32 }
     requires openings_room { vec_len opened.old.openings < vec_capacity opened.old.openings }
     requires places_room { vec_len opened.old.places < vec_capacity opened.old.places }
     requires counts_room { vec_len opened.old.counts < vec_capacity opened.old.counts }
-    requires sources_room { vec_len sources.old < vec_capacity sources.old }
-    ensures openings { opened.new.openings.items ≡ opened.old.openings.items ++ Opening.Open taken.size (length sources.old.items) ∷ [] }
+    requires sources_room { vec_len slots.old < vec_capacity slots.old }
+    ensures openings { opened.new.openings.items ≡ opened.old.openings.items ++ Opening.Open taken.size (length slots.old.items) ∷ [] }
     ensures places { opened.new.places.items ≡ opened.old.places.items ++ place ∷ [] }
     ensures counts { opened.new.counts.items ≡ opened.old.counts.items ++ run_count taken.size ∷ [] }
-    ensures sources { sources.new.items ≡ sources.old.items ++ taken.source ∷ [] }
+    ensures sources { slots.new.items ≡ slots.old.items ++ fresh_slot taken.source ∷ [] }
 {
     opened.openings.push_reserved(Opening::Open {
         size: taken.size,
-        source: sources.len() as u32,
+        source: slots.len() as u32,
     });
     opened.places.push_reserved(place);
     opened.counts.push_reserved(run_count(taken.size));
-    sources.push_reserved(taken.source);
+    slots.push_reserved(Slot::make(taken.source));
 }
 
 /// Opens the source of the next entry of the catalog, which is wanted.
@@ -148,35 +160,37 @@ fn open_next<H: Shelf>(
     catalog: &Catalog,
     place: u32,
     opened: &mut Opened,
-    sources: &mut Vec<H::Item>,
+    slots: &mut Vec<Slot<H::Item>>,
 ) -> Result<(), Memory>
     requires place { place < length catalog.now }
     requires next { length opened.old.openings.items ≡ place }
-    requires many { length sources.old.items ≡ length opened.old.places.items }
-    requires few { length sources.old.items ≤ place }
+    requires many { length slots.old.items ≡ length opened.old.places.items }
+    requires few { length slots.old.items ≤ place }
     ensures texts { SameAtEach (H.texts shelf.old) (H.texts shelf.new) }
     ensures lists { SameAtEach (H.lists shelf.old) (H.lists shelf.new) }
     ensures next { OnOk result (length opened.new.openings.items ≡ place + 1) }
-    ensures many { length sources.new.items ≡ length opened.new.places.items }
-    ensures few { length sources.new.items ≤ place + 1 }
+    ensures many { length slots.new.items ≡ length opened.new.places.items }
+    ensures few { length slots.new.items ≤ place + 1 }
     ensures known { All (IsKnownAt catalog.now (H.knows shelf.old)) opened.old.places.items
         → All (IsKnownAt catalog.now (H.knows shelf.new)) opened.new.places.items }
-    ensures unread { ReadsNothing (H.at shelf.old) (H.at shelf.new) (map H.Item.counts sources.old.items) (map H.Item.counts sources.new.items) }
+    ensures once { (other : List ℕ) → TakesAtMost (one_at (entry_at catalog.now place).place other) (H.at shelf.old other) (H.at shelf.new other) }
+    ensures idle { All IsIdle slots.old.items → All IsIdle slots.new.items }
+    ensures unread { ReadsNothing (H.at shelf.old) (H.at shelf.new) (map (of_slot H.Item.counts) slots.old.items) (map (of_slot H.Item.counts) slots.new.items) }
     ensures opened { (lists : List ℕ → Option (List Row)) (marks : List Bool) (before : Counted) → SameAtEach lists (H.lists shelf.old)
         → is_marked marks place ≡ true
         → AreOpened lists catalog.now (IsMarked marks) before (H.at shelf.old) opened.old.openings.items
-        (record { told = map H.Item.list sources.old.items; places = opened.old.places.items; counts = opened.old.counts.items })
+        (record { told = map (of_slot H.Item.list) slots.old.items; places = opened.old.places.items; counts = opened.old.counts.items })
         → AreOpened lists catalog.now (IsMarked marks) before (H.at shelf.new) opened.new.openings.items
-        (record { told = map H.Item.list sources.new.items; places = opened.new.places.items; counts = opened.new.counts.items }) }
+        (record { told = map (of_slot H.Item.list) slots.new.items; places = opened.new.places.items; counts = opened.new.counts.items }) }
 {
-    let Ok(()) = make_room(opened, sources) else {
+    let Ok(()) = make_room(opened, slots) else {
         return Err(Memory);
     };
     let Ok(found) = open_source(alloc, shelf, place_of(catalog, place)) else {
         return Err(Memory);
     };
     match found {
-        Some(taken) => put_open(opened, sources, place, taken),
+        Some(taken) => put_open(opened, slots, place, taken),
         None => opened.openings.push_reserved(Opening::Closed),
     }
     Ok(())
@@ -203,36 +217,39 @@ fn visit_next<H: Shelf>(
     place: u32,
     wanted: bool,
     opened: &mut Opened,
-    sources: &mut Vec<H::Item>,
+    slots: &mut Vec<Slot<H::Item>>,
 ) -> Result<(), Memory>
     requires place { place < length catalog.now }
     requires next { length opened.old.openings.items ≡ place }
-    requires many { length sources.old.items ≡ length opened.old.places.items }
-    requires few { length sources.old.items ≤ place }
+    requires many { length slots.old.items ≡ length opened.old.places.items }
+    requires few { length slots.old.items ≤ place }
     ensures texts { SameAtEach (H.texts shelf.old) (H.texts shelf.new) }
     ensures lists { SameAtEach (H.lists shelf.old) (H.lists shelf.new) }
     ensures next { OnOk result (length opened.new.openings.items ≡ place + 1) }
-    ensures many { length sources.new.items ≡ length opened.new.places.items }
-    ensures few { length sources.new.items ≤ place + 1 }
+    ensures many { length slots.new.items ≡ length opened.new.places.items }
+    ensures few { length slots.new.items ≤ place + 1 }
     ensures known { All (IsKnownAt catalog.now (H.knows shelf.old)) opened.old.places.items
         → All (IsKnownAt catalog.now (H.knows shelf.new)) opened.new.places.items }
-    ensures unread { ReadsNothing (H.at shelf.old) (H.at shelf.new) (map H.Item.counts sources.old.items) (map H.Item.counts sources.new.items) }
+    ensures once { (other : List ℕ) → TakesAtMost (if wanted then one_at (entry_at catalog.now place).place other else 0) (H.at shelf.old other) (H.at shelf.new other) }
+    ensures idle { All IsIdle slots.old.items → All IsIdle slots.new.items }
+    ensures unread { ReadsNothing (H.at shelf.old) (H.at shelf.new) (map (of_slot H.Item.counts) slots.old.items) (map (of_slot H.Item.counts) slots.new.items) }
     ensures opened { (lists : List ℕ → Option (List Row)) (marks : List Bool) (before : Counted) → SameAtEach lists (H.lists shelf.old)
         → is_marked marks place ≡ wanted
         → AreOpened lists catalog.now (IsMarked marks) before (H.at shelf.old) opened.old.openings.items
-        (record { told = map H.Item.list sources.old.items; places = opened.old.places.items; counts = opened.old.counts.items })
+        (record { told = map (of_slot H.Item.list) slots.old.items; places = opened.old.places.items; counts = opened.old.counts.items })
         → AreOpened lists catalog.now (IsMarked marks) before (H.at shelf.new) opened.new.openings.items
-        (record { told = map H.Item.list sources.new.items; places = opened.new.places.items; counts = opened.new.counts.items }) }
+        (record { told = map (of_slot H.Item.list) slots.new.items; places = opened.new.places.items; counts = opened.new.counts.items }) }
 {
     if wanted {
-        return open_next(alloc, shelf, catalog, place, opened, sources);
+        return open_next(alloc, shelf, catalog, place, opened, slots);
     }
     pass_next(opened)
 }
 
-/// Opens the sources of a catalog that are marked, in its order: each is taken of the shelf and asked for its size. What became of
-/// them is put into `opened`, and the open sources into `sources`, both empty before. Where memory is refused, those that are open
-/// by then stand there, to be put back. Nothing is read of the sources.
+/// Opens the sources of a catalog that are marked, in its order: each is taken of the shelf once and asked for its size. What became of
+/// them is put into `opened`, and the open sources into `slots`, without feeders, both empty before. A source that was taken and
+/// isn't open was put back. Where memory is refused, those that are open by then stand there, to be put back. Nothing is read of
+/// the sources.
 ///
 /// *Cost*: one `take` and one `size` for each source that is wanted.
 pub fn open_wanted<H: Shelf>(
@@ -241,26 +258,28 @@ pub fn open_wanted<H: Shelf>(
     catalog: &Catalog,
     marks: &[bool],
     opened: &mut Opened,
-    sources: &mut Vec<H::Item>,
+    slots: &mut Vec<Slot<H::Item>>,
 ) -> Result<(), Memory>
     requires marks { length marks.now ≡ length catalog.now }
     requires openings { opened.old.openings.items ≡ [] }
     requires places { opened.old.places.items ≡ [] }
     requires counts { opened.old.counts.items ≡ [] }
-    requires sources { sources.old.items ≡ [] }
+    requires sources { slots.old.items ≡ [] }
     ensures texts { SameAtEach (H.texts shelf.old) (H.texts shelf.new) }
     ensures lists { SameAtEach (H.lists shelf.old) (H.lists shelf.new) }
     ensures all { OnOk result (length opened.new.openings.items ≡ length catalog.now) }
     ensures known { All (IsKnownAt catalog.now (H.knows shelf.new)) opened.new.places.items }
     ensures back { (place : List ℕ) → GivesNothing (H.at shelf.old place) (H.at shelf.new place) }
-    ensures few { length sources.new.items ≤ length catalog.now }
-    ensures unread { All IsUnread (map H.Item.counts sources.new.items) }
+    ensures few { length slots.new.items ≤ length catalog.now }
+    ensures once { TakesOnce catalog.now marks.now (H.at shelf.old) (H.at shelf.new) }
+    ensures idle { All IsIdle slots.new.items }
+    ensures unread { All IsUnread (map (of_slot H.Item.counts) slots.new.items) }
     ensures opened { AreOpened (H.lists shelf.old) catalog.now (IsMarked marks.now) (H.at shelf.old) (H.at shelf.new) opened.new.openings.items
-        (record { told = map H.Item.list sources.new.items; places = opened.new.places.items; counts = opened.new.counts.items }) }
+        (record { told = map (of_slot H.Item.list) slots.new.items; places = opened.new.places.items; counts = opened.new.counts.items }) }
 {
     for place in 0..catalog.len() {
         let wanted = marks[place as usize];
-        visit_next(alloc, shelf, catalog, place, wanted, opened, sources)?;
+        visit_next(alloc, shelf, catalog, place, wanted, opened, slots)?;
     }
     Ok(())
 }

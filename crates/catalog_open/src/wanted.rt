@@ -1,29 +1,30 @@
 //! Which sources of a catalog the query lines want.
 
-ghost use Rattle.std.specs.Prelude.{◌≡◌, ◌<◌, ℕ, List, false, All, IfOk, MatchOption, length, map, Contains, Some};
+ghost use Rattle.std.specs.Prelude.{◌≡◌, ◌≤◌, ◌<◌, ℕ, List, false, All, IfOk, MatchOption, length, map, Contains, Some, Ok};
+ghost use Rattle.query_text.specs.Reading.{Reads};
+ghost use Rattle.query_admission.specs.Causes.{most_queries};
+ghost use Rattle.query_admission.specs.Admission.{IsReadAs};
 ghost use Rattle.catalog_open.specs.Views.{entry_named};
-ghost use Rattle.catalog_open.specs.Wanted.{AreMarked, MarksMore, Wants};
+ghost use Rattle.catalog_open.specs.Wanted.{AreMarked, AreRead, MarksMore, Wants};
 
 use super::Memory;
 use catalog_text::Catalog;
-use limits::MAX_QUERIES;
-use query_text::{Names, QueryFault, read};
+use query_admission::ReadLine;
+use query_text::{Names, Query};
 use std::alloc::Global;
 
-/// Marks the sources of the catalog that lines want: those of the lists that a line names which no cause refuses before its lists
-/// are opened. The lines are numbered from 1.
+/// Marks the sources of the catalog that lines want which were read: those of the lists that a line names which no cause refuses before
+/// its lists are opened.
 ///
-/// *Cost*: the reading of each line, and one `find` for each of its lists.
-pub fn mark_wanted(alloc: Global, catalog: &Catalog, lines: &[&[u8]]) -> Result<Vec<bool>, Memory>
-    ensures { IfOk result (λ marks. AreMarked catalog.now (map (λ line. line.now) lines.now) marks.items) }
+/// *Cost*: one `find` for each list of each line.
+pub fn mark_wanted(alloc: Global, catalog: &Catalog, read: &[ReadLine]) -> Result<Vec<bool>, Memory>
+    ensures { (lines : List (List ℕ)) → AreRead lines read.now → IfOk result (λ marks. AreMarked catalog.now lines marks.items) }
 {
     let Ok(mut marks) = vec![in alloc; false; catalog.len() as usize] else {
         return Err(Memory);
     };
-    let mut number: u64 = 0;
-    for line in lines {
-        number += 1;
-        mark_line(alloc, catalog, number, line, &mut marks)?;
+    for line in read {
+        mark_line(alloc, catalog, line, &mut marks)?;
     }
     Ok(marks)
 }
@@ -32,30 +33,38 @@ pub fn mark_wanted(alloc: Global, catalog: &Catalog, lines: &[&[u8]]) -> Result<
 fn mark_line(
     alloc: Global,
     catalog: &Catalog,
-    number: u64,
-    bytes: &[u8],
+    line: &ReadLine,
     marks: &mut Vec<bool>,
 ) -> Result<(), Memory>
     requires { length marks.old.items ≡ length catalog.now }
     ensures many { length marks.new.items ≡ length catalog.now }
-    ensures marks { IfOk result (λ _. MarksMore (Wants catalog.now number bytes.now) marks.old.items marks.new.items) }
+    ensures marks { (number : ℕ) → (bytes : List ℕ) → IsReadAs number bytes line.now
+        → IfOk result (λ _. MarksMore (Wants catalog.now number bytes) marks.old.items marks.new.items) }
 {
-    if number > MAX_QUERIES {
+    match line {
+        ReadLine::Query(query) => mark_query(alloc, catalog, query, marks),
+        ReadLine::Refused(_) => Ok(()),
+    }
+}
+
+/// Marks the sources of the lists of a query beside those that are marked, where the catalog has all of them.
+fn mark_query(
+    alloc: Global,
+    catalog: &Catalog,
+    query: &Query,
+    marks: &mut Vec<bool>,
+) -> Result<(), Memory>
+    requires { length marks.old.items ≡ length catalog.now }
+    ensures many { length marks.new.items ≡ length catalog.now }
+    ensures marks { (number : ℕ) → (bytes : List ℕ) → number ≤ most_queries → Reads bytes (Ok query.now)
+        → IfOk result (λ _. MarksMore (Wants catalog.now number bytes) marks.old.items marks.new.items) }
+{
+    let found = places_of(alloc, catalog, &query.names)?;
+    let Some(places) = found else {
         return Ok(());
-    }
-    match read(alloc, bytes) {
-        Ok(query) => {
-            let found = places_of(alloc, catalog, &query.names);
-            drop(query);
-            let Some(places) = found? else {
-                return Ok(());
-            };
-            mark_places(&places, marks);
-            Ok(())
-        }
-        Err(QueryFault::Memory) => Err(Memory),
-        Err(_) => Ok(()),
-    }
+    };
+    mark_places(&places, marks);
+    Ok(())
 }
 
 /// Where the lists of these names stand in the catalog, or None where it hasn't one of them.

@@ -47,6 +47,14 @@ garbles_sum c (x ∷ xs) =
     let more : sum_by (λ (y : Counts). y.garbles) (x ∷ xs) ≡ x.garbles + sum_by (λ (y : Counts). y.garbles) xs = sum_by-cons (λ (y : Counts). y.garbles) x xs in
     omega (arith, rest, here, more)
 
+pub moves_sum : (c : Counts) (xs : List Counts) → min (added_all c xs).moves (2 ^ 64 - 1) ≡ min (c.moves + sum_by (λ (x : Counts). x.moves) xs) (2 ^ 64 - 1)
+moves_sum c [] = let none : sum_by (λ (x : Counts). x.moves) [] ≡ 0 = refl in omega (arith, none)
+moves_sum c (x ∷ xs) =
+    let rest = moves_sum (added c x) xs in
+    let here : (added c x).moves ≡ raised c.moves x.moves = refl in
+    let more : sum_by (λ (y : Counts). y.moves) (x ∷ xs) ≡ x.moves + sum_by (λ (y : Counts). y.moves) xs = sum_by-cons (λ (y : Counts). y.moves) x xs in
+    omega (arith, rest, here, more)
+
 member_sum : (f : Counts → ℕ) (xs : List Counts) (x : Counts) → Contains xs x → f x ≤ sum_by f xs
 member_sum f xs x c = subst (λ (y : Counts). f y ≤ sum_by f xs) c.2 (get_or-le-sum_by f xs c.0 x c.1)
 
@@ -65,6 +73,14 @@ rose_garbles back mid after place x puts c some =
     let n = garbles_sum (mid place).sources (used_at place back) in
     let is_after : (after place).sources.garbles ≡ (added_all (mid place).sources (used_at place back)).garbles = ap (λ (k : Counts). k.garbles) (puts.sources place) in
     let one : x.garbles ≤ sum_by (λ (y : Counts). y.garbles) (used_at place back) = member_sum (λ (y : Counts). y.garbles) (used_at place back) x c in
+    omega (arith, n, is_after, one, some)
+
+pub rose_moves : (back : List Used) (mid after : Counted) (place : List ℕ) (x : Counts) → PutsBack back mid after → Contains (used_at place back) x
+    → 1 ≤ x.moves → Rose (mid place).sources.moves (after place).sources.moves
+rose_moves back mid after place x puts c some =
+    let n = moves_sum (mid place).sources (used_at place back) in
+    let is_after : (after place).sources.moves ≡ (added_all (mid place).sources (used_at place back)).moves = ap (λ (k : Counts). k.moves) (puts.sources place) in
+    let one : x.moves ≤ sum_by (λ (y : Counts). y.moves) (used_at place back) = member_sum (λ (y : Counts). y.moves) (used_at place back) x c in
     omega (arith, n, is_after, one, some)
 
 -- what a source had counted is among what was put back at its place

@@ -11,10 +11,11 @@ use Rattle.catalog_open.specs.Entries.{opening_at, IsMarked}
 use Rattle.query_admission.specs.View.{View}
 use Rattle.limits.specs.declared.settings.Settings.{Settings}
 use Rattle.query_admission.specs.declared.line_outcome.LineOutcome.{LineOutcome}
-use Rattle.catalog_run.specs.Runs.{IsRun, RanOver}
+use Rattle.catalog_run.specs.Runs.{IsRun, RanOver, TakesEachOnce}
 use Rattle.catalog_open.specs.Wanted.{IsWanted, AreMarked}
-use Rattle.catalog_open.specs.Openings.{Counted, Used, IsUnread, GivesNothing, Moves, PutsBack, KeepsOthers, Sources, IsOpening, AreOpened, put_back}
-use Rattle.catalog_open.proofs.Moving.{moves_then, puts_moves, keeps_then}
+use Rattle.catalog_open.specs.Openings.{Counted, Used, IsUnread, GivesNothing, Moves, PutsBack, standing, KeepsOthers, Sources, IsOpening, AreOpened, put_back}
+use Rattle.catalog_open.proofs.Moving.{moves_back, keeps_then}
+use Rattle.catalog_open.proofs.Back.{back_standing}
 use Rattle.catalog_open.proofs.Opens.{numbered_within}
 
 opening_for : (lists : List ℕ → Option (List Row)) (catalog : List Entry) (s : Sources) (W V : ℕ → Type 0) (before now : Counted) (place : ℕ) (o : Opening)
@@ -67,17 +68,18 @@ back_keeps lists catalog W before mid now openings s are back =
 -- the whole run
 pub is_run : (catalog : List Entry) (lines : List (List ℕ)) (lists : List ℕ
     → Option (List Row)) (settings : Settings) (before mid after : Counted) (openings : List Opening) (s : Sources) (begun now : List Counts) (outcomes : List LineOutcome)
-    → AreOpened lists catalog (IsWanted catalog lines) before mid openings s → length openings ≡ length catalog
+    → AreOpened lists catalog (IsWanted catalog lines) before mid openings s → length openings ≡ length catalog → TakesEachOnce catalog lines before mid
     → ((place : List ℕ) → GivesNothing (before place) (mid place)) → All IsUnread begun
     → RanOver settings s begun now (view_over catalog openings nothing_told) lines outcomes → PutsBack (reverse (put_back catalog s.places now)) mid after
     → IsRun (record { catalog = catalog; lines = lines; lists = lists; settings = settings; before = before; after = after }) outcomes
-is_run catalog lines lists settings before mid after openings s begun now outcomes are all idle unread ran back = record {
+is_run catalog lines lists settings before mid after openings s begun now outcomes are all once idle unread ran back = record {
   openings = openings;
   sources = s;
   mid = mid;
   idle = idle;
   opened = are;
   all = all;
+  once = once;
   begun = begun;
   unread = unread;
   now = now;
@@ -90,6 +92,11 @@ pub if_ran : {A E : Type 0} (r : Result A E) (P Q : A → Type 0) (R : Type 0) �
 if_ran (Ok x) P Q R h k f = f x h k
 if_ran (Err e) P Q R h k f = tt
 
+-- two facts where memory wasn't refused
+pub both_so : {A E : Type 0} (r : Result A E) (P Q : Type 0) → OnOk r P → OnOk r Q → OnOk r (P × Q)
+both_so (Ok x) P Q p q = (p, q)
+both_so (Err e) P Q p q = tt
+
 -- what holds in any case
 pub holds_so : {A E : Type 0} (r : Result A E) (P : Type 0) → P → OnOk r P
 holds_so (Ok x) P h = h
@@ -97,9 +104,11 @@ holds_so (Err e) P h = tt
 
 -- what the shelf counted
 pub run_moves : (lists : List ℕ → Option (List Row)) (catalog : List Entry) (W : ℕ
-    → Type 0) (before mid after : Counted) (openings : List Opening) (s : Sources) (back : List Used) → AreOpened lists catalog W before mid openings s
-    → PutsBack back mid after → (used : List Used) × Moves used before after
-run_moves lists catalog W before mid after openings s back are moves = (are.used ++ back, moves_then are.used back before mid after are.moves (puts_moves back mid after moves))
+    → Type 0) (before mid after : Counted) (openings : List Opening) (s : Sources) (now : List Counts) → length now ≡ length s.places
+    → AreOpened lists catalog W before mid openings s → PutsBack (reverse (put_back catalog s.places now)) mid after → (used : List Used) × Moves used before after
+run_moves lists catalog W before mid after openings s now many are back =
+    let used = reverse (put_back catalog s.places now) in
+    (are.used ++ used, moves_back (standing catalog s.places) are.used used before mid after are.moves back (λ place. back_standing catalog s.places now place many))
 
 -- the lists that the sources tell, in other words
 pub opened_told : (lists : List ℕ → Option (List Row)) (catalog : List Entry) (W : ℕ

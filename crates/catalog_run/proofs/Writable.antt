@@ -50,6 +50,7 @@ source_written query list (fault.Repeated object place) h = one_list query list 
 source_written query list (fault.Clash object sorted random) h = one_list query list h
 source_written query list (fault.Above object grade bottom) h = one_list query list h
 source_written query list (fault.ShortList stated got) h = one_list query list h
+source_written query list (fault.Moved had now) h = one_list query list h
 
 look_written : (query : Query) (list : ℕ) (f : LookFault) (o : Outcome) → list < length query.names → ended_outcome (ended.Look list f) ≡ Some o
     → IsOutcome (Some query) o

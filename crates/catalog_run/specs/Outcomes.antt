@@ -26,6 +26,7 @@ source_refusal list (fault.Repeated object place) = refusal.Repeated list object
 source_refusal list (fault.Clash object sorted random) = refusal.Clash list object sorted random
 source_refusal list (fault.Above object grade bottom) = refusal.Above list object grade bottom
 source_refusal list (fault.ShortList stated got) = refusal.ShortList list stated got
+source_refusal list (fault.Moved had now) = refusal.Moved list had now
 
 -- the refusal of a query that needs of a list what can't be had; none for want of memory
 abbrev pub look_refusal : ℕ → LookFault → Option Refusal

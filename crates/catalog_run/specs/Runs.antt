@@ -1,5 +1,5 @@
 -- What query lines over the lists of a catalog come to, as a whole.
-use Rattle.std.specs.Prelude.{◌≡◌, ◌⊎◌, ◌+◌, ℕ, List, [], ◌∷◌, All, Option, Some, length, reverse, slice_get}
+use Rattle.std.specs.Prelude.{◌≡◌, ◌⊎◌, ◌+◌, ℕ, Bool, List, [], ◌∷◌, All, Option, Some, length, reverse, slice_get}
 use Rattle.std.specs.List.{AllZip}
 use Rattle.ranked_list.specs.declared.row.Row.{Row}
 use Rattle.source_api.specs.declared.counts.Counts.{Counts}
@@ -20,8 +20,8 @@ use Rattle.batch_result.specs.Batches.{BatchState, IsBatch}
 use Rattle.catalog_text.specs.Catalog.{Listed as Entry}
 use Rattle.catalog_open.specs.declared.opened.Opening.{Opening}
 use Rattle.catalog_open.specs.Views.{view_over, line_over, nothing_told}
-use Rattle.catalog_open.specs.Wanted.{IsWanted}
-use Rattle.catalog_open.specs.Openings.{Counted, IsUnread, GivesNothing, PutsBack, Sources, AreOpened, put_back}
+use Rattle.catalog_open.specs.Wanted.{IsWanted, AreMarked}
+use Rattle.catalog_open.specs.Openings.{Counted, IsUnread, GivesNothing, PutsBack, Sources, AreOpened, TakesOnce, put_back}
 use Rattle.catalog_run.specs.OpenSources.{batch_over}
 use Rattle.query_admission.specs.declared.line_outcome.LineOutcome.{LineOutcome}
 use Rattle.catalog_run.specs.Merging.{IsEndedAs}
@@ -86,6 +86,10 @@ pub record RanOver (settings : Settings) (s : Sources) (begun now : List Counts)
   pub ran : IsBatch (batch_over settings s begun now readies) batch
   pub outcomes_are : AreOutcomes view ran.queries 1 lines outcomes
 
+-- the source of each entry that a line wants was taken at most once, and that of no other
+abbrev pub TakesEachOnce : List Entry → List (List ℕ) → Counted → Counted → Type 0
+TakesEachOnce catalog lines before now = (marks : List Bool) × AreMarked catalog lines marks × TakesOnce catalog marks before now
+
 -- the sources that the lines want were opened, which reads nothing of them, and the lines ran over them; then the open sources were put back with what they
 -- had counted
 pub record IsRun (r : CatalogRun) (outcomes : List LineOutcome) : Type 0 where
@@ -95,6 +99,7 @@ pub record IsRun (r : CatalogRun) (outcomes : List LineOutcome) : Type 0 where
   pub idle : (place : List ℕ) → GivesNothing (r.before place) (mid place)
   pub opened : AreOpened r.lists r.catalog (IsWanted r.catalog r.lines) r.before mid openings sources
   pub all : length openings ≡ length r.catalog
+  pub once : TakesEachOnce r.catalog r.lines r.before mid
   pub begun : List Counts
   pub unread : All IsUnread begun
   pub now : List Counts

@@ -9,7 +9,6 @@ mod lines;
 mod merging;
 mod outcome;
 mod run;
-mod slots;
 
 pub use batch::run_queries;
 pub use batch_run::Settings;

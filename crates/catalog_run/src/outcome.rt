@@ -60,6 +60,7 @@ fn source_refusal(list: u8, fault: SourceFault) -> Refusal
             bottom,
         },
         SourceFault::ShortList { stated, got } => Refusal::ShortList { list, stated, got },
+        SourceFault::Moved { had, now } => Refusal::Moved { list, had, now },
     }
 }
 

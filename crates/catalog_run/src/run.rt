@@ -4,6 +4,7 @@ ghost use Rattle.std.specs.Prelude.{◌≡◌, ◌≤◌, ◌<◌, ◌^◌, ℕ,
 ghost use Rattle.query_admission.specs.View.{View as AnyView};
 ghost use Rattle.query_turns.specs.Made.{IsReadyFor};
 ghost use Rattle.limits.specs.Ranges.{AreSettings};
+ghost use Rattle.catalog_open.specs.Slots.{IsIdle, of_slot};
 ghost use Rattle.catalog_open.specs.Admissions.{AreAdmitted};
 ghost use Rattle.catalog_run.specs.Runs.{CanBeWritten, RanOver};
 
@@ -12,6 +13,7 @@ use super::batch::run_queries;
 use super::merging::{let_admissions_go, merge};
 use batch_run::Settings;
 use catalog_open::Admissions;
+use fetcher::Slot;
 use limits::MAX_OBJECTS;
 use query_admission::LineOutcome;
 use source_api::Source;
@@ -24,25 +26,26 @@ pub(crate) fn run_admitted<W: Threads + Wait + Sync, S: Source>(
     rt: &W,
     alloc: Global,
     counts: &[u32],
-    sources: &mut Vec<S>,
+    slots: &mut Vec<Slot<S>>,
     admissions: Admissions,
     settings: Settings,
 ) -> Result<Vec<LineOutcome>, Memory>
     requires settings { AreSettings settings }
-    requires many { length sources.old.items ≡ length counts.now }
+    requires many { length slots.old.items ≡ length counts.now }
     requires few { length counts.now < 2 ^ 32 }
     requires small { All (λ count. count ≤ MAX_OBJECTS) counts.now }
+    requires idle { All IsIdle slots.old.items }
     requires ready { All (IsReadyFor counts.now) admissions.readies.items }
     requires admitted { (view : AnyView) × (lines : List (List ℕ)) × AreAdmitted view 1 lines admissions.stages.items admissions.readies.items }
-    ensures many { length sources.new.items ≡ length sources.old.items }
-    ensures lists { map S.list sources.new.items ≡ map S.list sources.old.items }
+    ensures idle { All IsIdle slots.new.items }
+    ensures lists { map (of_slot S.list) slots.new.items ≡ map (of_slot S.list) slots.old.items }
     ensures ran { IfOk result (λ outcomes. (view : AnyView) (lines : List (List ℕ)) (places : List ℕ)
         → AreAdmitted view 1 lines admissions.stages.items admissions.readies.items
-        → RanOver settings (record { told = map S.list sources.old.items; places = places; counts = counts.now })
-        (map S.counts sources.old.items) (map S.counts sources.new.items) view lines outcomes.items) }
+        → RanOver settings (record { told = map (of_slot S.list) slots.old.items; places = places; counts = counts.now })
+        (map (of_slot S.counts) slots.old.items) (map (of_slot S.counts) slots.new.items) view lines outcomes.items) }
     ensures writable { IfOk result (λ outcomes. All CanBeWritten outcomes.items) }
 {
-    let Ok(batch) = run_queries(rt, alloc, counts, sources, &admissions.readies, settings) else {
+    let Ok(batch) = run_queries(rt, alloc, counts, slots, &admissions.readies, settings) else {
         let_admissions_go(admissions);
         return Err(Memory);
     };

@@ -5,7 +5,7 @@ use Rattle.std.specs.Fmt.{decimal}
 use Rattle.query_text.specs.Query.{name_of}
 use Rattle.cert_text.specs.declared.refusal.Refusal.{Refusal}
 use Rattle.cert_text.specs.declared.refusal.Refusal.TheVariants.{ManyQueries, LongLine, Syntax, Number, TooManyLists, TooManyNodes, TooDeep, TooBig, UnknownList, NotOpened, TooLarge, CountsDiffer, KAboveCount, NoRandom, Strangers, RoomFull}
-use Rattle.cert_text.specs.declared.refusal.Refusal.TheVariants.{OutOfOrder, TooHigh, Repeated, Clash, Above, Missing, ShortList, AsksFull, Failed, Garbled}
+use Rattle.cert_text.specs.declared.refusal.Refusal.TheVariants.{OutOfOrder, TooHigh, Repeated, Clash, Above, Missing, ShortList, AsksFull, Failed, Garbled, Moved}
 
 -- a field of a refusal: a number, or a list by its number in the query
 pub data Field : Type 0 where
@@ -40,6 +40,7 @@ refusal_row (ShortList l stated got) = (codes "ShortList", Field.list l ∷ Fiel
 refusal_row (AsksFull l kept) = (codes "AsksFull", Field.list l ∷ Field.number kept ∷ [])
 refusal_row (Failed l) = (codes "Failed", Field.list l ∷ [])
 refusal_row (Garbled l) = (codes "Garbled", Field.list l ∷ [])
+refusal_row (Moved l had now) = (codes "Moved", Field.list l ∷ Field.number had ∷ Field.number now ∷ [])
 
 -- the word of a field: a number in decimal, a list by its name
 abbrev pub field_word : List (List ℕ) → Field → List ℕ

@@ -100,6 +100,7 @@ pub(crate) fn fields_of(refusal: Refusal) -> Fields
             grade: b,
             bottom: c,
         } => { Fields::Four([List(list), Number(a), Number(b), Number(c)]) }
+        Refusal::Moved { list, had, now } => Fields::Three([List(list), Wide(had), Wide(now)]),
         Refusal::CountsDiffer { list, n, other, m } => {
             Fields::Four([List(list), Number(n), List(other), Number(m)])
         }

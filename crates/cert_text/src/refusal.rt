@@ -147,6 +147,13 @@ pub enum Refusal {
     Garbled {
         list: u8,
     },
+    /// The list was replaced: a reply of its source stated the version `now`, and not the version
+    /// `had` that the list was opened with.
+    Moved {
+        list: u8,
+        had: u64,
+        now: u64,
+    },
 }
 
 /// The name of a refusal.
@@ -180,6 +187,7 @@ fn refusal_name(refusal: Refusal) -> &'static [u8]
         Refusal::AsksFull { .. } => b"AsksFull",
         Refusal::Failed { .. } => b"Failed",
         Refusal::Garbled { .. } => b"Garbled",
+        Refusal::Moved { .. } => b"Moved",
     }
 }
 

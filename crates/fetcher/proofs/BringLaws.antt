@@ -17,19 +17,19 @@ use Rattle.source_state.specs.declared.plan.Plan.TheVariants as plan
 use Rattle.source_log.specs.Log.{rows_in, fault_in, settling_in}
 use Rattle.source_state.specs.State.{State, asked_as, first_pending, due_by}
 use Rattle.source_state.specs.Events as events
-use Rattle.source_state.specs.Events.{MayCome, counted}
+use Rattle.source_state.specs.Events.{MayCome, MayMove, counted}
 use Rattle.source_state.specs.Looking.{reach_of, state_reach}
 use Rattle.source_state.proofs.AskLaws.{ask_is_found, pending_parts}
 use Rattle.source_api.specs.declared.counts.Counts.{Counts}
 use Rattle.source_api.specs.declared.source.Trouble.{Trouble}
 use Rattle.source_api.specs.declared.source.Trouble.TheVariants as trouble
-use Rattle.source_api.specs.Counting.{TroubleHasCause, GaveNothing, GaveRows, GaveGrade}
+use Rattle.source_api.specs.Counting.{TroubleHasCause, MovedHasCause, GaveNothing, GaveRows, GaveGrade}
 use Rattle.source_api.specs.Told.{IsPage, IsGrade}
 use Rattle.fetcher.specs.declared.turned.Turned.{Turned}
 use Rattle.fetcher.specs.declared.turned.Turned.TheVariants as turned
-use Rattle.fetcher.specs.Turning.{IsFound, Feeds, IsPlanned, IsFed, BroughtFail, Brings, MayTellPage, IsNext, MayTellGrade, MayFetch, settled_by, answer_by, kind_of, failed_by, IsOfSource}
+use Rattle.fetcher.specs.Turning.{IsFound, Feeds, IsPlanned, IsFed, BroughtFail, Brings, MayTellPage, IsNext, MayTellGrade, MayFetch, settled_by, answer_by, troubled_by, failed_by, IsOfSource}
 use Rattle.fetcher.proofs.ReachLaws.{reach_more}
-use Rattle.fetcher.proofs.EventLaws.{page_stays}
+use Rattle.fetcher.proofs.EventLaws.{page_stays, move_tally}
 
 -- a page may come to any state that is found, where it may be told
 pub page_may : (given : List Row) (known : Known LogEntry) → MayTellPage given known → (state : State) → IsFound state known → MayCome state (event.Page given)
@@ -94,11 +94,47 @@ fail_is : (what : FailKind) (why : Trouble) (counts now : Counts) (before after 
     → GaveNothing counts now → TroubleHasCause counts now why → BroughtFail what why counts now before after
 fail_is what why counts now before after fed gave cause = record { fed = fed; seen = fed.sees.log ∙ fed.is.log; tally = fed.sees.tally ∙ ap (counted what) fed.is.tally; gave = gave; cause = cause }
 
-pub fail_brings : (page ahead : ℕ) (why : Trouble) (list : Option (List Row)) (counts now : Counts) (before after : Known LogEntry)
-    → IsFed (event.Fail (kind_of why)) before after → GaveNothing counts now → TroubleHasCause counts now why → Brings page ahead list counts now before after (failed_by why)
-fail_brings page ahead trouble.Failed list counts now before after fed gave cause = fail_is _ _ counts now before after fed gave cause
-fail_brings page ahead trouble.Garbled list counts now before after fed gave cause = fail_is _ _ counts now before after fed gave cause
-fail_brings page ahead trouble.Memory list counts now before after fed gave cause = fail_is _ _ counts now before after fed gave cause
+pub trouble_brings : (page ahead : ℕ) (object : Option ℕ) (why : Trouble) (list : Option (List Row)) (counts now : Counts) (before after : Known LogEntry)
+    → IsFed (troubled_by object why) before after → GaveNothing counts now → TroubleHasCause counts now why → Brings page ahead list counts now before after (failed_by why)
+trouble_brings page ahead object trouble.Failed list counts now before after fed gave cause = fail_is _ _ counts now before after fed gave cause
+trouble_brings page ahead object trouble.Garbled list counts now before after fed gave cause = fail_is _ _ counts now before after fed gave cause
+trouble_brings page ahead object trouble.Memory list counts now before after fed gave cause = fail_is _ _ counts now before after fed gave cause
+trouble_brings page ahead object (trouble.Moved had other) list counts now before after fed gave cause = record {
+  object = object;
+  fed = fed;
+  tally = fed_tally (event.Move object had other) before after fed (λ s. move_tally s object had other);
+  gave = gave;
+  cause = cause;
+}
+
+-- what is told of a call that gave nothing may be told
+move_may : (object : Option ℕ) (why : Trouble) (version : ℕ) (told : Option ℕ) (known : Known LogEntry) → MovedHasCause version told why
+    → ((state : State) → IsFound state known → MayMove state object) → (state : State) → IsFound state known → MayCome state (troubled_by object why)
+move_may object trouble.Failed version told known cause may state is = tt
+move_may object trouble.Garbled version told known cause may state is = tt
+move_may object trouble.Memory version told known cause may state is = tt
+move_may object (trouble.Moved had other) version told known cause may state is = (cause.differ, may state is)
+
+pub page_trouble_may : (from count : ℕ) (why : Trouble) (version : ℕ) (told : Option ℕ) (known : Known LogEntry) → IsNext from count known
+    → MovedHasCause version told why → (state : State) → IsFound state known → MayCome state (troubled_by None why)
+page_trouble_may from count why version told known next cause =
+    move_may None why version told known cause (λ state is.
+    let rows : length (rows_in state.log) ≡ length (rows_in known.seen) = ap (λ log. length (rows_in log)) is.log in
+    let whole : state.count ≡ known.name.1 = ap (λ (p : ℕ × ℕ). p.1) is.name in
+    let at = next.next in
+    let some = next.some in
+    let within = next.within in
+    (ap fault_in is.log ∙ next.no_fault, omega (arith, rows, whole, at, some, within)))
+
+pub grade_trouble_may : (object : ℕ) (why : Trouble) (version : ℕ) (told : Option ℕ) (known : Known LogEntry) → MayTellGrade object known
+    → MovedHasCause version told why → (state : State) → IsFound state known → MayCome state (troubled_by (Some object) why)
+grade_trouble_may object why version told known may cause = move_may (Some object) why version told known cause may.pending
+
+pub trouble_source : (object : Option ℕ) (why : Trouble) → IsOfSource (troubled_by object why)
+trouble_source object trouble.Failed = tt
+trouble_source object trouble.Garbled = tt
+trouble_source object trouble.Memory = tt
+trouble_source object (trouble.Moved had other) = tt
 
 -- none of these is idle
 pub paged_busy : (rows : ℕ) (answer : Turned) → answer ≡ turned.Paged rows → answer ≢ turned.Idle
@@ -112,6 +148,7 @@ pub failed_busy : (why : Trouble) (answer : Turned) → answer ≡ failed_by why
 failed_busy trouble.Failed answer e idle = let bad : turned.Failed ≡ turned.Idle = sym e ∙ idle in absurd (cc)
 failed_busy trouble.Garbled answer e idle = let bad : turned.Garbled ≡ turned.Idle = sym e ∙ idle in absurd (cc)
 failed_busy trouble.Memory answer e idle = let bad : turned.Memory ≡ turned.Idle = sym e ∙ idle in absurd (cc)
+failed_busy (trouble.Moved had other) answer e idle = let bad : turned.Moved had other ≡ turned.Idle = sym e ∙ idle in absurd (cc)
 
 -- what is found later is found from the beginning
 found_from : (state : State) (page ahead : ℕ) (before mid : Known LogEntry) (planned : Plan) → IsPlanned page ahead before mid planned → Feeds before mid
@@ -163,6 +200,13 @@ brings_from page ahead list counts now before mid after planned (turned.Missed o
 brings_from page ahead list counts now before mid after planned turned.Failed p feeds busy b = fail_from _ _ counts now page ahead before mid after planned p feeds b
 brings_from page ahead list counts now before mid after planned turned.Garbled p feeds busy b = fail_from _ _ counts now page ahead before mid after planned p feeds b
 brings_from page ahead list counts now before mid after planned turned.Memory p feeds busy b = fail_from _ _ counts now page ahead before mid after planned p feeds b
+brings_from page ahead list counts now before mid after planned (turned.Moved had other) p feeds busy b = record {
+  object = b.object;
+  fed = fed_from (event.Move b.object had other) page ahead before mid after planned p feeds b.fed;
+  tally = b.tally ∙ (p.sees.tally ∙ p.is.tally);
+  gave = b.gave;
+  cause = b.cause;
+}
 brings_from page ahead list counts now before mid after planned turned.Idle p feeds busy b = absurd (busy refl)
 
 -- nothing is due

@@ -19,7 +19,7 @@ use Rattle.source_log.specs.declared.entry.LogEntry.TheVariants.{Kept, Settled, 
 use Rattle.source_log.specs.declared.entry.Settling.{Settling}
 use Rattle.source_log.specs.declared.entry.Settling.TheVariants.{Graded, Bad, Missed}
 use Rattle.source_log.specs.declared.entry.SourceFault.{SourceFault}
-use Rattle.source_log.specs.declared.entry.SourceFault.TheVariants.{OutOfOrder, TooHigh, Repeated, Clash, Above, ShortList}
+use Rattle.source_log.specs.declared.entry.SourceFault.TheVariants.{OutOfOrder, TooHigh, Repeated, Clash, Above, ShortList, Moved}
 use Rattle.source_log.specs.Log.{first_of, rows_in, settling_in, fault_in}
 use Rattle.source_log.specs.Asks.{ask_in, ask_of, good_grade, open_row, open_rows, first_above}
 use Rattle.source_state.specs.State.{State, asks_of, clash_or, above_fault, grade_asked, row_fault, settle_by, settle}
@@ -220,6 +220,7 @@ row_fault_on log more row (Above object grade bottom) same keeps h = record {
   under = h.under;
 }
 row_fault_on log more row (ShortList stated got) same keeps h = absurd h
+row_fault_on log more row (Moved had now) same keeps h = absurd h
 
 faulty_on : (given : List Row) (log more : List LogEntry) (fault : SourceFault) → rows_in more ≡ rows_in log → KeepsSettled log more
     → HasFaultyRow given log fault → HasFaultyRow given more fault
@@ -232,7 +233,14 @@ faulty_on given log more fault same keeps h = record {
 pub fault_on : (count : ℕ) (given : List Row) (log more : List LogEntry) (fault : SourceFault) → rows_in more ≡ rows_in log → KeepsSettled log more
     → IsFaultOf count given log fault → IsFaultOf count given more fault
 fault_on count given log more fault same keeps (inl short) = inl (record { is = short.is; all = same ∙ short.all; less = short.less })
-fault_on count given log more fault same keeps (inr faulty) = inr (faulty_on given log more fault same keeps faulty)
+fault_on count given log more fault same keeps (inr (inl faulty)) = inr (inl (faulty_on given log more fault same keeps faulty))
+fault_on count given log more fault same keeps (inr (inr replaced)) = inr (inr (record {
+  had = replaced.had;
+  now = replaced.now;
+  is = replaced.is;
+  differ = replaced.differ;
+  less = subst (λ (rows : List Row). length rows < count) (sym same) replaced.less;
+}))
 
 -- a row that is at fault among these rows is so among those that begin with them
 pub faulty_more : (given whole : List Row) (log : List LogEntry) (fault : SourceFault) → Begins given whole → HasFaultyRow given log fault
@@ -299,6 +307,7 @@ bad_on rows more object (OutOfOrder place above below) begins h = absurd h
 bad_on rows more object (TooHigh place grade) begins h = absurd h
 bad_on rows more object (Repeated other place) begins h = absurd h
 bad_on rows more object (ShortList stated got) begins h = absurd h
+bad_on rows more object (Moved had now) begins h = h
 
 -- the bad grades after a page
 page_bad : (s : State) (given : List Row) → ((object : ℕ) (fault : SourceFault) → settling_in s.log object ≡ Some (Bad fault)
@@ -310,6 +319,15 @@ page_bad s given h object fault e = bad_on (rows_in s.log) (rows_in (paged s giv
 pub short_is : (s : State) (fault : SourceFault) → MayPage s [] → fault_in (paged s []).log ≡ Some fault → fault ≡ ShortList s.count (length (rows_in s.log))
 short_is s fault may e = some_same (sym e ∙ fault_first s.log (ShortList s.count (length (rows_in s.log))) may.no_fault)
 
+-- a page never tells that the list was replaced
+pub page_no_move : (s : State) (given : List Row) → MayPage s given → (had now : ℕ) → fault_in (paged s given).log ≡ Some (Moved had now) → ⊥
+page_no_move s [] may had now e = let bad : Moved had now ≡ ShortList s.count (length (rows_in s.log)) = short_is s (Moved had now) may e in absurd (cc)
+page_no_move s (row ∷ rows) may had now e =
+    elim (rows_took s (row ∷ rows) may.no_fault) [
+      | inl whole ↦ none_not_some (sym whole.0 ∙ e)
+      | inr broken ↦ (subst (HasFaultyRow (rows_in s.log ++ row ∷ rows) (with_rows s (row ∷ rows)).log) (some_same (sym broken.1 ∙ e)) broken.2).faulty
+    ]
+
 -- one more page
 page_from : (given : List Row) (s : State) → MayPage s given
     → ((object : ℕ) (fault : SourceFault) → settling_in s.log object ≡ Some (Bad fault) → IsFaultOfGrade (rows_in s.log) object fault)
@@ -320,6 +338,7 @@ page_from [] s may bad =
     record {
       rows = page_front s [];
       all = λ none. absurd (none_not_some (sym none ∙ fault_first s.log fault may.no_fault));
+      moved = λ had now e. absurd (page_no_move s [] may had now e);
       fault = λ other e. inl (record {
         is = short_is s other may e ∙ ap (λ (rows : List Row). ShortList s.count (length rows)) (sym same);
         all = fault_rows s.log fault ∙ sym same;
@@ -333,9 +352,10 @@ page_from (row ∷ rows) s may bad = record {
     | inl whole ↦ whole.1
     | inr broken ↦ absurd (none_not_some (sym none ∙ broken.1))
   ];
+  moved = λ had now e. absurd (page_no_move s (row ∷ rows) may had now e);
   fault = λ other e. elim (rows_took s (row ∷ rows) may.no_fault) [
     | inl whole ↦ absurd (none_not_some (sym whole.0 ∙ e))
-    | inr broken ↦ inr (subst (HasFaultyRow (rows_in s.log ++ row ∷ rows) (with_rows s (row ∷ rows)).log) (some_same (sym broken.1 ∙ e)) broken.2)
+    | inr broken ↦ inr (inl (subst (HasFaultyRow (rows_in s.log ++ row ∷ rows) (with_rows s (row ∷ rows)).log) (some_same (sym broken.1 ∙ e)) broken.2))
   ];
   bad = page_bad s (row ∷ rows) bad;
 }
@@ -363,6 +383,7 @@ settled_comes count given log object settling pending well h =
     record {
       rows = subst (λ front. Begins front given) (sym rows) h.rows;
       all = λ free. rows ∙ h.all (sym none ∙ free);
+      moved = λ had now e. rows ∙ h.moved had now (sym none ∙ e);
       fault = λ fault e. fault_on count given log (log ++ Settled object settling ∷ []) fault rows (settled_keeps log object settling pending) (h.fault fault (sym none ∙ e));
       bad = λ other fault e. subst (λ front. IsFaultOfGrade front other fault) (sym rows) (elim (eqb_tells object other) [
         | inl same ↦
@@ -373,6 +394,20 @@ settled_comes count given log object settling pending well h =
       ]);
     }
 
+-- the list was replaced
+pub moved_comes : (count : ℕ) (given : List Row) (log : List LogEntry) (had now : ℕ) → fault_in log ≡ None → had ≢ now → length (rows_in log) < count
+    → ComesOf count given log → ComesOf count given (log ++ Fault (Moved had now) ∷ [])
+moved_comes count given log had now none differ less h =
+    let rows : rows_in (log ++ Fault (Moved had now) ∷ []) ≡ rows_in log = fault_rows log (Moved had now) in
+    let set : fault_in (log ++ Fault (Moved had now) ∷ []) ≡ Some (Moved had now) = fault_first log (Moved had now) none in
+    record {
+      rows = subst (λ front. Begins front given) (sym rows) h.rows;
+      all = λ free. rows ∙ h.all none;
+      moved = λ other next e. rows ∙ h.all none;
+      fault = λ fault e. inr (inr (record { had = had; now = now; is = some_same (sym e ∙ set); differ = differ; less = subst (λ (front : List Row). length front < count) (sym rows) less }));
+      bad = λ object fault e. subst (λ front. IsFaultOfGrade front object fault) (sym rows) (h.bad object fault (sym (fault_settling log (Moved had now) object) ∙ e));
+    }
+
 -- an empty log comes of no rows
 pub comes_none : (count : ℕ) → ComesOf count [] []
-comes_none count = record { rows = refl; all = λ free. refl; fault = λ fault e. absurd (none_not_some e); bad = λ object fault e. absurd (none_not_some e) }
+comes_none count = record { rows = refl; all = λ free. refl; moved = λ had now e. absurd (none_not_some e); fault = λ fault e. absurd (none_not_some e); bad = λ object fault e. absurd (none_not_some e) }

@@ -51,6 +51,8 @@ event_want s (event.Page rows) of = (page_stays s rows).want
 event_want s (event.Grade object grade) of = refl
 event_want s (event.Miss object) of = refl
 event_want s (event.Fail what) of = refl
+event_want s (event.Move None had now) of = refl
+event_want s (event.Move (Some object) had now) of = refl
 
 pub event_asks : (s : State) (e : Event) → IsOfSource e → (after s e).asks ≡ s.asks
 event_asks s (event.Want depth) of = absurd of
@@ -59,6 +61,13 @@ event_asks s (event.Page rows) of = (page_stays s rows).asks
 event_asks s (event.Grade object grade) of = refl
 event_asks s (event.Miss object) of = refl
 event_asks s (event.Fail what) of = refl
+event_asks s (event.Move None had now) of = refl
+event_asks s (event.Move (Some object) had now) of = refl
+
+-- a move is no fail
+pub move_tally : (s : State) (object : Option ℕ) (had now : ℕ) → (after s (event.Move object had now)).tally ≡ s.tally
+move_tally s None had now = refl
+move_tally s (Some object) had now = refl
 
 -- where no row of a page is at fault, all are kept
 row_all : (o : Option SourceFault) (s : State) (row : Row) (rows : List Row)

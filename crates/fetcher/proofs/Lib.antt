@@ -3,8 +3,9 @@ pub mod EventLaws
 pub mod CauseLaws
 mod FeedLaws
 pub mod BringLaws
+pub mod ToldLaws
+mod MoveLaws
 mod MeterLaws
 mod ChainLaws
 pub mod ClosedLaws
-pub mod ToldLaws
 pub mod PlanLaws

@@ -10,10 +10,11 @@ use Rattle.turn_lock.specs.Facts.{IsFrontOf}
 use Rattle.turn_lock.proofs.Growth.{begins_same, begins_on, at_most_same, at_most_on}
 use Rattle.topk_theory.proofs.AgreementLists.{distinct_fits}
 use Rattle.source_log.specs.declared.entry.LogEntry.{LogEntry}
-use Rattle.source_log.specs.declared.entry.LogEntry.TheVariants.{Settled}
+use Rattle.source_log.specs.declared.entry.LogEntry.TheVariants.{Settled, Fault}
 use Rattle.source_log.specs.declared.entry.Settling.{Settling}
 use Rattle.source_log.specs.declared.entry.Settling.TheVariants.{Bad, Missed}
 use Rattle.source_log.specs.declared.entry.SourceFault.{SourceFault}
+use Rattle.source_log.specs.declared.entry.SourceFault.TheVariants.{Moved}
 use Rattle.source_log.specs.declared.entry.Asked.TheVariants as became
 use Rattle.source_state.specs.declared.event.Event.{Event}
 use Rattle.source_state.specs.declared.event.Event.TheVariants as event
@@ -22,6 +23,8 @@ use Rattle.source_state.specs.State.{State, asked_in, settle, IsSound}
 use Rattle.source_state.specs.Events as events
 use Rattle.source_state.specs.Events.{logged, paged, one_more}
 use Rattle.source_state.specs.Looking.{reach_of}
+use Rattle.source_log.proofs.Lists.{none_not_some}
+use Rattle.source_log.proofs.LogLaws.{fault_rows, fault_settled, fault_first}
 use Rattle.source_state.proofs.AskLaws.{pending_parts}
 use Rattle.source_api.specs.declared.counts.Counts.{Counts}
 use Rattle.source_api.specs.Counting.{raised, NoneFell}
@@ -29,10 +32,12 @@ use Rattle.fetcher.specs.declared.turned.Fetched.{Fetched}
 use Rattle.fetcher.specs.declared.turned.Turned.{Turned}
 use Rattle.fetcher.specs.declared.turned.Turned.TheVariants as turned
 use Rattle.fetcher.specs.Turning.{Feeds, IsFed, Brings}
+use Rattle.fetcher.specs.Moving.{MovesOnly}
 use Rattle.fetcher.specs.Causes.{IsFaultOfGrade, ComesOf, HasGiven}
 use Rattle.fetcher.specs.Metering.{WentUp, RoseBy, IsMetered, nothing, counted_by, HasCountOf}
 use Rattle.fetcher.proofs.ReachLaws.{reach_more, reach_within}
-use Rattle.fetcher.proofs.CauseLaws.{page_most, settle_bad, page_comes, settled_comes, comes_none}
+use Rattle.fetcher.proofs.CauseLaws.{page_most, settle_bad, page_comes, settled_comes, moved_comes, comes_none}
+use Rattle.fetcher.proofs.MoveLaws.{turn_moves, rose_as, moves_none, moves_more, rose_later, rose_still}
 use Rattle.fetcher.proofs.EventLaws.{page_stays, page_all, settling_more, settling_rows, settling_fault}
 
 -- all rows that were given are kept, while no row fault stands
@@ -150,6 +155,42 @@ given_settled number object e settling k1 k2 feeds fed is pending well h =
           (settled_comes fed.found.count was.given fed.found.log object settling (pending_parts fed.found object pending).1 well was.comes));
     }
 
+-- a turn that tells that the list was replaced
+record Moves (k1 k2 : Known LogEntry) : Type 0 where
+  settled : length (settled_in k1.seen) ≤ length (settled_in k2.seen)
+  rows : length (rows_in k2.seen) ≡ length (rows_in k1.seen)
+  free : fault_in k2.seen ≡ None → fault_in k1.seen ≡ None
+
+moved_by : (object : Option ℕ) (had other : ℕ) (k1 k2 : Known LogEntry) → IsFed (event.Move object had other) k1 k2 → Moves k1 k2
+moved_by None had other k1 k2 fed =
+    let after : k2.seen ≡ fed.found.log ++ Fault (Moved had other) ∷ [] = fed.sees.log in
+    let same : length (settled_in k2.seen) ≡ length (settled_in k1.seen) =
+    ap (λ log. length (settled_in log)) after ∙ (ap (length {A = ℕ}) (fault_settled fed.found.log (Moved had other)) ∙ ap (λ log. length (settled_in log)) fed.is.log) in
+    record {
+      settled = omega (arith, same);
+      rows = ap (λ log. length (rows_in log)) after ∙ (ap (length {A = Row}) (fault_rows fed.found.log (Moved had other)) ∙ ap (λ log. length (rows_in log)) fed.is.log);
+      free = λ none. absurd (none_not_some (sym none ∙ (ap fault_in after ∙ fault_first fed.found.log (Moved had other) fed.may.1.0)));
+    }
+moved_by (Some object) had other k1 k2 fed =
+    let s = settles_by (event.Move (Some object) had other) object (λ s. Bad (Moved had other)) k1 k2 (λ s. refl) fed in
+    let more = s.settled in
+    record { settled = omega (arith, more); rows = s.rows; free = λ none. sym s.fault ∙ none }
+
+given_moved : (number : ℕ) (object : Option ℕ) (had other : ℕ) (k1 k2 : Known LogEntry) → Feeds k1 k2 → IsFed (event.Move object had other) k1 k2
+    → HasGiven number k1.name.1 k1.seen → HasGiven number k2.name.1 k2.seen
+given_moved number None had other k1 k2 feeds fed h =
+    let was = given_found number (event.Move None had other) k1 k2 fed h in
+    record {
+      given = was.given;
+      many = was.many;
+      comes = subst (λ log. ComesOf k2.name.1 was.given log) (sym fed.sees.log)
+          (subst (λ n. ComesOf n was.given (fed.found.log ++ Fault (Moved had other) ∷ [])) (found_name (event.Move None had other) k1 k2 feeds fed)
+          (moved_comes fed.found.count was.given fed.found.log had other fed.may.1.0 fed.may.0 fed.may.1.1 was.comes));
+    }
+given_moved number (Some object) had other k1 k2 feeds fed h =
+    given_settled number object (event.Move (Some object) had other) (Bad (Moved had other)) k1 k2 feeds fed refl fed.may.1
+    (λ fault e. let same : Moved had other ≡ fault = cc in subst (IsFaultOfGrade (rows_in fed.found.log) object) same fed.may.0) h
+
 -- no row is kept that wasn't given
 page_kept : (given : List Row) (k1 k2 : Known LogEntry) → IsFed (event.Page given) k1 k2 → length (rows_in k2.seen) ≤ length (rows_in k1.seen) + length given
 page_kept given k1 k2 fed =
@@ -163,26 +204,43 @@ kept_more start rows more before now a b = omega arith
 pub record Meters (page ahead : ℕ) (fetched : Fetched) (counts now : Counts) (before after : Known LogEntry) : Type 0 where
   pub metered : IsMetered page ahead fetched counts now before after
   pub kept : KeepsAll fetched before after
+  pub since : counts.moves ≤ now.moves
+
+-- what more turns do to moves
+record Moving (counts now : Counts) (before after : Known LogEntry) : Type 0 where
+  moved : MovesOnly (λ had other. Rose counts.moves now.moves) before.seen after.seen
+  since : counts.moves ≤ now.moves
+
+moving : (page ahead : ℕ) (fetched : Fetched) (answer : Turned) (list : Option (List Row)) (c0 c1 c2 : Counts) (k0 k1 k2 : Known LogEntry)
+    → Meters page ahead fetched c0 c1 k0 k1 → NoneFell c1 c2 → Brings page ahead list c1 c2 k1 k2 answer → Moving c0 c2 k0 k2
+moving page ahead fetched answer list c0 c1 c2 k0 k1 k2 m later b = record {
+  moved = moves_more (λ had other. Rose c0.moves c1.moves) (λ had other. Rose c1.moves c2.moves) (λ had other. Rose c0.moves c2.moves) k0.seen k1.seen k2.seen
+      (λ had other rose. rose_still c0.moves c1.moves c2.moves later.moves rose) (λ had other rose. rose_later c0.moves c1.moves c2.moves m.since rose) m.metered.moved
+      (turn_moves (λ had other. Rose c1.moves c2.moves) page ahead list c1 c2 k1 k2 answer b (rose_as page ahead list c1 c2 k1 k2 answer b));
+  since = le_trans m.since later.moves;
+}
 
 -- a turn that gives nothing, with what its tally and faults do
 still : (page ahead : ℕ) (fetched : Fetched) (c0 c1 c2 : Counts) (k0 k1 k2 : Known LogEntry) → 1 ≤ page → Meters page ahead fetched c0 c1 k0 k1 → Feeds k1 k2
     → k2.seen ≡ k1.seen
     → c2.rows_given ≡ c1.rows_given → c2.grades_given ≡ c1.grades_given
     → RoseBy (k2.tally.failed - k0.tally.failed) c0.faults c2.faults → RoseBy (k2.tally.garbled - k0.tally.garbled) c0.garbles c2.garbles
-    → Meters page ahead fetched c0 c2 k0 k2
-still page ahead fetched c0 c1 c2 k0 k1 k2 some m feeds seen rows grades failed garbled = record {
+    → Moving c0 c2 k0 k2 → Meters page ahead fetched c0 c2 k0 k2
+still page ahead fetched c0 c1 c2 k0 k1 k2 some m feeds seen rows grades failed garbled moves = record {
   metered = record {
     rows = went_same c0.rows_given fetched.rows c1.rows_given c2.rows_given m.metered.rows rows;
     grades = went_same c0.grades_given fetched.grades c1.grades_given c2.grades_given m.metered.grades grades;
     reach = max_on (length (rows_in k0.seen)) fetched.rows _ _ m.metered.reach (reach_on page ahead k1 k2 some feeds);
     kept = subst (λ log. length (rows_in log) ≤ length (rows_in k0.seen) + fetched.rows) (sym seen) m.metered.kept;
     comes = λ none. given_same fetched.rows k1 k2 feeds seen (m.metered.comes none);
-    settled = m.metered.settled ∙ ap (λ log. length (settled_in log)) (sym seen);
+    settled = subst (λ (log : List LogEntry). length (settled_in k0.seen) + fetched.grades ≤ length (settled_in log)) (sym seen) m.metered.settled;
     asked = asked_on fetched.grades k1.met k2.met m.metered.asked feeds.follows.met;
     failed = failed;
     garbled = garbled;
+    moved = moves.moved;
   };
   kept = kept_on fetched k0 k1 k2 m.kept seen;
+  since = moves.since;
 }
 
 -- the fails of a kind that didn't come
@@ -200,8 +258,8 @@ one_failed before now then_ first last rose more = rose_least before (one_more l
 -- a turn that settles an object
 settled_turn : (page ahead : ℕ) (fetched : Fetched) (c0 c1 c2 : Counts) (k0 k1 k2 : Known LogEntry) → 1 ≤ page → Meters page ahead fetched c0 c1 k0 k1
     → Feeds k1 k2 → NoneFell c1 c2 → Settles k1 k2 → (HasGiven fetched.rows k1.name.1 k1.seen → HasGiven fetched.rows k2.name.1 k2.seen)
-    → k2.tally ≡ k1.tally → c2.rows_given ≡ c1.rows_given → c2.grades_given ≡ faults.counted c1.grades_given → Meters page ahead (record fetched { grades = fetched.grades + 1 }) c0 c2 k0 k2
-settled_turn page ahead fetched c0 c1 c2 k0 k1 k2 some m feeds later s given tally rows grades = record {
+    → k2.tally ≡ k1.tally → c2.rows_given ≡ c1.rows_given → c2.grades_given ≡ faults.counted c1.grades_given → Moving c0 c2 k0 k2 → Meters page ahead (record fetched { grades = fetched.grades + 1 }) c0 c2 k0 k2
+settled_turn page ahead fetched c0 c1 c2 k0 k1 k2 some m feeds later s given tally rows grades moves = record {
   metered = record {
     rows = went_same c0.rows_given fetched.rows c1.rows_given c2.rows_given m.metered.rows rows;
     grades = went_more c0.grades_given fetched.grades 1 c1.grades_given c2.grades_given m.metered.grades grades;
@@ -212,8 +270,10 @@ settled_turn page ahead fetched c0 c1 c2 k0 k1 k2 some m feeds later s given tal
     asked = let a = m.metered.settled in let b = s.settled in let d = s.asks in omega (arith, a, b, d);
     failed = same_failed k0 k1 k2 c0.faults c1.faults c2.faults (ap (λ (t : Tally). t.failed) tally) m.metered.failed later.faults;
     garbled = same_garbled k0 k1 k2 c0.garbles c1.garbles c2.garbles (ap (λ (t : Tally). t.garbled) tally) m.metered.garbled later.garbles;
+    moved = moves.moved;
   };
   kept = kept_settled fetched k0 k1 k2 m.kept s;
+  since = moves.since;
 }
 
 -- one more turn
@@ -222,6 +282,7 @@ pub meter_more : (page ahead : ℕ) (fetched : Fetched) (answer : Turned) (list 
     → Brings page ahead list c1 c2 k1 k2 answer → Meters page ahead (counted_by fetched answer) c0 c2 k0 k2
 meter_more page ahead fetched (turned.Paged rows) list c0 c1 c2 k0 k1 k2 some m feeds later b =
     let fed = b.fed in
+    let moves = moving page ahead fetched (turned.Paged rows) list c0 c1 c2 k0 k1 k2 m later b in
     let all : length (rows_in k1.seen) ≡ length (rows_in k0.seen) + fetched.rows = m.kept.rows b.no_fault in
     let size = b.size in
     record {
@@ -232,11 +293,14 @@ meter_more page ahead fetched (turned.Paged rows) list c0 c1 c2 k0 k1 k2 some m 
         kept = kept_more (length (rows_in k0.seen)) fetched.rows rows (length (rows_in k1.seen)) (length (rows_in k2.seen)) m.metered.kept
             (subst (λ n. length (rows_in k2.seen) ≤ length (rows_in k1.seen) + n) size (page_kept b.given k1 k2 fed));
         comes = λ none. given_page fetched.rows rows b.given k1 k2 size feeds fed (m.metered.comes none);
-        settled = m.metered.settled ∙ sym (ap (λ log. length (settled_in log)) fed.sees.log ∙ (ap (length {A = ℕ}) (page_stays fed.found b.given).settled ∙ ap (λ log. length (settled_in log)) fed.is.log));
+        settled = subst (λ n. length (settled_in k0.seen) + fetched.grades ≤ n)
+            (sym (ap (λ log. length (settled_in log)) fed.sees.log ∙ (ap (length {A = ℕ}) (page_stays fed.found b.given).settled ∙ ap (λ log. length (settled_in log)) fed.is.log))) m.metered.settled;
         asked = asked_on fetched.grades k1.met k2.met m.metered.asked feeds.follows.met;
         failed = same_failed k0 k1 k2 c0.faults c1.faults c2.faults (ap (λ (t : Tally). t.failed) b.tally) m.metered.failed later.faults;
         garbled = same_garbled k0 k1 k2 c0.garbles c1.garbles c2.garbles (ap (λ (t : Tally). t.garbled) b.tally) m.metered.garbled later.garbles;
+        moved = moves.moved;
       };
+      since = moves.since;
       kept = record {
         rows = λ none.
             let now = page_all fed.found b.given (ap fault_in (sym fed.sees.log) ∙ none) (ap fault_in fed.is.log ∙ b.no_fault) in
@@ -253,27 +317,52 @@ meter_more page ahead fetched (turned.Graded object) list c0 c1 c2 k0 k1 k2 some
     (given_settled fetched.rows object (event.Grade object b.grade) (settle (rows_in b.fed.found.log) object b.grade) k1 k2 feeds b.fed refl b.fed.may
     (settle_bad (rows_in b.fed.found.log) object b.grade))
     b.tally b.gave.rows b.gave.grades
+    (moving page ahead fetched (turned.Graded object) list c0 c1 c2 k0 k1 k2 m later b)
 meter_more page ahead fetched (turned.Missed object) list c0 c1 c2 k0 k1 k2 some m feeds later b =
     settled_turn page ahead fetched c0 c1 c2 k0 k1 k2 some m feeds later
     (settles_by (event.Miss object) object (λ s. Missed) k1 k2 (λ s. refl) b.fed)
     (given_settled fetched.rows object (event.Miss object) Missed k1 k2 feeds b.fed refl b.fed.may (λ fault e. absurd (let bad : Missed ≡ Bad fault = e in cc)))
     b.tally b.gave.rows b.gave.grades
+    (moving page ahead fetched (turned.Missed object) list c0 c1 c2 k0 k1 k2 m later b)
 meter_more page ahead fetched turned.Failed list c0 c1 c2 k0 k1 k2 some m feeds later b =
     still page ahead fetched c0 c1 c2 k0 k1 k2 some m feeds b.seen b.gave.rows b.gave.grades
     (subst (λ (t : Tally). RoseBy (t.failed - k0.tally.failed) c0.faults c2.faults) (sym b.tally) (one_failed c0.faults c1.faults c2.faults k0.tally.failed k1.tally.failed m.metered.failed b.cause))
     (same_garbled k0 k1 k2 c0.garbles c1.garbles c2.garbles (ap (λ (t : Tally). t.garbled) b.tally) m.metered.garbled later.garbles)
+    (moving page ahead fetched turned.Failed list c0 c1 c2 k0 k1 k2 m later b)
 meter_more page ahead fetched turned.Garbled list c0 c1 c2 k0 k1 k2 some m feeds later b =
     still page ahead fetched c0 c1 c2 k0 k1 k2 some m feeds b.seen b.gave.rows b.gave.grades
     (same_failed k0 k1 k2 c0.faults c1.faults c2.faults (ap (λ (t : Tally). t.failed) b.tally) m.metered.failed later.faults)
     (subst (λ (t : Tally). RoseBy (t.garbled - k0.tally.garbled) c0.garbles c2.garbles) (sym b.tally) (one_failed c0.garbles c1.garbles c2.garbles k0.tally.garbled k1.tally.garbled m.metered.garbled b.cause))
+    (moving page ahead fetched turned.Garbled list c0 c1 c2 k0 k1 k2 m later b)
 meter_more page ahead fetched turned.Memory list c0 c1 c2 k0 k1 k2 some m feeds later b =
     still page ahead fetched c0 c1 c2 k0 k1 k2 some m feeds b.seen b.gave.rows b.gave.grades
     (same_failed k0 k1 k2 c0.faults c1.faults c2.faults (ap (λ (t : Tally). t.failed) b.tally) m.metered.failed later.faults)
     (same_garbled k0 k1 k2 c0.garbles c1.garbles c2.garbles (ap (λ (t : Tally). t.garbled) b.tally) m.metered.garbled later.garbles)
+    (moving page ahead fetched turned.Memory list c0 c1 c2 k0 k1 k2 m later b)
+meter_more page ahead fetched (turned.Moved had other) list c0 c1 c2 k0 k1 k2 some m feeds later b =
+    let s = moved_by b.object had other k1 k2 b.fed in
+    let moves = moving page ahead fetched (turned.Moved had other) list c0 c1 c2 k0 k1 k2 m later b in
+    record {
+      metered = record {
+        rows = went_same c0.rows_given fetched.rows c1.rows_given c2.rows_given m.metered.rows b.gave.rows;
+        grades = went_same c0.grades_given fetched.grades c1.grades_given c2.grades_given m.metered.grades b.gave.grades;
+        reach = max_on (length (rows_in k0.seen)) fetched.rows _ _ m.metered.reach (reach_on page ahead k1 k2 some feeds);
+        kept = let a = m.metered.kept in let d = s.rows in omega (arith, a, d);
+        comes = λ none. given_moved fetched.rows b.object had other k1 k2 feeds b.fed (m.metered.comes none);
+        settled = let a = m.metered.settled in let d = s.settled in omega (arith, a, d);
+        asked = asked_on fetched.grades k1.met k2.met m.metered.asked feeds.follows.met;
+        failed = same_failed k0 k1 k2 c0.faults c1.faults c2.faults (ap (λ (t : Tally). t.failed) b.tally) m.metered.failed later.faults;
+        garbled = same_garbled k0 k1 k2 c0.garbles c1.garbles c2.garbles (ap (λ (t : Tally). t.garbled) b.tally) m.metered.garbled later.garbles;
+        moved = moves.moved;
+      };
+      since = moves.since;
+      kept = record { rows = λ none. s.rows ∙ m.kept.rows (s.free none) };
+    }
 meter_more page ahead fetched turned.Idle list c0 c1 c2 k0 k1 k2 some m feeds later b =
     still page ahead fetched c0 c1 c2 k0 k1 k2 some m feeds b.seen (ap (λ (c : Counts). c.rows_given) b.gave) (ap (λ (c : Counts). c.grades_given) b.gave)
     (same_failed k0 k1 k2 c0.faults c1.faults c2.faults (ap (λ (t : Tally). t.failed) b.tally) m.metered.failed later.faults)
     (same_garbled k0 k1 k2 c0.garbles c1.garbles c2.garbles (ap (λ (t : Tally). t.garbled) b.tally) m.metered.garbled later.garbles)
+    (moving page ahead fetched turned.Idle list c0 c1 c2 k0 k1 k2 m later b)
 
 -- the counts stay small
 grade_fits : (page ahead : ℕ) (fetched : Fetched) (c0 c1 : Counts) (k0 k1 k2 : Known LogEntry) → Meters page ahead fetched c0 c1 k0 k1 → Settles k1 k2
@@ -300,6 +389,7 @@ counts_fit page ahead fetched (turned.Missed object) list c0 c1 c2 k0 k1 k2 m fe
 counts_fit page ahead fetched turned.Failed list c0 c1 c2 k0 k1 k2 m feeds b = tt
 counts_fit page ahead fetched turned.Garbled list c0 c1 c2 k0 k1 k2 m feeds b = tt
 counts_fit page ahead fetched turned.Memory list c0 c1 c2 k0 k1 k2 m feeds b = tt
+counts_fit page ahead fetched (turned.Moved had other) list c0 c1 c2 k0 k1 k2 m feeds b = tt
 counts_fit page ahead fetched turned.Idle list c0 c1 c2 k0 k1 k2 m feeds b = tt
 
 -- before any turn
@@ -315,8 +405,10 @@ meter_none page ahead counts known = record {
     asked = omega arith;
     failed = none_rose counts.faults known.tally.failed;
     garbled = none_rose counts.garbles known.tally.garbled;
+    moved = moves_none (λ had other. Rose counts.moves counts.moves) known.seen;
   };
   kept = record { rows = λ none. omega arith };
+  since = le_refl counts.moves;
 }
   where
     least : (start far : ℕ) → start + 0 ≤ max start far

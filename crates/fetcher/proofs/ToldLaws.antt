@@ -11,19 +11,20 @@ use Rattle.topk_theory.specs.Bounds.{grade_among}
 use Rattle.topk_theory.proofs.AgreementLists.{contains_nil, contains_here, contains_cases, begins_with, begins_splits, begins_trans}
 use Rattle.turn_lock.specs.declared.known.Known.{Known}
 use Rattle.source_log.specs.declared.entry.LogEntry.{LogEntry}
-use Rattle.source_log.specs.declared.entry.LogEntry.TheVariants.{Settled}
+use Rattle.source_log.specs.declared.entry.LogEntry.TheVariants.{Settled, Fault}
 use Rattle.source_log.specs.declared.entry.Settling.{Settling}
 use Rattle.source_log.specs.declared.entry.Settling.TheVariants.{Graded, Bad, Missed}
 use Rattle.source_log.specs.declared.entry.SourceFault.{SourceFault}
-use Rattle.source_log.specs.declared.entry.SourceFault.TheVariants.{OutOfOrder, TooHigh, Repeated, Clash, Above, ShortList}
+use Rattle.source_log.specs.declared.entry.SourceFault.TheVariants.{OutOfOrder, TooHigh, Repeated, Clash, Above, ShortList, Moved}
 use Rattle.source_state.specs.declared.event.Event.{Event}
 use Rattle.source_state.specs.declared.event.Event.TheVariants as event
 use Rattle.source_log.specs.Log.{first_of, rows_in, settling_in, fault_in}
 use Rattle.source_state.specs.State.{State, settle_by, settle}
-use Rattle.source_state.specs.Events.{logged, with_rows, paged, MayPage}
+use Rattle.source_state.specs.Events as events
+use Rattle.source_state.specs.Events.{logged, with_rows, paged, MayPage, MayCome}
 use Rattle.source_log.proofs.Lists.{none_not_some}
 use Rattle.source_state.proofs.AskLaws.{pending_parts}
-use Rattle.source_log.proofs.LogLaws.{settled_rows, settled_faults, settled_other, settled_same, fault_rows}
+use Rattle.source_log.proofs.LogLaws.{settled_rows, settled_faults, settled_other, settled_same, fault_rows, fault_settling, fault_first}
 use Rattle.source_api.specs.declared.counts.Counts.{Counts}
 use Rattle.source_api.specs.Told.{HasEachOnce, IsPage}
 use Rattle.fetcher.specs.declared.turned.Turned.{Turned}
@@ -45,7 +46,7 @@ next_begins list front given begins follows =
 -- no row is at fault in a list but its next
 told_fault : (list : List Row) (whole : List Row) (count : ℕ) (log : List LogEntry) (fault : SourceFault) → Begins whole list → HasFaultyRow whole log fault
     → (stated : ℕ) × IsFaultOf stated list log fault
-told_fault list whole count log fault begins h = (count, inr (faulty_more whole list log fault begins h))
+told_fault list whole count log fault begins h = (count, inr (inl (faulty_more whole list log fault begins h)))
 
 -- a list that has ended is kept whole
 ended_whole : (list front : List Row) → Begins front list → (length front < length list → 0 < 0) → front ≡ list
@@ -111,13 +112,14 @@ same_grade list object one other once a b =
     ap (λ (z : Row). z.grade) (once_same list (record { object = object; grade = one }) (record { object = object; grade = other }) once a b refl)
 
 -- a bad grade is this one
-abbrev IsOfGrade : ℕ → SourceFault → Type 0
+abbrev pub IsOfGrade : ℕ → SourceFault → Type 0
 IsOfGrade grade (Clash other sorted random) = grade ≡ random
 IsOfGrade grade (Above other higher bottom) = grade ≡ higher
 IsOfGrade grade (OutOfOrder place above below) = ⊥
 IsOfGrade grade (TooHigh place higher) = ⊥
 IsOfGrade grade (Repeated other place) = ⊥
 IsOfGrade grade (ShortList stated got) = ⊥
+IsOfGrade grade (Moved had now) = ⊥
 
 -- what a grade settles as
 settle_graded : (rows : List Row) (object grade other : ℕ) → settle rows object grade ≡ Graded other → grade ≡ other
@@ -151,7 +153,7 @@ settle_missed rows object grade e = by (grade_among rows object) e
     by (Some sorted) e = some sorted (sorted == grade) e
 
 -- a bad one tells the grade that came
-settle_tells : (rows : List Row) (object grade : ℕ) (fault : SourceFault) → settle rows object grade ≡ Bad fault → IsOfGrade grade fault
+pub settle_tells : (rows : List Row) (object grade : ℕ) (fault : SourceFault) → settle rows object grade ≡ Bad fault → IsOfGrade grade fault
 settle_tells rows object grade fault e = by (grade_among rows object) e
   where
     none : (b : Bool) → cond b (Bad (Above object grade (last_grade top_grade rows))) (Graded grade) ≡ Bad fault → IsOfGrade grade fault
@@ -181,6 +183,7 @@ bad_true list rows object grade once begins c (OutOfOrder place above below) h o
 bad_true list rows object grade once begins c (TooHigh place higher) h of = absurd h
 bad_true list rows object grade once begins c (Repeated other place) h of = absurd h
 bad_true list rows object grade once begins c (ShortList stated got) h of = absurd h
+bad_true list rows object grade once begins c (Moved had now) h of = absurd of
 
 -- what the list's grade settles as is true
 settle_true : (list rows : List Row) (object grade : ℕ) → HasEachOnce list → Begins rows list → Contains list (record { object = object; grade = grade })
@@ -214,6 +217,28 @@ told_found : (list : List Row) (e : Event) (before after : Known LogEntry) → (
     → TellsOf list fed.found.log
 told_found list e before after fed h = told_same list before.seen fed.found.log fed.is.log h
 
+-- the list was replaced
+told_moved : (list : List Row) (s : State) (object : Option ℕ) (had now : ℕ) → TellsOf list s.log → MayCome s (event.Move object had now)
+    → TellsOf list (events.after s (event.Move object had now)).log
+told_moved list s None had now h may =
+    let rows : rows_in (s.log ++ Fault (Moved had now) ∷ []) ≡ rows_in s.log = fault_rows s.log (Moved had now) in
+    record {
+      distinct = h.distinct;
+      rows = subst (λ front. Begins front list) (sym rows) h.rows;
+      settled = λ object settling e. h.settled object settling (sym (fault_settling s.log (Moved had now) object) ∙ e);
+      fault = λ fault e. (
+        s.count,
+        inr (inr (record {
+          had = had;
+          now = now;
+          is = some_same (sym e ∙ fault_first s.log (Moved had now) may.1.0);
+          differ = may.0;
+          less = subst (λ (front : List Row). length front < s.count) (sym rows) may.1.1;
+        })),
+      );
+    }
+told_moved list s (Some object) had now h may = told_settled list s object (Bad (Moved had now)) h (pending_parts s object may.1).1 may.0
+
 -- one turn
 told_turn : (page ahead : ℕ) (list : List Row) (counts now : Counts) (before after : Known LogEntry) (answer : Turned)
     → Brings page ahead (Some list) counts now before after answer → TellsOf list before.seen → TellsOf list after.seen
@@ -232,6 +257,9 @@ told_turn page ahead list counts now before after (turned.Missed object) b h =
 told_turn page ahead list counts now before after turned.Failed b h = told_same list before.seen after.seen b.seen h
 told_turn page ahead list counts now before after turned.Garbled b h = told_same list before.seen after.seen b.seen h
 told_turn page ahead list counts now before after turned.Memory b h = told_same list before.seen after.seen b.seen h
+told_turn page ahead list counts now before after (turned.Moved had other) b h =
+    told_same list (events.after b.fed.found (event.Move b.object had other)).log after.seen b.fed.sees.log
+    (told_moved list b.fed.found b.object had other (told_found list (event.Move b.object had other) before after b.fed h) b.fed.may)
 told_turn page ahead list counts now before after turned.Idle b h = told_same list before.seen after.seen b.seen h
 
 told_turns : (page ahead : ℕ) (list : List Row) (before after : Moment) (turns : List OneTurn) → AreTurns page ahead (Some list) before turns after
@@ -274,20 +302,26 @@ pub never_repeated : (list : List Row) (log : List LogEntry) (object place : ℕ
 never_repeated list log object place h = λ e.
     elim (h.fault (Repeated object place) e).1 [
       | inl short ↦ absurd (let bad : Repeated object place ≡ ShortList _ (length list) = short.is in cc)
-      | inr faulty ↦
-          let split = next_splits list (rows_in log) faulty.row faulty.next in
-          let twice : Contains (objects (rows_in log)) faulty.row.object = subst (Contains (objects (rows_in log))) faulty.faulty.is faulty.faulty.before in
-          no_repeat (rows_in log) faulty.row split.0 (subst HasEachOnce split.1 h.distinct) twice
+      | inr rest ↦ elim rest [
+        | inl faulty ↦
+            let split = next_splits list (rows_in log) faulty.row faulty.next in
+            let twice : Contains (objects (rows_in log)) faulty.row.object = subst (Contains (objects (rows_in log))) faulty.faulty.is faulty.faulty.before in
+            no_repeat (rows_in log) faulty.row split.0 (subst HasEachOnce split.1 h.distinct) twice
+        | inr replaced ↦ absurd (let bad : Repeated object place ≡ Moved replaced.had replaced.now = replaced.is in cc)
+      ]
     ]
 
 pub never_clashes : (list : List Row) (log : List LogEntry) (object sorted random : ℕ) → TellsOf list log → ¬ (fault_in log ≡ Some (Clash object sorted random))
 never_clashes list log object sorted random h = λ e.
     elim (h.fault (Clash object sorted random) e).1 [
       | inl short ↦ absurd (let bad : Clash object sorted random ≡ ShortList _ (length list) = short.is in cc)
-      | inr faulty ↦
-          let split = next_splits list (rows_in log) faulty.row faulty.next in
-          let there : Contains list faulty.row =
-          subst (λ xs. Contains xs faulty.row) (sym split.1) (Contains-append_right (rows_in log) (faulty.row ∷ split.0) faulty.row (contains_here faulty.row split.0)) in
-          faulty.faulty.apart (same_grade list object sorted random h.distinct (subst (Contains list) faulty.faulty.is there)
-          (h.settled object (Graded random) faulty.faulty.graded))
+      | inr rest ↦ elim rest [
+        | inl faulty ↦
+            let split = next_splits list (rows_in log) faulty.row faulty.next in
+            let there : Contains list faulty.row =
+            subst (λ xs. Contains xs faulty.row) (sym split.1) (Contains-append_right (rows_in log) (faulty.row ∷ split.0) faulty.row (contains_here faulty.row split.0)) in
+            faulty.faulty.apart (same_grade list object sorted random h.distinct (subst (Contains list) faulty.faulty.is there)
+            (h.settled object (Graded random) faulty.faulty.graded))
+        | inr replaced ↦ absurd (let bad : Clash object sorted random ≡ Moved replaced.had replaced.now = replaced.is in cc)
+      ]
     ]

@@ -1,5 +1,5 @@
 -- Which call of its source a turn of a fetcher makes: the one that the plan names of the state that it found.
-use Rattle.std.specs.Prelude.{◌≡◌, ℕ, Option, List, [], ◌∷◌, ◌++◌, length}
+use Rattle.std.specs.Prelude.{◌≡◌, ℕ, Option, Some, None, List, [], ◌∷◌, ◌++◌, length}
 use Rattle.std.specs.declared.result.Result.{Result}
 use Rattle.std.specs.declared.result.Result.TheVariants.{Ok, Err}
 use Rattle.ranked_list.specs.declared.row.Row.{Row}
@@ -16,16 +16,16 @@ use Rattle.source_api.specs.declared.source.Trouble.{Trouble}
 use Rattle.source_api.specs.Calls.{Call, with_call}
 use Rattle.fetcher.specs.declared.turned.Turned.{Turned}
 use Rattle.fetcher.specs.declared.turned.Turned.TheVariants as turned
-use Rattle.fetcher.specs.Turning.{IsFound, HasSeen, settled_by, answer_by, kind_of, failed_by}
+use Rattle.fetcher.specs.Turning.{IsFound, HasSeen, settled_by, answer_by, troubled_by, failed_by}
 
 -- the event that the answer to a call for a page makes, and the one that the answer to a call for a grade makes
 abbrev pub page_event : Result (List Row) Trouble → Event
 page_event (Ok rows) = event.Page rows
-page_event (Err why) = event.Fail (kind_of why)
+page_event (Err why) = troubled_by None why
 
 abbrev pub grade_event : ℕ → Result (Option ℕ) Trouble → Event
 grade_event object (Ok grade) = settled_by object grade
-grade_event object (Err why) = event.Fail (kind_of why)
+grade_event object (Err why) = troubled_by (Some object) why
 
 -- what a turn tells of such an answer
 abbrev pub page_turned : Result (List Row) Trouble → Turned

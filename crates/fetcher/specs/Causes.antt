@@ -6,7 +6,7 @@ use Rattle.topk_theory.specs.Transcript.{Begins, last_grade}
 use Rattle.source_log.specs.declared.entry.LogEntry.{LogEntry}
 use Rattle.source_log.specs.declared.entry.Settling.TheVariants.{Graded, Bad}
 use Rattle.source_log.specs.declared.entry.SourceFault.{SourceFault}
-use Rattle.source_log.specs.declared.entry.SourceFault.TheVariants.{OutOfOrder, TooHigh, Repeated, Clash, Above, ShortList}
+use Rattle.source_log.specs.declared.entry.SourceFault.TheVariants.{OutOfOrder, TooHigh, Repeated, Clash, Above, ShortList, Moved}
 use Rattle.source_log.specs.Log.{rows_in, settling_in, fault_in}
 
 -- the grade of a row is above that of the last of these rows
@@ -50,6 +50,7 @@ IsFaultOfRow log row (Repeated object place) = Repeats (rows_in log) row object 
 IsFaultOfRow log row (Clash object sorted random) = ClashesWith log row object sorted random
 IsFaultOfRow log row (Above object grade bottom) = IsUnder log row object grade bottom
 IsFaultOfRow log row (ShortList stated got) = ⊥
+IsFaultOfRow log row (Moved had now) = ⊥
 
 -- of these rows a log keeps the first ones, and the next one is at fault
 pub record HasFaultyRow (given : List Row) (log : List LogEntry) (fault : SourceFault) : Type 0 where
@@ -63,9 +64,18 @@ pub record IsShort (count : ℕ) (given : List Row) (log : List LogEntry) (fault
   pub all : rows_in log ≡ given
   pub less : length given < count
 
--- the row fault of a log over these rows of `count` stated ones: that of the first row that it doesn't keep, or that they are too few
+-- the list was replaced by one of another version, before as many rows came as are stated
+pub record IsReplaced (count : ℕ) (log : List LogEntry) (fault : SourceFault) : Type 0 where
+  pub had : ℕ
+  pub now : ℕ
+  pub is : fault ≡ Moved had now
+  pub differ : had ≢ now
+  pub less : length (rows_in log) < count
+
+-- the row fault of a log over these rows of `count` stated ones: that of the first row that it doesn't keep, that they are too few, or that
+-- the list was replaced
 abbrev pub IsFaultOf : ℕ → List Row → List LogEntry → SourceFault → Type 0
-IsFaultOf count given log fault = IsShort count given log fault ⊎ HasFaultyRow given log fault
+IsFaultOf count given log fault = IsShort count given log fault ⊎ HasFaultyRow given log fault ⊎ IsReplaced count log fault
 
 -- a grade is above that of the last of some first rows, which don't hold its object; of no rows the last grade is the greatest that there is
 pub record IsAboveFront (rows : List Row) (object grade bottom : ℕ) : Type 0 where
@@ -75,17 +85,20 @@ pub record IsAboveFront (rows : List Row) (object grade bottom : ℕ) : Type 0 w
   pub last : bottom ≡ last_grade top_grade front
   pub above : bottom < grade
 
--- what is at fault with the grade that random access gave an object: one of the rows has another one, or it is above the rows that were there
+-- what is at fault with the grade of an object: one of the rows has another one, it is above the rows that were there, or the list was
+-- replaced by one of another version
 abbrev pub IsFaultOfGrade : List Row → ℕ → SourceFault → Type 0
 IsFaultOfGrade rows object (Clash other sorted random) = (other ≡ object) × Contains rows (record { object = object; grade = sorted }) × (sorted ≢ random)
 IsFaultOfGrade rows object (Above other grade bottom) = (other ≡ object) × IsAboveFront rows object grade bottom
+IsFaultOfGrade rows object (Moved had now) = had ≢ now
 IsFaultOfGrade _ _ _ = ⊥
 
--- a log comes of the rows that a source of `count` stated rows gave: it keeps the first ones, and all of them unless a row fault stands;
--- a row fault and each bad grade have their cause
+-- a log comes of the rows that a source of `count` stated rows gave: it keeps the first ones, and all of them unless a row fault stands that is
+-- no move; a row fault and each bad grade have their cause
 pub record ComesOf (count : ℕ) (given : List Row) (log : List LogEntry) : Type 0 where
   pub rows : Begins (rows_in log) given
   pub all : fault_in log ≡ None → rows_in log ≡ given
+  pub moved : (had now : ℕ) → fault_in log ≡ Some (Moved had now) → rows_in log ≡ given
   pub fault : (fault : SourceFault) → fault_in log ≡ Some fault → IsFaultOf count given log fault
   pub bad : (object : ℕ) (fault : SourceFault) → settling_in log object ≡ Some (Bad fault) → IsFaultOfGrade (rows_in log) object fault
 

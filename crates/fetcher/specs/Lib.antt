@@ -1,6 +1,7 @@
 pub mod Turning
 pub mod Calling
 pub mod Causes
+pub mod Moving
 pub mod Metering
 pub mod Chaining
 pub mod Telling

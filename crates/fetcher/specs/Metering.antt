@@ -1,5 +1,6 @@
 -- What the turns of a fetcher bring together.
 use Rattle.std.specs.Prelude.{◌≡◌, ◌≤◌, ◌<◌, ◌+◌, ◌-◌, ◌^◌, ℕ, max, [], length}
+use Rattle.tk_io.specs.Faults.{Rose}
 use Rattle.turn_lock.specs.declared.known.Known.{Known}
 use Rattle.source_log.specs.declared.entry.LogEntry.{LogEntry}
 use Rattle.source_log.specs.Log.{rows_in, settled_in}
@@ -11,6 +12,7 @@ use Rattle.fetcher.specs.declared.turned.Fetched.{Fetched}
 use Rattle.fetcher.specs.declared.turned.Turned.{Turned}
 use Rattle.fetcher.specs.declared.turned.Turned.TheVariants as turned
 use Rattle.fetcher.specs.Causes.{HasGiven}
+use Rattle.fetcher.specs.Moving.{MovesOnly}
 
 -- a count went up by so many, and stands still at the last value of its type
 abbrev pub WentUp : ℕ → ℕ → ℕ → Type 0
@@ -23,17 +25,19 @@ RoseBy number before now = raised before number ≤ now
 -- what was fetched of a source: its counts rose by the rows and grades that were given; the rows kept before and those given are
 -- together within the reach of the want that was seen, if any were given, and no row is kept that wasn't given; what stands in a log that was
 -- empty comes of the rows that were given; each grade that was given settled an object that was asked, and they are no more than the asks that
--- were seen; and the fails that were counted are no more than the calls that failed
+-- were seen; the fails that were counted are no more than the calls that failed; and the log tells that the list was replaced only where it did
+-- before, or the count of moves rose
 pub record IsMetered (page ahead : ℕ) (fetched : Fetched) (counts now : Counts) (before after : Known LogEntry) : Type 0 where
   pub rows : WentUp fetched.rows counts.rows_given now.rows_given
   pub grades : WentUp fetched.grades counts.grades_given now.grades_given
   pub reach : length (rows_in before.seen) + fetched.rows ≤ max (length (rows_in before.seen)) (reach_of after.sight.mark page ahead after.name.1)
   pub kept : length (rows_in after.seen) ≤ length (rows_in before.seen) + fetched.rows
   pub comes : before.seen ≡ [] → HasGiven fetched.rows after.name.1 after.seen
-  pub settled : length (settled_in before.seen) + fetched.grades ≡ length (settled_in after.seen)
+  pub settled : length (settled_in before.seen) + fetched.grades ≤ length (settled_in after.seen)
   pub asked : fetched.grades ≤ length after.met
   pub failed : RoseBy (after.tally.failed - before.tally.failed) counts.faults now.faults
   pub garbled : RoseBy (after.tally.garbled - before.tally.garbled) counts.garbles now.garbles
+  pub moved : MovesOnly (λ had other. Rose counts.moves now.moves) before.seen after.seen
 
 -- what was fetched is called for: the rows kept before and those given are together within the reach of the greatest depth that was
 -- wanted, if any were given, and the grades that were given are no more than the objects that were asked
@@ -53,6 +57,7 @@ counted_by fetched (turned.Missed object) = record fetched { grades = fetched.gr
 counted_by fetched turned.Failed = fetched
 counted_by fetched turned.Garbled = fetched
 counted_by fetched turned.Memory = fetched
+counted_by fetched (turned.Moved had now) = fetched
 counted_by fetched turned.Idle = fetched
 
 -- the count that one more turn raises stays within 32 bits
@@ -63,4 +68,5 @@ HasCountOf fetched (turned.Missed object) = fetched.grades + 1 < 2 ^ 32
 HasCountOf fetched turned.Failed = Unit {0}
 HasCountOf fetched turned.Garbled = Unit {0}
 HasCountOf fetched turned.Memory = Unit {0}
+HasCountOf fetched (turned.Moved had now) = Unit {0}
 HasCountOf fetched turned.Idle = Unit {0}

@@ -103,6 +103,15 @@ pub record BroughtFail (what : FailKind) (why : Trouble) (counts now : Counts) (
   pub gave : GaveNothing counts now
   pub cause : TroubleHasCause counts now why
 
+-- one call of the source, for a page or for the grade of an object, stated the version `other` of the list in place of `had`: that is told once,
+-- nothing of the reply is kept, and the count of moves rose
+pub record BroughtMove (had other : ℕ) (counts now : Counts) (before after : Known LogEntry) : Type 0 where
+  pub object : Option ℕ
+  pub fed : IsFed (event.Move object had other) before after
+  pub tally : after.tally ≡ before.tally
+  pub gave : GaveNothing counts now
+  pub cause : TroubleHasCause counts now (trouble.Moved had other)
+
 -- nothing is to be fetched, as far as the pass saw: the state is paused, or no ask is due, and the rows reach as far as the want tells
 -- or are at fault
 pub record NothingDue (page ahead : ℕ) (known : Known LogEntry) : Type 0 where
@@ -128,6 +137,7 @@ Brings page ahead list counts now before after (turned.Missed object) = BroughtM
 Brings page ahead list counts now before after turned.Failed = BroughtFail kind.Failed trouble.Failed counts now before after
 Brings page ahead list counts now before after turned.Garbled = BroughtFail kind.Garbled trouble.Garbled counts now before after
 Brings page ahead list counts now before after turned.Memory = BroughtFail kind.Memory trouble.Memory counts now before after
+Brings page ahead list counts now before after (turned.Moved had other) = BroughtMove had other counts now before after
 Brings page ahead list counts now before after turned.Idle = BroughtNothing page ahead counts now before after
 
 -- the rows may be told as a page: no row fault stands, a row is missing, and they are no more than are missing
@@ -162,16 +172,18 @@ abbrev pub answer_by : ℕ → Option ℕ → Turned
 answer_by object None = turned.Missed object
 answer_by object (Some grade) = turned.Graded object
 
--- the kind of fail of a call that ended so, and what the turn answers
-abbrev pub kind_of : Trouble → FailKind
-kind_of trouble.Failed = kind.Failed
-kind_of trouble.Garbled = kind.Garbled
-kind_of trouble.Memory = kind.Memory
+-- the event of a call that gave nothing, for the grade of an object or for a page where there is none, and what the turn answers
+abbrev pub troubled_by : Option ℕ → Trouble → Event
+troubled_by object trouble.Failed = event.Fail kind.Failed
+troubled_by object trouble.Garbled = event.Fail kind.Garbled
+troubled_by object trouble.Memory = event.Fail kind.Memory
+troubled_by object (trouble.Moved had now) = event.Move object had now
 
 abbrev pub failed_by : Trouble → Turned
 failed_by trouble.Failed = turned.Failed
 failed_by trouble.Garbled = turned.Garbled
 failed_by trouble.Memory = turned.Memory
+failed_by (trouble.Moved had now) = turned.Moved had now
 
 -- an event that comes of the source, and not of a query
 abbrev pub IsOfSource : Event → Type 0
@@ -179,4 +191,5 @@ IsOfSource (event.Page rows) = Unit {0}
 IsOfSource (event.Grade object grade) = Unit {0}
 IsOfSource (event.Miss object) = Unit {0}
 IsOfSource (event.Fail what) = Unit {0}
+IsOfSource (event.Move object had now) = Unit {0}
 IsOfSource _ = ⊥

@@ -8,9 +8,10 @@ ghost use Rattle.source_state.specs.Looking.{reach_of};
 ghost use Rattle.source_pool.specs.Passes.{IsIdleOf};
 ghost use Rattle.source_api.specs.Counting.{NoneFell, GaveNothing};
 ghost use Rattle.fetcher.specs.Turning.{IsFound, Feeds, IsPlanned, IsFed, Brings, MayTellPage, MayTellGrade, MayFetch, IsNext};
-ghost use Rattle.fetcher.specs.Turning.{settled_by, answer_by, kind_of, failed_by, IsOfSource};
+ghost use Rattle.fetcher.specs.Turning.{settled_by, answer_by, troubled_by, failed_by, IsOfSource};
 ghost use Rattle.fetcher.specs.Calling.{IsLooked, IsTold, CalledForPage, CalledForGrade, IsFetchTurn};
 ghost use Rattle.fetcher.specs.Chaining.{moment, IsFetched, point, MadeItsCalls};
+ghost use Rattle.fetcher.specs.Moving.{IsMovedAs, HasMovesOf};
 ghost use Rattle.fetcher.specs.Metering.{IsMetered, HasCountOf, counted_by};
 
 use super::stop::Stop;
@@ -117,14 +118,21 @@ fn tell_grade(
     answer_of(object, grade)
 }
 
-/// The kind of fail that a call ended with.
-fn kind_of(trouble: Trouble) -> FailKind
-    ensures { result ≡ kind_of trouble }
+/// The event that a call makes that gave nothing: one for the grade of `object`, or for a page where there is none.
+fn trouble_event(object: Option<u32>, trouble: Trouble) -> Event
+    ensures { result ≡ troubled_by object trouble }
 {
     match trouble {
-        Trouble::Failed => FailKind::Failed,
-        Trouble::Garbled => FailKind::Garbled,
-        Trouble::Memory => FailKind::Memory,
+        Trouble::Failed => Event::Fail {
+            what: FailKind::Failed,
+        },
+        Trouble::Garbled => Event::Fail {
+            what: FailKind::Garbled,
+        },
+        Trouble::Memory => Event::Fail {
+            what: FailKind::Memory,
+        },
+        Trouble::Moved { had, now } => Event::Move { object, had, now },
     }
 }
 
@@ -136,21 +144,29 @@ fn failed_by(trouble: Trouble) -> Turned
         Trouble::Failed => Turned::Failed,
         Trouble::Garbled => Turned::Garbled,
         Trouble::Memory => Turned::Memory,
+        Trouble::Moved { had, now } => Turned::Moved { had, now },
     }
 }
 
-/// Applies that a call of the source failed.
-fn tell_fail(rt: &impl Wait, pool: &Pool, feeder: &mut Feeder, trouble: Trouble) -> Turned
+/// Applies that a call of the source, for the grade of `object` or for a page, gave nothing.
+fn tell_trouble(
+    rt: &impl Wait,
+    pool: &Pool,
+    feeder: &mut Feeder,
+    object: Option<u32>,
+    trouble: Trouble,
+) -> Turned
     requires own { IsIdleOf pool.now feeder.old }
+    requires may { (state : StateOf) → IsFound state feeder.old.pass.1 → MayCome state (troubled_by object trouble) }
     ensures own { IsIdleOf pool.now feeder.new }
     ensures source { feeder.new.source ≡ feeder.old.source }
     ensures feeds { Feeds feeder.old.pass.1 feeder.new.pass.1 }
-    ensures fed { IsFed (Event.Fail (kind_of trouble)) feeder.old.pass.1 feeder.new.pass.1 }
-    ensures told { IsTold (Event.Fail (kind_of trouble)) feeder.old.pass.1 feeder.new.pass.1 }
+    ensures fed { IsFed (troubled_by object trouble) feeder.old.pass.1 feeder.new.pass.1 }
+    ensures told { IsTold (troubled_by object trouble) feeder.old.pass.1 feeder.new.pass.1 }
     ensures answer { result ≡ failed_by trouble }
 {
-    let what = kind_of(trouble);
-    tell(rt, pool, feeder, Event::Fail { what });
+    let event = trouble_event(object, trouble);
+    tell(rt, pool, feeder, event);
     failed_by(trouble)
 }
 
@@ -170,15 +186,18 @@ fn fetch_page<S: Source>(
     ensures source { feeder.new.source ≡ feeder.old.source }
     ensures feeds { Feeds feeder.old.pass.1 feeder.new.pass.1 }
     ensures list { S.list source.new ≡ S.list source.old }
+    ensures at_hand { S.at_hand source.new ≡ S.at_hand source.old }
+    ensures states { S.states source.new ≡ S.states source.old }
     ensures later { NoneFell (S.counts source.old) (S.counts source.new) }
     ensures brings { (page ahead : ℕ) → 1 ≤ page → from + count ≤ reach_of feeder.old.pass.1.sight.mark page ahead feeder.old.pass.1.name.1
         → Brings page ahead (S.list source.old) (S.counts source.old) (S.counts source.new) feeder.old.pass.1 feeder.new.pass.1 result }
     ensures busy { result ≢ Turned.Idle }
+    ensures moved { IsMovedAs (S.at_hand source.old) (S.states source.old) result }
     ensures called { CalledForPage from count (S.calls source.old) (S.calls source.new) feeder.old.pass.1 feeder.new.pass.1 result }
 {
     match source.page(alloc, from, count) {
         Ok(rows) => tell_page(rt, pool, feeder, PageRows::from_vec(rows)),
-        Err(trouble) => tell_fail(rt, pool, feeder, trouble),
+        Err(trouble) => tell_trouble(rt, pool, feeder, None, trouble),
     }
 }
 
@@ -197,15 +216,18 @@ fn fetch_grade<S: Source>(
     ensures source { feeder.new.source ≡ feeder.old.source }
     ensures feeds { Feeds feeder.old.pass.1 feeder.new.pass.1 }
     ensures list { S.list source.new ≡ S.list source.old }
+    ensures at_hand { S.at_hand source.new ≡ S.at_hand source.old }
+    ensures states { S.states source.new ≡ S.states source.old }
     ensures later { NoneFell (S.counts source.old) (S.counts source.new) }
     ensures brings { (page ahead : ℕ)
         → Brings page ahead (S.list source.old) (S.counts source.old) (S.counts source.new) feeder.old.pass.1 feeder.new.pass.1 result }
     ensures busy { result ≢ Turned.Idle }
+    ensures moved { IsMovedAs (S.at_hand source.old) (S.states source.old) result }
     ensures called { CalledForGrade object (S.calls source.old) (S.calls source.new) feeder.old.pass.1 feeder.new.pass.1 result }
 {
     match source.grade(alloc, object) {
         Ok(grade) => tell_grade(rt, pool, feeder, object, grade),
-        Err(trouble) => tell_fail(rt, pool, feeder, trouble),
+        Err(trouble) => tell_trouble(rt, pool, feeder, Some(object), trouble),
     }
 }
 
@@ -229,8 +251,11 @@ pub fn fetch_turn<S: Source>(
     ensures source { feeder.new.source ≡ feeder.old.source }
     ensures feeds { Feeds feeder.old.pass.1 feeder.new.pass.1 }
     ensures list { S.list source.new ≡ S.list source.old }
+    ensures at_hand { S.at_hand source.new ≡ S.at_hand source.old }
+    ensures states { S.states source.new ≡ S.states source.old }
     ensures later { NoneFell (S.counts source.old) (S.counts source.new) }
     ensures brings { Brings page ahead (S.list source.old) (S.counts source.old) (S.counts source.new) feeder.old.pass.1 feeder.new.pass.1 result }
+    ensures moved { IsMovedAs (S.at_hand source.old) (S.states source.old) result }
     ensures calls { IsFetchTurn page ahead (S.calls source.old) (S.calls source.new) feeder.old.pass.1 feeder.new.pass.1 result }
 {
     match read_plan(rt, pool, feeder, page, ahead) {
@@ -254,7 +279,8 @@ fn counted(fetched: Fetched, turned: Turned) -> Fetched
             grades: fetched.grades + 1,
             ..fetched
         },
-        Turned::Failed | Turned::Garbled | Turned::Memory | Turned::Idle => fetched,
+        Turned::Failed | Turned::Garbled | Turned::Memory | Turned::Moved { .. } | Turned::Idle =>
+            fetched,
     }
 }
 
@@ -288,9 +314,12 @@ pub fn fetch_loop<S: Source>(
     ensures source { feeder.new.source ≡ feeder.old.source }
     ensures feeds { Feeds feeder.old.pass.1 feeder.new.pass.1 }
     ensures list { S.list source.new ≡ S.list source.old }
+    ensures at_hand { S.at_hand source.new ≡ S.at_hand source.old }
+    ensures states { S.states source.new ≡ S.states source.old }
     ensures later { NoneFell (S.counts source.old) (S.counts source.new) }
     ensures turns { IsFetched page ahead (S.list source.old) (moment (S.counts source.old) feeder.old.pass.1) (moment (S.counts source.new) feeder.new.pass.1) }
     ensures calls { MadeItsCalls page ahead (point (S.calls source.old) feeder.old.pass.1) (point (S.calls source.new) feeder.new.pass.1) }
+    ensures moved { HasMovesOf (S.at_hand source.old) (S.states source.old) (S.counts source.old) (S.counts source.new) feeder.old.pass.1.seen feeder.new.pass.1.seen }
     ensures metered { IsMetered page ahead result (S.counts source.old) (S.counts source.new) feeder.old.pass.1 feeder.new.pass.1 }
 {
     let mut fetched = Fetched { rows: 0, grades: 0 };

@@ -15,6 +15,8 @@ pub enum Turned {
     Garbled,
     /// The source wanted memory.
     Memory,
+    /// The list was replaced: what the source answered stated the version `now`, and not the version `had` that it was opened with.
+    Moved { had: u64, now: u64 },
     /// Nothing was to be fetched.
     Idle,
 }

@@ -3,7 +3,7 @@ use Rattle.std.specs.Prelude.{◌≡◌, ℕ, List, Option, Some, None, Result, 
 use Rattle.std.specs.Global.{Vec}
 use Rattle.ranked_list.specs.declared.row.Row.{Row}
 use Rattle.source_api.specs.declared.source.Trouble.{Trouble}
-use Rattle.source_api.specs.declared.source.Trouble.TheVariants.{Failed, Garbled, Memory}
+use Rattle.source_api.specs.declared.source.Trouble.TheVariants.{Garbled, Memory}
 use Rattle.source_api.specs.Counting.{troubled, gave_rows, gave_grade}
 use Rattle.source_api.specs.Told.{first_grade}
 use Rattle.file_source.specs.Filed.{Filed}
@@ -13,8 +13,8 @@ use Rattle.file_source.specs.ListFile.{rows_among}
 abbrev pub AnswersPage : List (Option Row) → Result (Vec Row) Trouble → Type 0
 AnswersPage asked (Ok page) = map Some page.items ≡ asked
 AnswersPage asked (Err Garbled) = Contains asked None
-AnswersPage asked (Err Failed) = ⊥
 AnswersPage asked (Err Memory) = Unit {0}
+AnswersPage asked (Err _) = ⊥
 
 -- a grade is that of the first row with the object; where there is none, it is garbled where some record is no row, and else None
 abbrev pub AnswersGrade : List (Option Row) → ℕ → Result (Option ℕ) Trouble → Type 0

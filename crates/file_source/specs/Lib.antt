@@ -3,4 +3,5 @@ pub mod FileAnswers
 pub mod FileLists
 pub mod Filed
 pub mod ListFile
+pub mod Shelved
 pub mod Taking

@@ -1,42 +1,45 @@
 //! A shelf of files.
 
-ghost use Rattle.std.specs.Prelude.{◌≡◌, ◌≤◌, [], true, ℕ, List, vec_len, IfErr, IfOk, OnErr, OnOk};
-ghost use Rattle.source_api.specs.declared.source.Trouble.TheVariants.{Garbled, Memory};
+ghost use Rattle.std.specs.Prelude.{◌≡◌, ◌≤◌, [], true, ℕ, List, vec_len, IfErr, IfOk, IfSome, OnErr, OnOk};
+ghost use Rattle.source_api.specs.declared.source.Trouble.TheVariants.{Memory};
 ghost use Rattle.source_api.specs.Counting.{no_counts};
-ghost use Rattle.source_api.specs.Places.{counts_at, is_known, SameElsewhere, CountsTexts, CountsTakes, HasTextCause, HasTakeCause, text_limit};
+ghost use Rattle.source_api.specs.Places.{counts_at, is_known, IsTaking, SameElsewhere, CountsTexts, CountsTakes, HasTextCause, HasTakeCause, text_limit};
+ghost use Rattle.file_source.specs.ListFile.{list_records};
+ghost use Rattle.file_source.specs.Shelved.{ReadsList, IsFileTrouble};
 
 use super::FileSource;
+use super::file_tree::FileTree;
 use limits::MAX_LIST_TEXT;
 use source_api::{Ledger, Shelf, Trouble};
 use std::alloc::Global;
-use std::fs;
 use std::marker::Model;
-use std::rt::Files;
-use tk_io::{Intake, ReadError, StdIntake, read_text};
+use tk_io::{Intake, ReadError, read_text};
 
-/// The files of a place in the file system, read whole at each call. A place is a path, relative to
-/// the working directory. A file that is missing, a folder, or a file of more than 16,777,216 bytes
-/// is a call that failed. It tells no content: this is the trusted edge, and one test reads through
-/// it. Contracts see it as what it has counted, place by place.
+/// The files of a tree, as those of the file system, each read whole at each call. A file that is
+/// missing, a folder, or a file of more than 16,777,216 bytes is a call that failed. A text is all bytes
+/// of its file, and a source is the one over all of them, of version 0. Contracts see it as the files and
+/// what it has counted, place by place.
 #[derive(Drop)]
-pub struct FileShelf<'a, R: Files> {
-    files: &'a R,
+pub struct FileShelf<'a, F: FileTree> {
+    files: &'a F,
     ledger: Ledger,
 }
 
-impl<'a, R: Files> Model for FileShelf<'a, R> {
-    ghost use Rattle.std.specs.Prelude.{List};
-    ghost use Rattle.source_api.specs.Places.{Noted};
+impl<'a, F: FileTree> Model for FileShelf<'a, F> {
+    ghost use Rattle.source_api.specs.contracts.ledger.Ledger as kept;
+    ghost use Rattle.file_source.specs.Shelved.{FilesShelved, shelved_code};
 
-    ghost Value = { List Noted };
+    ghost Value = { FilesShelved F };
 
-    ghost view = { λ s. s.ledger };
+    ghost coded = { shelved_code F.code kept.the_row.coded };
+
+    ghost view = { λ s. record { files = s.files.now; ledger = s.ledger } };
 }
 
-impl<'a, R: Files> FileShelf<'a, R> {
+impl<'a, F: FileTree> FileShelf<'a, F> {
     /// The shelf of these files. It has counted nothing yet. Takes no memory.
-    pub fn make(alloc: Global, files: &'a R) -> FileShelf<'a, R>
-        ensures { result ≡ [] }
+    pub fn make(alloc: Global, files: &'a F) -> FileShelf<'a, F>
+        ensures { result ≡ record { files = files.now; ledger = [] } }
     {
         FileShelf {
             files,
@@ -45,19 +48,22 @@ impl<'a, R: Files> FileShelf<'a, R> {
     }
 }
 
-impl<'a, R: Files> Shelf for FileShelf<'a, R> {
-    ghost use Rattle.std.specs.Prelude.{None};
+impl<'a, F: FileTree> Shelf for FileShelf<'a, F> {
+    ghost use Rattle.std.specs.Prelude.{Some};
     ghost use Rattle.source_api.specs.Places.{counts_at, is_known};
+    ghost use Rattle.file_source.specs.Shelved.{rows_at};
 
     type Item = FileSource;
 
-    ghost texts = { λ _ _. None };
+    ghost texts = { λ s. F.contents s.files };
 
-    ghost lists = { λ _ _. None };
+    ghost lists = { λ s. rows_at (F.contents s.files) };
 
-    ghost at = { λ s. counts_at s };
+    ghost versions = { λ _ _. Some 0 };
 
-    ghost knows = { λ s. is_known s };
+    ghost at = { λ s. counts_at s.ledger };
+
+    ghost knows = { λ s. is_known s.ledger };
 
     fn text(&mut self, alloc: Global, place: &str) -> Result<Vec<u8>, Trouble> {
         match read_file(alloc, self.files, place) {
@@ -67,9 +73,9 @@ impl<'a, R: Files> Shelf for FileShelf<'a, R> {
     }
 
     fn take(&mut self, alloc: Global, place: &str) -> Result<FileSource, Trouble> {
-        match take_text(&mut self.ledger, alloc, self.files, place) {
-            Ok(text) => source_of(alloc, &text),
-            Err(trouble) => Err(trouble),
+        match source_at(alloc, self.files, place) {
+            Ok(source) => give(&mut self.ledger, alloc, place, source),
+            Err(trouble) => Err(count_take(&mut self.ledger, alloc, place, trouble)),
         }
     }
 
@@ -78,26 +84,24 @@ impl<'a, R: Files> Shelf for FileShelf<'a, R> {
     }
 }
 
-/// Reads the file that a source is to be taken of, and makes room for what is counted of its place. A
-/// call that failed is counted.
-fn take_text<R: Files>(
+/// Counts a source that is taken, and gives it. Where memory is refused it is dropped.
+fn give(
     ledger: &mut Ledger,
     alloc: Global,
-    files: &R,
     place: &str,
-) -> Result<Vec<u8>, Trouble>
-    ensures known { (other : List ℕ) → is_known ledger.old other ≡ true → is_known ledger.new other ≡ true }
-    ensures elsewhere { SameElsewhere place.now (counts_at ledger.old) (counts_at ledger.new) }
-    ensures counts { CountsTakes (counts_at ledger.old place.now) (counts_at ledger.new place.now) }
-    ensures cause { IfErr result (HasTakeCause (counts_at ledger.old place.now) (counts_at ledger.new place.now)) }
-    ensures knows { OnOk result (is_known ledger.new place.now ≡ true) }
+    source: FileSource,
+) -> Result<FileSource, Trouble>
+    ensures taken { OnOk result (IsTaking ledger.old ledger.new place.now) }
+    ensures source { IfOk result (λ given. given ≡ source) }
+    ensures untaken { OnErr result (ledger.new ≡ ledger.old) }
+    ensures refused { OnErr result (result ≡ Err Memory) }
 {
-    match read_file(alloc, files, place) {
-        Ok(text) => match ledger.know(alloc, place) {
-            Ok(()) => Ok(text),
-            Err(_) => Err(Trouble::Memory),
-        },
-        Err(trouble) => Err(count_take(ledger, alloc, place, trouble)),
+    match ledger.count_taken(alloc, place) {
+        Ok(()) => Ok(source),
+        Err(_) => {
+            drop(source);
+            Err(Trouble::Memory)
+        }
     }
 }
 
@@ -122,6 +126,7 @@ fn count_take(ledger: &mut Ledger, alloc: Global, place: &str, trouble: Trouble)
     ensures known { (other : List ℕ) → is_known ledger.old other ≡ true → is_known ledger.new other ≡ true }
     ensures elsewhere { SameElsewhere place.now (counts_at ledger.old) (counts_at ledger.new) }
     ensures counts { CountsTakes (counts_at ledger.old place.now) (counts_at ledger.new place.now) }
+    ensures untaken { (counts_at ledger.new place.now).taken ≡ (counts_at ledger.old place.now).taken }
     ensures cause { HasTakeCause (counts_at ledger.old place.now) (counts_at ledger.new place.now) result }
 {
     if let Trouble::Memory = trouble {
@@ -134,23 +139,24 @@ fn count_take(ledger: &mut Ledger, alloc: Global, place: &str, trouble: Trouble)
 }
 
 /// Reads a file whole. A file that isn't there or can't be read, or one of more than 16,777,216
-/// bytes, is `Failed`. It never garbles.
-pub fn read_file<R: Files>(alloc: Global, files: &R, place: &str) -> Result<Vec<u8>, Trouble>
+/// bytes, is `Failed`. No other trouble comes but `Memory`.
+pub fn read_file<F: FileTree>(alloc: Global, files: &F, place: &str) -> Result<Vec<u8>, Trouble>
     ensures within { IfOk result (λ text. vec_len text ≤ text_limit) }
-    ensures sound { result ≡ Err Garbled → ⊥ }
+    ensures told { IfOk result (λ text. IfSome (F.contents files.now place.now) (λ told. text.items ≡ told)) }
+    ensures sound { IfErr result IsFileTrouble }
 {
-    let Ok(file) = fs::open(files, place) else {
+    let Some(mut file) = files.open_place(place) else {
         return Err(Trouble::Failed);
     };
-    let mut input = StdIntake::make(file);
-    read_whole(alloc, &mut input)
+    let read = read_list(alloc, &mut file);
+    drop(file);
+    read
 }
 
 /// Reads a list's text to its end. A text that can't be read, or one of more than 16,777,216 bytes,
 /// is `Failed`.
-fn read_whole<I: Intake>(alloc: Global, input: &mut I) -> Result<Vec<u8>, Trouble>
-    ensures within { IfOk result (λ text. vec_len text ≤ text_limit) }
-    ensures sound { result ≡ Err Garbled → ⊥ }
+fn read_list<I: Intake>(alloc: Global, input: &mut I) -> Result<Vec<u8>, Trouble>
+    ensures { ReadsList (I.left input.old) (I.left input.new) (I.faults input.old) (I.faults input.new) result }
 {
     match read_text(alloc, input, MAX_LIST_TEXT) {
         Ok(text) => Ok(text),
@@ -159,12 +165,17 @@ fn read_whole<I: Intake>(alloc: Global, input: &mut I) -> Result<Vec<u8>, Troubl
     }
 }
 
-/// The source over the text of a list file.
-fn source_of(alloc: Global, text: &[u8]) -> Result<FileSource, Trouble>
+/// The source over all bytes of a file.
+fn source_at<F: FileTree>(alloc: Global, files: &F, place: &str) -> Result<FileSource, Trouble>
     ensures fresh { IfOk result (λ source. source.counts ≡ no_counts) }
-    ensures refused { OnErr result (result ≡ Err Memory) }
+    ensures told { IfOk result (λ source. IfSome (F.contents files.now place.now) (λ told. source.records ≡ list_records told)) }
+    ensures sound { IfErr result IsFileTrouble }
 {
-    match FileSource::open(alloc, text) {
+    let text = match read_file(alloc, files, place) {
+        Ok(text) => text,
+        Err(trouble) => return Err(trouble),
+    };
+    match FileSource::open(alloc, &text) {
         Ok(source) => Ok(source),
         Err(_) => Err(Trouble::Memory),
     }

@@ -2,7 +2,7 @@
 
 ghost use Rattle.std.specs.Prelude.{◌≡◌, ◌≤◌, ◌<◌, ℕ, nat_eq, length, take, drop, map, vec_len, Some, None, Contains, MatchOption, IfOk, IfErr, IfSome, OnOk, OnErr};
 ghost use Rattle.std.specs.HashMap.{get};
-ghost use Rattle.source_api.specs.Counting.{no_counts, NoneFell, TroubleHasCause, GaveNothing, GaveRows, GaveGrade};
+ghost use Rattle.source_api.specs.Counting.{no_counts, NoneFell, TroubleHasCause, CountsAlone, MovedHasCause, GaveNothing, GaveRows, GaveGrade, gave_rows, gave_grade};
 ghost use Rattle.source_api.specs.Told.{IsPage, IsGrade, first_grade};
 ghost use Rattle.file_source.specs.ListFile.{list_records, rows_among, told_records};
 ghost use Rattle.file_source.specs.FileAnswers.{AnswersPage, AnswersGrade, after_page, after_grade};
@@ -18,8 +18,8 @@ use std::marker::Model;
 /// A list file that was read whole.
 ///
 /// Contracts see it as the record of its records, each as its row or None where it is no row, and of
-/// what it has counted. It never fails. It garbles where a call needs a record that is no row. It
-/// tells its list where each record is a row and no object comes twice.
+/// what it has counted. It never fails, and it is never `Moved`: its version is 0. It garbles where a call
+/// needs a record that is no row. It tells its list where each record is a row and no object comes twice.
 #[derive(Drop)]
 pub struct FileSource {
     records: Vec<Option<Row>>,
@@ -70,11 +70,16 @@ impl FileSource {
 }
 
 impl Source for FileSource {
+    ghost use Rattle.std.specs.Prelude.{Some};
     ghost use Rattle.file_source.specs.FileLists.{told_list, told_has_each_once};
 
     ghost list = { told_list };
 
     ghost counts = { λ f. f.counts };
+
+    ghost at_hand = { λ _. 0 };
+
+    ghost states = { λ _. Some 0 };
 
     /// The number of records, rows or not. It never fails.
     fn size(&mut self, _: Global) -> Result<u64, Trouble>
@@ -94,6 +99,9 @@ impl Source for FileSource {
         ensures cause { IfErr result (TroubleHasCause self.old.counts self.new.counts) }
         ensures given { IfOk result (λ page. GaveRows (vec_len page) self.old.counts self.new.counts) }
         ensures gave_nothing { OnErr result (GaveNothing self.old.counts self.new.counts) }
+        ensures quiet { IfOk result (λ page. self.new.counts ≡ gave_rows (vec_len page) self.old.counts) }
+        ensures alone { IfErr result (CountsAlone self.old.counts self.new.counts) }
+        ensures moved { IfErr result (MovedHasCause 0 (Some 0)) }
         ensures bound { IfOk result (λ page. vec_len page ≤ count) }
         ensures page { IfOk result (λ page. IfSome (told_records self.old.records) (λ rows. IsPage rows from page.items)) }
     {
@@ -117,6 +125,9 @@ impl Source for FileSource {
         ensures cause { IfErr result (TroubleHasCause self.old.counts self.new.counts) }
         ensures given { OnOk result (GaveGrade self.old.counts self.new.counts) }
         ensures gave_nothing { OnErr result (GaveNothing self.old.counts self.new.counts) }
+        ensures quiet { OnOk result (self.new.counts ≡ gave_grade self.old.counts) }
+        ensures alone { IfErr result (CountsAlone self.old.counts self.new.counts) }
+        ensures moved { IfErr result (MovedHasCause 0 (Some 0)) }
         ensures grade { IfOk result (λ grade. IfSome (told_records self.old.records) (λ rows. IsGrade rows object grade)) }
     {
         let grade = self.grades.get(&object).copied();
@@ -126,6 +137,11 @@ impl Source for FileSource {
         }
         self.counts.count_grade();
         Ok(grade)
+    }
+
+    /// 0, as of each list file.
+    fn version(&self) -> u64 {
+        0
     }
 
     ghost distinct = { told_has_each_once };

@@ -3,9 +3,11 @@
 
 mod file_shelf;
 mod file_source;
+mod file_tree;
 mod list_file;
 mod numbers;
 
 pub use file_shelf::{FileShelf, read_file};
 pub use file_source::FileSource;
+pub use file_tree::FileTree;
 pub use source_api::Memory;

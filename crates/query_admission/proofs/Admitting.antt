@@ -1,11 +1,11 @@
 -- What a query line comes to, from what its query comes to over its lists.
-use Rattle.std.proofs.Common.{◌≡◌, ℕ, zero, suc, ◌<◌, ◌≤◌, inl, inr, true, false, is_none, List, [], ◌∷◌, length, map, All, Contains, Some, None, Result, Ok, Err, IfOk, IfSome, slice_index_or, refl, sym, ap, ◌∙◌, subst, arith}
+use Rattle.std.proofs.Common.{◌≡◌, ℕ, zero, suc, ◌<◌, ◌≤◌, inl, inr, true, false, is_none, List, [], ◌∷◌, ◌++◌, append_assoc, length, map, All, Contains, Some, None, Result, Ok, Err, IfOk, IfSome, slice_index_or, refl, sym, ap, ◌∙◌, subst, arith}
 use Rattle.std.specs.List.{position}
 use Rattle.std.proofs.lemmas.Bool.{cases_lt}
 use Rattle.std.proofs.lemmas.List.{length-map}
-use Rattle.std.proofs.lemmas.List.Elements.{All-from_recursion, Contains-append_left}
+use Rattle.std.proofs.lemmas.List.Elements.{All-from_recursion, Contains-append_left, Contains-append_right}
 use Rattle.std.proofs.lemmas.List.Quantifiers.{position-Some}
-use Rattle.topk_theory.proofs.AgreementLists.{contains_cases, all_from_members, member_of_all}
+use Rattle.topk_theory.proofs.AgreementLists.{contains_here, contains_cases, all_from_members, member_of_all}
 use Rattle.query_text.specs.declared.query.Query.{Query}
 use Rattle.query_text.specs.declared.fault.QueryFault.{QueryFault}
 use Rattle.query_text.specs.declared.fault.QueryFault.TheVariants.{LongLine, Syntax, Number, TooManyLists, TooManyNodes, TooDeep, TooBig, Memory}
@@ -17,7 +17,7 @@ use Rattle.cert_text.specs.Refusal.{refused_lists}
 use Rattle.query_core.specs.declared.ready.Ready.{Ready}
 use Rattle.query_core.proofs.ListCount.{lists_counted}
 use Rattle.query_admission.specs.View.{View, AreListed}
-use Rattle.query_admission.specs.Causes.{most_queries, QueryLine, Cause, admission_causes, text_refusal, Over, ListsGive, RefusesFor, NoneOf}
+use Rattle.query_admission.specs.Causes.{most_queries, QueryLine, Cause, text_causes, admission_causes, text_refusal, Over, ListsGive, RefusesFor, NoneOf}
 use Rattle.query_admission.specs.Admission.{RefusesLine, IsAdmitted, Admits}
 use Rattle.query_admission.specs.Screening.{list_causes, Screens, Weighs, admitted_as}
 use Rattle.query_admission.specs.declared.admission.Weighed.{Weighed}
@@ -144,12 +144,12 @@ none_before x q lists earlier here of none =
     (all_cons (Never x) Cause.unknown_list earlier (not_unknown x q lists here) rest))
 
 -- a line too many, a fault of the text, and a name without a list
-pub refused_many : (x : QueryLine) → most_queries < x.number → RefusesLine admission_causes x (ManyQueries most_queries) None
+pub refused_many : (x : QueryLine) → most_queries < x.number → RefusesLine text_causes x (ManyQueries most_queries) None
 refused_many x many = record {
   first = record {
     cause = Cause.many_queries;
     earlier = [];
-    later = Cause.text ∷ Cause.unknown_list ∷ list_causes;
+    later = Cause.text ∷ [];
     order = refl;
     gives = (refl, many);
     first = All-from_recursion (Never x) [] tt;
@@ -172,12 +172,12 @@ text_names_none : (fault : QueryFault) (refusal : Refusal) → text_refusal faul
 text_names_none fault refusal e = subst (λ o. IfSome o (λ r. refused_lists r ≡ [])) e (faults_name_none fault)
 
 pub refused_text : (x : QueryLine) (fault : QueryFault) (refusal : Refusal) → x.number ≤ most_queries → text_refusal fault ≡ Some refusal
-    → Reads x.bytes (Err fault) → RefusesLine admission_causes x refusal None
+    → Reads x.bytes (Err fault) → RefusesLine text_causes x refusal None
 refused_text x fault refusal few e reads = record {
   first = record {
     cause = Cause.text;
     earlier = Cause.many_queries ∷ [];
-    later = Cause.unknown_list ∷ list_causes;
+    later = [];
     order = refl;
     gives = (fault, e, reads);
     first = All-from_recursion (Never x) (Cause.many_queries ∷ []) (not_many x few, tt);
@@ -185,6 +185,29 @@ refused_text x fault refusal few e reads = record {
   reads = tt;
   named = subst (All (λ list. list < 0)) (sym (text_names_none fault refusal e)) (All-from_recursion (λ list. list < 0) [] tt);
 }
+
+-- a line that is refused for a cause that lies in it alone is refused over any lists, and spells no query that is one of the first
+pub refused_alone : (x : QueryLine) (refusal : Refusal) → RefusesLine text_causes x refusal None → RefusesLine admission_causes x refusal None
+refused_alone x refusal is = record {
+  first = record {
+    cause = is.first.cause;
+    earlier = is.first.earlier;
+    later = is.first.later ++ Cause.unknown_list ∷ list_causes;
+    order = ap (λ cs. cs ++ Cause.unknown_list ∷ list_causes) is.first.order
+        ∙ append_assoc is.first.earlier (is.first.cause ∷ is.first.later) (Cause.unknown_list ∷ list_causes);
+    gives = is.first.gives;
+    first = is.first.first;
+  };
+  reads = is.reads;
+  named = is.named;
+}
+
+pub refused_unread : (x : QueryLine) (refusal : Refusal) (q : Query) → RefusesLine text_causes x refusal None → x.number ≤ most_queries → Reads x.bytes (Ok q) → ⊥
+refused_unread x refusal q is few reads =
+    let f = is.first in
+    let never : All (Never x) text_causes = All-from_recursion (Never x) text_causes (not_many x few, (not_text x q reads, tt)) in
+    let there : Contains text_causes f.cause = subst (λ cs. Contains cs f.cause) (sym f.order) (Contains-append_right f.earlier (f.cause ∷ f.later) f.cause (contains_here f.cause f.later)) in
+    member_of_all (Never x) text_causes f.cause never there refusal f.gives
 
 pub refused_unknown : (x : QueryLine) (q : Query) (refusal : Refusal) (list : ℕ) → x.number ≤ most_queries → Reads x.bytes (Ok q) → refusal ≡ UnknownList list
     → position is_none (map x.view.listed q.names) ≡ Some list → RefusesLine admission_causes x refusal (Some q)

@@ -38,7 +38,10 @@ pub data Cause : Type 0 where
   no_random : Cause
   room_full : Cause
 
--- the causes that are tried before a query runs, in their order; all causes
+-- the causes that lie in a line alone, whatever lists there are; those that are tried before a query runs, in their order; all causes
+abbrev pub text_causes : List Cause
+text_causes = Cause.many_queries ∷ Cause.text ∷ []
+
 abbrev pub admission_causes : List Cause
 admission_causes =
     Cause.many_queries ∷ Cause.text ∷ Cause.unknown_list ∷ Cause.not_opened ∷ Cause.too_large ∷ Cause.counts_differ ∷ Cause.k_above_count ∷ Cause.no_random ∷ []

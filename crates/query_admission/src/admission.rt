@@ -2,20 +2,21 @@
 
 ghost use Rattle.std.specs.Prelude.{◌≡◌, ◌≤◌, ◌<◌, ℕ, List, length, map, Ok, Err, IfOk};
 ghost use Rattle.query_text.specs.Reading.{Reads};
-ghost use Rattle.query_admission.specs.Causes.{most_queries, text_refusal};
-ghost use Rattle.query_admission.specs.Admission.{Admits};
+ghost use Rattle.query_admission.specs.Causes.{most_queries};
+ghost use Rattle.query_admission.specs.Admission.{Admits, IsReadAs};
 ghost use Rattle.query_admission.specs.Screening.{Weighs, admitted_as};
 ghost use Rattle.query_admission.specs.View.{View, AreListed};
 
 use super::Memory;
 use super::admitted::Admitted;
 use super::lists::{Listed, Lists};
+use super::reading::{ReadLine, read_line};
 use super::screen::screen;
 use super::seek::{Sought, seek};
 use cert_text::Refusal;
-use limits::{MAX_LISTS, MAX_QUERIES};
+use limits::MAX_LISTS;
 use query_core::Ready;
-use query_text::{Query, QueryFault, read};
+use query_text::Query;
 use std::alloc::Global;
 
 /// What a query comes to over lists: ready with its count and the numbers of its sources, or refused.
@@ -34,7 +35,7 @@ pub(crate) enum Weighed {
 /// size than the first, a `k` above that size, and a list without random access where the algorithm
 /// asks for grades.
 ///
-/// *Cost*: the reading of the line, and one `find` for each of its lists.
+/// *Cost*: `read_line` and `admit_read`.
 pub fn admit<L: Lists>(
     alloc: Global,
     lists: &L,
@@ -43,39 +44,26 @@ pub fn admit<L: Lists>(
 ) -> Result<Admitted, Memory>
     ensures { IfOk result (Admits (record { view = L.view lists.now; number = line; bytes = bytes.now })) }
 {
-    if line > MAX_QUERIES {
-        return Ok(Admitted::Refused {
-            refusal: Refusal::ManyQueries {
-                limit: MAX_QUERIES as u32,
-            },
-            query: None,
-        });
-    }
-    match read(alloc, bytes) {
-        Ok(query) => admit_query(alloc, lists, query),
-        Err(fault) => match refusal_of(fault) {
-            Some(refusal) => Ok(Admitted::Refused {
-                refusal,
-                query: None,
-            }),
-            None => Err(Memory),
-        },
-    }
+    let Ok(read) = read_line(alloc, line, bytes) else {
+        return Err(Memory);
+    };
+    admit_read(alloc, lists, read)
 }
 
-/// The refusal of a line whose text has this fault, or None for want of memory.
-fn refusal_of(fault: QueryFault) -> Option<Refusal>
-    ensures { result ≡ text_refusal fault }
+/// What a query line that was read comes to before it runs, over lists by name: what `admit` says of the line.
+///
+/// *Cost*: one `find` for each of its lists.
+pub fn admit_read<L: Lists>(alloc: Global, lists: &L, line: ReadLine) -> Result<Admitted, Memory>
+    requires { (number : ℕ) × (bytes : List ℕ) × IsReadAs number bytes line }
+    ensures { (number : ℕ) → (bytes : List ℕ) → IsReadAs number bytes line
+        → IfOk result (Admits (record { view = L.view lists.now; number = number; bytes = bytes })) }
 {
-    match fault {
-        QueryFault::LongLine { limit } => Some(Refusal::LongLine { limit }),
-        QueryFault::Syntax { at } => Some(Refusal::Syntax { at }),
-        QueryFault::Number { at } => Some(Refusal::Number { at }),
-        QueryFault::TooManyLists { at } => Some(Refusal::TooManyLists { at }),
-        QueryFault::TooManyNodes { nodes } => Some(Refusal::TooManyNodes { nodes }),
-        QueryFault::TooDeep { depth } => Some(Refusal::TooDeep { depth }),
-        QueryFault::TooBig { node } => Some(Refusal::TooBig { node }),
-        QueryFault::Memory => None,
+    match line {
+        ReadLine::Query(query) => admit_query(alloc, lists, query),
+        ReadLine::Refused(refusal) => Ok(Admitted::Refused {
+            refusal,
+            query: None,
+        }),
     }
 }
 

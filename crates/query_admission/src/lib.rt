@@ -5,11 +5,13 @@ mod admission;
 mod admitted;
 mod line_outcome;
 mod lists;
+mod reading;
 mod screen;
 mod seek;
 
-pub use admission::admit;
+pub use admission::{admit, admit_read};
 pub use admitted::Admitted;
 pub use line_outcome::LineOutcome;
 pub use lists::{Listed, Lists};
 pub use memory::Memory;
+pub use reading::{ReadLine, read_line};

@@ -13,8 +13,9 @@ use Rattle.source_log.specs.declared.entry.FailKind.{FailKind}
 use Rattle.source_log.specs.declared.entry.FailKind.TheVariants as kind
 use Rattle.source_log.specs.declared.entry.SourceFault.{SourceFault}
 use Rattle.source_log.specs.declared.entry.SourceFault.TheVariants.{ShortList}
+use Rattle.source_log.specs.declared.entry.SourceFault.TheVariants as faulty
 use Rattle.source_state.specs.declared.event.Event.{Event}
-use Rattle.source_state.specs.declared.event.Event.TheVariants.{Want, Ask, Page, Grade, Miss, Fail}
+use Rattle.source_state.specs.declared.event.Event.TheVariants.{Want, Ask, Page, Grade, Miss, Fail, Move}
 use Rattle.source_state.specs.declared.look.Waiting.{Waiting}
 use Rattle.source_state.specs.declared.look.Look.{Look}
 use Rattle.source_state.specs.declared.look.Look.TheVariants as look
@@ -26,9 +27,9 @@ use Rattle.source_state.specs.History.{replayed, AllMayCome}
 use Rattle.source_state.specs.Looking.{called, is_full, Looks, MayLook}
 use Rattle.source_log.proofs.Lists.{none_not_some}
 use Rattle.source_log.proofs.LogLaws.{kept_rows, kept_faults, settled_rows}
-use Rattle.source_state.proofs.Sound.{sound_row, sound_fault, sound_settling, sound_ask, settles_well}
+use Rattle.source_state.proofs.Sound.{sound_row, sound_fault, sound_settling, sound_ask, sound_moved, settles_well}
 use Rattle.source_state.proofs.AskLaws.{not_asked}
-use Rattle.source_state.proofs.Growing.{logged_grows, ask_grows, rows_grow}
+use Rattle.source_state.proofs.Growing.{logged_grows, ask_grows, rows_grow, moved_grows}
 use Rattle.source_state.proofs.LookLaws.{ask_may}
 use Rattle.source_state.proofs.Told.{replayed_push}
 use Rattle.query_turns.specs.Histories.{HasHistory, GoesOn}
@@ -52,6 +53,7 @@ grows s (Page (row ∷ rows)) sound = rows_grow s (row ∷ rows)
 grows s (Grade object grade) sound = logged_grows s (entry.Settled object (settle (rows_in s.log) object grade))
 grows s (Miss object) sound = logged_grows s (entry.Settled object settling.Missed)
 grows s (Fail what) sound = record { name = refl; log = begins_same s.log; asks = begins_same s.asks; mark = le_refl _; tally = counted_more what s.tally sound.tally }
+grows s (Move object had now) sound = moved_grows s object (faulty.Moved had now)
 
 -- no row follows a row fault
 closed : (s : State) (e : Event) (fault : SourceFault) → MayCome s e → fault_in s.log ≡ Some fault → rows_in (after s e).log ≡ rows_in s.log
@@ -61,6 +63,8 @@ closed s (Page rows) fault may set = absurd (none_not_some (sym may.no_fault ∙
 closed s (Grade object grade) fault may set = settled_rows s.log object (settle (rows_in s.log) object grade)
 closed s (Miss object) fault may set = settled_rows s.log object settling.Missed
 closed s (Fail what) fault may set = refl
+closed s (Move None had now) fault may set = absurd (none_not_some (sym may.1.0 ∙ set))
+closed s (Move (Some object) had now) fault may set = settled_rows s.log object (settling.Bad (faulty.Moved had now))
 
 -- the state stays sound
 row_sound : (o : Option SourceFault) (s : State) (row : Row) (rows : List Row) → row_fault (rows_in s.log) (asks_of s) row ≡ o → IsSound s
@@ -88,6 +92,7 @@ sound_after s (Page (row ∷ rows)) sound may = rows_sound s (row ∷ rows) soun
 sound_after s (Grade object grade) sound may = sound_settling s object (settle (rows_in s.log) object grade) sound may (settles_well (rows_in s.log) object grade sound.log.ranked)
 sound_after s (Miss object) sound may = sound_settling s object settling.Missed sound may tt
 sound_after s (Fail what) sound may = record { log = sound.log; distinct = sound.distinct; fits = sound.fits; small = sound.small; want = sound.want; tally = counted_fits what s.tally sound.tally }
+sound_after s (Move object had now) sound may = sound_moved s object (faulty.Moved had now) sound may.1
 
 -- one more event of a history
 all_may_push : (s : State) (E : List Event) (e : Event) → AllMayCome s E → MayCome (replayed s E) e → AllMayCome s (E ++ e ∷ [])

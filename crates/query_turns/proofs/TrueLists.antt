@@ -24,7 +24,7 @@ use Rattle.source_log.specs.declared.entry.SourceFault.{SourceFault}
 use Rattle.source_log.specs.declared.entry.SourceFault.TheVariants.{Clash, Above}
 use Rattle.source_log.specs.declared.entry.Asked.TheVariants as became
 use Rattle.source_state.specs.declared.event.Event.{Event}
-use Rattle.source_state.specs.declared.event.Event.TheVariants.{Want, Ask, Page, Grade, Miss, Fail}
+use Rattle.source_state.specs.declared.event.Event.TheVariants.{Want, Ask, Page, Grade, Miss, Fail, Move}
 use Rattle.source_state.specs.declared.look.Waiting.{Waiting}
 use Rattle.source_state.specs.declared.look.Look.{Look}
 use Rattle.source_state.specs.declared.look.Look.TheVariants as look
@@ -250,6 +250,7 @@ IsHonestEvent list s (Page rows) = IsNextOf list (rows_in s.log) rows
 IsHonestEvent list s (Grade object grade) = Contains list (record { object = object; grade = grade })
 IsHonestEvent list s (Miss object) = ⊥
 IsHonestEvent list s (Fail what) = Unit {0}
+IsHonestEvent list s (Move object had now) = ⊥
 
 asked_members : (found : Option Asking) (object other : ℕ) (asks : List ℕ) → Contains (one_asked found object asks) other
     → (other ≡ object) ⊎ Contains asks other
@@ -272,6 +273,7 @@ true_after list s (Page rows) ranked h may honest = true_page list s rows ranked
 true_after list s (Grade object grade) ranked h may honest = true_grade list s object grade ranked h may honest
 true_after list s (Miss object) ranked h may honest = absurd honest
 true_after list s (Fail what) ranked h may honest = true_same list s (after s (Fail what)) refl refl h
+true_after list s (Move object had now) ranked h may honest = absurd honest
 
 -- a need of an object of the list
 abbrev pub IsOfObject : List Row → Need → Type 0

@@ -23,14 +23,14 @@ use Rattle.source_log.specs.declared.entry.LogEntry.TheVariants as entry
 use Rattle.source_log.specs.declared.entry.SourceFault.{SourceFault}
 use Rattle.source_log.specs.Log.{rows_in}
 use Rattle.source_state.specs.State.{State, asks_of, row_fault, state_at}
-use Rattle.source_state.specs.Events.{logged, with_rows, row_or, after}
+use Rattle.source_state.specs.Events.{logged, with_rows, row_or, moved, after}
 use Rattle.source_state.specs.Looking.{waits_for, newer, told, refusal_of, called, Refuses, IsFailTold, Looks}
 use Rattle.source_log.proofs.Lists.{none_not_some}
 use Rattle.query_core.specs.declared.ready.Ready.{Ready}
 use Rattle.query_turns.specs.declared.ended.Refusal.TheVariants as refusal
 use Rattle.query_turns.specs.declared.inquiry.Inquiry.{Inquiry}
 use Rattle.query_world.specs.declared.step.Step.{Step}
-use Rattle.query_world.specs.declared.step.Step.TheVariants.{Page, Grade, Miss, Fail, Turn}
+use Rattle.query_world.specs.declared.step.Step.TheVariants.{Page, Grade, Miss, Fail, Move, Turn}
 use Rattle.query_turns.specs.Inquiries.{needed, list_needed, source_of, source_needed}
 use Rattle.query_world.specs.Worlds.{WorldState}
 use Rattle.query_turns.specs.Causes.{HasFailed}
@@ -155,6 +155,10 @@ fail_tells s source kind.Memory kind.Memory = inr refl
 page_tally : (s : State) (rows : List Row) → (after s (event.Page rows)).tally ≡ s.tally
 page_tally s [] = refl
 page_tally s (row ∷ rows) = tally_rows s (row ∷ rows)
+
+move_tally : (s : State) (object : Option ℕ) (fault : SourceFault) → (moved s object fault).tally ≡ s.tally
+move_tally s None fault = refl
+move_tally s (Some object) fault = refl
 
 -- an event of one source
 event_known : (first : WorldState) (steps : List Step) (w : WorldState) (source : ℕ) (e : Event) (step : Step) → source < length w.states → MayStep w step
@@ -394,6 +398,8 @@ step_known first steps w v (Miss source object) ran world may does h =
     known_is first _ v _ does (event_known first steps w source (event.Miss object) (Miss source object) may.0 may refl (same_tally (state_at w.states source) (after (state_at w.states source) (event.Miss object)) (Miss source object) source refl) h)
 step_known first steps w v (Fail source what) ran world may does h =
     known_is first _ v _ does (event_known first steps w source (event.Fail what) (Fail source what) may.0 may refl (fail_tells (state_at w.states source) source what) h)
+step_known first steps w v (Move source object had now) ran world may does h =
+    known_is first _ v _ does (event_known first steps w source (event.Move object had now) (Move source object had now) may.0 may refl (same_tally (state_at w.states source) (after (state_at w.states source) (event.Move object had now)) (Move source object had now) source (move_tally (state_at w.states source) object _)) h)
 step_known first steps w v (Turn query) ran world may does h = turn_known first steps w v query ran world may does h
 
 runs_known : (first : WorldState) (front steps : List Step) (w last : WorldState) → Runs first front w → IsWorld w → AllKnown first front w → Runs w steps last

@@ -13,7 +13,7 @@ use Rattle.query_core.specs.Machines.{state_of}
 use Rattle.query_core.specs.declared.ready.Ready.{Ready}
 use Rattle.query_turns.specs.declared.inquiry.Inquiry.{Inquiry}
 use Rattle.query_world.specs.declared.step.Step.{Step}
-use Rattle.query_world.specs.declared.step.Step.TheVariants.{Page, Grade, Miss, Fail, Turn}
+use Rattle.query_world.specs.declared.step.Step.TheVariants.{Page, Grade, Miss, Fail, Move, Turn}
 use Rattle.query_turns.specs.Inquiries.{needed, source_needed, is_ended}
 use Rattle.query_world.specs.Worlds.{WorldState}
 use Rattle.query_world.specs.Steps.{with_event, MayComeTo, IsOpen, MayStep, TakesTurn, Steps}
@@ -77,6 +77,7 @@ true_step lists (Page source rows) w after h may steps honest is = true_is lists
 true_step lists (Grade source object grade) w after h may steps honest is = true_is lists after _ steps (true_event lists w source (event.Grade object grade) may honest is)
 true_step lists (Miss source object) w after h may steps honest is = absurd honest
 true_step lists (Fail source what) w after h may steps honest is = true_is lists after _ steps (true_event lists w source (event.Fail what) may tt is)
+true_step lists (Move source object had now) w after h may steps honest is = absurd honest
 true_step lists (Turn query) w after h may steps honest is = true_turn lists query w after h may steps is
 
 pub all_on_run : (lists : List (List Row)) (w : WorldState) → IsWorld w → IsTrueWorld lists w → All (IsOnItsRun lists) w.queries

@@ -14,7 +14,7 @@ use Rattle.query_core.specs.Machines.{algorithm_of, state_of}
 use Rattle.query_core.proofs.Feeding.{continues_on}
 use Rattle.query_turns.specs.declared.inquiry.Inquiry.{Inquiry}
 use Rattle.query_world.specs.declared.step.Step.{Step}
-use Rattle.query_world.specs.declared.step.Step.TheVariants.{Page, Grade, Miss, Fail, Turn}
+use Rattle.query_world.specs.declared.step.Step.TheVariants.{Page, Grade, Miss, Fail, Move, Turn}
 use Rattle.query_turns.specs.Histories.{HasHistory}
 use Rattle.query_turns.specs.Inquiries.{source_needed, is_ended}
 use Rattle.query_world.specs.Worlds.{WorldState}
@@ -106,6 +106,7 @@ stepped (Page source rows) w after h may steps = stepped_is w after _ (event_ste
 stepped (Grade source object grade) w after h may steps = stepped_is w after _ (event_steps w source (event.Grade object grade) h may) steps
 stepped (Miss source object) w after h may steps = stepped_is w after _ (event_steps w source (event.Miss object) h may) steps
 stepped (Fail source what) w after h may steps = stepped_is w after _ (event_steps w source (event.Fail what) h may) steps
+stepped (Move source object had now) w after h may steps = stepped_is w after _ (event_steps w source (event.Move object had now) h may) steps
 stepped (Turn query) w after h may steps = turn_steps query w after h may steps
 
 -- a world that is made

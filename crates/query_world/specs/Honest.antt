@@ -5,16 +5,18 @@ use Rattle.topk_theory.specs.Transcript.{list_at}
 use Rattle.source_log.specs.Log.{rows_in}
 use Rattle.source_state.specs.State.{state_at}
 use Rattle.query_world.specs.declared.step.Step.{Step}
-use Rattle.query_world.specs.declared.step.Step.TheVariants.{Page, Grade, Miss, Fail, Turn}
+use Rattle.query_world.specs.declared.step.Step.TheVariants.{Page, Grade, Miss, Fail, Move, Turn}
 use Rattle.query_world.specs.Worlds.{WorldState}
 use Rattle.query_turns.specs.Honest.{IsNextOf, IsTrueFor}
 
--- a step is honest for the lists of the sources, by their numbers: a page has the next rows, a grade is the list's, and nothing is missed
+-- a step is honest for the lists of the sources, by their numbers: a page has the next rows, a grade is the list's, nothing is
+-- missed, and the list is never replaced
 abbrev pub IsHonest : List (List Row) → WorldState → Step → Type 0
 IsHonest lists w (Page source rows) = IsNextOf (list_at lists source) (rows_in (state_at w.states source).log) rows
 IsHonest lists w (Grade source object grade) = Contains (list_at lists source) (record { object = object; grade = grade })
 IsHonest lists w (Miss source object) = ⊥
 IsHonest lists w (Fail source what) = Unit {0}
+IsHonest lists w (Move source object had now) = ⊥
 IsHonest lists w (Turn query) = Unit {0}
 
 abbrev pub IsTrueWorld : List (List Row) → WorldState → Type 0

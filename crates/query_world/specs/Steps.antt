@@ -7,7 +7,7 @@ use Rattle.source_state.specs.State.{State, state_at}
 use Rattle.source_state.specs.Events.{after, MayCome}
 use Rattle.query_turns.specs.declared.inquiry.Inquiry.{Inquiry}
 use Rattle.query_world.specs.declared.step.Step.{Step}
-use Rattle.query_world.specs.declared.step.Step.TheVariants.{Page, Grade, Miss, Fail, Turn}
+use Rattle.query_world.specs.declared.step.Step.TheVariants.{Page, Grade, Miss, Fail, Move, Turn}
 use Rattle.query_turns.specs.Inquiries.{is_ended}
 use Rattle.query_world.specs.Worlds.{WorldState}
 use Rattle.query_turns.specs.Turns.{Turns}
@@ -31,6 +31,7 @@ MayStep w (Page source rows) = MayComeTo w.states source (event.Page rows)
 MayStep w (Grade source object grade) = MayComeTo w.states source (event.Grade object grade)
 MayStep w (Miss source object) = MayComeTo w.states source (event.Miss object)
 MayStep w (Fail source what) = MayComeTo w.states source (event.Fail what)
+MayStep w (Move source object had now) = MayComeTo w.states source (event.Move object had now)
 MayStep w (Turn query) = IsOpen (slice_get w.queries query)
 
 -- a test tells whether something holds
@@ -52,4 +53,5 @@ Steps (Page source rows) before after = after ≡ record before { states = with_
 Steps (Grade source object grade) before after = after ≡ record before { states = with_event before.states source (event.Grade object grade) }
 Steps (Miss source object) before after = after ≡ record before { states = with_event before.states source (event.Miss object) }
 Steps (Fail source what) before after = after ≡ record before { states = with_event before.states source (event.Fail what) }
+Steps (Move source object had now) before after = after ≡ record before { states = with_event before.states source (event.Move object had now) }
 Steps (Turn query) before after = TakesTurn query before after

@@ -1,10 +1,10 @@
 //! Which steps are lawful.
 
-ghost use Rattle.std.specs.Prelude.{◌≡◌, ◌<◌, true, Some, All, length, slice_get};
+ghost use Rattle.std.specs.Prelude.{◌≡◌, ◌<◌, true, None, Some, All, length, slice_get};
 ghost use Rattle.source_log.specs.declared.entry.Asked.TheVariants.{Pending};
-ghost use Rattle.source_state.specs.declared.event.Event.TheVariants.{Page};
+ghost use Rattle.source_state.specs.declared.event.Event.TheVariants.{Page, Move};
 ghost use Rattle.source_state.specs.State.{asked_in, state_at};
-ghost use Rattle.source_state.specs.Events.{MayPage};
+ghost use Rattle.source_state.specs.Events.{MayPage, MayMove};
 ghost use Rattle.query_turns.specs.Inquiries.{is_ended};
 ghost use Rattle.query_world.specs.Worlds.{world_of};
 ghost use Rattle.query_world.specs.Steps.{IsTestOf, MayComeTo, IsOpen, MayStep};
@@ -13,6 +13,13 @@ use super::step::Step;
 use query_turns::Inquiry;
 use ranked_list::PageRows;
 use source_state::{Asked, SourceState};
+
+/// Whether no row fault stands and a row is missing.
+fn lacks_rows(state: &SourceState) -> bool
+    ensures { IsTestOf result (MayMove state.now None) }
+{
+    state.row_fault().is_none() && state.rows() < state.count()
+}
 
 /// Whether the rows of a page may follow those that are kept.
 fn fits(state: &SourceState, rows: &PageRows) -> bool
@@ -46,6 +53,26 @@ fn may_settle(states: &[SourceState], source: u32, object: u32) -> bool
     }
 }
 
+/// Whether a reply of a source may tell that its list was replaced: one of a page, or of the grade of an object.
+fn may_move(states: &[SourceState], source: u32, object: Option<u32>) -> bool
+    ensures { IsTestOf result ((source < length states.now) × MayMove (state_at states.now source) object) }
+{
+    match object {
+        Some(object) => may_settle(states, source, object),
+        None => match states.get(source as usize) {
+            Some(state) => lacks_rows(state),
+            None => false,
+        },
+    }
+}
+
+/// Whether a move from one version to another may come to a source.
+fn may_move_on(states: &[SourceState], source: u32, object: Option<u32>, had: u64, now: u64) -> bool
+    ensures { IsTestOf result (MayComeTo states.now source (Move object had now)) }
+{
+    had != now && may_move(states, source, object)
+}
+
 /// Whether a query may take a turn.
 fn may_turn(queries: &[Inquiry], query: u32) -> bool
     ensures { IsTestOf result (IsOpen (slice_get queries.now query)) }
@@ -66,6 +93,12 @@ pub(crate) fn may_take(states: &[SourceState], queries: &[Inquiry], step: &Step)
             may_settle(states, *source, *object)
         }
         Step::Fail { source, .. } => (*source as usize) < states.len(),
+        Step::Move {
+            source,
+            object,
+            had,
+            now,
+        } => may_move_on(states, *source, *object, *had, *now),
         Step::Turn { query } => may_turn(queries, *query),
     }
 }

@@ -1,5 +1,5 @@
-//! Worlds: sources and the queries that share them, over any list of steps. A step is a page, a grade, a miss or a fail of one
-//! source, or a turn of one query. Whatever the steps are, and in whatever order they come, each query that is answered has the
+//! Worlds: sources and the queries that share them, over any list of steps. A step is a page, a grade, a miss, a fail or a move
+//! of one source, or a turn of one query. Whatever the steps are, and in whatever order they come, each query that is answered has the
 //! one answer of the tables that agree with what it read.
 #![tactic(auto)]
 

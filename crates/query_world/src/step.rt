@@ -27,6 +27,14 @@ pub enum Step {
         source: u32,
         what: FailKind,
     },
+    /// The list was replaced: the reply that came, of a page or of the grade of `object`, whose ask is pending, stated the version
+    /// `now`, and not the version `had` that the list was opened with.
+    Move {
+        source: u32,
+        object: Option<u32>,
+        had: u64,
+        now: u64,
+    },
     /// The query looks once for what it needs.
     Turn {
         query: u32,

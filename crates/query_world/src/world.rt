@@ -127,6 +127,12 @@ fn take(states: &mut Vec<SourceState>, queries: &mut Vec<Inquiry>, step: Step)
         } => come(states, source, Event::Grade { object, grade }),
         Step::Miss { source, object } => come(states, source, Event::Miss { object }),
         Step::Fail { source, what } => come(states, source, Event::Fail { what }),
+        Step::Move {
+            source,
+            object,
+            had,
+            now,
+        } => come(states, source, Event::Move { object, had, now }),
         Step::Turn { query } => turn(states, &mut queries[query as usize]),
     }
 }
@@ -183,7 +189,8 @@ impl World {
     /// Takes a step, and no memory.
     ///
     /// A page comes where no row fault stands and a row is missing, and its rows are no more than are missing; a grade and a miss
-    /// are of an object whose ask is pending; a query that has ended takes no turn.
+    /// are of an object whose ask is pending; a move tells of two versions that differ, and has an object whose ask is pending, or
+    /// comes where no row fault stands and a row is missing; a query that has ended takes no turn.
     ///
     /// *Cost*: `SourceState::apply`, or one `look_at` and the feeding of a machine. Takes no memory.
     pub fn step(&mut self, step: Step)

@@ -1,9 +1,9 @@
 -- What a source counts, and what one call makes of it.
-use Rattle.std.specs.Prelude.{◌≡◌, ℕ, ◌+◌, ◌-◌, ◌^◌, ◌≤◌, min}
+use Rattle.std.specs.Prelude.{◌≡◌, ◌≢◌, ℕ, ◌+◌, ◌-◌, ◌^◌, ◌≤◌, min, Option, IfSome}
 use Rattle.tk_io.specs.Faults.{counted, Rose}
 use Rattle.source_api.specs.declared.counts.Counts.{Counts}
 use Rattle.source_api.specs.declared.source.Trouble.{Trouble}
-use Rattle.source_api.specs.declared.source.Trouble.TheVariants.{Failed, Garbled, Memory}
+use Rattle.source_api.specs.declared.source.Trouble.TheVariants.{Failed, Garbled, Memory, Moved}
 
 -- a count that goes up by so many, and stands still at the last value of its type
 abbrev pub raised : ℕ → ℕ → ℕ
@@ -11,13 +11,14 @@ raised count by = min (count + by) (2 ^ 64 - 1)
 
 -- nothing counted yet
 abbrev pub no_counts : Counts
-no_counts = record { faults = 0; garbles = 0; rows_given = 0; grades_given = 0 }
+no_counts = record { faults = 0; garbles = 0; moves = 0; rows_given = 0; grades_given = 0 }
 
 -- one more call that ended so; want of memory isn't counted
 abbrev pub troubled : Trouble → Counts → Counts
 troubled Failed c = record c { faults = counted c.faults }
 troubled Garbled c = record c { garbles = counted c.garbles }
 troubled Memory c = c
+troubled (Moved had now) c = record c { moves = counted c.moves }
 
 -- one more page, of so many rows
 abbrev pub gave_rows : ℕ → Counts → Counts
@@ -32,6 +33,7 @@ abbrev pub added : Counts → Counts → Counts
 added c other = record {
   faults = raised c.faults other.faults;
   garbles = raised c.garbles other.garbles;
+  moves = raised c.moves other.moves;
   rows_given = raised c.rows_given other.rows_given;
   grades_given = raised c.grades_given other.grades_given;
 }
@@ -40,6 +42,7 @@ added c other = record {
 pub record NoneFell (before now : Counts) : Type 0 where
   pub faults : before.faults ≤ now.faults
   pub garbles : before.garbles ≤ now.garbles
+  pub moves : before.moves ≤ now.moves
   pub rows_given : before.rows_given ≤ now.rows_given
   pub grades_given : before.grades_given ≤ now.grades_given
 
@@ -48,6 +51,30 @@ abbrev pub TroubleHasCause : Counts → Counts → Trouble → Type 0
 TroubleHasCause before now Failed = Rose before.faults now.faults
 TroubleHasCause before now Garbled = Rose before.garbles now.garbles
 TroubleHasCause before now Memory = Unit {0}
+TroubleHasCause before now (Moved had other) = Rose before.moves now.moves
+
+-- of all counts the one of this trouble alone may have changed; a move raised its own by one, and want of memory changed none
+abbrev pub CountsAlone : Counts → Counts → Trouble → Type 0
+CountsAlone before now Failed = now ≡ record before { faults = now.faults }
+CountsAlone before now Garbled = now ≡ record before { garbles = now.garbles }
+CountsAlone before now Memory = now ≡ before
+CountsAlone before now (Moved had other) = now ≡ record before { moves = counted before.moves }
+
+-- a reply stated another version than the one at hand: had and now are these two, they differ, and now is the told one where one is told
+pub record IsMove (version : ℕ) (told : Option ℕ) (had now : ℕ) : Type 0 where
+  pub at_hand : had ≡ version
+  pub stated : IfSome told (λ states. now ≡ states)
+  pub differ : had ≢ now
+
+-- a call for rows or for a grade is Moved only where its reply stated another version
+abbrev pub MovedHasCause : ℕ → Option ℕ → Trouble → Type 0
+MovedHasCause version told (Moved had now) = IsMove version told had now
+MovedHasCause version told _ = Unit {0}
+
+-- a call that answers no rows and no grade is never Moved
+abbrev pub IsNoMove : Trouble → Type 0
+IsNoMove (Moved had now) = ⊥
+IsNoMove _ = Unit {0}
 
 -- neither a row nor a grade was given
 pub record GaveNothing (before now : Counts) : Type 0 where

@@ -6,13 +6,13 @@ use Rattle.tk_io.specs.Faults.{counted, Rose}
 use Rattle.source_api.specs.declared.counts.Counts.{Counts}
 use Rattle.source_api.specs.declared.ledger.PlaceCounts.{PlaceCounts}
 use Rattle.source_api.specs.declared.source.Trouble.{Trouble}
-use Rattle.source_api.specs.declared.source.Trouble.TheVariants.{Failed, Garbled, Memory}
+use Rattle.source_api.specs.declared.source.Trouble.TheVariants.{Failed, Garbled, Memory, Moved}
 use Rattle.source_api.specs.Counting.{no_counts, added}
 use Rattle.limits.specs.declared.TheConstants.{MAX_LIST_TEXT}
 
 -- nothing counted at a place yet
 abbrev pub nothing_at : PlaceCounts
-nothing_at = record { text_faults = 0; take_faults = 0; sources = no_counts }
+nothing_at = record { text_faults = 0; take_faults = 0; taken = 0; returned = 0; sources = no_counts }
 
 -- a place and what is counted there
 pub record Noted : Type 0 where
@@ -41,28 +41,33 @@ pub record CountsTexts (before now : PlaceCounts) : Type 0 where
   pub later : before.text_faults ≤ now.text_faults
   pub others : now ≡ record before { text_faults = now.text_faults }
 
--- of the counts at a place, that of failed takes alone may have gone up
+-- of the counts at a place, those of failed takes and of sources taken alone may have gone up
 pub record CountsTakes (before now : PlaceCounts) : Type 0 where
   pub later : before.take_faults ≤ now.take_faults
-  pub others : now ≡ record before { take_faults = now.take_faults }
+  pub others : now ≡ record before { take_faults = now.take_faults; taken = now.taken }
 
--- a text fails only where its count of the place went up, or stands at its last value; it never garbles
+-- one more source was taken of a place, and nothing else was counted
+abbrev pub counts_taken : PlaceCounts → PlaceCounts
+counts_taken before = record before { taken = counted before.taken }
+
+-- a text fails only where its count of the place went up, or stands at its last value; want of memory counts nothing; it never garbles and is never Moved
 abbrev pub HasTextCause : PlaceCounts → PlaceCounts → Trouble → Type 0
 HasTextCause before now Failed = Rose before.text_faults now.text_faults
-HasTextCause before now Garbled = ⊥
-HasTextCause before now Memory = Unit {0}
+HasTextCause before now Memory = now ≡ before
+HasTextCause before now _ = ⊥
 
--- a take fails or garbles only where its count of the place went up, or stands at its last value
+-- a take fails or garbles only where its count of the place went up, or stands at its last value; want of memory counts nothing; it is never Moved
 abbrev pub HasTakeCause : PlaceCounts → PlaceCounts → Trouble → Type 0
 HasTakeCause before now Failed = Rose before.take_faults now.take_faults
 HasTakeCause before now Garbled = Rose before.take_faults now.take_faults
-HasTakeCause before now Memory = Unit {0}
+HasTakeCause before now Memory = now ≡ before
+HasTakeCause before now (Moved had other) = ⊥
 
--- the counts of a source were added to those of its place
+-- one more source was put back at its place, and its counts were added to those there
 abbrev pub with_source : Counts → PlaceCounts → PlaceCounts
-with_source counts before = record before { sources = added before.sources counts }
+with_source counts before = record before { returned = counted before.returned; sources = added before.sources counts }
 
--- a source was put back at a place: its counts were added where the place is known, and else nothing changed
+-- a source was put back at a place: it counts there where the place is known, and else nothing changed
 abbrev pub put_back_at : Bool → Counts → PlaceCounts → PlaceCounts
 put_back_at true counts before = with_source counts before
 put_back_at false counts before = before
@@ -85,8 +90,9 @@ pub record IsTakeFault (before now : List Noted) (place : List ℕ) : Type 0 whe
   pub here : counts_at now place ≡ record (counts_at before place) { take_faults = counted (counts_at before place).take_faults }
   pub later : (counts_at before place).take_faults ≤ (counts_at now place).take_faults
 
--- the place became known, if it wasn't, and nothing was counted
-pub record MakesKnown (before now : List Noted) (place : List ℕ) : Type 0 where
+-- one more source was taken of the place, which is known from then on
+pub record IsTaking (before now : List Noted) (place : List ℕ) : Type 0 where
   pub known : (other : List ℕ) → is_known before other ≡ true → is_known now other ≡ true
-  pub here : is_known now place ≡ true
-  pub same : SameAtEach (counts_at before) (counts_at now)
+  pub knows : is_known now place ≡ true
+  pub elsewhere : SameElsewhere place (counts_at before) (counts_at now)
+  pub here : counts_at now place ≡ counts_taken (counts_at before place)

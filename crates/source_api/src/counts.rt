@@ -12,6 +12,8 @@ pub struct Counts {
     pub faults: u64,
     /// Calls that were answered by garbled data.
     pub garbles: u64,
+    /// Calls whose reply stated another version of the list than the one at hand.
+    pub moves: u64,
     /// Rows that pages gave.
     pub rows_given: u64,
     /// Calls for a grade that were answered, by a grade or by none.
@@ -26,6 +28,7 @@ impl Counts {
         Counts {
             faults: 0,
             garbles: 0,
+            moves: 0,
             rows_given: 0,
             grades_given: 0,
         }
@@ -38,6 +41,7 @@ impl Counts {
         match trouble {
             Trouble::Failed => self.faults = self.faults.saturating_add(1),
             Trouble::Garbled => self.garbles = self.garbles.saturating_add(1),
+            Trouble::Moved { .. } => self.moves = self.moves.saturating_add(1),
             Trouble::Memory => {}
         }
     }
@@ -62,6 +66,7 @@ impl Counts {
     {
         self.faults = self.faults.saturating_add(other.faults);
         self.garbles = self.garbles.saturating_add(other.garbles);
+        self.moves = self.moves.saturating_add(other.moves);
         self.rows_given = self.rows_given.saturating_add(other.rows_given);
         self.grades_given = self.grades_given.saturating_add(other.grades_given);
     }

@@ -2,7 +2,7 @@
 
 ghost use Rattle.std.specs.Prelude.{◌≡◌, [], true, List, ℕ, position, OnOk, OnErr};
 ghost use Rattle.std.specs.Str.{bytes_eq};
-ghost use Rattle.source_api.specs.Places.{nothing_at, counts_at, is_known, SameAtEach, SameElsewhere, IsTextFault, IsTakeFault, put_back_at};
+ghost use Rattle.source_api.specs.Places.{nothing_at, counts_at, is_known, SameAtEach, SameElsewhere, IsTextFault, IsTakeFault, IsTaking, put_back_at};
 
 use super::{Counts, Memory};
 use std::alloc::Global;
@@ -15,6 +15,10 @@ pub struct PlaceCounts {
     pub text_faults: u64,
     /// Calls that should have taken a source and failed.
     pub take_faults: u64,
+    /// Sources that were taken.
+    pub taken: u64,
+    /// Sources that were put back.
+    pub returned: u64,
     /// What the sources counted that were put back.
     pub sources: Counts,
 }
@@ -27,6 +31,8 @@ impl PlaceCounts {
         PlaceCounts {
             text_faults: 0,
             take_faults: 0,
+            taken: 0,
+            returned: 0,
             sources: Counts::none(),
         }
     }
@@ -78,7 +84,7 @@ impl Ledger {
 
     /// Makes room for the counts of a place, unless it is there. Where memory is refused nothing has
     /// changed.
-    pub fn know(&mut self, alloc: Global, place: &str) -> Result<(), Memory>
+    fn know(&mut self, alloc: Global, place: &str) -> Result<(), Memory>
         ensures known { OnOk result (is_known self.new place.now ≡ true) }
         ensures still { (other : List ℕ) → is_known self.old other ≡ true → is_known self.new other ≡ true }
         ensures same { SameAtEach (counts_at self.old) (counts_at self.new) }
@@ -120,6 +126,19 @@ impl Ledger {
         Ok(())
     }
 
+    /// Counts a source that is taken of a place, which is known from then on. Where memory is refused
+    /// nothing has changed.
+    pub fn count_taken(&mut self, alloc: Global, place: &str) -> Result<(), Memory>
+        ensures ok { OnOk result (IsTaking self.old self.new place.now) }
+        ensures err { OnErr result (self.new ≡ self.old) }
+    {
+        self.know(alloc, place)?;
+        let mut counts = self.at(place);
+        counts.taken = counts.taken.saturating_add(1);
+        self.set(place, counts);
+        Ok(())
+    }
+
     /// Whether counts of a place are kept.
     pub fn knows(&self, place: &str) -> bool
         ensures { result ≡ is_known self.now place.now }
@@ -127,7 +146,8 @@ impl Ledger {
         entry_at(&self.entries, place.as_bytes()).is_some()
     }
 
-    /// Adds what a source counted to the counts of its place. Where the place isn't known nothing changes.
+    /// Counts a source that is put back at a place, and adds what it counted to the counts there. Where
+    /// the place isn't known nothing changes.
     pub fn add_source(&mut self, place: &str, source: Counts)
         ensures here { counts_at self.new place.now ≡ put_back_at (is_known self.old place.now) source (counts_at self.old place.now) }
         ensures elsewhere { SameElsewhere place.now (counts_at self.old) (counts_at self.new) }
@@ -137,6 +157,7 @@ impl Ledger {
             return;
         }
         let mut counts = self.at(place);
+        counts.returned = counts.returned.saturating_add(1);
         counts.sources.add(source);
         self.set(place, counts);
     }

@@ -39,6 +39,11 @@ pub enum SourceFault {
         stated: u32,
         got: u32,
     },
+    /// The list was replaced: a reply stated the version `now`, and not the version `had` that the list was opened with.
+    Moved {
+        had: u64,
+        now: u64,
+    },
 }
 
 /// What an ask came to.
@@ -46,7 +51,7 @@ pub enum SourceFault {
 pub enum Settling {
     /// The source gave this grade, which goes with its rows.
     Graded(u32),
-    /// The source gave a grade that doesn't go with its rows.
+    /// The source gave a grade that doesn't go with its rows, or its list was replaced.
     Bad(SourceFault),
     /// The source hasn't the object.
     Missed,
@@ -59,7 +64,7 @@ pub enum Asked {
     Pending,
     /// The source gave this grade, which goes with its rows.
     Graded(u32),
-    /// The source gave a grade that doesn't go with its rows.
+    /// The source gave a grade that doesn't go with its rows, or its list was replaced.
     Bad(SourceFault),
     /// The source hasn't the object.
     Missed,

@@ -5,13 +5,14 @@ use Rattle.turn_lock.specs.Facts.{IsFrontOf, FactsGrow}
 use Rattle.turn_lock.proofs.Growth.{begins_same, begins_more, at_most_same, grows_same, grows_on}
 use Rattle.source_log.specs.declared.ask.Ask.{Ask}
 use Rattle.source_log.specs.declared.entry.LogEntry.{LogEntry}
-use Rattle.source_log.specs.declared.entry.LogEntry.TheVariants.{Kept, Fault}
+use Rattle.source_log.specs.declared.entry.LogEntry.TheVariants.{Kept, Settled, Fault}
+use Rattle.source_log.specs.declared.entry.Settling.TheVariants.{Bad}
 use Rattle.source_log.specs.declared.entry.SourceFault.{SourceFault}
 use Rattle.source_state.specs.declared.event.Applied.TheVariants.{Broken}
 use Rattle.source_log.specs.Log.{rows_in, fault_in}
 use Rattle.source_log.specs.Asks.{ask_of}
 use Rattle.source_state.specs.State.{State, asks_of, row_fault, facts_of}
-use Rattle.source_state.specs.Events.{logged, one_asked, with_ask, row_or, with_rows, IsApplied}
+use Rattle.source_state.specs.Events.{logged, one_asked, with_ask, row_or, with_rows, moved, IsApplied}
 use Rattle.source_log.proofs.LogLaws.{fault_first}
 
 pub logged_grows : (s : State) (entry : LogEntry) → FactsGrow (facts_of s) (facts_of (logged s entry))
@@ -32,6 +33,10 @@ row_grows (Some fault) s row next h = logged_grows s (Fault fault)
 pub rows_grow : (s : State) (rows : List Row) → FactsGrow (facts_of s) (facts_of (with_rows s rows))
 rows_grow s [] = grows_same (facts_of s)
 rows_grow s (row ∷ rows) = row_grows (row_fault (rows_in s.log) (asks_of s) row) s row (λ t. with_rows t rows) (λ t. rows_grow t rows)
+
+pub moved_grows : (s : State) (object : Option ℕ) (fault : SourceFault) → FactsGrow (facts_of s) (facts_of (moved s object fault))
+moved_grows s None fault = logged_grows s (Fault fault)
+moved_grows s (Some object) fault = logged_grows s (Settled object (Bad fault))
 
 -- a state that sets its row fault breaks
 pub broken_by : (s t : State) (fault : SourceFault) → fault_in s.log ≡ None → t ≡ logged s (Fault fault) → IsApplied s t Broken

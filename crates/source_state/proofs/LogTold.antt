@@ -9,9 +9,9 @@ use Rattle.source_log.specs.declared.entry.LogEntry.TheVariants as entry
 use Rattle.source_log.specs.declared.entry.Settling.{Settling}
 use Rattle.source_log.specs.declared.entry.Settling.TheVariants as settling
 use Rattle.source_log.specs.declared.entry.SourceFault.{SourceFault}
-use Rattle.source_log.specs.declared.entry.SourceFault.TheVariants.{ShortList}
+use Rattle.source_log.specs.declared.entry.SourceFault.TheVariants.{ShortList, Moved}
 use Rattle.source_state.specs.declared.event.Event.{Event}
-use Rattle.source_state.specs.declared.event.Event.TheVariants.{Want, Ask, Page, Grade, Miss, Fail}
+use Rattle.source_state.specs.declared.event.Event.TheVariants.{Want, Ask, Page, Grade, Miss, Fail, Move}
 use Rattle.source_log.specs.Log.{first_of, rows_in, fault_in}
 use Rattle.source_state.specs.State.{State, opened, asks_of, row_fault, settle}
 use Rattle.source_state.specs.Events.{logged, row_or, with_rows, after, MayCome}
@@ -75,30 +75,35 @@ rows_more s t none l =
 settles : State → Event → Option LogEntry
 settles s event = settling_by (λ E. rows_in s.log) (record { before = []; event = event }) event
 
+-- what one more row fault, and one more settling, add to the log
+fault_logged : (s : State) (fault : SourceFault) → fault_in s.log ≡ None
+    → s.log ++ entry.Fault fault ∷ [] ≡ s.log ++ entries_by (rows_in s.log) (rows_in (s.log ++ entry.Fault fault ∷ [])) None (fault_in s.log) (fault_in (s.log ++ entry.Fault fault ∷ []))
+fault_logged s fault none =
+    rows_more s (logged s (entry.Fault fault)) none
+    (record {
+      more = [];
+      rows = fault_rows s.log fault ∙ sym (append-nil (rows_in s.log));
+      log = ap (λ o. s.log ++ fault_added None o) (sym (fault_first s.log fault none));
+    })
+
+settling_logged : (s : State) (object : ℕ) (one : Settling)
+    → s.log ++ entry.Settled object one ∷ [] ≡ s.log ++ entries_by (rows_in s.log) (rows_in (s.log ++ entry.Settled object one ∷ [])) (Some (entry.Settled object one)) (fault_in s.log) (fault_in (s.log ++ entry.Settled object one ∷ []))
+settling_logged s object one =
+    ap (λ es. s.log ++ es) (sym (settled_more (rows_in s.log) (entry.Settled object one) (fault_in s.log)))
+    ∙ ap (λ rows. s.log ++ entries_by (rows_in s.log) rows (Some (entry.Settled object one)) (fault_in s.log) (fault_in s.log)) (sym (settled_rows s.log object one))
+    ∙ ap (λ fs. s.log ++ entries_by (rows_in s.log) (rows_in (s.log ++ entry.Settled object one ∷ [])) (Some (entry.Settled object one)) (fault_in s.log) (first_of fs)) (sym (settled_faults s.log object one))
+
 event_logged : (s : State) (event : Event) → MayCome s event
     → (after s event).log ≡ s.log ++ entries_by (rows_in s.log) (rows_in (after s event).log) (settles s event) (fault_in s.log) (fault_in (after s event).log)
 unfolding settles
 event_logged s (Want depth) may = sym (append-nil s.log) ∙ ap (λ es. s.log ++ es) (sym (nothing_more (rows_in s.log) (fault_in s.log)))
 event_logged s (Ask object) may = sym (append-nil s.log) ∙ ap (λ es. s.log ++ es) (sym (nothing_more (rows_in s.log) (fault_in s.log)))
 event_logged s (Fail what) may = sym (append-nil s.log) ∙ ap (λ es. s.log ++ es) (sym (nothing_more (rows_in s.log) (fault_in s.log)))
-event_logged s (Grade object grade) may =
-    let one : Settling = settle (rows_in s.log) object grade in
-    ap (λ es. s.log ++ es) (sym (settled_more (rows_in s.log) (entry.Settled object one) (fault_in s.log)))
-    ∙ ap (λ rows. s.log ++ entries_by (rows_in s.log) rows (Some (entry.Settled object one)) (fault_in s.log) (fault_in s.log)) (sym (settled_rows s.log object one))
-    ∙ ap (λ fs. s.log ++ entries_by (rows_in s.log) (rows_in (s.log ++ entry.Settled object one ∷ [])) (Some (entry.Settled object one)) (fault_in s.log) (first_of fs)) (sym (settled_faults s.log object one))
-event_logged s (Miss object) may =
-    let one : Settling = settling.Missed in
-    ap (λ es. s.log ++ es) (sym (settled_more (rows_in s.log) (entry.Settled object one) (fault_in s.log)))
-    ∙ ap (λ rows. s.log ++ entries_by (rows_in s.log) rows (Some (entry.Settled object one)) (fault_in s.log) (fault_in s.log)) (sym (settled_rows s.log object one))
-    ∙ ap (λ fs. s.log ++ entries_by (rows_in s.log) (rows_in (s.log ++ entry.Settled object one ∷ [])) (Some (entry.Settled object one)) (fault_in s.log) (first_of fs)) (sym (settled_faults s.log object one))
-event_logged s (Page []) may =
-    let fault : SourceFault = ShortList s.count (length (rows_in s.log)) in
-    let t : State = logged s (entry.Fault fault) in
-    let l : RowsLogged s t = record {
-      more = [];
-      rows = fault_rows s.log fault ∙ sym (append-nil (rows_in s.log));
-      log = ap (λ o. s.log ++ fault_added None o) (sym (fault_first s.log fault may.no_fault));
-    } in rows_more s t may.no_fault l
+event_logged s (Grade object grade) may = settling_logged s object (settle (rows_in s.log) object grade)
+event_logged s (Miss object) may = settling_logged s object settling.Missed
+event_logged s (Move None had now) may = fault_logged s (Moved had now) may.1.0
+event_logged s (Move (Some object) had now) may = settling_logged s object (settling.Bad (Moved had now))
+event_logged s (Page []) may = fault_logged s (ShortList s.count (length (rows_in s.log))) may.no_fault
 event_logged s (Page (row ∷ rows)) may = rows_more s (with_rows s (row ∷ rows)) may.no_fault (page_logged s (row ∷ rows) may.no_fault)
 
 -- what it settles by the history
@@ -111,6 +116,8 @@ settles_told kept E s (Page rows) all = refl
 settles_told kept E s (Grade object grade) all = ap (λ rows. Some (entry.Settled object (settle rows object grade))) all
 settles_told kept E s (Miss object) all = refl
 settles_told kept E s (Fail what) all = refl
+settles_told kept E s (Move None had now) all = refl
+settles_told kept E s (Move (Some object) had now) all = refl
 
 log_next : (kept : List Event → List Row) (count : ℕ) (E : List Event) (s : State) (event : Event) → IsByHistory kept count E s
     → IsByHistory kept count (E ++ event ∷ []) (after s event) → rows_in s.log ≡ kept E → MayCome s event → s.log ≡ log_told kept count E

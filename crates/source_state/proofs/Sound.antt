@@ -27,7 +27,7 @@ use Rattle.source_log.specs.declared.entry.SourceFault.TheVariants.{OutOfOrder, 
 use Rattle.source_log.specs.Log.{rows_in, settling_in, settled_in, graded_in, graded_as, faults_in, fault_in}
 use Rattle.source_log.specs.Asks.{ask_in, ask_of, good_grade, open_row, open_rows, first_above}
 use Rattle.source_state.specs.State.{State, opened, asks_of, asked_in, clash_or, above_fault, grade_asked, fault_by_grades, row_fault, settle, settle_by, GoesWith, SettlesWell, IsSoundLog, IsSound}
-use Rattle.source_state.specs.Events.{logged, one_asked, with_ask}
+use Rattle.source_state.specs.Events.{logged, one_asked, with_ask, moved, MayMove}
 use Rattle.limits.specs.declared.TheConstants.{MAX_OBJECTS}
 use Rattle.source_log.proofs.Lists.{cond_none, none_not_some, none_found, no_first}
 use Rattle.source_log.proofs.LogLaws.{kept_rows, kept_settled, kept_graded, kept_faults, settled_rows, settled_settled, settled_graded, settled_faults, fault_rows, fault_settled, fault_graded, fault_faults, log_length, not_settled, graded_settled, graded_settling}
@@ -258,6 +258,11 @@ sound_settling s object settling sound pending well = record {
   where
     parts : Contains s.asks object × (settling_in s.log object ≡ None)
     parts = pending_parts s object pending
+
+-- a list that was replaced
+pub sound_moved : (s : State) (object : Option ℕ) (fault : SourceFault) → IsSound s → MayMove s object → IsSound (moved s object fault)
+sound_moved s None fault sound may = sound_fault s fault sound may.0
+sound_moved s (Some object) fault sound may = sound_settling s object (Bad fault) sound may tt
 
 -- one more ask
 sound_asked : (s : State) (object : ℕ) (found : Option Ask) → IsSound s → ask_of (asks_of s) object ≡ found → (found ≡ None → length s.asks < s.count)

@@ -20,14 +20,14 @@ use Rattle.source_log.specs.declared.entry.Settling.TheVariants as settling
 use Rattle.source_log.specs.declared.entry.FailKind.{FailKind}
 use Rattle.source_log.specs.declared.entry.FailKind.TheVariants as kind
 use Rattle.source_log.specs.declared.entry.SourceFault.{SourceFault}
-use Rattle.source_log.specs.declared.entry.SourceFault.TheVariants.{ShortList}
+use Rattle.source_log.specs.declared.entry.SourceFault.TheVariants.{ShortList, Moved}
 use Rattle.source_state.specs.declared.event.Event.{Event}
-use Rattle.source_state.specs.declared.event.Event.TheVariants.{Want, Ask, Page, Grade, Miss, Fail}
+use Rattle.source_state.specs.declared.event.Event.TheVariants.{Want, Ask, Page, Grade, Miss, Fail, Move}
 use Rattle.source_log.specs.Log.{first_of, rows_in, settled_as, settling_in, fault_in}
 use Rattle.source_log.specs.Asks.{ask_in, ask_of}
 use Rattle.source_state.specs.State.{State, opened, asks_of, row_fault, settle, last_count}
-use Rattle.source_state.specs.Events.{logged, wanted, one_asked, with_ask, row_or, with_rows, paged, one_more, counted, failed, after, MayCome}
-use Rattle.source_state.specs.History.{last_of, depth_wanted, object_asked, kind_failed, rows_brought, greatest_want, objects_asked, fails_told, is_failed, is_garbled, is_memory, tally_told, pauses, is_paused, replayed, AllMayCome, Moment, moments_after, moments, settling_by, settlings, Came, page_came, came_after, came, asks_told, fault_came, before_first, rows_told, short_by, fault_told, kept_by, IsByHistory}
+use Rattle.source_state.specs.Events.{logged, wanted, one_asked, with_ask, row_or, with_rows, paged, one_more, counted, failed, moved, after, MayCome, MayMove}
+use Rattle.source_state.specs.History.{last_of, depth_wanted, object_asked, kind_failed, rows_brought, greatest_want, objects_asked, fails_told, is_failed, is_garbled, is_memory, tally_told, pauses, is_paused, replayed, AllMayCome, Moment, moments_after, moments, settling_by, settlings, Came, page_came, came_after, came, asks_told, fault_came, before_first, rows_told, ended_by, fault_told, kept_by, IsByHistory}
 use Rattle.source_log.proofs.Lists.{no_first}
 use Rattle.source_log.proofs.LogLaws.{kept_rows, kept_settling, kept_faults, settled_rows, settled_faults, fault_rows, fault_settling, fault_first}
 use Rattle.source_state.proofs.AskLaws.{ask_found, ask_missing}
@@ -154,21 +154,21 @@ settled_more kept E event one some =
     ap (filter_map (λ (m : Moment). settling_by kept m m.event)) (moments_push [] E event)
     ∙ filter_map_push_some (λ (m : Moment). settling_by kept m m.event) (moments E) (record { before = [] ++ E; event = event }) one some
 
-short_stays : (count : ℕ) (kept : List Event → List Row) (E : List Event) (event : Event) → ((m : Moment) → short_by count kept m event ≡ None)
-    → filter_map (λ (m : Moment). short_by count kept m m.event) (moments E) ≡ filter_map (λ (m : Moment). short_by count kept m m.event)
+ended_stays : (count : ℕ) (kept : List Event → List Row) (E : List Event) (event : Event) → ((m : Moment) → ended_by count kept m event ≡ None)
+    → filter_map (λ (m : Moment). ended_by count kept m m.event) (moments E) ≡ filter_map (λ (m : Moment). ended_by count kept m m.event)
     (moments (E ++ event ∷ []))
-short_stays count kept E event none =
-    sym (ap (filter_map (λ (m : Moment). short_by count kept m m.event)) (moments_push [] E event)
-    ∙ filter_map_push_none (λ (m : Moment). short_by count kept m m.event) (moments E) (record { before = [] ++ E; event = event }) (none (record { before = [] ++ E; event = event })))
+ended_stays count kept E event none =
+    sym (ap (filter_map (λ (m : Moment). ended_by count kept m m.event)) (moments_push [] E event)
+    ∙ filter_map_push_none (λ (m : Moment). ended_by count kept m m.event) (moments E) (record { before = [] ++ E; event = event }) (none (record { before = [] ++ E; event = event })))
 
 rows_stay : (kept : List Event → List Row) (E : List Event) (event : Event) → rows_brought event ≡ [] → rows_told kept E ≡ rows_told kept (E ++ event ∷ [])
 rows_stay kept E event none = ap (λ cs. map (λ (one : Came). one.row) (before_first (λ (one : Came). is_some (fault_came kept one)) cs)) (came_stays E event none)
 
 fault_stays : (count : ℕ) (kept : List Event → List Row) (E : List Event) (event : Event) → rows_brought event ≡ []
-    → ((m : Moment) → short_by count kept m event ≡ None) → fault_told count kept E ≡ fault_told count kept (E ++ event ∷ [])
+    → ((m : Moment) → ended_by count kept m event ≡ None) → fault_told count kept E ≡ fault_told count kept (E ++ event ∷ [])
 fault_stays count kept E event none short =
-    ap (λ cs. option_or (first_of (filter_map (fault_came kept) cs)) (first_of (filter_map (λ (m : Moment). short_by count kept m m.event) (moments E)))) (came_stays E event none)
-    ∙ ap (λ fs. option_or (first_of (filter_map (fault_came kept) (came (E ++ event ∷ [])))) (first_of fs)) (short_stays count kept E event short)
+    ap (λ cs. option_or (first_of (filter_map (fault_came kept) cs)) (first_of (filter_map (λ (m : Moment). ended_by count kept m m.event) (moments E)))) (came_stays E event none)
+    ∙ ap (λ fs. option_or (first_of (filter_map (fault_came kept) (came (E ++ event ∷ [])))) (first_of fs)) (ended_stays count kept E event short)
 
 -- the asks as the state has them are those of the history
 same_ask : (object : ℕ) (one other : Option Settling) (a b : Bool) → one ≡ other → a ≡ b
@@ -271,7 +271,7 @@ pub record Stays (kept : List Event → List Row) (count : ℕ) (E : List Event)
   pub fault : fault_told count kept E ≡ fault_told count kept (E ++ event ∷ [])
 
 stays : (kept : List Event → List Row) (count : ℕ) (E : List Event) (event : Event) → rows_brought event ≡ []
-    → ((m : Moment) → short_by count kept m event ≡ None) → Stays kept count E event
+    → ((m : Moment) → ended_by count kept m event ≡ None) → Stays kept count E event
 stays kept count E event none short = record { rows = rows_stay kept E event none; fault = fault_stays count kept E event none short }
 
 told_want : (kept : List Event → List Row) (count : ℕ) (E : List Event) (s : State) (depth : ℕ) → IsByHistory kept count E s
@@ -386,28 +386,45 @@ told_fail kept count E s what h =
       settled = λ object. h.settled object ∙ ap (λ log. settling_in log object) (settled_stay kept E (Fail what) (λ m. refl));
     }
 
+-- an event that sets the row fault and brings no rows
+told_fault : (kept : List Event → List Row) (count : ℕ) (E : List Event) (s : State) (event : Event) (fault : SourceFault) → IsByHistory kept count E s
+    → depth_wanted event ≡ None → object_asked event ≡ None → kind_failed event ≡ None → pauses event ≡ None → rows_brought event ≡ []
+    → ((m : Moment) → settling_by kept m event ≡ None) → ended_by count kept (record { before = E; event = event }) event ≡ Some fault
+    → fault_in s.log ≡ None → IsByHistory kept count (E ++ event ∷ []) (logged s (entry.Fault fault))
+told_fault kept count E s event fault h no_want no_ask no_fail no_pause no_rows no_settling ends none =
+    let parts = none_parts _ _ (sym h.fault ∙ none) in
+    let ended : filter_map (λ (m : Moment). ended_by count kept m m.event) (moments (E ++ event ∷ [])) ≡ filter_map (λ (m : Moment). ended_by count kept m m.event) (moments E) ++ fault ∷ [] =
+    ap (filter_map (λ (m : Moment). ended_by count kept m m.event)) (moments_push [] E event)
+    ∙ filter_map_push_some (λ (m : Moment). ended_by count kept m m.event) (moments E) (record { before = [] ++ E; event = event }) fault ends in
+    record {
+      want = h.want ∙ want_stays E event no_want;
+      asks = h.asks ∙ asks_stay E event no_ask;
+      tally = h.tally ∙ tally_stays E event no_fail;
+      last_fail = h.last_fail ∙ ap last_of (fails_stay E event no_fail);
+      paused = h.paused ∙ pause_stays E event no_pause;
+      rows = fault_rows s.log fault ∙ h.rows ∙ rows_stay kept E event no_rows;
+      fault = fault_first s.log fault none
+          ∙ sym (ap (λ cs. option_or (first_of (filter_map (fault_came kept) cs)) (first_of (filter_map (λ (m : Moment). ended_by count kept m m.event) (moments (E ++ event ∷ []))))) (sym (came_stays E event no_rows))
+          ∙ ap (λ o. option_or o (first_of (filter_map (λ (m : Moment). ended_by count kept m m.event) (moments (E ++ event ∷ []))))) parts.0
+          ∙ ap first_of ended ∙ first_append _ (fault ∷ []) (no_first _ parts.1));
+      settled = λ object. fault_settling s.log fault object ∙ h.settled object ∙ ap (λ log. settling_in log object) (settled_stay kept E event no_settling);
+    }
+
+-- a list that was replaced
+told_move : (kept : List Event → List Row) (count : ℕ) (E : List Event) (s : State) (object : Option ℕ) (had now : ℕ) → IsByHistory kept count E s
+    → MayMove s object → IsByHistory kept count (E ++ Move object had now ∷ []) (moved s object (Moved had now))
+told_move kept count E s None had now h may =
+    told_fault kept count E s (Move None had now) (Moved had now) h refl refl refl refl refl (λ m. refl) refl may.0
+told_move kept count E s (Some object) had now h may =
+    told_settling kept count E s (Move (Some object) had now) object (settling.Bad (Moved had now)) h refl refl refl refl
+    (stays kept count E (Move (Some object) had now) refl (λ m. refl)) refl
+
 -- a page
 told_page : (kept : List Event → List Row) (count : ℕ) (E : List Event) (s : State) (rows : List Row) → IsByHistory kept count E s → s.count ≡ count
     → rows_in s.log ≡ kept E → fault_in s.log ≡ None → IsByHistory kept count (E ++ Page rows ∷ []) (paged s rows)
 told_page kept count E s [] h is all none =
-    let parts = none_parts _ _ (sym h.fault ∙ none) in
-    let short : filter_map (λ (m : Moment). short_by count kept m m.event) (moments (E ++ Page [] ∷ [])) ≡ filter_map (λ (m : Moment). short_by count kept m m.event) (moments E) ++ ShortList count (length (kept E)) ∷ [] =
-    ap (filter_map (λ (m : Moment). short_by count kept m m.event)) (moments_push [] E (Page []))
-    ∙ filter_map_push_some (λ (m : Moment). short_by count kept m m.event) (moments E) (record { before = [] ++ E; event = Page [] }) (ShortList count (length (kept E))) refl in
-    record {
-      want = h.want ∙ want_stays E (Page []) refl;
-      asks = h.asks ∙ asks_stay E (Page []) refl;
-      tally = h.tally ∙ tally_stays E (Page []) refl;
-      last_fail = h.last_fail ∙ ap last_of (fails_stay E (Page []) refl);
-      paused = h.paused ∙ pause_stays E (Page []) refl;
-      rows = fault_rows s.log (ShortList s.count (length (rows_in s.log))) ∙ h.rows ∙ rows_stay kept E (Page []) refl;
-      fault = fault_first s.log (ShortList s.count (length (rows_in s.log))) none
-          ∙ ap (λ n. Some (ShortList n (length (rows_in s.log)))) is ∙ ap (λ (rs : List Row). Some (ShortList count (length rs))) all
-          ∙ sym (ap (λ cs. option_or (first_of (filter_map (fault_came kept) cs)) (first_of (filter_map (λ (m : Moment). short_by count kept m m.event) (moments (E ++ Page [] ∷ []))))) (sym (came_stays E (Page []) refl))
-          ∙ ap (λ o. option_or o (first_of (filter_map (λ (m : Moment). short_by count kept m m.event) (moments (E ++ Page [] ∷ []))))) parts.0
-          ∙ ap first_of short ∙ first_append _ (ShortList count (length (kept E)) ∷ []) (no_first _ parts.1));
-      settled = λ object. fault_settling s.log (ShortList s.count (length (rows_in s.log))) object ∙ h.settled object ∙ ap (λ log. settling_in log object) (settled_stay kept E (Page []) (λ m. refl));
-    }
+    told_fault kept count E s (Page []) (ShortList s.count (length (rows_in s.log))) h refl refl refl refl refl (λ m. refl)
+    (ap (λ n. Some (ShortList n (length (kept E)))) (sym is) ∙ ap (λ (rs : List Row). Some (ShortList s.count (length rs))) (sym all)) none
 told_page kept count E s (row ∷ rows) h is all none =
     let parts = none_parts _ _ (sym h.fault ∙ none) in
     let clean : filter_map (fault_came kept) (came E) ≡ [] = no_first (filter_map (fault_came kept) (came E)) parts.0 in
@@ -434,7 +451,7 @@ told_page kept count E s (row ∷ rows) h is all none =
           ∙ ap first_of (sym (filter_map-append (fault_came kept) (came E) (page_came (brought E) E (row ∷ rows))))
           ∙ ap (λ cs. first_of (filter_map (fault_came kept) cs)) (sym more)
           ∙ or_none (first_of (filter_map (fault_came kept) (came (E ++ Page (row ∷ rows) ∷ []))))
-          ∙ ap (option_or (first_of (filter_map (fault_came kept) (came (E ++ Page (row ∷ rows) ∷ []))))) (sym parts.1 ∙ ap first_of (short_stays count kept E (Page (row ∷ rows)) (λ m. refl)));
+          ∙ ap (option_or (first_of (filter_map (fault_came kept) (came (E ++ Page (row ∷ rows) ∷ []))))) (sym parts.1 ∙ ap first_of (ended_stays count kept E (Page (row ∷ rows)) (λ m. refl)));
       settled = λ object. told.settled object ∙ h.settled object ∙ ap (λ log. settling_in log object) (settled_stay kept E (Page (row ∷ rows)) (λ m. refl));
     }
 
@@ -456,6 +473,8 @@ count_stays s (Page (row ∷ rows)) = count_rows s (row ∷ rows)
 count_stays s (Grade object grade) = refl
 count_stays s (Miss object) = refl
 count_stays s (Fail what) = refl
+count_stays s (Move None had now) = refl
+count_stays s (Move (Some object) had now) = refl
 
 pub told_next : (kept : List Event → List Row) (count : ℕ) (E : List Event) (s : State) (event : Event) → IsByHistory kept count E s → s.count ≡ count
     → rows_in s.log ≡ kept E → MayCome s event → IsByHistory kept count (E ++ event ∷ []) (after s event)
@@ -468,6 +487,7 @@ told_next kept count E s (Grade object grade) h is all may =
 told_next kept count E s (Miss object) h is all may =
     told_settling kept count E s (Miss object) object settling.Missed h refl refl refl refl (stays kept count E (Miss object) refl (λ m. refl)) refl
 told_next kept count E s (Fail what) h is all may = told_fail kept count E s what h
+told_next kept count E s (Move object had now) h is all may = told_move kept count E s object had now h may.1
 
 told_along : (start : State) (count : ℕ) (E more : List Event) → IsByHistory (kept_by start) count E (replayed start E) → (replayed start E).count ≡ count
     → AllMayCome (replayed start E) more → IsByHistory (kept_by start) count (E ++ more) (replayed (replayed start E) more)

@@ -1,5 +1,5 @@
 -- What an event does to the state of a source, and when it may come.
-use Rattle.std.specs.Prelude.{◌≡◌, ◌≤◌, ◌<◌, ◌+◌, ℕ, min, max, true, false, Option, Some, None, List, [], ◌∷◌, ◌++◌, length}
+use Rattle.std.specs.Prelude.{◌≡◌, ◌≢◌, ◌≤◌, ◌<◌, ◌+◌, ℕ, min, max, true, false, Option, Some, None, List, [], ◌∷◌, ◌++◌, length}
 use Rattle.ranked_list.specs.declared.row.Row.{Row}
 use Rattle.turn_lock.specs.declared.facts.Tally.{Tally}
 use Rattle.turn_lock.specs.Facts.{AreFactsKept}
@@ -11,9 +11,9 @@ use Rattle.source_log.specs.declared.entry.Asked.TheVariants.{Pending}
 use Rattle.source_log.specs.declared.entry.FailKind.{FailKind}
 use Rattle.source_log.specs.declared.entry.FailKind.TheVariants.{Failed, Garbled, Memory}
 use Rattle.source_log.specs.declared.entry.SourceFault.{SourceFault}
-use Rattle.source_log.specs.declared.entry.SourceFault.TheVariants.{ShortList}
+use Rattle.source_log.specs.declared.entry.SourceFault.TheVariants.{ShortList, Moved}
 use Rattle.source_state.specs.declared.event.Event.{Event}
-use Rattle.source_state.specs.declared.event.Event.TheVariants.{Want, Ask, Page, Grade, Miss, Fail}
+use Rattle.source_state.specs.declared.event.Event.TheVariants.{Want, Ask, Page, Grade, Miss, Fail, Move}
 use Rattle.source_state.specs.declared.event.Applied.{Applied}
 use Rattle.source_state.specs.declared.event.Applied.TheVariants.{Done, Broken}
 use Rattle.source_log.specs.Log.{rows_in, fault_in}
@@ -72,6 +72,11 @@ counted Memory tally = record tally { memory = one_more tally.memory }
 abbrev pub failed : State → FailKind → State
 failed s what = record s { tally = counted what s.tally; last_fail = Some what; paused = true }
 
+-- a list that was replaced: without an object that is the row fault, with one it is what the ask of the object settles as
+abbrev pub moved : State → Option ℕ → SourceFault → State
+moved s None fault = logged s (entry.Fault fault)
+moved s (Some object) fault = logged s (entry.Settled object (settling.Bad fault))
+
 -- the state after an event
 abbrev pub after : State → Event → State
 after s (Want depth) = wanted s depth
@@ -80,6 +85,7 @@ after s (Page rows) = paged s rows
 after s (Grade object grade) = logged s (entry.Settled object (settle (rows_in s.log) object grade))
 after s (Miss object) = logged s (entry.Settled object settling.Missed)
 after s (Fail what) = failed s what
+after s (Move object had now) = moved s object (Moved had now)
 
 -- a page may come where no row fault stands, a row is missing, and its rows are no more than are missing
 pub record MayPage (s : State) (rows : List Row) : Type 0 where
@@ -87,8 +93,14 @@ pub record MayPage (s : State) (rows : List Row) : Type 0 where
   pub room : length (rows_in s.log) < s.count
   pub fits : length (rows_in s.log) + length rows ≤ s.count
 
--- an event may come: a depth is one of the list, an ask is asked already or there is room for it, a page fits, and what
--- is settled is asked and not settled yet
+-- it may be told that a list was replaced: without an object where no row fault stands and a row is missing, else of an object that
+-- is asked and not settled yet
+abbrev pub MayMove : State → Option ℕ → Type 0
+MayMove s None = (fault_in s.log ≡ None) × (length (rows_in s.log) < s.count)
+MayMove s (Some object) = asked_in s object ≡ Some Pending
+
+-- an event may come: a depth is one of the list, an ask is asked already or there is room for it, a page fits, what is settled is
+-- asked and not settled yet, and a move is one to another version
 abbrev pub MayCome : State → Event → Type 0
 MayCome s (Want depth) = (1 ≤ depth) × (depth ≤ s.count)
 MayCome s (Ask object) = asked_in s object ≡ None → length s.asks < s.count
@@ -96,6 +108,7 @@ MayCome s (Page rows) = MayPage s rows
 MayCome s (Grade object grade) = asked_in s object ≡ Some Pending
 MayCome s (Miss object) = asked_in s object ≡ Some Pending
 MayCome s (Fail what) = Unit {0}
+MayCome s (Move object had now) = (had ≢ now) × MayMove s object
 
 -- an event was broken exactly where it set a row fault
 abbrev pub IsApplied : State → State → Applied → Type 0
@@ -110,3 +123,4 @@ KeepsLog (Page rows) before after = Unit {0}
 KeepsLog (Grade object grade) before after = Unit {0}
 KeepsLog (Miss object) before after = Unit {0}
 KeepsLog (Fail what) before after = Unit {0}
+KeepsLog (Move object had now) before after = Unit {0}

@@ -9,13 +9,13 @@ use Rattle.topk_theory.specs.Bounds.{grade_among}
 use Rattle.source_log.specs.declared.ask.Ask.{Ask as Asking}
 use Rattle.source_log.specs.declared.entry.LogEntry.{LogEntry}
 use Rattle.source_log.specs.declared.entry.LogEntry.TheVariants.{Kept, Settled, Fault}
-use Rattle.source_log.specs.declared.entry.Settling.TheVariants.{Missed}
+use Rattle.source_log.specs.declared.entry.Settling.TheVariants.{Bad, Missed}
 use Rattle.source_log.specs.declared.entry.FailKind.{FailKind}
 use Rattle.source_log.specs.declared.entry.FailKind.TheVariants.{Failed, Garbled, Memory}
 use Rattle.source_log.specs.declared.entry.SourceFault.{SourceFault}
-use Rattle.source_log.specs.declared.entry.SourceFault.TheVariants.{ShortList}
+use Rattle.source_log.specs.declared.entry.SourceFault.TheVariants.{ShortList, Moved}
 use Rattle.source_state.specs.declared.event.Event.{Event}
-use Rattle.source_state.specs.declared.event.Event.TheVariants.{Want, Ask, Page, Grade, Miss, Fail}
+use Rattle.source_state.specs.declared.event.Event.TheVariants.{Want, Ask, Page, Grade, Miss, Fail, Move}
 use Rattle.source_log.specs.Log.{first_of, rows_in, settling_in, fault_in}
 use Rattle.source_state.specs.State.{State, row_fault, settle, last_count}
 use Rattle.source_state.specs.Events.{after, MayCome}
@@ -105,10 +105,12 @@ moments_after before (event ∷ E) = record { before = before; event = event } �
 abbrev pub moments : List Event → List Moment
 moments E = moments_after [] E
 
--- what a grade and a miss settle, where `kept` tells which rows a history keeps: a grade against the rows kept before it
+-- what a grade, a miss and a move of an object settle, where `kept` tells which rows a history keeps: a grade against the rows kept
+-- before it
 abbrev pub settling_by : (List Event → List Row) → Moment → Event → Option LogEntry
 settling_by kept moment (Grade object grade) = Some (Settled object (settle (kept moment.before) object grade))
 settling_by kept moment (Miss object) = Some (Settled object Missed)
+settling_by kept moment (Move (Some object) had now) = Some (Settled object (Bad (Moved had now)))
 settling_by kept moment _ = None
 
 abbrev pub settlings : (List Event → List Row) → List Event → List LogEntry
@@ -151,16 +153,17 @@ before_first test (x ∷ xs) = if test x then [] else x ∷ before_first test xs
 abbrev pub rows_told : (List Event → List Row) → List Event → List Row
 rows_told kept E = map (λ one. one.row) (before_first (λ one. is_some (fault_came kept one)) (came E))
 
--- a page without rows, which makes a list of `count` objects short
-abbrev pub short_by : ℕ → (List Event → List Row) → Moment → Event → Option SourceFault
-short_by count kept moment (Page []) = Some (ShortList count (length (kept moment.before)))
-short_by count kept moment _ = None
+-- what ends the rows with none at fault: a page without rows, which makes a list of `count` objects short, or a move without an object
+abbrev pub ended_by : ℕ → (List Event → List Row) → Moment → Event → Option SourceFault
+ended_by count kept moment (Page []) = Some (ShortList count (length (kept moment.before)))
+ended_by count kept moment (Move None had now) = Some (Moved had now)
+ended_by count kept moment _ = None
 
--- the fault of the first row at fault, or that the list is short
+-- the fault of the first row at fault, or that the list is short or was replaced
 abbrev pub fault_told : ℕ → (List Event → List Row) → List Event → Option SourceFault
 fault_told count kept E =
     option_or (first_of (filter_map (fault_came kept) (came E)))
-    (first_of (filter_map (λ moment. short_by count kept moment moment.event) (moments E)))
+    (first_of (filter_map (λ moment. ended_by count kept moment moment.event) (moments E)))
 
 -- the entry of the row fault, where one is set that wasn't before
 abbrev pub fault_added : Option SourceFault → Option SourceFault → List LogEntry

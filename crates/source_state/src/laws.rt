@@ -19,8 +19,8 @@ ghost use Rattle.source_state.specs.Drawing.{told_by, IsSomeSound};
 
 /// After a history whose events may come, one after another, the state is what the history says: the greatest depth that was wanted,
 /// the objects in the order in which they were asked first, the fails of each kind and the last one, whether the last of the fails,
-/// wants and asks is a fail, the rows that came before the first at fault, its fault or that the list is short, and what each
-/// object settled as.
+/// wants and asks is a fail, the rows that came before the first at fault, its fault or that the list is short or was replaced, and
+/// what each object settled as.
 pub fn each_history_is_told()
     ensures { (list count : ℕ) (E : List Event) → AllMayCome (opened list count) E
         → IsByHistory (kept_by (opened list count)) count E (replayed (opened list count) E) }

@@ -33,7 +33,7 @@ pub enum Look {
 /// Why a need can't be met.
 #[derive(Clone, Copy, PartialEq, Eq)]
 pub enum LookFault {
-    /// The source's rows or this grade of it are at fault.
+    /// The source's rows or this grade of it are at fault, or its list was replaced.
     Source(SourceFault),
     /// The source hasn't the object.
     Missing { object: u32 },

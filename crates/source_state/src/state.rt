@@ -111,7 +111,7 @@ fn add_entry(log: &mut Vec<LogEntry>, entry: LogEntry)
 
 impl SourceState {
     ghost use Rattle.source_state.specs.State.{facts_of};
-    ghost use Rattle.source_state.specs.Events.{after, logged, wanted, with_ask, with_rows, paged, failed, row_or, MayCome, MayPage, IsApplied, KeepsLog};
+    ghost use Rattle.source_state.specs.Events.{after, logged, wanted, with_ask, with_rows, paged, failed, moved, row_or, MayCome, MayMove, MayPage, IsApplied, KeepsLog};
 
     /// The state of the list of this number, which has `count` objects, before any event.
     pub fn open(alloc: Global, list: u32, count: u32) -> Result<SourceState, Memory>
@@ -149,6 +149,8 @@ impl SourceState {
     ///
     /// A want has a depth of the list. An ask is there already, or there is room for it. A page comes where no row fault stands
     /// and a row is missing, and its rows are no more than are missing. A grade and a miss are of an object whose ask is pending.
+    /// A move tells of two versions that differ; it has an object whose ask is pending, or it comes where no row fault stands and a
+    /// row is missing.
     ///
     /// *Cost*: a look-up or two and at most the logarithm of the asks, for each row of a page. Takes no memory.
     pub fn apply(&mut self, event: Event) -> Applied
@@ -166,6 +168,9 @@ impl SourceState {
             Event::Grade { object, grade } => self.add_grade(object, grade),
             Event::Miss { object } => self.add_settling(object, Settling::Missed),
             Event::Fail { what } => self.add_fail(what),
+            Event::Move { object, had, now } => {
+                return self.add_move(object, SourceFault::Moved { had, now });
+            }
         }
         Applied::Done
     }
@@ -249,6 +254,26 @@ impl SourceState {
         let kept = &mut *self.kept;
         kept.asks.settle(object, settling);
         add_entry(&mut kept.log, LogEntry::Settled { object, settling });
+    }
+
+    /// The list was replaced: without an object the rows are at fault, with one its ask, which is pending, is settled.
+    fn add_move(&mut self, object: Option<u32>, fault: SourceFault) -> Applied
+        requires { MayMove self.old object }
+        ensures state { self.new ≡ moved self.old object fault }
+        ensures applied { IsApplied self.old self.new result }
+        ensures grows { FactsGrow (facts_of self.old) (facts_of self.new) }
+        ensures sound { IsSound self.new }
+    {
+        match object {
+            Some(object) => {
+                self.add_settling(object, Settling::Bad(fault));
+                Applied::Done
+            }
+            None => {
+                self.add_fault(fault);
+                Applied::Broken
+            }
+        }
     }
 
     /// The rows of a page.

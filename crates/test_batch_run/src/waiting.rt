@@ -1,8 +1,8 @@
 //! A source of which one call waits until calls of another source were made.
 
 ghost use Rattle.std.specs.Prelude.{◌≡◌, ◌≤◌, vec_len, IfOk, IfErr, IfSome, OnErr, OnOk};
-ghost use Rattle.source_api.specs.Counting.{NoneFell, TroubleHasCause, GaveNothing, GaveRows, GaveGrade};
-ghost use Rattle.test_mem_source.specs.InMemory.{told_list};
+ghost use Rattle.source_api.specs.Counting.{NoneFell, TroubleHasCause, CountsAlone, MovedHasCause, GaveNothing, GaveRows, GaveGrade, gave_rows, gave_grade};
+ghost use Rattle.test_mem_source.specs.InMemory.{told_list, told_version};
 ghost use Rattle.source_api.specs.Told.{IsPage, IsGrade};
 
 use ranked_list::Row;
@@ -27,7 +27,7 @@ pub struct Gate {
     pub until: u64,
     /// How often it looks whether they were made before it gives up.
     pub patience: u64,
-    /// What it is answered by then.
+    /// How the call ends by then. No reply has come, so it isn't moved: that is a failed call.
     pub trouble: Trouble,
 }
 
@@ -83,13 +83,19 @@ fn page_of(
 ) -> Result<Vec<Row>, Trouble>
     requires { 1 ≤ count }
     ensures list { told_list rows.new ≡ told_list rows.old }
+    ensures states { told_version rows.new ≡ told_version rows.old }
+    ensures at_hand { rows.new.version ≡ rows.old.version }
+    ensures version { OnOk result (IfSome (told_version rows.old) (λ version. version ≡ rows.old.version)) }
+    ensures moved { IfErr result (MovedHasCause rows.old.version (told_version rows.old)) }
     ensures bound { IfOk result (λ page. vec_len page ≤ count) }
     ensures page { IfOk result (λ page. IfSome (told_list rows.old) (λ told. IsPage told from page.items)) }
 {
-    if let Some(trouble) = trouble {
-        return Err(trouble);
+    match trouble {
+        None => rows.page(alloc, from, count),
+        Some(Trouble::Garbled) => Err(Trouble::Garbled),
+        Some(Trouble::Memory) => Err(Trouble::Memory),
+        Some(_) => Err(Trouble::Failed),
     }
-    rows.page(alloc, from, count)
 }
 
 /// The grade of an object, unless the call has ended already.
@@ -100,12 +106,18 @@ fn grade_of(
     trouble: Option<Trouble>,
 ) -> Result<Option<u32>, Trouble>
     ensures list { told_list rows.new ≡ told_list rows.old }
+    ensures states { told_version rows.new ≡ told_version rows.old }
+    ensures at_hand { rows.new.version ≡ rows.old.version }
+    ensures version { OnOk result (IfSome (told_version rows.old) (λ version. version ≡ rows.old.version)) }
+    ensures moved { IfErr result (MovedHasCause rows.old.version (told_version rows.old)) }
     ensures grade { IfOk result (λ grade. IfSome (told_list rows.old) (λ told. IsGrade told object grade)) }
 {
-    if let Some(trouble) = trouble {
-        return Err(trouble);
+    match trouble {
+        None => rows.grade(alloc, object),
+        Some(Trouble::Garbled) => Err(Trouble::Garbled),
+        Some(Trouble::Memory) => Err(Trouble::Memory),
+        Some(_) => Err(Trouble::Failed),
     }
-    rows.grade(alloc, object)
 }
 
 /// The counts with a call for a page that ended so.
@@ -114,6 +126,8 @@ fn with_page(counts: Counts, page: &Result<Vec<Row>, Trouble>) -> Counts
     ensures cause { IfErr page.now (TroubleHasCause counts result) }
     ensures given { IfOk page.now (λ page. GaveRows (vec_len page) counts result) }
     ensures gave_nothing { OnErr page.now (GaveNothing counts result) }
+    ensures quiet { IfOk page.now (λ page. result ≡ gave_rows (vec_len page) counts) }
+    ensures alone { IfErr page.now (CountsAlone counts result) }
 {
     let mut counted = counts;
     match page {
@@ -129,6 +143,8 @@ fn with_grade(counts: Counts, grade: Result<Option<u32>, Trouble>) -> Counts
     ensures cause { IfErr grade (TroubleHasCause counts result) }
     ensures given { OnOk grade (GaveGrade counts result) }
     ensures gave_nothing { OnErr grade (GaveNothing counts result) }
+    ensures quiet { OnOk grade (result ≡ gave_grade counts) }
+    ensures alone { IfErr grade (CountsAlone counts result) }
 {
     let mut counted = counts;
     match grade {
@@ -163,12 +179,16 @@ impl<'a> Gated<'a> {
 }
 
 impl<'a> Source for Gated<'a> {
-    ghost use Rattle.test_mem_source.specs.InMemory.{told_list};
+    ghost use Rattle.test_mem_source.specs.InMemory.{told_list, told_version};
     ghost use Rattle.test_mem_source.specs.EachOnce.{told_has_each_once};
 
     ghost list = { λ s. told_list s.rows };
 
     ghost counts = { λ s. s.counts };
+
+    ghost at_hand = { λ s. s.rows.version };
+
+    ghost states = { λ s. told_version s.rows };
 
     fn size(&mut self, alloc: Global) -> Result<u64, Trouble> {
         self.rows.size(alloc)
@@ -188,6 +208,10 @@ impl<'a> Source for Gated<'a> {
         let grade = grade_of(&mut self.rows, alloc, object, trouble);
         self.counts = with_grade(self.counts, grade);
         grade
+    }
+
+    fn version(&self) -> u64 {
+        self.rows.version()
     }
 
     ghost distinct = { λ s. told_has_each_once s.rows };

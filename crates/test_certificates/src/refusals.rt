@@ -135,6 +135,14 @@ const ROWS: &[Row] = &[
     ),
     (Refusal::Failed { list: 0 }, "refused 9 Failed A\n"),
     (Refusal::Garbled { list: 1 }, "refused 9 Garbled B\n"),
+    (
+        Refusal::Moved {
+            list: 0,
+            had: 7,
+            now: 8,
+        },
+        "refused 9 Moved A 7 8\n",
+    ),
 ];
 
 /// Whether the list that a refusal names, if it names one, is a list of the query.
@@ -158,7 +166,8 @@ fn is_of_query(query: &Query, refusal: Refusal) -> bool
         | Refusal::ShortList { list, .. }
         | Refusal::AsksFull { list, .. }
         | Refusal::Failed { list }
-        | Refusal::Garbled { list } => u32::from(list) < query.names.len(),
+        | Refusal::Garbled { list }
+        | Refusal::Moved { list, .. } => u32::from(list) < query.names.len(),
         _ => true,
     }
 }

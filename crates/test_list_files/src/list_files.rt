@@ -33,7 +33,9 @@ static HEADERS: [Called; 12] = [
     (
         b"object,grade\r\n2,700\r\n3,600\r\n1,500\r\n",
         &[
+            Step::Version(0),
             Step::Size(3),
+            Step::Version(0),
             Step::Page(1, 1, Ok(&[(3, 600)])),
             Step::Grade(1, Ok(Some(500))),
         ],
@@ -194,6 +196,7 @@ const MIXED: &[Step] = &[
 const COUNTED: Counts = Counts {
     faults: 0,
     garbles: 2,
+    moves: 0,
     rows_given: 3,
     grades_given: 1,
 };

@@ -1,5 +1,6 @@
 -- What sources and shelves in memory do.
 pub mod EachOnce
+pub mod Editions
 pub mod InMemory
 pub mod OnShelf
 pub mod Shelved

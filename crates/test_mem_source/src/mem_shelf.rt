@@ -10,7 +10,7 @@ ghost use Rattle.test_mem_source.specs.OnShelf.{placed_texts, placed_sources, in
 
 use super::MemSource;
 use limits::MAX_LIST_TEXT;
-use source_api::{Ledger, Memory, Shelf, Trouble};
+use source_api::{Ledger, Memory, PlaceCounts, Shelf, Trouble};
 use std::alloc::Global;
 use std::marker::Model;
 
@@ -113,6 +113,13 @@ impl MemShelf {
         Ok(())
     }
 
+    /// What is counted at the place.
+    pub fn counts_at(&self, place: &str) -> PlaceCounts
+        ensures { result ≡ counts_at self.now.ledger place.now }
+    {
+        self.ledger.at(place)
+    }
+
     /// How many rows the sources had given that were put back at the place.
     pub fn rows_given_at(&self, place: &str) -> u64
         ensures { result ≡ (counts_at self.now.ledger place.now).sources.rows_given }
@@ -122,7 +129,7 @@ impl MemShelf {
 }
 
 impl Shelf for MemShelf {
-    ghost use Rattle.test_mem_source.specs.OnShelf.{told_at};
+    ghost use Rattle.test_mem_source.specs.OnShelf.{told_at, version_at};
     ghost use Rattle.source_api.specs.Places.{counts_at, is_known};
     ghost use Rattle.test_mem_source.specs.Shelved.{text_at};
 
@@ -131,6 +138,8 @@ impl Shelf for MemShelf {
     ghost texts = { λ s. text_at s.texts };
 
     ghost lists = { told_at };
+
+    ghost versions = { version_at };
 
     ghost at = { λ s. counts_at s.ledger };
 
@@ -176,7 +185,7 @@ impl Shelf for MemShelf {
                 let Ok(copy) = source.copy(alloc) else {
                     return Err(Trouble::Memory);
                 };
-                if self.ledger.know(alloc, place).is_err() {
+                if self.ledger.count_taken(alloc, place).is_err() {
                     drop(copy);
                     return Err(Trouble::Memory);
                 }

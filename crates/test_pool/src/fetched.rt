@@ -1,4 +1,4 @@
-//! Looks and turns of the fetcher over sources that fail, garble, lie or are short.
+//! Looks and turns of the fetcher over sources that fail, garble, lie, are short or are replaced.
 
 ghost use Rattle.std.specs.Prelude.{◌≤◌};
 
@@ -10,7 +10,7 @@ use std::sync::Wait;
 use std::test::Fail;
 use test_mem_source::MemSource;
 use test_pool_support::{Desk, Step, first_wrong};
-use test_source_support::{Held, Kind, source_of};
+use test_source_support::{Held, Kind, Move, source_of};
 
 const ROWS: &[(u32, u32)] = &[(1, 900), (2, 800), (3, 100)];
 
@@ -36,6 +36,15 @@ const FIRST: Look = Look::Row(Row {
 const SECOND: Look = Look::Row(Row {
     object: 2,
     grade: 800,
+});
+
+const MOVED: Look = Look::Fault(LookFault::Source(SourceFault::Moved { had: 0, now: 8 }));
+
+/// Another version of the list from the second call on.
+const REPLACED: Kind = Kind::Moves(Move {
+    had: 0,
+    call: 2,
+    now: 8,
 });
 
 /// One failed page isn't for ever: who waited is told once, and waits anew.
@@ -126,6 +135,32 @@ const STRANGERS: [Step; 7] = [
     Step::Look(GRADE_5, Look::Fault(LookFault::AsksFull { kept: 2 })),
 ];
 
+/// A list that was replaced before its second page: rows that were kept stay, and nothing more is fetched but grades.
+const MOVED_PAGE: [Step; 10] = [
+    Step::Look(ROW_1, Look::NotYet),
+    Step::Turn(Turned::Paged { rows: 1 }),
+    Step::Look(ROW_2, Look::NotYet),
+    Step::Turn(Turned::Moved { had: 0, now: 8 }),
+    Step::Look(ROW_2, MOVED),
+    Step::Look(ROW_1, FIRST),
+    Step::Turn(Turned::Idle),
+    Step::Look(GRADE_3, Look::NotYet),
+    Step::Turn(Turned::Moved { had: 0, now: 8 }),
+    Step::Look(GRADE_3, MOVED),
+];
+
+/// A list that was replaced before a grade of it was asked for, and then read on.
+const MOVED_GRADE: [Step; 8] = [
+    Step::Look(ROW_1, Look::NotYet),
+    Step::Turn(Turned::Paged { rows: 1 }),
+    Step::Look(GRADE_2, Look::NotYet),
+    Step::Turn(Turned::Moved { had: 0, now: 8 }),
+    Step::Look(GRADE_2, MOVED),
+    Step::Turn(Turned::Idle),
+    Step::Look(ROW_2, Look::NotYet),
+    Step::Turn(Turned::Moved { had: 0, now: 8 }),
+];
+
 /// A source, how many objects it is stated to have, and steps with what they are to answer.
 type Tried = (Held, u32, &'static [Step]);
 
@@ -140,12 +175,14 @@ macro_rules! held {
     };
 }
 
-static TRIED: [Tried; 6] = [
+static TRIED: [Tried; 8] = [
     (held!(ROWS, Kind::FailsAtPage(2)), 3, &FAILED_PAGE),
     (held!(ROWS, Kind::Lies(2, 850)), 3, &CLASH),
     (held!(ROWS, Kind::Lies(2, 950)), 3, &ABOVE),
     (held!(ROWS, Kind::GarblesAtGrade(1)), 3, &GARBLED),
     (held!(ROWS, Kind::Honest), 5, &SHORT),
+    (held!(ROWS, REPLACED), 3, &MOVED_PAGE),
+    (held!(ROWS, REPLACED), 3, &MOVED_GRADE),
     (held!(&[(1, 9), (2, 8)], Kind::Honest), 2, &STRANGERS),
 ];
 

@@ -28,12 +28,16 @@ fn rises(looks: &AtomicU64) -> bool {
 }
 
 impl<'a> Source for Slow<'a> {
-    ghost use Rattle.test_mem_source.specs.InMemory.{told_list};
+    ghost use Rattle.test_mem_source.specs.InMemory.{told_list, told_version};
     ghost use Rattle.test_mem_source.specs.EachOnce.{told_has_each_once};
 
     ghost list = { λ s. told_list s.rows };
 
     ghost counts = { λ s. s.rows.counts };
+
+    ghost at_hand = { λ s. s.rows.version };
+
+    ghost states = { λ s. told_version s.rows };
 
     fn size(&mut self, alloc: Global) -> Result<u64, Trouble> {
         self.rows.size(alloc)
@@ -48,6 +52,10 @@ impl<'a> Source for Slow<'a> {
 
     fn grade(&mut self, alloc: Global, object: u32) -> Result<Option<u32>, Trouble> {
         self.rows.grade(alloc, object)
+    }
+
+    fn version(&self) -> u64 {
+        self.rows.version()
     }
 
     ghost distinct = { λ s. told_has_each_once s.rows };

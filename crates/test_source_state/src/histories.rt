@@ -16,7 +16,7 @@ type Paged = (
 );
 
 /// Rows at fault, and grades above rows.
-static ROWS: [Paged; 9] = [
+static ROWS: [Paged; 12] = [
     // a row out of order ends the page
     (
         &[Step::Page(&[(1, 900), (2, 950), (3, 800)])],
@@ -140,6 +140,38 @@ static ROWS: [Paged; 9] = [
             bottom: 1_000_000,
         })),
     ),
+    // a list that was replaced before its second page: the rows of the first are kept
+    (
+        &[Step::Page(&[(1, 900)]), Step::Move(None, 7, 8)],
+        Applied::Broken,
+        1,
+        Some(SourceFault::Moved { had: 7, now: 8 }),
+        None,
+    ),
+    // one that was replaced before the grade of an object that the rows hold
+    (
+        &[
+            Step::Page(&[(2, 900)]),
+            Step::Ask(2),
+            Step::Move(Some(2), 7, 8),
+        ],
+        Applied::Done,
+        1,
+        None,
+        Some(Asked::Bad(SourceFault::Moved { had: 7, now: 8 })),
+    ),
+    // one that was replaced before a page, and again before the grade of an object
+    (
+        &[
+            Step::Ask(2),
+            Step::Move(None, 7, 8),
+            Step::Move(Some(2), 7, 9),
+        ],
+        Applied::Done,
+        0,
+        Some(SourceFault::Moved { had: 7, now: 8 }),
+        Some(Asked::Bad(SourceFault::Moved { had: 7, now: 9 })),
+    ),
 ];
 
 /// Whether a list is at fault by its rows as a row says, and nothing else is told of it: no ask of object 1, nothing pending, no
@@ -191,7 +223,7 @@ type Waited = (
 );
 
 /// Asks and pauses.
-static ASKS: [Waited; 6] = [
+static ASKS: [Waited; 8] = [
     (&[], 0, None, None, None, 0, false),
     // an ask ends a pause
     (
@@ -246,6 +278,38 @@ static ASKS: [Waited; 6] = [
         Some(1),
         0,
         false,
+    ),
+    // a list that was replaced before the grades of two objects
+    (
+        &[
+            Step::Ask(2),
+            Step::Ask(1),
+            Step::Move(Some(1), 7, 9),
+            Step::Move(Some(2), 7, 8),
+        ],
+        0,
+        Some(Asked::Bad(SourceFault::Moved { had: 7, now: 8 })),
+        Some(Asked::Bad(SourceFault::Moved { had: 7, now: 9 })),
+        None,
+        0,
+        false,
+    ),
+    // that it was replaced ends no pause
+    (
+        &[
+            Step::Ask(2),
+            Step::Fail(FailKind::Failed),
+            Step::Move(Some(2), 0, 18_446_744_073_709_551_615),
+        ],
+        0,
+        Some(Asked::Bad(SourceFault::Moved {
+            had: 0,
+            now: 18_446_744_073_709_551_615,
+        })),
+        None,
+        None,
+        1,
+        true,
     ),
 ];
 

@@ -10,7 +10,7 @@ use std::alloc::Global;
 type Looked = (&'static [Step], Need, &'static [Step], Need, Look);
 
 /// Looks for rows, and for grades.
-static ROWS: [Looked; 13] = [
+static ROWS: [Looked; 17] = [
     // a row that is there
     (
         &[],
@@ -125,6 +125,41 @@ static ROWS: [Looked; 13] = [
         &[],
         Need::Grade { list: 0, object: 4 },
         Look::Fault(LookFault::AsksFull { kept: 3 }),
+    ),
+    // a row that was kept before the list was replaced
+    (
+        &[],
+        Need::Row { list: 0, depth: 1 },
+        &[Step::Page(&[(1, 9)]), Step::Move(None, 7, 8)],
+        Need::Row { list: 0, depth: 1 },
+        Look::Row(Row {
+            object: 1,
+            grade: 9,
+        }),
+    ),
+    // a row that wasn't
+    (
+        &[],
+        Need::Row { list: 0, depth: 2 },
+        &[Step::Page(&[(1, 9)]), Step::Move(None, 7, 8)],
+        Need::Row { list: 0, depth: 2 },
+        Look::Fault(LookFault::Source(SourceFault::Moved { had: 7, now: 8 })),
+    ),
+    // a grade that came before the list was replaced
+    (
+        &[],
+        Need::Grade { list: 0, object: 1 },
+        &[Step::Grade(1, 5), Step::Move(None, 7, 8)],
+        Need::Grade { list: 0, object: 1 },
+        Look::Grade(5),
+    ),
+    // a grade in whose place another version came
+    (
+        &[],
+        Need::Grade { list: 0, object: 1 },
+        &[Step::Move(Some(1), 7, 8)],
+        Need::Grade { list: 0, object: 1 },
+        Look::Fault(LookFault::Source(SourceFault::Moved { had: 7, now: 8 })),
     ),
 ];
 

@@ -9,7 +9,7 @@ use std::alloc::Global;
 /// How many objects the list has, its events, page and ahead, and what is fetched next.
 type Planned = (u32, &'static [Step], u32, u32, Plan);
 
-static PLANS: [Planned; 14] = [
+static PLANS: [Planned; 16] = [
     (3, &[], 1, 0, Plan::Idle),
     (3, &[Step::Want(1)], 1, 0, Plan::Page { from: 0, count: 1 }),
     (3, &[Step::Want(1)], 2, 0, Plan::Page { from: 0, count: 2 }),
@@ -86,6 +86,21 @@ static PLANS: [Planned; 14] = [
         1,
         0,
         Plan::Idle,
+    ),
+    // of a list that was replaced no page is fetched, and the grades that are due are
+    (
+        3,
+        &[Step::Want(3), Step::Move(None, 7, 8)],
+        1,
+        0,
+        Plan::Idle,
+    ),
+    (
+        3,
+        &[Step::Want(3), Step::Move(None, 7, 8), Step::Ask(2)],
+        1,
+        0,
+        Plan::Grade { object: 2 },
     ),
 ];
 

@@ -19,6 +19,8 @@ pub enum Step {
     Miss(u32),
     /// A call failed.
     Fail(FailKind),
+    /// The list was replaced, as the reply of a page or of the grade of an object told, with the version that it had and the one now.
+    Move(Option<u32>, u64, u64),
 }
 
 /// Applies a page. None where it may not come, and without memory.
@@ -34,6 +36,35 @@ fn apply_page(alloc: Global, state: &mut SourceState, pairs: &[(u32, u32)]) -> O
         return None;
     };
     Some(state.apply(Event::Page { rows }))
+}
+
+/// Applies a move from one version to another. None where it may not come.
+fn apply_move(state: &mut SourceState, object: Option<u32>, had: u64, now: u64) -> Option<Applied> {
+    if had == now {
+        return None;
+    }
+    match object {
+        Some(object) => {
+            if state.asked(object) != Some(Asked::Pending) {
+                return None;
+            }
+            Some(state.apply(Event::Move {
+                object: Some(object),
+                had,
+                now,
+            }))
+        }
+        None => {
+            if state.row_fault().is_some() || state.rows() >= state.count() {
+                return None;
+            }
+            Some(state.apply(Event::Move {
+                object: None,
+                had,
+                now,
+            }))
+        }
+    }
 }
 
 /// Applies an event. None where it may not come, and without memory.
@@ -61,6 +92,7 @@ fn apply(alloc: Global, state: &mut SourceState, step: Step) -> Option<Applied> 
             }
         }
         Step::Fail(what) => return Some(state.apply(Event::Fail { what })),
+        Step::Move(object, had, now) => return apply_move(state, object, had, now),
     }
     None
 }

@@ -2,7 +2,7 @@
 
 use ranked_list::Row;
 use std::alloc::Global;
-use test_mem_source::{MemShelf, MemSource};
+use test_mem_source::{Later, MemShelf, MemSource};
 
 /// How a source differs from an honest one. Calls are counted from 1.
 #[derive(Clone, Copy)]
@@ -20,6 +20,18 @@ pub enum Kind {
     GarblesAtGrade(u64),
     /// Random access gives this object this grade, whatever the rows say.
     Lies(u32, u32),
+    /// It states this version.
+    IsAt(u64),
+    /// It states this version at first, and another one, of the same rows, from a call on.
+    Moves(Move),
+}
+
+/// A change from one version to another just before the call of a number, all calls counted together.
+#[derive(Clone, Copy)]
+pub struct Move {
+    pub had: u64,
+    pub call: u64,
+    pub now: u64,
 }
 
 /// A source: its place on a shelf, its rows as objects with their grades, and how it differs from an honest one.
@@ -43,8 +55,20 @@ fn rows_of(alloc: Global, pairs: &[(u32, u32)]) -> Option<Vec<Row>> {
     Some(rows)
 }
 
+/// Makes a source change its version. None without memory.
+fn change(alloc: Global, source: &mut MemSource, to: Move) -> Option<()> {
+    let rows = Vec::from_slice(alloc, source.rows()).ok()?;
+    source.stated_version = to.had;
+    let later = Later {
+        call: to.call,
+        version: to.now,
+        rows,
+    };
+    source.later.push(later).ok()
+}
+
 /// Makes an honest source differ. None without memory.
-fn bend(source: &mut MemSource, kind: Kind) -> Option<()> {
+fn bend(alloc: Global, source: &mut MemSource, kind: Kind) -> Option<()> {
     match kind {
         Kind::Honest => Some(()),
         Kind::States(count) => {
@@ -56,6 +80,11 @@ fn bend(source: &mut MemSource, kind: Kind) -> Option<()> {
         Kind::FailsAtGrade(call) => source.fail_grades.push(call).ok(),
         Kind::GarblesAtGrade(call) => source.garble_grades.push(call).ok(),
         Kind::Lies(object, grade) => source.lies.push(Row { object, grade }).ok(),
+        Kind::IsAt(version) => {
+            source.stated_version = version;
+            Some(())
+        }
+        Kind::Moves(to) => change(alloc, source, to),
     }
 }
 
@@ -63,7 +92,7 @@ fn bend(source: &mut MemSource, kind: Kind) -> Option<()> {
 pub fn source_of(alloc: Global, held: &Held) -> Option<MemSource> {
     let rows = rows_of(alloc, held.rows)?;
     let mut source = MemSource::make(alloc, &rows).ok()?;
-    match bend(&mut source, held.kind) {
+    match bend(alloc, &mut source, held.kind) {
         Some(()) => Some(source),
         None => None,
     }

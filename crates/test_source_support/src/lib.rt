@@ -4,5 +4,5 @@
 mod held;
 mod steps;
 
-pub use held::{Held, Kind, shelf_of, source_of};
+pub use held::{Held, Kind, Move, shelf_of, source_of};
 pub use steps::{Step, first_wrong};

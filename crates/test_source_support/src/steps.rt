@@ -10,6 +10,8 @@ pub enum Step {
     Size(u64),
     Page(u32, u32, Result<&'static [(u32, u32)], Trouble>),
     Grade(u32, Result<Option<u32>, Trouble>),
+    /// The version that is at hand.
+    Version(u64),
 }
 
 /// Whether the rows are these.
@@ -51,6 +53,7 @@ fn holds<S: Source>(alloc: Global, source: &mut S, step: Step) -> bool {
         Step::Size(size) => source.size(alloc) == Ok(size),
         Step::Page(from, count, rows) => gives_page(alloc, source, from, count, rows),
         Step::Grade(object, grade) => source.grade(alloc, object) == grade,
+        Step::Version(version) => source.version() == version,
     }
 }
 

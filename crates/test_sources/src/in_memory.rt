@@ -46,6 +46,7 @@ const NO_FAULTS: Faults = Faults {
 const UNCOUNTED: Counts = Counts {
     faults: 0,
     garbles: 0,
+    moves: 0,
     rows_given: 0,
     grades_given: 0,
 };

@@ -5,6 +5,8 @@
 mod in_memory;
 #[cfg(test)]
 mod shelves;
+#[cfg(test)]
+mod versions;
 
 #[cfg(test)]
 use std::process::Abort;

@@ -204,6 +204,46 @@ fn answers_each_place(rt: HostRuntime) {
     none_is_wrong(&rt, first_other(rt.alloc(), &SHELVES));
 }
 
+/// How many sources were taken of `a` and how many came back, after three of which one is put back where none was taken, and how many calls
+/// failed at `c`, which has none. None where one can't be taken.
+fn counted_takes(alloc: Global, shelf: &mut MemShelf) -> Option<[u64; 3]> {
+    let Ok(first) = shelf.take(alloc, "a") else {
+        return None;
+    };
+    shelf.put_back("a", first);
+    let Ok(second) = shelf.take(alloc, "a") else {
+        return None;
+    };
+    shelf.put_back("a", second);
+    let Ok(third) = shelf.take(alloc, "a") else {
+        return None;
+    };
+    shelf.put_back("b", third);
+    if shelf.take(alloc, "c").is_ok() {
+        return None;
+    }
+    let counts = shelf.counts_at("a");
+    let failed = shelf.counts_at("c").take_faults;
+    Some([counts.taken, counts.returned, failed])
+}
+
+/// The same over a shelf that is filled. None without memory.
+fn takes_counted(alloc: Global) -> Option<[u64; 3]> {
+    let mut shelf = MemShelf::make(alloc);
+    let counted = if is_filled(alloc, &mut shelf) {
+        counted_takes(alloc, &mut shelf)
+    } else {
+        None
+    };
+    drop(shelf);
+    counted
+}
+
+#[test]
+fn counts_what_is_taken_and_comes_back(rt: HostRuntime) {
+    assert!(rt; takes_counted(rt.alloc()) == Some([3, 2, 1]));
+}
+
 /// Reads a page of a source, puts it back at a place, and tells how many rows are counted there.
 fn count_after(
     alloc: Global,

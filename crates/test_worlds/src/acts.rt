@@ -30,6 +30,9 @@ pub enum Act {
     /// What random access of a source brings of an object.
     Grade(u32, u32),
     Fail(u32),
+    /// A source's list was replaced, as the reply of a page or of the grade of an object told, with the version that it had and the one
+    /// now.
+    Move(u32, Option<u32>, u64, u64),
 }
 
 /// Takes a step if it is lawful.
@@ -138,6 +141,12 @@ pub fn take_act(alloc: Global, world: &mut World, sources: &Sources, step: Act) 
         Act::Fail(source) => Step::Fail {
             source,
             what: FailKind::Failed,
+        },
+        Act::Move(source, object, had, now) => Step::Move {
+            source,
+            object,
+            had,
+            now,
         },
     };
     Some(take(world, step))

@@ -1,7 +1,7 @@
 //! How the queries of worlds end.
 
 use super::cases::{Case, first_wrong};
-use super::{fails, faults, grades, none_is_wrong, tables};
+use super::{fails, faults, grades, moves, none_is_wrong, tables};
 use std::alloc::Global;
 
 /// The place of the first case whose queries end otherwise, counted through all tables.
@@ -16,8 +16,8 @@ fn first_wrong_of(alloc: Global, tables: &[&[Case]]) -> Option<usize> {
     None
 }
 
-/// Queries end as they are to: over lists that are a table, after calls that fail, over lists that are no table, and by grades that don't
-/// go with the rows.
+/// Queries end as they are to: over lists that are a table, after calls that fail, over lists that are no table, by grades that don't
+/// go with the rows, and over lists that are replaced.
 #[test]
 fn ends_as_worked_out(rt: HostRuntime) {
     let tables: &[&[Case]] = &[
@@ -25,6 +25,7 @@ fn ends_as_worked_out(rt: HostRuntime) {
         &fails::CASES,
         &faults::CASES,
         &grades::CASES,
+        &moves::CASES,
     ];
     none_is_wrong(&rt, first_wrong_of(rt.alloc(), tables));
 }

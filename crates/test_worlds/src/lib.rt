@@ -14,6 +14,8 @@ mod faults;
 #[cfg(test)]
 mod grades;
 #[cfg(test)]
+mod moves;
+#[cfg(test)]
 mod orders;
 #[cfg(test)]
 mod outcomes;

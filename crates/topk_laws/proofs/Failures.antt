@@ -118,6 +118,7 @@ source_unlisted list (fault.Repeated object place) = refl
 source_unlisted list (fault.Clash object sorted random) = refl
 source_unlisted list (fault.Above object grade bottom) = refl
 source_unlisted list (fault.ShortList stated got) = refl
+source_unlisted list (fault.Moved had now) = refl
 
 many_is_other : Cause.many_queries ≡ Cause.not_opened → ⊥
 many_is_other e = cc

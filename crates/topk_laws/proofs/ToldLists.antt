@@ -2,11 +2,14 @@
 use Rattle.std.proofs.Common.{◌≡◌, ℕ, zero, suc, ◌+◌, ◌<◌, ◌≤◌, List, [], ◌∷◌, All, Contains, map, length, Option, None, Some, is_none, option_map, unwrap_or, slice_get, slice_index_or, refl, sym, ap, ◌∙◌, subst, arith}
 use Rattle.std.specs.Prelude.{Ok}
 use Rattle.std.specs.Option.{option_and_then}
+use Rattle.std.proofs.lemmas.List.Elements.{length_all_zip}
 use Rattle.std.proofs.lemmas.Option.{same_Some}
+use Rattle.tk_io.specs.Faults.{Rose}
 use Rattle.ranked_list.specs.declared.row.Row.{Row}
 use Rattle.ranked_list.specs.Table.{IsTable}
 use Rattle.topk_theory.specs.Transcript.{list_at}
 use Rattle.topk_theory.proofs.AgreementLists.{contains_here, contains_there, all_from_members, member_of_all}
+use Rattle.source_api.specs.Counting.{NoneFell}
 use Rattle.query_text.specs.declared.query.Query.{Query}
 use Rattle.query_text.specs.Reading.{Reads}
 use Rattle.query_core.specs.declared.ready.Ready.{Ready as ReadyQuery}
@@ -19,6 +22,8 @@ use Rattle.query_turns.specs.Made.{IsOf}
 use Rattle.query_turns.specs.Honest.{HasTable as HasQueryTable, IsOnItsRun}
 use Rattle.query_turns.proofs.Lists.{zip_member}
 use Rattle.batch_result.specs.Batches.{BatchState, IsBatch, BatchRun}
+use Rattle.batch_result.specs.Numbered.{counts_at}
+use Rattle.batch_result.specs.Tables.{NoneMoved}
 use Rattle.catalog_text.specs.Catalog.{Listed as Entry}
 use Rattle.catalog_open.specs.declared.opened.Opening.{Opening}
 use Rattle.catalog_open.specs.declared.opened.Opening.TheVariants.{Closed, Open}
@@ -27,19 +32,20 @@ use Rattle.catalog_open.specs.Entries.{entry_at, opening_at, entry_told}
 use Rattle.catalog_open.specs.Wanted.{IsWanted}
 use Rattle.catalog_open.specs.Openings.{Sources, IsOpening, IsSource, IsToldAs, IsNumbered}
 use Rattle.catalog_open.proofs.Marking.{places_within}
-use Rattle.catalog_open.proofs.Moving.{moves_at, puts_moves, trouble_on}
+use Rattle.catalog_open.proofs.Moving.{moved_from, moves_at, puts_at, trouble_on}
 use Rattle.query_admission.specs.declared.line_outcome.LineOutcome.{LineOutcome}
 use Rattle.catalog_run.specs.Runs.{CatalogRun, IsRun, IsReadyOf}
 use Rattle.catalog_run.specs.OpenSources.{batch_over}
 use Rattle.topk_laws.specs.Told.{told_listed, view_told, ShelfTellsTables}
 use Rattle.topk_laws.proofs.Alike.{plain, Alike, none_alike, unseen_rows}
 pub use Rattle.catalog_run.proofs.Readies.{admitted_few}
+use Rattle.catalog_run.proofs.Failing.{counted_back, rose_moves}
 use Rattle.catalog_run.proofs.Whole.{open_wanted}
 
--- where the sources of a batch tell lists that form a table for each query, each query is on the run of its algorithm over them
+-- where the sources of a batch tell lists that form a table for each query, and none was replaced, each query is on the run of its algorithm over them
 abbrev pub QueriesAreOnTheirRuns : Type 0
 QueriesAreOnTheirRuns =
-    (run : BatchRun) (batch : BatchState) → (ran : IsBatch run batch) → (lists : List (List Row)) → run.told ≡ map Some lists
+    (run : BatchRun) (batch : BatchState) → (ran : IsBatch run batch) → (lists : List (List Row)) → run.told ≡ map Some lists → NoneMoved run
     → All (HasQueryTable lists) ran.queries → All (IsOnItsRun lists) ran.queries
 
 -- what is known of lists by their names, by their places in a catalog
@@ -207,7 +213,7 @@ module _ (r : CatalogRun) (outcomes : List LineOutcome) (run : IsRun r outcomes)
           → IsOpening r.lists r.catalog run.sources (IsWanted r.catalog r.lines) r.before run.mid place o → IsToldOpen r run.openings run.sources place
       go Closed is opening =
           let text = (entry_at r.catalog place).place in
-          absurd (tells.untroubled place wanted (trouble_on (r.before text) (run.mid text) (r.after text) (opening wanted) (moves_at _ run.mid r.after text (puts_moves _ run.mid r.after run.back))))
+          absurd (tells.untroubled place wanted (trouble_on (r.before text) (run.mid text) (r.after text) (opening wanted) (puts_at _ run.mid r.after text run.back)))
       go (Open size source) is opening =
           let told = tells.told place wanted in
           let at : IsSource r.lists r.catalog run.sources place size source = opening.1 in
@@ -297,5 +303,21 @@ module _ (r : CatalogRun) (outcomes : List LineOutcome) (run : IsRun r outcomes)
       let own = member_of_all (IsReadyOf (view_over r.catalog run.openings nothing_told) r.lines) run.ran.readies m.0 run.ran.own m.1 in
       query_table m.0 q m.2 (has_lists own.at own.bytes m.0 own.line own.admitted))
 
+  -- no list was replaced while the lines ran
+  none_moved : NoneMoved (batch_over r.settings run.sources run.begun run.now run.ran.readies)
+  none_moved source l rose =
+      let there : source < length run.sources.counts = l in
+      let up : Rose (counts_at run.begun source).moves (counts_at run.now source).moves = rose in
+      let counts_long = run.opened.many_counts in
+      let now_long = sym (length_all_zip NoneFell run.begun run.now run.ran.later) ∙ run.ran.many ∙ run.opened.many_told in
+      let within : source < length run.sources.places = omega (arith, there, counts_long) in
+      let inside : source < length run.now = omega (arith, within, now_long) in
+      let place = slice_index_or run.sources.places source 0 in
+      let text = (entry_at r.catalog place).place in
+      let some : 1 ≤ (counts_at run.now source).moves = omega (arith, up) in
+      tells.unmoved place (open_wanted r.lists r.catalog (IsWanted r.catalog r.lines) r.before run.mid run.openings run.sources run.opened source within)
+      (moved_from (r.before text) (run.mid text) (r.after text) (moves_at run.opened.used r.before run.mid text run.opened.moves)
+      (rose_moves _ run.mid r.after text _ run.back (counted_back r.catalog run.sources.places run.now source within inside) some))
+
   pub on_their_runs : QueriesAreOnTheirRuns → All (IsOnItsRun lists_told) run.ran.ran.queries
-  on_their_runs law = law (batch_over r.settings run.sources run.begun run.now run.ran.readies) run.ran.batch run.ran.ran lists_told (sym are_told) tables
+  on_their_runs law = law (batch_over r.settings run.sources run.begun run.now run.ran.readies) run.ran.batch run.ran.ran lists_told (sym are_told) none_moved tables

@@ -45,6 +45,21 @@ trouble_at catalog before mid now place asked trouble = go (bytes_eq place catal
         let other : place ≢ catalog = λ e. let t : false ≡ true = decides.1 e in absurd cc in
         subst (λ counts. TroubleAt counts now) (asked.elsewhere place other) trouble
 
+-- and so is a replaced list
+moved_at : (catalog : List ℕ) (before mid : Shelf) (now : PlaceCounts) (place : List ℕ) → AsksText catalog before mid
+    → Rose (mid.at place).sources.moves now.sources.moves → Rose (before.at place).sources.moves now.sources.moves
+moved_at catalog before mid now place asked rose = go (bytes_eq place catalog) (bytes_eq-Decides place catalog)
+  where
+    go : (b : Bool) → ((b ≡ true → place ≡ catalog) × (place ≡ catalog → b ≡ true)) → Rose (before.at place).sources.moves now.sources.moves
+    go true decides =
+        let same : place ≡ catalog = decides.0 refl in
+        subst (λ p. Rose (before.at p).sources.moves now.sources.moves) (sym same)
+        (subst (λ n. Rose n now.sources.moves) (ap (λ p. p.sources.moves) asked.here.others)
+        (subst (λ p. Rose (mid.at p).sources.moves now.sources.moves) same rose))
+    go false decides =
+        let other : place ≢ catalog = λ e. let t : false ≡ true = decides.1 e in absurd cc in
+        subst (λ counts. Rose counts.sources.moves now.sources.moves) (asked.elsewhere place other) rose
+
 -- the tables that are told before the catalog's text was asked for are told after that
 tells_since : (s : Settings) (catalog : List Entry) (ls : List (List ℕ)) (place : List ℕ) (before given after : Shelf) → AsksText place before given
     → ShelfTellsTables (lines_run s catalog ls before after) → ShelfTellsTables (lines_run s catalog ls given after)
@@ -56,6 +71,7 @@ tells_since s catalog ls place before given after asked tells =
       told = moved.told;
       tables = moved.tables;
       untroubled = λ entry wanted trouble. moved.untroubled entry wanted (trouble_at place before given (after.at (entry_at catalog entry).place) (entry_at catalog entry).place asked trouble);
+      unmoved = λ entry wanted rose. moved.unmoved entry wanted (moved_at place before given (after.at (entry_at catalog entry).place) (entry_at catalog entry).place asked rose);
     }
 
 -- what lines come to where all is told

@@ -1,6 +1,7 @@
 -- What query lines come to where the sources tell tables and nothing fails.
 use Rattle.std.specs.Prelude.{◌≡◌, ◌+◌, ℕ, List, [], ◌∷◌, length, Option, Some, Ok, option_map, slice_get}
 use Rattle.std.specs.Option.{option_and_then}
+use Rattle.tk_io.specs.Faults.{Rose}
 use Rattle.ranked_list.specs.declared.row.Row.{Row}
 use Rattle.ranked_list.specs.Table.{IsTable}
 use Rattle.query_text.specs.declared.query.Query.{Query}
@@ -38,12 +39,14 @@ LineHasTable x = (query : Query) (D : List (List Row)) → NoneOf (RefusesFor x)
     → (n : ℕ) × IsTable n D
 
 -- the sources tell tables: each that the lines want tells its list, the lists of each line that nothing refuses before it runs form a
--- table, and no call that takes one of these sources, and none of a source, failed or was answered by garbled data
+-- table, no call that takes one of these sources, and none of a source, failed or was answered by garbled data, and none of their lists was replaced
 pub record ShelfTellsTables (r : CatalogRun) : Type 0 where
   pub told : (place : ℕ) → IsWanted r.catalog r.lines place → (rows : List Row) × (entry_told r.lists r.catalog place ≡ Some rows)
   pub tables : (at : ℕ) (bytes : List ℕ) → slice_get r.lines at ≡ Some bytes → LineHasTable (told_line r (at + 1) bytes)
   pub untroubled : (place : ℕ) → IsWanted r.catalog r.lines place
       → ¬ TroubleAt (r.before (entry_at r.catalog place).place) (r.after (entry_at r.catalog place).place)
+  pub unmoved : (place : ℕ) → IsWanted r.catalog r.lines place
+      → ¬ Rose (r.before (entry_at r.catalog place).place).sources.moves (r.after (entry_at r.catalog place).place).sources.moves
 
 -- each of some lines, numbered from this number on, becomes what it becomes over these lists
 abbrev pub AllBecome : View → ℕ → List (List ℕ) → List LineOutcome → Type 0

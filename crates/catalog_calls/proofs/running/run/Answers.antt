@@ -1,5 +1,6 @@
-use Rattle.std.proofs.Common.{inl, refl, arith}
+use Rattle.std.proofs.Common.{inl, refl, subst, arith}
 use Rattle.std.proofs.KnownBytes.{Keeps-refl}
+use Rattle.source_api.specs.Places.{HasTextCause}
 use Rattle.call_ends.specs.Calls.{Call, call_at}
 use Rattle.call_ends.specs.Shelves.{Shelf, GivesText}
 use Rattle.call_ends.proofs.Ending.{outside_at, shelf_at}
@@ -39,3 +40,6 @@ returns-in-Err-Failed-clause-ends g c = λ words.
       record { left = Keeps-refl (g.R.Intake.left c.args.input.now); faults = refl },
       record { held = Keeps-refl (g.K.Sink.held c.args.out.now); faults = refl },
     )
+
+pub unreachable-requires : goal.unreachable-requires
+unreachable-requires g c = subst (HasTextCause (g.H.Shelf.at c.args.shelf.now c.as_str.result.now) (g.H.Shelf.at c.text.new.self c.as_str.result.now)) c.in-Err-Moved.field-0-is c.in-Err-Moved.ensures.cause

@@ -1,3 +1,5 @@
+use Rattle.std.proofs.Common.{subst}
+use Rattle.source_api.specs.Counting.{IsNoMove}
 use Rattle.catalog_open.proofs.Moving.{put_failed, put_garbled, put_known}
 use Rattle.catalog_open.proofs.Unread.{put_unread}
 use Rattle.catalog_open.proofs.opening.ask_size.Goals as goal
@@ -8,10 +10,10 @@ returns-in-Failed g c = record {
   lists = c.put_back.ensures.lists;
   known = c.put_back.ensures.known;
   elsewhere = c.put_back.ensures.elsewhere;
-  used = put_known _ _ _ _ c.put_back.ensures.counts c.requires.knows;
   back = put_unread _ _ _ _ _ c.put_back.ensures.counts c.requires.knows c.requires.fresh c.size.ensures.given;
   unread = tt;
-  opens = put_failed _ _ _ _ _ _ c.put_back.ensures.counts c.requires.knows c.requires.fresh c.in-Err.ensures.cause c.in-Failed.is;
+  opens = (put_failed _ _ _ _ _ _ c.put_back.ensures.counts c.requires.knows c.requires.fresh c.in-Err.ensures.cause c.in-Failed.is, put_known _ _ _ _ c.put_back.ensures.counts c.requires.knows);
+  short = tt;
 }
 
 pub returns-in-Garbled : goal.returns-in-Garbled
@@ -20,10 +22,10 @@ returns-in-Garbled g c = record {
   lists = c.put_back.ensures.lists;
   known = c.put_back.ensures.known;
   elsewhere = c.put_back.ensures.elsewhere;
-  used = put_known _ _ _ _ c.put_back.ensures.counts c.requires.knows;
   back = put_unread _ _ _ _ _ c.put_back.ensures.counts c.requires.knows c.requires.fresh c.size.ensures.given;
   unread = tt;
-  opens = put_garbled _ _ _ _ _ _ c.put_back.ensures.counts c.requires.knows c.requires.fresh c.in-Err.ensures.cause c.in-Garbled.is;
+  opens = (put_garbled _ _ _ _ _ _ c.put_back.ensures.counts c.requires.knows c.requires.fresh c.in-Err.ensures.cause c.in-Garbled.is, put_known _ _ _ _ c.put_back.ensures.counts c.requires.knows);
+  short = tt;
 }
 
 pub returns-in-Memory : goal.returns-in-Memory
@@ -32,8 +34,11 @@ returns-in-Memory g c = record {
   lists = c.put_back.ensures.lists;
   known = c.put_back.ensures.known;
   elsewhere = c.put_back.ensures.elsewhere;
-  used = put_known _ _ _ _ c.put_back.ensures.counts c.requires.knows;
   back = put_unread _ _ _ _ _ c.put_back.ensures.counts c.requires.knows c.requires.fresh c.size.ensures.given;
   unread = tt;
   opens = tt;
+  short = put_known _ _ _ _ c.put_back.ensures.counts c.requires.knows;
 }
+
+pub unreachable-requires : goal.unreachable-requires
+unreachable-requires g c = subst IsNoMove c.in-Moved.is c.in-Err.ensures.unmoved

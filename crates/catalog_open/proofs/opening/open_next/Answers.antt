@@ -1,9 +1,12 @@
-use Rattle.std.proofs.Common.{◌∷◌, [], ◌++◌, length, map, ap, ◌∙◌, refl, sym, subst, arith}
+use Rattle.std.proofs.Common.{All, ◌∷◌, [], ◌++◌, length, map, ap, ◌∙◌, refl, sym, subst, arith}
 use Rattle.std.proofs.lemmas.List.{map-append}
-use Rattle.catalog_open.specs.Entries.{IsMarked}
+use Rattle.catalog_open.specs.Entries.{IsMarked, entry_at}
+use Rattle.std.proofs.lemmas.List.Elements.{All-push}
 use Rattle.catalog_open.specs.Openings.{IsToldAs}
+use Rattle.catalog_open.specs.Slots.{IsIdle, fresh_slot, of_slot}
 use Rattle.catalog_open.proofs.Opens.{both_longer, known_more, known_same, match_none, match_some, one_longer, opened_as, opened_tried, opened_not, opened_some}
 use Rattle.catalog_open.proofs.Unread.{if_some, reads_here, reads_more, reads_nothing}
+use Rattle.catalog_open.proofs.Once.{once_closed, once_open, takes_nothing}
 use Rattle.catalog_open.proofs.opening.open_next.Goals as goal
 
 pub place_of-requires : goal.place_of-requires
@@ -17,8 +20,10 @@ returns-in_default g c = record {
   many = ap length c.make_room.ensures.sources ∙ c.requires.many ∙ ap length (sym c.make_room.ensures.places);
   few = let same = ap length c.make_room.ensures.sources in let few = c.requires.few in omega (arith, same, few);
   known = λ all. known_same c.args.catalog.now (g.H.Shelf.knows c.args.shelf.now) (g.H.Shelf.knows c.args.shelf.now) c.args.opened.now.places.items c.make_room.new.opened.places.items (λ other is. is) c.make_room.ensures.places all;
-  unread = reads_nothing (g.H.Shelf.at c.args.shelf.now) _ _ (ap (map g.H.Item.Source.counts) c.make_room.ensures.sources);
-  opened = λ lists marks before same marked are. opened_as lists c.args.catalog.now (IsMarked marks) before (g.H.Shelf.at c.args.shelf.now) _ _ _ _ _ _ _ _ c.make_room.ensures.openings (ap (map g.H.Item.Source.list) c.make_room.ensures.sources) c.make_room.ensures.places c.make_room.ensures.counts are;
+  once = λ other. takes_nothing _ (g.H.Shelf.at c.args.shelf.now other) (g.H.Shelf.at c.args.shelf.now other) refl;
+  idle = λ all. subst (All IsIdle) (sym c.make_room.ensures.sources) all;
+  unread = reads_nothing (g.H.Shelf.at c.args.shelf.now) _ _ (ap (map (of_slot g.H.Item.Source.counts)) c.make_room.ensures.sources);
+  opened = λ lists marks before same marked are. opened_as lists c.args.catalog.now (IsMarked marks) before (g.H.Shelf.at c.args.shelf.now) _ _ _ _ _ _ _ _ c.make_room.ensures.openings (ap (map (of_slot g.H.Item.Source.list)) c.make_room.ensures.sources) c.make_room.ensures.places c.make_room.ensures.counts are;
 }
 
 pub returns-in_default-open_source : goal.returns-in_default-open_source
@@ -29,12 +34,14 @@ returns-in_default-open_source g c = record {
   many = ap length c.make_room.ensures.sources ∙ c.requires.many ∙ ap length (sym c.make_room.ensures.places);
   few = let same = ap length c.make_room.ensures.sources in let few = c.requires.few in omega (arith, same, few);
   known = λ all. known_same c.args.catalog.now (g.H.Shelf.knows c.args.shelf.now) (g.H.Shelf.knows c.open_source.new.shelf) c.args.opened.now.places.items c.make_room.new.opened.places.items c.open_source.ensures.known c.make_room.ensures.places all;
+  once = once_closed (entry_at c.args.catalog.now c.args.place).place c.place_of.result.now (g.H.Shelf.at c.args.shelf.now) (g.H.Shelf.at c.open_source.new.shelf) (sym c.place_of.ensures) c.open_source.ensures.elsewhere c.in_default-open_source.ensures.short;
+  idle = λ all. subst (All IsIdle) (sym c.make_room.ensures.sources) all;
   unread = reads_here c.place_of.result.now (g.H.Shelf.at c.args.shelf.now) (g.H.Shelf.at c.open_source.new.shelf) _ _ c.open_source.ensures.elsewhere c.open_source.ensures.back
-      (ap (map g.H.Item.Source.counts) c.make_room.ensures.sources);
+      (ap (map (of_slot g.H.Item.Source.counts)) c.make_room.ensures.sources);
   opened = λ lists marks before same marked are.
       let at = sym c.place_of.ensures in
-      let made = opened_as lists c.args.catalog.now (IsMarked marks) before (g.H.Shelf.at c.args.shelf.now) _ _ _ _ _ _ _ _ c.make_room.ensures.openings (ap (map g.H.Item.Source.list) c.make_room.ensures.sources) c.make_room.ensures.places c.make_room.ensures.counts are in
-      opened_tried lists c.args.catalog.now (IsMarked marks) before (g.H.Shelf.at c.args.shelf.now) (g.H.Shelf.at c.open_source.new.shelf) c.args.place c.place_of.result.now _ _ marked at c.open_source.ensures.elsewhere c.open_source.ensures.moves made;
+      let made = opened_as lists c.args.catalog.now (IsMarked marks) before (g.H.Shelf.at c.args.shelf.now) _ _ _ _ _ _ _ _ c.make_room.ensures.openings (ap (map (of_slot g.H.Item.Source.list)) c.make_room.ensures.sources) c.make_room.ensures.places c.make_room.ensures.counts are in
+      opened_tried lists c.args.catalog.now (IsMarked marks) before (g.H.Shelf.at c.args.shelf.now) (g.H.Shelf.at c.open_source.new.shelf) c.args.place c.place_of.result.now _ _ marked at c.open_source.ensures.elsewhere c.in_default-open_source.ensures.short made;
 }
 
 pub returns-in-Some : goal.returns-in-Some
@@ -45,23 +52,26 @@ returns-in-Some g c =
       texts = c.open_source.ensures.texts;
       lists = c.open_source.ensures.lists;
       next = one_longer c.args.opened.now.openings.items c.make_room.new.opened.openings.items c.put_open.new.opened.openings.items _ c.args.place c.make_room.ensures.openings c.put_open.ensures.openings c.requires.next;
-      many = both_longer c.args.sources.now.items c.make_room.new.sources.items c.put_open.new.sources.items _ c.args.opened.now.places.items c.make_room.new.opened.places.items c.put_open.new.opened.places.items _ c.make_room.ensures.sources c.put_open.ensures.sources c.make_room.ensures.places c.put_open.ensures.places c.requires.many;
+      many = both_longer c.args.slots.now.items c.make_room.new.sources.items c.put_open.new.slots.items _ c.args.opened.now.places.items c.make_room.new.opened.places.items c.put_open.new.opened.places.items _ c.make_room.ensures.sources c.put_open.ensures.sources c.make_room.ensures.places c.put_open.ensures.places c.requires.many;
       few =
-          let long = one_longer c.args.sources.now.items c.make_room.new.sources.items c.put_open.new.sources.items _ _ c.make_room.ensures.sources c.put_open.ensures.sources refl in
+          let long = one_longer c.args.slots.now.items c.make_room.new.sources.items c.put_open.new.slots.items _ _ c.make_room.ensures.sources c.put_open.ensures.sources refl in
           let few = c.requires.few in
           omega (arith, long, few);
       known = λ all. known_more c.args.catalog.now (g.H.Shelf.knows c.args.shelf.now) (g.H.Shelf.knows c.open_source.new.shelf) c.args.opened.now.places.items _ _ c.args.place c.place_of.result.now c.open_source.ensures.known c.requires.place at opens.0 c.make_room.ensures.places c.put_open.ensures.places all;
+      once = once_open (entry_at c.args.catalog.now c.args.place).place c.place_of.result.now (g.H.Shelf.at c.args.shelf.now) (g.H.Shelf.at c.open_source.new.shelf) at c.open_source.ensures.elsewhere opens.2;
+      idle = λ all. subst (All IsIdle) (sym (c.put_open.ensures.sources ∙ ap (λ xs. xs ++ fresh_slot c.in-Some.taken.source ∷ []) c.make_room.ensures.sources))
+          (All-push IsIdle c.args.slots.now.items (fresh_slot c.in-Some.taken.source) all refl);
       unread =
           let unread = if_some c.in-Ok-open_source.found _ c.in-Some.taken c.in-Ok-open_source.ensures.unread c.in-Some.is in
           reads_more c.place_of.result.now (g.H.Shelf.at c.args.shelf.now) (g.H.Shelf.at c.open_source.new.shelf) _ _ (g.H.Item.Source.counts c.in-Some.taken.source) c.open_source.ensures.elsewhere c.open_source.ensures.back unread
-          (ap (map g.H.Item.Source.counts) c.put_open.ensures.sources ∙ map-append g.H.Item.Source.counts c.make_room.new.sources.items (c.in-Some.taken.source ∷ [])
-          ∙ ap (λ xs. map g.H.Item.Source.counts xs ++ g.H.Item.Source.counts c.in-Some.taken.source ∷ []) c.make_room.ensures.sources);
+          (ap (map (of_slot g.H.Item.Source.counts)) c.put_open.ensures.sources ∙ map-append (of_slot g.H.Item.Source.counts) c.make_room.new.sources.items (fresh_slot c.in-Some.taken.source ∷ [])
+          ∙ ap (λ xs. map (of_slot g.H.Item.Source.counts) xs ++ g.H.Item.Source.counts c.in-Some.taken.source ∷ []) c.make_room.ensures.sources);
       opened = λ lists marks before same marked are.
           let told = subst (λ l. IsToldAs l (g.H.Item.Source.list c.in-Some.taken.source) c.in-Some.taken.size) (same c.place_of.result.now) opens.1 in
-          let made = opened_as lists c.args.catalog.now (IsMarked marks) before (g.H.Shelf.at c.args.shelf.now) _ _ _ _ _ _ _ _ c.make_room.ensures.openings (ap (map g.H.Item.Source.list) c.make_room.ensures.sources) c.make_room.ensures.places c.make_room.ensures.counts are in
+          let made = opened_as lists c.args.catalog.now (IsMarked marks) before (g.H.Shelf.at c.args.shelf.now) _ _ _ _ _ _ _ _ c.make_room.ensures.openings (ap (map (of_slot g.H.Item.Source.list)) c.make_room.ensures.sources) c.make_room.ensures.places c.make_room.ensures.counts are in
           opened_some lists c.args.catalog.now (IsMarked marks) before (g.H.Shelf.at c.args.shelf.now) (g.H.Shelf.at c.open_source.new.shelf) c.args.place c.in-Some.taken.size _ c.place_of.result.now _ _ _ _ (g.H.Item.Source.list c.in-Some.taken.source) _ _ _ _
-          marked c.requires.place (ap length c.make_room.ensures.openings ∙ c.requires.next) (ap length c.make_room.ensures.sources ∙ c.requires.many ∙ ap length (sym c.make_room.ensures.places)) at c.open_source.ensures.elsewhere c.open_source.ensures.moves told
-          c.put_open.ensures.openings (ap (map g.H.Item.Source.list) c.put_open.ensures.sources ∙ map-append g.H.Item.Source.list c.make_room.new.sources.items (c.in-Some.taken.source ∷ [])) c.put_open.ensures.places c.put_open.ensures.counts made;
+          marked c.requires.place (ap length c.make_room.ensures.openings ∙ c.requires.next) (ap length c.make_room.ensures.sources ∙ c.requires.many ∙ ap length (sym c.make_room.ensures.places)) at c.open_source.ensures.elsewhere opens.2 told
+          c.put_open.ensures.openings (ap (map (of_slot g.H.Item.Source.list)) c.put_open.ensures.sources ∙ map-append (of_slot g.H.Item.Source.list) c.make_room.new.sources.items (fresh_slot c.in-Some.taken.source ∷ [])) c.put_open.ensures.places c.put_open.ensures.counts made;
     }
 
 pub returns-in-None : goal.returns-in-None
@@ -72,11 +82,13 @@ returns-in-None g c = record {
   many = ap length c.make_room.ensures.sources ∙ c.requires.many ∙ ap length (sym c.make_room.ensures.places);
   few = let same = ap length c.make_room.ensures.sources in let few = c.requires.few in omega (arith, same, few);
   known = λ all. known_same c.args.catalog.now (g.H.Shelf.knows c.args.shelf.now) (g.H.Shelf.knows c.open_source.new.shelf) c.args.opened.now.places.items c.make_room.new.opened.places.items c.open_source.ensures.known c.make_room.ensures.places all;
+  once = once_closed (entry_at c.args.catalog.now c.args.place).place c.place_of.result.now (g.H.Shelf.at c.args.shelf.now) (g.H.Shelf.at c.open_source.new.shelf) (sym c.place_of.ensures) c.open_source.ensures.elsewhere (match_none c.in-Ok-open_source.found _ _ c.in-Ok-open_source.ensures.opens c.in-None.is).1;
+  idle = λ all. subst (All IsIdle) (sym c.make_room.ensures.sources) all;
   unread = reads_here c.place_of.result.now (g.H.Shelf.at c.args.shelf.now) (g.H.Shelf.at c.open_source.new.shelf) _ _ c.open_source.ensures.elsewhere c.open_source.ensures.back
-      (ap (map g.H.Item.Source.counts) c.make_room.ensures.sources);
+      (ap (map (of_slot g.H.Item.Source.counts)) c.make_room.ensures.sources);
   opened = λ lists marks before same marked are.
       let at = sym c.place_of.ensures in
-      let trouble = match_none c.in-Ok-open_source.found _ _ c.in-Ok-open_source.ensures.opens c.in-None.is in
-      let made = opened_as lists c.args.catalog.now (IsMarked marks) before (g.H.Shelf.at c.args.shelf.now) _ _ _ _ _ _ _ _ c.make_room.ensures.openings (ap (map g.H.Item.Source.list) c.make_room.ensures.sources) c.make_room.ensures.places c.make_room.ensures.counts are in
-      opened_not lists c.args.catalog.now (IsMarked marks) before (g.H.Shelf.at c.args.shelf.now) (g.H.Shelf.at c.open_source.new.shelf) c.args.place c.place_of.result.now _ _ _ marked (ap length c.make_room.ensures.openings ∙ c.requires.next) at c.open_source.ensures.elsewhere c.open_source.ensures.moves trouble c.push_reserved.ensures.items made;
+      let opens = match_none c.in-Ok-open_source.found _ _ c.in-Ok-open_source.ensures.opens c.in-None.is in
+      let made = opened_as lists c.args.catalog.now (IsMarked marks) before (g.H.Shelf.at c.args.shelf.now) _ _ _ _ _ _ _ _ c.make_room.ensures.openings (ap (map (of_slot g.H.Item.Source.list)) c.make_room.ensures.sources) c.make_room.ensures.places c.make_room.ensures.counts are in
+      opened_not lists c.args.catalog.now (IsMarked marks) before (g.H.Shelf.at c.args.shelf.now) (g.H.Shelf.at c.open_source.new.shelf) c.args.place c.place_of.result.now _ _ _ marked (ap length c.make_room.ensures.openings ∙ c.requires.next) at c.open_source.ensures.elsewhere opens.1 opens.0 c.push_reserved.ensures.items made;
 }

@@ -1,6 +1,7 @@
-use Rattle.std.proofs.Common.{◌≡◌, true, ◌∙◌}
-use Rattle.catalog_open.proofs.Moving.{take_moves, take_then}
-use Rattle.catalog_open.proofs.Opens.{asked}
+use Rattle.std.proofs.Common.{◌≡◌, true, ◌∙◌, subst}
+use Rattle.source_api.specs.Places.{HasTakeCause}
+use Rattle.catalog_open.proofs.Moving.{take_failed, take_garbled, take_moves, took_none}
+use Rattle.catalog_open.proofs.Opens.{asked, asked_short}
 use Rattle.catalog_open.proofs.Unread.{gives_then, took_nothing}
 use Rattle.catalog_open.proofs.opening.open_source.Goals as goal
 
@@ -14,11 +15,11 @@ returns-in-Ok g c =
       lists = λ other. c.ask_size.ensures.lists other ∙ c.take.ensures.lists other;
       known = λ other is. c.ask_size.ensures.known other (c.take.ensures.known other is);
       elsewhere = λ other apart. c.ask_size.ensures.elsewhere other apart ∙ c.take.ensures.elsewhere other apart;
-      moves = take_then before mid now c.take.ensures.counts c.ask_size.ensures.used;
       back = gives_then before mid now (took_nothing before mid c.take.ensures.counts) c.ask_size.ensures.back;
       unread = c.ask_size.ensures.unread;
       opens = asked c.ask_size.result (λ taken. g.H.Item.Source.list taken.source) (λ taken. taken.size) before mid now (g.H.Shelf.knows c.ask_size.new.shelf c.args.place.now ≡ true) (g.H.Shelf.lists c.args.shelf.now c.args.place.now) (g.H.Item.Source.list c.in-Ok.source)
-          (take_moves before mid c.take.ensures.counts) (c.ask_size.ensures.known c.args.place.now c.in-Ok.ensures.knows) c.in-Ok.ensures.list c.ask_size.ensures.opens;
+          (take_moves before mid c.take.ensures.counts) c.in-Ok.ensures.taken (c.ask_size.ensures.known c.args.place.now c.in-Ok.ensures.knows) c.in-Ok.ensures.list c.ask_size.ensures.opens;
+      short = asked_short c.ask_size.result before mid now c.in-Ok.ensures.taken c.ask_size.ensures.short;
     }
 
 pub returns-in-Err-Memory : goal.returns-in-Err-Memory
@@ -30,8 +31,41 @@ returns-in-Err-Memory g c =
       lists = c.take.ensures.lists;
       known = c.take.ensures.known;
       elsewhere = c.take.ensures.elsewhere;
-      moves = take_moves before mid c.take.ensures.counts;
       back = took_nothing before mid c.take.ensures.counts;
       unread = tt;
       opens = tt;
+      short = took_none before mid c.take.ensures.counts c.in-Err-Memory.ensures.untaken;
+    }
+
+pub unreachable-requires : goal.unreachable-requires
+unreachable-requires g c = subst (HasTakeCause (g.H.Shelf.at c.args.shelf.now c.args.place.now) (g.H.Shelf.at c.take.new.self c.args.place.now)) c.in-Err-Moved.field-0-is c.in-Err-Moved.ensures.cause
+
+pub returns-in-Err-Failed : goal.returns-in-Err-Failed
+returns-in-Err-Failed g c =
+    let before = g.H.Shelf.at c.args.shelf.now c.args.place.now in
+    let mid = g.H.Shelf.at c.take.new.self c.args.place.now in
+    record {
+      texts = c.take.ensures.texts;
+      lists = c.take.ensures.lists;
+      known = c.take.ensures.known;
+      elsewhere = c.take.ensures.elsewhere;
+      back = took_nothing before mid c.take.ensures.counts;
+      unread = tt;
+      opens = (take_failed before mid c.in-Err-Failed.field-0 c.in-Err-Failed.ensures.cause c.in-Err-Failed.field-0-is, took_none before mid c.take.ensures.counts c.in-Err-Failed.ensures.untaken);
+      short = tt;
+    }
+
+pub returns-in-Err-Garbled : goal.returns-in-Err-Garbled
+returns-in-Err-Garbled g c =
+    let before = g.H.Shelf.at c.args.shelf.now c.args.place.now in
+    let mid = g.H.Shelf.at c.take.new.self c.args.place.now in
+    record {
+      texts = c.take.ensures.texts;
+      lists = c.take.ensures.lists;
+      known = c.take.ensures.known;
+      elsewhere = c.take.ensures.elsewhere;
+      back = took_nothing before mid c.take.ensures.counts;
+      unread = tt;
+      opens = (take_garbled before mid c.in-Err-Garbled.field-0 c.in-Err-Garbled.ensures.cause c.in-Err-Garbled.field-0-is, took_none before mid c.take.ensures.counts c.in-Err-Garbled.ensures.untaken);
+      short = tt;
     }

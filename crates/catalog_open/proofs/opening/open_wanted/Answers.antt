@@ -1,10 +1,13 @@
-use Rattle.std.proofs.Common.{All, [], false, length, map, ap, refl, sym, subst, ◌∙◌, arith}
+use Rattle.std.proofs.Common.{◌+◌, All, [], false, length, map, ap, refl, sym, subst, ◌∙◌, arith}
 use Rattle.std.proofs.lemmas.List.{get_or_default}
 use Rattle.std.proofs.lemmas.List.Elements.{All-from_recursion}
-use Rattle.catalog_open.specs.Entries.{IsMarked}
-use Rattle.catalog_open.specs.Openings.{IsKnownAt, IsUnread}
+use Rattle.catalog_open.specs.Entries.{IsMarked, entry_at}
+use Rattle.std.specs.Prelude.{if◌then◌else◌}
+use Rattle.catalog_open.specs.Openings.{IsKnownAt, IsUnread, TakesAtMost, one_at}
+use Rattle.catalog_open.specs.Slots.{IsIdle, of_slot}
 use Rattle.catalog_open.proofs.Opens.{opened_as, opened_none}
 use Rattle.catalog_open.proofs.Unread.{gives_then, none_unread, still}
+use Rattle.catalog_open.proofs.Once.{once_all, once_more, once_none}
 use Rattle.catalog_open.proofs.opening.open_wanted.Goals as goal
 
 pub loop-place-init : goal.loop-place-init
@@ -16,9 +19,11 @@ loop-place-init g c = record {
   lists = λ place. refl;
   known = subst (All (IsKnownAt c.args.catalog.now (g.H.Shelf.knows c.args.shelf.now))) (sym c.requires.places) (All-from_recursion (IsKnownAt c.args.catalog.now (g.H.Shelf.knows c.args.shelf.now)) [] tt);
   back = λ place. still (g.H.Shelf.at c.args.shelf.now place);
-  unread = subst (All IsUnread) (sym (ap (map g.H.Item.Source.counts) c.requires.sources)) none_unread;
-  opened = opened_as (g.H.Shelf.lists c.args.shelf.now) c.args.catalog.now (IsMarked c.args.marks.now) (g.H.Shelf.at c.args.shelf.now) (g.H.Shelf.at c.args.shelf.now) [] c.args.opened.now.openings.items [] (map g.H.Item.Source.list c.args.sources.now.items) [] c.args.opened.now.places.items [] c.args.opened.now.counts.items
-      c.requires.openings (ap (map g.H.Item.Source.list) c.requires.sources) c.requires.places c.requires.counts
+  once = once_none c.args.catalog.now (g.H.Shelf.at c.args.shelf.now);
+  idle = subst (All IsIdle) (sym c.requires.sources) (All-from_recursion IsIdle [] tt);
+  unread = subst (All IsUnread) (sym (ap (map (of_slot g.H.Item.Source.counts)) c.requires.sources)) none_unread;
+  opened = opened_as (g.H.Shelf.lists c.args.shelf.now) c.args.catalog.now (IsMarked c.args.marks.now) (g.H.Shelf.at c.args.shelf.now) (g.H.Shelf.at c.args.shelf.now) [] c.args.opened.now.openings.items [] (map (of_slot g.H.Item.Source.list) c.args.slots.now.items) [] c.args.opened.now.places.items [] c.args.opened.now.counts.items
+      c.requires.openings (ap (map (of_slot g.H.Item.Source.list)) c.requires.sources) c.requires.places c.requires.counts
       (opened_none (g.H.Shelf.lists c.args.shelf.now) c.args.catalog.now (IsMarked c.args.marks.now) (g.H.Shelf.at c.args.shelf.now));
 }
 
@@ -34,6 +39,9 @@ loop-place-preserved g c =
       lists = λ place. c.visit_next.ensures.lists place ∙ inv.lists place;
       known = c.visit_next.ensures.known inv.known;
       back = λ place. gives_then _ _ _ (inv.back place) (c.visit_next.ensures.unread.back place);
+      once = once_more c.args.catalog.now c.args.marks.now c.loop-place.place (g.H.Shelf.at c.args.shelf.now) (g.H.Shelf.at c.loop-place.shelf) (g.H.Shelf.at c.visit_next.new.shelf) c.requires.marks (let marks = c.requires.marks in omega arith) c.loop-place.invariant.once
+          (λ place. subst (λ b. TakesAtMost (if b then one_at (entry_at c.args.catalog.now c.loop-place.place).place place else 0) (g.H.Shelf.at c.loop-place.shelf place) (g.H.Shelf.at c.visit_next.new.shelf place)) (sym (get_or_default c.args.marks.now c.loop-place.place false _ (let marks = c.requires.marks in omega arith))) (c.visit_next.ensures.once place));
+      idle = c.visit_next.ensures.idle inv.idle;
       unread = c.visit_next.ensures.unread.open_ones inv.unread;
       opened = c.visit_next.ensures.opened (g.H.Shelf.lists c.args.shelf.now) c.args.marks.now (g.H.Shelf.at c.args.shelf.now) inv.lists (get_or_default c.args.marks.now c.loop-place.place false _ (omega arith)) inv.opened;
     }
@@ -49,6 +57,15 @@ returns-in_err-visit_next-clause-known g c = c.visit_next.ensures.known c.loop-p
 
 pub returns-in_err-visit_next-clause-back : goal.returns-in_err-visit_next-clause-back
 returns-in_err-visit_next-clause-back g c = λ place. gives_then _ _ _ (c.loop-place.invariant.back place) (c.visit_next.ensures.unread.back place)
+
+pub returns-in_err-visit_next-clause-once : goal.returns-in_err-visit_next-clause-once
+returns-in_err-visit_next-clause-once g c =
+    once_all c.args.catalog.now c.args.marks.now (c.loop-place.place + 1) (g.H.Shelf.at c.args.shelf.now) (g.H.Shelf.at c.visit_next.new.shelf)
+    (once_more c.args.catalog.now c.args.marks.now c.loop-place.place (g.H.Shelf.at c.args.shelf.now) (g.H.Shelf.at c.loop-place.shelf) (g.H.Shelf.at c.visit_next.new.shelf) c.requires.marks (let marks = c.requires.marks in omega arith) c.loop-place.invariant.once
+    (λ place. subst (λ b. TakesAtMost (if b then one_at (entry_at c.args.catalog.now c.loop-place.place).place place else 0) (g.H.Shelf.at c.loop-place.shelf place) (g.H.Shelf.at c.visit_next.new.shelf place)) (sym (get_or_default c.args.marks.now c.loop-place.place false _ (let marks = c.requires.marks in omega arith))) (c.visit_next.ensures.once place)))
+
+pub returns-in_err-visit_next-clause-idle : goal.returns-in_err-visit_next-clause-idle
+returns-in_err-visit_next-clause-idle g c = c.visit_next.ensures.idle c.loop-place.invariant.idle
 
 pub returns-in_err-visit_next-clause-unread : goal.returns-in_err-visit_next-clause-unread
 returns-in_err-visit_next-clause-unread g c = c.visit_next.ensures.unread.open_ones c.loop-place.invariant.unread
@@ -69,6 +86,12 @@ returns-clause-known g c = c.loop-place.invariant.known
 
 pub returns-clause-back : goal.returns-clause-back
 returns-clause-back g c = c.loop-place.invariant.back
+
+pub returns-clause-once : goal.returns-clause-once
+returns-clause-once g c = once_all c.args.catalog.now c.args.marks.now c.loop-place.place (g.H.Shelf.at c.args.shelf.now) (g.H.Shelf.at c.loop-place.shelf) c.loop-place.invariant.once
+
+pub returns-clause-idle : goal.returns-clause-idle
+returns-clause-idle g c = c.loop-place.invariant.idle
 
 pub returns-clause-unread : goal.returns-clause-unread
 returns-clause-unread g c = c.loop-place.invariant.unread

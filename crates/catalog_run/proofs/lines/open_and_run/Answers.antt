@@ -2,10 +2,12 @@ use Rattle.std.proofs.Common.{◌≡◌, ◌∙◌, [], All, ap, length, map, re
 use Rattle.std.proofs.lemmas.List.{length-map}
 use Rattle.std.proofs.lemmas.List.Elements.{All-from_recursion}
 use Rattle.catalog_open.specs.Views.{view_over, nothing_told}
-use Rattle.catalog_open.specs.Wanted.{AreMarked, IsWanted}
+use Rattle.catalog_open.specs.Wanted.{AreMarked, AreRead, IsWanted}
 use Rattle.catalog_open.specs.Openings.{IsKnownAt}
+use Rattle.catalog_open.specs.Slots.{IsIdle, of_slot}
 use Rattle.catalog_open.proofs.Opens.{opened_as, opened_none}
 use Rattle.catalog_open.proofs.Unread.{still}
+use Rattle.catalog_run.specs.Runs.{TakesEachOnce}
 use Rattle.catalog_run.proofs.Running.{if_then}
 use Rattle.catalog_run.proofs.Whole.{holds_so, opened_marked, opened_told, ran_told}
 use Rattle.catalog_run.proofs.lines.open_and_run.Goals as goal
@@ -21,9 +23,32 @@ returns-in_default g c =
       lists = λ place. refl;
       known = subst (All (IsKnownAt catalog (g.H.Shelf.knows c.args.shelf.now))) (sym c.requires.places) (All-from_recursion (IsKnownAt catalog (g.H.Shelf.knows c.args.shelf.now)) [] tt);
       many = ap length c.requires.sources ∙ ap length (sym c.requires.places);
-      opened = opened_as lists catalog Wanted at at [] c.args.opened.now.openings.items [] (map g.H.Item.Source.list c.args.sources.now.items) [] c.args.opened.now.places.items [] c.args.opened.now.counts.items
-          c.requires.openings (ap (map g.H.Item.Source.list) c.requires.sources) c.requires.places c.requires.counts (opened_none lists catalog Wanted at);
+      free = subst (All IsIdle) (sym c.requires.sources) (All-from_recursion IsIdle [] tt);
+      opened = opened_as lists catalog Wanted at at [] c.args.opened.now.openings.items [] (map (of_slot g.H.Item.Source.list) c.args.slots.now.items) [] c.args.opened.now.places.items [] c.args.opened.now.counts.items
+          c.requires.openings (ap (map (of_slot g.H.Item.Source.list)) c.requires.sources) c.requires.places c.requires.counts (opened_none lists catalog Wanted at);
       all = tt;
+      once = tt;
+      idle = λ place. still (at place);
+      ran = tt;
+      writable = tt;
+    }
+
+pub returns-in_default-mark_wanted : goal.returns-in_default-mark_wanted
+returns-in_default-mark_wanted g c =
+    let catalog = c.args.catalog.now in
+    let lists = g.H.Shelf.lists c.args.shelf.now in
+    let at = g.H.Shelf.at c.args.shelf.now in
+    let Wanted = IsWanted catalog (map (λ line. line.now) c.args.lines.now) in
+    record {
+      texts = λ place. refl;
+      lists = λ place. refl;
+      known = subst (All (IsKnownAt catalog (g.H.Shelf.knows c.args.shelf.now))) (sym c.requires.places) (All-from_recursion (IsKnownAt catalog (g.H.Shelf.knows c.args.shelf.now)) [] tt);
+      many = ap length c.requires.sources ∙ ap length (sym c.requires.places);
+      free = subst (All IsIdle) (sym c.requires.sources) (All-from_recursion IsIdle [] tt);
+      opened = opened_as lists catalog Wanted at at [] c.args.opened.now.openings.items [] (map (of_slot g.H.Item.Source.list) c.args.slots.now.items) [] c.args.opened.now.places.items [] c.args.opened.now.counts.items
+          c.requires.openings (ap (map (of_slot g.H.Item.Source.list)) c.requires.sources) c.requires.places c.requires.counts (opened_none lists catalog Wanted at);
+      all = tt;
+      once = tt;
       idle = λ place. still (at place);
       ran = tt;
       writable = tt;
@@ -32,14 +57,17 @@ returns-in_default g c =
 pub returns-in-Err : goal.returns-in-Err
 returns-in-Err g c =
     let lines = map (λ line. line.now) c.args.lines.now in
-    let marked = subst (AreMarked c.args.catalog.now lines) (sym c.deref.ensures.value) c.in-Ok.ensures in
+    let read = subst (AreRead lines) (sym c.deref.ensures.value) c.in-Ok.ensures in
+    let marked = subst (AreMarked c.args.catalog.now lines) (sym c.deref-2.ensures.value) (c.in-Ok-mark_wanted.ensures lines read) in
     record {
       texts = c.open_wanted-opening.ensures.texts;
       lists = c.open_wanted-opening.ensures.lists;
       known = c.open_wanted-opening.ensures.known;
-      many = sym (length-map c.open_wanted-opening.new.sources.items g.H.Item.Source.list) ∙ c.open_wanted-opening.ensures.opened.many_told;
-      opened = opened_marked (g.H.Shelf.lists c.args.shelf.now) c.args.catalog.now lines c.deref.result.now (g.H.Shelf.at c.args.shelf.now) (g.H.Shelf.at c.open_wanted-opening.new.shelf) c.open_wanted-opening.new.opened.openings.items _ marked c.open_wanted-opening.ensures.opened;
+      many = sym (length-map c.open_wanted-opening.new.slots.items (of_slot g.H.Item.Source.list)) ∙ c.open_wanted-opening.ensures.opened.many_told;
+      free = c.open_wanted-opening.ensures.idle;
+      opened = opened_marked (g.H.Shelf.lists c.args.shelf.now) c.args.catalog.now lines c.deref-2.result.now (g.H.Shelf.at c.args.shelf.now) (g.H.Shelf.at c.open_wanted-opening.new.shelf) c.open_wanted-opening.new.opened.openings.items _ marked c.open_wanted-opening.ensures.opened;
       all = tt;
+      once = tt;
       idle = c.open_wanted-opening.ensures.back;
       ran = tt;
       writable = tt;
@@ -47,25 +75,28 @@ returns-in-Err g c =
 
 pub returns-in-Ok-opening : goal.returns-in-Ok-opening
 returns-in-Ok-opening g c =
-    let told = map g.H.Item.Source.list c.open_wanted-opening.new.sources.items in
-    let same = map g.H.Item.Source.list c.run_opened.new.sources.items in
-    let begun = map g.H.Item.Source.counts c.open_wanted-opening.new.sources.items in
-    let now = map g.H.Item.Source.counts c.run_opened.new.sources.items in
+    let told = map (of_slot g.H.Item.Source.list) c.open_wanted-opening.new.slots.items in
+    let same = map (of_slot g.H.Item.Source.list) c.run_opened.new.slots.items in
+    let begun = map (of_slot g.H.Item.Source.counts) c.open_wanted-opening.new.slots.items in
+    let now = map (of_slot g.H.Item.Source.counts) c.run_opened.new.slots.items in
     let openings = c.open_wanted-opening.new.opened.openings.items in
     let places = c.open_wanted-opening.new.opened.places.items in
     let counts = c.open_wanted-opening.new.opened.counts.items in
     let lines = map (λ line. line.now) c.args.lines.now in
-    let marked = subst (AreMarked c.args.catalog.now lines) (sym c.deref.ensures.value) c.in-Ok.ensures in
-    let are = opened_marked (g.H.Shelf.lists c.args.shelf.now) c.args.catalog.now lines c.deref.result.now (g.H.Shelf.at c.args.shelf.now) (g.H.Shelf.at c.open_wanted-opening.new.shelf) openings _ marked c.open_wanted-opening.ensures.opened in
+    let read = subst (AreRead lines) (sym c.deref.ensures.value) c.in-Ok.ensures in
+    let marked = subst (AreMarked c.args.catalog.now lines) (sym c.deref-2.ensures.value) (c.in-Ok-mark_wanted.ensures lines read) in
+    let are = opened_marked (g.H.Shelf.lists c.args.shelf.now) c.args.catalog.now lines c.deref-2.result.now (g.H.Shelf.at c.args.shelf.now) (g.H.Shelf.at c.open_wanted-opening.new.shelf) openings _ marked c.open_wanted-opening.ensures.opened in
     record {
       texts = c.open_wanted-opening.ensures.texts;
       lists = c.open_wanted-opening.ensures.lists;
       known = c.open_wanted-opening.ensures.known;
-      many = c.run_opened.ensures.many ∙ (sym (length-map c.open_wanted-opening.new.sources.items g.H.Item.Source.list) ∙ c.open_wanted-opening.ensures.opened.many_told);
+      many = sym (length-map c.run_opened.new.slots.items (of_slot g.H.Item.Source.list)) ∙ ap length c.run_opened.ensures.lists ∙ c.open_wanted-opening.ensures.opened.many_told;
+      free = c.run_opened.ensures.free;
       opened = opened_told (g.H.Shelf.lists c.args.shelf.now) c.args.catalog.now (IsWanted c.args.catalog.now lines) (g.H.Shelf.at c.args.shelf.now) (g.H.Shelf.at c.open_wanted-opening.new.shelf) openings told same places counts c.run_opened.ensures.lists are;
       all = holds_so c.run_opened.result (length openings ≡ length c.args.catalog.now) c.in-Ok-opening.ensures.all;
+      once = holds_so c.run_opened.result (TakesEachOnce c.args.catalog.now lines (g.H.Shelf.at c.args.shelf.now) (g.H.Shelf.at c.open_wanted-opening.new.shelf)) (c.deref-2.result.now, marked, c.open_wanted-opening.ensures.once);
       idle = c.open_wanted-opening.ensures.back;
-      ran = if_then c.run_opened.result _ _ c.run_opened.ensures.ran
+      ran = if_then c.run_opened.result _ _ (c.run_opened.ensures.ran lines c.in-Ok.ensures)
           (λ outcomes ran. (begun, c.open_wanted-opening.ensures.unread, ran_told c.args.settings told same places counts begun now (view_over c.args.catalog.now openings nothing_told) lines outcomes.items c.run_opened.ensures.lists ran));
       writable = c.run_opened.ensures.writable;
     }

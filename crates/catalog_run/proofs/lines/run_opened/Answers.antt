@@ -3,6 +3,7 @@ use Rattle.query_turns.specs.Made.{IsReadyFor}
 use Rattle.catalog_open.specs.Admissions.{AreAdmitted}
 use Rattle.catalog_open.specs.Views.{view_over, nothing_told}
 use Rattle.catalog_open.specs.Entries.{IsMarked}
+use Rattle.catalog_open.specs.Slots.{of_slot}
 use Rattle.catalog_run.specs.Runs.{RanOver}
 use Rattle.catalog_run.proofs.Readies.{all_ready}
 use Rattle.catalog_run.proofs.Running.{if_then}
@@ -13,24 +14,25 @@ run_admitted-requires-clause-ready g c =
     let o = c.requires.opened in
     let readies = c.in-Ok.admissions.readies.items in
     let stages = c.in-Ok.admissions.stages.items in
+    let read = c.requires.read in
     let all = subst (λ counts. All (IsReadyFor counts) readies) (sym c.deref-2.ensures.value)
     (all_ready o.0 nothing_told c.args.catalog.now (IsMarked o.1) o.2 o.3 c.args.opened.now.openings.items _ o.4 1 _ stages readies
-    (subst (λ os. AreAdmitted (view_over c.args.catalog.now os nothing_told) 1 (map (λ line. line.now) c.args.lines.now) stages readies) c.deref.ensures.value c.in-Ok.ensures)) in
+    (subst (λ os. AreAdmitted (view_over c.args.catalog.now os nothing_told) 1 read.0 stages readies) c.deref.ensures.value (c.in-Ok.ensures read.0 read.1))) in
     search rules
 
 pub returns-in_default : goal.returns-in_default
-returns-in_default g c = record { many = refl; lists = refl; ran = tt; writable = tt }
+returns-in_default g c = record { free = c.requires.free; lists = refl; ran = λ lines read. tt; writable = tt }
 
 pub returns : goal.returns
 returns g c =
     let openings = c.args.opened.now.openings.items in
-    let lines = map (λ line. line.now) c.args.lines.now in
-    let are = subst (λ os. AreAdmitted (view_over c.args.catalog.now os nothing_told) 1 (map (λ line. line.now) c.args.lines.now) c.in-Ok.admissions.stages.items c.in-Ok.admissions.readies.items) c.deref.ensures.value c.in-Ok.ensures in
     record {
-      many = c.run_admitted.ensures.many;
+      free = c.run_admitted.ensures.idle;
       lists = c.run_admitted.ensures.lists;
-      ran = if_then c.run_admitted.result _ _ c.run_admitted.ensures.ran
-          (λ outcomes ran. subst (λ cs. RanOver c.args.settings (record { told = map g.S.Source.list c.args.sources.now.items; places = c.args.opened.now.places.items; counts = cs }) (map g.S.Source.counts c.args.sources.now.items) (map g.S.Source.counts c.run_admitted.new.sources.items) (view_over c.args.catalog.now openings nothing_told) lines outcomes.items) c.deref-2.ensures.value
+      ran = λ lines read.
+          let are = subst (λ os. AreAdmitted (view_over c.args.catalog.now os nothing_told) 1 lines c.in-Ok.admissions.stages.items c.in-Ok.admissions.readies.items) c.deref.ensures.value (c.in-Ok.ensures lines read) in
+          if_then c.run_admitted.result _ _ c.run_admitted.ensures.ran
+          (λ outcomes ran. subst (λ cs. RanOver c.args.settings (record { told = map (of_slot g.S.Source.list) c.args.slots.now.items; places = c.args.opened.now.places.items; counts = cs }) (map (of_slot g.S.Source.counts) c.args.slots.now.items) (map (of_slot g.S.Source.counts) c.run_admitted.new.slots.items) (view_over c.args.catalog.now openings nothing_told) lines outcomes.items) c.deref-2.ensures.value
           (ran (view_over c.args.catalog.now openings nothing_told) lines c.args.opened.now.places.items are));
       writable = c.run_admitted.ensures.writable;
     }

@@ -21,6 +21,11 @@ returns-in-Miss c =
     subst (λ step. Steps step (world_of c.args.states.now.items c.args.queries.now.items) (world_of c.come-in-Miss.new.states.items c.args.queries.now.items)) (sym c.in-Miss.is)
     (take_event c.args.states.now.items c.come-in-Miss.new.states.items c.args.queries.now.items c.in-Miss.source (event.Miss c.in-Miss.object) c.come-in-Miss.ensures)
 
+pub returns-in-Move : goal.returns-in-Move
+returns-in-Move c =
+    subst (λ step. Steps step (world_of c.args.states.now.items c.args.queries.now.items) (world_of c.come-in-Move.new.states.items c.args.queries.now.items)) (sym c.in-Move.is)
+    (take_event c.args.states.now.items c.come-in-Move.new.states.items c.args.queries.now.items c.in-Move.source (event.Move c.in-Move.object c.in-Move.had c.in-Move.now) c.come-in-Move.ensures)
+
 pub returns-in-Turn : goal.returns-in-Turn
 returns-in-Turn c =
     subst (λ step. Steps step (world_of c.args.states.now.items c.args.queries.now.items) (world_of c.turn.new.states.items (slice_set c.args.queries.now.items c.in-Turn.query c.turn.new.query))) (sym c.in-Turn.is)

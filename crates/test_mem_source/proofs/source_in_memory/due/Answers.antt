@@ -10,9 +10,3 @@ returns-then-contains-2 c = (
   not_among c.args.fails.now c.args.call (sym c.if-contains.ensures.value),
   among c.args.garbles.now c.args.call (sym c.if-contains-2.ensures.value),
 )
-
-pub returns : goal.returns
-returns c = (
-  not_among c.args.fails.now c.args.call (sym c.if-contains.ensures.value),
-  not_among c.args.garbles.now c.args.call (sym c.if-contains-2.ensures.value),
-)

@@ -64,3 +64,12 @@ returns-in-Fail-clause-grows c = c.add_fail.ensures.grows
 
 pub returns-in-Fail-clause-sound : goal.returns-in-Fail-clause-sound
 returns-in-Fail-clause-sound c = c.add_fail.ensures.sound
+
+pub returns-in-Move-clause-state : goal.returns-in-Move-clause-state
+returns-in-Move-clause-state c = c.add_move.ensures.state ∙ ap (after c.args.self.now) (sym c.in-Move.is)
+
+pub returns-in-Move-clause-grows : goal.returns-in-Move-clause-grows
+returns-in-Move-clause-grows c = c.add_move.ensures.grows
+
+pub returns-in-Move-clause-sound : goal.returns-in-Move-clause-sound
+returns-in-Move-clause-sound c = c.add_move.ensures.sound

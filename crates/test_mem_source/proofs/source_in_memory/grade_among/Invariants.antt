@@ -1,6 +1,6 @@
 use Rattle.std.proofs.Common.{◌≡◌, drop}
 use Rattle.source_api.specs.Told.{first_grade}
-use Rattle.test_mem_source.proofs.source_in_memory.lie_about.Given as goal
+use Rattle.test_mem_source.proofs.source_in_memory.grade_among.Given as goal
 
 -- no row so far is the object's
 abbrev pub invariant-loop-row : goal.invariant-loop-row

@@ -1,0 +1,22 @@
+use Rattle.std.proofs.Common.{◌<◌, All, Contains, length, sym, subst}
+use Rattle.catalog_open.specs.Wanted.{MarksMore, Wants}
+use Rattle.catalog_open.proofs.Marking.{marks_same, marks_wanted, places_within, wants_known}
+use Rattle.catalog_open.proofs.Opens.{match_none, match_some}
+use Rattle.catalog_open.proofs.wanted.mark_query.Goals as goal
+
+pub mark_places-requires : goal.mark_places-requires
+mark_places-requires c =
+    let known = match_some c.in_ok-found.found _ _ c.in-Some.places c.in_ok-found.ensures c.in-Some.is in
+    subst (λ ps. All (λ place. place < length c.args.marks.now.items) ps) (sym c.deref.ensures.value)
+    (subst (λ n. All (λ place. place < n) c.in-Some.places.items) (sym c.requires) (places_within c.args.catalog.now c.args.query.now.names c.in-Some.places.items known))
+
+pub returns-clause-marks : goal.returns-clause-marks
+returns-clause-marks c = λ number bytes few reads.
+    let known = match_some c.in_ok-found.found _ _ c.in-Some.places c.in_ok-found.ensures c.in-Some.is in
+    marks_wanted c.args.catalog.now number bytes c.args.query.now c.in-Some.places.items c.args.marks.now.items c.mark_places.new.marks.items few reads known
+    (subst (λ ps. MarksMore (Contains ps) c.args.marks.now.items c.mark_places.new.marks.items) c.deref.ensures.value c.mark_places.ensures.marks)
+
+pub returns-in_default-clause-marks : goal.returns-in_default-clause-marks
+returns-in_default-clause-marks c = λ number bytes few reads.
+    let none = match_none c.in_ok-found.found _ _ c.in_ok-found.ensures c.in_default.is in
+    marks_same (Wants c.args.catalog.now number bytes) c.args.marks.now.items (wants_known c.args.catalog.now number bytes c.args.query.now reads none)
