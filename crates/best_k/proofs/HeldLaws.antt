@@ -10,7 +10,8 @@ use Rattle.std.proofs.lemmas.List.Kept.{AllPairs-cons}
 use Rattle.std.proofs.lemmas.Map.Made.{Contains-tail}
 use Rattle.std.proofs.lemmas.Option.{none-some, same_Some}
 use Rattle.ranked_list.specs.declared.item.Item.{Item}
-use Rattle.best_k.specs.Held.{IsRising, put_item, item_at}
+use Rattle.best_k.specs.Held.{IsRising, item_at}
+use Rattle.ranked_list.specs.Items.{put_item}
 use Rattle.topk_theory.specs.Order.{AreDistinct, in_order}
 use Rattle.topk_theory.proofs.InOrder.{AreDistinct-rest, AreDistinct-first, in_order-same}
 

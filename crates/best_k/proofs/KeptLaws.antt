@@ -13,7 +13,8 @@ use Rattle.indexed_heap.specs.Ranks.{rank_at}
 use Rattle.object_map.specs.Keys.{Keys, FitsRoom}
 use Rattle.best_k.specs.declared.rank.Rank.{Rank}
 use Rattle.best_k.specs.Rank.{item_of}
-use Rattle.best_k.specs.Held.{put_item, risen, has_object}
+use Rattle.best_k.specs.Held.{risen, has_object}
+use Rattle.ranked_list.specs.Items.{put_item}
 use Rattle.best_k.specs.Halves.{joined, IsHalved}
 use Rattle.best_k.specs.Kept.{items_in, AreRanksOf, IsBoardKept}
 use Rattle.best_k.proofs.Halving.{at_same, at_other, one}

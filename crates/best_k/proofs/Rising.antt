@@ -18,7 +18,8 @@ use Rattle.topk_theory.proofs.InOrder.{AreDistinct-rest, AreDistinct-first}
 use Rattle.topk_theory.proofs.AgreementLists.{contains_nil, contains_here, contains_there, contains_cases, all_from_members}
 use Rattle.best_k.specs.declared.rank.Rank.{Rank}
 use Rattle.best_k.specs.Rank.{item_of}
-use Rattle.best_k.specs.Held.{IsRising, put_item, risen, item_at}
+use Rattle.best_k.specs.Held.{IsRising, risen, item_at}
+use Rattle.ranked_list.specs.Items.{put_item}
 use Rattle.best_k.specs.Kept.{items_in}
 use Rattle.best_k.proofs.HeldLaws.{item_at-put_item, put_item-rises}
 use Rattle.best_k.proofs.Halving.{one}

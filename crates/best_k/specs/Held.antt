@@ -1,8 +1,8 @@
 -- What a board holds: for each object the item that was put last.
 use Rattle.std.specs.Prelude.{◌==◌, ◌<◌, ℕ, Bool, Option, List, [], ◌∷◌, AllPairs, find}
 use Rattle.std.specs.List.{list_any}
-use Rattle.std.specs.Ordering.{nat_cmp, match_ordering}
 use Rattle.ranked_list.specs.declared.item.Item.{Item}
+use Rattle.ranked_list.specs.Items.{put_item}
 
 -- how many are wanted, how many objects there is room for, and the items held, one for each object, by rising id
 pub record Held : Type 0 where
@@ -17,12 +17,6 @@ item_with object low high = record { object = object; low = low; high = high }
 -- the ids of the items rise, as they do on a board
 abbrev pub IsRising : List Item → Type 0
 IsRising items = AllPairs (λ (a : Item) (b : Item). a.object < b.object) items
-
--- the items with this one: in place of its object's where the object has one, else added at its id
-abbrev pub put_item : Item → List Item → List Item
-put_item item [] = item ∷ []
-put_item item (held ∷ others) =
-    match_ordering (nat_cmp item.object held.object) (item ∷ held ∷ others) (item ∷ others) (held ∷ put_item item others)
 
 -- the items by rising id
 abbrev pub risen : List Item → List Item

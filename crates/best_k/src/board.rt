@@ -5,7 +5,8 @@ ghost use Rattle.std.specs.List.{list_any};
 ghost use Rattle.ranked_list.specs.declared.item.Item.{Item};
 ghost use Rattle.object_map.specs.Keys.{FitsRoom};
 ghost use Rattle.topk_theory.specs.Order.{first_k, kth_low, IsFirstK, IsKthLargest, lows};
-ghost use Rattle.best_k.specs.Held.{item_with, put_item, has_object};
+ghost use Rattle.best_k.specs.Held.{item_with, has_object};
+ghost use Rattle.ranked_list.specs.Items.{put_item};
 ghost use Rattle.best_k.specs.Kept.{items_in};
 
 use super::Memory;

@@ -62,6 +62,12 @@ pub const MAX_PAGE: u64 = 10_000;
 /// The most pages that are read ahead. The least is 0.
 pub const MAX_AHEAD: u64 = 100;
 
+/// The most connections that one call serves. The least is 1.
+pub const MAX_CONNS: u64 = 1_000_000;
+
+/// The greatest version that a node may be told. The least is 0.
+pub const MAX_VERSION: u64 = 0x7fff_ffff_ffff_ffff;
+
 /// The most bytes of the head of an HTTP message, and of the trailer lines behind a body in chunks.
 pub const MAX_HEAD: u32 = 16_384;
 

@@ -6,7 +6,7 @@ use Rattle.std.proofs.lemmas.Bool.{cases_order, lt-ltb, le-ltb, eq-eqb, ne_eqb}
 use Rattle.std.proofs.lemmas.List.Kept.{AllPairs-cons}
 use Rattle.ranked_list.specs.declared.item.Item.{Item}
 use Rattle.topk_theory.specs.Order.{AreDistinct}
-use Rattle.best_k.specs.Held.{put_item}
+use Rattle.ranked_list.specs.Items.{put_item}
 use Rattle.topk_theory.proofs.AgreementLists.{contains_nil, contains_here, contains_there, contains_cases, all_from_members}
 use Rattle.topk_theory.proofs.InOrder.{AreDistinct-rest}
 

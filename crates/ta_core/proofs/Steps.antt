@@ -3,7 +3,7 @@ use Rattle.std.proofs.Common.{◌≡◌, ◌≢◌, ℕ, zero, suc, ◌+◌, ◌
 use Rattle.std.proofs.lemmas.Bool.{cases_Bool, cases_eq, lt-ltb, le-ltb, ne_eqb, and_right}
 use Rattle.ranked_list.specs.declared.row.Row.{Row}
 use Rattle.ranked_list.specs.declared.item.Item.{Item}
-use Rattle.best_k.specs.Held.{put_item}
+use Rattle.ranked_list.specs.Items.{put_item}
 use Rattle.topk_theory.specs.declared.access.Access.{Access}
 use Rattle.monotone_fn.specs.Value.{IsMonotone}
 use Rattle.topk_theory.specs.Aggregate.{aggregate}

@@ -5,7 +5,7 @@ use Rattle.ranked_list.specs.declared.item.Item.{Item}
 use Rattle.ranked_list.specs.declared.need.Need.{Need}
 use Rattle.ranked_list.specs.declared.need.Need.TheVariants.{Row as RowAt, Grade, Done}
 use Rattle.topk_theory.specs.Order.{lows}
-use Rattle.best_k.specs.Held.{put_item}
+use Rattle.ranked_list.specs.Items.{put_item}
 use Rattle.machine_base.specs.Board.{with_new}
 use Rattle.ta_core.specs.Halting.{Halt}
 

@@ -1,7 +1,8 @@
 use Rattle.std.proofs.Common.{◌∙◌, ℕ, length, refl, sym, ap, subst, arith}
 use Rattle.best_k.specs.declared.rank.Rank.{Rank}
 use Rattle.best_k.specs.Rank.{item_of}
-use Rattle.best_k.specs.Held.{Held, put_item, has_object}
+use Rattle.best_k.specs.Held.{Held, has_object}
+use Rattle.ranked_list.specs.Items.{put_item}
 use Rattle.best_k.specs.Halves.{IsHalved}
 use Rattle.best_k.specs.Kept.{IsBoardKept}
 use Rattle.best_k.proofs.KeptLaws.{unplaced, places_counted, place_within, items_put, kept_put}

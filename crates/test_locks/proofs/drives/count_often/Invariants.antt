@@ -1,5 +1,5 @@
 use Rattle.std.proofs.Common.{◌≡◌}
-use Rattle.test_keyed_lock.proofs.drives.count_often.Given as goal
+use Rattle.test_locks.proofs.drives.count_often.Given as goal
 
 abbrev pub invariant-loop : goal.invariant-loop
 invariant-loop g l = l.pass ≡ l.initial.pass
