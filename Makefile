@@ -46,9 +46,11 @@ test:
 	cd crates/topk_c && rt lib
 	python3 tests/run.py
 
-# Queries over made tables, each algorithm and size: some minutes, and no other work beside it.
+# Queries over made tables, each algorithm and size, and how long a page over HTTP takes to be read: some minutes, and no other work beside it.
 bench: topk
 	bench/bench.py
+	cd crates/bench_http && rt run < stdin
+	bench/http.py
 
 # `bulk` with one worker and with more writes the same bytes, over and over, and how long it takes: some minutes.
 threads: topk
