@@ -1,0 +1,4 @@
+pub mod Course
+pub mod OnTable
+pub mod Kept
+pub mod Machine

@@ -1,0 +1,2 @@
+-- Fagin's algorithm, the one before the threshold algorithm.
+pub mod Fagin
