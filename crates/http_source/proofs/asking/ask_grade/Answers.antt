@@ -1,0 +1,40 @@
+use Rattle.std.proofs.Common.{List, ℕ, Option, subst}
+use Rattle.std.specs.Global.{Vec}
+use Rattle.page_json.specs.Bodies.{IsGradeBody}
+use Rattle.http_source.specs.Requests.{grade_tail}
+use Rattle.http_source.specs.Answers.{GradeBy}
+use Rattle.http_source.proofs.SaidLaws.{grade_said_by, grade_refused, grade_moved, unmoved_cause}
+use Rattle.http_source.proofs.LinkLaws.{link_used, stays_calm, link_handed, fails_handed, unanswered_handed}
+use Rattle.http_source.proofs.asking.ask_grade.Goals as goal
+
+pub returns-in-Ok-clause-answers : goal.returns-in-Ok-clause-answers
+returns-in-Ok-clause-answers g c =
+    grade_said_by c.replies_say_one_thing.ensures.body _ c.in-Ok.body.items c.args.at_hand c.grade_said.result c.in-Ok.ensures.answers
+    (subst (λ (b : List ℕ). GradeBy (IsGradeBody b) c.args.at_hand c.grade_said.result) c.deref.ensures.value c.grade_said.ensures.says)
+
+pub returns-in-Ok-clause-unlinked : goal.returns-in-Ok-clause-unlinked
+returns-in-Ok-clause-unlinked g c = λ none. absurd (c.in-Ok.ensures.unlinked none)
+
+pub returns-in-Ok-clause-moved : goal.returns-in-Ok-clause-moved
+returns-in-Ok-clause-moved g c = grade_moved (IsGradeBody c.deref.result.now) c.args.at_hand c.grade_said.result c.grade_said.ensures.says
+
+pub returns-in-Ok-clause-cause : goal.returns-in-Ok-clause-cause
+returns-in-Ok-clause-cause g c = stays_calm _ _ c.grade_said.result c.in-Ok.ensures.cause c.grade_said.ensures.calm
+
+pub returns-in-Ok-clause-link : goal.returns-in-Ok-clause-link
+returns-in-Ok-clause-link g c = link_used _ _ _ _ _ c.grade_said.result (c.in-Ok.ensures.link (grade_tail c.args.object) c.grade_tail.ensures) c.grade_said.ensures.calm
+
+pub returns-in-Err-clause-answers : goal.returns-in-Err-clause-answers
+returns-in-Err-clause-answers g c = grade_refused _ c.args.at_hand c.in-Err.trouble c.in-Err.ensures.answers
+
+pub returns-in-Err-clause-unlinked : goal.returns-in-Err-clause-unlinked
+returns-in-Err-clause-unlinked g c = λ none. unanswered_handed (Vec ℕ) (Option ℕ) c.in-Err.trouble (c.in-Err.ensures.unlinked none)
+
+pub returns-in-Err-clause-moved : goal.returns-in-Err-clause-moved
+returns-in-Err-clause-moved g c = unmoved_cause c.args.at_hand c.in-Err.trouble c.in-Err.ensures.unmoved
+
+pub returns-in-Err-clause-cause : goal.returns-in-Err-clause-cause
+returns-in-Err-clause-cause g c = fails_handed (Vec ℕ) (Option ℕ) _ _ c.in-Err.trouble c.in-Err.ensures.cause
+
+pub returns-in-Err-clause-link : goal.returns-in-Err-clause-link
+returns-in-Err-clause-link g c = link_handed (Vec ℕ) (Option ℕ) _ _ _ _ _ c.in-Err.trouble (c.in-Err.ensures.link (grade_tail c.args.object) c.grade_tail.ensures)
