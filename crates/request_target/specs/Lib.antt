@@ -1,0 +1,3 @@
+-- What targets and query parts say.
+pub mod Targets
+pub mod Queries

@@ -1,0 +1,125 @@
+-- How a connection of a node ends.
+use Rattle.std.specs.Prelude.{◌≡◌, ℕ, Bool, true, false, ◌⊎◌, List, codes, Option, Some, None, IfSome, Result, Ok, Err, IsOk, ⊤}
+use Rattle.std.specs.Option.{unwrap_or}
+use Rattle.std.specs.Str.{bytes_eq}
+use Rattle.std.specs.Io.KnownBytes.{Appends}
+use Rattle.tk_io.specs.Faults.{Rose}
+use Rattle.tk_io.specs.Whole.{TookFront}
+use Rattle.wire.specs.Heads.{AnswersRequest}
+use Rattle.wire.specs.Writing.{reply_text}
+use Rattle.wire.specs.declared.fault.WireFault.{WireFault}
+use Rattle.wire.specs.declared.fault.WireFault.TheVariants.{LinkFault as Link, BadMessage, TooLong, Memory as Want}
+use Rattle.wire.specs.declared.request.Head.{Head}
+use Rattle.wire.specs.declared.writing.Kind.TheVariants.{Text, Json}
+use Rattle.source_api.specs.declared.counts.Counts.{Counts}
+use Rattle.source_node.specs.Refusals.{status_of, body_of}
+use Rattle.source_node.specs.Asking.{routed, asked_of, HasCount}
+use Rattle.source_node.specs.Serving.{Seen, Answers, IsQuiet, text_of}
+use Rattle.source_node.specs.declared.asked.Asked.{Asked}
+use Rattle.source_node.specs.declared.answer.Answer.{Answer}
+use Rattle.source_node.specs.declared.node.ConnEnd.{ConnEnd}
+use Rattle.source_node.specs.declared.node.ConnEnd.TheVariants.{Replied, LinkFault, Memory}
+use Rattle.source_node.specs.declared.refusal.Refusal.{Refusal}
+use Rattle.source_node.specs.declared.refusal.Refusal.TheVariants.{TooLarge, BadRequest, NotFound, MethodNotAllowed, SourceFailed, NoMemory}
+
+-- what stands before and after a connection: the bytes that the link had to give and those that it took, where it tells them, its
+-- counts of faults, and the source
+pub record Visit : Type 0 where
+  pub came : Option (List ℕ)
+  pub held : Option (List ℕ)
+  pub held_now : Option (List ℕ)
+  pub read_faults : ℕ
+  pub read_faults_now : ℕ
+  pub write_faults : ℕ
+  pub write_faults_now : ℕ
+  pub source : Seen
+  pub source_now : Seen
+
+-- an answer in JSON at the version that is told or else at hand, which states what the source answered
+pub record IsAnswered (version : Option ℕ) (asked : Asked) (before now : Seen) (body : List ℕ) : Type 0 where
+  pub answer : Answer
+  pub answers : Answers asked before now answer
+  pub text : body ≡ text_of (unwrap_or version now.at_hand) answer
+
+-- a count of failed calls, of garbled ones or of moves rose
+abbrev pub IsTroubled : Counts → Counts → Type 0
+IsTroubled before now = Rose before.faults now.faults ⊎ (Rose before.garbles now.garbles ⊎ Rose before.moves now.moves)
+
+-- what is asked is answered, or a count of the source rose, or no memory was left
+abbrev pub Serving : Option ℕ → Asked → Seen → Seen → Result (List ℕ) Refusal → Type 0
+Serving version asked before now (Ok body) = IsAnswered version asked before now body
+Serving version asked before now (Err SourceFailed) = IsTroubled before.counts now.counts
+Serving version asked before now (Err NoMemory) = IsQuiet before.counts now.counts
+Serving version asked before now (Err _) = ⊥
+
+-- a head is served as it asks; the source isn't asked where the head is refused
+abbrev pub ServesAsked : Option ℕ → Result Asked Refusal → Seen → Seen → Result (List ℕ) Refusal → Type 0
+ServesAsked version (Ok asked) before now answer = HasCount asked × Serving version asked before now answer
+ServesAsked version (Err why) before now answer = (answer ≡ Err why) × (now ≡ before)
+
+-- how a request with this method and this target is served; want of memory is free where it is on a route
+abbrev pub Serves : List ℕ → Option ℕ → List ℕ → List ℕ → Seen → Seen → Result (List ℕ) Refusal → Type 0
+Serves name version method target before now (Err NoMemory) = IsOk (routed name method target) × IsQuiet before.counts now.counts
+Serves name version method target before now answer = ServesAsked version (asked_of name method target) before now answer
+
+-- how what was heard is served: a head, or bytes that are none or pass a limit
+abbrev pub ServesHeard : List ℕ → Option ℕ → Result Head WireFault → Seen → Seen → Result (List ℕ) Refusal → Type 0
+ServesHeard name version (Ok head) before now answer = Serves name version head.method.items head.target.items before now answer
+ServesHeard name version (Err BadMessage) before now answer = (answer ≡ Err BadRequest) × (now ≡ before)
+ServesHeard name version (Err (TooLong limit)) before now answer = (answer ≡ Err TooLarge) × (now ≡ before)
+ServesHeard name version (Err _) before now answer = ⊥
+
+-- whether the method is HEAD; where no head was read it isn't
+abbrev pub asks_head : Result Head WireFault → Bool
+asks_head (Ok head) = bytes_eq head.method.items (codes "HEAD")
+asks_head (Err why) = false
+
+-- the status of an answer
+abbrev pub status_in : Result (List ℕ) Refusal → ℕ
+status_in (Ok body) = 200
+status_in (Err why) = status_of why
+
+-- the reply: the answer in JSON, or the reason of a refusal in plain text, which has no body in a reply to HEAD
+abbrev pub reply_of : Bool → Result (List ℕ) Refusal → List ℕ
+reply_of is_head (Ok body) = reply_text 200 Json (Some body)
+reply_of is_head (Err why) = reply_text (status_of why) Text (body_of is_head why)
+
+-- a request was read to the end of its head, or as far as it was none, and served
+pub record IsServed (name : List ℕ) (version : Option ℕ) (visit : Visit) : Type 0 where
+  pub heard : Result Head WireFault
+  pub answer : Result (List ℕ) Refusal
+  pub reads : IfSome visit.came (λ bytes. AnswersRequest bytes heard)
+  pub quiet : visit.read_faults_now ≡ visit.read_faults
+  pub serves : ServesHeard name version heard visit.source visit.source_now answer
+
+-- a reply is written whole, with its status, or a front of it and the link failed
+abbrev pub Sends : Option (List ℕ) → Option (List ℕ) → ℕ → ℕ → ℕ → List ℕ → ConnEnd → Type 0
+Sends held held_now faults faults_now status text (Replied said) = (said ≡ status) × Appends held held_now text × (faults_now ≡ faults)
+Sends held held_now faults faults_now status text LinkFault = TookFront held held_now text × Rose faults faults_now
+Sends held held_now faults faults_now status text Memory = ⊥
+
+-- nothing was written, and the source wasn't asked
+pub record IsUntouched (visit : Visit) : Type 0 where
+  pub held : visit.held_now ≡ visit.held
+  pub writes : visit.write_faults_now ≡ visit.write_faults
+  pub source : visit.source_now ≡ visit.source
+
+-- the reply to a request that was served
+abbrev pub SendsReply : (name : List ℕ) (version : Option ℕ) (visit : Visit) → IsServed name version visit → ConnEnd → Type 0
+SendsReply name version visit served end =
+    Sends visit.held visit.held_now visit.write_faults visit.write_faults_now (status_in served.answer) (reply_of (asks_head served.heard) served.answer) end
+
+-- how a connection ends: a request was served, and its reply written or a front of it; or the link failed, or no memory was left,
+-- while it was read
+abbrev pub Ends : List ℕ → Option ℕ → Visit → ConnEnd → Type 0
+Ends name version visit (Replied status) = (served : IsServed name version visit) × SendsReply name version visit served (Replied status)
+Ends name version visit LinkFault =
+    (Rose visit.read_faults visit.read_faults_now × IsUntouched visit)
+    ⊎ ((served : IsServed name version visit) × SendsReply name version visit served LinkFault)
+Ends name version visit Memory = (visit.read_faults_now ≡ visit.read_faults) × IsUntouched visit
+
+-- a head was served and its reply written, or a front of it
+abbrev pub IsRepliedTo : List ℕ → Option ℕ → List ℕ → List ℕ → Seen → Seen → Option (List ℕ) → Option (List ℕ) → ℕ → ℕ → ConnEnd → Type 0
+IsRepliedTo name version method target before now held held_now faults faults_now end =
+    (answer : Result (List ℕ) Refusal) × Serves name version method target before now answer
+    × Sends held held_now faults faults_now (status_in answer) (reply_of (bytes_eq method (codes "HEAD")) answer) end

@@ -1,0 +1,18 @@
+-- The statuses of refusals, and the bodies of their replies.
+use Rattle.std.specs.Prelude.{ℕ, Bool, List, [], ◌∷◌, ◌++◌, if◌then◌else◌, Option, Some, None}
+use Rattle.wire.specs.Writing.{reason_of}
+use Rattle.source_node.specs.declared.refusal.Refusal.{Refusal}
+use Rattle.source_node.specs.declared.refusal.Refusal.TheVariants.{TooLarge, BadRequest, NotFound, MethodNotAllowed, SourceFailed, NoMemory}
+
+-- the status of a refusal
+abbrev pub status_of : Refusal → ℕ
+status_of TooLarge = 431
+status_of BadRequest = 400
+status_of NotFound = 404
+status_of MethodNotAllowed = 405
+status_of SourceFailed = 500
+status_of NoMemory = 503
+
+-- the body of a refusal: the reason and LF, and none in a reply to the method HEAD
+abbrev pub body_of : Bool → Refusal → Option (List ℕ)
+body_of is_head why = if is_head then None else Some (reason_of (status_of why) ++ 10 ∷ [])

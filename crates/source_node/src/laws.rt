@@ -1,0 +1,30 @@
+//! What is read of a node's answers: the reply by `wire`, and its body by `page_json`.
+
+ghost use Rattle.std.specs.Prelude.{◌<◌, ◌≤◌, ◌^◌, false, ℕ, List, Result, Ok, length};
+ghost use Rattle.limits.specs.declared.TheConstants.{MAX_BODY};
+ghost use Rattle.wire.specs.Responses.{AnswersResponse};
+ghost use Rattle.wire.specs.declared.fault.WireFault.{WireFault};
+ghost use Rattle.wire.specs.declared.response.Reply.{Reply};
+ghost use Rattle.source_node.specs.Connections.{reply_of};
+ghost use Rattle.source_node.specs.ReadingBack.{ReadsBack, IsSmall, Says};
+ghost use Rattle.source_node.specs.Serving.{text_of};
+ghost use Rattle.source_node.specs.declared.answer.Answer.{Answer};
+
+use page_json::{bodies_are_short, grades_read_back, pages_read_back, sizes_read_back};
+
+/// The reply with an answer is read as a response of status 200 with this body, whatever the body is.
+pub fn an_answer_is_read()
+    ensures { (text : List ℕ) (result : Result Reply WireFault) → length text ≤ MAX_BODY
+        → AnswersResponse (reply_of false (Ok text)) result → ReadsBack text result }
+{}
+
+/// The body of an answer says it, at its version, and is no longer than a body may be.
+pub fn a_body_says_its_answer()
+    ensures says { (version : ℕ) (answer : Answer) → version < 2 ^ 64 → IsSmall answer → Says version answer (text_of version answer) }
+    ensures short { (version : ℕ) (answer : Answer) → version < 2 ^ 64 → IsSmall answer → length (text_of version answer) ≤ MAX_BODY }
+{
+    sizes_read_back();
+    pages_read_back();
+    grades_read_back();
+    bodies_are_short();
+}
