@@ -1,6 +1,7 @@
 # topk: `make try` answers the query of a bundle without proving anything, `make run` proves the program first, `make test` passes all
-# proofs and tests and runs the program as users do, `make bench` tells how long queries take, `make threads` that workers change no
-# answer, and `make install PREFIX=..` puts the program, its manual page and the completions of shells where they belong.
+# proofs and tests and runs the program as users do, `make fail-alloc` refuses it each allocation in turn, `make bench` tells how long
+# queries take, `make threads` that workers change no answer, and `make install PREFIX=..` puts the program, its manual page and the
+# completions of shells where they belong.
 
 HOTELS = crates/topk/data
 
@@ -10,7 +11,7 @@ PROGRAM = ./topk
 BIN = $(DESTDIR)$(PREFIX)/bin
 SHARE = $(DESTDIR)$(PREFIX)/share
 
-.PHONY: topk try try-run run lib test bench threads install uninstall
+.PHONY: topk try try-run run lib test fail-alloc bench threads install uninstall
 
 # The proved program, at ./topk. `rt run` proves it, builds it and runs it once.
 topk:
@@ -45,6 +46,10 @@ test:
 	rt ci
 	cd crates/topk_c && rt lib
 	python3 tests/run.py
+
+# Each allocation of an answer, a run, a certificate's reading and a counter table refused in turn, which `make test` does too.
+fail-alloc: topk
+	python3 tests/run.py --program ./topk starved_one starved_run starved_judge starved_counter_table
 
 # Queries over made tables, each algorithm and size, and how long a page over HTTP takes to be read: some minutes, and no other work beside it.
 bench: topk

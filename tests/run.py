@@ -6,8 +6,8 @@ Use, from anywhere: python3 tests/run.py [--program PATH] [NAME ..]
 Without names all tests run. Each folder of cases/ is one: `words` (a word a line), `input` (standard input, empty where there is none), `files/`
 (copied to where the program runs), `output` (what it has to write) and `status` (0 where there is none). Tests that need more than a folder, as
 inputs of 128 MB or a full device, stand in special.py, those of the completions for shells in completions.py, of the library beside the program in
-library.py, of the page that draws certificates in view.py. What a machine lacks is skipped by name. Ends with 'N passed, M failed', and with the
-status 0 exactly where none failed. Standard library alone.
+library.py, of the page that draws certificates in view.py, and those in which each allocation is refused in turn in starving.py. What a machine lacks
+is skipped by name. Ends with 'N passed, M failed', and with the status 0 exactly where none failed. Standard library alone.
 """
 import argparse
 import os
@@ -20,6 +20,7 @@ import tempfile
 import completions
 import library
 import special
+import starving
 import view
 
 HERE = pathlib.Path(__file__).resolve().parent
@@ -52,7 +53,7 @@ def tests(program):
     """Names with what runs the test: it answers what is wrong, or None, or raises Skipped."""
     for folder in sorted((HERE / "cases").iterdir()):
         yield folder.name, lambda folder=folder: run_case(program, folder)
-    for module in (special, completions, library, view):
+    for module in (special, completions, library, view, starving):
         for name, test in module.tests():
             yield name, lambda test=test: test(program)
 

@@ -10,7 +10,7 @@ use Rattle.topk_theory.specs.Transcript.{list_at}
 use Rattle.topk_theory.proofs.AgreementLists.{begins_splits, contains_at, contains_cases, contains_here, contains_map, contains_nil, contains_there, member_of_all}
 use Rattle.access_log.specs.Log.{AgreesWith}
 use Rattle.machine_base.specs.Machine.{asked_of}
-use Rattle.source_log.specs.Log.{rows_in}
+use Rattle.source_log.specs.Log.{rows_in, fault_in}
 use Rattle.source_state.specs.State.{State, state_at}
 use Rattle.source_state.specs.Looking.{reach_of}
 use Rattle.query_core.specs.declared.ready.Ready.{Ready}
@@ -29,11 +29,12 @@ use Rattle.query_run.specs.Asking.{access_of, accesses_asked, grades_asked}
 use Rattle.fetcher.specs.Causes.{HasGiven}
 use Rattle.batch_result.specs.Account.{Reading, IsAnsweredOf, IsWithin, KeepsEach, deepest, depth_in, one_reading, one_readings, printed_reading, printed_readings, random_accesses, random_in}
 use Rattle.batch_result.specs.Batches.{BatchRun, BatchState, IsBatch, size_at, use_at}
-use Rattle.batch_result.specs.Tables.{NoneMoved, lists_for}
+use Rattle.batch_result.specs.Tables.{lists_for}
 use Rattle.batch_result.specs.Using.{IsWantedBy, all_grades_asked}
 use Rattle.batch_result.proofs.AskedLaws.{AsksWithin, GoesNoFurther, asked_of_run, asks_nothing, greatest_above, same_far, within_reading}
 use Rattle.batch_result.proofs.OwnTables.{all_tables, same_lists}
-use Rattle.batch_result.proofs.TableLaws.{agrees, is_true}
+use Rattle.batch_result.proofs.FaultLaws.{all_kept}
+use Rattle.batch_result.proofs.TableLaws.{agrees, read_of}
 
 -- ---- all queries
 -- the second of a pair of lists, place by place
@@ -172,8 +173,8 @@ module _ (run : BatchRun) (batch : BatchState) (ran : IsBatch run batch) where
         → IsWithin run.settings (size_at run.sizes source) source (one_readings lists run.readies) (use_at batch.uses source)
     told_account source l = within (one_readings lists run.readies) source l (all_reads source run.readies ran.queries (λ q c. c) ran.of)
 
-    pub told_kept : NoneMoved run → (source : ℕ) → source < length run.sizes → KeepsEach (list_at lists source) (state_at ran.states source) (use_at batch.uses source)
-    told_kept unmoved source l =
+    pub told_kept : (source : ℕ) → source < length run.sizes → KeepsEach (list_at lists source) (state_at ran.states source) (use_at batch.uses source)
+    told_kept source l =
         let used = ran.used source l in
         let s = state_at ran.states source in
         let list = list_at lists source in
@@ -186,8 +187,8 @@ module _ (run : BatchRun) (batch : BatchState) (ran : IsBatch run batch) where
           | inr asked ↦
               let of = asked.2 in
               let reads_it : Contains asked.0.sources.items source = subst (Contains asked.0.sources.items) of.of (contains_at asked.0.sources.items of.list 0 of.listed) in
-              let true_of = is_true run batch ran lists told unmoved own asked.0 source asked.1 reads_it in
-              let all : rows_in s.log ≡ used.comes.given = used.comes.comes.all true_of.faultless in
+              let read = read_of run batch ran lists told own asked.0 source asked.1 reads_it in
+              let all : rows_in s.log ≡ used.comes.given = all_kept list used.comes.given s.count s.log (fault_in s.log) read.ranked read.tells used.comes.comes refl in
               let long : length (rows_in s.log) ≡ rows = ap (length {A = Row}) all ∙ used.comes.many in
-              sym true_of.rows ∙ ap (λ n. take n list) long
+              sym read.tells.rows ∙ ap (λ n. take n list) long
         ]

@@ -1,13 +1,14 @@
 -- What a query is refused for over told lists is of these lists, and over told tables only a call that failed refuses it otherwise than alone.
 use Rattle.std.proofs.Common.{◌≡◌, ◌≢◌, ◌<◌, inl, inr, ℕ, suc, Option, Some, None, IfSome, List, [], ◌∷◌, ◌++◌, length, map, All, Contains, append_assoc, drop, refl, sym, ap, subst, ◌∙◌, arith}
 use Rattle.std.specs.List.{AllZip, slice_index_or}
-use Rattle.std.proofs.lemmas.List.Elements.{Contains-append_cases}
+use Rattle.std.proofs.lemmas.List.Elements.{Contains-append_cases, Contains-append_right}
 use Rattle.ranked_list.specs.declared.row.Row.{Row}
 use Rattle.ranked_list.specs.declared.need.Need.{Need}
 use Rattle.ranked_list.specs.declared.need.Need.TheVariants as need
-use Rattle.ranked_list.specs.Table.{IsTable, objects, top_grade}
+use Rattle.ranked_list.specs.Table.{IsRanked, IsTable, objects, top_grade}
 use Rattle.topk_theory.specs.Transcript.{Begins, last_grade}
-use Rattle.topk_theory.proofs.AgreementLists.{begins_splits, contains_cases, contains_map, contains_map_from, contains_nil, member_of_all}
+use Rattle.topk_theory.proofs.AgreementLists.{begins_splits, contains_cases, contains_here, contains_map, contains_map_from, contains_nil, member_of_all}
+use Rattle.topk_theory.proofs.ConsistentRows.{behind_below_last, ranked_capped}
 use Rattle.source_api.specs.Told.{HasEachOnce}
 use Rattle.source_log.specs.declared.entry.LogEntry.{LogEntry}
 use Rattle.source_log.specs.declared.entry.Settling.TheVariants.{Graded, Bad, Missed}
@@ -30,7 +31,7 @@ use Rattle.query_turns.specs.Honest.{lists_of, HasTable, IsOnItsRun}
 use Rattle.query_turns.specs.Kept.{IsServed}
 use Rattle.query_turns.specs.Made.{IsOf}
 use Rattle.query_turns.proofs.Serving.{of_some_list, source_there}
-use Rattle.fetcher.specs.Causes.{IsUnder}
+use Rattle.fetcher.specs.Causes.{ComesOf, IsFaultOfRow, IsUnder}
 use Rattle.fetcher.specs.Telling.{IsTrueSettling, TellsOf}
 use Rattle.fetcher.proofs.ToldLaws.{never_clashes, never_repeated}
 use Rattle.batch_result.specs.Batches.{BatchRun, BatchState, IsBatch, IsSpared}
@@ -106,7 +107,7 @@ has_under list log row object grade bottom tells next is =
     )
 
 -- the row fault of a log that tells of a list
-row_fault : (list : List Row) (log : List LogEntry) (fault : SourceFault) → TellsOf list log → fault_in log ≡ Some fault → HasFault list fault
+pub row_fault : (list : List Row) (log : List LogEntry) (fault : SourceFault) → TellsOf list log → fault_in log ≡ Some fault → HasFault list fault
 row_fault list log (Repeated object place) tells e = absurd (never_repeated list log object place tells e)
 row_fault list log (Clash object sorted random) tells e = absurd (never_clashes list log object sorted random tells e)
 row_fault list log (OutOfOrder place above below) tells e = elim (tells.fault (OutOfOrder place above below) e).1 [
@@ -133,6 +134,51 @@ row_fault list log (Moved had now) tells e = elim (tells.fault (Moved had now) e
   | inl short ↦ absurd (let bad : Moved had now ≡ ShortList _ (length list) = short.is in cc)
   | inr (inl h) ↦ absurd h.faulty
   | inr (inr moved) ↦ subst (HasFault list) (sym moved.is) moved.differ
+]
+
+-- a ranked list has no row at fault
+pub ranked_rows : (list : List Row) (log : List LogEntry) (row : Row) (fault : SourceFault) → IsRanked list → HasFault list fault → IsFaultOfRow log row fault → ⊥
+ranked_rows list log row (OutOfOrder place above below) ranked h of =
+    let rest : List Row = drop (length (h.before ++ h.row ∷ [])) list in
+    let split : list ≡ h.before ++ h.row ∷ rest = begins_splits (h.before ++ h.row ∷ []) list h.next ∙ append_assoc h.before (h.row ∷ []) rest in
+    let low = behind_below_last h.before (h.row ∷ rest) h.row (subst IsRanked split ranked) (contains_here h.row rest) in
+    let last = h.is.last in
+    let here = h.is.is in
+    let rise = h.is.rise in
+    omega (arith, low, last, here, rise)
+ranked_rows list log row (TooHigh place grade) ranked h of =
+    let rest : List Row = drop (length (h.before ++ h.row ∷ [])) list in
+    let split : list ≡ h.before ++ h.row ∷ rest = begins_splits (h.before ++ h.row ∷ []) list h.next ∙ append_assoc h.before (h.row ∷ []) rest in
+    let capped = ranked_capped (h.before ++ h.row ∷ rest) h.row (subst IsRanked split ranked) (Contains-append_right h.before (h.row ∷ rest) h.row (contains_here h.row rest)) in
+    let here = h.is.is in
+    let high = h.is.high in
+    omega (arith, capped, here, high)
+ranked_rows list log row (Above object grade bottom) ranked h of =
+    let one : Row = record { object = object; grade = grade } in
+    let front = h.1.front in
+    let rest : List Row = drop (length front) list in
+    let split : list ≡ front ++ rest = begins_splits front list h.1.begins in
+    let last = h.1.last in
+    let above = h.1.above in
+    elim (Contains-append_cases front rest one (subst (λ xs. Contains xs one) split h.0)) [
+      | inl kept ↦ h.1.absent (contains_map (λ (z : Row). z.object) front one kept)
+      | inr behind ↦
+          let low = behind_below_last front rest one (subst IsRanked split ranked) behind in
+          omega (arith, low, last, above)
+    ]
+ranked_rows list log row (Repeated object place) ranked h of = h
+ranked_rows list log row (Clash object sorted random) ranked h of = h
+ranked_rows list log row (ShortList stated got) ranked h of = of
+ranked_rows list log row (Moved had now) ranked h of = of
+
+-- of a told list that is ranked each row is kept that came, whether it was replaced or not
+pub all_kept : (list given : List Row) (count : ℕ) (log : List LogEntry) (fault : Option SourceFault) → IsRanked list → TellsOf list log → ComesOf count given log
+    → fault_in log ≡ fault → rows_in log ≡ given
+all_kept list given count log None ranked tells comes e = comes.all e
+all_kept list given count log (Some fault) ranked tells comes e = elim (comes.fault fault e) [
+  | inl short ↦ short.all
+  | inr (inl faulty) ↦ absurd (ranked_rows list log faulty.row fault ranked (row_fault list log fault tells e) faulty.faulty)
+  | inr (inr moved) ↦ comes.moved moved.had moved.now (e ∙ ap Some moved.is)
 ]
 
 -- the bad grade of an object in a log that tells of a list

@@ -113,11 +113,11 @@ told_list lists source some = elim (cases_lt source (length lists)) [
 ]
 
 -- what is known of a source of a query
-record IsReadOf (lists : List (List Row)) (states : List State) (source : ℕ) : Type 0 where
-  ranked : IsRanked (list_at lists source)
-  long : length (list_at lists source) ≡ (state_at states source).count
-  tells : TellsOf (list_at lists source) (state_at states source).log
-  honest : IsHonestFor (list_at lists source) (state_at states source)
+pub record IsReadOf (lists : List (List Row)) (states : List State) (source : ℕ) : Type 0 where
+  pub ranked : IsRanked (list_at lists source)
+  pub long : length (list_at lists source) ≡ (state_at states source).count
+  pub tells : TellsOf (list_at lists source) (state_at states source).log
+  pub honest : IsHonestFor (list_at lists source) (state_at states source)
 
 -- the closing states of a batch are sound
 pub states_sound : (run : BatchRun) (batch : BatchState) (ran : IsBatch run batch) → All IsSound ran.states
@@ -142,7 +142,7 @@ module _ (run : BatchRun) (batch : BatchState) (ran : IsBatch run batch) (lists 
       let many = ran.many in
       omega (arith, at.0, many)
 
-  read_of : (q : Inquiry) (source : ℕ) → Contains ran.queries q → Contains q.sources.items source → IsReadOf lists ran.states source
+  pub read_of : (q : Inquiry) (source : ℕ) → Contains ran.queries q → Contains q.sources.items source → IsReadOf lists ran.states source
   read_of q source c s =
       let at = member_of_all (IsSourceOf ran.states (state_of q.machine).log.count) q.sources.items source (served q c).sources.each s in
       let among = contains_map (list_at lists) q.sources.items source s in

@@ -28,12 +28,12 @@ pub fn told_tables_give_the_one_ending()
 
 /// Where each source tells its list, and the lists of each query form a table, no row of a source is wanted below the greatest depth to which
 /// the one run of a query reads it, and no more rows come than its reach; no more objects are asked than these runs make random accesses
-/// to it, and no more grades come. Where none was replaced, each row that came is kept, so the pages follow one another and none has a row twice.
+/// to it, and no more grades come. Each row that came is kept, also where a list was replaced, so the pages follow one another and none has a row twice.
 pub fn told_tables_bound_the_uses()
     ensures within { (run : BatchRun) (batch : BatchState) → IsBatch run batch → (lists : List (List Row)) → run.told ≡ map Some lists
         → All (λ ready. IsTable ready.count (lists_for lists ready)) run.readies → (source : ℕ) → source < length run.sizes
         → IsWithin run.settings (size_at run.sizes source) source (one_readings lists run.readies) (use_at batch.uses source) }
-    ensures kept { (run : BatchRun) (batch : BatchState) → (ran : IsBatch run batch) → (lists : List (List Row)) → run.told ≡ map Some lists → NoneMoved run
+    ensures kept { (run : BatchRun) (batch : BatchState) → (ran : IsBatch run batch) → (lists : List (List Row)) → run.told ≡ map Some lists
         → All (λ ready. IsTable ready.count (lists_for lists ready)) run.readies → (source : ℕ) → source < length run.sizes
         → KeepsEach (list_at lists source) (state_at ran.states source) (use_at batch.uses source) }
 {}

@@ -6,6 +6,7 @@ use Rattle.source_api.specs.declared.source.Trouble.TheVariants.{Failed}
 use Rattle.source_api.specs.Places.{CountsTexts, HasTextCause, SameAtEach, SameElsewhere, text_limit}
 use Rattle.catalog_text.specs.Catalog.{Listed as Entry}
 use Rattle.catalog_open.proofs.Moving.{moves_none}
+use Rattle.catalog_run.proofs.Whole.{few_still}
 use Rattle.query_admission.specs.declared.line_outcome.LineOutcome.{LineOutcome}
 use Rattle.command_words.specs.declared.running.RunOptions.{RunOptions}
 use Rattle.limits.specs.declared.settings.Settings.{Settings}
@@ -66,6 +67,7 @@ takes_none catalog lines s = record {
   tells = record { texts = λ other. refl; lists = λ other. refl };
   used = [];
   moves = moves_none s.at;
+  few = few_still catalog lines s.at s.at (λ place. refl);
   others = λ place none. refl;
 }
 

@@ -36,10 +36,17 @@ put_unread before now knows first counts is known fresh given =
     let no_grades : counts.grades_given ≡ 0 = given.grades ∙ ap (λ (c : Counts). c.grades_given) fresh in
     record { rows = omega (arith, rows, no_rows); grades = omega (arith, grades, no_grades) }
 
--- a new source that told its size has given nothing
-pub unread_source : (first counts : Counts) → first ≡ no_counts → GaveNothing first counts → IsUnread counts
-unread_source first counts fresh given =
-    record { rows = given.rows ∙ ap (λ (c : Counts). c.rows_given) fresh; grades = given.grades ∙ ap (λ (c : Counts). c.grades_given) fresh }
+-- a new source that told its size has counted nothing
+pub unread_source : (first counts : Counts) → first ≡ no_counts → counts ≡ first → IsUnread counts
+unread_source first counts fresh quiet =
+    let none : counts ≡ no_counts = quiet ∙ fresh in
+    record {
+      rows = ap (λ (c : Counts). c.rows_given) none;
+      grades = ap (λ (c : Counts). c.grades_given) none;
+      faults = ap (λ (c : Counts). c.faults) none;
+      garbles = ap (λ (c : Counts). c.garbles) none;
+      moves = ap (λ (c : Counts). c.moves) none;
+    }
 
 -- what changes at one place alone
 back_here : (text : List ℕ) (before now : Counted) → SameElsewhere text before now → GivesNothing (before text) (now text) → (place : List ℕ)

@@ -79,17 +79,20 @@ pub record TakesNone (before now : PlaceCounts) : Type 0 where
   pub returned : now.returned ≡ counted_times (length moves.counts) before.returned
   pub once : length moves.counts ≤ 1
 
--- a source has given neither a row nor a grade
+-- a source has counted nothing: it gave neither a row nor a grade, and no call of it failed, was garbled or told of another version
 pub record IsUnread (counts : Counts) : Type 0 where
   pub rows : counts.rows_given ≡ 0
   pub grades : counts.grades_given ≡ 0
+  pub faults : counts.faults ≡ 0
+  pub garbles : counts.garbles ≡ 0
+  pub moves : counts.moves ≡ 0
 
 -- the sources that were put back at a place had given nothing; a count stands still at its last value
 pub record GivesNothing (before now : PlaceCounts) : Type 0 where
   pub rows : raised now.sources.rows_given 0 ≡ raised before.sources.rows_given 0
   pub grades : raised now.sources.grades_given 0 ≡ raised before.sources.grades_given 0
 
--- between two moments nothing was read of sources: those that were put back had given nothing, and the open ones have given nothing if those before hadn't
+-- between two moments nothing was read of sources: those that were put back had given nothing, and the open ones have counted nothing if those before hadn't
 pub record ReadsNothing (before now : Counted) (earlier opened : List Counts) : Type 0 where
   pub back : (place : List ℕ) → GivesNothing (before place) (now place)
   pub open_ones : All IsUnread earlier → All IsUnread opened
@@ -170,15 +173,28 @@ marked_at [] marks place = 0
 marked_at (entry ∷ catalog) [] place = 0
 marked_at (entry ∷ catalog) (marked ∷ marks) place = (if marked then one_at entry.place place else 0) + marked_at catalog marks place
 
--- no more sources were taken of a place than so many
-pub record TakesAtMost (most : ℕ) (before now : PlaceCounts) : Type 0 where
-  pub times : ℕ
-  pub few : times ≤ most
-  pub taken : now.taken ≡ counted_times times before.taken
+-- the source of a place was asked for so many times: each call gave one or failed, is counted as that, and no count rose but for one
+pub record AsksFor (calls : ℕ) (before now : PlaceCounts) : Type 0 where
+  pub given : ℕ
+  pub failed : ℕ
+  pub all : given + failed ≡ calls
+  pub taken : now.taken ≡ counted_times given before.taken
+  pub faults : counted_times failed before.take_faults ≤ now.take_faults
+  pub quiet : failed ≡ 0 → now.take_faults ≡ before.take_faults
 
--- the source of each entry that is marked was taken at most once, and that of no other
-abbrev pub TakesOnce : List Entry → List Bool → Counted → Counted → Type 0
-TakesOnce catalog marks before now = (place : List ℕ) → TakesAtMost (marked_at catalog marks place) (before place) (now place)
+-- it was asked for no more than so many times
+pub record AsksAtMost (most : ℕ) (before now : PlaceCounts) : Type 0 where
+  pub calls : ℕ
+  pub few : calls ≤ most
+  pub asks : AsksFor calls before now
+
+-- the source of each entry that is marked was asked for exactly once, and that of no other
+abbrev pub AsksEachOnce : List Entry → List Bool → Counted → Counted → Type 0
+AsksEachOnce catalog marks before now = (place : List ℕ) → AsksFor (marked_at catalog marks place) (before place) (now place)
+
+-- the same of the first of these entries, where memory was refused: of each that is marked at most once
+abbrev pub AsksEachAtMostOnce : List Entry → List Bool → Counted → Counted → Type 0
+AsksEachAtMostOnce catalog marks before now = (place : List ℕ) → AsksAtMost (marked_at catalog marks place) (before place) (now place)
 
 -- these entries are of the catalog, and sources that are put back at their places count there
 pub record IsKnownAt (catalog : List Entry) (knows : List ℕ → Bool) (place : ℕ) : Type 0 where

@@ -5,7 +5,7 @@ ghost use Rattle.ranked_list.specs.declared.row.Row.{Row};
 ghost use Rattle.source_api.specs.Counting.{no_counts};
 ghost use Rattle.source_api.specs.Places.{SameAtEach, SameElsewhere, counts_taken};
 ghost use Rattle.catalog_open.specs.Entries.{entry_at, is_marked, IsMarked};
-ghost use Rattle.catalog_open.specs.Openings.{Counted, AreOpened, GivesNothing, IsKnownAt, IsToldAs, IsUnread, PutsOneBack, ReadsNothing, TakesAtMost, TakesNone, TakesOnce, TroubleAt, one_at, run_count};
+ghost use Rattle.catalog_open.specs.Openings.{AreOpened, AsksAtMost, AsksEachAtMostOnce, AsksEachOnce, AsksFor, Counted, GivesNothing, IsKnownAt, IsToldAs, IsUnread, PutsOneBack, ReadsNothing, TakesNone, TroubleAt, one_at, run_count};
 ghost use Rattle.catalog_open.specs.Slots.{IsIdle, fresh_slot, of_slot};
 ghost use Rattle.catalog_open.specs.declared.opened.Opening.TheVariants as Opening;
 
@@ -91,6 +91,8 @@ fn open_source<H: Shelf>(
         (λ taken. (H.knows shelf.new place.now ≡ true) × IsToldAs (H.lists shelf.old place.now) (H.Item.list taken.source) taken.size
         × (H.at shelf.new place.now ≡ counts_taken (H.at shelf.old place.now)))) }
     ensures short { OnErr result (TakesNone (H.at shelf.old place.now) (H.at shelf.new place.now)) }
+    ensures asks { OnOk result (AsksFor 1 (H.at shelf.old place.now) (H.at shelf.new place.now)) }
+    ensures few { OnErr result (AsksAtMost 1 (H.at shelf.old place.now) (H.at shelf.new place.now)) }
 {
     match shelf.take(alloc, place) {
         Ok(source) => ask_size(alloc, shelf, place, source),
@@ -173,7 +175,8 @@ fn open_next<H: Shelf>(
     ensures few { length slots.new.items ≤ place + 1 }
     ensures known { All (IsKnownAt catalog.now (H.knows shelf.old)) opened.old.places.items
         → All (IsKnownAt catalog.now (H.knows shelf.new)) opened.new.places.items }
-    ensures once { (other : List ℕ) → TakesAtMost (one_at (entry_at catalog.now place).place other) (H.at shelf.old other) (H.at shelf.new other) }
+    ensures once { OnOk result ((other : List ℕ) → AsksFor (one_at (entry_at catalog.now place).place other) (H.at shelf.old other) (H.at shelf.new other)) }
+    ensures few_asks { (other : List ℕ) → AsksAtMost (one_at (entry_at catalog.now place).place other) (H.at shelf.old other) (H.at shelf.new other) }
     ensures idle { All IsIdle slots.old.items → All IsIdle slots.new.items }
     ensures unread { ReadsNothing (H.at shelf.old) (H.at shelf.new) (map (of_slot H.Item.counts) slots.old.items) (map (of_slot H.Item.counts) slots.new.items) }
     ensures opened { (lists : List ℕ → Option (List Row)) (marks : List Bool) (before : Counted) → SameAtEach lists (H.lists shelf.old)
@@ -230,7 +233,10 @@ fn visit_next<H: Shelf>(
     ensures few { length slots.new.items ≤ place + 1 }
     ensures known { All (IsKnownAt catalog.now (H.knows shelf.old)) opened.old.places.items
         → All (IsKnownAt catalog.now (H.knows shelf.new)) opened.new.places.items }
-    ensures once { (other : List ℕ) → TakesAtMost (if wanted then one_at (entry_at catalog.now place).place other else 0) (H.at shelf.old other) (H.at shelf.new other) }
+    ensures once { OnOk result ((other : List ℕ)
+        → AsksFor (if wanted then one_at (entry_at catalog.now place).place other else 0) (H.at shelf.old other) (H.at shelf.new other)) }
+    ensures few_asks { (other : List ℕ)
+        → AsksAtMost (if wanted then one_at (entry_at catalog.now place).place other else 0) (H.at shelf.old other) (H.at shelf.new other) }
     ensures idle { All IsIdle slots.old.items → All IsIdle slots.new.items }
     ensures unread { ReadsNothing (H.at shelf.old) (H.at shelf.new) (map (of_slot H.Item.counts) slots.old.items) (map (of_slot H.Item.counts) slots.new.items) }
     ensures opened { (lists : List ℕ → Option (List Row)) (marks : List Bool) (before : Counted) → SameAtEach lists (H.lists shelf.old)
@@ -246,7 +252,7 @@ fn visit_next<H: Shelf>(
     pass_next(opened)
 }
 
-/// Opens the sources of a catalog that are marked, in its order: each is taken of the shelf once and asked for its size. What became of
+/// Opens the sources of a catalog that are marked, in its order: each is asked of the shelf exactly once, and for its size. What became of
 /// them is put into `opened`, and the open sources into `slots`, without feeders, both empty before. A source that was taken and
 /// isn't open was put back. Where memory is refused, those that are open by then stand there, to be put back. Nothing is read of
 /// the sources.
@@ -271,7 +277,8 @@ pub fn open_wanted<H: Shelf>(
     ensures known { All (IsKnownAt catalog.now (H.knows shelf.new)) opened.new.places.items }
     ensures back { (place : List ℕ) → GivesNothing (H.at shelf.old place) (H.at shelf.new place) }
     ensures few { length slots.new.items ≤ length catalog.now }
-    ensures once { TakesOnce catalog.now marks.now (H.at shelf.old) (H.at shelf.new) }
+    ensures once { OnOk result (AsksEachOnce catalog.now marks.now (H.at shelf.old) (H.at shelf.new)) }
+    ensures few_asks { AsksEachAtMostOnce catalog.now marks.now (H.at shelf.old) (H.at shelf.new) }
     ensures idle { All IsIdle slots.new.items }
     ensures unread { All IsUnread (map (of_slot H.Item.counts) slots.new.items) }
     ensures opened { AreOpened (H.lists shelf.old) catalog.now (IsMarked marks.now) (H.at shelf.old) (H.at shelf.new) opened.new.openings.items

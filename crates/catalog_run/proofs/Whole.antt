@@ -1,21 +1,22 @@
 -- A run as a whole.
-use Rattle.std.proofs.Common.{◌≡◌, ℕ, ◌<◌, Bool, List, ◌++◌, All, Contains, length, reverse, slice_index_or, Option, Result, Ok, Err, IfOk, OnOk, sym, ◌∙◌, subst}
-use Rattle.std.proofs.lemmas.List.{get_or_default}
+use Rattle.std.proofs.Common.{◌≡◌, ℕ, ◌<◌, Bool, List, ◌++◌, All, Contains, length, reverse, slice_index_or, Option, Result, Ok, Err, IfOk, OnOk, true, false, refl, sym, ◌∙◌, subst}
+use Rattle.std.proofs.lemmas.List.{ext_get_or, get_or_default}
 use Rattle.ranked_list.specs.declared.row.Row.{Row}
 use Rattle.source_api.specs.declared.counts.Counts.{Counts}
 use Rattle.catalog_text.specs.Catalog.{Listed as Entry}
 use Rattle.catalog_open.specs.declared.opened.Opening.{Opening}
 use Rattle.catalog_open.specs.declared.opened.Opening.TheVariants.{Closed, Open}
 use Rattle.catalog_open.specs.Views.{view_over, nothing_told}
-use Rattle.catalog_open.specs.Entries.{opening_at, IsMarked}
+use Rattle.catalog_open.specs.Entries.{opening_at, is_marked, IsMarked}
 use Rattle.query_admission.specs.View.{View}
 use Rattle.limits.specs.declared.settings.Settings.{Settings}
 use Rattle.query_admission.specs.declared.line_outcome.LineOutcome.{LineOutcome}
-use Rattle.catalog_run.specs.Runs.{IsRun, RanOver, TakesEachOnce}
+use Rattle.catalog_run.specs.Runs.{AsksWantedAtMostOnce, AsksWantedOnce, IsRun, RanOver}
 use Rattle.catalog_open.specs.Wanted.{IsWanted, AreMarked}
-use Rattle.catalog_open.specs.Openings.{Counted, Used, IsUnread, GivesNothing, Moves, PutsBack, standing, KeepsOthers, Sources, IsOpening, AreOpened, put_back}
+use Rattle.catalog_open.specs.Openings.{AsksEachAtMostOnce, marked_at, Counted, Used, IsUnread, GivesNothing, Moves, PutsBack, standing, KeepsOthers, Sources, IsOpening, AreOpened, put_back}
 use Rattle.catalog_open.proofs.Moving.{moves_back, keeps_then}
 use Rattle.catalog_open.proofs.Back.{back_standing}
+use Rattle.catalog_open.proofs.Once.{few_back, few_none}
 use Rattle.catalog_open.proofs.Opens.{numbered_within}
 
 opening_for : (lists : List ℕ → Option (List Row)) (catalog : List Entry) (s : Sources) (W V : ℕ → Type 0) (before now : Counted) (place : ℕ) (o : Opening)
@@ -68,7 +69,7 @@ back_keeps lists catalog W before mid now openings s are back =
 -- the whole run
 pub is_run : (catalog : List Entry) (lines : List (List ℕ)) (lists : List ℕ
     → Option (List Row)) (settings : Settings) (before mid after : Counted) (openings : List Opening) (s : Sources) (begun now : List Counts) (outcomes : List LineOutcome)
-    → AreOpened lists catalog (IsWanted catalog lines) before mid openings s → length openings ≡ length catalog → TakesEachOnce catalog lines before mid
+    → AreOpened lists catalog (IsWanted catalog lines) before mid openings s → length openings ≡ length catalog → AsksWantedOnce catalog lines before mid
     → ((place : List ℕ) → GivesNothing (before place) (mid place)) → All IsUnread begun
     → RanOver settings s begun now (view_over catalog openings nothing_told) lines outcomes → PutsBack (reverse (put_back catalog s.places now)) mid after
     → IsRun (record { catalog = catalog; lines = lines; lists = lists; settings = settings; before = before; after = after }) outcomes
@@ -97,10 +98,29 @@ pub both_so : {A E : Type 0} (r : Result A E) (P Q : Type 0) → OnOk r P → On
 both_so (Ok x) P Q p q = (p, q)
 both_so (Err e) P Q p q = tt
 
--- what holds in any case
-pub holds_so : {A E : Type 0} (r : Result A E) (P : Type 0) → P → OnOk r P
-holds_so (Ok x) P h = h
-holds_so (Err e) P h = tt
+-- the marks of the sources that lines want are told by what is wanted
+pub marked_same : (catalog : List Entry) (lines : List (List ℕ)) (marks others : List Bool) → AreMarked catalog lines marks → AreMarked catalog lines others → marks ≡ others
+marked_same catalog lines marks others one other =
+    ext_get_or false marks others (one.many ∙ sym other.many)
+    (λ place within. same (is_marked marks place) (is_marked others place) (λ is. other.marked place (one.wanted place is)) (λ is. one.marked place (other.wanted place is)))
+  where
+    same : (a b : Bool) → (a ≡ true → b ≡ true) → (b ≡ true → a ≡ true) → a ≡ b
+    same true true to from = refl
+    same true false to from = sym (to refl)
+    same false true to from = from refl
+    same false false to from = refl
+
+-- the source of each wanted entry was asked for at most once, in other words, and also after the sources were put back
+pub few_wanted : (catalog : List Entry) (lines : List (List ℕ)) (marks : List Bool) (before now : Counted) → AreMarked catalog lines marks
+    → AsksEachAtMostOnce catalog marks before now → AsksWantedAtMostOnce catalog lines before now
+few_wanted catalog lines marks before now marked few = λ others are. subst (λ ms. AsksEachAtMostOnce catalog ms before now) (marked_same catalog lines marks others marked are) few
+
+pub few_still : (catalog : List Entry) (lines : List (List ℕ)) (before now : Counted) → ((place : List ℕ) → now place ≡ before place) → AsksWantedAtMostOnce catalog lines before now
+few_still catalog lines before now same = λ marks are place. few_none (marked_at catalog marks place) (before place) (now place) (same place)
+
+pub few_put : (catalog : List Entry) (lines : List (List ℕ)) (back : List Used) (before mid now : Counted) → AsksWantedAtMostOnce catalog lines before mid → PutsBack back mid now
+    → AsksWantedAtMostOnce catalog lines before now
+few_put catalog lines back before mid now few puts = λ marks are. few_back catalog marks back before mid now (few marks are) puts
 
 -- what the shelf counted
 pub run_moves : (lists : List ℕ → Option (List Row)) (catalog : List Entry) (W : ℕ

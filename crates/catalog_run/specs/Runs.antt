@@ -21,7 +21,7 @@ use Rattle.catalog_text.specs.Catalog.{Listed as Entry}
 use Rattle.catalog_open.specs.declared.opened.Opening.{Opening}
 use Rattle.catalog_open.specs.Views.{view_over, line_over, nothing_told}
 use Rattle.catalog_open.specs.Wanted.{IsWanted, AreMarked}
-use Rattle.catalog_open.specs.Openings.{Counted, IsUnread, GivesNothing, PutsBack, Sources, AreOpened, TakesOnce, put_back}
+use Rattle.catalog_open.specs.Openings.{Counted, IsUnread, GivesNothing, PutsBack, Sources, AreOpened, AsksEachAtMostOnce, AsksEachOnce, put_back}
 use Rattle.catalog_run.specs.OpenSources.{batch_over}
 use Rattle.query_admission.specs.declared.line_outcome.LineOutcome.{LineOutcome}
 use Rattle.catalog_run.specs.Merging.{IsEndedAs}
@@ -86,9 +86,13 @@ pub record RanOver (settings : Settings) (s : Sources) (begun now : List Counts)
   pub ran : IsBatch (batch_over settings s begun now readies) batch
   pub outcomes_are : AreOutcomes view ran.queries 1 lines outcomes
 
--- the source of each entry that a line wants was taken at most once, and that of no other
-abbrev pub TakesEachOnce : List Entry → List (List ℕ) → Counted → Counted → Type 0
-TakesEachOnce catalog lines before now = (marks : List Bool) × AreMarked catalog lines marks × TakesOnce catalog marks before now
+-- the source of each entry that a line wants was asked for exactly once, and that of no other
+abbrev pub AsksWantedOnce : List Entry → List (List ℕ) → Counted → Counted → Type 0
+AsksWantedOnce catalog lines before now = (marks : List Bool) × AreMarked catalog lines marks × AsksEachOnce catalog marks before now
+
+-- the source of each entry that a line wants was asked for at most once, and that of no other
+abbrev pub AsksWantedAtMostOnce : List Entry → List (List ℕ) → Counted → Counted → Type 0
+AsksWantedAtMostOnce catalog lines before now = (marks : List Bool) → AreMarked catalog lines marks → AsksEachAtMostOnce catalog marks before now
 
 -- the sources that the lines want were opened, which reads nothing of them, and the lines ran over them; then the open sources were put back with what they
 -- had counted
@@ -99,7 +103,7 @@ pub record IsRun (r : CatalogRun) (outcomes : List LineOutcome) : Type 0 where
   pub idle : (place : List ℕ) → GivesNothing (r.before place) (mid place)
   pub opened : AreOpened r.lists r.catalog (IsWanted r.catalog r.lines) r.before mid openings sources
   pub all : length openings ≡ length r.catalog
-  pub once : TakesEachOnce r.catalog r.lines r.before mid
+  pub once : AsksWantedOnce r.catalog r.lines r.before mid
   pub begun : List Counts
   pub unread : All IsUnread begun
   pub now : List Counts

@@ -10,7 +10,7 @@ ghost use Rattle.catalog_open.specs.Wanted.{AreRead, IsWanted};
 ghost use Rattle.catalog_open.specs.Slots.{IsIdle, of_slot};
 ghost use Rattle.catalog_open.specs.Entries.{IsMarked};
 ghost use Rattle.catalog_open.specs.Openings.{AreOpened, Counted, GivesNothing, IsKnownAt, IsUnread, KeepsOthers, Moves, Used};
-ghost use Rattle.catalog_run.specs.Runs.{CanBeWritten, IsRun, RanOver, TakesEachOnce};
+ghost use Rattle.catalog_run.specs.Runs.{AsksWantedAtMostOnce, AsksWantedOnce, CanBeWritten, IsRun, RanOver};
 
 use super::Memory;
 use super::run::run_admitted;
@@ -28,7 +28,7 @@ use std::thread::Threads;
 
 /// Answers query lines, numbered from 1, over the lists of a catalog whose sources are taken of a shelf.
 ///
-/// The lines are read, and the sources that they want are opened in the order of the catalog: those of the lists that a line names which nothing refuses
+/// The lines are read, and the sources that they want are opened in the order of the catalog, each being asked of the shelf once: those of the lists that a line names which nothing refuses
 /// before its lists are opened. A source that fails at this, or is answered by garbled data, isn't open. Then the lines are admitted,
 /// and the queries that are ready run at the same time, over one state of each source: as many workers as the settings say, and beside
 /// them one fetcher a source. A call may wait for ever, and does where the system makes no thread. At last the sources are put back,
@@ -48,6 +48,7 @@ pub fn run_lines<W: Threads + Wait + Sync, H: Shelf>(
     ensures lists { SameAtEach (H.lists shelf.old) (H.lists shelf.new) }
     ensures others { KeepsOthers catalog.now (IsWanted catalog.now (map (λ line. line.now) lines.now)) (H.at shelf.old) (H.at shelf.new) }
     ensures moves { (used : List Used) × Moves used (H.at shelf.old) (H.at shelf.new) }
+    ensures few { AsksWantedAtMostOnce catalog.now (map (λ line. line.now) lines.now) (H.at shelf.old) (H.at shelf.new) }
     ensures run { IfOk result (λ outcomes. IsRun (record {
       catalog = catalog.now;
       lines = map (λ line. line.now) lines.now;
@@ -102,7 +103,8 @@ fn open_and_run<W: Threads + Wait + Sync, H: Shelf>(
           counts = opened.new.counts.items;
         }) }
     ensures all { OnOk result (length opened.new.openings.items ≡ length catalog.now) }
-    ensures once { OnOk result (TakesEachOnce catalog.now (map (λ line. line.now) lines.now) (H.at shelf.old) (H.at shelf.new)) }
+    ensures once { OnOk result (AsksWantedOnce catalog.now (map (λ line. line.now) lines.now) (H.at shelf.old) (H.at shelf.new)) }
+    ensures few { AsksWantedAtMostOnce catalog.now (map (λ line. line.now) lines.now) (H.at shelf.old) (H.at shelf.new) }
     ensures idle { (place : List ℕ) → GivesNothing (H.at shelf.old place) (H.at shelf.new place) }
     ensures ran { IfOk result (λ outcomes. (begun : List Counts) × All IsUnread begun × RanOver settings (record {
       told = map (of_slot H.Item.list) slots.new.items;

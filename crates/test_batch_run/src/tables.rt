@@ -41,7 +41,16 @@ const COMBINED_ENDS: Expected = Expected::Answered(
 );
 
 /// Batches over lists that are a table.
-pub static CASES: [Case; 5] = [
+pub static CASES: [Case; 6] = [
+    // a row of each list for each depth, and a call for each grade that is needed above its row
+    Case {
+        held: &[A, B],
+        counts: &[3, 3],
+        asked: &[FIRST],
+        settings: PLAIN,
+        ends: &[FIRST_ENDS],
+        used: FIRST_USES,
+    },
     // what three queries need is read of the sources once
     Case {
         held: &[A, B],

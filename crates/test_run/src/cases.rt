@@ -12,6 +12,9 @@ use test_source_support::{Held, shelf_of};
 /// The place of the catalog on the shelf.
 pub(crate) const CATALOG: &str = "cat.csv";
 
+/// The bytes of each piece in which the lines are given.
+const PIECE: u32 = 50;
+
 /// The most bytes that are written.
 const ROOM: u32 = 4000;
 
@@ -36,7 +39,7 @@ pub struct Row {
 }
 
 /// Whether the run of a row goes over this shelf as it says.
-fn goes_on<W: Threads + Wait + Sync>(
+pub(crate) fn goes_on<W: Threads + Wait + Sync>(
     rt: &W,
     alloc: Global,
     shelf: &mut MemShelf,
@@ -48,6 +51,7 @@ fn goes_on<W: Threads + Wait + Sync>(
     }
     let streams = Streams {
         input: case.lines.as_bytes(),
+        piece: PIECE,
         failing_reads: &[],
         room: ROOM,
     };

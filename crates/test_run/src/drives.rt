@@ -13,13 +13,11 @@ use test_mem_source::MemShelf;
 use test_support::words_of;
 use tk_io::{MemIntake, MemSink};
 
-/// The bytes of each piece in which the input is given.
-const PIECE: u32 = 50;
-
-/// The input, the calls of it that fail, and for how many bytes of output there is room.
+/// The input, the bytes of each piece in which it is given, the calls of it that fail, and for how many bytes of output there is room.
 #[derive(Clone, Copy)]
 pub(crate) struct Streams<'a> {
     pub(crate) input: &'a [u8],
+    pub(crate) piece: u32,
     pub(crate) failing_reads: &'a [u64],
     pub(crate) room: u32,
 }
@@ -50,7 +48,8 @@ fn end_by<W: Threads + Wait + Sync>(
 ) -> Option<Status>
     requires { AreSettings options.now.settings }
 {
-    let Ok(mut input) = MemIntake::make(alloc, streams.input, PIECE, streams.failing_reads) else {
+    let Ok(mut input) = MemIntake::make(alloc, streams.input, streams.piece, streams.failing_reads)
+    else {
         return None;
     };
     let status = run(rt, alloc, options, shelf, &mut input, out);

@@ -10,10 +10,11 @@ use std::thread::Threads;
 use test_mem_source::MemShelf;
 use test_source_support::{Held, shelf_of};
 
-/// A run: which calls of its input fail, for how many bytes there is room, how it ends, what it writes, and how many rows the source has
-/// given then.
+/// A run: how many bytes each piece of its input has, which calls of it fail, for how many bytes there is room, how it ends, what it writes,
+/// and how many rows the source has given then.
 #[derive(Clone, Copy)]
 pub struct FaultyRun {
+    pub piece: u32,
     pub failing_reads: &'static [u64],
     pub room: u32,
     pub status: Status,
@@ -54,6 +55,7 @@ fn goes_on<W: Threads + Wait + Sync>(
 ) -> bool {
     let streams = Streams {
         input: row.line,
+        piece: run.piece,
         failing_reads: run.failing_reads,
         room: run.room,
     };

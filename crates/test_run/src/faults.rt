@@ -24,6 +24,7 @@ const TEXT: &[u8] =
 const FRONT: &[u8] = b"certificate 1\nquery ";
 
 const DONE: FaultyRun = FaultyRun {
+    piece: 50,
     failing_reads: &[],
     room: 1000,
     status: Status::Done,
@@ -33,6 +34,7 @@ const DONE: FaultyRun = FaultyRun {
 
 /// The catalog can't be read, whether or not a read would fail.
 const NOT_OPENED: FaultyRun = FaultyRun {
+    piece: 50,
     failing_reads: &[1],
     room: 1000,
     status: Status::OpenFault,
@@ -41,6 +43,7 @@ const NOT_OPENED: FaultyRun = FaultyRun {
 };
 
 const REFUSED: FaultyRun = FaultyRun {
+    piece: 50,
     failing_reads: &[1],
     room: 1000,
     status: Status::BadCatalog,
@@ -50,6 +53,7 @@ const REFUSED: FaultyRun = FaultyRun {
 
 /// Nothing is asked of the source where the lines can't be read.
 const NOT_READ: FaultyRun = FaultyRun {
+    piece: 50,
     failing_reads: &[2],
     room: 1000,
     status: Status::ReadFault,
@@ -57,7 +61,27 @@ const NOT_READ: FaultyRun = FaultyRun {
     given: 0,
 };
 
+/// The same where a byte comes at a time.
+const NOT_READ_BYTES: &[FaultyRun] = &[
+    FaultyRun {
+        piece: 1,
+        failing_reads: &[1],
+        ..NOT_READ
+    },
+    FaultyRun {
+        piece: 1,
+        failing_reads: &[2],
+        ..NOT_READ
+    },
+    FaultyRun {
+        piece: 1,
+        failing_reads: &[3],
+        ..NOT_READ
+    },
+];
+
 const NOT_WRITTEN: FaultyRun = FaultyRun {
+    piece: 50,
     failing_reads: &[],
     room: 20,
     status: Status::WriteFault,
@@ -65,7 +89,7 @@ const NOT_WRITTEN: FaultyRun = FaultyRun {
     given: 2,
 };
 
-static ROWS: [FaultyShelf; 4] = [
+static ROWS: [FaultyShelf; 5] = [
     // the catalog comes before the input: it is missed, or refused, before a read can fail
     FaultyShelf {
         catalog: None,
@@ -96,6 +120,13 @@ static ROWS: [FaultyShelf; 4] = [
         source: SOURCE,
         line: LINE,
         runs: &[NOT_READ, NOT_WRITTEN],
+    },
+    FaultyShelf {
+        catalog: ONE,
+        failing_text: None,
+        source: SOURCE,
+        line: LINE,
+        runs: NOT_READ_BYTES,
     },
 ];
 

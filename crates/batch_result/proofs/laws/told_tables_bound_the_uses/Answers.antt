@@ -5,4 +5,4 @@ pub returns-clause-within : goal.returns-clause-within
 returns-clause-within c = λ run batch ran lists told tables source l. told_account run batch ran lists told tables source l
 
 pub returns-clause-kept : goal.returns-clause-kept
-returns-clause-kept c = λ run batch ran lists told unmoved tables source l. told_kept run batch ran lists told tables unmoved source l
+returns-clause-kept c = λ run batch ran lists told tables source l. told_kept run batch ran lists told tables source l

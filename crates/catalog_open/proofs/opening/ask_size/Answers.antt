@@ -1,7 +1,7 @@
 use Rattle.std.proofs.Common.{subst}
 use Rattle.source_api.specs.Counting.{IsNoMove}
 use Rattle.catalog_open.proofs.Moving.{put_failed, put_garbled, put_known}
-use Rattle.catalog_open.proofs.Unread.{put_unread}
+use Rattle.catalog_open.proofs.Unread.{put_unread, unread_source}
 use Rattle.catalog_open.proofs.opening.ask_size.Goals as goal
 
 pub returns-in-Failed : goal.returns-in-Failed
@@ -42,3 +42,6 @@ returns-in-Memory g c = record {
 
 pub unreachable-requires : goal.unreachable-requires
 unreachable-requires g c = subst IsNoMove c.in-Moved.is c.in-Err.ensures.unmoved
+
+pub returns-in-Ok-clause-unread : goal.returns-in-Ok-clause-unread
+returns-in-Ok-clause-unread g c = unread_source _ _ c.requires.fresh c.in-Ok.ensures.quiet

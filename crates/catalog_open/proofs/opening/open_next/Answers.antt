@@ -6,7 +6,7 @@ use Rattle.catalog_open.specs.Openings.{IsToldAs}
 use Rattle.catalog_open.specs.Slots.{IsIdle, fresh_slot, of_slot}
 use Rattle.catalog_open.proofs.Opens.{both_longer, known_more, known_same, match_none, match_some, one_longer, opened_as, opened_tried, opened_not, opened_some}
 use Rattle.catalog_open.proofs.Unread.{if_some, reads_here, reads_more, reads_nothing}
-use Rattle.catalog_open.proofs.Once.{once_closed, once_open, takes_nothing}
+use Rattle.catalog_open.proofs.Once.{asks_here, few_asked, few_here, few_none}
 use Rattle.catalog_open.proofs.opening.open_next.Goals as goal
 
 pub place_of-requires : goal.place_of-requires
@@ -20,7 +20,8 @@ returns-in_default g c = record {
   many = ap length c.make_room.ensures.sources ∙ c.requires.many ∙ ap length (sym c.make_room.ensures.places);
   few = let same = ap length c.make_room.ensures.sources in let few = c.requires.few in omega (arith, same, few);
   known = λ all. known_same c.args.catalog.now (g.H.Shelf.knows c.args.shelf.now) (g.H.Shelf.knows c.args.shelf.now) c.args.opened.now.places.items c.make_room.new.opened.places.items (λ other is. is) c.make_room.ensures.places all;
-  once = λ other. takes_nothing _ (g.H.Shelf.at c.args.shelf.now other) (g.H.Shelf.at c.args.shelf.now other) refl;
+  once = tt;
+  few_asks = λ other. few_none _ (g.H.Shelf.at c.args.shelf.now other) (g.H.Shelf.at c.args.shelf.now other) refl;
   idle = λ all. subst (All IsIdle) (sym c.make_room.ensures.sources) all;
   unread = reads_nothing (g.H.Shelf.at c.args.shelf.now) _ _ (ap (map (of_slot g.H.Item.Source.counts)) c.make_room.ensures.sources);
   opened = λ lists marks before same marked are. opened_as lists c.args.catalog.now (IsMarked marks) before (g.H.Shelf.at c.args.shelf.now) _ _ _ _ _ _ _ _ c.make_room.ensures.openings (ap (map (of_slot g.H.Item.Source.list)) c.make_room.ensures.sources) c.make_room.ensures.places c.make_room.ensures.counts are;
@@ -34,7 +35,8 @@ returns-in_default-open_source g c = record {
   many = ap length c.make_room.ensures.sources ∙ c.requires.many ∙ ap length (sym c.make_room.ensures.places);
   few = let same = ap length c.make_room.ensures.sources in let few = c.requires.few in omega (arith, same, few);
   known = λ all. known_same c.args.catalog.now (g.H.Shelf.knows c.args.shelf.now) (g.H.Shelf.knows c.open_source.new.shelf) c.args.opened.now.places.items c.make_room.new.opened.places.items c.open_source.ensures.known c.make_room.ensures.places all;
-  once = once_closed (entry_at c.args.catalog.now c.args.place).place c.place_of.result.now (g.H.Shelf.at c.args.shelf.now) (g.H.Shelf.at c.open_source.new.shelf) (sym c.place_of.ensures) c.open_source.ensures.elsewhere c.in_default-open_source.ensures.short;
+  once = tt;
+  few_asks = few_here (entry_at c.args.catalog.now c.args.place).place c.place_of.result.now (g.H.Shelf.at c.args.shelf.now) (g.H.Shelf.at c.open_source.new.shelf) (sym c.place_of.ensures) c.open_source.ensures.elsewhere c.in_default-open_source.ensures.few;
   idle = λ all. subst (All IsIdle) (sym c.make_room.ensures.sources) all;
   unread = reads_here c.place_of.result.now (g.H.Shelf.at c.args.shelf.now) (g.H.Shelf.at c.open_source.new.shelf) _ _ c.open_source.ensures.elsewhere c.open_source.ensures.back
       (ap (map (of_slot g.H.Item.Source.counts)) c.make_room.ensures.sources);
@@ -58,7 +60,8 @@ returns-in-Some g c =
           let few = c.requires.few in
           omega (arith, long, few);
       known = λ all. known_more c.args.catalog.now (g.H.Shelf.knows c.args.shelf.now) (g.H.Shelf.knows c.open_source.new.shelf) c.args.opened.now.places.items _ _ c.args.place c.place_of.result.now c.open_source.ensures.known c.requires.place at opens.0 c.make_room.ensures.places c.put_open.ensures.places all;
-      once = once_open (entry_at c.args.catalog.now c.args.place).place c.place_of.result.now (g.H.Shelf.at c.args.shelf.now) (g.H.Shelf.at c.open_source.new.shelf) at c.open_source.ensures.elsewhere opens.2;
+      once = asks_here (entry_at c.args.catalog.now c.args.place).place c.place_of.result.now (g.H.Shelf.at c.args.shelf.now) (g.H.Shelf.at c.open_source.new.shelf) at c.open_source.ensures.elsewhere c.in-Ok-open_source.ensures.asks;
+      few_asks = λ other. few_asked _ _ _ (asks_here (entry_at c.args.catalog.now c.args.place).place c.place_of.result.now (g.H.Shelf.at c.args.shelf.now) (g.H.Shelf.at c.open_source.new.shelf) at c.open_source.ensures.elsewhere c.in-Ok-open_source.ensures.asks other);
       idle = λ all. subst (All IsIdle) (sym (c.put_open.ensures.sources ∙ ap (λ xs. xs ++ fresh_slot c.in-Some.taken.source ∷ []) c.make_room.ensures.sources))
           (All-push IsIdle c.args.slots.now.items (fresh_slot c.in-Some.taken.source) all refl);
       unread =
@@ -82,7 +85,8 @@ returns-in-None g c = record {
   many = ap length c.make_room.ensures.sources ∙ c.requires.many ∙ ap length (sym c.make_room.ensures.places);
   few = let same = ap length c.make_room.ensures.sources in let few = c.requires.few in omega (arith, same, few);
   known = λ all. known_same c.args.catalog.now (g.H.Shelf.knows c.args.shelf.now) (g.H.Shelf.knows c.open_source.new.shelf) c.args.opened.now.places.items c.make_room.new.opened.places.items c.open_source.ensures.known c.make_room.ensures.places all;
-  once = once_closed (entry_at c.args.catalog.now c.args.place).place c.place_of.result.now (g.H.Shelf.at c.args.shelf.now) (g.H.Shelf.at c.open_source.new.shelf) (sym c.place_of.ensures) c.open_source.ensures.elsewhere (match_none c.in-Ok-open_source.found _ _ c.in-Ok-open_source.ensures.opens c.in-None.is).1;
+  once = asks_here (entry_at c.args.catalog.now c.args.place).place c.place_of.result.now (g.H.Shelf.at c.args.shelf.now) (g.H.Shelf.at c.open_source.new.shelf) (sym c.place_of.ensures) c.open_source.ensures.elsewhere c.in-Ok-open_source.ensures.asks;
+  few_asks = λ other. few_asked _ _ _ (asks_here (entry_at c.args.catalog.now c.args.place).place c.place_of.result.now (g.H.Shelf.at c.args.shelf.now) (g.H.Shelf.at c.open_source.new.shelf) (sym c.place_of.ensures) c.open_source.ensures.elsewhere c.in-Ok-open_source.ensures.asks other);
   idle = λ all. subst (All IsIdle) (sym c.make_room.ensures.sources) all;
   unread = reads_here c.place_of.result.now (g.H.Shelf.at c.args.shelf.now) (g.H.Shelf.at c.open_source.new.shelf) _ _ c.open_source.ensures.elsewhere c.open_source.ensures.back
       (ap (map (of_slot g.H.Item.Source.counts)) c.make_room.ensures.sources);

@@ -2,6 +2,7 @@ use Rattle.std.proofs.Common.{◌≡◌, true, ◌∙◌, subst}
 use Rattle.source_api.specs.Places.{HasTakeCause}
 use Rattle.catalog_open.proofs.Moving.{take_failed, take_garbled, take_moves, took_none}
 use Rattle.catalog_open.proofs.Opens.{asked, asked_short}
+use Rattle.catalog_open.proofs.Once.{asked_few, asked_once, take_fails, take_garbles, take_short}
 use Rattle.catalog_open.proofs.Unread.{gives_then, took_nothing}
 use Rattle.catalog_open.proofs.opening.open_source.Goals as goal
 
@@ -20,6 +21,9 @@ returns-in-Ok g c =
       opens = asked c.ask_size.result (λ taken. g.H.Item.Source.list taken.source) (λ taken. taken.size) before mid now (g.H.Shelf.knows c.ask_size.new.shelf c.args.place.now ≡ true) (g.H.Shelf.lists c.args.shelf.now c.args.place.now) (g.H.Item.Source.list c.in-Ok.source)
           (take_moves before mid c.take.ensures.counts) c.in-Ok.ensures.taken (c.ask_size.ensures.known c.args.place.now c.in-Ok.ensures.knows) c.in-Ok.ensures.list c.ask_size.ensures.opens;
       short = asked_short c.ask_size.result before mid now c.in-Ok.ensures.taken c.ask_size.ensures.short;
+      asks = asked_once c.ask_size.result (λ taken. g.H.Item.Source.list taken.source) (λ taken. taken.size) before mid now (g.H.Item.Source.list c.in-Ok.source)
+          c.in-Ok.ensures.taken c.ask_size.ensures.opens;
+      few = asked_few c.ask_size.result before mid now c.in-Ok.ensures.taken c.ask_size.ensures.short;
     }
 
 pub returns-in-Err-Memory : goal.returns-in-Err-Memory
@@ -35,6 +39,8 @@ returns-in-Err-Memory g c =
       unread = tt;
       opens = tt;
       short = took_none before mid c.take.ensures.counts c.in-Err-Memory.ensures.untaken;
+      asks = tt;
+      few = take_short before mid c.in-Err-Memory.field-0 c.in-Err-Memory.ensures.cause c.in-Err-Memory.field-0-is;
     }
 
 pub unreachable-requires : goal.unreachable-requires
@@ -53,6 +59,8 @@ returns-in-Err-Failed g c =
       unread = tt;
       opens = (take_failed before mid c.in-Err-Failed.field-0 c.in-Err-Failed.ensures.cause c.in-Err-Failed.field-0-is, took_none before mid c.take.ensures.counts c.in-Err-Failed.ensures.untaken);
       short = tt;
+      asks = take_fails before mid c.in-Err-Failed.field-0 c.in-Err-Failed.ensures.untaken c.in-Err-Failed.ensures.cause c.in-Err-Failed.field-0-is;
+      few = tt;
     }
 
 pub returns-in-Err-Garbled : goal.returns-in-Err-Garbled
@@ -68,4 +76,6 @@ returns-in-Err-Garbled g c =
       unread = tt;
       opens = (take_garbled before mid c.in-Err-Garbled.field-0 c.in-Err-Garbled.ensures.cause c.in-Err-Garbled.field-0-is, took_none before mid c.take.ensures.counts c.in-Err-Garbled.ensures.untaken);
       short = tt;
+      asks = take_garbles before mid c.in-Err-Garbled.field-0 c.in-Err-Garbled.ensures.untaken c.in-Err-Garbled.ensures.cause c.in-Err-Garbled.field-0-is;
+      few = tt;
     }

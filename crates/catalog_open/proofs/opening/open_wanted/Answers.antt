@@ -3,11 +3,11 @@ use Rattle.std.proofs.lemmas.List.{get_or_default}
 use Rattle.std.proofs.lemmas.List.Elements.{All-from_recursion}
 use Rattle.catalog_open.specs.Entries.{IsMarked, entry_at}
 use Rattle.std.specs.Prelude.{if◌then◌else◌}
-use Rattle.catalog_open.specs.Openings.{IsKnownAt, IsUnread, TakesAtMost, one_at}
+use Rattle.catalog_open.specs.Openings.{AsksAtMost, AsksFor, IsKnownAt, IsUnread, one_at}
 use Rattle.catalog_open.specs.Slots.{IsIdle, of_slot}
 use Rattle.catalog_open.proofs.Opens.{opened_as, opened_none}
 use Rattle.catalog_open.proofs.Unread.{gives_then, none_unread, still}
-use Rattle.catalog_open.proofs.Once.{once_all, once_more, once_none}
+use Rattle.catalog_open.proofs.Once.{few_each, few_more, once_all, once_more, once_none}
 use Rattle.catalog_open.proofs.opening.open_wanted.Goals as goal
 
 pub loop-place-init : goal.loop-place-init
@@ -40,7 +40,7 @@ loop-place-preserved g c =
       known = c.visit_next.ensures.known inv.known;
       back = λ place. gives_then _ _ _ (inv.back place) (c.visit_next.ensures.unread.back place);
       once = once_more c.args.catalog.now c.args.marks.now c.loop-place.place (g.H.Shelf.at c.args.shelf.now) (g.H.Shelf.at c.loop-place.shelf) (g.H.Shelf.at c.visit_next.new.shelf) c.requires.marks (let marks = c.requires.marks in omega arith) c.loop-place.invariant.once
-          (λ place. subst (λ b. TakesAtMost (if b then one_at (entry_at c.args.catalog.now c.loop-place.place).place place else 0) (g.H.Shelf.at c.loop-place.shelf place) (g.H.Shelf.at c.visit_next.new.shelf place)) (sym (get_or_default c.args.marks.now c.loop-place.place false _ (let marks = c.requires.marks in omega arith))) (c.visit_next.ensures.once place));
+          (λ place. subst (λ b. AsksFor (if b then one_at (entry_at c.args.catalog.now c.loop-place.place).place place else 0) (g.H.Shelf.at c.loop-place.shelf place) (g.H.Shelf.at c.visit_next.new.shelf place)) (sym (get_or_default c.args.marks.now c.loop-place.place false _ (let marks = c.requires.marks in omega arith))) (c.in_ok-visit_next.ensures.once place));
       idle = c.visit_next.ensures.idle inv.idle;
       unread = c.visit_next.ensures.unread.open_ones inv.unread;
       opened = c.visit_next.ensures.opened (g.H.Shelf.lists c.args.shelf.now) c.args.marks.now (g.H.Shelf.at c.args.shelf.now) inv.lists (get_or_default c.args.marks.now c.loop-place.place false _ (omega arith)) inv.opened;
@@ -58,11 +58,10 @@ returns-in_err-visit_next-clause-known g c = c.visit_next.ensures.known c.loop-p
 pub returns-in_err-visit_next-clause-back : goal.returns-in_err-visit_next-clause-back
 returns-in_err-visit_next-clause-back g c = λ place. gives_then _ _ _ (c.loop-place.invariant.back place) (c.visit_next.ensures.unread.back place)
 
-pub returns-in_err-visit_next-clause-once : goal.returns-in_err-visit_next-clause-once
-returns-in_err-visit_next-clause-once g c =
-    once_all c.args.catalog.now c.args.marks.now (c.loop-place.place + 1) (g.H.Shelf.at c.args.shelf.now) (g.H.Shelf.at c.visit_next.new.shelf)
-    (once_more c.args.catalog.now c.args.marks.now c.loop-place.place (g.H.Shelf.at c.args.shelf.now) (g.H.Shelf.at c.loop-place.shelf) (g.H.Shelf.at c.visit_next.new.shelf) c.requires.marks (let marks = c.requires.marks in omega arith) c.loop-place.invariant.once
-    (λ place. subst (λ b. TakesAtMost (if b then one_at (entry_at c.args.catalog.now c.loop-place.place).place place else 0) (g.H.Shelf.at c.loop-place.shelf place) (g.H.Shelf.at c.visit_next.new.shelf place)) (sym (get_or_default c.args.marks.now c.loop-place.place false _ (let marks = c.requires.marks in omega arith))) (c.visit_next.ensures.once place)))
+pub returns-in_err-visit_next-clause-few_asks : goal.returns-in_err-visit_next-clause-few_asks
+returns-in_err-visit_next-clause-few_asks g c =
+    few_more c.args.catalog.now c.args.marks.now c.loop-place.place (g.H.Shelf.at c.args.shelf.now) (g.H.Shelf.at c.loop-place.shelf) (g.H.Shelf.at c.visit_next.new.shelf) c.requires.marks (let marks = c.requires.marks in omega arith) c.loop-place.invariant.once
+    (λ place. subst (λ b. AsksAtMost (if b then one_at (entry_at c.args.catalog.now c.loop-place.place).place place else 0) (g.H.Shelf.at c.loop-place.shelf place) (g.H.Shelf.at c.visit_next.new.shelf place)) (sym (get_or_default c.args.marks.now c.loop-place.place false _ (let marks = c.requires.marks in omega arith))) (c.visit_next.ensures.few_asks place))
 
 pub returns-in_err-visit_next-clause-idle : goal.returns-in_err-visit_next-clause-idle
 returns-in_err-visit_next-clause-idle g c = c.visit_next.ensures.idle c.loop-place.invariant.idle
@@ -88,7 +87,15 @@ pub returns-clause-back : goal.returns-clause-back
 returns-clause-back g c = c.loop-place.invariant.back
 
 pub returns-clause-once : goal.returns-clause-once
-returns-clause-once g c = once_all c.args.catalog.now c.args.marks.now c.loop-place.place (g.H.Shelf.at c.args.shelf.now) (g.H.Shelf.at c.loop-place.shelf) c.loop-place.invariant.once
+returns-clause-once g c =
+    let marks = c.requires.marks in
+    once_all c.args.catalog.now c.args.marks.now c.loop-place.place (g.H.Shelf.at c.args.shelf.now) (g.H.Shelf.at c.loop-place.shelf) (omega arith) c.loop-place.invariant.once
+
+pub returns-clause-few_asks : goal.returns-clause-few_asks
+returns-clause-few_asks g c =
+    let marks = c.requires.marks in
+    few_each c.args.catalog.now c.args.marks.now (g.H.Shelf.at c.args.shelf.now) (g.H.Shelf.at c.loop-place.shelf)
+    (once_all c.args.catalog.now c.args.marks.now c.loop-place.place (g.H.Shelf.at c.args.shelf.now) (g.H.Shelf.at c.loop-place.shelf) (omega arith) c.loop-place.invariant.once)
 
 pub returns-clause-idle : goal.returns-clause-idle
 returns-clause-idle g c = c.loop-place.invariant.idle

@@ -1,7 +1,7 @@
 use Rattle.std.proofs.Common.{◌≡◌, ◌≤◌, ℕ, List, length, map, take, All}
 use Rattle.source_api.specs.Places.{SameAtEach}
 use Rattle.catalog_open.specs.Entries.{IsMarked}
-use Rattle.catalog_open.specs.Openings.{AreOpened, GivesNothing, IsKnownAt, IsUnread, TakesOnce}
+use Rattle.catalog_open.specs.Openings.{AreOpened, AsksEachOnce, GivesNothing, IsKnownAt, IsUnread}
 use Rattle.catalog_open.specs.Slots.{IsIdle, of_slot}
 use Rattle.catalog_open.proofs.opening.open_wanted.Given as goal
 
@@ -15,7 +15,7 @@ invariant-loop-place g l = record {
   lists : SameAtEach (g.H.Shelf.lists l.fn.shelf) (g.H.Shelf.lists l.shelf);
   known : All (IsKnownAt l.catalog (g.H.Shelf.knows l.shelf)) l.opened.places.items;
   back : (place : List ℕ) → GivesNothing (g.H.Shelf.at l.fn.shelf place) (g.H.Shelf.at l.shelf place);
-  once : TakesOnce l.catalog (take l.place l.marks) (g.H.Shelf.at l.fn.shelf) (g.H.Shelf.at l.shelf);
+  once : AsksEachOnce l.catalog (take l.place l.marks) (g.H.Shelf.at l.fn.shelf) (g.H.Shelf.at l.shelf);
   idle : All IsIdle l.slots.items;
   unread : All IsUnread (map (of_slot g.H.Item.Source.counts) l.slots.items);
   opened : AreOpened (g.H.Shelf.lists l.fn.shelf) l.catalog (IsMarked l.marks) (g.H.Shelf.at l.fn.shelf)

@@ -7,9 +7,10 @@ use Rattle.catalog_open.specs.Openings.{IsKnownAt}
 use Rattle.catalog_open.specs.Slots.{IsIdle, of_slot}
 use Rattle.catalog_open.proofs.Opens.{opened_as, opened_none}
 use Rattle.catalog_open.proofs.Unread.{still}
-use Rattle.catalog_run.specs.Runs.{TakesEachOnce}
+use Rattle.catalog_run.specs.Runs.{AsksWantedOnce}
 use Rattle.catalog_run.proofs.Running.{if_then}
-use Rattle.catalog_run.proofs.Whole.{holds_so, opened_marked, opened_told, ran_told}
+use Rattle.catalog_open.proofs.Once.{holds_so}
+use Rattle.catalog_run.proofs.Whole.{few_still, few_wanted, opened_marked, opened_told, ran_told}
 use Rattle.catalog_run.proofs.lines.open_and_run.Goals as goal
 
 pub returns-in_default : goal.returns-in_default
@@ -28,6 +29,7 @@ returns-in_default g c =
           c.requires.openings (ap (map (of_slot g.H.Item.Source.list)) c.requires.sources) c.requires.places c.requires.counts (opened_none lists catalog Wanted at);
       all = tt;
       once = tt;
+      few = few_still catalog (map (λ line. line.now) c.args.lines.now) at at (λ place. refl);
       idle = λ place. still (at place);
       ran = tt;
       writable = tt;
@@ -49,6 +51,7 @@ returns-in_default-mark_wanted g c =
           c.requires.openings (ap (map (of_slot g.H.Item.Source.list)) c.requires.sources) c.requires.places c.requires.counts (opened_none lists catalog Wanted at);
       all = tt;
       once = tt;
+      few = few_still catalog (map (λ line. line.now) c.args.lines.now) at at (λ place. refl);
       idle = λ place. still (at place);
       ran = tt;
       writable = tt;
@@ -68,6 +71,7 @@ returns-in-Err g c =
       opened = opened_marked (g.H.Shelf.lists c.args.shelf.now) c.args.catalog.now lines c.deref-2.result.now (g.H.Shelf.at c.args.shelf.now) (g.H.Shelf.at c.open_wanted-opening.new.shelf) c.open_wanted-opening.new.opened.openings.items _ marked c.open_wanted-opening.ensures.opened;
       all = tt;
       once = tt;
+      few = few_wanted c.args.catalog.now lines c.deref-2.result.now (g.H.Shelf.at c.args.shelf.now) (g.H.Shelf.at c.open_wanted-opening.new.shelf) marked c.open_wanted-opening.ensures.few_asks;
       idle = c.open_wanted-opening.ensures.back;
       ran = tt;
       writable = tt;
@@ -94,7 +98,8 @@ returns-in-Ok-opening g c =
       free = c.run_opened.ensures.free;
       opened = opened_told (g.H.Shelf.lists c.args.shelf.now) c.args.catalog.now (IsWanted c.args.catalog.now lines) (g.H.Shelf.at c.args.shelf.now) (g.H.Shelf.at c.open_wanted-opening.new.shelf) openings told same places counts c.run_opened.ensures.lists are;
       all = holds_so c.run_opened.result (length openings ≡ length c.args.catalog.now) c.in-Ok-opening.ensures.all;
-      once = holds_so c.run_opened.result (TakesEachOnce c.args.catalog.now lines (g.H.Shelf.at c.args.shelf.now) (g.H.Shelf.at c.open_wanted-opening.new.shelf)) (c.deref-2.result.now, marked, c.open_wanted-opening.ensures.once);
+      once = holds_so c.run_opened.result (AsksWantedOnce c.args.catalog.now lines (g.H.Shelf.at c.args.shelf.now) (g.H.Shelf.at c.open_wanted-opening.new.shelf)) (c.deref-2.result.now, marked, c.in-Ok-opening.ensures.once);
+      few = few_wanted c.args.catalog.now lines c.deref-2.result.now (g.H.Shelf.at c.args.shelf.now) (g.H.Shelf.at c.open_wanted-opening.new.shelf) marked c.open_wanted-opening.ensures.few_asks;
       idle = c.open_wanted-opening.ensures.back;
       ran = if_then c.run_opened.result _ _ (c.run_opened.ensures.ran lines c.in-Ok.ensures)
           (λ outcomes ran. (begun, c.open_wanted-opening.ensures.unread, ran_told c.args.settings told same places counts begun now (view_over c.args.catalog.now openings nothing_told) lines outcomes.items c.run_opened.ensures.lists ran));

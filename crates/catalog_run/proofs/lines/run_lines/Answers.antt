@@ -3,8 +3,8 @@ use Rattle.std.proofs.lemmas.List.{length-map}
 use Rattle.catalog_open.specs.Slots.{of_slot}
 use Rattle.catalog_open.specs.Wanted.{IsWanted}
 use Rattle.catalog_open.specs.Openings.{KeepsOthers, PutsBack, put_back}
-use Rattle.catalog_run.specs.Runs.{TakesEachOnce}
-use Rattle.catalog_run.proofs.Whole.{back_keeps, both_so, if_ran, is_run, run_moves}
+use Rattle.catalog_run.specs.Runs.{AsksWantedOnce}
+use Rattle.catalog_run.proofs.Whole.{back_keeps, both_so, few_put, if_ran, is_run, run_moves}
 use Rattle.catalog_run.proofs.lines.run_lines.Goals as goal
 
 pub returns-clause-texts : goal.returns-clause-texts
@@ -30,12 +30,19 @@ returns-clause-moves g c =
     run_moves (g.H.Shelf.lists c.args.shelf.now) c.args.catalog.now (IsWanted c.args.catalog.now (map (λ line. line.now) c.args.lines.now)) (g.H.Shelf.at c.args.shelf.now) (g.H.Shelf.at r.new.shelf) (g.H.Shelf.at c.put_back_all.new.shelf) r.new.opened.openings.items _ now
     (length-map r.new.slots.items (of_slot g.H.Item.Source.counts) ∙ r.ensures.many) r.ensures.opened back
 
+pub returns-clause-few : goal.returns-clause-few
+returns-clause-few g c =
+    let r = c.open_and_run-result in
+    let now = map (of_slot g.H.Item.Source.counts) r.new.slots.items in
+    let back = subst (λ places. PutsBack (reverse (put_back c.args.catalog.now places now)) (g.H.Shelf.at r.new.shelf) (g.H.Shelf.at c.put_back_all.new.shelf)) c.deref.ensures.value c.put_back_all.ensures.moves in
+    few_put c.args.catalog.now (map (λ line. line.now) c.args.lines.now) _ (g.H.Shelf.at c.args.shelf.now) (g.H.Shelf.at r.new.shelf) (g.H.Shelf.at c.put_back_all.new.shelf) r.ensures.few back
+
 pub returns-clause-run : goal.returns-clause-run
 returns-clause-run g c =
     let r = c.open_and_run-result in
     let back = subst (λ places. PutsBack (reverse (put_back c.args.catalog.now places (map (of_slot g.H.Item.Source.counts) r.new.slots.items))) (g.H.Shelf.at r.new.shelf) (g.H.Shelf.at c.put_back_all.new.shelf)) c.deref.ensures.value c.put_back_all.ensures.moves in
     let lines = map (λ line. line.now) c.args.lines.now in
-    let Once = TakesEachOnce c.args.catalog.now lines (g.H.Shelf.at c.args.shelf.now) (g.H.Shelf.at r.new.shelf) in
+    let Once = AsksWantedOnce c.args.catalog.now lines (g.H.Shelf.at c.args.shelf.now) (g.H.Shelf.at r.new.shelf) in
     if_ran r.result _ _ ((length r.new.opened.openings.items ≡ length c.args.catalog.now) × Once) r.ensures.ran
     (both_so r.result (length r.new.opened.openings.items ≡ length c.args.catalog.now) Once r.ensures.all r.ensures.once)
     (λ outcomes ran both. is_run c.args.catalog.now (map (λ line. line.now) c.args.lines.now) (g.H.Shelf.lists c.args.shelf.now) c.args.settings (g.H.Shelf.at c.args.shelf.now) (g.H.Shelf.at r.new.shelf) (g.H.Shelf.at c.put_back_all.new.shelf) r.new.opened.openings.items _ ran.0 (map (of_slot g.H.Item.Source.counts) r.new.slots.items) outcomes.items r.ensures.opened both.0 both.1 r.ensures.idle ran.1 ran.2 back)
