@@ -1,5 +1,5 @@
 -- What fetchers did of the slots of a batch.
-use Rattle.std.proofs.Common.{◌≡◌, ◌<◌, ℕ, true, Option, Some, None, is_some, List, All, length, slice_index, slice_index_or, sym, ap, subst, ◌∙◌, arith}
+use Rattle.std.proofs.Common.{◌≡◌, ◌<◌, ◌++◌, ℕ, true, Option, Some, None, is_some, List, All, length, take, drop, slice_index, slice_index_or, sym, ap, subst, ◌∙◌, arith}
 use Rattle.std.proofs.lemmas.List.{length-map}
 use Rattle.std.proofs.lemmas.Option.{same_Some}
 use Rattle.ranked_list.specs.declared.row.Row.{Row}
@@ -12,11 +12,11 @@ use Rattle.fetcher.specs.declared.slot.Slot.{Slot}
 use Rattle.fetcher.specs.declared.turned.Fetched.{Fetched}
 use Rattle.fetcher.specs.Turning.{Feeds}
 use Rattle.fetcher.specs.Chaining.{moment, IsFetched}
-use Rattle.fetcher.specs.Metering.{IsMetered}
+use Rattle.fetcher.specs.Metering.{IsMetered, nothing}
 use Rattle.limits.specs.declared.settings.Settings.{Settings}
 use Rattle.batch_sides.specs.Slots.{SlotState, state_of, states_of, slot_at, HasFeeder, Fetches, AllFetch, AreLent, AreTakenBack}
 use Rattle.batch_run.specs.Crews.{HasFetched}
-use Rattle.batch_result.proofs.Places.{map_at, stands_at}
+use Rattle.batch_result.proofs.Places.{map_at, stands_at, lent_back}
 
 -- what one fetcher did, and that its feeder is idle
 record FetchedOne (pool : List TableId) (settings : Settings) (source count : ℕ) (before after : SlotState) (feed : Feed) : Type 0 where
@@ -24,7 +24,7 @@ record FetchedOne (pool : List TableId) (settings : Settings) (source count : �
   idle : IsIdleOf pool feed
   number : feed.source ≡ source
 
-fetched_one : (pool : List TableId) (settings : Settings) (source count : ℕ) (b l g k : SlotState) (feed end : Feed) → l ≡ record b { feeder = Some feed }
+fetched_one : (pool : List TableId) (settings : Settings) (source count : ℕ) (b l g k : SlotState) (feed end : Feed) → l ≡ record b { feeder = Some feed; fetched = nothing }
     → Fetches pool settings l g → k ≡ record g { feeder = None } → g.feeder ≡ Some end → feed ≡ first_feed (lock_at pool source) source count
     → FetchedOne pool settings source count b k end
 fetched_one pool settings source count b l g k feed end lent f back was first =
@@ -54,6 +54,13 @@ fetched_one pool settings source count b l g k feed end lent f back was first =
       number = ap (λ (x : Feed). x.source) (sym his) ∙ (f.source ∙ ap (λ (x : Feed). x.source) mine);
     }
 
+-- what a vector holds after its items were lent as a slice
+abbrev pub came_back : {A : Type 0} → ℕ → List A → List A → List A
+came_back len before after = take len (after ++ drop (length after) before)
+
+back_as : {A : Type 0} (len : ℕ) (before after : List A) → len ≡ length before → length after ≡ length before → came_back len before after ≡ after
+back_as len before after long same = ap (λ (n : ℕ). take n (after ++ drop (length after) before)) long ∙ lent_back before after same
+
 module _ {S : Type 0} (list : S → Option (List Row)) (counts : S → Counts) where
   -- the state of a slot by its place
   pub slot_is : (slots : List (Slot S)) (source : ℕ) (d : Slot S) → source < length slots
@@ -74,7 +81,7 @@ module _ {S : Type 0} (list : S → Option (List Row)) (counts : S → Counts) w
       let now : source < length after = let e = back.size in omega (arith, e, then_) in
       fetched_one pool settings source (slice_index sizes source) (slot_at (states_of list counts before) source) (state_of list counts (slice_index_or lent source d))
       (state_of list counts (slice_index_or fetched source d)) (slot_at (states_of list counts after) source) (feed_at feeds source) (feed_at ends source)
-      (subst (λ (s : SlotState). state_of list counts (slice_index_or lent source d) ≡ record s { feeder = Some (feed_at feeds source) }) (sym (slot_is before source d l)) (given.each source d l))
+      (subst (λ (s : SlotState). state_of list counts (slice_index_or lent source d) ≡ record s { feeder = Some (feed_at feeds source); fetched = nothing }) (sym (slot_is before source d l)) (given.each source d l))
       (fetch.each source d there)
       (subst (λ (s : SlotState). s ≡ record (state_of list counts (slice_index_or fetched source d)) { feeder = None }) (sym (slot_is after source d now)) (back.each source d then_))
       (back.were source d then_) first
@@ -133,6 +140,32 @@ module _ {S : Type 0} (list : S → Option (List Row)) (counts : S → Counts) w
         is = ap (λ (s : SlotState). s.feeder) (given.each i d there);
         idle = record { of = record { source = omega (arith, number, within); own = free.own ∙ ap (lock_at pool) (sym number) }; rests = free.rests };
       }
+
+  -- slots that were lent as a slice, and came back with feeders, or without them
+  pub lent_slots : (len : ℕ) (feeds : List Feed) (before lent after : List (Slot S)) → len ≡ length before → lent ≡ before → AreLent list counts feeds lent after
+      → AreLent list counts feeds before (came_back len before after)
+  lent_slots len feeds before lent after long same given =
+      let here = subst (λ (xs : List (Slot S)). AreLent list counts feeds xs after) same given in
+      subst (AreLent list counts feeds before) (sym (back_as len before after long here.size)) here
+
+  pub taken_slots : (len : ℕ) (feeds : List Feed) (before lent after : List (Slot S)) → len ≡ length before → lent ≡ before
+      → AreTakenBack list counts lent feeds after → AreTakenBack list counts before feeds (came_back len before after)
+  taken_slots len feeds before lent after long same given =
+      let here = subst (λ (xs : List (Slot S)). AreTakenBack list counts xs feeds after) same given in
+      subst (AreTakenBack list counts before feeds) (sym (back_as len before after long here.size)) here
+
+  pub empty_slots : (len : ℕ) (feeds : List Feed) (before lent after : List (Slot S)) → len ≡ length before → lent ≡ before
+      → AreTakenBack list counts lent feeds after → All (λ (slot : Slot S). slot.feeder ≡ None) after
+      → All (λ (slot : Slot S). slot.feeder ≡ None) (came_back len before after)
+  empty_slots len feeds before lent after long same given none =
+      subst (All (λ (slot : Slot S). slot.feeder ≡ None)) (sym (back_as len before after long (given.size ∙ ap length same))) none
+
+  -- nothing is fetched of them yet
+  pub all_fresh : (feeds : List Feed) (before lent : List (Slot S)) → AreLent list counts feeds before lent
+      → All (λ (slot : Slot S). slot.fetched ≡ nothing) lent
+  all_fresh feeds before lent given i d l =
+      let size = given.size in
+      ap (λ (s : SlotState). s.fetched) (given.each i d (omega (arith, l, size)))
 
   -- and have them once all fetchers have fetched
   pub all_full : (pool : List TableId) (settings : Settings) (lent fetched : List (Slot S)) → AllFetch list counts pool settings lent fetched

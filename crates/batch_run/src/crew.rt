@@ -1,6 +1,6 @@
 //! The run of a crew.
 
-ghost use Rattle.std.specs.Prelude.{◌≡◌, ◌≤◌, ◌<◌, ℕ, List, None, All, length};
+ghost use Rattle.std.specs.Prelude.{◌≡◌, ◌≤◌, ◌<◌, ◌^◌, ℕ, List, None, All, length};
 ghost use Rattle.std.specs.List.{list_any};
 ghost use Rattle.limits.specs.Ranges.{AreSettings};
 ghost use Rattle.query_turns.specs.Made.{IsReadyFor};
@@ -23,18 +23,19 @@ impl Crew {
         &mut self,
         rt: &W,
         alloc: Global,
-        slots: &mut [Slot<S>],
+        slots: &mut Vec<Slot<S>>,
         queries: &[Ready],
         settings: Settings,
     )
         requires settings { AreSettings settings }
         requires new { (counts : List ℕ) × IsNewCrew counts (length queries.now) settings.workers self.old
-            × (length counts ≡ length slots.old) × All (IsReadyFor counts) queries.now }
+            × (length counts ≡ length slots.old.items) × All (IsReadyFor counts) queries.now }
+        requires few { length slots.old.items < 2 ^ 32 }
         ensures ran { (counts : List ℕ) → IsNewCrew counts (length queries.now) settings.workers self.old → All (IsReadyFor counts) queries.now
-            → HasRun settings counts queries.now (states_of S.list S.counts slots.old) (states_of S.list S.counts slots.new) self.new }
-        ensures empty { All (λ slot. slot.feeder ≡ None) slots.new }
+            → HasRun settings counts queries.now (states_of S.list S.counts slots.old.items) (states_of S.list S.counts slots.new.items) self.new }
+        ensures empty { All (λ slot. slot.feeder ≡ None) slots.new.items }
     {
-        lend(&mut self.feeders, slots);
+        lend(&mut self.feeders, slots.as_mut_slice());
         run_sides(
             rt,
             alloc,
@@ -44,7 +45,7 @@ impl Crew {
             queries,
             settings,
         );
-        take_back(slots, &mut self.feeders);
+        take_back(slots.as_mut_slice(), &mut self.feeders);
     }
 
     /// Whether a worker wanted memory.

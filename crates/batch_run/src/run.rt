@@ -22,31 +22,32 @@ use std::thread::Threads;
 
 /// Runs all queries over the sources, those of the same numbers, which have so many objects each: as many workers as the settings say, at
 /// the same time, and beside them one fetcher a source. A worker runs, one after another and in their order, the queries whose place
-/// from 0 leaves its own number as the remainder. It may wait for ever, and does where the system makes no thread.
+/// from 0 leaves its own number as the remainder. What it needs of a source and no other thread fetches it fetches itself, so that no
+/// query needs another thread; the fetchers read ahead. A call may wait for ever.
 ///
 /// A batch comes only once all queries have ended. Where memory was wanted there is none.
 ///
-/// *Cost*: a pool, a pass for each worker, and room for the endings; then each query one `run_query`, each source one
-/// `fetch_loop`; at the end a join for each worker, `Pool::close`, and one pass over the endings.
+/// *Cost*: a pool, a pass for each worker, a lock of the slots, and room for the endings; then each query one `run_query_by`, each source
+/// the turns that its queries need and those that read ahead; at the end a join for each worker, `Pool::close`, and one pass over the endings.
 pub fn run_all<W: Threads + Wait + Sync, S: Source>(
     rt: &W,
     alloc: Global,
-    sources: &mut [Slot<S>],
+    sources: &mut Vec<Slot<S>>,
     counts: &[u32],
     queries: &[Ready],
     settings: Settings,
 ) -> Result<Batch, Memory>
     requires settings { AreSettings settings }
-    requires sources { length counts.now ≡ length sources.old }
+    requires sources { length counts.now ≡ length sources.old.items }
     requires few_sources { length counts.now < 2 ^ 32 }
     requires counts { All (λ count. count ≤ MAX_OBJECTS) counts.now }
     requires few_queries { length queries.now < 2 ^ 32 }
     requires ready { All (IsReadyFor counts.now) queries.now }
-    requires empty { All (λ slot. slot.feeder ≡ None) sources.old }
-    ensures empty { All (λ slot. slot.feeder ≡ None) sources.new }
-    ensures lists { map (λ slot. S.list slot.source) sources.new ≡ map (λ slot. S.list slot.source) sources.old }
-    ensures later { AllZip NoneFell (map (λ slot. S.counts slot.source) sources.old) (map (λ slot. S.counts slot.source) sources.new) }
-    ensures batch { IfOk result (IsBatch (run_of S.list S.counts settings counts.now queries.now sources.old sources.new)) }
+    requires empty { All (λ slot. slot.feeder ≡ None) sources.old.items }
+    ensures empty { All (λ slot. slot.feeder ≡ None) sources.new.items }
+    ensures lists { map (λ slot. S.list slot.source) sources.new.items ≡ map (λ slot. S.list slot.source) sources.old.items }
+    ensures later { AllZip NoneFell (map (λ slot. S.counts slot.source) sources.old.items) (map (λ slot. S.counts slot.source) sources.new.items) }
+    ensures batch { IfOk result (IsBatch (run_of S.list S.counts settings counts.now queries.now sources.old.items sources.new.items)) }
     ensures right { IfOk result (λ batch. AllZip IsRight queries.now batch.endings) }
 {
     let mut crew = Crew::make(alloc, counts, queries.len(), settings.workers)?;

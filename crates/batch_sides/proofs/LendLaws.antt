@@ -6,6 +6,7 @@ use Rattle.ranked_list.specs.declared.row.Row.{Row}
 use Rattle.source_api.specs.declared.counts.Counts.{Counts}
 use Rattle.source_pool.specs.Passes.{Feed, no_feed, feed_at}
 use Rattle.fetcher.specs.declared.slot.Slot.{Slot}
+use Rattle.fetcher.specs.Metering.{nothing}
 use Rattle.batch_sides.specs.Slots.{SlotState, state_of, AreLent, AreTakenBack}
 
 -- feeders that are left are no more than all
@@ -40,7 +41,7 @@ module _ {S : Type 0} (list : S → Option (List Row)) (counts : S → Counts) w
     pub left_is : left ≡ take (length left) feeds
     pub rest : (i : ℕ) (d : Slot S) → i < length left → slice_index_or now i d ≡ slice_index_or before i d
     pub done : (i : ℕ) (d : Slot S) → length left ≤ i → i < length before
-        → state_of list counts (slice_index_or now i d) ≡ record (state_of list counts (slice_index_or before i d)) { feeder = Some (feed_at feeds i) }
+        → state_of list counts (slice_index_or now i d) ≡ record (state_of list counts (slice_index_or before i d)) { feeder = Some (feed_at feeds i); fetched = nothing }
 
   pub lent_none : (feeds : List Feed) (before : List (Slot S)) → length feeds ≡ length before → LentTo feeds feeds before before
   lent_none feeds before many = record {
@@ -62,12 +63,12 @@ module _ {S : Type 0} (list : S → Option (List Row)) (counts : S → Counts) w
   -- the last feeder that is left goes to its place
   pub lent_more : (feeds left popped : List Feed) (feeder : Feed) (before now : List (Slot S)) (x : Slot S) (at : ℕ) → x ≡ slice_index_or now at x
       → length feeds ≡ length before → at ≡ length popped → LentTo feeds left before now → left ≡ popped ++ feeder ∷ []
-      → LentTo feeds popped before (slice_set now at (record (slice_index_or now at x) { feeder = Some feeder }))
+      → LentTo feeds popped before (slice_set now at (record (slice_index_or now at x) { feeder = Some feeder; fetched = nothing }))
   lent_more feeds left popped feeder before now x at _ many at_is h last =
       let there = popped_within feeds left popped feeder before now many h last in
       let within : at < length now = omega (arith, there, at_is) in
       let long : length left ≡ length popped + 1 = ap length last ∙ length_push popped feeder in
-      let new : Slot S = record (slice_index_or now at x) { feeder = Some feeder } in
+      let new : Slot S = record (slice_index_or now at x) { feeder = Some feeder; fetched = nothing } in
       let fed : feeder ≡ feed_at feeds at = last_feed feeds left popped feeder h.left_is last ∙ ap (feed_at feeds) (sym at_is) in
       record {
         size = length-set now at new ∙ h.size;
@@ -76,10 +77,10 @@ module _ {S : Type 0} (list : S → Option (List Row)) (counts : S → Counts) w
         done = λ i d ge l. elim (cases_lt at i) [
           | inl less ↦ ap (state_of list counts) (get_or-set_other now at i new d (λ q. absurd (omega (arith, q, less)))) ∙ h.done i d (omega (arith, less, long, at_is)) l
           | inr more ↦ let same : at ≡ i = omega (arith, more, ge, at_is) in
-              subst (λ (j : ℕ). state_of list counts (slice_index_or (slice_set now at new) j d) ≡ record (state_of list counts (slice_index_or before j d)) { feeder = Some (feed_at feeds j) }) same
+              subst (λ (j : ℕ). state_of list counts (slice_index_or (slice_set now at new) j d) ≡ record (state_of list counts (slice_index_or before j d)) { feeder = Some (feed_at feeds j); fetched = nothing }) same
               (ap (state_of list counts) (get_or-set_same now at new d within)
-              ∙ ap (λ (s : Slot S). record (state_of list counts s) { feeder = Some feeder }) (get_or_default now at x d within ∙ h.rest at d (omega (arith, long, at_is)))
-              ∙ ap (λ (f : Feed). record (state_of list counts (slice_index_or before at d)) { feeder = Some f }) fed)
+              ∙ ap (λ (s : Slot S). record (state_of list counts s) { feeder = Some feeder; fetched = nothing }) (get_or_default now at x d within ∙ h.rest at d (omega (arith, long, at_is)))
+              ∙ ap (λ (f : Feed). record (state_of list counts (slice_index_or before at d)) { feeder = Some f; fetched = nothing }) fed)
         ];
       }
 

@@ -6,3 +6,7 @@ pub mod ShareLaws
 pub mod Picks
 pub mod Zips
 pub mod WorkLaws
+-- Lemmas on turns at the posts.
+pub mod ServingLaws
+pub mod PassLaws
+pub mod HandLaws

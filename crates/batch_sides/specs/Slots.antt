@@ -10,7 +10,7 @@ use Rattle.fetcher.specs.declared.slot.Slot.{Slot}
 use Rattle.fetcher.specs.declared.turned.Fetched.{Fetched}
 use Rattle.fetcher.specs.Turning.{Feeds}
 use Rattle.fetcher.specs.Chaining.{moment, IsFetched}
-use Rattle.fetcher.specs.Metering.{IsMetered}
+use Rattle.fetcher.specs.Metering.{IsMetered, nothing}
 use Rattle.limits.specs.declared.settings.Settings.{Settings}
 
 -- a slot of any kind of source: the list that its source tells, what the source counted, its feeder, and what was fetched
@@ -58,11 +58,11 @@ module _ {S : Type 0} (list : S → Option (List Row)) (counts : S → Counts) w
     pub each : (i : ℕ) (d : Slot S) → i < length before
         → Fetches pool settings (state_of list counts (slice_index_or before i d)) (state_of list counts (slice_index_or after i d))
 
-  -- each slot got the feeder of its place, and else stays
+  -- each slot got the feeder of its place, nothing is fetched yet, and else it stays
   pub record AreLent (feeds : List Feed) (before after : List (Slot S)) : Type 0 where
     pub size : length after ≡ length before
     pub each : (i : ℕ) (d : Slot S) → i < length before
-        → state_of list counts (slice_index_or after i d) ≡ record (state_of list counts (slice_index_or before i d)) { feeder = Some (feed_at feeds i) }
+        → state_of list counts (slice_index_or after i d) ≡ record (state_of list counts (slice_index_or before i d)) { feeder = Some (feed_at feeds i); fetched = nothing }
 
   -- the feeders were taken out of the slots, which else stay
   pub record AreTakenBack (before : List (Slot S)) (feeds : List Feed) (after : List (Slot S)) : Type 0 where

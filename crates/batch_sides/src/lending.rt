@@ -3,11 +3,11 @@
 ghost use Rattle.std.specs.Prelude.{◌≡◌, ◌≤◌, [], true, None, All, length, is_some, vec_len, vec_capacity};
 ghost use Rattle.batch_sides.specs.Slots.{AreLent, AreTakenBack};
 
-use fetcher::Slot;
+use fetcher::{Fetched, Slot};
 use source_api::Source;
 use source_pool::Feeder;
 
-/// Puts each feeder into the slot of its source, the slots being those of the sources in their order.
+/// Puts each feeder into the slot of its source, of which nothing is fetched yet. The slots are those of the sources in their order.
 pub fn lend<S: Source>(feeders: &mut Vec<Feeder>, slots: &mut [Slot<S>])
     requires { vec_len feeders.old ≡ length slots.old }
     ensures lent { AreLent S.list S.counts feeders.old.items slots.old slots.new }
@@ -16,7 +16,9 @@ pub fn lend<S: Source>(feeders: &mut Vec<Feeder>, slots: &mut [Slot<S>])
 {
     while let Some(feeder) = feeders.pop() {
         let place = feeders.len();
-        slots[place].feeder = Some(feeder);
+        let slot = &mut slots[place];
+        slot.feeder = Some(feeder);
+        slot.fetched = Fetched { rows: 0, grades: 0 };
     }
 }
 

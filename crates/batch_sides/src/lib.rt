@@ -4,12 +4,14 @@
 //! are put into the slots and taken back.
 #![tactic(auto)]
 
-mod fetching;
+mod hands;
 mod lending;
+mod posts;
 mod sides;
 mod work;
 
-pub use fetching::fetch_all;
+pub use hands::{Fetcher, Hand, Hands};
 pub use lending::{lend, take_back};
+pub use posts::Posts;
 pub use sides::run_sides;
 pub use work::Worker;

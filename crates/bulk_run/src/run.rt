@@ -21,7 +21,7 @@ use std::sync::Wait;
 use std::thread::Threads;
 
 /// Makes a table and queries over it, runs all of these over sources in memory, on as many workers at the same time as the settings
-/// say, and gives the sums over their answers. It may wait for ever, and does where the system makes no thread.
+/// say, and gives the sums over their answers. It may wait for ever.
 ///
 /// Each query is answered, and by its one answer: the sums are the same for all settings.
 ///
@@ -75,12 +75,12 @@ fn run_over<W: Threads + Wait + Sync>(
     rt: &W,
     alloc: Global,
     input: BulkInput,
-    slots: &mut [Slot<MadeSource>],
+    slots: &mut Vec<Slot<MadeSource>>,
     settings: Settings,
 ) -> Result<Vec<Ended>, Memory>
     requires input { IsInput input }
     requires settings { AreSettings settings }
-    requires slots { slots.old ≡ map fresh_slot (table_of input) }
+    requires slots { slots.old.items ≡ map fresh_slot (table_of input) }
     ensures { IfOk result (λ endings. AllEndInOne input endings.items) }
 {
     let counts = list_counts(alloc, input)?;
@@ -95,14 +95,14 @@ fn run_queries<W: Threads + Wait + Sync>(
     input: BulkInput,
     counts: &[u32],
     readies: &[Ready],
-    slots: &mut [Slot<MadeSource>],
+    slots: &mut Vec<Slot<MadeSource>>,
     settings: Settings,
 ) -> Result<Vec<Ended>, Memory>
     requires input { IsInput input }
     requires settings { AreSettings settings }
     requires counts { counts.now ≡ replicate input.lists input.count }
     requires readies { AreMadeReady input readies.now }
-    requires slots { slots.old ≡ map fresh_slot (table_of input) }
+    requires slots { slots.old.items ≡ map fresh_slot (table_of input) }
     ensures { IfOk result (λ endings. AllEndInOne input endings.items) }
 {
     let Ok(batch) = run_all(rt, alloc, slots, counts, readies, settings) else {

@@ -29,8 +29,8 @@ use tk_io::{Intake, Pieces, ReadError, Sink, read_text};
 /// Answers the query lines that the input has, over the lists of the catalog that the options name, and writes what became of each line,
 /// in their order. The catalog's text is asked of the shelf first; only where it is a catalog is the input read, and the sources that its
 /// lines want are taken of the shelf. All that were taken are put back, however the call ends. The queries are shared out among as many
-/// threads as the settings say, and each source has one more thread that reads it: where the system makes no thread the call may wait for
-/// ever.
+/// threads as the settings say, and each source has one more thread that reads ahead. Where the system makes no thread, this one does all. The
+/// call may wait for ever.
 ///
 /// - `Done`: each line was answered.
 /// - `Partial`: a line was refused.

@@ -2,7 +2,6 @@
 pub mod Merged
 -- Lemmas on sources that stand in slots.
 pub mod Turned
-pub mod Lent
 -- Lemmas on the outcomes of lines.
 pub mod Outcomes
 pub mod Readies

@@ -19,8 +19,7 @@ use std::sync::Wait;
 use std::thread::Threads;
 
 /// Runs queries over the sources of these counts, as one batch: as many workers as the settings say, and one fetcher a source. The
-/// sources stay in their slots, in their order, where memory is refused too. A call may wait for ever, and does where the system makes
-/// no thread.
+/// sources stay in their slots, in their order, where memory is refused too. A call may wait for ever.
 pub fn run_queries<W: Threads + Wait + Sync, S: Source>(
     rt: &W,
     alloc: Global,

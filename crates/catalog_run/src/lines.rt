@@ -28,11 +28,12 @@ use std::thread::Threads;
 
 /// Answers query lines, numbered from 1, over the lists of a catalog whose sources are taken of a shelf.
 ///
-/// The lines are read, and the sources that they want are opened in the order of the catalog, each being asked of the shelf once: those of the lists that a line names which nothing refuses
-/// before its lists are opened. A source that fails at this, or is answered by garbled data, isn't open. Then the lines are admitted,
-/// and the queries that are ready run at the same time, over one state of each source: as many workers as the settings say, and beside
-/// them one fetcher a source. A call may wait for ever, and does where the system makes no thread. At last the sources are put back,
-/// where memory is refused too: each source that was taken was put back once.
+/// The lines are read, and the sources that they want are opened in the order of the catalog, each being
+/// asked of the shelf once: those of the lists that a line names which nothing refuses before its lists are
+/// opened. A source that fails at this, or is answered by garbled data, isn't open. Then the lines are
+/// admitted, and the queries that are ready run at the same time, over one state of each source: as many
+/// workers as the settings say, and beside them one fetcher a source. A call may wait for ever. At last the
+/// sources are put back, where memory is refused too: each source that was taken was put back once.
 ///
 /// *Cost*: `read_lines`, `mark_wanted`, `open_wanted`, `admit_all`, `run_all`, one outcome for each line, `put_back_all`.
 pub fn run_lines<W: Threads + Wait + Sync, H: Shelf>(

@@ -7,5 +7,6 @@ pub mod ToldLaws
 mod MoveLaws
 mod MeterLaws
 mod ChainLaws
+pub mod ServeLaws
 pub mod ClosedLaws
 pub mod PlanLaws

@@ -34,15 +34,11 @@ use Rattle.fetcher.specs.declared.turned.Turned.TheVariants as turned
 use Rattle.fetcher.specs.Turning.{Feeds, IsFed, Brings}
 use Rattle.fetcher.specs.Moving.{MovesOnly}
 use Rattle.fetcher.specs.Causes.{IsFaultOfGrade, ComesOf, HasGiven}
-use Rattle.fetcher.specs.Metering.{WentUp, RoseBy, IsMetered, nothing, counted_by, HasCountOf}
+use Rattle.fetcher.specs.Metering.{WentUp, RoseBy, IsMetered, KeepsAll, Meters, nothing, counted_by, HasCountOf}
 use Rattle.fetcher.proofs.ReachLaws.{reach_more, reach_within}
 use Rattle.fetcher.proofs.CauseLaws.{page_most, settle_bad, page_comes, settled_comes, moved_comes, comes_none}
 use Rattle.fetcher.proofs.MoveLaws.{turn_moves, rose_as, moves_none, moves_more, rose_later, rose_still}
 use Rattle.fetcher.proofs.EventLaws.{page_stays, page_all, settling_more, settling_rows, settling_fault}
-
--- all rows that were given are kept, while no row fault stands
-pub record KeepsAll (fetched : Fetched) (before now : Known LogEntry) : Type 0 where
-  pub rows : fault_in now.seen ≡ None → length (rows_in now.seen) ≡ length (rows_in before.seen) + fetched.rows
 
 went_more : (n a b now next : ℕ) → WentUp a n now → next ≡ raised now b → WentUp (a + b) n next
 went_more n a b now next went is = omega arith
@@ -199,12 +195,6 @@ page_kept given k1 k2 fed =
 
 kept_more : (start rows more before now : ℕ) → before ≤ start + rows → now ≤ before + more → now ≤ start + (rows + more)
 kept_more start rows more before now a b = omega arith
-
--- what was metered, before a turn
-pub record Meters (page ahead : ℕ) (fetched : Fetched) (counts now : Counts) (before after : Known LogEntry) : Type 0 where
-  pub metered : IsMetered page ahead fetched counts now before after
-  pub kept : KeepsAll fetched before after
-  pub since : counts.moves ≤ now.moves
 
 -- what more turns do to moves
 record Moving (counts now : Counts) (before after : Known LogEntry) : Type 0 where

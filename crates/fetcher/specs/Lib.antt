@@ -5,3 +5,4 @@ pub mod Moving
 pub mod Metering
 pub mod Chaining
 pub mod Telling
+pub mod Serving

@@ -1,9 +1,9 @@
 -- What the turns of a fetcher bring together.
-use Rattle.std.specs.Prelude.{◌≡◌, ◌≤◌, ◌<◌, ◌+◌, ◌-◌, ◌^◌, ℕ, max, [], length}
+use Rattle.std.specs.Prelude.{◌≡◌, ◌≤◌, ◌<◌, ◌+◌, ◌-◌, ◌^◌, ℕ, max, None, [], length}
 use Rattle.tk_io.specs.Faults.{Rose}
 use Rattle.turn_lock.specs.declared.known.Known.{Known}
 use Rattle.source_log.specs.declared.entry.LogEntry.{LogEntry}
-use Rattle.source_log.specs.Log.{rows_in, settled_in}
+use Rattle.source_log.specs.Log.{rows_in, settled_in, fault_in}
 use Rattle.source_state.specs.State.{State}
 use Rattle.source_state.specs.Looking.{reach_of, state_reach}
 use Rattle.source_api.specs.declared.counts.Counts.{Counts}
@@ -38,6 +38,16 @@ pub record IsMetered (page ahead : ℕ) (fetched : Fetched) (counts now : Counts
   pub failed : RoseBy (after.tally.failed - before.tally.failed) counts.faults now.faults
   pub garbled : RoseBy (after.tally.garbled - before.tally.garbled) counts.garbles now.garbles
   pub moved : MovesOnly (λ had other. Rose counts.moves now.moves) before.seen after.seen
+
+-- all rows that were given are kept, while no row fault stands
+pub record KeepsAll (fetched : Fetched) (before now : Known LogEntry) : Type 0 where
+  pub rows : fault_in now.seen ≡ None → length (rows_in now.seen) ≡ length (rows_in before.seen) + fetched.rows
+
+-- what was metered, as the next turn finds it
+pub record Meters (page ahead : ℕ) (fetched : Fetched) (counts now : Counts) (before after : Known LogEntry) : Type 0 where
+  pub metered : IsMetered page ahead fetched counts now before after
+  pub kept : KeepsAll fetched before after
+  pub since : counts.moves ≤ now.moves
 
 -- what was fetched is called for: the rows kept before and those given are together within the reach of the greatest depth that was
 -- wanted, if any were given, and the grades that were given are no more than the objects that were asked

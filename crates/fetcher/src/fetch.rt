@@ -266,7 +266,7 @@ pub fn fetch_turn<S: Source>(
 }
 
 /// What was fetched, with what one more turn brought.
-fn counted(fetched: Fetched, turned: Turned) -> Fetched
+pub(crate) fn counted(fetched: Fetched, turned: Turned) -> Fetched
     requires { HasCountOf fetched turned }
     ensures { result ≡ counted_by fetched turned }
 {

@@ -4,6 +4,7 @@
 
 mod fetch;
 mod laws;
+mod post;
 mod slot;
 mod stop;
 mod turned;
@@ -13,6 +14,7 @@ pub use laws::{
     told_lists_neither_repeat_nor_clash, turns_tell_the_list, what_a_turn_gave_tells_its_plan,
     what_is_fetched_is_called_for,
 };
+pub use post::{Began, serve_turn};
 pub use slot::Slot;
 pub use source_state::reach;
 pub use stop::Stop;

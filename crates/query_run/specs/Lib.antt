@@ -5,3 +5,4 @@ pub mod Asking
 pub mod Failing
 pub mod Ran
 pub mod Looking
+pub mod Serving

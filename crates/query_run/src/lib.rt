@@ -5,4 +5,4 @@
 mod run;
 
 pub use query_turns::{Ended, Memory};
-pub use run::run_query;
+pub use run::{run_query, run_query_by};

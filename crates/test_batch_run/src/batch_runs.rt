@@ -140,15 +140,15 @@ fn how_ran(batch: Batch, ends: &[Expected], used: &[Used]) -> Ran {
 fn run_ready<R: Threads + Wait + Sync, S: Source>(
     rt: &R,
     alloc: Global,
-    slots: &mut [Slot<S>],
+    slots: &mut Vec<Slot<S>>,
     counts: &[u32],
     readies: &[Ready],
     settings: Settings,
     expected: (&[Expected], &[Used]),
 ) -> Ran
-    requires empty { All (λ slot. slot.feeder ≡ None) slots.old }
+    requires empty { All (λ slot. slot.feeder ≡ None) slots.old.items }
     requires ready { All (IsReadyFor counts.now) readies.now }
-    ensures { All (λ slot. slot.feeder ≡ None) slots.new }
+    ensures { All (λ slot. slot.feeder ≡ None) slots.new.items }
 {
     if !are_within(settings) || !are_few(counts, slots.len(), readies.len()) {
         return Ran::Otherwise;
@@ -163,14 +163,14 @@ fn run_ready<R: Threads + Wait + Sync, S: Source>(
 pub fn run_ends_so<R: Threads + Wait + Sync, S: Source>(
     rt: &R,
     alloc: Global,
-    slots: &mut [Slot<S>],
+    slots: &mut Vec<Slot<S>>,
     counts: &[u32],
     asked: &[Asked],
     settings: Settings,
     expected: (&[Expected], &[Used]),
 ) -> Result<Ran, Fail>
-    requires { All (λ slot. slot.feeder ≡ None) slots.old }
-    ensures { All (λ slot. slot.feeder ≡ None) slots.new }
+    requires { All (λ slot. slot.feeder ≡ None) slots.old.items }
+    ensures { All (λ slot. slot.feeder ≡ None) slots.new.items }
 {
     let Some(readies) = readies_of(alloc, counts, asked) else {
         return Ok(Ran::Otherwise);

@@ -53,10 +53,10 @@ pub const PLAIN: Settings = Settings {
 fn is_run_so<R: Threads + Wait + Sync>(
     rt: &R,
     alloc: Global,
-    slots: &mut [Slot<MemSource>],
+    slots: &mut Vec<Slot<MemSource>>,
     case: &Case,
 ) -> Result<bool, Fail>
-    requires { All (λ slot. slot.feeder ≡ None) slots.old }
+    requires { All (λ slot. slot.feeder ≡ None) slots.old.items }
 {
     let ran = run_ends_so(
         rt,

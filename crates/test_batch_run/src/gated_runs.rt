@@ -86,12 +86,12 @@ fn add_slots<'a>(
 fn runs_as<R: Threads + Wait + Sync>(
     rt: &R,
     alloc: Global,
-    slots: &mut [Slot<Gated>],
+    slots: &mut Vec<Slot<Gated>>,
     case: &Case,
     expected: Ran,
 ) -> Result<bool, Fail>
-    requires { All (λ slot. slot.feeder ≡ None) slots.old }
-    ensures { All (λ slot. slot.feeder ≡ None) slots.new }
+    requires { All (λ slot. slot.feeder ≡ None) slots.old.items }
+    ensures { All (λ slot. slot.feeder ≡ None) slots.new.items }
 {
     let used: &[Used] = &[];
     let ran = run_ends_so(
@@ -127,10 +127,10 @@ enum Runs {
 fn goes_once<R: Threads + Wait + Sync>(
     rt: &R,
     alloc: Global,
-    slots: &mut [Slot<Gated>],
+    slots: &mut Vec<Slot<Gated>>,
     case: &Case,
 ) -> Result<bool, Fail>
-    requires { All (λ slot. slot.feeder ≡ None) slots.old }
+    requires { All (λ slot. slot.feeder ≡ None) slots.old.items }
 {
     let so = runs_as(rt, alloc, slots, case, Ran::So)?;
     Ok(so && faults_of(slots) == case.faults)
@@ -140,10 +140,10 @@ fn goes_once<R: Threads + Wait + Sync>(
 fn goes_twice<R: Threads + Wait + Sync>(
     rt: &R,
     alloc: Global,
-    slots: &mut [Slot<Gated>],
+    slots: &mut Vec<Slot<Gated>>,
     case: &Case,
 ) -> Result<bool, Fail>
-    requires { All (λ slot. slot.feeder ≡ None) slots.old }
+    requires { All (λ slot. slot.feeder ≡ None) slots.old.items }
 {
     if runs_as(rt, alloc, slots, case, Ran::Short)? {
         runs_as(rt, alloc, slots, case, Ran::So)
@@ -156,11 +156,11 @@ fn goes_twice<R: Threads + Wait + Sync>(
 fn is_run_so<R: Threads + Wait + Sync>(
     rt: &R,
     alloc: Global,
-    slots: &mut [Slot<Gated>],
+    slots: &mut Vec<Slot<Gated>>,
     case: &Case,
     runs: Runs,
 ) -> Result<bool, Fail>
-    requires { All (λ slot. slot.feeder ≡ None) slots.old }
+    requires { All (λ slot. slot.feeder ≡ None) slots.old.items }
 {
     match runs {
         Runs::Once => goes_once(rt, alloc, slots, case),

@@ -32,8 +32,8 @@ const WORDS_REFUSED: &[u8] = b"refused words\n";
 /// are answered with `refused words`.
 ///
 /// The queries of `run` and `bulk` are shared out among as many threads as their options say, and each source
-/// has one more thread that reads it. Where the system makes no thread these two may wait for ever; the other
-/// commands start none.
+/// has one more thread that reads ahead; where the system makes no thread, this one does all. These two may wait
+/// for ever; the other commands start no thread.
 #[tactic(auto, using(crate::proofs::Settings::run_settings, crate::proofs::Settings::bulk_settings))]
 pub fn top<W: Threads + Wait + Sync, H: Shelf, R: Intake, K: Sink>(
     rt: &W,

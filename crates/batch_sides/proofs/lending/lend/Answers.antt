@@ -14,22 +14,8 @@ bounds-slots-place g c =
     c.args.slots.now c.loop-feeder.slots (omega (arith, c.requires, c.args.feeders.now.ok.0)) c.loop-feeder.invariant.lent c.in-Some.ensures.items in
     omega (arith, there, c.pop.new.self.ok.0)
 
-pub bounds-slots-place-in-Some : goal.bounds-slots-place-in-Some
-bounds-slots-place-in-Some g c =
-    let there = popped_within g.S.Source.list g.S.Source.counts c.args.feeders.now.items c.loop-feeder.feeders.items c.pop.new.self.items c.in-Some.feeder
-    c.args.slots.now c.loop-feeder.slots (omega (arith, c.requires, c.args.feeders.now.ok.0)) c.loop-feeder.invariant.lent c.in-Some.ensures.items in
-    omega (arith, there, c.pop.new.self.ok.0)
-
 pub loop-feeder-preserved : goal.loop-feeder-preserved
 loop-feeder-preserved g c = record {
-  lent = lent_more g.S.Source.list g.S.Source.counts c.args.feeders.now.items c.loop-feeder.feeders.items c.pop.new.self.items c.in-Some.feeder c.args.slots.now
-      c.loop-feeder.slots c.index-slots-place.result _ c.index-slots-place.is (omega (arith, c.requires, c.args.feeders.now.ok.0)) (omega (arith, c.pop.new.self.ok.0))
-      c.loop-feeder.invariant.lent c.in-Some.ensures.items;
-  room = c.in-Some.ensures.capacity ∙ c.loop-feeder.invariant.room;
-}
-
-pub loop-feeder-preserved-in-Some : goal.loop-feeder-preserved-in-Some
-loop-feeder-preserved-in-Some g c = record {
   lent = lent_more g.S.Source.list g.S.Source.counts c.args.feeders.now.items c.loop-feeder.feeders.items c.pop.new.self.items c.in-Some.feeder c.args.slots.now
       c.loop-feeder.slots c.index-slots-place.result _ c.index-slots-place.is (omega (arith, c.requires, c.args.feeders.now.ok.0)) (omega (arith, c.pop.new.self.ok.0))
       c.loop-feeder.invariant.lent c.in-Some.ensures.items;

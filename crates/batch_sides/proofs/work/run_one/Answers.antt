@@ -7,8 +7,8 @@ returns-then-is_err-clause-ran g c = ran_nothing c.args.ready.now c.args.worker.
 
 pub returns-in-Ok-clause-ran : goal.returns-in-Ok-clause-ran
 returns-in-Ok-clause-ran g c =
-    ran_one c.args.ready.now c.args.worker.now _ c.run_query.new.pass c.in-Ok.ended refl refl
-    (λ long. c.push_reserved.ensures.items ∙ ap (λ es. es ++ c.in-Ok.ended ∷ []) c.reserve.ensures.items) c.run_query.ensures.advances c.in-Ok.ensures.ran c.in-Ok.ensures.right
+    ran_one c.args.ready.now c.args.worker.now _ c.run_query_by.new.pass c.in-Ok.ended refl refl
+    (λ long. c.push_reserved.ensures.items ∙ ap (λ es. es ++ c.in-Ok.ended ∷ []) c.reserve.ensures.items) c.run_query_by.ensures.advances c.in-Ok.ensures.ran c.in-Ok.ensures.right
 
 pub returns-in-Err-clause-ran : goal.returns-in-Err-clause-ran
-returns-in-Err-clause-ran g c = ran_short c.args.ready.now c.args.worker.now _ refl refl c.run_query.ensures.advances
+returns-in-Err-clause-ran g c = ran_short c.args.ready.now c.args.worker.now _ refl refl c.run_query_by.ensures.advances

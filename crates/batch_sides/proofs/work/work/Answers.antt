@@ -4,19 +4,21 @@ use Rattle.batch_sides.proofs.work.work.Goals as goal
 
 pub loop-place-init : goal.loop-place-init
 loop-place-init g c = record {
-  own = c.requires.own;
-  rests = c.requires.rests;
+  by = refl;
+  own = c.requires.work.own;
+  rests = c.requires.work.rests;
   number = refl;
   knows = knows_same c.args.worker.now.pass;
-  ran = λ long. ran_none c.args.workers c.args.worker.now c.requires.none c.requires.idle;
+  ran = λ long. ran_none c.args.workers c.args.worker.now c.requires.work.none c.requires.work.idle;
 }
 
 pub run_at-requires-clause-sources : goal.run_at-requires-clause-sources
 run_at-requires-clause-sources g c =
-    all_sources_stay c.args.worker.now.pass c.loop-place.worker.pass c.args.queries.now c.loop-place.invariant.knows c.requires.sources
+    all_sources_stay c.args.worker.now.pass c.loop-place.worker.pass c.args.queries.now c.loop-place.invariant.knows c.requires.work.sources
 
 pub loop-place-preserved : goal.loop-place-preserved
 loop-place-preserved g c = record {
+  by = c.run_at.ensures.served ∙ c.loop-place.invariant.by;
   own = c.run_at.ensures.own;
   rests = c.run_at.ensures.rests;
   number = c.run_at.ensures.number ∙ c.loop-place.invariant.number;
@@ -24,8 +26,8 @@ loop-place-preserved g c = record {
   ran = λ long. let r = c.run_at.ensures.ran long in r.1 (c.loop-place.invariant.ran r.0);
 }
 
-pub returns : goal.returns
-returns g c =
+pub returns-clause-worked : goal.returns-clause-worked
+returns-clause-worked g c =
     let inv = c.loop-place.invariant in
     record {
       number = inv.number;

@@ -6,6 +6,7 @@ use Rattle.batch_sides.proofs.work.work.Given as goal
 
 abbrev pub invariant-loop-place : goal.invariant-loop-place
 invariant-loop-place g l = record {
+  by : l.by ≡ l.fn.by;
   own : IsPassOf l.pool l.worker.pass;
   rests : WaitsForNothing l.worker.pass;
   number : l.worker.number ≡ l.fn.worker.number;

@@ -8,7 +8,7 @@ use Rattle.bulk_run.proofs.run.run_queries.Goals as goal
 pub run_all-requires-clause-sources : goal.run_all-requires-clause-sources
 run_all-requires-clause-sources g c κs within =
     let input = c.args.input in
-    counts_long input c.args.counts.now c.requires.counts ∙ sym (slots_long input.start input.count input.lists c.args.slots.now c.requires.slots)
+    counts_long input c.args.counts.now c.requires.counts ∙ sym (slots_long input.start input.count input.lists c.args.slots.now.items c.requires.slots)
 
 pub run_all-requires-clause-few_sources : goal.run_all-requires-clause-few_sources
 run_all-requires-clause-few_sources g c κs within =
@@ -29,10 +29,10 @@ pub run_all-requires-clause-ready : goal.run_all-requires-clause-ready
 run_all-requires-clause-ready g c κs within = all_ready_for c.args.input c.args.readies.now c.args.counts.now c.requires.counts c.requires.readies
 
 pub run_all-requires-clause-empty : goal.run_all-requires-clause-empty
-run_all-requires-clause-empty g c κs within = none_fed c.args.input.start c.args.input.count c.args.input.lists c.args.slots.now c.requires.slots
+run_all-requires-clause-empty g c κs within = none_fed c.args.input.start c.args.input.count c.args.input.lists c.args.slots.now.items c.requires.slots
 
 pub returns : goal.returns
 returns g c =
     subst (AllEndInOne c.args.input) (sym c.into_endings.ensures)
-    (ran_in_one c.args.input c.args.settings c.args.counts.now c.args.readies.now c.args.slots.now c.run_all.new.sources c.in-Ok.batch c.requires.readies
+    (ran_in_one c.args.input c.args.settings c.args.counts.now c.args.readies.now c.args.slots.now.items c.run_all.new.sources.items c.in-Ok.batch c.requires.readies
     c.requires.slots c.told_tables_give_the_one_ending.ensures c.in-Ok.ensures.batch)

@@ -4,8 +4,9 @@ use Rattle.fetcher.specs.Turning.{Brings}
 use Rattle.fetcher.specs.Chaining.{moment, point}
 use Rattle.fetcher.proofs.ChainLaws.{fetched_none, fetched_more, calls_none, calls_more}
 use Rattle.fetcher.specs.Moving.{IsMovedAs, IsCountedMove}
+use Rattle.fetcher.specs.Metering.{Meters}
 use Rattle.fetcher.proofs.MoveLaws.{turn_moves, counted_as, moves_none, counted_more}
-use Rattle.fetcher.proofs.MeterLaws.{Meters, meter_none, meter_more, counts_fit, feeds_same, feeds_on}
+use Rattle.fetcher.proofs.MeterLaws.{meter_none, meter_more, counts_fit, feeds_same, feeds_on}
 use Rattle.fetcher.proofs.fetch.fetch_loop.Goals as goal
 
 pub loop-init : goal.loop-init

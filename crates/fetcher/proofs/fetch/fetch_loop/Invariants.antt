@@ -4,7 +4,7 @@ use Rattle.source_api.specs.Counting.{NoneFell}
 use Rattle.fetcher.specs.Turning.{Feeds}
 use Rattle.fetcher.specs.Chaining.{moment, IsFetched, point, MadeItsCalls}
 use Rattle.fetcher.specs.Moving.{HasMovesOf}
-use Rattle.fetcher.proofs.MeterLaws.{Meters}
+use Rattle.fetcher.specs.Metering.{Meters}
 use Rattle.fetcher.proofs.fetch.fetch_loop.Given as goal
 
 abbrev pub invariant-loop : goal.invariant-loop

@@ -1,10 +1,11 @@
-use Rattle.std.proofs.Common.{sym, ◌∙◌}
+use Rattle.std.proofs.Common.{refl, sym, ◌∙◌}
 use Rattle.query_run.proofs.Stops.{looked_none, looked_on, stopped}
 use Rattle.query_run.proofs.run.look_on.Goals as goal
 
 pub loop-init : goal.loop-init
 loop-init g c = record {
   own = c.requires.own;
+  by = refl;
   looked = looked_none c.args.pass.now c.args.query.now c.requires.rests c.requires.reading c.requires.unrefused;
 }
 
@@ -15,6 +16,7 @@ returns-then-is_ended-clause-stopped g c =
 pub loop-preserved : goal.loop-preserved
 loop-preserved g c = record {
   own = c.look_once.ensures.own;
+  by = c.look_once.ensures.served ∙ c.loop.invariant.by;
   looked = looked_on c.args.pass.now c.loop.pass c.look_once.new.pass c.args.query.now c.loop.query c.look_once.new.query
       (c.look_once.ensures.own.size ∙ sym c.loop.invariant.own.size) c.loop.invariant.looked (sym c.is_ended.ensures ∙ c.if-is_ended.false) c.look_once.ensures.look;
 }

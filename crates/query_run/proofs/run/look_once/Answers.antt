@@ -1,4 +1,4 @@
-use Rattle.std.proofs.Common.{ℕ, sym, ap, subst, ◌∙◌}
+use Rattle.std.proofs.Common.{ℕ, sym, ap, subst, ◌∙◌, arith}
 use Rattle.ranked_list.specs.declared.need.Need.{Need}
 use Rattle.source_pool.specs.Looks.{MayLookFor}
 use Rattle.source_pool.specs.Passes.{hold_at}
@@ -46,3 +46,21 @@ returns-clause-look g c =
       within = c.look-look.ensures.within;
     }))
     c.answer.ensures.answers c.answer.ensures.run c.answer.ensures.same c.answer.ensures.sources c.answer.ensures.waiting
+
+pub rest-requires-clause-may : goal.rest-requires-clause-may
+rest-requires-clause-may g c =
+    let place = place_of c.args.pass.now c.args.query.now c.requires.reading c.requires.going in
+    let at = source_read c.args.pass.now c.args.query.now c.need-need.result c.from.result c.index-source.result.now place
+    c.need-need.ensures.need (c.from.ensures ∙ c.list_needed-list.ensures) c.index-source.ensures in
+    let there = place.there in
+    let size = c.requires.own.size in
+    c.requires.serves.may c.index-source.result.now (omega (arith, at, there, size))
+
+pub rest-requires-clause-stays : goal.rest-requires-clause-stays
+rest-requires-clause-stays g c =
+    let place = place_of c.args.pass.now c.args.query.now c.requires.reading c.requires.going in
+    let at = source_read c.args.pass.now c.args.query.now c.need-need.result c.from.result c.index-source.result.now place
+    c.need-need.ensures.need (c.from.ensures ∙ c.list_needed-list.ensures) c.index-source.ensures in
+    let there = place.there in
+    let size = c.requires.own.size in
+    c.requires.serves.stays c.index-source.result.now (omega (arith, at, there, size))

@@ -3,7 +3,7 @@ use Rattle.std.proofs.lemmas.Result.{IfOk-weaker}
 use Rattle.query_turns.specs.Endings.{EndsAs, IsRight}
 use Rattle.query_run.specs.Ran.{Ran}
 use Rattle.query_run.proofs.Stops.{fresh_reads, ran, ran_right}
-use Rattle.query_run.proofs.run.run_query.Goals as goal
+use Rattle.query_run.proofs.run.run_query_by.Goals as goal
 
 pub look_on-requires-clause-reading : goal.look_on-requires-clause-reading
 look_on-requires-clause-reading g c = fresh_reads c.args.pass.now c.args.ready.now c.in_ok-query.query c.requires.sources c.in_ok-query.ensures

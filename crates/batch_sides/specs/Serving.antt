@@ -1,0 +1,25 @@
+-- Turns at the posts of a run, and who may take them.
+use Rattle.std.specs.Prelude.{◌≡◌, ℕ, None, Some, List, length, vec_len}
+use Rattle.atomic_table.specs.Seated.{TableId}
+use Rattle.keyed_lock.specs.declared.hold.Hold.{Hold}
+use Rattle.keyed_lock.specs.Hold.{Lock, IsPassOf}
+use Rattle.fetcher.specs.declared.post.Began.{Began}
+use Rattle.batch_sides.specs.declared.posts.Posts.{Posts}
+
+-- the posts are those of the sources of this pool, in their order
+pub record ArePosts {S : Type 0} (posts : Posts S) (pool : List TableId) : Type 0 where
+  pub of : posts.lock.key.pool.value ≡ pool
+  pub page : posts.lock.key.page ≡ posts.page
+  pub ahead : posts.lock.key.ahead ≡ posts.ahead
+  pub size : posts.lock.size ≡ length pool
+  pub bells : vec_len posts.bells ≡ length pool
+
+-- who has this pass may take turns at the posts
+pub record MayServe {S : Type 0} (posts : Posts S) (pool : List TableId) (pass : TableId × Hold (Began S)) : Type 0 where
+  pub posts_are : ArePosts posts pool
+  pub own : IsPassOf posts.lock pass
+  pub rests : pass.1.held ≡ None
+
+-- a pass of a lock that has so many parts, and no value
+abbrev pub share_of : {K : Type 0} → Lock K → ℕ → TableId × Hold K
+share_of lock parts = (lock.id, record { key = Some lock.key; parts = parts; held = None })
