@@ -16,7 +16,7 @@ pub(crate) fn rows_of(alloc: Global, response: &[u8]) -> Option<usize> {
     let list = value.get("rows")?.as_array()?;
     let mut rows = Vec::with_capacity(alloc, list.len()).ok()?;
     for pair in list {
-        rows.push_reserved(row_of(pair)?);
+        rows.push(row_of(pair)?).ok()?;
     }
     Some(rows.len())
 }

@@ -1,4 +1,5 @@
--- What a call answers, by what is said. The cases of each definition exclude each other, so that each answer but Failed and Memory comes exactly where its case holds.
+-- What a call answers, by what is said. The cases of each definition exclude each other, so that each answer but Failed and Memory comes
+-- exactly where its case holds.
 use Rattle.std.specs.Prelude.{◌≡◌, ◌≢◌, ◌<◌, ◌≤◌, ℕ, List, Option, Result, Ok, Err, length, vec_len, ⊤}
 use Rattle.std.specs.Global.{Vec}
 use Rattle.ranked_list.specs.declared.row.Row.{Row}

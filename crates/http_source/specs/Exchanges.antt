@@ -39,9 +39,12 @@ pub record OneLinkInPart (request : List ℕ) (links links_now : Option (List (L
   pub took : IfSome links (λ told. TookFront (Some []) one.taken request)
 
 -- a call makes one request on one link, which it gives back; where it fails or memory is refused there may be no link, or a front of the request
-abbrev pub UsesLink : {T : Type 0} → List ℕ → Option (List (List ℕ)) → Option (List (List ℕ)) → Option (List Closed) → Option (List Closed) → Result T Trouble → Type 0
-UsesLink request links links_now closed closed_now (Err Failed) = NoLink links links_now closed closed_now ⊎ OneLinkInPart request links links_now closed closed_now
-UsesLink request links links_now closed closed_now (Err Memory) = NoLink links links_now closed closed_now ⊎ OneLinkInPart request links links_now closed closed_now
+abbrev pub UsesLink : {T : Type 0} → List ℕ → Option (List (List ℕ)) → Option (List (List ℕ)) → Option (List Closed) → Option (List Closed)
+    → Result T Trouble → Type 0
+UsesLink request links links_now closed closed_now (Err Failed) =
+    NoLink links links_now closed closed_now ⊎ OneLinkInPart request links links_now closed closed_now
+UsesLink request links links_now closed closed_now (Err Memory) =
+    NoLink links links_now closed closed_now ⊎ OneLinkInPart request links links_now closed closed_now
 UsesLink request links links_now closed closed_now _ = OneLink request links links_now closed closed_now
 
 -- a call fails exactly where its dial's count rose: the count rises where it fails, and stays where it doesn't

@@ -27,7 +27,8 @@ counts_code =
 -- a source is stored as its fields in a row
 abbrev pub served_code : {D : Type 0} → Coded D → Coded (Served D)
 served_code {D} c =
-    code_by (D × (List ℕ × (ℕ × (List ℕ × (ℕ × Counts))))) (coded× c (coded× (coded_list coded_ℕ) (coded× coded_ℕ (coded× (coded_list coded_ℕ) (coded× coded_ℕ counts_code)))))
+    code_by (D × (List ℕ × (ℕ × (List ℕ × (ℕ × Counts)))))
+    (coded× c (coded× (coded_list coded_ℕ) (coded× coded_ℕ (coded× (coded_list coded_ℕ) (coded× coded_ℕ counts_code)))))
     (λ s. (s.dial, (s.host, (s.port, (s.path, (s.version, s.counted))))))
     (λ p. record { dial = p.0; host = p.1.0; port = p.1.1.0; path = p.1.1.1.0; version = p.1.1.1.1.0; counted = p.1.1.1.1.1 }) (λ _. refl)
 

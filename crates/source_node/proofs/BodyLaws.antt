@@ -1,5 +1,5 @@
 -- The body of an answer says it.
-use Rattle.std.proofs.Common.{◌≡◌, ℕ, ◌+◌, ◌*◌, ◌<◌, ◌≤◌, ◌^◌, List, length, All, Option, Some, None, IfSome, arith}
+use Rattle.std.proofs.Common.{ℕ, ◌+◌, ◌*◌, ◌<◌, ◌≤◌, ◌^◌, List, length, All, Option, IfSome, arith}
 use Rattle.ranked_list.specs.declared.row.Row.{Row}
 use Rattle.page_json.specs.Bodies.{IsSizeBody, IsPageBody, IsGradeBody, Fits}
 use Rattle.page_json.specs.Texts.{size_text, page_text, grade_text}

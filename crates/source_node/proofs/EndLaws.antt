@@ -1,8 +1,7 @@
 -- How a connection ends, by how its parts did.
-use Rattle.std.proofs.Common.{◌≡◌, ℕ, Bool, true, false, cond, ap, ◌⊎◌, inl, inr, List, [], ◌∷◌, length, codes, Option, Some, None, IfSome, Result, Ok, Err, refl, sym, subst, ◌∙◌}
+use Rattle.std.proofs.Common.{◌≡◌, ℕ, Bool, true, false, cond, ap, inl, inr, List, [], ◌∷◌, length, codes, Option, Some, None, IfSome, Result, Ok, Err, refl, sym, subst, ◌∙◌}
 use Rattle.std.specs.Result.{IsOk}
 use Rattle.std.specs.Str.{bytes_eq}
-use Rattle.tk_io.specs.Faults.{Rose}
 use Rattle.wire.specs.Heads.{AnswersRequest}
 use Rattle.wire.specs.declared.fault.WireFault.{WireFault}
 use Rattle.wire.specs.declared.fault.WireFault.TheVariants.{BadMessage, TooLong}
@@ -68,9 +67,11 @@ no_memory name method target is = by_method (bytes_eq method (codes "GET")) is
     by_route : (query : List ℕ) (call : Option Route) → on_route query call ≡ Err NoMemory → ⊥
     by_route query None e = absurd cc
     by_route query (Some call) e = absurd cc
+
     by_target : (parts : Option Parts) → by_parts name parts ≡ Err NoMemory → ⊥
     by_target None e = absurd cc
     by_target (Some parts) e = by_route parts.query (route_of name parts.path) e
+
     by_method : (t : Bool) → cond t (by_parts name (parts_of target)) (Err MethodNotAllowed) ≡ Err NoMemory → ⊥
     by_method true e = by_target (parts_of target) e
     by_method false e = absurd cc

@@ -12,7 +12,7 @@ use Rattle.source_node.specs.declared.asked.Route.{Route}
 use Rattle.source_node.specs.declared.asked.Route.TheVariants as route
 use Rattle.source_node.specs.declared.asked.Matched.{Matched}
 use Rattle.source_node.specs.declared.refusal.Refusal.{Refusal}
-use Rattle.source_node.specs.declared.refusal.Refusal.TheVariants.{TooLarge, BadRequest, NotFound, MethodNotAllowed, SourceFailed, NoMemory}
+use Rattle.source_node.specs.declared.refusal.Refusal.TheVariants.{BadRequest, NotFound, MethodNotAllowed, NoMemory}
 
 -- a request that is on a route: the call, and the query part
 pub record OnRoute : Type 0 where

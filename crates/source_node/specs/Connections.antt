@@ -1,5 +1,5 @@
 -- How a connection of a node ends.
-use Rattle.std.specs.Prelude.{◌≡◌, ℕ, Bool, true, false, ◌⊎◌, List, codes, Option, Some, None, IfSome, Result, Ok, Err, IsOk, ⊤}
+use Rattle.std.specs.Prelude.{◌≡◌, ℕ, Bool, false, ◌⊎◌, List, codes, Option, Some, IfSome, Result, Ok, Err, IsOk}
 use Rattle.std.specs.Option.{unwrap_or}
 use Rattle.std.specs.Str.{bytes_eq}
 use Rattle.std.specs.Io.KnownBytes.{Appends}
@@ -8,7 +8,7 @@ use Rattle.tk_io.specs.Whole.{TookFront}
 use Rattle.wire.specs.Heads.{AnswersRequest}
 use Rattle.wire.specs.Writing.{reply_text}
 use Rattle.wire.specs.declared.fault.WireFault.{WireFault}
-use Rattle.wire.specs.declared.fault.WireFault.TheVariants.{LinkFault as Link, BadMessage, TooLong, Memory as Want}
+use Rattle.wire.specs.declared.fault.WireFault.TheVariants.{BadMessage, TooLong}
 use Rattle.wire.specs.declared.request.Head.{Head}
 use Rattle.wire.specs.declared.writing.Kind.TheVariants.{Text, Json}
 use Rattle.source_api.specs.declared.counts.Counts.{Counts}
@@ -20,7 +20,7 @@ use Rattle.source_node.specs.declared.answer.Answer.{Answer}
 use Rattle.source_node.specs.declared.node.ConnEnd.{ConnEnd}
 use Rattle.source_node.specs.declared.node.ConnEnd.TheVariants.{Replied, LinkFault, Memory}
 use Rattle.source_node.specs.declared.refusal.Refusal.{Refusal}
-use Rattle.source_node.specs.declared.refusal.Refusal.TheVariants.{TooLarge, BadRequest, NotFound, MethodNotAllowed, SourceFailed, NoMemory}
+use Rattle.source_node.specs.declared.refusal.Refusal.TheVariants.{TooLarge, BadRequest, SourceFailed, NoMemory}
 
 -- what stands before and after a connection: the bytes that the link had to give and those that it took, where it tells them, its
 -- counts of faults, and the source

@@ -1,8 +1,8 @@
 -- What is read of the reply with an answer.
-use Rattle.std.specs.Prelude.{◌≡◌, ℕ, ◌<◌, ◌≤◌, ◌^◌, List, length, All, Option, Some, option_map, IfSome, Result, Ok, Err, ⊤}
+use Rattle.std.specs.Prelude.{◌≡◌, ℕ, ◌<◌, ◌≤◌, ◌^◌, List, length, All, Some, option_map, IfSome, Result, Ok, Err, ⊤}
 use Rattle.limits.specs.declared.TheConstants.{MAX_PAGE}
 use Rattle.wire.specs.declared.fault.WireFault.{WireFault}
-use Rattle.wire.specs.declared.fault.WireFault.TheVariants.{LinkFault, BadMessage, TooLong, Memory}
+use Rattle.wire.specs.declared.fault.WireFault.TheVariants.{LinkFault, Memory}
 use Rattle.wire.specs.declared.response.Reply.{Reply}
 use Rattle.page_json.specs.Bodies.{IsSizeBody, IsPageBody, IsGradeBody, Fits}
 use Rattle.source_node.specs.declared.answer.Answer.{Answer}

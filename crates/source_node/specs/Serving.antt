@@ -1,8 +1,7 @@
 -- What a source is asked, what it answers, and how that is written.
-use Rattle.std.specs.Prelude.{◌≡◌, ◌≢◌, ℕ, ◌+◌, ◌-◌, ◌^◌, ◌≤◌, ◌⊎◌, List, [], ◌∷◌, ◌++◌, length, take, drop, Option, Some, None, IfSome, option_map, Result, Ok, Err, ⊤}
+use Rattle.std.specs.Prelude.{◌≡◌, ℕ, ◌+◌, ◌-◌, ◌^◌, ◌≤◌, ◌⊎◌, List, [], ◌∷◌, ◌++◌, length, take, drop, Option, IfSome, option_map, Result, Ok, Err}
 use Rattle.ranked_list.specs.declared.row.Row.{Row}
 use Rattle.page_json.specs.Texts.{size_text, page_text, grade_text}
-use Rattle.tk_io.specs.Faults.{Rose}
 use Rattle.source_api.specs.declared.counts.Counts.{Counts}
 use Rattle.source_api.specs.declared.source.Trouble.{Trouble}
 use Rattle.source_api.specs.declared.source.Trouble.TheVariants as trouble

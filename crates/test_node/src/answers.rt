@@ -1,42 +1,136 @@
 //! What a node answers of the list A, at each version that it states.
 
-use super::visits::{A, FAILED, Parts, a_that, replies};
 use super::none_is_wrong;
+use super::visits::{A, CLOSE, FAILED, OK, Parts, replies};
 use std::alloc::Global;
 use test_source_support::{Held, Kind, Move, source_of};
 
 /// The requests for the size, for a page, and for a grade.
 const SIZE: Parts = &[b"GET /lists/A/size HTTP/1.1\r\nHost: h\r\n\r\n"];
+
 const PAGE: Parts = &[b"GET /lists/A/page?from=0&count=2 HTTP/1.1\r\nHost: h\r\n\r\n"];
+
 const GRADE: Parts = &[b"GET /lists/A/grade?object=3 HTTP/1.1\r\nHost: h\r\n\r\n"];
 
 /// What an answer is of: requests one after another to one source, of which the last gets the reply.
-type Visit = (Held, Option<u64>, &'static [Parts], &'static [u8]);
+type Visit = (Held, Option<u64>, &'static [Parts], Parts);
 
 /// The list A whose source states 7, and one that states 8 from the second call on.
-const AT_7: Held = a_that(Kind::IsAt(7));
-const MOVES: Held = a_that(Kind::Moves(Move {
-    had: 7,
-    call: 2,
-    now: 8,
-}));
+const AT_7: Held = Held {
+    kind: Kind::IsAt(7),
+    ..A
+};
 
-/// Answers at version 0, which isn't written, and at others: what the node is told, or else what the source had at hand last.
+const MOVES: Held = Held {
+    kind: Kind::Moves(Move {
+        had: 7,
+        call: 2,
+        now: 8,
+    }),
+    ..A
+};
+
+/// Answers at version 0, which isn't written, and at others: the one that the node is told, or else the one at hand.
 static VISITS: &[Visit] = &[
-    (A, None, &[SIZE], b"HTTP/1.1 200 OK\r\nContent-Type: application/json\r\nContent-Length: 11\r\nConnection: close\r\n\r\n{\"count\":3}"),
-    (A, None, &[PAGE], b"HTTP/1.1 200 OK\r\nContent-Type: application/json\r\nContent-Length: 26\r\nConnection: close\r\n\r\n{\"rows\":[[1,900],[2,800]]}"),
-    (A, None, &[GRADE], b"HTTP/1.1 200 OK\r\nContent-Type: application/json\r\nContent-Length: 13\r\nConnection: close\r\n\r\n{\"grade\":100}"),
-    (A, Some(7), &[SIZE], b"HTTP/1.1 200 OK\r\nContent-Type: application/json\r\nContent-Length: 23\r\nConnection: close\r\n\r\n{\"count\":3,\"version\":7}"),
-    (A, Some(7), &[PAGE], b"HTTP/1.1 200 OK\r\nContent-Type: application/json\r\nContent-Length: 38\r\nConnection: close\r\n\r\n{\"rows\":[[1,900],[2,800]],\"version\":7}"),
-    (A, Some(7), &[GRADE], b"HTTP/1.1 200 OK\r\nContent-Type: application/json\r\nContent-Length: 25\r\nConnection: close\r\n\r\n{\"grade\":100,\"version\":7}"),
-    (AT_7, None, &[SIZE], b"HTTP/1.1 200 OK\r\nContent-Type: application/json\r\nContent-Length: 23\r\nConnection: close\r\n\r\n{\"count\":3,\"version\":7}"),
-    (AT_7, Some(0), &[SIZE], b"HTTP/1.1 200 OK\r\nContent-Type: application/json\r\nContent-Length: 11\r\nConnection: close\r\n\r\n{\"count\":3}"),
-    (AT_7, None, &[SIZE, PAGE], b"HTTP/1.1 200 OK\r\nContent-Type: application/json\r\nContent-Length: 38\r\nConnection: close\r\n\r\n{\"rows\":[[1,900],[2,800]],\"version\":7}"),
+    (
+        A,
+        None,
+        &[SIZE],
+        &[OK, b"Content-Length: 11\r\n", CLOSE, b"{\"count\":3}"],
+    ),
+    (
+        A,
+        None,
+        &[PAGE],
+        &[
+            OK,
+            b"Content-Length: 26\r\n",
+            CLOSE,
+            b"{\"rows\":[[1,900],[2,800]]}",
+        ],
+    ),
+    (
+        A,
+        None,
+        &[GRADE],
+        &[OK, b"Content-Length: 13\r\n", CLOSE, b"{\"grade\":100}"],
+    ),
+    (
+        A,
+        Some(7),
+        &[SIZE],
+        &[
+            OK,
+            b"Content-Length: 23\r\n",
+            CLOSE,
+            b"{\"count\":3,\"version\":7}",
+        ],
+    ),
+    (
+        A,
+        Some(7),
+        &[PAGE],
+        &[
+            OK,
+            b"Content-Length: 38\r\n",
+            CLOSE,
+            b"{\"rows\":[[1,900],[2,800]],\"version\":7}",
+        ],
+    ),
+    (
+        A,
+        Some(7),
+        &[GRADE],
+        &[
+            OK,
+            b"Content-Length: 25\r\n",
+            CLOSE,
+            b"{\"grade\":100,\"version\":7}",
+        ],
+    ),
+    (
+        AT_7,
+        None,
+        &[SIZE],
+        &[
+            OK,
+            b"Content-Length: 23\r\n",
+            CLOSE,
+            b"{\"count\":3,\"version\":7}",
+        ],
+    ),
+    (
+        AT_7,
+        Some(0),
+        &[SIZE],
+        &[OK, b"Content-Length: 11\r\n", CLOSE, b"{\"count\":3}"],
+    ),
+    (
+        AT_7,
+        None,
+        &[SIZE, PAGE],
+        &[
+            OK,
+            b"Content-Length: 38\r\n",
+            CLOSE,
+            b"{\"rows\":[[1,900],[2,800]],\"version\":7}",
+        ],
+    ),
     // A page or a grade of another version than the one at hand is none.
     (AT_7, None, &[PAGE], FAILED),
     (MOVES, None, &[SIZE, GRADE], FAILED),
     (MOVES, Some(7), &[SIZE, PAGE], FAILED),
-    (MOVES, None, &[SIZE, SIZE], b"HTTP/1.1 200 OK\r\nContent-Type: application/json\r\nContent-Length: 23\r\nConnection: close\r\n\r\n{\"count\":3,\"version\":8}"),
+    (
+        MOVES,
+        None,
+        &[SIZE, SIZE],
+        &[
+            OK,
+            b"Content-Length: 23\r\n",
+            CLOSE,
+            b"{\"count\":3,\"version\":8}",
+        ],
+    ),
 ];
 
 /// Whether the last of these requests gets the reply.

@@ -1,6 +1,6 @@
 //! Each call of a source, and each read and write of a link, failing in turn.
 
-use super::visits::{A, FAILED, Parts, a_that, comes_to, joined};
+use super::visits::{A, CLOSE, FAILED, OK, Parts, comes_to, joined};
 use super::{holds, none_is_wrong};
 use source_node::{ConnEnd, node_conn};
 use std::alloc::Global;
@@ -9,26 +9,76 @@ use tk_io::MemLink;
 
 /// The calls for a page, in one page and to the end of the list, and for a grade.
 const PAGE: Parts = &[b"GET /lists/A/page?from=0&count=3 HTTP/1.1\r\nHost: h\r\n\r\n"];
+
 const TO_END: Parts = &[b"GET /lists/A/page?from=2&count=2 HTTP/1.1\r\nHost: h\r\n\r\n"];
+
 const GRADE: Parts = &[b"GET /lists/A/grade?object=3 HTTP/1.1\r\nHost: h\r\n\r\n"];
+
 const NOWHERE: Parts = &[b"GET /lists/A HTTP/1.1\r\nHost: h\r\n\r\n"];
 
 /// The reply with all rows.
-const ROWS: &[u8] = b"HTTP/1.1 200 OK\r\nContent-Type: application/json\r\nContent-Length: 34\r\nConnection: close\r\n\r\n{\"rows\":[[1,900],[2,800],[3,100]]}";
+const ROWS: Parts = &[
+    OK,
+    b"Content-Length: 34\r\n",
+    CLOSE,
+    b"{\"rows\":[[1,900],[2,800],[3,100]]}",
+];
 
 /// Sources that fail or are garbled at a call, what is asked of them, and the reply.
-static SOURCES: &[(Held, Parts, &[u8])] = &[
-    (a_that(Kind::FailsAtPage(1)), PAGE, FAILED),
-    (a_that(Kind::GarblesAtPage(1)), PAGE, FAILED),
-    (a_that(Kind::FailsAtGrade(1)), GRADE, FAILED),
-    (a_that(Kind::GarblesAtGrade(1)), GRADE, FAILED),
+static SOURCES: &[(Held, Parts, Parts)] = &[
+    (
+        Held {
+            kind: Kind::FailsAtPage(1),
+            ..A
+        },
+        PAGE,
+        FAILED,
+    ),
+    (
+        Held {
+            kind: Kind::GarblesAtPage(1),
+            ..A
+        },
+        PAGE,
+        FAILED,
+    ),
+    (
+        Held {
+            kind: Kind::FailsAtGrade(1),
+            ..A
+        },
+        GRADE,
+        FAILED,
+    ),
+    (
+        Held {
+            kind: Kind::GarblesAtGrade(1),
+            ..A
+        },
+        GRADE,
+        FAILED,
+    ),
     // One page that has all rows is enough; else another one is asked for.
-    (a_that(Kind::FailsAtPage(2)), PAGE, ROWS),
-    (a_that(Kind::FailsAtPage(2)), TO_END, FAILED),
+    (
+        Held {
+            kind: Kind::FailsAtPage(2),
+            ..A
+        },
+        PAGE,
+        ROWS,
+    ),
+    (
+        Held {
+            kind: Kind::FailsAtPage(2),
+            ..A
+        },
+        TO_END,
+        FAILED,
+    ),
 ];
 
 /// The place of the first of these sources that gets another reply.
-fn first_other(alloc: Global, sources: &[(Held, Parts, &[u8])]) -> Option<usize> {
+fn first_other(alloc: Global, sources: &[(Held, Parts, Parts)]) -> Option<usize> {
     for (place, (held, request, reply)) in sources.iter().enumerate() {
         if !comes_to(alloc, held, request, reply) {
             return Some(place);
@@ -62,7 +112,11 @@ fn written_at(alloc: Global, request: Parts, fails: Fails) -> Option<usize> {
     let written = link.taken().len();
     drop(source);
     drop(link);
-    if end == ConnEnd::LinkFault { Some(written) } else { None }
+    if end == ConnEnd::LinkFault {
+        Some(written)
+    } else {
+        None
+    }
 }
 
 #[test]

@@ -10,7 +10,7 @@ use std::alloc::Global;
 const END: &[u8] = b" HTTP/1.1\r\nHost: h\r\n\r\n";
 
 /// Requests by their methods and paths.
-static TARGETS: &[(Parts, &[u8])] = &[
+static TARGETS: &[(Parts, Parts)] = &[
     (&[b"GET /lists/A/size", END], SIZE),
     (&[b"GET /lists/A/size?", END], SIZE),
     (&[b"GET /lists/A/size?any=thing&", END], SIZE),
@@ -43,7 +43,7 @@ fn a_head_is_refused_by_the_first_cause(rt: HostRuntime) {
 }
 
 /// Requests whose targets stand in absolute form.
-static ABSOLUTE: &[(Parts, &[u8])] = &[
+static ABSOLUTE: &[(Parts, Parts)] = &[
     (&[b"GET http://h/lists/A/size", END], SIZE),
     (&[b"GET HTTP://other:80/lists/A/size", END], SIZE),
     (&[b"GET hTTp://h/lists/B/size", END], NOT_FOUND),
@@ -65,7 +65,7 @@ fn a_target_in_absolute_form_is_read(rt: HostRuntime) {
 }
 
 /// Bytes that are no request, or pass a limit.
-static BYTES: &[(Parts, &[u8])] = &[
+static BYTES: &[(Parts, Parts)] = &[
     (&[b""], BAD),
     (&[b"GET /lists/A/size HTTP/1.1\r\nHost: h\r\n"], BAD),
     (&[b"GET /lists/A/size HTTP/1.1\r\n\r\n"], BAD),
@@ -100,7 +100,7 @@ fn of_length(alloc: Global, length: usize) -> Option<Vec<u8>> {
 }
 
 /// Whether a request whose head has so many bytes gets this reply.
-fn length_gets(alloc: Global, length: usize, reply: &[u8]) -> bool {
+fn length_gets(alloc: Global, length: usize, reply: &[&[u8]]) -> bool {
     let Some(request) = of_length(alloc, length) else {
         return false;
     };
@@ -111,5 +111,8 @@ fn length_gets(alloc: Global, length: usize, reply: &[u8]) -> bool {
 
 #[test]
 fn a_head_has_at_most_16_384_bytes(rt: HostRuntime) {
-    holds(&rt, length_gets(rt.alloc(), 16_384, SIZE) && length_gets(rt.alloc(), 16_385, TOO_LARGE));
+    holds(
+        &rt,
+        length_gets(rt.alloc(), 16_384, SIZE) && length_gets(rt.alloc(), 16_385, TOO_LARGE),
+    );
 }

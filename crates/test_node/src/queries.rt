@@ -1,24 +1,31 @@
 //! The numbers of query parts.
 
 use super::none_is_wrong;
-use super::visits::{BAD, Parts, first_other};
+use super::visits::{BAD, CLOSE, OK, Parts, first_other};
 
 /// The call for a page, the call for a grade, and the end of a head.
 const PAGE: &[u8] = b"GET /lists/A/page?";
+
 const GRADE: &[u8] = b"GET /lists/A/grade?";
+
 const END: &[u8] = b" HTTP/1.1\r\nHost: h\r\n\r\n";
 
 /// The reply with the row of object 2.
-const SECOND: &[u8] = b"HTTP/1.1 200 OK\r\nContent-Type: application/json\r\nContent-Length: 18\r\nConnection: close\r\n\r\n{\"rows\":[[2,800]]}";
+const SECOND: Parts = &[
+    OK,
+    b"Content-Length: 18\r\n",
+    CLOSE,
+    b"{\"rows\":[[2,800]]}",
+];
 
 /// The reply without a row.
-const NONE: &[u8] = b"HTTP/1.1 200 OK\r\nContent-Type: application/json\r\nContent-Length: 11\r\nConnection: close\r\n\r\n{\"rows\":[]}";
+const NONE: Parts = &[OK, b"Content-Length: 11\r\n", CLOSE, b"{\"rows\":[]}"];
 
 /// The reply that the list hasn't the object.
-const NO_OBJECT: &[u8] = b"HTTP/1.1 200 OK\r\nContent-Type: application/json\r\nContent-Length: 14\r\nConnection: close\r\n\r\n{\"grade\":null}";
+const NO_OBJECT: Parts = &[OK, b"Content-Length: 14\r\n", CLOSE, b"{\"grade\":null}"];
 
 /// Pages by their numbers.
-static PAGES: &[(Parts, &[u8])] = &[
+static PAGES: &[(Parts, Parts)] = &[
     (&[PAGE, b"from=1&count=1", END], SECOND),
     (&[PAGE, b"count=1&from=1", END], SECOND),
     // Of two pairs with one name the first counts, also where it is refused; other names are free.
@@ -53,7 +60,7 @@ fn a_page_wants_its_first_row_and_a_count(rt: HostRuntime) {
 }
 
 /// Grades by their numbers.
-static GRADES: &[(Parts, &[u8])] = &[
+static GRADES: &[(Parts, Parts)] = &[
     (&[GRADE, b"object=4294967295", END], NO_OBJECT),
     (&[GRADE, b"object=4294967296", END], BAD),
     (&[GRADE, b"object=9?object=1", END], BAD),

@@ -16,21 +16,63 @@ pub(crate) const A: Held = Held {
     kind: Kind::Honest,
 };
 
-/// The list A from a source that differs so from an honest one.
-pub(crate) const fn a_that(kind: Kind) -> Held {
-    Held { kind, ..A }
-}
+/// The front of a reply with an answer, a line of the other replies, and the end of each head.
+pub(crate) const OK: &[u8] = b"HTTP/1.1 200 OK\r\nContent-Type: application/json\r\n";
+
+const PLAIN: &[u8] = b"Content-Type: text/plain\r\n";
+
+pub(crate) const CLOSE: &[u8] = b"Connection: close\r\n\r\n";
 
 /// The replies that say why there is no answer.
-pub(crate) const BAD: &[u8] = b"HTTP/1.1 400 Bad Request\r\nContent-Type: text/plain\r\nContent-Length: 12\r\nConnection: close\r\n\r\nBad Request\n";
-pub(crate) const NOT_FOUND: &[u8] = b"HTTP/1.1 404 Not Found\r\nContent-Type: text/plain\r\nContent-Length: 10\r\nConnection: close\r\n\r\nNot Found\n";
-pub(crate) const NOT_ALLOWED: &[u8] = b"HTTP/1.1 405 Method Not Allowed\r\nContent-Type: text/plain\r\nAllow: GET\r\nContent-Length: 19\r\nConnection: close\r\n\r\nMethod Not Allowed\n";
-pub(crate) const NO_HEAD: &[u8] = b"HTTP/1.1 405 Method Not Allowed\r\nContent-Type: text/plain\r\nAllow: GET\r\nConnection: close\r\n\r\n";
-pub(crate) const TOO_LARGE: &[u8] = b"HTTP/1.1 431 Request Header Fields Too Large\r\nContent-Type: text/plain\r\nContent-Length: 32\r\nConnection: close\r\n\r\nRequest Header Fields Too Large\n";
-pub(crate) const FAILED: &[u8] = b"HTTP/1.1 500 Internal Server Error\r\nContent-Type: text/plain\r\nContent-Length: 22\r\nConnection: close\r\n\r\nInternal Server Error\n";
+pub(crate) const BAD: Parts = &[
+    b"HTTP/1.1 400 Bad Request\r\n",
+    PLAIN,
+    b"Content-Length: 12\r\n",
+    CLOSE,
+    b"Bad Request\n",
+];
+
+pub(crate) const NOT_FOUND: Parts = &[
+    b"HTTP/1.1 404 Not Found\r\n",
+    PLAIN,
+    b"Content-Length: 10\r\n",
+    CLOSE,
+    b"Not Found\n",
+];
+
+pub(crate) const NOT_ALLOWED: Parts = &[
+    b"HTTP/1.1 405 Method Not Allowed\r\n",
+    PLAIN,
+    b"Allow: GET\r\nContent-Length: 19\r\n",
+    CLOSE,
+    b"Method Not Allowed\n",
+];
+
+pub(crate) const NO_HEAD: Parts = &[
+    b"HTTP/1.1 405 Method Not Allowed\r\n",
+    PLAIN,
+    b"Allow: GET\r\n",
+    CLOSE,
+];
+
+pub(crate) const TOO_LARGE: Parts = &[
+    b"HTTP/1.1 431 Request Header Fields Too Large\r\n",
+    PLAIN,
+    b"Content-Length: 32\r\n",
+    CLOSE,
+    b"Request Header Fields Too Large\n",
+];
+
+pub(crate) const FAILED: Parts = &[
+    b"HTTP/1.1 500 Internal Server Error\r\n",
+    PLAIN,
+    b"Content-Length: 22\r\n",
+    CLOSE,
+    b"Internal Server Error\n",
+];
 
 /// The reply that says how many rows A has.
-pub(crate) const SIZE: &[u8] = b"HTTP/1.1 200 OK\r\nContent-Type: application/json\r\nContent-Length: 11\r\nConnection: close\r\n\r\n{\"count\":3}";
+pub(crate) const SIZE: Parts = &[OK, b"Content-Length: 11\r\n", CLOSE, b"{\"count\":3}"];
 
 /// The bytes of the parts, or None where no memory was left.
 pub(crate) fn joined(alloc: Global, parts: &[&[u8]]) -> Option<Vec<u8>> {
@@ -49,20 +91,39 @@ fn link_of(alloc: Global, parts: &[&[u8]], piece: u32) -> Option<MemLink> {
     MemLink::make(alloc, &bytes, piece.max(1), 1_000, &[], &[], None).ok()
 }
 
+/// The statuses, by how a reply begins.
+static STATUSES: &[(&[u8], u16)] = &[
+    (b"HTTP/1.1 200 ", 200),
+    (b"HTTP/1.1 400 ", 400),
+    (b"HTTP/1.1 404 ", 404),
+    (b"HTTP/1.1 405 ", 405),
+    (b"HTTP/1.1 431 ", 431),
+    (b"HTTP/1.1 500 ", 500),
+];
+
 /// The status that stands in a reply.
 fn status_in(reply: &[u8]) -> Option<u16> {
-    let digits = reply.get(9..12)?;
-    std::str::from_utf8(digits).ok()?.parse().ok()
+    for (front, status) in STATUSES {
+        if reply.starts_with(front) {
+            return Some(*status);
+        }
+    }
+    None
 }
 
-/// Whether a connection ended with this reply and its status.
-fn is_reply(end: ConnEnd, link: &MemLink, reply: &[u8]) -> bool {
-    match end {
+/// Whether a connection ended with the reply of these parts and its status.
+fn is_reply(alloc: Global, end: ConnEnd, link: &MemLink, parts: &[&[u8]]) -> bool {
+    let Some(reply) = joined(alloc, parts) else {
+        return false;
+    };
+    let is_so = match end {
         ConnEnd::Replied { status } => {
-            Some(status) == status_in(reply) && link.taken() == reply
+            Some(status) == status_in(&reply) && link.taken() == reply.as_slice()
         }
         _ => false,
-    }
+    };
+    drop(reply);
+    is_so
 }
 
 /// Whether a source gets this reply to a request, so many bytes of which come in one read, where the node
@@ -73,19 +134,19 @@ pub(crate) fn replies(
     version: Option<u64>,
     request: &[&[u8]],
     piece: u32,
-    reply: &[u8],
+    reply: &[&[u8]],
 ) -> bool {
     let Some(mut link) = link_of(alloc, request, piece) else {
         return false;
     };
     let end = node_conn(alloc, "A", version, source, &mut link);
-    let is_so = is_reply(end, &link, reply);
+    let is_so = is_reply(alloc, end, &link, reply);
     drop(link);
     is_so
 }
 
 /// Whether a list that no call has reached gets this reply to a request, whole and byte by byte.
-pub(crate) fn comes_to(alloc: Global, held: &Held, request: &[&[u8]], reply: &[u8]) -> bool {
+pub(crate) fn comes_to(alloc: Global, held: &Held, request: &[&[u8]], reply: &[&[u8]]) -> bool {
     for piece in [1_000_000, 1] {
         let Some(mut source) = source_of(alloc, held) else {
             return false;
@@ -100,7 +161,7 @@ pub(crate) fn comes_to(alloc: Global, held: &Held, request: &[&[u8]], reply: &[u
 }
 
 /// The place of the first request to the list A that gets another reply.
-pub(crate) fn first_other(alloc: Global, visits: &[(Parts, &[u8])]) -> Option<usize> {
+pub(crate) fn first_other(alloc: Global, visits: &[(Parts, Parts)]) -> Option<usize> {
     for (place, (request, reply)) in visits.iter().enumerate() {
         if !comes_to(alloc, &A, request, reply) {
             return Some(place);

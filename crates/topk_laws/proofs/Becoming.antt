@@ -1,19 +1,23 @@
 -- What becomes of each line where the sources tell tables and nothing failed.
-use Rattle.std.proofs.Common.{◌≡◌, ℕ, suc, ◌+◌, ◌<◌, true, List, [], ◌∷◌, Contains, map, length, inl, inr, Some, slice_get, slice_index_or, refl, sym, ap, ◌∙◌, subst, arith}
+use Rattle.std.proofs.Common.{◌≡◌, ℕ, suc, ◌+◌, ◌<◌, ◌≤◌, true, List, [], ◌∷◌, Contains, map, length, inl, inr, Some, slice_get, slice_index_or, refl, sym, ap, ◌∙◌, subst, arith}
 use Rattle.std.proofs.lemmas.Bool.{cases_lt}
 use Rattle.std.proofs.lemmas.Option.{same_Some}
 use Rattle.std.proofs.lemmas.List.Elements.{length_all_zip}
 use Rattle.tk_io.specs.Faults.{Rose}
 use Rattle.ranked_list.specs.declared.row.Row.{Row}
 use Rattle.ranked_list.specs.Table.{IsTable}
+use Rattle.ranked_list.specs.declared.need.Need.{Need}
+use Rattle.ranked_list.specs.declared.need.Need.TheVariants as need
 use Rattle.topk_theory.specs.Transcript.{list_at}
 use Rattle.topk_theory.proofs.AgreementLists.{contains_here, contains_there, member_of_all}
 use Rattle.machine_base.specs.declared.core_fault.CoreFault.TheVariants as core
 use Rattle.source_api.specs.Counting.{NoneFell}
 use Rattle.source_log.specs.declared.entry.FailKind.{FailKind}
 use Rattle.source_log.specs.declared.entry.FailKind.TheVariants as kind
+use Rattle.source_log.specs.declared.entry.SourceFault.TheVariants as fault
 use Rattle.source_state.specs.declared.look.LookFault.{LookFault}
 use Rattle.source_state.specs.declared.look.LookFault.TheVariants as why
+use Rattle.source_state.specs.State.{State, state_at}
 use Rattle.cert_text.specs.declared.outcome.Outcome.{Outcome}
 use Rattle.cert_text.specs.declared.outcome.Outcome.TheVariants.{Answered}
 use Rattle.query_core.specs.declared.ready.Ready.{Ready as ReadyQuery}
@@ -26,7 +30,12 @@ use Rattle.query_turns.specs.declared.ended.Ended.{Ended}
 use Rattle.query_turns.specs.declared.ended.Ended.TheVariants as ended
 use Rattle.query_turns.specs.declared.ended.Refusal.TheVariants as refusal
 use Rattle.query_turns.specs.declared.inquiry.Inquiry.{Inquiry}
-use Rattle.query_turns.specs.Inquiries.{source_needed, source_of}
+use Rattle.query_turns.specs.Inquiries.{needed, source_needed, source_of}
+use Rattle.query_turns.specs.Causes.{IsAtFault, IsCause}
+use Rattle.query_turns.proofs.Serving.{of_some_list, source_there as needs_source}
+use Rattle.fetcher.specs.Moving.{TellsMove}
+use Rattle.query_core.specs.Machines.{state_of}
+use Rattle.batch_result.specs.Numbered.{counts_at}
 use Rattle.query_turns.specs.Endings.{EndsAs}
 use Rattle.query_turns.specs.Honest.{lists_of, IsOnItsRun}
 use Rattle.query_turns.specs.Kept.{IsServed}
@@ -46,10 +55,16 @@ use Rattle.catalog_run.specs.Outcomes.{ended_outcome}
 use Rattle.catalog_run.specs.Runs.{CatalogRun, IsRun, IsLineRefused, IsLineRun, AreOutcomes}
 use Rattle.topk_laws.specs.Told.{view_told, ShelfTellsTables, AllBecome}
 use Rattle.topk_laws.proofs.Alike.{Alike, SameTold, becomes_alike, late_refused, none_alike, refused_alike, unseen_rows}
-use Rattle.catalog_run.proofs.Failing.{calls_behind, counted_back, refused_there, rose_faults, rose_garbles}
+use Rattle.catalog_run.proofs.Failing.{calls_behind, counted_back, refused_there, rose_faults, rose_garbles, rose_moves}
 use Rattle.catalog_run.proofs.Readies.{admitted_few}
 use Rattle.topk_laws.proofs.ToldLists.{HasLists, QueriesAreOnTheirRuns, from_told, has_lists, lists_told, on_their_runs, to_told}
 use Rattle.catalog_run.proofs.Whole.{open_wanted}
+
+-- a need that a replaced list keeps from being met
+tells_move : (s : State) (n : Need) (had other : ℕ) → IsAtFault s n (fault.Moved had other) → TellsMove s.log had other
+tells_move s (need.Row list depth) had other h = inl h.1
+tells_move s (need.Grade list object) had other h = inr (object, h)
+tells_move s need.Done had other h = absurd h
 
 module _ (r : CatalogRun) (outcomes : List LineOutcome) (run : IsRun r outcomes) where
   -- the place on the shelf of the source of a query's list
@@ -99,6 +114,28 @@ module _ (r : CatalogRun) (outcomes : List LineOutcome) (run : IsRun r outcomes)
       let counted = run.ran.ran.counted source there in
       let some = calls_behind kind.Garbled why.Garbled run.ran.ran.states run.ran.ran.queries q list r.settings.workers _ _ _ refl (served_all q c) c e counted.garbled in
       (within, rose_garbles _ run.mid r.after (text_for q list) _ run.back (counted_back r.catalog run.sources.places run.now source within inside) some)
+
+  -- where a query is refused because a list was replaced, the log of its source tells this, and what the source counted rose
+  pub moved_rose_at : (q : Inquiry) (list had other : ℕ) → Contains run.ran.ran.queries q → q.refusal ≡ Some (refusal.Look list (why.Source (fault.Moved had other)))
+      → (source_of q list < length run.sources.places) × Rose (run.mid (text_for q list)).sources.moves (r.after (text_for q list)).sources.moves
+  moved_rose_at q list had other c e =
+      let states = run.ran.ran.states in
+      let served = served_all q c in
+      let source = source_of q list in
+      let same : source ≡ source_needed q = (refused_there states q list (why.Source (fault.Moved had other)) served e).is in
+      let cause = subst (IsCause (state_at states (source_needed q)) (state_of q.machine) q.waiting.noted) e served.cause in
+      let within_states = (needs_source states q served.sources served.run (of_some_list list (needed q) cause.0)).0 in
+      let many = run.ran.ran.many in
+      let counts_long = run.opened.many_counts in
+      let now_long = still_many in
+      let there : source < length run.sources.counts = omega (arith, within_states, same, many) in
+      let within : source < length run.sources.places = omega (arith, there, counts_long) in
+      let inside : source < length run.now = omega (arith, within, now_long) in
+      let tells : TellsMove (state_at states source).log had other =
+      subst (λ n. TellsMove (state_at states n).log had other) (sym same) (tells_move (state_at states (source_needed q)) (needed q) had other cause.1) in
+      let rose : Rose (counts_at run.begun source).moves (counts_at run.now source).moves = (run.ran.ran.counted source there).moved had other tells in
+      let some : 1 ≤ (counts_at run.now source).moves = omega (arith, rose) in
+      (within, rose_moves _ run.mid r.after (text_for q list) _ run.back (counted_back r.catalog run.sources.places run.now source within inside) some)
 
   module _ (law : QueriesAreOnTheirRuns) (tells : ShelfTellsTables r) where
     abbrev V : View

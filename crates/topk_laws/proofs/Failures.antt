@@ -1,4 +1,4 @@
--- What stands behind the refusals of lists that weren't opened, failed or were garbled.
+-- What stands behind the refusals of lists that weren't opened, failed, were garbled or were replaced.
 use Rattle.std.proofs.Common.{◌≡◌, ℕ, zero, suc, ◌+◌, ◌<◌, ◌≤◌, true, List, [], ◌∷◌, All, Contains, map, length, inl, inr, Option, None, Some, option_map, slice_get, slice_index_or, refl, sym, ap, ◌∙◌, subst, arith}
 use Rattle.std.specs.Prelude.{Ok, IfSome}
 use Rattle.std.specs.Option.{option_and_then}
@@ -10,7 +10,6 @@ use Rattle.std.proofs.lemmas.List.Elements.{All-from_recursion}
 use Rattle.topk_theory.proofs.AgreementLists.{contains_here, contains_there, contains_at, member_of_all}
 use Rattle.machine_base.specs.declared.answer.Answer.{Answer}
 use Rattle.machine_base.specs.declared.core_fault.CoreFault.TheVariants as core
-use Rattle.source_log.specs.declared.entry.SourceFault.{SourceFault}
 use Rattle.source_log.specs.declared.entry.SourceFault.TheVariants as fault
 use Rattle.source_state.specs.declared.look.LookFault.{LookFault}
 use Rattle.source_state.specs.declared.look.LookFault.TheVariants as why
@@ -22,7 +21,7 @@ use Rattle.cert_text.specs.Outcome.{names_of}
 use Rattle.cert_text.specs.Refusal.{refused_lists}
 use Rattle.cert_text.specs.declared.outcome.Outcome.TheVariants.{Answered, Refused}
 use Rattle.cert_text.specs.declared.refusal.Refusal.{Refusal}
-use Rattle.cert_text.specs.declared.refusal.Refusal.TheVariants.{NotOpened, Failed, Garbled}
+use Rattle.cert_text.specs.declared.refusal.Refusal.TheVariants.{NotOpened, Failed, Garbled, Moved}
 use Rattle.query_core.specs.declared.ready.Ready.{Ready as ReadyQuery}
 use Rattle.query_admission.specs.View.{View, is_closed}
 use Rattle.query_admission.specs.Causes.{most_queries, Cause, admission_causes, text_refusal, Over, ListsGive, RefusesFor}
@@ -48,11 +47,11 @@ use Rattle.catalog_open.specs.Wanted.{IsWanted}
 use Rattle.catalog_open.specs.Openings.{IsOpening, IsSource, TroubleAt}
 use Rattle.catalog_open.proofs.Marking.{places_within}
 use Rattle.query_admission.specs.declared.line_outcome.LineOutcome.{LineOutcome}
-use Rattle.catalog_run.specs.Outcomes.{ended_outcome, source_refusal}
+use Rattle.catalog_run.specs.Outcomes.{ended_outcome}
 use Rattle.catalog_run.specs.Runs.{CatalogRun, IsRun, IsLineRefused, IsLineRun, AreOutcomes}
 use Rattle.topk_laws.specs.Failures.{place_at, failed_list, HasRisen, HasFailedAt, HasFailure}
 use Rattle.topk_laws.proofs.Alike.{first_is_many}
-use Rattle.topk_laws.proofs.Becoming.{failed_rose_at, garbled_rose_at, served_all, text_for}
+use Rattle.topk_laws.proofs.Becoming.{failed_rose_at, garbled_rose_at, moved_rose_at, served_all, text_for}
 use Rattle.catalog_run.proofs.Failing.{refused_there}
 use Rattle.topk_laws.proofs.ToldLists.{known_places, named_wanted}
 
@@ -110,15 +109,6 @@ refused_some one other e = refused_once (same_Some (Refused one) (Refused other)
 
 answered_refused : (answer : Answer) (refusal : Refusal) → Some (Answered answer) ≡ Some (Refused refusal) → ⊥
 answered_refused answer refusal e = cc
-
-pub source_unlisted : (list : ℕ) (f : SourceFault) → failed_list (source_refusal list f) ≡ None
-source_unlisted list (fault.OutOfOrder place before after) = refl
-source_unlisted list (fault.TooHigh place grade) = refl
-source_unlisted list (fault.Repeated object place) = refl
-source_unlisted list (fault.Clash object sorted random) = refl
-source_unlisted list (fault.Above object grade bottom) = refl
-source_unlisted list (fault.ShortList stated got) = refl
-source_unlisted list (fault.Moved had now) = refl
 
 many_is_other : Cause.many_queries ≡ Cause.not_opened → ⊥
 many_is_other e = cc
@@ -263,8 +253,31 @@ module _ (r : CatalogRun) (outcomes : List LineOutcome) (run : IsRun r outcomes)
       absurd (not_listed refusal _ list (sym (refused_some _ refusal e)) refl fails)
   ran_why at bytes o q ready (ended.Core (core.RoomFull room)) refusal list admitted of served c ends is e fails =
       absurd (not_listed refusal _ list (sym (refused_some _ refusal e)) refl fails)
-  ran_why at bytes o q ready (ended.Look other (why.Source f)) refusal list admitted of served c ends is e fails =
-      absurd (not_listed refusal _ list (sym (refused_some _ refusal e)) (source_unlisted other f) fails)
+  ran_why at bytes o q ready (ended.Look other (why.Source (fault.OutOfOrder place above below))) refusal list admitted of served c ends is e fails =
+      absurd (not_listed refusal _ list (sym (refused_some _ refusal e)) refl fails)
+  ran_why at bytes o q ready (ended.Look other (why.Source (fault.TooHigh place grade))) refusal list admitted of served c ends is e fails =
+      absurd (not_listed refusal _ list (sym (refused_some _ refusal e)) refl fails)
+  ran_why at bytes o q ready (ended.Look other (why.Source (fault.Repeated object place))) refusal list admitted of served c ends is e fails =
+      absurd (not_listed refusal _ list (sym (refused_some _ refusal e)) refl fails)
+  ran_why at bytes o q ready (ended.Look other (why.Source (fault.Clash object sorted random))) refusal list admitted of served c ends is e fails =
+      absurd (not_listed refusal _ list (sym (refused_some _ refusal e)) refl fails)
+  ran_why at bytes o q ready (ended.Look other (why.Source (fault.Above object grade bottom))) refusal list admitted of served c ends is e fails =
+      absurd (not_listed refusal _ list (sym (refused_some _ refusal e)) refl fails)
+  ran_why at bytes o q ready (ended.Look other (why.Source (fault.ShortList stated got))) refusal list admitted of served c ends is e fails =
+      absurd (not_listed refusal _ list (sym (refused_some _ refusal e)) refl fails)
+  ran_why at bytes o q ready (ended.Look other (why.Source (fault.Moved had stated))) refusal list admitted of served c ends is e fails =
+      let same : Moved other had stated ≡ refusal = refused_some (Moved other had stated) refusal e in
+      let number : other ≡ list = same_Some other list (ap failed_list same ∙ fails) in
+      let l = ran_list q ready other (why.Source (fault.Moved had stated)) served of ends in
+      let rose = moved_rose_at r outcomes run q other had stated c ends in
+      let text = text_for r outcomes run q other in
+      record {
+        query = ready.query;
+        query_is = is;
+        place = text;
+        place_is = subst (λ n. place_at r.catalog ready.query n ≡ Some text) number (ran_at at bytes q ready other admitted of l);
+        risen = subst (HasRisen (r.before text) (run.mid text) (r.after text)) same rose.1;
+      }
   ran_why at bytes o q ready (ended.Look other (why.Missing object)) refusal list admitted of served c ends is e fails =
       absurd (not_listed refusal _ list (sym (refused_some _ refusal e)) refl fails)
   ran_why at bytes o q ready (ended.Look other (why.AsksFull kept)) refusal list admitted of served c ends is e fails =

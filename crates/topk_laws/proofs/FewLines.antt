@@ -15,13 +15,15 @@ use Rattle.machine_base.specs.declared.core_fault.CoreFault.TheVariants as core
 use Rattle.source_api.specs.declared.counts.Counts.{Counts}
 use Rattle.source_log.specs.declared.entry.FailKind.{FailKind}
 use Rattle.source_log.specs.declared.entry.FailKind.TheVariants as kind
+use Rattle.source_log.specs.declared.entry.SourceFault.{SourceFault}
+use Rattle.source_log.specs.declared.entry.SourceFault.TheVariants as fault
 use Rattle.source_state.specs.declared.look.LookFault.{LookFault}
 use Rattle.source_state.specs.declared.look.LookFault.TheVariants as why
 use Rattle.query_text.specs.declared.query.Query.{Query}
 use Rattle.cert_text.specs.declared.outcome.Outcome.{Outcome}
 use Rattle.cert_text.specs.declared.outcome.Outcome.TheVariants.{Answered, Refused}
 use Rattle.cert_text.specs.declared.refusal.Refusal.{Refusal}
-use Rattle.cert_text.specs.declared.refusal.Refusal.TheVariants.{NotOpened, Failed, Garbled}
+use Rattle.cert_text.specs.declared.refusal.Refusal.TheVariants.{NotOpened, Failed, Garbled, Moved}
 use Rattle.query_core.specs.declared.ready.Ready.{Ready as ReadyQuery}
 use Rattle.query_admission.specs.View.{View}
 use Rattle.query_admission.specs.Causes.{QueryLine, Cause, RefusesFor}
@@ -43,12 +45,12 @@ use Rattle.catalog_open.specs.Entries.{entry_at}
 use Rattle.catalog_open.specs.Openings.{Used, used_at, put_back}
 use Rattle.catalog_open.proofs.Moving.{used_append}
 use Rattle.query_admission.specs.declared.line_outcome.LineOutcome.{LineOutcome}
-use Rattle.catalog_run.specs.Outcomes.{ended_outcome}
+use Rattle.catalog_run.specs.Outcomes.{ended_outcome, source_refusal}
 use Rattle.catalog_run.specs.Runs.{CatalogRun, IsRun, IsLineRefused, IsLineRun, AreOutcomes}
 use Rattle.topk_laws.specs.Failures.{AreFew, RefusesFew, failed_list, is_place, is_refused_at, place_at, refused_at, says_failed, says_garbled}
 use Rattle.topk_laws.proofs.Becoming.{served_all, source_there, still_many, text_for}
 use Rattle.catalog_run.proofs.Failing.{faults_sum, garbles_sum, refused_there}
-use Rattle.topk_laws.proofs.Failures.{of_text, ran_at, ran_list, source_unlisted}
+use Rattle.topk_laws.proofs.Failures.{of_text, ran_at, ran_list}
 
 -- ---- lines and queries
 -- a query that is refused so because a call failed so, of a source that stands so
@@ -62,6 +64,7 @@ pub record SaysOf (says : Refusal → Bool) (what : FailKind) : Type 0 where
   pub opening : (list : ℕ) → says (NotOpened list) ≡ false
   pub failed : (list : ℕ) → says (Failed list) ≡ is_fail what why.Failed
   pub garbled : (list : ℕ) → says (Garbled list) ≡ is_fail what why.Garbled
+  pub moved : (list had now : ℕ) → says (Moved list had now) ≡ false
 
 nowhere : (catalog : List Entry) (place : List ℕ) (query : Option Query) (b : Bool)
     → (b && is_place place (option_and_then (λ q. option_and_then (place_at catalog q) None) query)) ≡ false
@@ -93,6 +96,18 @@ early catalog says what is place query x Cause.not_opened refused g =
     let l = g.holds.0 in
     ap (λ (y : Refusal). refused_at catalog says place query (Refused y)) g.holds.1
     ∙ ap (λ b. b && is_place place (option_and_then (λ q. option_and_then (place_at catalog q) (Some l)) query)) (is.opening l)
+
+-- a refusal for what was read of a source is none for a call of it
+source_says : (catalog : List Entry) (says : Refusal → Bool) (what : FailKind) (is : SaysOf says what) (place : List ℕ) (query : Option Query) (list : ℕ)
+    (f : SourceFault) → refused_at catalog says place query (Refused (source_refusal list f)) ≡ false
+source_says catalog says what is place query list (fault.OutOfOrder at above below) = unnamed catalog says place query _ refl
+source_says catalog says what is place query list (fault.TooHigh at grade) = unnamed catalog says place query _ refl
+source_says catalog says what is place query list (fault.Repeated object at) = unnamed catalog says place query _ refl
+source_says catalog says what is place query list (fault.Clash object sorted random) = unnamed catalog says place query _ refl
+source_says catalog says what is place query list (fault.Above object grade bottom) = unnamed catalog says place query _ refl
+source_says catalog says what is place query list (fault.ShortList stated got) = unnamed catalog says place query _ refl
+source_says catalog says what is place query list (fault.Moved had now) =
+    ap (λ b. b && is_place place (option_and_then (λ q. option_and_then (place_at catalog q) (Some list)) query)) (is.moved list had now)
 
 never : (b : Bool) → b ≡ false → b ≡ true → {A : Type 0} → A
 never b fails passes = absurd (false≢true (sym fails ∙ passes))
@@ -132,7 +147,7 @@ module _ (r : CatalogRun) (outcomes : List LineOutcome) (run : IsRun r outcomes)
       (ap (refused_at r.catalog says place (Some ready.query)) (sym (same_Some _ outcome e)) ∙ unnamed r.catalog says place (Some ready.query) _ refl) counted
   ended_at at bytes q ready (ended.Look list (why.Source f)) outcome admitted of c ends e counted =
       never (refused_at r.catalog says place (Some ready.query) outcome)
-      (ap (refused_at r.catalog says place (Some ready.query)) (sym (same_Some _ outcome e)) ∙ unnamed r.catalog says place (Some ready.query) _ (source_unlisted list f)) counted
+      (ap (refused_at r.catalog says place (Some ready.query)) (sym (same_Some _ outcome e)) ∙ source_says r.catalog says what is place (Some ready.query) list f) counted
   ended_at at bytes q ready (ended.Look list (why.Missing object)) outcome admitted of c ends e counted =
       never (refused_at r.catalog says place (Some ready.query) outcome)
       (ap (refused_at r.catalog says place (Some ready.query)) (sym (same_Some _ outcome e)) ∙ unnamed r.catalog says place (Some ready.query) _ refl) counted
@@ -351,9 +366,9 @@ pub refuses_few : (r : CatalogRun) (outcomes : List LineOutcome) → IsRun r out
 refuses_few r outcomes run place =
     let b = run.ran.ran in
     let back = reverse (put_back r.catalog run.sources.places run.now) in
-    let failed = few_back r outcomes run says_failed kind.Failed (record { opening = λ list. refl; failed = λ list. refl; garbled = λ list. refl }) place (λ (c : Counts). c.faults)
+    let failed = few_back r outcomes run says_failed kind.Failed (record { opening = λ list. refl; failed = λ list. refl; garbled = λ list. refl; moved = λ list had now. refl }) place (λ (c : Counts). c.faults)
     (λ source l. up_to_source r.settings.workers _ _ _ _ (b.counted source l).failed) in
-    let garbled = few_back r outcomes run says_garbled kind.Garbled (record { opening = λ list. refl; failed = λ list. refl; garbled = λ list. refl }) place (λ (c : Counts). c.garbles)
+    let garbled = few_back r outcomes run says_garbled kind.Garbled (record { opening = λ list. refl; failed = λ list. refl; garbled = λ list. refl; moved = λ list had now. refl }) place (λ (c : Counts). c.garbles)
     (λ source l. up_to_source r.settings.workers _ _ _ _ (b.counted source l).garbled) in
     let mid_is = run.opened.moves.sources place in
     let after_is = run.back.sources place in

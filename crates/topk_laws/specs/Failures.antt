@@ -9,7 +9,7 @@ use Rattle.query_text.specs.declared.query.Query.{Query}
 use Rattle.cert_text.specs.declared.outcome.Outcome.{Outcome}
 use Rattle.cert_text.specs.declared.outcome.Outcome.TheVariants.{Answered, Refused}
 use Rattle.cert_text.specs.declared.refusal.Refusal.{Refusal}
-use Rattle.cert_text.specs.declared.refusal.Refusal.TheVariants.{NotOpened, Failed, Garbled}
+use Rattle.cert_text.specs.declared.refusal.Refusal.TheVariants.{NotOpened, Failed, Garbled, Moved}
 use Rattle.catalog_text.specs.Catalog.{Listed as Entry}
 use Rattle.catalog_open.specs.Views.{entry_named}
 use Rattle.catalog_open.specs.Entries.{entry_at}
@@ -21,19 +21,21 @@ use Rattle.catalog_run.specs.Runs.{CatalogRun}
 abbrev pub place_at : List Entry → Query → ℕ → Option (List ℕ)
 place_at catalog query list = option_map (λ entry. (entry_at catalog entry).place) (option_and_then (entry_named catalog) (slice_get query.names list))
 
--- the list that a refusal says wasn't opened, failed or was garbled
+-- the list that a refusal says wasn't opened, failed, was garbled or was replaced
 abbrev pub failed_list : Refusal → Option ℕ
 failed_list (NotOpened list) = Some list
 failed_list (Failed list) = Some list
 failed_list (Garbled list) = Some list
+failed_list (Moved list had now) = Some list
 failed_list other = None
 
 -- the count behind such a refusal rose at a place, or stands at its last value: while the sources were opened, of calls that take a source, or of its
--- sources' faults or garbled answers; while the lines ran, of its sources' faults; of their garbled answers
+-- sources' faults or garbled answers; while the lines ran, of its sources' faults; of their garbled answers; of their answers of another version
 abbrev pub HasRisen : (before mid after : PlaceCounts) → Refusal → Type 0
 HasRisen before mid after (NotOpened list) = TroubleAt before mid
 HasRisen before mid after (Failed list) = Rose mid.sources.faults after.sources.faults
 HasRisen before mid after (Garbled list) = Rose mid.sources.garbles after.sources.garbles
+HasRisen before mid after (Moved list had now) = Rose mid.sources.moves after.sources.moves
 HasRisen before mid after other = Unit {0}
 
 -- the outcome comes with the query that has this list, and in a run whose sources had been opened when so much was counted the count behind the
@@ -45,7 +47,7 @@ pub record HasFailedAt (r : CatalogRun) (mid : Counted) (o : LineOutcome) (refus
   pub place_is : place_at r.catalog query list ≡ Some place
   pub risen : HasRisen (r.before place) (mid place) (r.after place) refusal
 
--- where a line is refused for a list that wasn't opened, failed or was garbled, the count behind that rose: in the opening, or in the running
+-- where a line is refused for a list that wasn't opened, failed, was garbled or was replaced, the count behind that rose: in the opening, or in the running
 abbrev pub HasFailure : CatalogRun → Counted → LineOutcome → Type 0
 HasFailure r mid o =
     (refusal : Refusal) (list : ℕ) → o.outcome ≡ Refused refusal → failed_list refusal ≡ Some list → HasFailedAt r mid o refusal list

@@ -35,7 +35,7 @@ pub fn answers_over_told_tables_are_the_one()
 {}
 
 /// A line is refused for a list that wasn't opened only where the count behind that rose at the list's place on the shelf while the sources
-/// were opened, and for a list that failed or that was garbled only where it rose there while the lines ran; or it stands at its last value.
+/// were opened, and for a list that failed, was garbled or was replaced only where it rose there while the lines ran; or it stands at its last value.
 pub fn failed_lists_have_causes()
     ensures { (r : CatalogRun) (outcomes : List AnyOutcome) → (run : IsRun r outcomes) → All (HasFailure r run.mid) outcomes }
 {}

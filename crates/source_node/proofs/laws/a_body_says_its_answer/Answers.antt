@@ -1,4 +1,4 @@
-use Rattle.source_node.proofs.BodyLaws.{ReadBack, AreShort, says, short}
+use Rattle.source_node.proofs.BodyLaws.{says, short}
 use Rattle.source_node.proofs.laws.a_body_says_its_answer.Goals as goal
 
 pub returns-clause-says : goal.returns-clause-says

@@ -1,4 +1,4 @@
-use Rattle.std.proofs.Common.{◌≡◌, Ok, refl, ◌∙◌}
+use Rattle.std.proofs.Common.{Ok, refl, ◌∙◌}
 use Rattle.source_node.specs.Connections.{Visit}
 use Rattle.source_node.specs.Serving.{seen}
 use Rattle.source_node.proofs.EndLaws.{replied, bad_heard, long_heard}
@@ -8,15 +8,15 @@ pub returns-in-Ok-clause-ends : goal.returns-in-Ok-clause-ends
 returns-in-Ok-clause-ends g c =
     let r = c.answer_head-end.ensures.replied in
     let visit : Visit = record {
-        came = g.L.Intake.left c.args.link.now;
-        held = g.L.Sink.held c.args.link.now;
-        held_now = g.L.Sink.held c.answer_head-end.new.link;
-        read_faults = g.L.Intake.faults c.args.link.now;
-        read_faults_now = g.L.Intake.faults c.answer_head-end.new.link;
-        write_faults = g.L.Sink.faults c.args.link.now;
-        write_faults_now = g.L.Sink.faults c.answer_head-end.new.link;
-        source = seen (g.S.Source.list c.args.source.now) (g.S.Source.counts c.args.source.now) (g.S.Source.calls c.args.source.now) (g.S.Source.at_hand c.args.source.now) (g.S.Source.states c.args.source.now);
-        source_now = seen (g.S.Source.list c.answer_head-end.new.source) (g.S.Source.counts c.answer_head-end.new.source) (g.S.Source.calls c.answer_head-end.new.source) (g.S.Source.at_hand c.answer_head-end.new.source) (g.S.Source.states c.answer_head-end.new.source);
+      came = g.L.Intake.left c.args.link.now;
+      held = g.L.Sink.held c.args.link.now;
+      held_now = g.L.Sink.held c.answer_head-end.new.link;
+      read_faults = g.L.Intake.faults c.args.link.now;
+      read_faults_now = g.L.Intake.faults c.answer_head-end.new.link;
+      write_faults = g.L.Sink.faults c.args.link.now;
+      write_faults_now = g.L.Sink.faults c.answer_head-end.new.link;
+      source = seen (g.S.Source.list c.args.source.now) (g.S.Source.counts c.args.source.now) (g.S.Source.calls c.args.source.now) (g.S.Source.at_hand c.args.source.now) (g.S.Source.states c.args.source.now);
+      source_now = seen (g.S.Source.list c.answer_head-end.new.source) (g.S.Source.counts c.answer_head-end.new.source) (g.S.Source.calls c.answer_head-end.new.source) (g.S.Source.at_hand c.answer_head-end.new.source) (g.S.Source.states c.answer_head-end.new.source);
     } in
     replied c.args.name.now c.args.version visit (g.L.Sink.held c.read_request.new.link) (g.L.Sink.faults c.read_request.new.link) (Ok c.in-Ok.head) r.0
     c.answer_head-end.result c.in-Ok.ensures.answers (c.answer_head-end.ensures.incoming.1 ∙ c.in-Ok.ensures.cause) c.read_request.ensures.outgoing.0
@@ -25,15 +25,15 @@ returns-in-Ok-clause-ends g c =
 pub returns-in-Err-BadMessage-clause-ends : goal.returns-in-Err-BadMessage-clause-ends
 returns-in-Err-BadMessage-clause-ends g c =
     let visit : Visit = record {
-        came = g.L.Intake.left c.args.link.now;
-        held = g.L.Sink.held c.args.link.now;
-        held_now = g.L.Sink.held c.refuse.new.link;
-        read_faults = g.L.Intake.faults c.args.link.now;
-        read_faults_now = g.L.Intake.faults c.refuse.new.link;
-        write_faults = g.L.Sink.faults c.args.link.now;
-        write_faults_now = g.L.Sink.faults c.refuse.new.link;
-        source = seen (g.S.Source.list c.args.source.now) (g.S.Source.counts c.args.source.now) (g.S.Source.calls c.args.source.now) (g.S.Source.at_hand c.args.source.now) (g.S.Source.states c.args.source.now);
-        source_now = seen (g.S.Source.list c.args.source.now) (g.S.Source.counts c.args.source.now) (g.S.Source.calls c.args.source.now) (g.S.Source.at_hand c.args.source.now) (g.S.Source.states c.args.source.now);
+      came = g.L.Intake.left c.args.link.now;
+      held = g.L.Sink.held c.args.link.now;
+      held_now = g.L.Sink.held c.refuse.new.link;
+      read_faults = g.L.Intake.faults c.args.link.now;
+      read_faults_now = g.L.Intake.faults c.refuse.new.link;
+      write_faults = g.L.Sink.faults c.args.link.now;
+      write_faults_now = g.L.Sink.faults c.refuse.new.link;
+      source = seen (g.S.Source.list c.args.source.now) (g.S.Source.counts c.args.source.now) (g.S.Source.calls c.args.source.now) (g.S.Source.at_hand c.args.source.now) (g.S.Source.states c.args.source.now);
+      source_now = seen (g.S.Source.list c.args.source.now) (g.S.Source.counts c.args.source.now) (g.S.Source.calls c.args.source.now) (g.S.Source.at_hand c.args.source.now) (g.S.Source.states c.args.source.now);
     } in
     bad_heard c.args.name.now c.args.version visit (g.L.Sink.held c.read_request.new.link) (g.L.Sink.faults c.read_request.new.link)
     (g.L.Intake.faults c.read_request.new.link) c.in-Err-BadMessage.field-0 c.refuse.result c.in-Err-BadMessage.field-0-is c.in-Err-BadMessage.ensures.answers
@@ -42,15 +42,15 @@ returns-in-Err-BadMessage-clause-ends g c =
 pub returns-in-Err-TooLong-clause-ends : goal.returns-in-Err-TooLong-clause-ends
 returns-in-Err-TooLong-clause-ends g c =
     let visit : Visit = record {
-        came = g.L.Intake.left c.args.link.now;
-        held = g.L.Sink.held c.args.link.now;
-        held_now = g.L.Sink.held c.refuse-in-Err-TooLong.new.link;
-        read_faults = g.L.Intake.faults c.args.link.now;
-        read_faults_now = g.L.Intake.faults c.refuse-in-Err-TooLong.new.link;
-        write_faults = g.L.Sink.faults c.args.link.now;
-        write_faults_now = g.L.Sink.faults c.refuse-in-Err-TooLong.new.link;
-        source = seen (g.S.Source.list c.args.source.now) (g.S.Source.counts c.args.source.now) (g.S.Source.calls c.args.source.now) (g.S.Source.at_hand c.args.source.now) (g.S.Source.states c.args.source.now);
-        source_now = seen (g.S.Source.list c.args.source.now) (g.S.Source.counts c.args.source.now) (g.S.Source.calls c.args.source.now) (g.S.Source.at_hand c.args.source.now) (g.S.Source.states c.args.source.now);
+      came = g.L.Intake.left c.args.link.now;
+      held = g.L.Sink.held c.args.link.now;
+      held_now = g.L.Sink.held c.refuse-in-Err-TooLong.new.link;
+      read_faults = g.L.Intake.faults c.args.link.now;
+      read_faults_now = g.L.Intake.faults c.refuse-in-Err-TooLong.new.link;
+      write_faults = g.L.Sink.faults c.args.link.now;
+      write_faults_now = g.L.Sink.faults c.refuse-in-Err-TooLong.new.link;
+      source = seen (g.S.Source.list c.args.source.now) (g.S.Source.counts c.args.source.now) (g.S.Source.calls c.args.source.now) (g.S.Source.at_hand c.args.source.now) (g.S.Source.states c.args.source.now);
+      source_now = seen (g.S.Source.list c.args.source.now) (g.S.Source.counts c.args.source.now) (g.S.Source.calls c.args.source.now) (g.S.Source.at_hand c.args.source.now) (g.S.Source.states c.args.source.now);
     } in
     long_heard _ c.args.name.now c.args.version visit (g.L.Sink.held c.read_request.new.link) (g.L.Sink.faults c.read_request.new.link)
     (g.L.Intake.faults c.read_request.new.link) c.in-Err-TooLong.field-0 c.refuse-in-Err-TooLong.result c.in-Err-TooLong.field-0-is
