@@ -34,6 +34,7 @@ const TopkRefusals = (() => {
       `The list ${list} was asked for ${kept} grades, as many as it states objects, and the needed one isn't among them.`,
     Failed: (list) => `A call of the list ${list} failed while the query waited for it.`,
     Garbled: (list) => `A call of the list ${list} was answered by garbled data while the query waited for it.`,
+    Moved: (list, had, now) => `The list ${list} was replaced: version ${had} was at hand, and a reply stated version ${now}.`,
     bundle: (line) => `The input is no bundle: its line ${line} is the first at fault.`,
     catalog: (name, record) => `The file is no catalog: its record ${record} is the first at fault (${name}).`,
     words: () => "The words on the command line are no command.",

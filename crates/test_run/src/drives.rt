@@ -13,7 +13,7 @@ use test_mem_source::MemShelf;
 use test_support::words_of;
 use tk_io::{MemIntake, MemSink};
 
-/// The input, the bytes of each piece in which it is given, the calls of it that fail, and for how many bytes of output there is room.
+/// The input, the bytes of each piece in which it is given (at least one), the calls of it that fail, and for how many bytes of output there is room.
 #[derive(Clone, Copy)]
 pub(crate) struct Streams<'a> {
     pub(crate) input: &'a [u8],
@@ -48,8 +48,12 @@ fn end_by<W: Threads + Wait + Sync>(
 ) -> Option<Status>
     requires { AreSettings options.now.settings }
 {
-    let Ok(mut input) = MemIntake::make(alloc, streams.input, streams.piece, streams.failing_reads)
-    else {
+    let Ok(mut input) = MemIntake::make(
+        alloc,
+        streams.input,
+        streams.piece.max(1),
+        streams.failing_reads,
+    ) else {
         return None;
     };
     let status = run(rt, alloc, options, shelf, &mut input, out);
