@@ -1,6 +1,6 @@
 """Top-k queries over ranked lists, each answer with its certificate.
 
-The lists and the query go to the proved library, and what comes back is its text, taken apart:
+The lists and the query go to the proved library as arrays, and what comes back is its text, taken apart:
 
 >>> import topk
 >>> lists = {"price": [(7, 900), (3, 850)], "rating": [(3, 70), (7, 65)]}
@@ -24,10 +24,12 @@ once, and let other threads of the process run meanwhile. Nothing but the standa
 """
 from __future__ import annotations
 
+import array
 import ctypes
 import ctypes.util
 import dataclasses
 import functools
+import itertools
 import operator
 import os
 import pathlib
@@ -41,11 +43,17 @@ MAX_INPUT = 134_217_728
 """The most bytes of a bundle or a certificate."""
 
 Pairs = Union[Iterable[Iterable[int]], tuple[Any, Any]]
-"""A ranked list: pairs of an object and its grade, or a tuple of two arrays, of the objects and of their grades."""
+"""A list: pairs of an object and its grade, or a tuple of two arrays (of numpy, or of the module array), of the objects and of their grades.
+
+The rows of a list may come in any order: where the grades rise, the rows are ranked, the greatest grade first, of equal grades the smaller
+object. Rows whose grades never rise stay as they are, so that whoever has an order among equal grades keeps it.
+"""
 
 _DONE, _REFUSED, _MEMORY, _LONG, _NO_BUNDLE = 0, 1, 8, 9, 10
 _NAME = re.compile(r"[A-Za-z][A-Za-z0-9_]{0,31}", re.ASCII)
 _LEAST_ROOM = 65_536
+_MOST = 0xFFFF_FFFF
+_NO_ROW = ctypes.create_string_buffer(8)
 
 
 class Refused(Exception):
@@ -124,54 +132,51 @@ def ranked(pairs: Pairs) -> list[tuple[int, int]]:
     >>> ranked([(3, 850), (7, 900), (1, 850)])
     [(7, 900), (1, 850), (3, 850)]
     """
-    return sorted(_rows(pairs), key=lambda row: (-row[1], row[0]))
+    rows = _numbers(pairs)
+    return sorted(zip(rows[0::2], rows[1::2]), key=lambda row: (-row[1], row[0]))
 
 
 def bundle_of(lists: Mapping[str, Pairs], query: str) -> bytes:
     """The text of a bundle: the lists, each under its name and in the order of its grades, and the query.
 
-    Raises ValueError where a name is none or the query has more than one line, TypeError where an object or a grade is no integer.
+    Raises ValueError where a name is none, an object or a grade isn't from 0 to 4294967295, or the query has more than one line, TypeError where an
+    object or a grade is no integer.
 
     >>> print(bundle_of({"price": [(7, 900)]}, "top 1 by price using ta").decode(), end="")
     list price
     7,900
     query top 1 by price using ta
     """
-    parts = []
-    for name, pairs in lists.items():
-        if not _NAME.fullmatch(name):
-            raise ValueError(f"{name!r} is no name of a list: a letter, and at most 31 letters, digits and underscores")
-        parts.append(f"list {name}\n")
-        parts.extend(["%d,%d\n" % row for row in _rows(pairs)])
-    if "\n" in query or "\r" in query:
-        raise ValueError("a query is one line")
-    parts.append(f"query {query}\n")
-    return "".join(parts).encode()
+    parts = [f"list {name}\n" + "%d,%d\n" * (len(rows) // 2) % tuple(rows) for name, rows in _rows_of(lists).items()]
+    return "".join([*parts, f"query {_line(query)}\n"]).encode()
 
 
 def answer(lists: Mapping[str, Pairs], query: str) -> Answer:
-    """Answers a query over ranked lists.
+    """Answers a query over lists.
 
-    `lists` has the lists by name: all of the same objects, each with the greatest grade first (`ranked` sorts one). Objects are integers
+    `lists` has the lists by name: all of the same objects, each object once in a list, the rows in any order. Objects are integers
     up to 4294967295, grades up to 1000000. `query` is `top K by EXPRESSION using ALGORITHM`, with the algorithm `ta`, `nra` or `ca`.
+
+    It is the answer of `answer_bundle` to what `bundle_of` makes of them, without that text.
 
     Raises Refused where there is no answer, MemoryError where memory is refused, and what `bundle_of` raises.
 
     >>> from array import array
-    >>> price = (array("I", [7, 3]), array("I", [900, 850]))
+    >>> price = (array("I", [3, 7]), array("I", [850, 900]))
     >>> answer({"price": price}, "top 1 by price using nra").objects
     (Ranked(object=7, low=900, high=900),)
-    >>> answer({"price": [(3, 850), (7, 900)]}, "top 1 by price using ta")
+    >>> answer({"price": [(7, 900), (7, 850)]}, "top 1 by price using ta")
     Traceback (most recent call last):
-    topk.Refused: NoBundle 3 (row 2 of the list price)
+    topk.Refused: NoBundle 3 (row 2 of the list price, the object 7 with the grade 850)
     """
-    bundle = bundle_of(lists, query)
-    try:
-        return answer_bundle(bundle)
-    except Refused as refused:
-        if refused.name == "NoBundle":
-            raise Refused("NoBundle", refused.fields, _place_of(bundle, refused.fields[0])) from None
-        raise
+    rows, line = _rows_of(lists), _line(query).encode()
+    given = (_List * len(rows))(*[_List(name.encode(), len(name), _at(numbers), len(numbers) // 2) for name, numbers in rows.items()])
+    room = max(_LEAST_ROOM, 8 * sum(map(len, rows.values())))
+    status, text = _called("topk_answer_rows", room, given, len(given), line, len(line))
+    if status == _NO_BUNDLE:
+        fields = _fields(text.split()[2:])
+        raise Refused("NoBundle", fields, _place_of(rows, query, fields[0]))
+    return _answered(status, text)
 
 
 def answer_bundle(bundle: bytes | str) -> Answer:
@@ -180,13 +185,11 @@ def answer_bundle(bundle: bytes | str) -> Answer:
     >>> answer_bundle("list A\\n1,5\\nquery top 1 by A using ta\\n").objects
     (Ranked(object=1, low=5, high=5),)
     """
-    status, text = _called("topk_answer", _bytes_of(bundle))
+    given = _bytes_of(bundle)
+    status, text = _called("topk_answer", max(_LEAST_ROOM, len(given)), given, len(given))
     if status == _NO_BUNDLE:
         raise Refused("NoBundle", _fields(text.split()[2:]))
-    if status == _REFUSED:
-        _, _, name, *fields = text.split()
-        raise Refused(name, _fields(fields))
-    return _answer_in(text)
+    return _answered(status, text)
 
 
 def judge(certificate: bytes | str) -> Fixes | Beaten:
@@ -198,7 +201,8 @@ def judge(certificate: bytes | str) -> Fixes | Beaten:
     Traceback (most recent call last):
     topk.Refused: BadLine 2
     """
-    status, text = _called("topk_judge", _bytes_of(certificate))
+    given = _bytes_of(certificate)
+    status, text = _called("topk_judge", max(_LEAST_ROOM, len(given)), given, len(given))
     if status == _DONE:
         return Fixes()
     head, _, counter = text.partition("\n")
@@ -209,26 +213,100 @@ def judge(certificate: bytes | str) -> Fixes | Beaten:
     return Beaten(int(inside), int(low), int(outside), int(high), counter)
 
 
-def _rows(pairs: Pairs) -> list[tuple[int, int]]:
-    """The rows of a list, as pairs of integers."""
-    if isinstance(pairs, tuple) and len(pairs) == 2 and all(hasattr(column, "tolist") for column in pairs):
-        objects, grades = (column.tolist() for column in pairs)
-        if len(objects) != len(grades):
-            raise ValueError(f"{len(objects)} objects have {len(grades)} grades")
-        pairs = zip(objects, grades)
-    index = operator.index
-    return [(index(item), index(grade)) for item, grade in pairs]
+class _List(ctypes.Structure):
+    """A list, as the library takes it: struct topk_list of topk.h."""
+
+    _fields_ = [("name", ctypes.c_char_p), ("name_length", ctypes.c_size_t), ("rows", ctypes.c_void_p), ("rows_length", ctypes.c_size_t)]
 
 
-def _place_of(bundle: bytes, line: int) -> str:
-    """Which row of which list a line of a bundle is, for whoever made the lists and not the text."""
-    name, start = "", 0
-    for number, text in enumerate(bundle.decode().splitlines(), 1):
-        if text.startswith("list "):
-            name, start = text[5:], number
-        if number == line:
-            return f"row {number - start} of the list {name}" if number > start and not text.startswith("query ") else f"the line {text!r}"
-    return ""
+def _rows_of(lists: Mapping[str, Pairs]) -> dict[str, array.array[int]]:
+    """The rows of each list by its name, from the top down: an object and its grade in turn."""
+    rows = {}
+    for name, pairs in lists.items():
+        if not _NAME.fullmatch(name):
+            raise ValueError(f"{name!r} is no name of a list: a letter, and at most 31 letters, digits and underscores")
+        try:
+            rows[name] = _ranked_columns(*pairs) if _are_columns(pairs, "dtype") else _in_order(_numbers(pairs))
+        except OverflowError:
+            raise ValueError(f"an object or a grade of the list {name} isn't from 0 to {_MOST}") from None
+    return rows
+
+
+def _are_columns(pairs: Pairs, having: str) -> bool:
+    return isinstance(pairs, tuple) and len(pairs) == 2 and all(hasattr(column, having) for column in pairs)
+
+
+def _numbers(pairs: Pairs) -> array.array[int]:
+    """Pairs or two columns as an object and its grade in turn."""
+    if not _are_columns(pairs, "tolist"):
+        return array.array("I", [number for item, grade in pairs for number in (item, grade)])
+    objects, grades = map(_column, pairs)
+    if len(objects) != len(grades):
+        raise ValueError(f"{len(objects)} objects have {len(grades)} grades")
+    numbers = array.array("I", bytes(8 * len(objects)))
+    numbers[0::2], numbers[1::2] = objects, grades
+    return numbers
+
+
+def _column(column: Any) -> array.array[int]:
+    """A column of numbers of 32 bits."""
+    return array.array("I", _checked(column).tobytes() if hasattr(column, "dtype") else column.tolist())
+
+
+def _checked(column: Any) -> Any:
+    """A column of numpy as numbers of 32 bits."""
+    if column.dtype.kind not in "iu":
+        raise TypeError(f"objects and grades are integers, and not {column.dtype}")
+    if column.ndim != 1:
+        raise ValueError("objects and grades are arrays of one dimension")
+    if column.size and not 0 <= column.min() <= column.max() <= _MOST:
+        raise OverflowError
+    return column.astype("=u4")
+
+
+def _ranked_columns(objects: Any, grades: Any) -> array.array[int]:
+    """The rows of two columns of numpy as they are, where no grade rises, else ranked."""
+    import numpy
+    objects, grades = _checked(objects), _checked(grades)
+    if len(objects) != len(grades):
+        raise ValueError(f"{len(objects)} objects have {len(grades)} grades")
+    if (grades[1:] > grades[:-1]).any():
+        order = numpy.lexsort((objects, _MOST - grades))
+        objects, grades = objects[order], grades[order]
+    return array.array("I", numpy.stack((objects, grades), axis=1).tobytes())
+
+
+def _in_order(numbers: array.array[int]) -> array.array[int]:
+    """The rows as they are, where no grade rises, else ranked."""
+    grades = numbers[1::2]
+    if all(map(operator.ge, grades, itertools.islice(grades, 1, None))):
+        return numbers
+    rows = sorted(zip(map(operator.neg, grades), numbers[0::2]))
+    return array.array("I", [number for grade, item in rows for number in (item, -grade)])
+
+
+def _at(numbers: array.array[int]) -> int:
+    """Where the numbers stand in memory."""
+    return numbers.buffer_info()[0] if numbers else ctypes.addressof(_NO_ROW)
+
+
+def _line(query: str) -> str:
+    if "\n" in query or "\r" in query:
+        raise ValueError("a query is one line")
+    return query
+
+
+def _place_of(rows: dict[str, array.array[int]], query: str, line: int) -> str:
+    """Which row of which list a line of the bundle is that these print as, for whoever made the lists and not the text."""
+    start = 1
+    for name, numbers in rows.items():
+        row = line - start
+        if row == 0:
+            return f"the line 'list {name}'"
+        if row <= len(numbers) // 2:
+            return f"row {row} of the list {name}, the object {numbers[2 * row - 2]} with the grade {numbers[2 * row - 1]}"
+        start += 1 + len(numbers) // 2
+    return f"the line {'query ' + query!r}" if line == start else ""
 
 
 def _bytes_of(text: bytes | str) -> bytes:
@@ -237,6 +315,14 @@ def _bytes_of(text: bytes | str) -> bytes:
 
 def _fields(words: Iterable[str]) -> list[int | str]:
     return [int(word) if word.isdecimal() else word for word in words]
+
+
+def _answered(status: int, text: str) -> Answer:
+    """The answer of a certificate, where the text is no refusal."""
+    if status == _REFUSED:
+        _, _, name, *fields = text.split()
+        raise Refused(name, _fields(fields))
+    return _answer_in(text)
 
 
 def _answer_in(text: str) -> Answer:
@@ -257,28 +343,30 @@ def _answer_in(text: str) -> Answer:
     return Answer(tuple(objects), query, count, certificate=text, **figures)
 
 
-def _called(name: str, given: bytes) -> tuple[int, str]:
-    """The status and the whole text of a call of the library."""
-    call = getattr(_library(), name)
-    written = ctypes.c_size_t(max(_LEAST_ROOM, len(given)))
+def _called(name: str, room: int, *given: Any) -> tuple[int, str]:
+    """The status and the whole text of a call of the library, which is tried with so much room first."""
+    call, written = getattr(_library(), name), ctypes.c_size_t()
     while True:
-        room = written.value
         out = ctypes.create_string_buffer(room)
-        status = call(given, len(given), out, room, ctypes.byref(written))
+        status = call(*given, out, room, ctypes.byref(written))
         if status == _MEMORY:
             raise MemoryError("the library was refused memory")
         if status == _LONG:
             raise Refused("LongInput", (MAX_INPUT,))
         if written.value <= room:
             return status, ctypes.string_at(out, written.value).decode()
+        room = written.value
 
 
 @functools.lru_cache(maxsize=None)
 def _library() -> ctypes.CDLL:
     """The shared library, with the types of its calls."""
     library = ctypes.CDLL(_library_path())
-    for call in (library.topk_answer, library.topk_judge):
-        call.argtypes = [ctypes.c_char_p, ctypes.c_size_t, ctypes.c_char_p, ctypes.c_size_t, ctypes.POINTER(ctypes.c_size_t)]
+    text = [ctypes.c_char_p, ctypes.c_size_t]
+    told = [ctypes.c_char_p, ctypes.c_size_t, ctypes.POINTER(ctypes.c_size_t)]
+    lists = [ctypes.POINTER(_List), ctypes.c_size_t]
+    for call, given in ((library.topk_answer, text), (library.topk_judge, text), (library.topk_answer_rows, lists + text)):
+        call.argtypes = given + told
         call.restype = ctypes.c_uint8
     return library
 

@@ -4,6 +4,8 @@ import ctypes
 import doctest
 import importlib.util
 import pathlib
+import random
+import re
 import shutil
 import subprocess
 import sys
@@ -44,19 +46,54 @@ def built(heap):
     return str(_loaded[heap])
 
 
+class Row(ctypes.Structure):
+    _fields_ = [("object", ctypes.c_uint32), ("grade", ctypes.c_uint32)]
+
+
+class List(ctypes.Structure):
+    _fields_ = [("name", ctypes.c_char_p), ("name_length", ctypes.c_size_t), ("rows", ctypes.POINTER(Row)), ("rows_length", ctypes.c_size_t)]
+
+
 def library(heap="c/heap.c"):
     found = ctypes.CDLL(built(heap))
-    for call in (found.topk_answer, found.topk_judge):
-        call.argtypes = [ctypes.c_char_p, ctypes.c_size_t, ctypes.c_char_p, ctypes.c_size_t, ctypes.POINTER(ctypes.c_size_t)]
+    text = [ctypes.c_char_p, ctypes.c_size_t]
+    for call, given in ((found.topk_answer, text), (found.topk_judge, text), (found.topk_answer_rows, [ctypes.POINTER(List), ctypes.c_size_t, *text])):
+        call.argtypes = [*given, *text, ctypes.POINTER(ctypes.c_size_t)]
         call.restype = ctypes.c_uint8
     return found
+
+
+def rows_given(lists, query):
+    """Lists, as pairs of a name and rows, and a query, as the library takes them."""
+    made = [List(name, len(name), (Row * max(1, len(rows)))(*[Row(*row) for row in rows]), len(rows)) for name, rows in lists]
+    return (List * len(made))(*made), len(made), query, len(query)
+
+
+def printed(lists, query):
+    """The text of a bundle that lists and a query print as."""
+    rows = [b"list " + name + b"\n" + b"".join(b"%d,%d\n" % row for row in rows) for name, rows in lists]
+    return b"".join([*rows, b"query " + query + b"\n"])
+
+
+def taken_apart(bundle):
+    """The lists and the query that print as a text, or None where none do."""
+    lists, query = [], b""
+    for line in bundle.split(b"\n"):
+        word, _, rest = line.partition(b" ")
+        if word == b"list":
+            lists.append((rest, []))
+        elif word == b"query":
+            query = rest
+        elif lists and re.fullmatch(rb"[0-9]{1,9},[0-9]{1,9}", line):
+            lists[-1][1].append(tuple(map(int, line.split(b","))))
+    return (lists, query) if printed(lists, query) == bundle else None
 
 
 def called(call, given, room):
     """The status, the length that is told, and the buffer of so much room after a call; a byte behind the room is watched."""
     out = ctypes.create_string_buffer(GUARD * (room + 1), room + 1)
     written = ctypes.c_size_t(room + 12345)
-    status = call(given, len(given), out, room, ctypes.byref(written))
+    status = call(*((given, len(given)) if isinstance(given, bytes) else given), out, room, ctypes.byref(written))
     return status, written.value, out.raw
 
 
@@ -93,10 +130,10 @@ def says(program, word, given):
     return done.returncode, done.stdout
 
 
-def compared(program, word, call, given, name):
-    """What is wrong with a call in comparison with the command, or None."""
+def compared(program, word, call, given, name, text_given=None):
+    """What is wrong with a call in comparison with the command over a text, which is what is given if no other is, or None."""
     status, text, same = whole(call, given)
-    wanted = says(program, word, given)
+    wanted = says(program, word, given if text_given is None else text_given)
     if not same:
         return f"{name}: a buffer with room changed the status or the length"
     return None if (status, text) == wanted else f"{name}: ended with {status} and {text[:200]!r} in place of {wanted[0]} and {wanted[1][:200]!r}"
@@ -114,6 +151,47 @@ def library_one_as_program(program):
     return None
 
 
+def library_rows_as_program(program):
+    """Every bundle of the examples that lists print as, and made ones: the text that the program writes of the printed text."""
+    answer = library().topk_answer_rows
+    texts = {path.name: path.read_bytes() for path in sorted(EXAMPLES.glob("*.bundle"))}
+    texts |= {word.decode(): made_bundle(500, 5, b"top 7 by sum(l0,min(l1,l2),median(l3,l4)) using " + word) for word in (b"ta", b"nra", b"ca")}
+    apart = {name: (text, taken_apart(text)) for name, text in texts.items()}
+    if sum(lists is not None for _, lists in apart.values()) < 20:
+        return "too few examples are what lists print as"
+    for name, (text, lists) in apart.items():
+        wrong = None if lists is None else compared(program, "one", answer, rows_given(*lists), name, text)
+        if wrong is not None:
+            return wrong
+    return None
+
+
+def library_rows_of_no_bundle(program):
+    """Each way in which rows make no bundle: what the program writes of the printed text; and of names and queries that are no line, by hand."""
+    answer = library().topk_answer_rows
+    two, query = (b"B", [(2, 700), (1, 500)]), b"top 1 by A using ta"
+    rows_at_fault = ([(1, 900), (2, 901)], [(1, 1_000_001), (2, 5)], [(1, 9), (1, 8)], [(1, 9)], [(1, 9), (3, 8)], [], [(1, 9), (2, 8), (3, 7)],
+                     [(4_294_967_295, 9), (1, 8)])
+    names_at_fault = (b"B", b"", b"1A", b"A" * 33, b"A b")
+    for one in [(b"A", rows) for rows in rows_at_fault] + [(name, [(1, 9), (2, 8)]) for name in names_at_fault]:
+        for lists in ([one, two], [two, one]):
+            wrong = compared(program, "one", answer, rows_given(lists, query), str(lists), printed(lists, query))
+            if wrong is not None:
+                return wrong
+    many = [(b"l%d" % number, [(1, 5)]) for number in range(65)]
+    for lists in ([], many, many[:64]):
+        wrong = compared(program, "one", answer, rows_given(lists, b"top 1 by l0 using ta"), f"{len(lists)} lists", printed(lists, b"top 1 by l0 using ta"))
+        if wrong is not None:
+            return wrong
+    row = [(1, 5)]
+    for lists, query, line in (([(b"A\n1,5\nlist B", row)], b"top 1 by A using ta", 1), ([(b"A", row), (b"B\n1,5", row)], b"top 1 by A using ta", 3),
+                               ([(b"A", row)], b"top 1 by A using ta\n", 3), ([(b"A", row)], b"\n", 3), ([(b"A", [(1, 5), (2, 6)])], b"a\nb", 3)):
+        found = whole(answer, rows_given(lists, query))
+        if found != (10, b"refused bundle %d\n" % line, True):
+            return f"{lists} with {query!r}: {found}"
+    return None
+
+
 def library_judge_as_program(program):
     """Every text of the examples and of the cases of `judge`: the certificates, and what is none."""
     judge = library().topk_judge
@@ -127,7 +205,7 @@ def library_judge_as_program(program):
 
 def library_short_buffer(program):
     """A buffer with room for all but one byte, and one for one more: the first stays as it was, and of the second the byte more does."""
-    for call, given in ((library().topk_answer, BUNDLE), (library().topk_judge, BEATEN)):
+    for call, given in ((library().topk_answer, BUNDLE), (library().topk_answer_rows, rows_given(*taken_apart(BUNDLE))), (library().topk_judge, BEATEN)):
         status, text, _ = whole(call, given)
         length = len(text)
         if called(call, given, length - 1) != (status, length, GUARD * length):
@@ -185,10 +263,11 @@ def resident():
 
 def library_keeps_nothing(program):
     """After 100,000 calls as much memory is resident as after 1,000."""
-    found, out, written = library(), ctypes.create_string_buffer(4096), ctypes.c_size_t()
+    found, out, written, rows = library(), ctypes.create_string_buffer(4096), ctypes.c_size_t(), rows_given(*taken_apart(BUNDLE))
 
     def work(calls):
-        for _ in range(calls // 2):
+        for _ in range(calls // 3):
+            found.topk_answer_rows(*rows, out, 4096, ctypes.byref(written))
             found.topk_answer(BUNDLE, len(BUNDLE), out, 4096, ctypes.byref(written))
             found.topk_judge(BEATEN, len(BEATEN), out, 4096, ctypes.byref(written))
     work(1_000)
@@ -202,7 +281,9 @@ def library_refused_memory(program):
     found = library("tests/failing_heap.c")
     bundle = made_bundle(300, 6, b"top 20 by sum(min(l0,l1),wsum(2*l2,3*l3),median(l3,l4,l5)) using ca cost 1 3")
     certificate = whole(found.topk_answer, bundle)[1]
-    for call, given in ((found.topk_answer, BUNDLE), (found.topk_judge, BEATEN), (found.topk_answer, bundle), (found.topk_judge, certificate)):
+    rows = rows_given(*taken_apart(bundle))
+    for call, given in ((found.topk_answer, BUNDLE), (found.topk_judge, BEATEN), (found.topk_answer, bundle), (found.topk_answer_rows, rows),
+                        (found.topk_judge, certificate)):
         found.test_fail_at(0)
         status, text, _ = whole(call, given)
         refused = 0
@@ -231,6 +312,14 @@ int main(void) {{
     uint8_t out[200];
     size_t written;
     uint8_t status = topk_answer((const uint8_t *)bundle, strlen(bundle), out, sizeof out, &written);
+    struct topk_row rows[] = {{{{1, 5}}}};
+    struct topk_list lists[] = {{{{(const uint8_t *)"A", 1, rows, 1}}}};
+    const char *query = "top 1 by A using ta";
+    uint8_t again[200];
+    size_t length;
+    uint8_t same = topk_answer_rows(lists, 1, (const uint8_t *)query, strlen(query), again, sizeof again, &length);
+    if (same != status || length != written || memcmp(again, out, length) != 0)
+        return 2;
     return status == TOPK_DONE && written < sizeof out && memcmp(out, "certificate 1\\n", 14) == 0 ? 0 : 1;
 }}
 """, encoding="utf-8")
@@ -264,6 +353,24 @@ def python_answers(program):
     return None if text == line + beaten.counter else f"{beaten} was read from {text!r}"
 
 
+def python_any_order(program):
+    """Rows in any order are ranked, and rows whose grades never rise stay as they are, ties too: the text is the program's of the bundle."""
+    topk = module()
+    lists = {"A": [(it, it * 7919 % 101) for it in range(300)], "B": [(it, 1000 - it // 3) for it in range(300)], "C": [(299 - it, 5) for it in range(300)]}
+    ranked = {name: topk.ranked(lists[name]) for name in "AB"} | {"C": lists["C"]}
+    shuffled = {"A": random.Random(1).sample(lists["A"], 300), "B": lists["B"], "C": lists["C"]}
+    columns = {name: tuple(array.array("I", column) for column in zip(*rows)) for name, rows in shuffled.items()}
+    query = "top 5 by sum(A,B,C) using ca"
+    text = printed([(name.encode(), rows) for name, rows in ranked.items()], query.encode())
+    wanted = topk.answer_bundle(text)
+    if wanted.certificate != says(program, "one", text)[1].decode():
+        return "the ranked bundle is answered otherwise"
+    for given in (ranked, shuffled, columns, {name: iter(rows) for name, rows in shuffled.items()}):
+        if topk.answer(given, query) != wanted:
+            return f"{list(given.items())[0]} is answered otherwise"
+    return None if topk.bundle_of(columns, query) == text else "the text of the bundle isn't ranked"
+
+
 def python_refusals(program):
     """Each kind of error: what it says of itself."""
     topk = module()
@@ -278,13 +385,21 @@ def python_refusals(program):
     one = {"A": [(1, 5)]}
     expect(topk.Refused, topk.answer, one, "top 1 by Z using ta", name="UnknownList", fields=("Z",))
     expect(topk.Refused, topk.answer, one, "top 2 by A using ta", name="KAboveCount", fields=(2, 1))
-    expect(topk.Refused, topk.answer, {"A": [(1, 5), (1, 4)]}, "top 1 by A using ta", name="NoBundle", fields=(3,), hint="row 2 of the list A")
+    expect(topk.Refused, topk.answer, {"A": [(1, 5), (1, 4)]}, "top 1 by A using ta", name="NoBundle", fields=(3,),
+           hint="row 2 of the list A, the object 1 with the grade 4")
+    expect(topk.Refused, topk.answer, {"A": [(1, 5), (2, 5)], "B": [(1, 5)]}, "top 1 by A using ta", name="NoBundle", fields=(6,),
+           hint="the line 'query top 1 by A using ta'")
+    expect(topk.Refused, topk.answer, {"A": []}, "top 1 by A using ta", name="NoBundle", fields=(2,), hint="the line 'query top 1 by A using ta'")
+    expect(topk.Refused, topk.answer, {}, "top 1 by A using ta", name="NoBundle", fields=(1,), hint="the line 'query top 1 by A using ta'")
     expect(topk.Refused, topk.answer_bundle, b"list A\n", name="NoBundle", fields=(2,))
     expect(topk.Refused, topk.answer_bundle, padded_bundle(MAX_INPUT + 1), name="LongInput", fields=(MAX_INPUT,))
     expect(topk.Refused, topk.judge, b"", name="BadLine", fields=(1,))
     expect(ValueError, topk.answer, {"A\n1,5": []}, "top 1 by A using ta")
     expect(ValueError, topk.answer, one, "top 1 by A using ta\nlist B")
     expect(ValueError, topk.answer, {"A": (array.array("I", [1, 2]), array.array("I", [5]))}, "top 1 by A using ta")
+    expect(ValueError, topk.answer, {"A": [(1, -5)]}, "top 1 by A using ta")
+    expect(ValueError, topk.answer, {"A": (array.array("q", [1 << 32]), array.array("q", [5]))}, "top 1 by A using ta")
+    expect(ValueError, topk.answer, {"A": [(1, 5, 6)]}, "top 1 by A using ta")
     expect(TypeError, topk.answer, {"A": [(1, 0.5)]}, "top 1 by A using ta")
     return "; ".join(wrong) or None
 
@@ -306,14 +421,25 @@ def python_numpy(program):
     except ImportError:
         raise Skipped("there is no numpy") from None
     topk = module()
-    objects, grades = numpy.array([7, 3]), numpy.array([900, 850])
-    pairs = topk.answer({"A": [(7, 900), (3, 850)]}, "top 1 by A using ta")
-    return None if topk.answer({"A": (objects, grades)}, "top 1 by A using ta") == pairs else "arrays are answered otherwise"
+    wanted = topk.answer({"A": [(7, 900), (4, 850), (3, 7)]}, "top 1 by A using ta")
+    objects, grades = numpy.array([3, 7, 4]), numpy.array([7, 900, 850])
+    for kind in ("int64", "uint32", "uint16", ">i4"):
+        if topk.answer({"A": (objects.astype(kind), grades.astype(kind))}, "top 1 by A using ta") != wanted:
+            return f"arrays of {kind} are answered otherwise"
+    if topk.answer({"A": (objects[::2], grades[::2])}, "top 1 by A using ta").count != 2:
+        return "every other row is answered otherwise"
+    for kind, wrong in ((ValueError, -grades), (ValueError, grades + (1 << 32)), (TypeError, grades.astype("float64")), (ValueError, grades[:2])):
+        try:
+            topk.answer({"A": (objects, wrong)}, "top 1 by A using ta")
+            return f"{wrong} was answered"
+        except kind:
+            pass
+    return None
 
 
 def tests():
     """Each test with its name."""
-    for test in (library_one_as_program, library_judge_as_program, library_short_buffer, library_empty_input, library_largest_input, library_on_threads,
-                 library_keeps_nothing, library_refused_memory, library_header, python_doctests, python_answers, python_refusals, python_long_text,
-                 python_numpy):
+    for test in (library_one_as_program, library_rows_as_program, library_rows_of_no_bundle, library_judge_as_program, library_short_buffer,
+                 library_empty_input, library_largest_input, library_on_threads, library_keeps_nothing, library_refused_memory, library_header,
+                 python_doctests, python_answers, python_any_order, python_refusals, python_long_text, python_numpy):
         yield test.__name__, test

@@ -33,8 +33,9 @@ in_order D = sym (fill_by_all (list_at D) D (length D) [] refl (λ k l. refl))
 -- ---- the queries
 
 pub ready_made : (input : BulkInput) (number : ℕ) (ready : Ready) → IsInput input → ready.query ≡ query_of input number → ready.count ≡ input.count
-    → ready.sources.items ≡ list_numbers input.lists → IsLawful ready.query → IsExpr ready.query.expr → IsMadeReady input number ready
-ready_made input number ready within query count sources lawful expr =
+    → ready.sources.items ≡ list_numbers input.lists → ready.versions.items ≡ replicate input.lists 0 → IsLawful ready.query → IsExpr ready.query.expr
+    → IsMadeReady input number ready
+ready_made input number ready within query count sources versions lawful expr =
     let some = within.some_objects in
     let few = within.few_objects in
     let k : ready.query.k ≡ 1 + number % min input.count 10 = ap (λ (q : Query). q.k) query in
@@ -42,7 +43,14 @@ ready_made input number ready within query count sources lawful expr =
     let names : length ready.query.names ≡ input.lists = ap (λ (q : Query). length q.names) query ∙ length-map-range_with_len list_name 1 input.lists in
     let many : length ready.sources.items ≡ input.lists = ap length sources ∙ length-range_with_len 0 input.lists in
     record {
-      is = record { lawful = lawful; expr = expr; fits = omega (arith, k, turn, count); counted = omega (arith, count, few); sources = many ∙ sym names };
+      is = record {
+        lawful = lawful;
+        expr = expr;
+        fits = omega (arith, k, turn, count);
+        counted = omega (arith, count, few);
+        sources = many ∙ sym names;
+        versions = ap length versions ∙ (length-replicate input.lists 0 ∙ sym names);
+      };
       query = query;
       count = count;
       sources = sources;

@@ -1,6 +1,6 @@
 //! Made queries, ready to run.
 
-ghost use Rattle.std.specs.Prelude.{◌≡◌, ◌<◌, IfOk};
+ghost use Rattle.std.specs.Prelude.{◌≡◌, ◌<◌, IfOk, replicate};
 ghost use Rattle.topk_theory.specs.Transcript.{list_numbers};
 ghost use Rattle.bulk_run.specs.Sums.{IsInput};
 ghost use Rattle.bulk_run.specs.Endings.{IsMadeReady, AreMadeReady};
@@ -22,6 +22,15 @@ fn source_numbers(alloc: Global, lists: u8) -> Result<Vec<u32>, Memory>
     Ok(numbers)
 }
 
+/// The versions of so many made lists: 0, since none is ever replaced.
+fn first_versions(alloc: Global, lists: u8) -> Result<Vec<u64>, Memory>
+    ensures { IfOk result (λ versions. versions.items ≡ replicate lists 0) }
+{
+    let mut versions = Vec::new(alloc);
+    versions.resize(usize::from(lists), 0)?;
+    Ok(versions)
+}
+
 /// The query with a number, ready to run over the lists of the table.
 fn made_ready(alloc: Global, number: u32, input: BulkInput) -> Result<Ready, Memory>
     requires { IsInput input }
@@ -35,10 +44,16 @@ fn made_ready(alloc: Global, number: u32, input: BulkInput) -> Result<Ready, Mem
         drop(query);
         return Err(Memory);
     };
+    let Ok(versions) = first_versions(alloc, lists) else {
+        drop(query);
+        drop(sources);
+        return Err(Memory);
+    };
     Ok(Ready {
         query,
         count: input.count,
         sources,
+        versions,
     })
 }
 

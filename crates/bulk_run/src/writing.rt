@@ -8,34 +8,34 @@ ghost use Rattle.tk_io.specs.Whole.{TookFront};
 ghost use Rattle.bulk_run.specs.Text.{figure, accesses_text, sums_text};
 
 use super::sums::BulkSums;
-use tk_io::{Failed, Pieces, Sink};
+use tk_io::{Failed, Put, Sink, Writer};
 
 /// Puts what stands before a figure, and the figure, behind the bytes that wait.
-fn put_figure<K: Sink>(out: &mut K, pieces: &mut Pieces, before: &[u8], number: u64)
-    ensures { Puts (K.held out.old) (K.held out.new) (K.faults out.old) (K.faults out.new) pieces.old pieces.new (figure before.now number) }
+fn put_figure<P: Put>(out: &mut P, before: &[u8], number: u64)
+    ensures { Puts (P.at out.old) (P.at out.new) (figure before.now number) }
 {
-    pieces.put(out, before);
-    pieces.put_number(out, number);
+    out.put(before);
+    out.put_number(number);
 }
 
 /// Puts the figures of the accesses and the values, and the end of the line, behind the bytes that wait.
-fn put_accesses<K: Sink>(out: &mut K, pieces: &mut Pieces, sums: &BulkSums)
-    ensures { Puts (K.held out.old) (K.held out.new) (K.faults out.old) (K.faults out.new) pieces.old pieces.new (accesses_text sums.now) }
+fn put_accesses<P: Put>(out: &mut P, sums: &BulkSums)
+    ensures { Puts (P.at out.old) (P.at out.new) (accesses_text sums.now) }
 {
-    put_figure(out, pieces, b" sorted ", sums.sorted);
-    put_figure(out, pieces, b" random ", sums.random);
-    put_figure(out, pieces, b" values ", sums.values);
-    pieces.put(out, b"\n");
+    put_figure(out, b" sorted ", sums.sorted);
+    put_figure(out, b" random ", sums.random);
+    put_figure(out, b" values ", sums.values);
+    out.put(b"\n");
 }
 
 /// Puts the line of sums behind the bytes that wait.
-fn put_sums<K: Sink>(out: &mut K, pieces: &mut Pieces, sums: &BulkSums)
-    ensures { Puts (K.held out.old) (K.held out.new) (K.faults out.old) (K.faults out.new) pieces.old pieces.new (sums_text sums.now) }
+fn put_sums<P: Put>(out: &mut P, sums: &BulkSums)
+    ensures { Puts (P.at out.old) (P.at out.new) (sums_text sums.now) }
 {
-    put_figure(out, pieces, b"bulk queries ", sums.queries);
-    put_figure(out, pieces, b" answered ", sums.answered);
-    put_figure(out, pieces, b" depth ", sums.depth);
-    put_accesses(out, pieces, sums);
+    put_figure(out, b"bulk queries ", sums.queries);
+    put_figure(out, b" answered ", sums.answered);
+    put_figure(out, b" depth ", sums.depth);
+    put_accesses(out, sums);
 }
 
 /// Writes the line of sums: `bulk queries QUERIES answered ANSWERED depth DEPTH sorted SORTED random RANDOM values VALUES`. Takes no
@@ -49,7 +49,7 @@ pub fn write_sums<K: Sink>(out: &mut K, sums: &BulkSums) -> Result<(), Failed>
     ensures front { OnErr result (TookFront (K.held out.old) (K.held out.new) (sums_text sums.now)) }
     ensures cause { HasCause (K.faults out.old) (K.faults out.new) result }
 {
-    let mut pieces = Pieces::make();
-    put_sums(out, &mut pieces, sums);
-    pieces.end(out)
+    let mut writer = Writer::make(out);
+    put_sums(&mut writer, sums);
+    writer.end()
 }

@@ -16,7 +16,7 @@ use Rattle.topk_theory.proofs.AgreementLists.{contains_at, contains_map_from, al
 use Rattle.topk_theory.proofs.AgreementRows.{list_at_length}
 use Rattle.query_core.specs.declared.ready.Ready.{Ready}
 use Rattle.query_core.proofs.ListCount.{lists_counted}
-use Rattle.query_admission.specs.View.{AreListed, AreTold, count_of}
+use Rattle.query_admission.specs.View.{AreListed, AreTold, versions_at, count_of}
 use Rattle.query_admission.specs.Admission.{IsAdmitted, RefusesLine}
 use Rattle.query_admission.specs.declared.lists.Listed.{Listed}
 use Rattle.machine_base.specs.declared.answer.Answer.{Answer}
@@ -98,6 +98,30 @@ all_told c (name ∷ names) (list ∷ lists) e =
     let rest : map (bundle_view c).listed names ≡ map Some lists = cc in
     ap (λ o. o ∷ map (bundle_view c).told names) (told_there c (bundle_place c name) list here) ∙ ap (λ os. Some (list_at c.lists list.source) ∷ os) (all_told c names lists rest)
 
+-- the lists of a bundle are all at version 0
+at_first : (c : Content) (p : Option ℕ) (list : Listed) → option_map (bundle_listed c) p ≡ Some list → list.version ≡ 0
+at_first c None list e = absurd cc
+at_first c (Some place) list e = let same : bundle_listed c place ≡ list = cc in sym (ap (λ (l : Listed). l.version) same)
+
+all_at_first : (c : Content) (names : List (List ℕ)) (lists : List Listed) → map (bundle_view c).listed names ≡ map Some lists
+    → AllByRecursion (λ version. version ≡ 0) (versions_at lists)
+all_at_first c [] [] e = tt
+all_at_first c [] (list ∷ lists) e = absurd cc
+all_at_first c (name ∷ names) [] e = tt
+all_at_first c (name ∷ names) (list ∷ lists) e =
+    let here : (bundle_view c).listed name ≡ Some list = cc in
+    let rest : map (bundle_view c).listed names ≡ map Some lists = cc in
+    (at_first c (bundle_place c name) list here, all_at_first c names lists rest)
+
+-- so a query over them has one version for each, and that is 0
+pub versions_first : (c : Content) (q : Query) (lists : List Listed) (versions : List ℕ) → AreListed (bundle_view c) q lists → versions_at lists ≡ versions
+    → (length versions ≡ length q.names) × All (λ version. version ≡ 0) versions
+versions_first c q lists versions listed opened = (
+  sym (ap length opened) ∙ (length-map lists (λ (l : Listed). l.version)
+      ∙ (sym (length-map lists (λ (l : Listed). Some l)) ∙ (sym (ap length listed) ∙ length-map q.names (bundle_view c).listed))),
+  subst (All (λ version. version ≡ 0)) opened (All-from_recursion (λ version. version ≡ 0) (versions_at lists) (all_at_first c q.names lists listed)),
+)
+
 -- the count of lists that each state n is n
 count_same : (lists : List Listed) (n count : ℕ) → AllByRecursion (λ list. list.size ≡ Some n) lists → count_of lists ≡ Some count → count ≡ n
 count_same [] n count each e = absurd cc
@@ -146,13 +170,13 @@ found_at bundle name names p same e = looked_up bundle.names.items name ∙ (ap 
 
 pub listed_here : (c : Content) (name : List ℕ) (place size : ℕ) (rows : List Row) → IsBundle c → bundle_place c name ≡ Some place
     → rows ≡ slice_index_or c.lists place rows → size ≡ length rows
-    → Some (record { size = Some size; random = true; source = place }) ≡ (bundle_view c).listed name
+    → Some (record { size = Some size; random = true; source = place; version = 0 }) ≡ (bundle_view c).listed name
 listed_here c name place size rows bundle found read long =
     let named : place < length c.names = (position-Some (λ other. bytes_eq other name) c.names place [] found).0 in
     let within : place < length c.lists = omega (arith, named, bundle.each_named) in
     let same : rows ≡ list_at c.lists place = get_or_read c.lists place rows within read [] in
     let stated : size ≡ length (list_at c.lists place) = long ∙ ap length same in
-    ap (λ n. Some (record { size = Some n; random = true; source = place })) stated ∙ ap (option_map (bundle_listed c)) (sym found)
+    ap (λ n. Some (record { size = Some n; random = true; source = place; version = 0 })) stated ∙ ap (option_map (bundle_listed c)) (sym found)
 
 -- what becomes of a query that is ready, over the lists at its places
 pub becomes_answered : (c : Content) (ready : Ready) (D : List (List Row)) (answer : Answer) → IsAdmitted (bundle_line c) ready
@@ -165,16 +189,16 @@ becomes_answered c ready D answer admitted same over = record {
 pub becomes_full : (c : Content) (ready : Ready) (D : List (List Row)) (room : ℕ) → IsAdmitted (bundle_line c) ready → D ≡ lists_at c ready.sources.items
     → IsOverRoom ready.query ready.count D room → BecomesOf c ready (Refused (RoomFull room))
 becomes_full c ready D room admitted same over = record {
-  becomes = full_line (bundle_line c) ready D room ready.count admitted (subst (AreTold (bundle_view c) ready.query) (sym same) (lists_told c ready admitted)) over;
+  becomes = full_line (bundle_line c) ready D room ready.count ready.versions.items admitted (subst (AreTold (bundle_view c) ready.query) (sym same) (lists_told c ready admitted)) over;
   writable = All-from_recursion (λ list. list < length ready.query.names) [] tt;
 }
 
 -- what becomes of a line that admission refuses
 pub line_refused : (c : Content) (refusal : Refusal) (query : Option Query) → RefusesLine admission_causes (bundle_line c) refusal query
-    → IsLineOf c (record { query = query; count = 0; outcome = Refused refusal })
+    → IsLineOf c (record { query = query; count = 0; versions = []; outcome = Refused refusal })
 line_refused c refusal query refused = record {
-  becomes = refused_line (bundle_line c) refusal query 0 refused;
-  writable = refused_writable query (bundle_line c) admission_causes refusal refused;
+  becomes = refused_line (bundle_line c) refusal query 0 [] refused;
+  writable = refused_writable query [] (bundle_line c) admission_causes refusal refused;
 }
 
 -- the lists that a query names in a bundle, as a table of small objects

@@ -4,5 +4,6 @@ pub mod Grades
 pub mod Made
 pub mod Bundled
 pub mod Reply
+pub mod Lists
 pub mod Judge
 pub mod Outcomes

@@ -22,25 +22,30 @@ abbrev pub outcome_status : Outcome → Status
 outcome_status (Answered answer) = Done
 outcome_status (Refused refusal) = Partial
 
--- the bytes are no bundle, and the text names the first line with which no bundle begins
-pub record RefusesBundle (bytes : List ℕ) (status : Status) (text : List ℕ) : Type 0 where
-  pub no_bundle : (content : Content) → ¬ Spells (lines bytes) content
+-- the lines are no bundle's, and the text names the first of them with which no bundle begins
+pub record RefusesBundle (ls : List (List ℕ)) (status : Status) (text : List ℕ) : Type 0 where
+  pub no_bundle : (content : Content) → ¬ Spells ls content
   pub line : ℕ
-  pub fault : IsFirstFault (lines bytes) line
+  pub fault : IsFirstFault ls line
   pub status_is : status ≡ BadInput
   pub text_is : text ≡ bundle_refused_text line
 
--- the bytes are a bundle, and the text is that of what becomes of its query line, as line 1
-pub record RepliesToBundle (bytes : List ℕ) (status : Status) (text : List ℕ) : Type 0 where
+-- the lines are a bundle's, and the text is that of what becomes of its query line, as line 1
+pub record RepliesToBundle (ls : List (List ℕ)) (status : Status) (text : List ℕ) : Type 0 where
   pub content : Content
-  pub spelled : Spells (lines bytes) content
+  pub spelled : Spells ls content
   pub query : Option Query
   pub count : ℕ
+  pub versions : List ℕ
   pub outcome : Outcome
-  pub becomes : Becomes (bundle_line content) query count outcome
+  pub becomes : Becomes (bundle_line content) query count versions outcome
   pub status_is : status ≡ outcome_status outcome
-  pub text_is : text ≡ outcome_text 1 query count outcome
+  pub text_is : text ≡ outcome_text 1 query count versions outcome
 
--- the status and the text that an input of these bytes is replied to with
+-- the status and the text that these lines are replied to with
+abbrev pub RepliesToLines : List (List ℕ) → Status → List ℕ → Type 0
+RepliesToLines ls status text = RefusesBundle ls status text ⊎ RepliesToBundle ls status text
+
+-- the status and the text that an input of these bytes is replied to with: those of its lines
 abbrev pub Replies : List ℕ → Status → List ℕ → Type 0
-Replies bytes status text = RefusesBundle bytes status text ⊎ RepliesToBundle bytes status text
+Replies bytes status text = RepliesToLines (lines bytes) status text

@@ -14,7 +14,7 @@ use cert_text::{Outcome, write_outcome};
 use limits::MAX_INPUT;
 use query_admission::LineOutcome;
 use std::alloc::Global;
-use tk_io::{Intake, Pieces, ReadError, Sink, read_text};
+use tk_io::{Intake, Put, ReadError, Sink, Writer, read_text};
 
 /// Reads a bundle from the input, answers its query over the lists that the query names, and writes the certificate of the answer or the
 /// line of a refusal: `refused bundle LINE` where the input is no bundle, else the first refusal that holds of the query line, which is
@@ -59,7 +59,7 @@ fn answer_text<K: Sink>(alloc: Global, bytes: &[u8], out: &mut K) -> Status
 }
 
 /// Writes a reply and ends so, or with a write fault.
-fn write_reply<K: Sink>(out: &mut K, reply: &Reply) -> Status
+pub(crate) fn write_reply<K: Sink>(out: &mut K, reply: &Reply) -> Status
     requires { IsWritable reply.now }
     ensures counts { K.faults out.old ≤ K.faults out.new }
     ensures says { Says (output_as K.held K.faults out.old) (output_as K.held K.faults out.new)
@@ -77,24 +77,32 @@ fn refuse_bundle<K: Sink>(out: &mut K, line: u64) -> Status
     ensures says { Says (output_as K.held K.faults out.old) (output_as K.held K.faults out.new)
         (bundle_refused_text line) Status.BadInput result }
 {
-    let mut pieces = Pieces::make();
-    pieces.put(out, b"refused bundle ");
-    pieces.put_number(out, line);
-    pieces.put(out, b"\n");
-    let written = pieces.end(out);
+    let mut writer = Writer::make(out);
+    writer.put(b"refused bundle ");
+    writer.put_number(line);
+    writer.put(b"\n");
+    let written = writer.end();
     ended(written, Status::BadInput)
 }
 
 /// Writes what became of the query line, which is line 1, and ends so, or with a write fault.
 fn write_line<K: Sink>(out: &mut K, line: &LineOutcome) -> Status
-    requires { IsOutcome line.now.query line.now.outcome }
+    requires { IsOutcome line.now.query line.now.versions line.now.outcome }
     ensures counts { K.faults out.old ≤ K.faults out.new }
     ensures says { Says (output_as K.held K.faults out.old) (output_as K.held K.faults out.new)
-        (outcome_text 1 line.now.query line.now.count line.now.outcome)
+        (outcome_text 1 line.now.query line.now.count line.now.versions line.now.outcome)
         (outcome_status line.now.outcome) result }
 {
     let status = outcome_status(&line.outcome);
-    let written = write_outcome(out, 1, line.query.as_ref(), line.count, &line.outcome);
+    let query = line.query.as_ref();
+    let written = write_outcome(
+        out,
+        1,
+        query,
+        line.count,
+        line.versions.as_slice(),
+        &line.outcome,
+    );
     ended(written, status)
 }
 

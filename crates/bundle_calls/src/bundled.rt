@@ -5,15 +5,15 @@ ghost use Rattle.std.specs.Str.{bytes_eq};
 ghost use Rattle.bundle_text.specs.Bundle.{content, IsBundle};
 ghost use Rattle.bundle_calls.specs.Bundled.{lists_at};
 
-use super::Memory;
 use super::told::ToldList;
 use bundle_text::Bundle;
+use memory::Memory;
 use query_admission::{Listed, Lists};
 use std::alloc::Global;
 use std::marker::Model;
 
-/// The lists of a bundle by name: all are told, and all offer random access. The number of a list's
-/// source is its place in the bundle. Contracts see the bundle's content.
+/// The lists of a bundle by name: all are told, all offer random access, and all are at version 0. The
+/// number of a list's source is its place in the bundle. Contracts see the bundle's content.
 #[derive(Drop)]
 pub(crate) struct Bundled<'a> {
     bundle: &'a Bundle,
@@ -52,6 +52,7 @@ impl<'a> Lists for Bundled<'a> {
             size: Some(u64::from(self.bundle.lists[place].len())),
             random: true,
             source: place as u32,
+            version: 0,
         })
     }
 }

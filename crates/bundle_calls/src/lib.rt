@@ -1,4 +1,4 @@
-//! The commands over one input text: `one` answers the query of a bundle, `judge` tells whether a certificate fixes its answer, and `make`
+//! The commands over one input text, `one` over lists in memory too: `one` answers the query of a bundle, `judge` tells whether a certificate fixes its answer, and `make`
 //! writes a made table as the sections of a bundle.
 //!
 //! The lists of a bundle are told, so a query runs over them without sources: its machine is fed until it needs nothing more.
@@ -8,14 +8,12 @@ mod answering;
 mod bundled;
 mod drive;
 mod judging;
+mod lists;
 mod made;
 mod replies;
 mod told;
 
 pub use answering::one;
 pub use judging::judge;
+pub use lists::{answer_lists, lists_are_replied_to_as_printed};
 pub use made::make;
-
-/// No memory was left.
-#[derive(Clone, Copy)]
-pub(crate) struct Memory;

@@ -4,13 +4,14 @@ ghost use Rattle.std.specs.Prelude.{IfOk};
 ghost use Rattle.bundle_text.specs.Bundle.{content, IsBundle};
 ghost use Rattle.query_admission.specs.Admission.{IsAdmitted};
 ghost use Rattle.bundle_calls.specs.Bundled.{bundle_line};
-ghost use Rattle.bundle_calls.specs.Outcomes.{BecomesOf, IsLineOf, IsReply};
+ghost use Rattle.bundle_calls.specs.Lists.{printed_lines};
+ghost use Rattle.bundle_calls.specs.Outcomes.{BecomesOf, IsLineOf, IsReply, IsReplyTo};
 
-use super::Memory;
 use super::bundled::{Bundled, told_lists};
 use super::drive::answer_over;
-use bundle_text::{Bundle, BundleFault, read_bundle};
-use cert_text::{Outcome, Refusal};
+use bundle_text::{Bundle, BundleFault, GivenList, gather_bundle, read_bundle};
+use cert_text::{Outcome, Refusal, Versions};
+use memory::Memory;
 use query_admission::{Admitted, LineOutcome, admit};
 use query_core::{DriveFault, Ready};
 use std::alloc::Global;
@@ -38,6 +39,21 @@ pub(crate) fn reply_to(alloc: Global, bytes: &[u8]) -> Result<Reply, Memory>
     }
 }
 
+/// The reply to lists that a caller has in memory, and a query.
+pub(crate) fn reply_to_lists(
+    alloc: Global,
+    lists: &[GivenList],
+    query: &[u8],
+) -> Result<Reply, Memory>
+    ensures { IfOk result (IsReplyTo (printed_lines lists.now query.now)) }
+{
+    match gather_bundle(alloc, lists, query) {
+        Ok(bundle) => Ok(Reply::Line(line_of(alloc, &bundle)?)),
+        Err(BundleFault::BadBundle { line }) => Ok(Reply::NoBundle { line }),
+        Err(BundleFault::Memory) => Err(Memory),
+    }
+}
+
 /// What becomes of a bundle's query line.
 fn line_of(alloc: Global, bundle: &Bundle) -> Result<LineOutcome, Memory>
     requires { IsBundle (content bundle.now) }
@@ -48,6 +64,7 @@ fn line_of(alloc: Global, bundle: &Bundle) -> Result<LineOutcome, Memory>
         Ok(Admitted::Refused { refusal, query }) => Ok(LineOutcome {
             query,
             count: 0,
+            versions: Versions::from_vec(Vec::new(alloc)),
             outcome: Outcome::Refused(refusal),
         }),
         Err(_) => Err(Memory),
@@ -64,6 +81,7 @@ fn run_ready(alloc: Global, bundle: &Bundle, ready: Ready) -> Result<LineOutcome
         Ok(outcome) => Ok(LineOutcome {
             query: Some(ready.query),
             count: ready.count,
+            versions: Versions::from_vec(ready.versions),
             outcome,
         }),
         Err(_) => {

@@ -8,3 +8,7 @@ pub mod Outcome
 pub mod FrontLines
 -- Lemmas on sections.
 pub mod Sections
+-- Lemmas on lists in memory, as they are gathered.
+pub mod GatherSteps
+pub mod GivenLines
+pub mod GatherLaws

@@ -1,7 +1,7 @@
 -- What the reading of lines finds out: a bundle that they spell, or the first line at fault.
 use Rattle.std.proofs.Common.{◌≡◌, ◌≢◌, ◌<◌, ◌≤◌, ◌+◌, ◌-◌, ℕ, suc, Bool, true, false, List, [], ◌∷◌, ◌++◌, length, take, Result, Ok, Err, refl, sym, ap, ◌∙◌, subst, ⊎_elim, arith, append_assoc, append-nil, IfOk, IfErr}
 use Rattle.std.specs.List.{All}
-use Rattle.std.proofs.lemmas.List.Elements.{All-head, All-tail, All-drop}
+use Rattle.std.proofs.lemmas.List.Elements.{All-head, All-tail, All-drop, All-weaker}
 use Rattle.std.proofs.lemmas.Bool.{cases_Bool}
 use Rattle.bundle_text.specs.Bundle.{Content, IsBundle, Spells, BeginsBundle, IsFirstFault, bundle_lines, query_line}
 use Rattle.bundle_text.specs.Reading.{InsideList, Part, list_part, row_part, query_part, no_part, part_of, takes_row, with_row, takes_list, with_list, is_whole, with_query, takes_part, with_part, first_front, read_part, read_on, read_first, read_all}
@@ -16,9 +16,13 @@ use Rattle.bundle_text.specs.declared.bundle.BundleFault.TheVariants.{BadBundle,
 use Rattle.bundle_text.specs.Bundle.{content, IsReadAs, IsCause}
 use Rattle.bundle_text.specs.Tracking.{GivesBundle}
 
--- no line has an LF
+-- the text of a query that a line is has no LF
+abbrev pub HasOneLine : List ℕ → Type 0
+HasOneLine line = (query : List ℕ) → part_of line ≡ query_part query → All (λ byte. byte ≢ 10) query
+
+-- no line is a query with an LF
 abbrev pub AreLines : List (List ℕ) → Type 0
-AreLines ls = All (λ line. All (λ byte. byte ≢ 10) line) ls
+AreLines ls = All HasOneLine ls
 
 -- a line at fault: the lines before it begin some bundle's after those of a front, and with it reading fails whatever follows
 pub record Fails (lines : List (List ℕ)) (read : List (List ℕ) → Result Content ℕ) (from fault : ℕ) (ls : List (List ℕ)) : Type 0 where
@@ -118,8 +122,14 @@ queried front from next (after ∷ ls) query f is spelled one_line true whole =
         ∙ ends_before_more front from (after ∷ rest) rest after (λ f. read_on f (from + 1) (after ∷ rest)) query whole refl
 
 -- the text of a query has no LF where its line has none
-query_text_of : (next query : List ℕ) → next ≡ query_line query → All (λ byte. byte ≢ 10) next → All (λ byte. byte ≢ 10) query
-query_text_of next query e all = All-drop (λ byte. byte ≢ 10) 6 (query_line query) (subst (All (λ byte. byte ≢ 10)) e all)
+one_line : (line : List ℕ) → All (λ byte. byte ≢ 10) line → HasOneLine line
+one_line line all query is =
+    let spelled : line ≡ query_line query = subst (PartMeans line) is (part_means line) in
+    All-drop (λ byte. byte ≢ 10) 6 (query_line query) (subst (All (λ byte. byte ≢ 10)) spelled all)
+
+-- so it is with lines of a text
+pub lines_of_text : (ls : List (List ℕ)) → All (λ line. All (λ byte. byte ≢ 10) line) ls → AreLines ls
+lines_of_text ls all = All-weaker (λ line. All (λ byte. byte ≢ 10) line) HasOneLine one_line ls all
 
 -- what the reading after a front finds out
 pub outcome : (front : InsideList) (from : ℕ) (ls : List (List ℕ)) → IsFront front → AreLines ls
@@ -133,10 +143,10 @@ outcome front from [] f lines =
       fails = λ l more. absurd (omega arith);
     })
 outcome front from (next ∷ ls) f lines =
-    by_part front from next ls f (All-head (λ line. All (λ byte. byte ≢ 10) line) next ls lines) (part_of next) refl (part_means next)
-    (λ after g. outcome after (from + 1) ls g (All-tail (λ line. All (λ byte. byte ≢ 10) line) next ls lines))
+    by_part front from next ls f (All-head HasOneLine next ls lines) (part_of next) refl (part_means next)
+    (λ after g. outcome after (from + 1) ls g (All-tail HasOneLine next ls lines))
   where
-    by_part : (front : InsideList) (from : ℕ) (next : List ℕ) (ls : List (List ℕ)) → IsFront front → All (λ byte. byte ≢ 10) next → (part : Part)
+    by_part : (front : InsideList) (from : ℕ) (next : List ℕ) (ls : List (List ℕ)) → IsFront front → HasOneLine next → (part : Part)
         → part_of next ≡ part → PartMeans next part
         → ((after : InsideList) → IsFront after → Outcome (front_lines after) (read_on after (from + 1)) (from + 1) ls (read_on after (from + 1) ls))
         → Outcome (front_lines front) (read_on front from) from (next ∷ ls) (read_on front from (next ∷ ls))
@@ -154,7 +164,7 @@ outcome front from (next ∷ ls) f lines =
         (more (with_row front row) (IsFront-row front row f takes means.1)))
         (λ refuses. refused front from next ls (row_part row) f is (λ text e. cc) refuses)
         (cases_Bool (takes_row front row))
-    by_part front from next ls f line (query_part query) is means more = queried front from next ls query f is means (query_text_of next query means line) (is_whole front) refl
+    by_part front from next ls f line (query_part query) is means more = queried front from next ls query f is means (line query is) (is_whole front) refl
     by_part front from next ls f line no_part is means more = refused front from next ls no_part f is (λ text e. cc) refl
 
 -- ---- all lines
@@ -177,7 +187,7 @@ outcome_all (next ∷ ls) lines =
     by_first : (part : Part) → part_of next ≡ part → PartMeans next part → Outcome [] read_all 1 (next ∷ ls) (read_all (next ∷ ls))
     by_first (list_part name) is means =
         outcome_taken [] (front_lines (first_front name)) read_all (read_on (first_front name) 2) 1 next ls (λ rest. ap (read_first rest) is) (ap (λ l. l ∷ []) (sym means.0))
-        (outcome (first_front name) 2 ls (IsFront-first name means.1) (All-tail (λ line. All (λ byte. byte ≢ 10) line) next ls lines))
+        (outcome (first_front name) 2 ls (IsFront-first name means.1) (All-tail HasOneLine next ls lines))
     by_first (row_part row) is means = first_fault (row_part row) is (λ rest. refl)
     by_first (query_part query) is means = first_fault (query_part query) is (λ rest. refl)
     by_first no_part is means = first_fault no_part is (λ rest. refl)

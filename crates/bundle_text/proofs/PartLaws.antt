@@ -79,7 +79,7 @@ part_of-list_line name named = part_of-list (list_line name) name (rest_after-ap
 pub part_of-query_line : (text : List ℕ) → part_of (query_line text) ≡ query_part text
 part_of-query_line text = part_of-query (query_line text) text refl (rest_after-append (codes "query ") text)
 
-no_word : (first : ℕ) (text : List ℕ) → first ≤ 57 → (rest_after (codes "list ") (first ∷ text) ≡ None) × (rest_after (codes "query ") (first ∷ text) ≡ None)
+pub no_word : (first : ℕ) (text : List ℕ) → first ≤ 57 → (rest_after (codes "list ") (first ∷ text) ≡ None) × (rest_after (codes "query ") (first ∷ text) ≡ None)
 no_word first text low = (rw (ne_eqb 108 first (omega arith)) refl, rw (ne_eqb 113 first (omega arith)) refl)
 
 no_word_digits : (digits more : List ℕ) → 0 < length digits → All (λ byte. (48 ≤ byte) × (byte ≤ 57)) digits

@@ -1,5 +1,5 @@
 -- One text put after another.
-use Rattle.std.proofs.Common.{◌≡◌, ℕ, ◌<◌, ◌+◌, List, [], ◌∷◌, ◌++◌, length, take, get_or, map, Option, sym, ap, ◌∙◌, subst, append-nil, arith}
+use Rattle.std.proofs.Common.{◌≡◌, ℕ, ◌<◌, ◌+◌, List, [], ◌∷◌, ◌++◌, length, take, get_or, map, sym, ap, ◌∙◌, subst, append-nil, arith}
 use Rattle.std.specs.List.{flat_map, zip}
 use Rattle.std.proofs.lemmas.List.{take_more, take_all, length-take-le}
 use Rattle.std.proofs.lemmas.List.FromFn.{map-range_with_len_more, length-map-range_with_len}
@@ -9,14 +9,14 @@ use Rattle.line_text.proofs.LineLaws.{unlines-append}
 use Rattle.ranked_list.specs.declared.row.Row.{Row}
 use Rattle.bundle_text.specs.Bundle.{list_line, row_line, section, sections}
 use Rattle.bundle_text.proofs.FrontLaws.{zip-push}
-use Rattle.tk_io.specs.Pieces.{Puts}
+use Rattle.tk_io.specs.Pieces.{Puts, Written}
 use Rattle.tk_io.proofs.Putting.{puts_then, puts_as}
 use Rattle.bundle_text.specs.Numbered.{list_name, list_names}
 
-pub puts_section : (name : List ℕ) (rows : List Row) (hb hm hn : Option (List ℕ)) (fb fm fn : ℕ) (before mid now : Option (List ℕ))
-    → Puts hb hm fb fm before mid (list_line name ++ 10 ∷ []) → Puts hm hn fm fn mid now (unlines (map row_line rows)) → Puts hb hn fb fn before now (unlines (section name rows))
-puts_section name rows hb hm hn fb fm fn before mid now first second =
-    puts_then hb hm hn fb fm fn before mid now (list_line name ++ 10 ∷ []) (unlines (map row_line rows)) first second
+pub puts_section : (name : List ℕ) (rows : List Row) (before mid now : Written)
+    → Puts before mid (list_line name ++ 10 ∷ []) → Puts mid now (unlines (map row_line rows)) → Puts before now (unlines (section name rows))
+puts_section name rows before mid now first second =
+    puts_then before mid now (list_line name ++ 10 ∷ []) (unlines (map row_line rows)) first second
 
 sections_more : (names : List (List ℕ)) (lists : List (List Row)) (name : List ℕ) (rows : List Row) → length names ≡ length lists
     → unlines (sections (names ++ name ∷ []) (lists ++ rows ∷ [])) ≡ unlines (sections names lists) ++ unlines (section name rows)
@@ -37,17 +37,17 @@ lists_more lists place d within =
     ∙ sections_more (list_names place) (take place lists) (list_name (place + 1)) (get_or lists place d) as_many
 
 -- one list more was put
-pub puts_list : (lists : List (List Row)) (place : ℕ) (d : List Row) (hb hm hn : Option (List ℕ)) (fb fm fn : ℕ) (before mid now : Option (List ℕ))
+pub puts_list : (lists : List (List Row)) (place : ℕ) (d : List Row) (before mid now : Written)
     → place < length lists
-    → Puts hb hm fb fm before mid (unlines (sections (list_names place) (take place lists))) → Puts hm hn fm fn mid now (unlines (section (list_name (place + 1)) (get_or lists place d)))
-    → Puts hb hn fb fn before now (unlines (sections (list_names (place + 1)) (take (place + 1) lists)))
-puts_list lists place d hb hm hn fb fm fn before mid now within first second =
-    puts_as hb hn fb fn before now _ _ (lists_more lists place d within)
-    (puts_then hb hm hn fb fm fn before mid now (unlines (sections (list_names place) (take place lists))) (unlines (section (list_name (place + 1)) (get_or lists place d))) first second)
+    → Puts before mid (unlines (sections (list_names place) (take place lists))) → Puts mid now (unlines (section (list_name (place + 1)) (get_or lists place d)))
+    → Puts before now (unlines (sections (list_names (place + 1)) (take (place + 1) lists)))
+puts_list lists place d before mid now within first second =
+    puts_as before now _ _ (lists_more lists place d within)
+    (puts_then before mid now (unlines (sections (list_names place) (take place lists))) (unlines (section (list_name (place + 1)) (get_or lists place d))) first second)
 
 -- all were
-pub puts_lists : (lists : List (List Row)) (place : ℕ) (hb hn : Option (List ℕ)) (fb fn : ℕ) (before now : Option (List ℕ)) → place ≡ length lists
-    → Puts hb hn fb fn before now (unlines (sections (list_names place) (take place lists))) → Puts hb hn fb fn before now (unlines (sections (list_names (length lists)) lists))
-puts_lists lists place hb hn fb fn before now is puts =
-    subst (λ n. Puts hb hn fb fn before now (unlines (sections (list_names n) lists))) is
-    (subst (λ (ls : List (List Row)). Puts hb hn fb fn before now (unlines (sections (list_names place) ls))) (take_all place lists (omega (arith, is))) puts)
+pub puts_lists : (lists : List (List Row)) (place : ℕ) (before now : Written) → place ≡ length lists
+    → Puts before now (unlines (sections (list_names place) (take place lists))) → Puts before now (unlines (sections (list_names (length lists)) lists))
+puts_lists lists place before now is puts =
+    subst (λ n. Puts before now (unlines (sections (list_names n) lists))) is
+    (subst (λ (ls : List (List Row)). Puts before now (unlines (sections (list_names place) ls))) (take_all place lists (omega (arith, is))) puts)

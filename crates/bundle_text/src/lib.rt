@@ -2,6 +2,8 @@
 #![tactic(auto)]
 
 mod bundle;
+mod gather;
+mod given;
 mod line;
 mod marks;
 mod reader;
@@ -10,5 +12,7 @@ mod rows;
 mod table;
 
 pub use bundle::{Bundle, BundleFault, read_bundle};
+pub use gather::gather_bundle;
+pub use given::{GivenList, GivenRow};
 pub use rows::put_rows;
 pub use table::write_table;

@@ -1,13 +1,14 @@
 //! The reading of a bundle's lists, row by row.
 
-ghost use Rattle.std.specs.Prelude.{◌≡◌, ◌==◌, ◌||◌, ◌&&◌, not, is_some, None, IsTrue, IfOk, OnOk};
+ghost use Rattle.std.specs.Prelude.{◌≡◌, ◌==◌, ◌||◌, ◌&&◌, ◌∷◌, [], ℕ, List, not, is_some, None, IsTrue, IfOk, OnOk};
 ghost use Rattle.std.specs.List.{list_any};
 ghost use Rattle.std.specs.Str.{bytes_eq};
-ghost use Rattle.bundle_text.specs.Reading.{takes_row, with_row, takes_list, with_list, takes_part, with_part, part_read, room, is_whole, is_taken, with_query, first_front};
+ghost use Rattle.bundle_text.specs.Gathering.{IsCounted, TakesLines};
+ghost use Rattle.bundle_text.specs.Reading.{takes_row, with_row, takes_list, with_list, takes_part, with_part, part_of, part_read, query_part, room, is_whole, is_taken, with_query, first_front};
 ghost use Rattle.bundle_text.specs.Tracking.{front_of, has_number, IsTracked};
 ghost use Rattle.bundle_text.specs.Bundle.{content};
 
-use super::bundle::Bundle;
+use super::bundle::{Bundle, BundleFault};
 use super::line::Line;
 use super::marks::mark;
 use limits::{MAX_BUNDLE_LISTS, MAX_OBJECTS};
@@ -95,6 +96,31 @@ impl Reader {
             Line::Entry(row) => self.add_row(row),
             Line::Query(_) | Line::Other => Ok(false),
         }
+    }
+
+    /// Takes in the line with this number, if it may come there, and gives the next number. The line is no query.
+    pub(crate) fn take_numbered(
+        &mut self,
+        alloc: Global,
+        line: Line,
+        number: u64,
+    ) -> Result<u64, BundleFault>
+        requires tracked { IsTracked self.old }
+        requires counted { IsCounted (front_of self.old) number }
+        requires other { (text : List ℕ) → part_read line ≡ query_part text → ⊥ }
+        ensures { (text : List ℕ) → part_read line.entry ≡ part_of text
+            → TakesLines (text ∷ []) (front_of self.old) number self.new result }
+    {
+        // As these two are, the number is far from the greatest.
+        let _lists = self.number;
+        let _rows = self.rows.len();
+        let Ok(took) = self.take_line(alloc, line) else {
+            return Err(BundleFault::Memory);
+        };
+        if !took {
+            return Err(BundleFault::BadBundle { line: number });
+        }
+        Ok(number + 1)
     }
 
     /// Puts the open list to the whole ones, and opens one of this name, to which no object belongs yet. The number stays.

@@ -6,25 +6,25 @@ ghost use Rattle.bundle_text.specs.Bundle.{row_line};
 ghost use Rattle.tk_io.specs.Pieces.{Puts};
 
 use ranked_list::{MemList, Row};
-use tk_io::{Pieces, Sink};
+use tk_io::Put;
 
 /// Puts the line of a row behind the bytes that wait.
-fn put_row<K: Sink>(out: &mut K, pieces: &mut Pieces, row: Row)
-    ensures { Puts (K.held out.old) (K.held out.new) (K.faults out.old) (K.faults out.new) pieces.old pieces.new
+fn put_row<P: Put>(out: &mut P, row: Row)
+    ensures { Puts (P.at out.old) (P.at out.new)
         (row_line row ++ 10 ∷ []) }
 {
-    pieces.put_number(out, u64::from(row.object));
-    pieces.put(out, b",");
-    pieces.put_number(out, u64::from(row.grade));
-    pieces.put(out, b"\n");
+    out.put_number(u64::from(row.object));
+    out.put(b",");
+    out.put_number(u64::from(row.grade));
+    out.put(b"\n");
 }
 
 /// Puts the lines of rows behind the bytes that wait: `OBJECT,GRADE`, from the top down.
-pub fn put_rows<K: Sink>(out: &mut K, pieces: &mut Pieces, rows: &MemList)
-    ensures { Puts (K.held out.old) (K.held out.new) (K.faults out.old) (K.faults out.new) pieces.old pieces.new
+pub fn put_rows<P: Put>(out: &mut P, rows: &MemList)
+    ensures { Puts (P.at out.old) (P.at out.new)
         (unlines (map row_line rows.now)) }
 {
     for row in rows.iter() {
-        put_row(out, pieces, *row);
+        put_row(out, *row);
     }
 }

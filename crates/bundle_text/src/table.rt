@@ -11,34 +11,34 @@ ghost use Rattle.tk_io.specs.Whole.{TookFront};
 
 use super::rows::put_rows;
 use ranked_list::MemList;
-use tk_io::{Failed, Pieces, Sink};
+use tk_io::{Failed, Put, Sink, Writer};
 
 /// Puts the line that begins the list with this number, from 1, behind the bytes that wait.
-fn put_heading<K: Sink>(out: &mut K, pieces: &mut Pieces, number: u64)
-    ensures { Puts (K.held out.old) (K.held out.new) (K.faults out.old) (K.faults out.new) pieces.old pieces.new
+fn put_heading<P: Put>(out: &mut P, number: u64)
+    ensures { Puts (P.at out.old) (P.at out.new)
         (list_line (list_name number) ++ 10 ∷ []) }
 {
-    pieces.put(out, b"list l");
-    pieces.put_number(out, number);
-    pieces.put(out, b"\n");
+    out.put(b"list l");
+    out.put_number(number);
+    out.put(b"\n");
 }
 
 /// Puts the section of the list with this number behind the bytes that wait.
-fn put_section<K: Sink>(out: &mut K, pieces: &mut Pieces, number: u64, rows: &MemList)
-    ensures { Puts (K.held out.old) (K.held out.new) (K.faults out.old) (K.faults out.new) pieces.old pieces.new
+fn put_section<P: Put>(out: &mut P, number: u64, rows: &MemList)
+    ensures { Puts (P.at out.old) (P.at out.new)
         (unlines (section (list_name number) rows.now)) }
 {
-    put_heading(out, pieces, number);
-    put_rows(out, pieces, rows);
+    put_heading(out, number);
+    put_rows(out, rows);
 }
 
 /// Puts the sections of lists behind the bytes that wait.
-fn put_sections<K: Sink>(out: &mut K, pieces: &mut Pieces, lists: &[MemList])
-    ensures { Puts (K.held out.old) (K.held out.new) (K.faults out.old) (K.faults out.new) pieces.old pieces.new
+fn put_sections<P: Put>(out: &mut P, lists: &[MemList])
+    ensures { Puts (P.at out.old) (P.at out.new)
         (unlines (sections (list_names (length lists.now)) lists.now)) }
 {
     for place in 0..lists.len() {
-        put_section(out, pieces, place as u64 + 1, &lists[place]);
+        put_section(out, place as u64 + 1, &lists[place]);
     }
 }
 
@@ -58,7 +58,7 @@ pub fn write_table<K: Sink>(out: &mut K, lists: &[MemList]) -> Result<(), Failed
         (unlines (sections (list_names (length lists.now)) lists.now))) }
     ensures cause { HasCause (K.faults out.old) (K.faults out.new) result }
 {
-    let mut pieces = Pieces::make();
-    put_sections(out, &mut pieces, lists);
-    pieces.end(out)
+    let mut writer = Writer::make(out);
+    put_sections(&mut writer, lists);
+    writer.end()
 }

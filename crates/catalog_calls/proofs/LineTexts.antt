@@ -4,7 +4,7 @@ use Rattle.std.specs.Prelude.{◌⊎◌, if◌then◌else◌}
 use Rattle.std.specs.List.{list_all, slice_get}
 use Rattle.std.proofs.lemmas.List.{length-take-le}
 use Rattle.std.proofs.lemmas.Option.{slice_get_within}
-use Rattle.tk_io.specs.Pieces.{Puts}
+use Rattle.tk_io.specs.Pieces.{Puts, Written}
 use Rattle.tk_io.proofs.Putting.{puts_then, puts_as}
 use Rattle.topk_theory.proofs.AgreementLists.{front_next}
 use Rattle.query_text.specs.declared.query.Query.{Query}
@@ -15,7 +15,7 @@ use Rattle.call_ends.specs.declared.status.Status.TheVariants.{Done, Partial}
 
 -- the text of one line's outcome
 abbrev pub line_text : ℕ → LineOutcome → List ℕ
-line_text number o = outcome_text number o.query o.count o.outcome
+line_text number o = outcome_text number o.query o.count o.versions o.outcome
 
 text_append : (number : ℕ) (xs ys : List LineOutcome) → outcomes_text number (xs ++ ys) ≡ outcomes_text number xs ++ outcomes_text (number + length xs) ys
 text_append number [] ys = let e : number ≡ number + 0 = omega arith in ap (λ n. outcomes_text n ys) e
@@ -37,14 +37,16 @@ text_next xs i x found =
     ∙ ap (λ t. outcomes_text 1 (take i xs) ++ t) (append-nil (line_text (i + 1) x))
 
 -- the outcome of one line more was put
-pub puts_line : (xs : List LineOutcome) (i : ℕ) (x : LineOutcome) (number : ℕ) (query : Option Query) (hb hm hn : Option (List ℕ)) (fb fm fn : ℕ)
-    (before mid now : Option (List ℕ)) → number ≡ i + 1 → query ≡ x.query → slice_get xs i ≡ Some x
-    → Puts hb hm fb fm before mid (outcomes_text 1 (take i xs)) → Puts hm hn fm fn mid now (outcome_text number query x.count x.outcome)
-    → Puts hb hn fb fn before now (outcomes_text 1 (take (i + 1) xs))
-puts_line xs i x number query hb hm hn fb fm fn before mid now is own found first second =
-    puts_as hb hn fb fn before now _ _ (text_next xs i x found)
-    (puts_then hb hm hn fb fm fn before mid now (outcomes_text 1 (take i xs)) (line_text (i + 1) x) first
-    (puts_as hm hn fm fn mid now _ _ (ap (λ n. line_text n x) (sym is) ∙ ap (λ q. outcome_text number q x.count x.outcome) (sym own)) second))
+pub puts_line : (xs : List LineOutcome) (i : ℕ) (x : LineOutcome) (number : ℕ) (query : Option Query) (versions : List ℕ) (before mid now : Written)
+    → number ≡ i + 1 → query ≡ x.query → versions ≡ x.versions → slice_get xs i ≡ Some x
+    → Puts before mid (outcomes_text 1 (take i xs)) → Puts mid now (outcome_text number query x.count versions x.outcome)
+    → Puts before now (outcomes_text 1 (take (i + 1) xs))
+puts_line xs i x number query versions before mid now is own same found first second =
+    puts_as before now _ _ (text_next xs i x found)
+    (puts_then before mid now (outcomes_text 1 (take i xs)) (line_text (i + 1) x) first
+    (puts_as mid now _ _
+    (ap (λ n. line_text n x) (sym is) ∙ ap (λ q. outcome_text number q x.count x.versions x.outcome) (sym own)
+    ∙ ap (λ v. outcome_text number query x.count v x.outcome) (sym same)) second))
 
 -- the status of outcomes is Done or Partial
 pub is_run_status : (outcomes : List LineOutcome) → (run_status outcomes ≡ Done) ⊎ (run_status outcomes ≡ Partial)

@@ -42,7 +42,7 @@ run_status outcomes = if list_all (λ o. is_answer o.outcome) outcomes then Done
 -- the texts of the outcomes of lines, one after another; the lines are numbered from this number on
 abbrev pub outcomes_text : ℕ → List LineOutcome → List ℕ
 outcomes_text number [] = []
-outcomes_text number (o ∷ outcomes) = outcome_text number o.query o.count o.outcome ++ outcomes_text (number + 1) outcomes
+outcomes_text number (o ∷ outcomes) = outcome_text number o.query o.count o.versions o.outcome ++ outcomes_text (number + 1) outcomes
 
 -- `refused catalog NAME RECORD`
 abbrev pub catalog_refused_text : List ℕ → ℕ → List ℕ

@@ -10,7 +10,7 @@ ghost use Rattle.catalog_calls.specs.Running.{is_answer, run_status, outcomes_te
 use call_ends::{Status, ended};
 use catalog_run::LineOutcome;
 use cert_text::{Outcome, put_outcome};
-use tk_io::{Pieces, Sink};
+use tk_io::{Put, Sink, Writer};
 
 /// The number of the first query line of an input.
 const FIRST_LINE: u64 = 1;
@@ -23,26 +23,26 @@ pub(crate) fn write_outcomes<K: Sink>(out: &mut K, outcomes: &[LineOutcome]) -> 
     ensures says { Says (output_as K.held K.faults out.old) (output_as K.held K.faults out.new)
         (outcomes_text 1 outcomes.now) (run_status outcomes.now) result }
 {
-    let mut pieces = Pieces::make();
-    put_outcomes(out, &mut pieces, outcomes);
-    let written = pieces.end(out);
+    let mut writer = Writer::make(out);
+    put_outcomes(&mut writer, outcomes);
+    let written = writer.end();
     ended(written, run_status(outcomes))
 }
 
 /// Puts the texts of the outcomes of lines behind the bytes that wait.
-fn put_outcomes<K: Sink>(out: &mut K, pieces: &mut Pieces, outcomes: &[LineOutcome])
+fn put_outcomes<P: Put>(out: &mut P, outcomes: &[LineOutcome])
     requires { All CanBeWritten outcomes.now }
-    ensures { Puts (K.held out.old) (K.held out.new) (K.faults out.old) (K.faults out.new) pieces.old pieces.new
+    ensures { Puts (P.at out.old) (P.at out.new)
         (outcomes_text 1 outcomes.now) }
 {
     let mut number = FIRST_LINE;
     for line in outcomes {
         put_outcome(
             out,
-            pieces,
             number,
             line.query.as_ref(),
             line.count,
+            line.versions.as_slice(),
             &line.outcome,
         );
         number += 1;

@@ -24,7 +24,7 @@ use source_api::{Shelf, Trouble};
 use std::alloc::Global;
 use std::sync::Wait;
 use std::thread::Threads;
-use tk_io::{Intake, Pieces, ReadError, Sink, read_text};
+use tk_io::{Intake, Put, ReadError, Sink, Writer, read_text};
 
 /// Answers the query lines that the input has, over the lists of the catalog that the options name, and writes what became of each line,
 /// in their order. The catalog's text is asked of the shelf first; only where it is a catalog is the input read, and the sources that its
@@ -115,13 +115,13 @@ fn refuse_catalog<K: Sink>(out: &mut K, fault: &[u8], record_number: u64) -> Sta
     ensures says { Says (output_as K.held K.faults out.old) (output_as K.held K.faults out.new)
         (catalog_refused_text fault.now record_number) Status.BadCatalog result }
 {
-    let mut pieces = Pieces::make();
-    pieces.put(out, b"refused catalog ");
-    pieces.put(out, fault);
-    pieces.put(out, b" ");
-    pieces.put_number(out, record_number);
-    pieces.put(out, b"\n");
-    let written = pieces.end(out);
+    let mut writer = Writer::make(out);
+    writer.put(b"refused catalog ");
+    writer.put(fault);
+    writer.put(b" ");
+    writer.put_number(record_number);
+    writer.put(b"\n");
+    let written = writer.end();
     ended(written, Status::BadCatalog)
 }
 

@@ -35,7 +35,7 @@ opening_on : (lists : List ℕ → Option (List Row)) (catalog : List Entry) (s 
     → Type 0) (before mid now : Counted) (place : ℕ) (o : Opening)
     → MovesAt (mid (entry_at catalog place).place) (now (entry_at catalog place).place) → IsOpening lists catalog s Wanted before mid place o → IsOpening lists catalog s Wanted before now place o
 opening_on lists catalog s Wanted before mid now place Closed moves is = λ wanted. trouble_on (before (entry_at catalog place).place) (mid (entry_at catalog place).place) (now (entry_at catalog place).place) (is wanted) moves
-opening_on lists catalog s Wanted before mid now place (Open size source) moves is = is
+opening_on lists catalog s Wanted before mid now place (Open size source version) moves is = is
 
 -- the shelf went on
 pub opened_moved : (lists : List ℕ → Option (List Row)) (catalog : List Entry) (Wanted : ℕ
@@ -56,17 +56,18 @@ opened_moved lists catalog Wanted before mid now openings s u are moves others =
 pub numbered_within : (catalog : List Entry) (openings : List Opening) (place source : ℕ) → IsNumbered catalog openings place source → place < length openings
 numbered_within catalog openings place source is = elim (cases_lt place (length openings)) [
   | inl within ↦ within
-  | inr past ↦ let closed : opening_at openings place ≡ Closed = get_or_past openings place Closed past in absurd (open_closed is.size source (sym is.open_as ∙ closed))
+  | inr past ↦ let closed : opening_at openings place ≡ Closed = get_or_past openings place Closed past in absurd (open_closed is.size source is.version (sym is.open_as ∙ closed))
 ]
   where
-    open_closed : (size source : ℕ) → Open size source ≡ Closed → ⊥
-    open_closed size source e = cc
+    open_closed : (size source version : ℕ) → Open size source version ≡ Closed → ⊥
+    open_closed size source version e = cc
 
 numbered_on : (catalog : List Entry) (openings : List Opening) (o : Opening) (place source : ℕ) → IsNumbered catalog openings place source
     → IsNumbered catalog (openings ++ o ∷ []) place source
 numbered_on catalog openings o place source is = record {
   within = is.within;
   size = is.size;
+  version = is.version;
   open_as = get_or_append_left openings (o ∷ []) Closed place (numbered_within catalog openings place source is) ∙ is.open_as;
 }
 
@@ -116,7 +117,7 @@ still_opening : (lists : List ℕ → Option (List Row)) (catalog : List Entry) 
     → length s.told ≡ length s.places → length s.counts ≡ length s.places
     → IsOpening lists catalog s Wanted before now place o → IsOpening lists catalog (more_sources s told next count) Wanted before now place o
 still_opening lists catalog s told next count Wanted before now place Closed many_told many_counts is = is
-still_opening lists catalog s told next count Wanted before now place (Open size source) many_told many_counts is = (is.0, source_on lists catalog s told next count place size source many_told many_counts is.1)
+still_opening lists catalog s told next count Wanted before now place (Open size source version) many_told many_counts is = (is.0, source_on lists catalog s told next count place size source many_told many_counts is.1)
 
 run_count_small : (size : ℕ) → run_count size ≤ MAX_OBJECTS
 run_count_small size = small (nat_le size MAX_OBJECTS) (leb-true size MAX_OBJECTS)
@@ -143,12 +144,12 @@ standing_more catalog (e ∷ entries) entry place = go (bytes_eq (entry_at catal
 
 -- the next source is open
 pub opened_open : (lists : List ℕ → Option (List Row)) (catalog : List Entry) (Wanted : ℕ
-    → Type 0) (before mid now : Counted) (openings : List Opening) (s : Sources) (next size : ℕ) (told : Option (List Row))
+    → Type 0) (before mid now : Counted) (openings : List Opening) (s : Sources) (next size version : ℕ) (told : Option (List Row))
     → AreOpened lists catalog Wanted before mid openings s → length openings ≡ next → next < length catalog → Wanted next → IsToldAs (entry_told lists catalog next) told size
     → SameElsewhere (entry_at catalog next).place mid now → now (entry_at catalog next).place ≡ counts_taken (mid (entry_at catalog next).place)
-    → AreOpened lists catalog Wanted before now (openings ++ Open size (length s.places) ∷ []) (more_sources s told next (run_count size))
-opened_open lists catalog Wanted before mid now openings s next size told are long inside wanted is_told elsewhere here_taken =
-    let o = Open size (length s.places) in
+    → AreOpened lists catalog Wanted before now (openings ++ Open size (length s.places) version ∷ []) (more_sources s told next (run_count size))
+opened_open lists catalog Wanted before mid now openings s next size version told are long inside wanted is_told elsewhere here_taken =
+    let o = Open size (length s.places) version in
     let text = (entry_at catalog next).place in
     let step = moves_taken text mid now elsewhere here_taken in
     record {
@@ -180,7 +181,8 @@ opened_open lists catalog Wanted before mid now openings s next size told are lo
             | inr new ↦ subst (λ p. IsNumbered catalog (openings ++ o ∷ []) p source) (sym (get_or_push s.places next 0 source (sym new))) (record {
               within = inside;
               size = size;
-              open_as = get_or_push openings o Closed next long ∙ ap (Open size) (sym new);
+              version = version;
+              open_as = get_or_push openings o Closed next long ∙ ap (λ n. Open size n version) (sym new);
             })
           ];
       many_told = omega (arith, length-append s.told (told ∷ []), length-append s.places (next ∷ []), are.many_told);
@@ -240,17 +242,17 @@ opened_not lists catalog Wanted before mid now place text os os_now s wanted lon
 
 -- it is open
 pub opened_some : (lists : List ℕ → Option (List Row)) (catalog : List Entry) (Wanted : ℕ
-    → Type 0) (before mid now : Counted) (place size number : ℕ) (text : List ℕ) (os os_now : List Opening)
+    → Type 0) (before mid now : Counted) (place size number version : ℕ) (text : List ℕ) (os os_now : List Opening)
     (told told_now : List (Option (List Row))) (one : Option (List Row)) (places places_now counts counts_now : List ℕ)
     → Wanted place → place < length catalog → length os ≡ place → number ≡ length places → (entry_at catalog place).place ≡ text → SameElsewhere text mid now → now text ≡ counts_taken (mid text) → IsToldAs (lists text) one size
-    → os_now ≡ os ++ Open size number ∷ [] → told_now ≡ told ++ one ∷ [] → places_now ≡ places ++ place ∷ [] → counts_now ≡ counts ++ run_count size ∷ []
+    → os_now ≡ os ++ Open size number version ∷ [] → told_now ≡ told ++ one ∷ [] → places_now ≡ places ++ place ∷ [] → counts_now ≡ counts ++ run_count size ∷ []
     → AreOpened lists catalog Wanted before mid os (sources_of told places counts) → AreOpened lists catalog Wanted before now os_now (sources_of told_now places_now counts_now)
-opened_some lists catalog Wanted before mid now place size number text os os_now told told_now one places places_now counts counts_now wanted inside long many at elsewhere took is_told o t p c are =
+opened_some lists catalog Wanted before mid now place size number version text os os_now told told_now one places places_now counts counts_now wanted inside long many at elsewhere took is_told o t p c are =
     let told_here : IsToldAs (entry_told lists catalog place) one size = subst (λ x. IsToldAs (lists x) one size) (sym at) is_told in
-    let now_open = opened_open lists catalog Wanted before mid now os (sources_of told places counts) place size one are long inside wanted told_here
+    let now_open = opened_open lists catalog Wanted before mid now os (sources_of told places counts) place size version one are long inside wanted told_here
     (subst (λ x. SameElsewhere x mid now) (sym at) elsewhere) (subst (λ x. now x ≡ counts_taken (mid x)) (sym at) took) in
-    opened_as lists catalog Wanted before now (os ++ Open size (length places) ∷ []) os_now (told ++ one ∷ []) told_now (places ++ place ∷ []) places_now (counts ++ run_count size ∷ []) counts_now
-    (o ∙ ap (λ n. os ++ Open size n ∷ []) many) t p c now_open
+    opened_as lists catalog Wanted before now (os ++ Open size (length places) version ∷ []) os_now (told ++ one ∷ []) told_now (places ++ place ∷ []) places_now (counts ++ run_count size ∷ []) counts_now
+    (o ∙ ap (λ n. os ++ Open size n version ∷ []) many) t p c now_open
 
 -- sources count at their places
 pub known_on : (catalog : List Entry) (before now : List ℕ → Bool) (places : List ℕ) → ((other : List ℕ) → before other ≡ true → now other ≡ true)

@@ -137,13 +137,14 @@ pub record IsSource (lists : List ℕ → Option (List Row)) (catalog : List Ent
 abbrev pub IsOpening : (lists : List ℕ → Option (List Row)) (catalog : List Entry) (s : Sources) (Wanted : ℕ → Type 0) (before now : Counted) (place : ℕ)
     → Opening → Type 0
 IsOpening lists catalog s Wanted before now place Closed = Wanted place → TroubleAt (before (entry_at catalog place).place) (now (entry_at catalog place).place)
-IsOpening lists catalog s Wanted before now place (Open size source) = Wanted place × IsSource lists catalog s place size source
+IsOpening lists catalog s Wanted before now place (Open size source version) = Wanted place × IsSource lists catalog s place size source
 
 -- a source that has a number is open under this number
 pub record IsNumbered (catalog : List Entry) (openings : List Opening) (place source : ℕ) : Type 0 where
   pub within : place < length catalog
   pub size : ℕ
-  pub open_as : opening_at openings place ≡ Open size source
+  pub version : ℕ
+  pub open_as : opening_at openings place ≡ Open size source version
 
 -- the sources of the first entries of a catalog were opened, those that are wanted: what became of each, and what the shelf has counted. The open ones
 -- were taken of their places, one for each entry, and all others that were taken were put back

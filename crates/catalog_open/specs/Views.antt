@@ -16,10 +16,10 @@ use Rattle.catalog_open.specs.declared.opened.Opening.TheVariants.{Closed, Open}
 abbrev pub entry_named : List Entry → List ℕ → Option ℕ
 entry_named catalog name = position (λ entry. bytes_eq entry.name name) catalog
 
--- what a list says of itself, by whether it offers random access and by what became of its source
+-- what a list says of itself, by whether it offers random access and by what became of its source; an open one is at the version that its size stated
 abbrev pub said_of : Bool → Opening → Listed
-said_of random Closed = record { size = None; random = random; source = 0 }
-said_of random (Open size source) = record { size = Some size; random = random; source = source }
+said_of random Closed = record { size = None; random = random; source = 0; version = 0 }
+said_of random (Open size source version) = record { size = Some size; random = random; source = source; version = version }
 
 abbrev pub listed_at : List Entry → List Opening → ℕ → Listed
 listed_at catalog openings place = said_of (entry_at catalog place).random (opening_at openings place)

@@ -34,11 +34,17 @@ fn said_of(random: bool, opening: Opening) -> Listed
             size: None,
             random,
             source: 0,
+            version: 0,
         },
-        Opening::Open { size, source } => Listed {
+        Opening::Open {
+            size,
+            source,
+            version,
+        } => Listed {
             size: Some(size),
             random,
             source,
+            version,
         },
     }
 }

@@ -7,8 +7,12 @@ use std::alloc::Global;
 pub enum Opening {
     /// It isn't open: no line wants it, or it couldn't be opened.
     Closed,
-    /// It is open, and states so many objects; `source` is its number among the open ones.
-    Open { size: u64, source: u32 },
+    /// It is open, and states so many objects at this version; `source` is its number among the open ones.
+    Open {
+        size: u64,
+        source: u32,
+        version: u64,
+    },
 }
 
 /// What became of the sources of a catalog, in its order, and of each open source, in the order of their numbers, where it stands

@@ -30,11 +30,12 @@ fn run_count(size: u64) -> u32
     }
 }
 
-/// A source that was opened, and how many objects it states.
+/// A source that was opened, how many objects it states, and at which version.
 #[derive(Drop)]
 struct OpenSource<S: Drop> {
     source: S,
     size: u64,
+    version: u64,
 }
 
 /// Asks a source that was taken of a place for its size. None is a source that failed at this or answered by garbled data: it was
@@ -60,7 +61,14 @@ fn ask_size<H: Shelf>(
     ensures short { OnErr result (PutsOneBack (H.at shelf.old place.now) (H.at shelf.new place.now)) }
 {
     match source.size(alloc) {
-        Ok(size) => Ok(Some(OpenSource { source, size })),
+        Ok(size) => {
+            let version = source.version();
+            Ok(Some(OpenSource {
+                source,
+                size,
+                version,
+            }))
+        }
         Err(trouble) => {
             shelf.put_back(place, source);
             match trouble {
@@ -141,7 +149,7 @@ fn put_open<S: Source>(
     requires places_room { vec_len opened.old.places < vec_capacity opened.old.places }
     requires counts_room { vec_len opened.old.counts < vec_capacity opened.old.counts }
     requires sources_room { vec_len slots.old < vec_capacity slots.old }
-    ensures openings { opened.new.openings.items ≡ opened.old.openings.items ++ Opening.Open taken.size (length slots.old.items) ∷ [] }
+    ensures openings { opened.new.openings.items ≡ opened.old.openings.items ++ Opening.Open taken.size (length slots.old.items) taken.version ∷ [] }
     ensures places { opened.new.places.items ≡ opened.old.places.items ++ place ∷ [] }
     ensures counts { opened.new.counts.items ≡ opened.old.counts.items ++ run_count taken.size ∷ [] }
     ensures sources { slots.new.items ≡ slots.old.items ++ fresh_slot taken.source ∷ [] }
@@ -149,6 +157,7 @@ fn put_open<S: Source>(
     opened.openings.push_reserved(Opening::Open {
         size: taken.size,
         source: slots.len() as u32,
+        version: taken.version,
     });
     opened.places.push_reserved(place);
     opened.counts.push_reserved(run_count(taken.size));

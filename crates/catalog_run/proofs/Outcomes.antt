@@ -50,7 +50,7 @@ right_fit view number lines stages readies endings are right = admitted_fit view
 
 refused_here : (view : View) (number : ℕ) (bytes : List ℕ) (o : LineOutcome) (refusal : Refusal) (query : Option Query)
     → RefusesLine admission_causes (line_over view number bytes) refusal query
-    → o ≡ record { query = query; count = 0; outcome = IsRefusedNow refusal } → IsLineRefused view number bytes o
+    → o ≡ record { query = query; count = 0; versions = []; outcome = IsRefusedNow refusal } → IsLineRefused view number bytes o
 refused_here view number bytes o refusal query is e = record {
   refusal = refusal;
   outcome = ap (λ (p : LineOutcome). p.outcome) e;

@@ -44,19 +44,19 @@ module _ (lists told : List ℕ → Option (List Row)) (catalog : List Entry) (W
     where
       none_some : {m : ℕ} → None ≡ Some m → ⊥
       none_some e = cc
-  open_source n place (Open size source) l small is said stated =
+  open_source n place (Open size source version) l small is said stated =
       let same : size ≡ n = same_Some size n (ap (λ (k : Listed). k.size) said ∙ stated) in
       let within : place < length openings = elim (cases_lt place (length openings)) [
         | inl inside ↦ inside
         | inr past ↦ absurd (closed_open (sym (get_or_past openings place Closed past) ∙ is))
       ] in
-      let opening : IsOpening lists catalog s Wanted before now place (Open size source) = subst (IsOpening lists catalog s Wanted before now place) is (are.each place within) in
+      let opening : IsOpening lists catalog s Wanted before now place (Open size source version) = subst (IsOpening lists catalog s Wanted before now place) is (are.each place within) in
       let source_is : IsSource lists catalog s place size source = opening.1 in
       let counted : slice_index_or s.counts source 0 ≡ n = source_is.counted ∙ (ap run_count same ∙ run_count_is n small) in
       let there : source < length s.counts = omega (arith, source_is.within, are.many_counts) in
       subst (HasCount s.counts n) (ap (λ (k : Listed). k.source) said) (there, counted)
     where
-      closed_open : {size source : ℕ} → Closed ≡ Open size source → ⊥
+      closed_open : {size source version : ℕ} → Closed ≡ Open size source version → ⊥
       closed_open e = cc
 
   named_source : (n : ℕ) (name : List ℕ) (l : Listed) → n ≤ MAX_OBJECTS → option_map (listed_at catalog openings) (entry_named catalog name) ≡ Some l

@@ -23,7 +23,7 @@ opening_for : (lists : List ℕ → Option (List Row)) (catalog : List Entry) (s
     → ((p : ℕ) → W p → V p) → ((p : ℕ) → V p → W p)
     → IsOpening lists catalog s W before now place o → IsOpening lists catalog s V before now place o
 opening_for lists catalog s W V before now place Closed to from is = λ v. is (from place v)
-opening_for lists catalog s W V before now place (Open size source) to from is = (to place is.0, is.1)
+opening_for lists catalog s W V before now place (Open size source version) to from is = (to place is.0, is.1)
 
 -- the same sources are wanted, in other words
 pub opened_for : (lists : List ℕ → Option (List Row)) (catalog : List Entry) (W V : ℕ → Type 0) (before now : Counted) (openings : List Opening) (s : Sources)

@@ -37,29 +37,29 @@ use Rattle.catalog_run.specs.Outcomes.{ended_outcome, source_refusal}
 use Rattle.catalog_run.specs.Runs.{AreOutcomes, CanBeWritten, IsLineRefused, IsLineRun}
 
 line_refused : (view : View) (number : ℕ) (bytes : List ℕ) (o : LineOutcome) → IsLineRefused view number bytes o → CanBeWritten o
-line_refused view number bytes o is = subst (IsOutcome o.query) (sym is.outcome) (refused_writable o.query (line_over view number bytes) admission_causes is.refusal is.refused)
+line_refused view number bytes o is = subst (IsOutcome o.query o.versions) (sym is.outcome) (refused_writable o.query o.versions (line_over view number bytes) admission_causes is.refusal is.refused)
 
 -- a refusal of a list that the query has
 one_list : (query : Query) (list : ℕ) → list < length query.names → All (λ l. l < length query.names) (list ∷ [])
 one_list query list h = All-from_recursion (λ l. l < length query.names) (list ∷ []) (h, tt)
 
-source_written : (query : Query) (list : ℕ) (f : SourceFault) → list < length query.names → IsOutcome (Some query) (Refused (source_refusal list f))
-source_written query list (fault.OutOfOrder place before after) h = one_list query list h
-source_written query list (fault.TooHigh place grade) h = one_list query list h
-source_written query list (fault.Repeated object place) h = one_list query list h
-source_written query list (fault.Clash object sorted random) h = one_list query list h
-source_written query list (fault.Above object grade bottom) h = one_list query list h
-source_written query list (fault.ShortList stated got) h = one_list query list h
-source_written query list (fault.Moved had now) h = one_list query list h
+source_written : (query : Query) (versions : List ℕ) (list : ℕ) (f : SourceFault) → list < length query.names → IsOutcome (Some query) versions (Refused (source_refusal list f))
+source_written query versions list (fault.OutOfOrder place before after) h = one_list query list h
+source_written query versions list (fault.TooHigh place grade) h = one_list query list h
+source_written query versions list (fault.Repeated object place) h = one_list query list h
+source_written query versions list (fault.Clash object sorted random) h = one_list query list h
+source_written query versions list (fault.Above object grade bottom) h = one_list query list h
+source_written query versions list (fault.ShortList stated got) h = one_list query list h
+source_written query versions list (fault.Moved had now) h = one_list query list h
 
-look_written : (query : Query) (list : ℕ) (f : LookFault) (o : Outcome) → list < length query.names → ended_outcome (ended.Look list f) ≡ Some o
-    → IsOutcome (Some query) o
-look_written query list (look.Source f) o h e = subst (IsOutcome (Some query)) (same_Some _ o e) (source_written query list f h)
-look_written query list (look.Missing object) o h e = subst (IsOutcome (Some query)) (same_Some _ o e) (one_list query list h)
-look_written query list (look.AsksFull kept) o h e = subst (IsOutcome (Some query)) (same_Some _ o e) (one_list query list h)
-look_written query list look.Failed o h e = subst (IsOutcome (Some query)) (same_Some _ o e) (one_list query list h)
-look_written query list look.Garbled o h e = subst (IsOutcome (Some query)) (same_Some _ o e) (one_list query list h)
-look_written query list look.Memory o h e = absurd cc
+look_written : (query : Query) (versions : List ℕ) (list : ℕ) (f : LookFault) (o : Outcome) → list < length query.names → ended_outcome (ended.Look list f) ≡ Some o
+    → IsOutcome (Some query) versions o
+look_written query versions list (look.Source f) o h e = subst (IsOutcome (Some query) versions) (same_Some _ o e) (source_written query versions list f h)
+look_written query versions list (look.Missing object) o h e = subst (IsOutcome (Some query) versions) (same_Some _ o e) (one_list query list h)
+look_written query versions list (look.AsksFull kept) o h e = subst (IsOutcome (Some query) versions) (same_Some _ o e) (one_list query list h)
+look_written query versions list look.Failed o h e = subst (IsOutcome (Some query) versions) (same_Some _ o e) (one_list query list h)
+look_written query versions list look.Garbled o h e = subst (IsOutcome (Some query) versions) (same_Some _ o e) (one_list query list h)
+look_written query versions list look.Memory o h e = absurd cc
 
 pub of_list_is : (list : ℕ) (n : Need) → IsOfList list n → list_needed n ≡ list
 of_list_is list (need.Row other depth) h = h
@@ -67,12 +67,12 @@ of_list_is list (need.Grade other object) h = h
 of_list_is list need.Done h = absurd h
 
 ended_written : (states : List State) (ready : Ready) (q : Inquiry) (e : Ended) (o : Outcome) → IsServed states q → IsOf ready q → EndsAs q e
-    → IsRight ready e → ended_outcome e ≡ Some o → IsOutcome (Some ready.query) o
-ended_written states ready q (ended.Answered answer) o served of ends right e = subst (IsOutcome (Some ready.query)) (same_Some (Answered answer) o e) (answered_writable ready answer of.is right)
+    → IsRight ready e → ended_outcome e ≡ Some o → IsOutcome (Some ready.query) ready.versions.items o
+ended_written states ready q (ended.Answered answer) o served of ends right e = subst (IsOutcome (Some ready.query) ready.versions.items) (same_Some (Answered answer) o e) (answered_writable ready answer of.is right)
 ended_written states ready q (ended.Core (core.Strangers object count)) o served of ends right e =
-    subst (IsOutcome (Some ready.query)) (same_Some _ o e) (All-from_recursion (λ l. l < length ready.query.names) [] tt)
+    subst (IsOutcome (Some ready.query) ready.versions.items) (same_Some _ o e) (All-from_recursion (λ l. l < length ready.query.names) [] tt)
 ended_written states ready q (ended.Core (core.RoomFull room)) o served of ends right e =
-    subst (IsOutcome (Some ready.query)) (same_Some _ o e) (All-from_recursion (λ l. l < length ready.query.names) [] tt)
+    subst (IsOutcome (Some ready.query) ready.versions.items) (same_Some _ o e) (All-from_recursion (λ l. l < length ready.query.names) [] tt)
 ended_written states ready q (ended.Look list f) o served of ends right e =
     let cause : IsCause (state_at states (source_needed q)) (state_of q.machine) q.waiting.noted (Some (refusal.Look list f)) =
     subst (IsCause (state_at states (source_needed q)) (state_of q.machine) q.waiting.noted) ends served.cause in
@@ -80,13 +80,14 @@ ended_written states ready q (ended.Look list f) o served of ends right e =
     let l = listed states q served.sources served.run (of_some_list list (needed q) of_list) in
     let same : list_needed (needed q) ≡ list = of_list_is list (needed q) of_list in
     let many : length q.sources.items ≡ length ready.query.names = ap (length {A = ℕ}) of.sources ∙ of.is.sources in
-    look_written ready.query list f o (omega (arith, l, same, many)) e
+    look_written ready.query ready.versions.items list f o (omega (arith, l, same, many)) e
 
 line_run : (view : View) (states : List State) (q : Inquiry) (number : ℕ) (bytes : List ℕ) (o : LineOutcome) → IsServed states q
     → IsLineRun view q number bytes o → CanBeWritten o
 line_run view states q number bytes o served is =
-    subst (λ query. IsOutcome query o.outcome) (sym is.outcome.query)
-    (ended_written states is.ready q is.ended o.outcome served is.of is.ends is.right is.outcome.outcome)
+    subst (λ query. IsOutcome query o.versions o.outcome) (sym is.outcome.query)
+    (subst (λ versions. IsOutcome (Some is.ready.query) versions o.outcome) (sym is.outcome.versions)
+    (ended_written states is.ready q is.ended o.outcome served is.of is.ends is.right is.outcome.outcome))
 
 all_written : (view : View) (states : List State) (queries : List Inquiry) (number : ℕ) (lines : List (List ℕ)) (outcomes : List LineOutcome)
     → ((q : Inquiry) → Contains queries q → IsServed states q) → AreOutcomes view queries number lines outcomes → AllByRecursion CanBeWritten outcomes

@@ -12,6 +12,7 @@ use Rattle.catalog_run.specs.Outcomes.{ended_outcome}
 pub record IsEndedAs (ready : ReadyQuery) (ended : Ended) (o : LineOutcome) : Type 0 where
   pub query : o.query ≡ Some ready.query
   pub count : o.count ≡ ready.count
+  pub versions : o.versions ≡ ready.versions.items
   pub outcome : ended_outcome ended ≡ Some o.outcome
 
 -- each line that was ready has one of the queries and of the endings, in their order
@@ -26,13 +27,13 @@ abbrev pub Merges : List Stage → List ReadyQuery → List Ended → List LineO
 Merges [] [] [] outcomes = outcomes ≡ []
 Merges (stage ∷ stages) readies endings [] = ⊥
 Merges (Refused refusal query ∷ stages) readies endings (o ∷ outcomes) =
-    (o ≡ record { query = query; count = 0; outcome = RefusedAs refusal }) × Merges stages readies endings outcomes
+    (o ≡ record { query = query; count = 0; versions = []; outcome = RefusedAs refusal }) × Merges stages readies endings outcomes
 Merges (Ready ∷ stages) (ready ∷ readies) (ended ∷ endings) (o ∷ outcomes) = IsEndedAs ready ended o × Merges stages readies endings outcomes
 Merges _ _ _ _ = ⊥
 
 -- the outcome of a line that came to this before it ran; the queries that are ready and the endings stand in the opposite order
 abbrev pub Nexts : Stage → (before after : List ReadyQuery) → (endings others : List Ended) → LineOutcome → Type 0
 Nexts (Refused refusal query) before after endings others o =
-    (o ≡ record { query = query; count = 0; outcome = RefusedAs refusal }) × (after ≡ before) × (others ≡ endings)
+    (o ≡ record { query = query; count = 0; versions = []; outcome = RefusedAs refusal }) × (after ≡ before) × (others ≡ endings)
 Nexts Ready before after endings others o =
     (ready : ReadyQuery) × (ended : Ended) × (before ≡ after ++ ready ∷ []) × (endings ≡ others ++ ended ∷ []) × IsEndedAs ready ended o

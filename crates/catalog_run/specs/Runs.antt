@@ -53,9 +53,9 @@ AreOutcomes view queries number (bytes ∷ lines) (o ∷ outcomes) =
     × AreOutcomes view others (number + 1) lines outcomes)
 AreOutcomes _ _ _ _ _ = ⊥
 
--- the outcome can be written: an answer with its query, a refusal with the query whose lists it names
+-- the outcome can be written: an answer with its query and the versions of its lists, a refusal with the query whose lists it names
 abbrev pub CanBeWritten : LineOutcome → Type 0
-CanBeWritten o = IsOutcome o.query o.outcome
+CanBeWritten o = IsOutcome o.query o.versions o.outcome
 
 -- the query is that of one of the lines, which are numbered from 1, and is ready
 pub record IsReadyOf (view : View) (lines : List (List ℕ)) (ready : Ready) : Type 0 where

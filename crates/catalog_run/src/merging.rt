@@ -8,7 +8,7 @@ ghost use Rattle.catalog_run.specs.Merging.{Fit, Merges, Nexts};
 use super::Memory;
 use super::outcome::ended_outcome;
 use catalog_open::{Admissions, Stage};
-use cert_text::Outcome;
+use cert_text::{Outcome, Versions};
 use query_admission::LineOutcome;
 use query_core::Ready;
 use query_turns::Ended;
@@ -57,7 +57,7 @@ fn merge_all(
     let Ok(mut outcomes) = Vec::with_capacity(alloc, stages.len()) else {
         return Err(Memory);
     };
-    match merge_into(stages, readies, endings, &mut outcomes) {
+    match merge_into(alloc, stages, readies, endings, &mut outcomes) {
         Ok(()) => Ok(outcomes),
         Err(_) => {
             let_go(outcomes);
@@ -69,6 +69,7 @@ fn merge_all(
 /// Puts the outcomes of lines into an empty list that has room for them, in their order; the lines, the queries and their endings are
 /// taken out of theirs.
 fn merge_into(
+    alloc: Global,
     stages: &mut Vec<Stage>,
     readies: &mut Vec<Ready>,
     endings: &mut Vec<Ended>,
@@ -83,7 +84,7 @@ fn merge_into(
     readies.reverse();
     endings.reverse();
     while let Some(stage) = stages.pop() {
-        let outcome = next_outcome(stage, readies, endings)?;
+        let outcome = next_outcome(alloc, stage, readies, endings)?;
         outcomes.push_reserved(outcome);
     }
     Ok(())
@@ -92,6 +93,7 @@ fn merge_into(
 /// The outcome of a line that came to this before it ran; the queries that were ready, and how they ended, stand in the opposite
 /// order, so that the line's are the last ones.
 fn next_outcome(
+    alloc: Global,
     stage: Stage,
     readies: &mut Vec<Ready>,
     endings: &mut Vec<Ended>,
@@ -103,6 +105,7 @@ fn next_outcome(
         Stage::Refused { refusal, query } => Ok(LineOutcome {
             query,
             count: 0,
+            versions: Versions::from_vec(Vec::new(alloc)),
             outcome: Outcome::Refused(refusal),
         }),
         Stage::Ready => next_ended(readies, endings),
@@ -127,6 +130,7 @@ fn next_ended(readies: &mut Vec<Ready>, endings: &mut Vec<Ended>) -> Result<Line
     Ok(LineOutcome {
         query: Some(ready.query),
         count: ready.count,
+        versions: Versions::from_vec(ready.versions),
         outcome,
     })
 }

@@ -1,5 +1,5 @@
 -- The figures of a certificate against those that its accesses give, line by line.
-use Rattle.std.proofs.Common.{◌≡◌, ◌≢◌, ℕ, ◌≤◌, ◌<◌, ◌+◌, ◌-◌, ◌==◌, ◌&&◌, Bool, true, false, List, [], ◌∷◌, ◌++◌, length, map, take, Some, slice_get, sym, ap, ap₂, ◌∙◌, subst, arith, eqb-true, eq-eqb, length-append}
+use Rattle.std.proofs.Common.{◌≡◌, ◌≢◌, ℕ, ◌≤◌, ◌<◌, ◌+◌, ◌-◌, ◌^◌, ◌==◌, ◌&&◌, suc, Bool, true, false, cond, not, List, [], ◌∷◌, ◌++◌, length, map, filter, take, Some, slice_get, refl, sym, ap, ap₂, ◌∙◌, subst, arith, eqb-true, eq-eqb, length-append}
 use Rattle.std.proofs.lemmas.Bool.{and_parts, and_from, true≢false}
 use Rattle.std.proofs.lemmas.List.{take_more, take_all, take-append-le, length-map}
 use Rattle.ranked_list.specs.declared.item.Item.{Item}
@@ -8,7 +8,8 @@ use Rattle.topk_theory.specs.Threshold.{item_objects}
 use Rattle.topk_theory.specs.declared.access.Access.{Access}
 use Rattle.topk_theory.proofs.AgreementLists.{slice_get_behind, slice_get_in_range, slice_get_reads, get_front}
 use Rattle.cert_text.specs.declared.certificate.Certificate.{Certificate}
-use Rattle.cert_judge.specs.Figures.{item_figures, stop_figures, figures_of, refigured, IsFirstDifference, HasItsFigures, IsFirstFigure}
+use Rattle.cert_text.specs.Certificate.{version_lines, IsCertificate}
+use Rattle.cert_judge.specs.Figures.{item_figures, stop_figures, has_line, figures_from, figures_of, refigured, IsFirstDifference, HasItsFigures, IsFirstFigure}
 use Rattle.cert_judge.proofs.Putting.{get_mapped}
 
 -- the figures that the accesses give the objects of items
@@ -68,13 +69,47 @@ same_items V m A items i past e =
     let given = given_length V m A items in
     sym (take_all i (map item_figures items) (omega arith)) ∙ e ∙ take_all i (given_figures V m A items) (omega arith)
 
+-- a line by the first line with figures and a place behind it
+pub figures_at : (c : Certificate) (place first more : ℕ) → first ≡ figures_from c → more ≡ place → first + more ≡ figures_from c + place
+figures_at c place first more is same = ap₂ (λ a b. a + b) is same
+
+-- the versions that aren't 0 have a line each
+one_counted : (version : ℕ) (line : List ℕ) (left : List ℕ) (lines : List (List ℕ)) (none : Bool) → length left ≡ length lines
+    → length (cond {A = List ℕ} (not none) (version ∷ left) left) ≡ length (cond {A = List (List ℕ)} none [] (line ∷ []) ++ lines)
+one_counted version line left lines true same = same
+one_counted version line left lines false same = ap suc same
+
+pub lines_counted : (names : List (List ℕ)) (versions : List ℕ) → length versions ≡ length names
+    → length (filter has_line versions) ≡ length (version_lines names versions)
+lines_counted [] [] same = refl
+lines_counted [] (version ∷ versions) same = absurd (omega arith)
+lines_counted (name ∷ names) [] same = absurd (omega arith)
+lines_counted (name ∷ names) (version ∷ versions) same =
+    one_counted version _ (filter has_line versions) (version_lines names versions) (version == 0) (lines_counted names versions (omega arith))
+
+one_few : (version : ℕ) (left : List ℕ) (n : ℕ) (line : Bool) → length left ≤ n → length (cond {A = List ℕ} line (version ∷ left) left) ≤ suc n
+one_few version left n true few = omega (arith, few)
+one_few version left n false few = omega (arith, few)
+
+pub lines_few : (versions : List ℕ) → length (filter has_line versions) ≤ length versions
+lines_few [] = omega arith
+lines_few (version ∷ versions) = one_few version (filter has_line versions) (length versions) (has_line version) (lines_few versions)
+
+-- a certificate has few lines of versions
+pub lines_small : (c : Certificate) → IsCertificate c → length (filter has_line c.versions) < 2 ^ 16
+lines_small c is =
+    let reads = is.query in
+    let spells = reads.0 in
+    let few : length c.query.names < 2 ^ 16 = omega (arith, spells.lawful.few) in
+    omega (arith, lines_few c.versions, is.versioned, few)
+
 -- a difference among the items is one of the certificate
 pub among_items : (c : Certificate) (xs ys : List (List ℕ)) (place line : ℕ) → figures_of c ≡ xs ++ stop_figures c ∷ []
     → figures_of (refigured c) ≡ ys ++ stop_figures (refigured c) ∷ []
-    → length xs ≡ length ys → IsFirstDifference xs ys place → line ≡ 4 + place → IsFirstFigure c line
+    → length xs ≡ length ys → IsFirstDifference xs ys place → line ≡ figures_from c + place → IsFirstFigure c line
 among_items c xs ys place line e f long d is =
     let within : place < length xs = d.within in
-    let back : place ≡ line - 4 = omega arith in
+    let back : place ≡ line - figures_from c = omega arith in
     let s = stop_figures c in
     let t = stop_figures (refigured c) in (
       omega arith,
@@ -88,11 +123,11 @@ among_items c xs ys place line e f long d is =
 -- the items' figures are the given ones, and those of the stop line differ
 pub at_stop : (c : Certificate) (xs ys : List (List ℕ)) (place line : ℕ) → figures_of c ≡ xs ++ stop_figures c ∷ []
     → figures_of (refigured c) ≡ ys ++ stop_figures (refigured c) ∷ []
-    → xs ≡ ys → (stop_figures c ≢ stop_figures (refigured c)) → place ≡ length xs → line ≡ 4 + place → IsFirstFigure c line
+    → xs ≡ ys → (stop_figures c ≢ stop_figures (refigured c)) → place ≡ length xs → line ≡ figures_from c + place → IsFirstFigure c line
 at_stop c xs ys place line e f same differ at is =
     let s = stop_figures c in
     let t = stop_figures (refigured c) in
-    let back : length xs ≡ line - 4 = omega arith in (
+    let back : length xs ≡ line - figures_from c = omega arith in (
       omega arith,
       subst (IsFirstDifference (figures_of c) (figures_of (refigured c))) back (record {
         within = subst (λ zs. length xs < length zs) (sym e) (omega (arith, length-append xs (s ∷ [])));

@@ -13,7 +13,7 @@ use Rattle.topk_theory.proofs.AgreementLists.{front_next, member_of_all}
 use Rattle.access_log.specs.Log.{Log, IsConsistent}
 use Rattle.query_text.specs.Bytes.{bytes_of}
 use Rattle.cert_text.specs.declared.certificate.Certificate.{Certificate}
-use Rattle.cert_text.specs.Certificate.{answer_line, access_line, access_lines, stop_line}
+use Rattle.cert_text.specs.Certificate.{version_lines, answer_line, access_line, access_lines, stop_line}
 use Rattle.cert_text.specs.Reading.{Spells, IsReadAs, IsCause}
 use Rattle.cert_text.specs.declared.fault.CertFault.{CertFault}
 use Rattle.cert_text.specs.declared.fault.CertFault.TheVariants as cert_fault
@@ -82,8 +82,10 @@ few_accesses bytes c spells =
     let stop = stop_line c.depth c.sorted c.random c.cost in
     let accesses : length (access_lines c.query.names c.accesses) ≡ length c.accesses + 1 =
     length-append (map (access_line c.query.names) c.accesses) (codes "end" ∷ []) ∙ ap (λ n. n + 1) (length-map c.accesses (access_line c.query.names)) in
+    let answer = map answer_line c.items ++ stop ∷ access_lines c.query.names c.accesses in
+    let versions = length-append (version_lines c.query.names c.versions) answer in
     let rest = length-append (map answer_line c.items) (stop ∷ access_lines c.query.names c.accesses) in
-    omega (arith, lines_short bytes, ap length spells.spelled, rest, accesses)
+    omega (arith, lines_short bytes, ap length spells.spelled, versions, rest, accesses)
 
 -- what is told of the certificate that the lines spell is told of the lines
 tells_from : (ls : List (List ℕ)) (c : Certificate) (told : Judgement) → Spells ls c → ((d : Certificate) → Spells ls d → d ≡ c) → TellsOfCertificate c told

@@ -1,5 +1,5 @@
 -- The figures of a certificate, and those that its accesses give.
-use Rattle.std.specs.Prelude.{◌≡◌, ◌≢◌, ◌≤◌, ◌<◌, ◌-◌, ℕ, List, [], ◌∷◌, ◌++◌, length, map, take, slice_get, Option, Some, None}
+use Rattle.std.specs.Prelude.{◌≡◌, ◌≢◌, ◌≤◌, ◌<◌, ◌+◌, ◌-◌, ◌==◌, ℕ, Bool, not, List, [], ◌∷◌, ◌++◌, length, map, take, slice_get, Option, Some, None}
 use Rattle.ranked_list.specs.declared.item.Item.{Item}
 use Rattle.monotone_fn.specs.Shape.{list_count}
 use Rattle.monotone_fn.specs.Value.{value}
@@ -7,6 +7,7 @@ use Rattle.topk_theory.specs.Bounds.{bounded}
 use Rattle.topk_theory.specs.Threshold.{item_objects}
 use Rattle.topk_theory.specs.Transcript.{depth, sorted_count, random_count, cost}
 use Rattle.cert_text.specs.declared.certificate.Certificate.{Certificate}
+use Rattle.cert_text.specs.Certificate.{version_lines}
 use Rattle.query_text.specs.Costs.{costs_in_force}
 
 -- the figures of the line of an object of the answer, and those of the stop line
@@ -16,7 +17,15 @@ item_figures item = item.low ∷ item.high ∷ []
 abbrev pub stop_figures : Certificate → List ℕ
 stop_figures c = c.depth ∷ c.sorted ∷ c.random ∷ c.cost ∷ []
 
--- the figures on the lines of a certificate from the fourth on
+-- whether a version has a line
+abbrev pub has_line : ℕ → Bool
+has_line version = not (version == 0)
+
+-- the first line of a certificate with figures, counted from 1: its number, its query, the count and the versions stand above it
+abbrev pub figures_from : Certificate → ℕ
+figures_from c = 4 + length (version_lines c.query.names c.versions)
+
+-- the figures on the lines of a certificate from there on
 abbrev pub figures_of : Certificate → List (List ℕ)
 figures_of c = map item_figures c.items ++ stop_figures c ∷ []
 
@@ -47,4 +56,4 @@ FirstOf xs ys (Some place) = IsFirstDifference xs ys place
 
 -- the line, counted from 1, is the first of the certificate with a figure that isn't the one that its accesses give
 abbrev pub IsFirstFigure : Certificate → ℕ → Type 0
-IsFirstFigure c line = (4 ≤ line) × IsFirstDifference (figures_of c) (figures_of (refigured c)) (line - 4)
+IsFirstFigure c line = (figures_from c ≤ line) × IsFirstDifference (figures_of c) (figures_of (refigured c)) (line - figures_from c)

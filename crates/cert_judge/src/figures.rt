@@ -1,21 +1,37 @@
 //! The figures of a certificate, against those that its accesses give.
 
-ghost use Rattle.std.specs.Prelude.{◌≡◌, ◌<◌, ◌^◌, ◌==◌, ◌&&◌, ◌↔◌, length, map, MatchOption, IsTrue};
+ghost use Rattle.std.specs.Prelude.{◌≡◌, ◌<◌, ◌≤◌, ◌^◌, ◌==◌, ◌&&◌, ◌↔◌, length, map, filter, MatchOption, IsTrue};
 ghost use Rattle.monotone_fn.specs.Shape.{list_count};
 ghost use Rattle.monotone_fn.specs.Value.{value};
 ghost use Rattle.topk_theory.specs.Bounds.{low, high, bounded};
 ghost use Rattle.topk_theory.specs.Threshold.{item_objects};
 ghost use Rattle.cert_text.specs.Certificate.{IsCertificate};
 ghost use Rattle.cert_judge.specs.Transcripts.{log_of};
-ghost use Rattle.cert_judge.specs.Figures.{item_figures, stop_figures, refigured, FirstOf, HasItsFigures, IsFirstFigure};
+ghost use Rattle.cert_judge.specs.Figures.{item_figures, stop_figures, figures_from, has_line, refigured, FirstOf, HasItsFigures, IsFirstFigure};
 
 use access_log::{Item, Transcript};
 use cert_text::{Certificate, depth_of};
 use monotone_fn::Expr;
 use ranked_list::Items;
 
-/// The line of a certificate with the first object of the answer.
-const FIRST_ITEM: u64 = 4;
+/// The first line of a certificate with figures, where no version has a line above it.
+const FIRST_FIGURES: u64 = 4;
+
+/// How many of these versions have a line: those that aren't 0.
+fn lines_of_versions(versions: &[u64]) -> usize
+    ensures { result ≡ length (filter has_line versions.now) }
+{
+    versions.iter().filter(|version| **version != 0).count()
+}
+
+/// The first line of a certificate with figures, counted from 1.
+fn figures_from(certificate: &Certificate) -> u64
+    requires { IsCertificate certificate.now }
+    ensures line { result ≡ figures_from certificate.now }
+    ensures few { result < 2 ^ 32 }
+{
+    FIRST_FIGURES + lines_of_versions(certificate.versions.as_slice()) as u64
+}
 
 /// Whether an object's bounds are those that the accesses give.
 fn has_bounds(transcript: &Transcript, expr: &Expr, item: &Item) -> bool
@@ -63,12 +79,13 @@ pub(crate) fn first_figure(certificate: &Certificate, transcript: &Transcript) -
     requires made { transcript.now ≡ log_of certificate.now }
     ensures { MatchOption result (HasItsFigures certificate.now) (IsFirstFigure certificate.now) }
 {
+    let first = figures_from(certificate);
     let items = &certificate.items;
     if let Some(place) = first_item(transcript, &certificate.query.expr, items) {
-        return Some(FIRST_ITEM + u64::from(place));
+        return Some(first + u64::from(place));
     }
     if stops_so(certificate, transcript) {
         return None;
     }
-    Some(FIRST_ITEM + u64::from(items.len()))
+    Some(first + u64::from(items.len()))
 }

@@ -15,79 +15,72 @@ use super::judgement::Judgement;
 use super::refusal::{RefusalLine, refusal_of};
 use bundle_text::{Bundle, put_rows};
 use ranked_list::MemList;
-use tk_io::{Failed, Pieces, Sink};
+use tk_io::{Failed, Put, Sink, Writer};
 
 /// Puts the line of a refusal behind the bytes that wait.
-fn put_refused<K: Sink>(out: &mut K, pieces: &mut Pieces, name: &[u8], fields: &[u64])
-    ensures { Puts (K.held out.old) (K.held out.new) (K.faults out.old) (K.faults out.new) pieces.old pieces.new
+fn put_refused<P: Put>(out: &mut P, name: &[u8], fields: &[u64])
+    ensures { Puts (P.at out.old) (P.at out.new)
         (refused_line name.now fields.now ++ 10 ∷ []) }
 {
-    pieces.put(out, b"refused ");
-    pieces.put(out, name);
+    out.put(b"refused ");
+    out.put(name);
     for field in fields {
-        pieces.put(out, b" ");
-        pieces.put_number(out, *field);
+        out.put(b" ");
+        out.put_number(*field);
     }
-    pieces.put(out, b"\n");
+    out.put(b"\n");
 }
 
 /// Puts a word and its number behind the bytes that wait.
-fn put_named<K: Sink>(out: &mut K, pieces: &mut Pieces, word: &[u8], number: u64)
-    ensures { Puts (K.held out.old) (K.held out.new) (K.faults out.old) (K.faults out.new) pieces.old pieces.new
+fn put_named<P: Put>(out: &mut P, word: &[u8], number: u64)
+    ensures { Puts (P.at out.old) (P.at out.new)
         (named word.now number) }
 {
-    pieces.put(out, word);
-    pieces.put_number(out, number);
+    out.put(word);
+    out.put_number(number);
 }
 
 /// Puts the first line of a beaten answer behind the bytes that wait.
-fn put_beaten<K: Sink>(
-    out: &mut K,
-    pieces: &mut Pieces,
-    inside: u32,
-    low: u64,
-    outside: u32,
-    high: u64,
-)
-    ensures { Puts (K.held out.old) (K.held out.new) (K.faults out.old) (K.faults out.new) pieces.old pieces.new
+fn put_beaten<P: Put>(out: &mut P, inside: u32, low: u64, outside: u32, high: u64)
+    ensures { Puts (P.at out.old) (P.at out.new)
         (beaten_line inside low outside high ++ 10 ∷ []) }
 {
-    put_named(out, pieces, b"beaten inside ", u64::from(inside));
-    put_named(out, pieces, b" low ", low);
-    put_named(out, pieces, b" outside ", u64::from(outside));
-    put_named(out, pieces, b" high ", high);
-    pieces.put(out, b"\n");
+    put_named(out, b"beaten inside ", u64::from(inside));
+    put_named(out, b" low ", low);
+    put_named(out, b" outside ", u64::from(outside));
+    put_named(out, b" high ", high);
+    out.put(b"\n");
 }
 
 /// Puts the lines of a list behind the bytes that wait.
-fn put_section<K: Sink>(out: &mut K, pieces: &mut Pieces, name: &[u8], rows: &MemList)
-    ensures { Puts (K.held out.old) (K.held out.new) (K.faults out.old) (K.faults out.new) pieces.old pieces.new
+fn put_section<P: Put>(out: &mut P, name: &[u8], rows: &MemList)
+    ensures { Puts (P.at out.old) (P.at out.new)
         (unlines (section name.now rows.now)) }
 {
-    pieces.put(out, b"list ");
-    pieces.put(out, name);
-    pieces.put(out, b"\n");
-    put_rows(out, pieces, rows);
+    out.put(b"list ");
+    out.put(name);
+    out.put(b"\n");
+    put_rows(out, rows);
 }
 
 /// Puts the lines of a bundle behind the bytes that wait.
-fn put_bundle<K: Sink>(out: &mut K, pieces: &mut Pieces, bundle: &Bundle)
-    ensures { Puts (K.held out.old) (K.held out.new) (K.faults out.old) (K.faults out.new) pieces.old pieces.new
+fn put_bundle<P: Put>(out: &mut P, bundle: &Bundle)
+    ensures { Puts (P.at out.old) (P.at out.new)
         (unlines (bundle_lines (content bundle.now))) }
 {
     let lists = bundle.names.len().min(bundle.lists.len());
     for place in 0..lists {
-        put_section(out, pieces, &bundle.names[place], &bundle.lists[place]);
+        put_section(out, &bundle.names[place], &bundle.lists[place]);
     }
-    pieces.put(out, b"query ");
-    pieces.put(out, &bundle.query);
-    pieces.put(out, b"\n");
+    out.put(b"query ");
+    out.put(&bundle.query);
+    out.put(b"\n");
 }
 
 /// Puts whether the answer is fixed behind the bytes that wait: `fixes`, or the lines of a beaten answer.
-fn put_judged<K: Sink>(out: &mut K, pieces: &mut Pieces, told: &Judgement)
+fn put_judged<P: Put>(out: &mut P, told: &Judgement)
     requires { IsJudged told.now }
-    ensures { Puts (K.held out.old) (K.held out.new) (K.faults out.old) (K.faults out.new) pieces.old pieces.new
+    ensures { Puts (P.at out.old) (P.at out.new)
         (told_text told.now) }
 {
     match told {
@@ -98,22 +91,22 @@ fn put_judged<K: Sink>(out: &mut K, pieces: &mut Pieces, told: &Judgement)
             high,
             counter,
         } => {
-            put_beaten(out, pieces, *inside, *low, *outside, *high);
-            put_bundle(out, pieces, counter);
+            put_beaten(out, *inside, *low, *outside, *high);
+            put_bundle(out, counter);
         }
-        _ => pieces.put(out, b"fixes\n"),
+        _ => out.put(b"fixes\n"),
     }
 }
 
 /// Puts what is told behind the bytes that wait.
-fn put_told<K: Sink>(out: &mut K, pieces: &mut Pieces, told: &Judgement)
-    ensures { Puts (K.held out.old) (K.held out.new) (K.faults out.old) (K.faults out.new) pieces.old pieces.new
+fn put_told<P: Put>(out: &mut P, told: &Judgement)
+    ensures { Puts (P.at out.old) (P.at out.new)
         (told_text told.now) }
 {
     match refusal_of(told) {
-        Some(RefusalLine::One(name, fields)) => put_refused(out, pieces, name, &fields),
-        Some(RefusalLine::Two(name, fields)) => put_refused(out, pieces, name, &fields),
-        None => put_judged(out, pieces, told),
+        Some(RefusalLine::One(name, fields)) => put_refused(out, name, &fields),
+        Some(RefusalLine::Two(name, fields)) => put_refused(out, name, &fields),
+        None => put_judged(out, told),
     }
 }
 
@@ -123,7 +116,7 @@ pub fn write_told<K: Sink>(out: &mut K, told: &Judgement) -> Result<(), Failed>
     ensures front { OnErr result (TookFront (K.held out.old) (K.held out.new) (told_text told.now)) }
     ensures cause { HasCause (K.faults out.old) (K.faults out.new) result }
 {
-    let mut pieces = Pieces::make();
-    put_told(out, &mut pieces, told);
-    pieces.end(out)
+    let mut writer = Writer::make(out);
+    put_told(&mut writer, told);
+    writer.end()
 }

@@ -41,9 +41,9 @@ cost_few s r a b n s_few r_few few a_low b_low =
     let r_low : r ≤ 2 ^ 40 = omega arith in
     omega (arith, mul-le-mul s_low a_low, mul-le-mul r_low b_low)
 
-certified : (line : ℕ) (query : Query) (count : ℕ) (answer : Answer) → IsCertified line query count answer
-    → IsCertificate (certificate_of line query count answer)
-certified line query count answer is =
+certified : (line : ℕ) (query : Query) (count : ℕ) (versions : List ℕ) (answer : Answer) → IsCertified line query count versions answer
+    → IsCertificate (certificate_of line query count versions answer)
+certified line query count versions answer is =
     let A = answer.transcript.accesses in
     let few : length A < 2 ^ 40 = is.cost.accesses in
     let names : answer.transcript.lists ≤ length query.names = omega (arith, is.lists, list_count_names query is.lawful) in
@@ -53,6 +53,8 @@ certified line query count answer is =
       query = (record { short = length-printed query is.lawful is.expr; lawful = is.lawful; text = refl }, is.expr);
       count_from = omega (arith, is.counted, is.limits.some_objects);
       count_to = omega (arith, is.counted, is.limits.few_objects);
+      versioned = is.versioned;
+      versions = is.small;
       items = is.items;
       depth = omega (arith, depth_few answer.transcript.lists A);
       sorted = omega (arith, count_by-le-length is_sorted A);
@@ -62,9 +64,9 @@ certified line query count answer is =
     }
 
 -- the text that is written of an answer spells its certificate
-pub certified_spelled : (line : ℕ) (query : Query) (count : ℕ) (answer : Answer) (text : List ℕ) → IsCertified line query count answer
-    → text ≡ outcome_text line (Some query) count (Answered answer) → Spells (lines text) (certificate_of line query count answer)
+pub certified_spelled : (line : ℕ) (query : Query) (count : ℕ) (versions : List ℕ) (answer : Answer) (text : List ℕ) → IsCertified line query count versions answer
+    → text ≡ outcome_text line (Some query) count versions (Answered answer) → Spells (lines text) (certificate_of line query count versions answer)
 unfolding outcome_text
-certified_spelled line query count answer text is same =
-    let fits = certified line query count answer is in
-    record { certificate = fits; spelled = ap lines same ∙ lines-certificate (certificate_of line query count answer) fits }
+certified_spelled line query count versions answer text is same =
+    let fits = certified line query count versions answer is in
+    record { certificate = fits; spelled = ap lines same ∙ lines-certificate (certificate_of line query count versions answer) fits }

@@ -11,11 +11,11 @@ use Rattle.query_text.specs.Reading.{Reads}
 use Rattle.query_text.specs.declared.query.Query.{Query}
 use Rattle.query_text.specs.declared.algorithm.Algorithm.TheVariants.{Ta}
 use Rattle.cert_text.specs.Certificate.{number_line, query_line, count_line, stop_line}
-use Rattle.cert_text.specs.Judging.{Leads, SpellsQueried}
+use Rattle.cert_text.specs.Judging.{Leads, Found, SpellsQueried}
 use Rattle.cert_text.specs.Reading.{Spells}
 use Rattle.cert_text.proofs.LineLaws.{number_in-line}
 use Rattle.query_text.proofs.LengthLaws.{length-printed}
-use Rattle.cert_text.proofs.SpellLaws.{nothing, whole, counted_spelled, steps_number}
+use Rattle.cert_text.proofs.SpellLaws.{nothing, unversioned, whole, counted_spelled, steps_number}
 use Rattle.limits.specs.declared.TheConstants.{MAX_VALUE}
 
 -- the best object of one list
@@ -53,14 +53,15 @@ example_reads = (record { short = length-printed example example_lawful example_
 example_lines : List (List ℕ)
 example_lines = query_line example ∷ count_line 1 ∷ stop_line 0 0 0 0 ∷ codes "end" ∷ []
 
-example_spelled : SpellsQueried example_lines (example, 1, nothing)
+example_spelled : SpellsQueried example_lines (example, 1, unversioned example.names, nothing)
 unfolding example_lines
 example_spelled = record { rest = count_line 1 ∷ stop_line 0 0 0 0 ∷ codes "end" ∷ []; first = refl; query = example_reads; counted = counted_spelled (codes "A" ∷ []) }
 
 pub queried_some : Leads SpellsQueried []
-queried_some = (example_lines, ((example, 1, nothing), example_spelled))
+queried_some = (example_lines, ((example, 1, unversioned example.names, nothing), example_spelled))
 
 pub spells_some : Leads Spells []
 spells_some =
     let steps = steps_number (number_line 1) 1 (number_in-line 1 (omega arith) (omega arith)) in
-    (number_line 1 ∷ example_lines, (whole 1 (example, 1, nothing), steps.adds example_lines (example, 1, nothing) example_spelled))
+    let queried : Query × ℕ × List ℕ × Found = (example, 1, unversioned example.names, nothing) in
+    (number_line 1 ∷ example_lines, (whole 1 queried, steps.adds example_lines queried example_spelled))

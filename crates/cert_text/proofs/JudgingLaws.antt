@@ -1,5 +1,5 @@
 -- Judging line by line.
-use Rattle.std.proofs.Common.{◌≡◌, ℕ, suc, ◌+◌, List, [], ◌∷◌, ◌++◌, take, Result, Ok, Err, sym, ap, subst, ◌∙◌, arith}
+use Rattle.std.proofs.Common.{◌≡◌, ℕ, suc, ◌+◌, ◌<◌, List, [], ◌∷◌, ◌++◌, length, take, Result, Ok, Err, refl, sym, ap, subst, ◌∙◌, arith}
 use Rattle.line_text.specs.Lines.{lines}
 use Rattle.line_text.proofs.LineLaws.{lines-nil}
 use Rattle.cert_text.specs.declared.fault.CertFault.{CertFault}
@@ -58,6 +58,11 @@ judges_under S S' line f ls (Err before) steps judged =
       λ y spelled. let back = steps.drops ls y spelled in judged.1 back.0 back.1,
     )
 
+-- the same where no line stands before them
+abbrev pub told : {X Y : Type 0} → (X → Y) → Result X ℕ → Result Y ℕ
+told f (Ok x) = Ok (f x)
+told f (Err before) = Err before
+
 -- whatever is found of the lines that are left tells what is found of all lines
 abbrev pub Carries : {X Y : Type 0} → (List (List ℕ) → X → Type 0) → List (List ℕ) → (X → Y) → ℕ → (List (List ℕ) → Y → Type 0) → List (List ℕ) → Type 0
 Carries {X} S ls f k S' all = (r : Result X ℕ) → Judges S ls r → Judges S' all (carried f k r)
@@ -77,6 +82,43 @@ carries_more S S' S'' line ls now all f g h k is steps same carries (Err before)
     let e : k + (1 + before) ≡ (k + 1) + before = omega arith in
     subst (λ n. Judges S'' all (Err n)) e
     (carries (Err (1 + before)) (subst (λ n. Judges S' n (Err (1 + before))) (sym is) (judges_under S S' line f ls (Err before) steps judged)))
+
+-- no line is read, and what the lines spell comes from what they spell of fewer values
+pub record Aside {X Y : Type 0} (S : List (List ℕ) → X → Type 0) (S' : List (List ℕ) → Y → Type 0) (ls : List (List ℕ)) (f : X → Y) : Type 0 where
+  pub adds : (xs : List (List ℕ)) (x : X) → S xs x → S' xs (f x)
+  pub drops : (xs : List (List ℕ)) (y : Y) → take 1 xs ≡ take 1 ls → S' xs y → (x : X) × S xs x × (y ≡ f x)
+
+-- the first line of a longer front of lines
+front_first : (ls more : List (List ℕ)) (before : ℕ) → before < length ls → take 1 (take (suc before) ls ++ more) ≡ take 1 ls
+front_first [] more before inside = absurd (omega arith)
+front_first (line ∷ ls) more before inside = refl
+
+judges_aside : {X Y : Type 0} (S : List (List ℕ) → X → Type 0) (S' : List (List ℕ) → Y → Type 0) (ls : List (List ℕ)) (f : X → Y) (r : Result X ℕ)
+    → Aside S S' ls f → Judges S ls r → Judges S' ls (told f r)
+judges_aside S S' ls f (Ok x) aside judged = (
+  aside.adds ls x judged.0,
+  λ y spelled. let back = aside.drops ls y refl spelled in back.2 ∙ ap f (judged.1 back.0 back.1),
+)
+judges_aside S S' ls f (Err before) aside judged =
+    let fault = judged.0 in (
+      record {
+        within = fault.within;
+        leads = let l = fault.leads in (l.0, (f l.1.0, aside.adds (take before ls ++ l.0) l.1.0 l.1.1));
+        ends = λ inside leads.
+            let back = aside.drops (take (suc before) ls ++ leads.0) leads.1.0 (front_first ls leads.0 before inside) leads.1.1 in
+            fault.ends inside (leads.0, (back.0, back.1));
+      },
+      λ y spelled. let back = aside.drops ls y refl spelled in judged.1 back.0 back.1,
+    )
+
+-- no line more was read
+pub carries_aside : {X Y Z : Type 0} (S : List (List ℕ) → X → Type 0) (S' : List (List ℕ) → Y → Type 0) (S'' : List (List ℕ) → Z → Type 0)
+    (ls all : List (List ℕ)) (f : X → Y) (g : Y → Z) (h : X → Z) (k : ℕ)
+    → Aside S S' ls f → ((x : X) → h x ≡ g (f x)) → Carries S' ls g k S'' all → Carries S ls h k S'' all
+carries_aside S S' S'' ls all f g h k aside same carries (Ok x) judged =
+    subst (λ z. Judges S'' all (Ok z)) (sym (same x)) (carries (Ok (f x)) (judges_aside S S' ls f (Ok x) aside judged))
+carries_aside S S' S'' ls all f g h k aside same carries (Err before) judged =
+    carries (Err before) (judges_aside S S' ls f (Err before) aside judged)
 
 -- a fault that was found is one of all lines
 pub finds_fault : {X Y U V : Type 0} (S : List (List ℕ) → X → Type 0) (S' : List (List ℕ) → Y → Type 0) (ls all : List (List ℕ)) (f : X

@@ -4,7 +4,9 @@ pub mod FigureLaws
 pub mod PartLaws
 pub mod LineLaws
 pub mod JudgingLaws
+pub mod VersionLines
 pub mod SpellLaws
+pub mod VersionLaws
 pub mod QueryLaws
 pub mod ExampleLaws
 pub mod CertificateLaws

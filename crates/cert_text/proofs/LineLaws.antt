@@ -1,20 +1,21 @@
 -- A line of a certificate says what it was written from, and nothing else does.
-use Rattle.std.proofs.Common.{◌≡◌, ℕ, ◌<◌, ◌≤◌, ◌^◌, List, ◌∷◌, ◌++◌, length, codes, Option, Some, None, refl, ap, subst, ◌∙◌, arith}
+use Rattle.std.proofs.Common.{◌≡◌, ℕ, ◌<◌, ◌≤◌, ◌^◌, List, [], ◌∷◌, ◌++◌, length, codes, All, Option, Some, None, refl, sym, ap, subst, ◌∙◌, arith}
 use Rattle.std.specs.Fmt.{decimal}
+use Rattle.std.proofs.lemmas.Bool.{ne_eqb}
 use Rattle.std.proofs.lemmas.Option.{same_Some}
 use Rattle.line_text.specs.Cuts.{cut_at, rest_after}
 use Rattle.line_text.specs.Numbers.{number_up_to}
-use Rattle.line_text.proofs.CutLaws.{cut_at-append, cut_at-some, rest_after-some}
+use Rattle.line_text.proofs.CutLaws.{cut_at-append, cut_at-some, rest_after-append, rest_after-some}
 use Rattle.line_text.proofs.NumberLaws.{up_to-decimal, decimal-up_to, up_to-some}
 use Rattle.ranked_list.specs.declared.item.Item.{Item}
 use Rattle.topk_theory.specs.declared.access.Access.{Access}
 use Rattle.topk_theory.specs.declared.access.Access.TheVariants.{Sorted, Random}
 use Rattle.query_text.specs.Query.{name_of}
 use Rattle.cert_text.specs.declared.parts.Figures.{Figures}
-use Rattle.cert_text.specs.Certificate.{number_line, count_line, answer_line, stop_line, access_line, IsItem, IsAccess}
+use Rattle.cert_text.specs.Certificate.{number_line, count_line, version_line, answer_line, stop_line, access_line, IsItem, IsAccess}
 use Rattle.cert_text.specs.Judging.{AreNames, AreFigures}
-use Rattle.cert_text.specs.Parts.{◌>>=◌, number_within, number_before, number_in, count_in, item_in, figures_in, list_named, row_in, access_or, access_in, top_32, top_64}
-use Rattle.cert_text.proofs.PartLaws.{bind_some, within-decimal, within-some, before-decimal, before-some, list_named-name_of, list_named-some, name_of_spaceless}
+use Rattle.cert_text.specs.Parts.{◌>>=◌, number_within, number_before, number_in, count_in, version_in, item_in, figures_in, list_named, row_in, access_or, access_in, top_32, top_64}
+use Rattle.cert_text.proofs.PartLaws.{NoSpace, bind_some, within-decimal, within-some, before-decimal, before-some, list_named-name_of, list_named-some, name_of_spaceless}
 
 pub number_in-line : (n : ℕ) → 1 ≤ n → n < 2 ^ 63 → number_in (number_line n) ≡ Some n
 unfolding number_in
@@ -55,6 +56,66 @@ count_in-some line n h =
       low = within.low;
       high = within.high;
     }
+
+-- the line of a version of a list with a name
+abbrev pub version_text : List ℕ → ℕ → List ℕ
+version_text name version = codes "version " ++ (name ++ (codes " " ++ decimal version))
+
+pub version_line_some : (name : List ℕ) (version : ℕ) → 1 ≤ version → version_line name version ≡ version_text name version ∷ []
+version_line_some name version some = rw (ne_eqb version 0 (λ e. absurd (omega arith))) refl
+
+pub version_in-line : (name : List ℕ) (version : ℕ) → 1 ≤ version → version < 2 ^ 64 → version_in name (version_text name version) ≡ Some version
+unfolding version_in
+version_in-line name version low high =
+    rw (
+      rest_after-append name (codes " " ++ decimal version),
+      within-decimal 1 top_64 version low (omega arith) (omega arith),
+    ) refl
+
+pub record IsVersionLine (name line : List ℕ) (version : ℕ) : Type 0 where
+  pub line_is : line ≡ version_text name version
+  pub low : 1 ≤ version
+  pub high : version < 2 ^ 64
+
+pub version_in-some : (name line : List ℕ) (version : ℕ) → version_in name line ≡ Some version → IsVersionLine name line version
+unfolding version_in
+version_in-some name line version h =
+    let word = bind_some (rest_after (codes "version ") line) (λ text. do
+      text ← rest_after name text
+      text ← rest_after (codes " ") text
+      number_within 1 top_64 text) version h in
+    let named = bind_some (rest_after name word.0) (λ text. do
+      text ← rest_after (codes " ") text
+      number_within 1 top_64 text) version word.2 in
+    let number = bind_some (rest_after (codes " ") named.0) (number_within 1 top_64) version named.2 in
+    let within = within-some 1 top_64 version number.0 (omega arith) number.2 in
+    record {
+      line_is = rest_after-some (codes "version ") line word.0 word.1
+          ∙ ap (λ t. codes "version " ++ t) (rest_after-some name word.0 named.0 named.1
+          ∙ ap (λ t. name ++ t) (rest_after-some (codes " ") named.0 number.0 number.1 ∙ ap (λ t. codes " " ++ t) within.text_is));
+      low = within.low;
+      high = omega (arith, within.high);
+    }
+
+-- a line gives a version of one list alone
+pub version_in-other : (name other line : List ℕ) (version its : ℕ) → All NoSpace name → All NoSpace other → version_in name line ≡ Some version
+    → line ≡ version_text other its → name ≡ other
+version_in-other name other line version its spaceless other_spaceless read is =
+    let says = version_in-some name line version read in
+    let whole : version_text name version ≡ version_text other its = sym says.line_is ∙ is in
+    let named : name ++ 32 ∷ decimal version ≡ other ++ 32 ∷ decimal its = same_Some _ _ (ap (rest_after (codes "version ")) whole) in
+    let cut : (name, decimal version) ≡ (other, decimal its) = same_Some _ _
+    (sym (cut_at-append 32 name (decimal version) spaceless) ∙ (ap (cut_at 32) named ∙ cut_at-append 32 other (decimal its) other_spaceless)) in
+    ap (λ (parts : List ℕ × List ℕ). parts.0) cut
+
+-- the lines that follow give no version
+pub version_in-stop : (name : List ℕ) (depth sorted random cost : ℕ) → version_in name (stop_line depth sorted random cost) ≡ None
+unfolding version_in
+version_in-stop name depth sorted random cost = refl
+
+pub version_in-answer : (name : List ℕ) (item : Item) → version_in name (answer_line item) ≡ None
+unfolding version_in
+version_in-answer name item = refl
 
 pub item_in-line : (item : Item) → IsItem item → item_in (answer_line item) ≡ Some item
 unfolding item_in

@@ -1,24 +1,26 @@
 -- Each line of a certificate, judged before the lines that follow it.
-use Rattle.std.proofs.Common.{◌≡◌, ◌≢◌, ℕ, List, [], ◌∷◌, ◌++◌, length, map, codes, Some, None, refl, sym, ap, subst, ◌∙◌, arith, ◌+◌, append-nil, append_assoc}
+use Rattle.std.proofs.Common.{◌≡◌, ◌≢◌, ◌<◌, ◌^◌, ℕ, List, [], ◌∷◌, ◌++◌, length, map, codes, All, Some, None, refl, sym, ap, subst, ◌∙◌, arith, ◌+◌, append-nil, append_assoc}
 use Rattle.std.proofs.lemmas.Option.{same_Some}
-use Rattle.std.proofs.lemmas.List.Elements.{All-nil, All-cons, All-head, All-tail}
+use Rattle.std.proofs.lemmas.List.{length-map}
+use Rattle.std.proofs.lemmas.List.Elements.{All-nil, All-cons, All-head, All-tail, All-weaker}
 use Rattle.ranked_list.specs.declared.item.Item.{Item}
 use Rattle.topk_theory.specs.declared.access.Access.{Access}
 use Rattle.query_text.specs.declared.query.Query.{Query}
 use Rattle.cert_text.specs.declared.certificate.Certificate.{Certificate}
 use Rattle.cert_text.specs.declared.parts.Figures.{Figures}
-use Rattle.cert_text.specs.Certificate.{number_line, query_line, count_line, answer_line, stop_line, access_line, access_lines, IsItem, IsAccess}
+use Rattle.cert_text.specs.Certificate.{number_line, query_line, count_line, version_lines, answer_line, stop_line, access_line, access_lines, IsItem, IsAccess}
 use Rattle.cert_text.specs.Parts.{number_in, count_in, item_in, figures_in, access_in}
-use Rattle.cert_text.specs.Judging.{Leads, AreNames, Found, FindsQuery, SpellsNone, SpellsAccesses, SpellsFound, SpellsCounted, SpellsQueried}
+use Rattle.cert_text.specs.Judging.{Leads, AreNames, Found, FindsQuery, SpellsNone, SpellsAccesses, SpellsFound, SpellsVersioned, SpellsCounted, SpellsQueried}
 use Rattle.cert_text.specs.Reading.{Spells}
 use Rattle.cert_text.proofs.LineLaws.{number_in-line, number_in-some, count_in-line, count_in-some, item_in-line, item_in-some, figures_in-line, figures_in-some, access_in-line, access_in-some, access_in-end, item_in-stop, figures_in-answer}
 use Rattle.cert_text.proofs.JudgingLaws.{Steps, Carries, carries_none, carries_more}
+use Rattle.cert_text.proofs.VersionLines.{lines_unversioned}
 
 -- a line that begins the same lines
-same_line : {X : Type 0} (x y : X) (xs ys : List X) → x ∷ xs ≡ y ∷ ys → x ≡ y
+pub same_line : {X : Type 0} (x y : X) (xs ys : List X) → x ∷ xs ≡ y ∷ ys → x ≡ y
 same_line x y xs ys e = cc
 
-same_rest : {X : Type 0} (x y : X) (xs ys : List X) → x ∷ xs ≡ y ∷ ys → xs ≡ ys
+pub same_rest : {X : Type 0} (x y : X) (xs ys : List X) → x ∷ xs ≡ y ∷ ys → xs ≡ ys
 same_rest x y xs ys e = cc
 
 -- the line that ends a certificate
@@ -194,31 +196,54 @@ pub found_here : (names : List (List ℕ)) (line : List ℕ) → item_in line �
     → (rest : List (List ℕ)) (x : Found) → SpellsFound names (line ∷ rest) x → ⊥
 found_here names line no_item no_figures rest x spelled = found_here_by names line rest x.items x.figures x.accesses no_item no_figures spelled
 
+-- lists that are all at version 0
+abbrev pub unversioned : List (List ℕ) → List ℕ
+unversioned names = map (λ _. 0) names
+
+all_unversioned : (names : List (List ℕ)) → All (λ version. version ≡ 0) (unversioned names)
+all_unversioned [] = All-nil (λ version. version ≡ 0)
+all_unversioned (name ∷ names) = All-cons (λ version. version ≡ 0) 0 (unversioned names) refl (all_unversioned names)
+
+versioned_spelled : (names : List (List ℕ)) → SpellsVersioned names names (stop_line 0 0 0 0 ∷ codes "end" ∷ []) (unversioned names, nothing)
+versioned_spelled names = record {
+  rest = stop_line 0 0 0 0 ∷ codes "end" ∷ [];
+  first = ap (λ t. t ++ stop_line 0 0 0 0 ∷ codes "end" ∷ []) (sym (lines_unversioned names (unversioned names) (all_unversioned names)));
+  sized = length-map names (λ _. 0);
+  small = All-weaker (λ version. version ≡ 0) (λ version. version < 2 ^ 64) (λ version none. omega (arith, none)) (unversioned names) (all_unversioned names);
+  found = nothing_spelled names;
+}
+
 -- the number of objects of each list
 
 pub steps_count : (names : List (List ℕ)) (line : List ℕ) (n : ℕ) → count_in line ≡ Some n
-    → Steps (SpellsFound names) (SpellsCounted names) line (λ found. (n, found))
+    → Steps (SpellsVersioned names names) (SpellsCounted names) line (λ versioned. (n, versioned.0, versioned.1))
 steps_count names line n read = record {
   adds = λ ls x spelled.
       let says = count_in-some line n read in
-      record { rest = ls; first = ap (λ t. t ∷ ls) says.line_is; low = says.low; high = says.high; found = spelled };
+      record { rest = ls; first = ap (λ t. t ∷ ls) says.line_is; low = says.low; high = says.high; versioned = spelled };
   drops = λ ls y spelled.
       let is : line ≡ count_line y.0 = same_line _ _ _ _ spelled.first in
       let same : y.0 ≡ n = same_Some y.0 n (sym (count_in-line y.0 spelled.low spelled.high) ∙ ap count_in (sym is) ∙ read) in
       let rest : ls ≡ spelled.rest = same_rest _ _ _ _ spelled.first in
-      (y.1, subst (λ xs. SpellsFound names xs y.1) (sym rest) spelled.found, ap (λ m. (m, y.1)) same);
+      ((y.1, y.2), subst (λ xs. SpellsVersioned names names xs (y.1, y.2)) (sym rest) spelled.versioned, ap (λ m. (m, y.1, y.2)) same);
 }
 
-pub counted_spelled : (names : List (List ℕ)) → SpellsCounted names (count_line 1 ∷ stop_line 0 0 0 0 ∷ codes "end" ∷ []) (1, nothing)
-counted_spelled names = record { rest = stop_line 0 0 0 0 ∷ codes "end" ∷ []; first = refl; low = omega arith; high = omega arith; found = nothing_spelled names }
+pub counted_spelled : (names : List (List ℕ)) → SpellsCounted names (count_line 1 ∷ stop_line 0 0 0 0 ∷ codes "end" ∷ []) (1, unversioned names, nothing)
+counted_spelled names = record {
+  rest = stop_line 0 0 0 0 ∷ codes "end" ∷ [];
+  first = refl;
+  low = omega arith;
+  high = omega arith;
+  versioned = versioned_spelled names;
+}
 
 pub counted_some : (names : List (List ℕ)) → Leads (SpellsCounted names) []
-counted_some names = (count_line 1 ∷ stop_line 0 0 0 0 ∷ codes "end" ∷ [], ((1, nothing), counted_spelled names))
+counted_some names = (count_line 1 ∷ stop_line 0 0 0 0 ∷ codes "end" ∷ [], ((1, unversioned names, nothing), counted_spelled names))
 
-pub counted_end : (names : List (List ℕ)) (x : ℕ × Found) → SpellsCounted names [] x → ⊥
+pub counted_end : (names : List (List ℕ)) (x : ℕ × List ℕ × Found) → SpellsCounted names [] x → ⊥
 counted_end names x spelled = let e = spelled.first in cc
 
-pub counted_here : (names : List (List ℕ)) (line : List ℕ) → count_in line ≡ None → (rest : List (List ℕ)) (x : ℕ × Found)
+pub counted_here : (names : List (List ℕ)) (line : List ℕ) → count_in line ≡ None → (rest : List (List ℕ)) (x : ℕ × List ℕ × Found)
     → SpellsCounted names (line ∷ rest) x → ⊥
 counted_here names line none rest x spelled =
     let is : line ≡ count_line x.0 = same_line _ _ _ _ spelled.first in
@@ -229,50 +254,52 @@ counted_here names line none rest x spelled =
 -- the query
 
 pub steps_query : (line : List ℕ) (query : Query) → FindsQuery line (Some query)
-    → Steps (SpellsCounted query.names) SpellsQueried line (λ counted. (query, counted.0, counted.1))
+    → Steps (SpellsCounted query.names) SpellsQueried line (λ counted. (query, counted.0, counted.1, counted.2))
 steps_query line query found = record {
   adds = λ ls x spelled. record { rest = ls; first = ap (λ t. t ∷ ls) found.0; query = found.1; counted = spelled };
   drops = λ ls y spelled.
       let same : y.0 ≡ query = found.2 y.0 (same_line _ _ _ _ spelled.first) spelled.query in
       let rest : ls ≡ spelled.rest = same_rest _ _ _ _ spelled.first in (
-        (y.1, y.2),
-        subst (λ (q : Query). SpellsCounted q.names ls (y.1, y.2)) same (subst (λ xs. SpellsCounted y.0.names xs (y.1, y.2)) (sym rest) spelled.counted),
-        ap (λ q. (q, y.1, y.2)) same,
+        (y.1, y.2, y.3),
+        subst (λ (q : Query). SpellsCounted q.names ls (y.1, y.2, y.3)) same (subst (λ xs. SpellsCounted y.0.names xs (y.1, y.2, y.3)) (sym rest) spelled.counted),
+        ap (λ q. (q, y.1, y.2, y.3)) same,
       );
 }
 
-pub queried_end : (x : Query × ℕ × Found) → SpellsQueried [] x → ⊥
+pub queried_end : (x : Query × ℕ × List ℕ × Found) → SpellsQueried [] x → ⊥
 queried_end x spelled = let e = spelled.first in cc
 
-pub queried_here : (line : List ℕ) → FindsQuery line None → (rest : List (List ℕ)) (x : Query × ℕ × Found) → SpellsQueried (line ∷ rest) x → ⊥
+pub queried_here : (line : List ℕ) → FindsQuery line None → (rest : List (List ℕ)) (x : Query × ℕ × List ℕ × Found) → SpellsQueried (line ∷ rest) x → ⊥
 queried_here line none rest x spelled = none x.0 (same_line _ _ _ _ spelled.first) spelled.query
 
 -- the number of the query's line
 
 -- a certificate of its parts
-abbrev pub whole : ℕ → Query × ℕ × Found → Certificate
+abbrev pub whole : ℕ → Query × ℕ × List ℕ × Found → Certificate
 whole n queried = record {
   line = n;
   query = queried.0;
   count = queried.1;
-  items = queried.2.items;
-  depth = queried.2.figures.depth;
-  sorted = queried.2.figures.sorted;
-  random = queried.2.figures.random;
-  cost = queried.2.figures.cost;
-  accesses = queried.2.accesses;
+  versions = queried.2;
+  items = queried.3.items;
+  depth = queried.3.figures.depth;
+  sorted = queried.3.figures.sorted;
+  random = queried.3.figures.random;
+  cost = queried.3.figures.cost;
+  accesses = queried.3.accesses;
 }
 
 number_drops : (line : List ℕ) (n : ℕ) (ls : List (List ℕ)) (c : Certificate) → number_in line ≡ Some n → Spells (line ∷ ls) c
-    → (x : Query × ℕ × Found) × SpellsQueried ls x × (c ≡ whole n x)
+    → (x : Query × ℕ × List ℕ × Found) × SpellsQueried ls x × (c ≡ whole n x)
 number_drops line n ls c read spelled =
     let is : line ≡ number_line c.line = same_line _ _ _ _ spelled.spelled in
     let fits = spelled.certificate in
     let same : c.line ≡ n = same_Some c.line n (sym (number_in-line c.line fits.line_from fits.line_to) ∙ ap number_in (sym is) ∙ read) in
     let figures : Figures = record { depth = c.depth; sorted = c.sorted; random = c.random; cost = c.cost } in
     let found : Found = record { items = c.items; figures = figures; accesses = c.accesses } in
-    let lines : List (List ℕ) = map answer_line c.items ++ stop_line c.depth c.sorted c.random c.cost ∷ access_lines c.query.names c.accesses in (
-      (c.query, c.count, found),
+    let answer : List (List ℕ) = map answer_line c.items ++ stop_line c.depth c.sorted c.random c.cost ∷ access_lines c.query.names c.accesses in
+    let lines : List (List ℕ) = version_lines c.query.names c.versions ++ answer in (
+      (c.query, c.count, c.versions, found),
       record {
         rest = count_line c.count ∷ lines;
         first = same_rest _ _ _ _ spelled.spelled;
@@ -282,15 +309,21 @@ number_drops line n ls c read spelled =
           first = refl;
           low = fits.count_from;
           high = fits.count_to;
-          found = record {
-            items = fits.items;
-            figures = record { depth = fits.depth; sorted = fits.sorted; random = fits.random; cost = fits.cost };
-            accesses = fits.accesses;
-            spelled = refl;
+          versioned = record {
+            rest = answer;
+            first = refl;
+            sized = fits.versioned;
+            small = fits.versions;
+            found = record {
+              items = fits.items;
+              figures = record { depth = fits.depth; sorted = fits.sorted; random = fits.random; cost = fits.cost };
+              accesses = fits.accesses;
+              spelled = refl;
+            };
           };
         };
       },
-      ap (λ m. whole m (c.query, c.count, found)) same,
+      ap (λ m. whole m (c.query, c.count, c.versions, found)) same,
     )
 
 pub steps_number : (line : List ℕ) (n : ℕ) → number_in line ≡ Some n → Steps SpellsQueried Spells line (whole n)
@@ -298,7 +331,8 @@ steps_number line n read = record {
   adds = λ ls x spelled.
       let says = number_in-some line n read in
       let counted = spelled.counted in
-      let found = counted.found in
+      let versioned = counted.versioned in
+      let found = versioned.found in
       record {
         certificate = record {
           line_from = says.low;
@@ -306,6 +340,8 @@ steps_number line n read = record {
           query = spelled.query;
           count_from = counted.low;
           count_to = counted.high;
+          versioned = versioned.sized;
+          versions = versioned.small;
           items = found.items;
           depth = found.figures.depth;
           sorted = found.figures.sorted;
@@ -313,7 +349,11 @@ steps_number line n read = record {
           cost = found.figures.cost;
           accesses = found.accesses;
         };
-        spelled = ap (λ t. t ∷ ls) says.line_is ∙ ap (λ t. number_line n ∷ t) (spelled.first ∙ ap (λ t. query_line x.0 ∷ t) (counted.first ∙ ap (λ t. count_line x.1 ∷ t) found.spelled));
+        spelled = ap (λ t. t ∷ ls) says.line_is
+            ∙ ap (λ t. number_line n ∷ t) (spelled.first
+            ∙ ap (λ t. query_line x.0 ∷ t) (counted.first
+            ∙ ap (λ t. count_line x.1 ∷ t) (versioned.first
+            ∙ ap (λ t. version_lines x.0.names x.2 ++ t) found.spelled)));
       };
   drops = λ ls y spelled. number_drops line n ls y read spelled;
 }

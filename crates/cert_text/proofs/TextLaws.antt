@@ -1,5 +1,5 @@
 -- The lines of a certificate are read again as they were written: they have no control bytes.
-use Rattle.std.proofs.Common.{◌≡◌, ◌≢◌, ℕ, ◌<◌, ◌≤◌, ◌^◌, true, false, ◌&&◌, List, [], ◌∷◌, ◌++◌, length, map, codes, nat_le, nat_lt, Option, Some, None, IfSome, option_map, refl, sym, subst, ◌∙◌, ⊎_elim, arith, le-leb}
+use Rattle.std.proofs.Common.{◌≡◌, ◌≢◌, ℕ, zero, suc, ◌<◌, ◌≤◌, ◌^◌, true, false, ◌&&◌, List, [], ◌∷◌, ◌++◌, length, map, codes, nat_le, nat_lt, Option, Some, None, IfSome, option_map, refl, sym, ap, subst, ◌∙◌, ⊎_elim, arith, le-leb}
 use Rattle.std.specs.List.{All, list_all}
 use Rattle.std.specs.Char.{is_ascii_alphabetic}
 use Rattle.std.specs.Fmt.{decimal}
@@ -25,7 +25,8 @@ use Rattle.query_text.specs.declared.query.Query.{Query}
 use Rattle.query_text.specs.declared.algorithm.Algorithm.{Algorithm}
 use Rattle.query_text.specs.declared.algorithm.Algorithm.TheVariants.{Ta, Nra, Ca}
 use Rattle.cert_text.specs.declared.certificate.Certificate.{Certificate}
-use Rattle.cert_text.specs.Certificate.{number_line, query_line, count_line, answer_line, stop_line, access_line, access_lines, certificate_lines, IsItem, IsAccess, IsCertificate}
+use Rattle.cert_text.specs.Certificate.{number_line, query_line, count_line, version_lines, answer_line, stop_line, access_line, access_lines, certificate_lines, IsItem, IsAccess, IsCertificate}
+use Rattle.cert_text.proofs.LineLaws.{version_text, version_line_some}
 
 -- no byte of the text is a control byte
 abbrev pub IsClean : List ℕ → Type 0
@@ -160,6 +161,23 @@ printed_clean query lawful =
 
 -- the lines of a certificate
 
+version_clean : (name : List ℕ) (version : ℕ) → IsName name → 1 ≤ version → version < 2 ^ 64 → IsClean (version_text name version)
+version_clean name version is some small =
+    clean-append name (32 ∷ decimal version) (name_clean name is) (clean_decimal version small)
+
+versions_plain : (names : List (List ℕ)) (versions : List ℕ) → All IsName names → All (λ version. version < 2 ^ 64) versions
+    → All IsPlainLine (version_lines names versions)
+versions_plain [] versions are small = All-nil IsPlainLine
+versions_plain (name ∷ names) [] are small = All-nil IsPlainLine
+versions_plain (name ∷ names) (zero ∷ versions) are small =
+    versions_plain names versions (All-tail IsName name names are) (All-tail (λ version. version < 2 ^ 64) 0 versions small)
+versions_plain (name ∷ names) (suc version ∷ versions) are small =
+    subst (All IsPlainLine) (ap (λ t. t ++ version_lines names versions) (sym (version_line_some name (suc version) (omega arith))))
+    (All-cons IsPlainLine (version_text name (suc version)) (version_lines names versions)
+    (plain_from_clean (version_text name (suc version))
+    (version_clean name (suc version) (All-head IsName name names are) (omega arith) (All-head (λ version. version < 2 ^ 64) (suc version) versions small)))
+    (versions_plain names versions (All-tail IsName name names are) (All-tail (λ version. version < 2 ^ 64) (suc version) versions small)))
+
 answer_clean : (item : Item) → IsItem item → IsClean (answer_line item)
 answer_clean item is =
     clean-append (decimal item.object) (32 ∷ (decimal item.low ++ 32 ∷ decimal item.high)) (clean_decimal item.object (omega (arith, is.object)))
@@ -196,9 +214,11 @@ lines_plain c is =
     (All-map IsPlainLine answer_line c.items
     (All-weaker IsItem (λ i. IsPlainLine (answer_line i)) (λ i fits. plain_from_clean (answer_line i) (answer_clean i fits)) c.items is.items))
     (All-cons IsPlainLine _ (access_lines names c.accesses) (plain_from_clean _ (stop_clean c.depth c.sorted c.random c.cost is.depth is.sorted is.random is.cost)) ends) in
-    All-cons IsPlainLine (number_line c.line) (query_line c.query ∷ count_line c.count ∷ found) (plain_from_clean (number_line c.line) (clean_decimal c.line (omega (arith, is.line_to))))
-    (All-cons IsPlainLine (query_line c.query) (count_line c.count ∷ found) (plain_from_clean (query_line c.query) (printed_clean c.query spells.lawful))
-    (All-cons IsPlainLine (count_line c.count) found (plain_from_clean (count_line c.count) (clean_decimal c.count (omega (arith, is.count_to)))) rest))
+    let versioned = version_lines names c.versions ++ found in
+    All-cons IsPlainLine (number_line c.line) (query_line c.query ∷ count_line c.count ∷ versioned) (plain_from_clean (number_line c.line) (clean_decimal c.line (omega (arith, is.line_to))))
+    (All-cons IsPlainLine (query_line c.query) (count_line c.count ∷ versioned) (plain_from_clean (query_line c.query) (printed_clean c.query spells.lawful))
+    (All-cons IsPlainLine (count_line c.count) versioned (plain_from_clean (count_line c.count) (clean_decimal c.count (omega (arith, is.count_to))))
+    (All-append IsPlainLine (version_lines names c.versions) found (versions_plain names c.versions spells.lawful.names is.versions) rest)))
 
 -- a certificate's text is read as its lines
 pub lines-certificate : (c : Certificate) → IsCertificate c → lines (unlines (certificate_lines c)) ≡ certificate_lines c

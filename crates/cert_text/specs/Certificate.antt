@@ -1,6 +1,6 @@
 -- The lines of a certificate, and which certificates there are.
-use Rattle.std.specs.Prelude.{◌≤◌, ◌<◌, ◌^◌, ℕ, List, [], ◌∷◌, ◌++◌, length, map, codes, All, Ok}
-use Rattle.std.specs.List.{join_with_byte}
+use Rattle.std.specs.Prelude.{◌≡◌, ◌==◌, ◌≤◌, ◌<◌, ◌^◌, ℕ, List, [], ◌∷◌, ◌++◌, length, map, codes, All, Ok, if◌then◌else◌}
+use Rattle.std.specs.List.{join_with_byte, flat_map, zip}
 use Rattle.std.specs.Fmt.{decimal}
 use Rattle.ranked_list.specs.declared.item.Item.{Item}
 use Rattle.topk_theory.specs.declared.access.Access.{Access}
@@ -26,6 +26,14 @@ query_line query = spaced (codes "query" ∷ printed query ∷ [])
 abbrev pub count_line : ℕ → List ℕ
 count_line count = spaced (codes "count" ∷ decimal count ∷ [])
 
+-- the line of a list's version, by the list's name; version 0 has no line
+abbrev pub version_line : List ℕ → ℕ → List (List ℕ)
+version_line name version = if version == 0 then [] else spaced (codes "version" ∷ name ∷ decimal version ∷ []) ∷ []
+
+-- the lines of the versions of lists with these names, in their order
+abbrev pub version_lines : List (List ℕ) → List ℕ → List (List ℕ)
+version_lines names versions = flat_map (λ list. version_line list.0 list.1) (zip names versions)
+
 -- the line of an object of the answer, with both bounds
 abbrev pub answer_line : Item → List ℕ
 answer_line item = spaced (codes "answer" ∷ decimal item.object ∷ decimal item.low ∷ decimal item.high ∷ [])
@@ -48,7 +56,8 @@ access_lines names accesses = map (access_line names) accesses ++ codes "end" �
 abbrev pub certificate_lines : Certificate → List (List ℕ)
 certificate_lines c =
     number_line c.line ∷ query_line c.query ∷ count_line c.count
-    ∷ (map answer_line c.items ++ stop_line c.depth c.sorted c.random c.cost ∷ access_lines c.query.names c.accesses)
+    ∷ (version_lines c.query.names c.versions
+    ++ (map answer_line c.items ++ stop_line c.depth c.sorted c.random c.cost ∷ access_lines c.query.names c.accesses))
 
 -- an object has 32 bits and its bounds have 64
 pub record IsItem (item : Item) : Type 0 where
@@ -62,13 +71,16 @@ pub record IsAccess (lists : ℕ) (access : Access) : Type 0 where
   pub object : object_of access < 2 ^ 32
   pub grade : grade_of access < 2 ^ 32
 
--- what a certificate may say: the numbers are within their ranges, a query line is read as the query, and the accesses are of its lists
+-- what a certificate may say: the numbers are within their ranges, a query line is read as the query, each of its lists has a version, and the accesses
+-- are of its lists
 pub record IsCertificate (c : Certificate) : Type 0 where
   pub line_from : 1 ≤ c.line
   pub line_to : c.line < 2 ^ 63
   pub query : Reads (printed c.query) (Ok c.query)
   pub count_from : 1 ≤ c.count
   pub count_to : c.count ≤ MAX_OBJECTS
+  pub versioned : length c.versions ≡ length c.query.names
+  pub versions : All (λ version. version < 2 ^ 64) c.versions
   pub items : All IsItem c.items
   pub depth : c.depth < 2 ^ 64
   pub sorted : c.sorted < 2 ^ 64

@@ -1,5 +1,5 @@
 -- What reading lines finds out, for any way to spell values by lines. What it means for certificates is said in `Reading`.
-use Rattle.std.specs.Prelude.{◌≡◌, ◌≢◌, ◌<◌, ◌≤◌, ◌+◌, ◌^◌, ℕ, suc, List, [], ◌∷◌, ◌++◌, length, map, take, All, AllPairs}
+use Rattle.std.specs.Prelude.{◌≡◌, ◌≢◌, ◌⊎◌, ◌<◌, ◌≤◌, ◌+◌, ◌^◌, ℕ, suc, List, [], ◌∷◌, ◌++◌, length, map, take, All, AllPairs}
 use Rattle.std.specs.declared.result.Result.{Result}
 use Rattle.std.specs.declared.result.Result.TheVariants.{Ok, Err}
 use Rattle.std.specs.declared.option.Option.{Option}
@@ -9,12 +9,16 @@ use Rattle.topk_theory.specs.declared.access.Access.{Access}
 use Rattle.query_text.specs.declared.query.Query.{Query}
 use Rattle.query_text.specs.Query.{printed}
 use Rattle.query_text.specs.Reading.{Reads}
+use Rattle.line_text.specs.Lines.{lines}
 use Rattle.line_text.specs.Names.{IsName}
 use Rattle.cert_text.specs.declared.fault.CertFault.{CertFault}
 use Rattle.cert_text.specs.declared.fault.CertFault.TheVariants.{BadLine, Memory}
 use Rattle.cert_text.specs.declared.parts.Figures.{Figures}
+use Rattle.cert_text.specs.declared.reader.Counted.{Counted}
 use Rattle.cert_text.specs.declared.reader.Results.{Results}
-use Rattle.cert_text.specs.Certificate.{query_line, count_line, answer_line, stop_line, access_lines, IsItem, IsAccess}
+use Rattle.cert_text.specs.declared.reader.Stated.{Stated}
+use Rattle.cert_text.specs.Certificate.{query_line, count_line, version_lines, answer_line, stop_line, access_lines, IsItem, IsAccess}
+use Rattle.cert_text.specs.Parts.{version_in}
 use Rattle.limits.specs.declared.TheConstants.{MAX_LISTS, MAX_OBJECTS}
 
 -- some value is spelled by the lines
@@ -81,20 +85,46 @@ pub record SpellsFound (names : List (List ℕ)) (ls : List (List ℕ)) (found :
   pub spelled : ls ≡ map answer_line found.items
       ++ stop_line found.figures.depth found.figures.sorted found.figures.random found.figures.cost ∷ access_lines names found.accesses
 
--- the lines spell this answer under the number of objects of each list
-pub record SpellsCounted (names : List (List ℕ)) (ls : List (List ℕ)) (counted : ℕ × Found) : Type 0 where
+-- the lines spell versions of the lists with these names, and under them this answer, over all lists
+pub record SpellsVersioned (all names : List (List ℕ)) (ls : List (List ℕ)) (versioned : List ℕ × Found) : Type 0 where
+  pub rest : List (List ℕ)
+  pub first : ls ≡ version_lines names versioned.0 ++ rest
+  pub sized : length versioned.0 ≡ length names
+  pub small : All (λ version. version < 2 ^ 64) versioned.0
+  pub found : SpellsFound all rest versioned.1
+
+-- the lines spell this answer and the versions of its lists under the number of objects of each list
+pub record SpellsCounted (names : List (List ℕ)) (ls : List (List ℕ)) (counted : ℕ × List ℕ × Found) : Type 0 where
   pub rest : List (List ℕ)
   pub first : ls ≡ count_line counted.0 ∷ rest
   pub low : 1 ≤ counted.0
   pub high : counted.0 ≤ MAX_OBJECTS
-  pub found : SpellsFound names rest counted.1
+  pub versioned : SpellsVersioned names names rest (counted.1, counted.2)
 
 -- the lines spell this answer under its query
-pub record SpellsQueried (ls : List (List ℕ)) (queried : Query × ℕ × Found) : Type 0 where
+pub record SpellsQueried (ls : List (List ℕ)) (queried : Query × ℕ × List ℕ × Found) : Type 0 where
   pub rest : List (List ℕ)
   pub first : ls ≡ query_line queried.0 ∷ rest
   pub query : Reads (printed queried.0) (Ok queried.0)
-  pub counted : SpellsCounted queried.0.names rest (queried.1, queried.2)
+  pub counted : SpellsCounted queried.0.names rest (queried.1, queried.2, queried.3)
+
+-- what was read under the line of a query
+abbrev pub counted_of : Counted → ℕ × List ℕ × Found
+counted_of counted = (counted.count, counted.versions.items, found_of counted.results)
+
+-- what was read, with its query
+abbrev pub queried_of : Query × Counted → Query × ℕ × List ℕ × Found
+queried_of queried = (queried.0, queried.1.count, queried.1.versions.items, found_of queried.1.results)
+
+-- the first of the lines gives no version of the list with this name
+abbrev pub GivesNone : List ℕ → List (List ℕ) → Type 0
+GivesNone name ls = (line : List ℕ) (rest : List (List ℕ)) → ls ≡ line ∷ rest → version_in name line ≡ None
+
+-- the first of the lines gives the version of the list with this name, and the others are left; or it gives none, and all are left with version 0
+abbrev pub States : List ℕ → ℕ → List (List ℕ) → Stated → Type 0
+States name number ls stated =
+    ((line : List ℕ) × (ls ≡ line ∷ lines stated.rest.now) × (version_in name line ≡ Some stated.version) × (stated.next ≡ number + 1))
+    ⊎ (GivesNone name ls × (lines stated.rest.now ≡ ls) × (stated.version ≡ 0) × (stated.next ≡ number))
 
 -- a line is the line of this query alone, or of none
 abbrev pub FindsQuery : List ℕ → Option Query → Type 0

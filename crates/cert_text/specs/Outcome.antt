@@ -22,12 +22,13 @@ use Rattle.limits.specs.declared.TheConstants.{MAX_NUMBER}
 abbrev pub names_of : Option Query → List (List ℕ)
 names_of query = unwrap_or (option_map (λ q. q.names) query) []
 
--- what is certified of an answer: its items, its accesses, and the figures of these
-abbrev pub certificate_of : ℕ → Query → ℕ → Answer → Certificate
-certificate_of line query count answer = record {
+-- what is certified of an answer over lists of these versions: its items, its accesses, and the figures of these
+abbrev pub certificate_of : ℕ → Query → ℕ → List ℕ → Answer → Certificate
+certificate_of line query count versions answer = record {
   line = line;
   query = query;
   count = count;
+  versions = versions;
   items = answer.items;
   depth = depth answer.transcript.lists answer.transcript.accesses;
   sorted = sorted_count answer.transcript.accesses;
@@ -51,14 +52,14 @@ abbrev pub refused_line : ℕ → List (List ℕ) → Refusal → List ℕ
 refused_line line names refusal = refused_words line (refusal_row refusal).0 (map (field_word names) (refusal_row refusal).1)
 
 -- the lines of an outcome: a certificate for an answer, one line for a refusal
-abbrev pub outcome_lines : ℕ → Option Query → ℕ → Outcome → List (List ℕ)
-outcome_lines line None count (Answered answer) = []
-outcome_lines line (Some query) count (Answered answer) = certificate_lines (certificate_of line query count answer)
-outcome_lines line query count (Refused refusal) = refused_line line (names_of query) refusal ∷ []
+abbrev pub outcome_lines : ℕ → Option Query → ℕ → List ℕ → Outcome → List (List ℕ)
+outcome_lines line None count versions (Answered answer) = []
+outcome_lines line (Some query) count versions (Answered answer) = certificate_lines (certificate_of line query count versions answer)
+outcome_lines line query count versions (Refused refusal) = refused_line line (names_of query) refusal ∷ []
 
--- the text of the outcome of the query line with this number, over lists of `count` objects
-unfoldable pub outcome_text : ℕ → Option Query → ℕ → Outcome → List ℕ
-outcome_text line query count outcome = unlines (outcome_lines line query count outcome)
+-- the text of the outcome of the query line with this number, over lists of `count` objects and of these versions
+unfoldable pub outcome_text : ℕ → Option Query → ℕ → List ℕ → Outcome → List ℕ
+outcome_text line query count versions outcome = unlines (outcome_lines line query count versions outcome)
 
 -- the cost of the accesses is one that 64 bits hold
 pub record HasCost (query : Query) (log : Log) : Type 0 where
@@ -66,20 +67,23 @@ pub record HasCost (query : Query) (log : Log) : Type 0 where
   pub random : (costs_in_force query).random ≤ MAX_NUMBER
   pub accesses : length log.accesses < 2 ^ 40
 
--- an answer comes with its query, and the lists that a refusal names are lists of its query
-abbrev pub IsOutcome : Option Query → Outcome → Type 0
-IsOutcome None (Answered answer) = ⊥
-IsOutcome (Some query) (Answered answer) = HasCost query answer.transcript
-IsOutcome query (Refused refusal) = All (λ list. list < length (names_of query)) (refused_lists refusal)
+-- an answer comes with its query and a version for each list of that, and the lists that a refusal names are lists of its query
+abbrev pub IsOutcome : Option Query → List ℕ → Outcome → Type 0
+IsOutcome None versions (Answered answer) = ⊥
+IsOutcome (Some query) versions (Answered answer) = (length versions ≡ length query.names) × HasCost query answer.transcript
+IsOutcome query versions (Refused refusal) = All (λ list. list < length (names_of query)) (refused_lists refusal)
 
--- an answer of a query line as it is certified: a lawful query over the transcript's lists, with the transcript's count, and numbers that their types hold
-pub record IsCertified (line : ℕ) (query : Query) (count : ℕ) (answer : Answer) : Type 0 where
+-- an answer of a query line as it is certified: a lawful query over the transcript's lists, with the transcript's count, a version for each list, and
+-- numbers that their types hold
+pub record IsCertified (line : ℕ) (query : Query) (count : ℕ) (versions : List ℕ) (answer : Answer) : Type 0 where
   pub line_from : 1 ≤ line
   pub line_to : line < 2 ^ 63
   pub lawful : IsLawful query
   pub expr : IsExpr query.expr
   pub lists : answer.transcript.lists ≡ list_count query.expr
   pub counted : answer.transcript.count ≡ count
+  pub versioned : length versions ≡ length query.names
+  pub small : All (λ version. version < 2 ^ 64) versions
   pub cost : HasCost query answer.transcript
   pub limits : IsWithinLimits answer.transcript.lists answer.transcript.count
   pub items : All IsItem answer.items

@@ -44,6 +44,14 @@ count_in line = do
   text ← rest_after (codes "count ") line
   number_within 1 MAX_OBJECTS text
 
+-- the version that a line gives the list with this name
+unfoldable pub version_in : List ℕ → List ℕ → Option ℕ
+version_in name line = do
+  text ← rest_after (codes "version ") line
+  text ← rest_after name text
+  text ← rest_after (codes " ") text
+  number_within 1 top_64 text
+
 unfoldable pub item_in : List ℕ → Option Item
 item_in line = do
   text ← rest_after (codes "answer ") line

@@ -1,6 +1,7 @@
 //! Certificates.
 
 use super::accesses::Accesses;
+use super::versions::Versions;
 use access_log::Items;
 use query_text::Query;
 
@@ -13,6 +14,8 @@ pub struct Certificate {
     pub query: Query,
     /// How many objects each list has, 1 to 200,000.
     pub count: u32,
+    /// The version of each of the query's lists, in its order: 0 where the text gives none.
+    pub versions: Versions,
     /// The objects of the answer with their bounds, in its order.
     pub items: Items,
     /// How many rows the deepest list was read.
@@ -32,11 +35,13 @@ impl Certificate {
     pub fn let_go(self) {
         let Certificate {
             query,
+            versions,
             items,
             accesses,
             ..
         } = self;
         query.let_go();
+        drop(versions);
         drop(items);
         drop(accesses);
     }

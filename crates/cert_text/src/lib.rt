@@ -4,6 +4,7 @@
 //! certificate LINE
 //! query QUERY
 //! count COUNT
+//! version NAME VERSION          one line for each list whose version isn't 0, in the query's order
 //! answer OBJECT LOW HIGH        one line for each object of the answer, in its order
 //! stop depth DEPTH sorted SORTED random RANDOM cost COST
 //! s NAME OBJECT GRADE           a sorted access
@@ -23,6 +24,7 @@ mod parts;
 mod reader;
 mod reading;
 mod refusal;
+mod versions;
 mod words;
 mod writing;
 
@@ -32,4 +34,5 @@ pub use fault::CertFault;
 pub use outcome::{Outcome, put_outcome, write_outcome};
 pub use reading::read_certificate;
 pub use refusal::Refusal;
+pub use versions::Versions;
 pub use writing::depth_of;

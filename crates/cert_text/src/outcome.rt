@@ -12,7 +12,7 @@ use super::refusal::{Refusal, put_refusal};
 use super::writing::put_certificate;
 use machine_base::Answer;
 use query_text::Query;
-use tk_io::{Failed, Pieces, Sink};
+use tk_io::{Failed, Put, Sink, Writer};
 
 /// What became of a query line.
 #[derive(Drop)]
@@ -23,53 +23,54 @@ pub enum Outcome {
     Refused(Refusal),
 }
 
-/// Puts the text of the outcome of the query line with this number, over lists of `count` objects,
-/// behind the bytes that wait, so that the outcomes of several lines go out in whole pieces. Takes no
-/// memory.
+/// Puts the text of the outcome of the query line with this number, over lists of `count` objects and
+/// of these versions, behind the bytes that wait, so that the outcomes of several lines go out in
+/// whole pieces. Takes no memory.
 ///
 /// What an outcome comes with is said at `write_outcome`.
-pub fn put_outcome<K: Sink>(
-    out: &mut K,
-    pieces: &mut Pieces,
+pub fn put_outcome<P: Put>(
+    out: &mut P,
     line: u64,
     query: Option<&Query>,
     count: u32,
+    versions: &[u64],
     outcome: &Outcome,
 )
-    requires { IsOutcome (option_copied query) outcome.now }
-    ensures { Puts (K.held out.old) (K.held out.new) (K.faults out.old) (K.faults out.new) pieces.old pieces.new
-        (outcome_text line (option_copied query.entry) count outcome.now) }
+    requires { IsOutcome (option_copied query) versions.now outcome.now }
+    ensures { Puts (P.at out.old) (P.at out.new)
+        (outcome_text line (option_copied query.entry) count versions.now outcome.now) }
 {
     match outcome {
         Outcome::Answered(answer) => match query {
-            Some(query) => put_certificate(out, pieces, line, query, count, answer),
+            Some(query) => put_certificate(out, line, query, count, versions, answer),
             None => unreachable!(),
         },
-        Outcome::Refused(refusal) => put_refusal(out, pieces, line, query, *refusal),
+        Outcome::Refused(refusal) => put_refusal(out, line, query, *refusal),
     }
 }
 
-/// Writes the outcome of the query line with this number, over lists of `count` objects: the
-/// certificate of an answer, or the line of a refusal. It goes out in pieces of `tk_io::PIECE` bytes.
-/// After a failure a front of it was written. Takes no memory.
+/// Writes the outcome of the query line with this number, over lists of `count` objects and of these
+/// versions: the certificate of an answer, or the line of a refusal. It goes out in pieces of
+/// `tk_io::PIECE` bytes. After a failure a front of it was written. Takes no memory.
 ///
-/// An answer comes with its query; the query's costs are at most 1,000,000 each and the accesses
-/// fewer than 2^40. A refusal that names a list comes with the query that names it.
+/// An answer comes with its query, and `versions` has one member for each list of that, in its order;
+/// the query's costs are at most 1,000,000 each and the accesses fewer than 2^40. A refusal that names a list comes with the query that names it.
 pub fn write_outcome<K: Sink>(
     out: &mut K,
     line: u64,
     query: Option<&Query>,
     count: u32,
+    versions: &[u64],
     outcome: &Outcome,
 ) -> Result<(), Failed>
-    requires { IsOutcome (option_copied query) outcome.now }
+    requires { IsOutcome (option_copied query) versions.now outcome.now }
     ensures whole { OnOk result (Appends (K.held out.old) (K.held out.new)
-        (outcome_text line (option_copied query.entry) count outcome.now)) }
+        (outcome_text line (option_copied query.entry) count versions.now outcome.now)) }
     ensures front { OnErr result (TookFront (K.held out.old) (K.held out.new)
-        (outcome_text line (option_copied query.entry) count outcome.now)) }
+        (outcome_text line (option_copied query.entry) count versions.now outcome.now)) }
     ensures cause { HasCause (K.faults out.old) (K.faults out.new) result }
 {
-    let mut pieces = Pieces::make();
-    put_outcome(out, &mut pieces, line, query, count, outcome);
-    pieces.end(out)
+    let mut writer = Writer::make(out);
+    put_outcome(&mut writer, line, query, count, versions, outcome);
+    writer.end()
 }

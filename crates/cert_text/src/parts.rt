@@ -3,7 +3,7 @@
 ghost use Rattle.std.specs.Prelude.{◌≡◌, ◌≤◌, length, IfSome};
 ghost use Rattle.std.specs.Option.{option_map};
 ghost use Rattle.limits.specs.declared.TheConstants.{MAX_LISTS};
-ghost use Rattle.cert_text.specs.Parts.{number_within, number_before, number_in, count_in, item_in, figures_after, figures_in, list_named, row_in, access_in};
+ghost use Rattle.cert_text.specs.Parts.{number_within, number_before, number_in, count_in, version_in, item_in, figures_after, figures_in, list_named, row_in, access_in};
 
 use access_log::{Access, Item};
 use limits::MAX_OBJECTS;
@@ -58,6 +58,15 @@ pub(crate) fn count_of(line: &[u8]) -> Option<u32>
 {
     let count = number_within(rest_after(b"count ", line)?, 1, u64::from(MAX_OBJECTS))?;
     Some(count as u32)
+}
+
+/// The version of the list with this name, from a line that gives it.
+#[tactic(auto, unfolding(crate::specs::Parts::version_in))]
+pub(crate) fn version_of(name: &[u8], line: &[u8]) -> Option<u64>
+    ensures { result ≡ version_in name.now line.now }
+{
+    let named = rest_after(name, rest_after(b"version ", line)?)?;
+    number_within(rest_after(b" ", named)?, 1, u64::MAX)
 }
 
 /// The object of the answer that a line gives, with its bounds.

@@ -1,11 +1,11 @@
 //! The lines of a certificate, read one after another.
 
-ghost use Rattle.std.specs.Prelude.{◌≡◌, ◌↔◌, ◌+◌, ◌<◌, ◌^◌, length, codes, IsTrue, IfOk};
+ghost use Rattle.std.specs.Prelude.{◌≡◌, ◌↔◌, ◌+◌, ◌<◌, ◌≤◌, ◌^◌, length, codes, IsTrue, IfOk};
 ghost use Rattle.line_text.specs.Lines.{lines};
-ghost use Rattle.cert_text.specs.Judging.{AreNames, Finds, SpellsNone, FindsQuery, SpellsAccesses, SpellsFound, SpellsCounted, SpellsQueried, found_of};
+ghost use Rattle.cert_text.specs.Judging.{AreNames, Finds, SpellsNone, FindsQuery, SpellsAccesses, SpellsFound, SpellsVersioned, SpellsCounted, SpellsQueried, States, found_of, counted_of, queried_of};
 
 use super::fault::CertFault;
-use super::parts::{Figures, access_of, count_of, figures_of, item_of};
+use super::parts::{Figures, access_of, count_of, figures_of, item_of, version_of};
 use access_log::{Access, Item};
 use line_text::{first_line, rest_after};
 use query_text::{Memory, Names, Query, QueryFault, read};
@@ -17,6 +17,22 @@ pub(crate) struct Results {
     pub(crate) items: Vec<Item>,
     pub(crate) figures: Figures,
     pub(crate) accesses: Vec<Access>,
+}
+
+/// What a certificate says under its query: how many objects each list has, the versions of the lists, and the answer.
+#[derive(Drop)]
+pub(crate) struct Counted {
+    pub(crate) count: u32,
+    pub(crate) versions: Vec<u64>,
+    pub(crate) results: Results,
+}
+
+/// What the first of some lines says of a list: its version, and which lines are left, by the number of the next one and their text.
+#[derive(Clone, Copy)]
+pub(crate) struct Stated<'t> {
+    version: u64,
+    next: u64,
+    rest: &'t [u8],
 }
 
 /// The accesses, if no text is left after the line that ends a certificate.
@@ -99,17 +115,62 @@ fn read_found(alloc: Global, names: &Names, first: u64, text: &[u8]) -> Result<R
     Err(CertFault::BadLine { line: number })
 }
 
-/// The answer that the lines from this number on spell, and how many objects each list has.
-fn read_counted(
+/// The version of the list with a name, where the line with this number gives it; else it is 0, and the line is left.
+fn read_version<'t>(name: &[u8], number: u64, text: &'t [u8]) -> Stated<'t>
+    requires { number + length text.now < 2 ^ 64 }
+    ensures states { States name.now number (lines text.now) result }
+    ensures shorter { result.next + length result.rest.now ≤ number + length text.now }
+{
+    let none = Stated {
+        version: 0,
+        next: number,
+        rest: text,
+    };
+    let Some((line, rest)) = first_line(text) else {
+        return none;
+    };
+    match version_of(name, line) {
+        Some(version) => Stated {
+            version,
+            next: number + 1,
+            rest,
+        },
+        None => none,
+    }
+}
+
+/// The answer that the lines from this number on spell, and the versions of its lists.
+fn read_versioned(
     alloc: Global,
     names: &Names,
     first: u64,
     text: &[u8],
-) -> Result<(u32, Results), CertFault>
+) -> Result<(Vec<u64>, Results), CertFault>
     requires names { AreNames names.now }
     requires numbers { first + length text.now < 2 ^ 64 }
-    ensures { Finds (SpellsCounted names.now) (λ counted. (counted.0, found_of counted.1))
+    ensures { Finds (SpellsVersioned names.now names.now) (λ versioned. (versioned.0.items, found_of versioned.1))
         first (lines text.now) result }
+{
+    let mut versions = Vec::new(alloc);
+    let mut number = first;
+    let mut rest = text;
+    for name in names.iter() {
+        let stated = read_version(name, number, rest);
+        let Ok(()) = versions.push(stated.version) else {
+            return Err(CertFault::Memory);
+        };
+        number = stated.next;
+        rest = stated.rest;
+    }
+    let results = read_found(alloc, names, number, rest)?;
+    Ok((versions, results))
+}
+
+/// The answer that the lines from this number on spell, the versions of its lists, and how many objects each list has.
+fn read_counted(alloc: Global, names: &Names, first: u64, text: &[u8]) -> Result<Counted, CertFault>
+    requires names { AreNames names.now }
+    requires numbers { first + length text.now < 2 ^ 64 }
+    ensures { Finds (SpellsCounted names.now) counted_of first (lines text.now) result }
 {
     let Some((line, rest)) = first_line(text) else {
         return Err(CertFault::BadLine { line: first });
@@ -117,7 +178,12 @@ fn read_counted(
     let Some(count) = count_of(line) else {
         return Err(CertFault::BadLine { line: first });
     };
-    Ok((count, read_found(alloc, names, first + 1, rest)?))
+    let (versions, results) = read_versioned(alloc, names, first + 1, rest)?;
+    Ok(Counted {
+        count,
+        versions,
+        results,
+    })
 }
 
 /// The query of a line, or None where it is the line of none.
@@ -139,10 +205,9 @@ pub(crate) fn read_queried(
     alloc: Global,
     first: u64,
     text: &[u8],
-) -> Result<(Query, u32, Results), CertFault>
+) -> Result<(Query, Counted), CertFault>
     requires { first + length text.now < 2 ^ 64 }
-    ensures { Finds SpellsQueried (λ queried. (queried.0, queried.1, found_of queried.2))
-        first (lines text.now) result }
+    ensures { Finds SpellsQueried queried_of first (lines text.now) result }
 {
     let Some((line, rest)) = first_line(text) else {
         return Err(CertFault::BadLine { line: first });
@@ -153,7 +218,7 @@ pub(crate) fn read_queried(
         Err(_) => return Err(CertFault::Memory),
     };
     match read_counted(alloc, &query.names, first + 1, rest) {
-        Ok((count, results)) => Ok((query, count, results)),
+        Ok(counted) => Ok((query, counted)),
         Err(fault) => {
             query.let_go();
             Err(fault)

@@ -1,6 +1,6 @@
 //! Certificates, read.
 
-ghost use Rattle.std.specs.Prelude.{◌≡◌, ℕ, Some, IfOk, IfErr};
+ghost use Rattle.std.specs.Prelude.{◌≡◌, ℕ, List, Some, IfOk, IfErr};
 ghost use Rattle.line_text.specs.Lines.{lines};
 ghost use Rattle.machine_base.specs.declared.answer.Answer.{Answer};
 ghost use Rattle.query_text.specs.declared.query.Query.{Query};
@@ -13,7 +13,8 @@ use super::accesses::Accesses;
 use super::certificate::Certificate;
 use super::fault::CertFault;
 use super::parts::number_of;
-use super::reader::{Results, read_queried};
+use super::reader::{Counted, Results, read_queried};
+use super::versions::Versions;
 use access_log::Items;
 use line_text::first_line;
 use std::alloc::Global;
@@ -28,7 +29,12 @@ fn read_lines(alloc: Global, bytes: &[u8]) -> Result<Certificate, CertFault>
     let Some(line) = number_of(text) else {
         return Err(CertFault::BadLine { line: 1 });
     };
-    let (query, count, results) = read_queried(alloc, 2, rest)?;
+    let (query, counted) = read_queried(alloc, 2, rest)?;
+    let Counted {
+        count,
+        versions,
+        results,
+    } = counted;
     let Results {
         items,
         figures,
@@ -36,6 +42,7 @@ fn read_lines(alloc: Global, bytes: &[u8]) -> Result<Certificate, CertFault>
     } = results;
     if items.len() > u32::MAX as usize {
         query.let_go();
+        drop(versions);
         drop(items);
         drop(accesses);
         return Err(CertFault::Memory);
@@ -44,6 +51,7 @@ fn read_lines(alloc: Global, bytes: &[u8]) -> Result<Certificate, CertFault>
         line,
         query,
         count,
+        versions: Versions::from_vec(versions),
         items: Items::from_vec(items),
         depth: figures.depth,
         sorted: figures.sorted,
@@ -55,7 +63,7 @@ fn read_lines(alloc: Global, bytes: &[u8]) -> Result<Certificate, CertFault>
 
 /// Reads a certificate. Its numbers are in their ranges and its names are the query's, but nothing
 /// else is checked of them: neither that the figures are those of the accesses nor that the answer
-/// is right.
+/// is right. A list without a line of its version has version 0.
 pub fn read_certificate(alloc: Global, bytes: &[u8]) -> Result<Certificate, CertFault>
     // What is read is spelled so.
     ensures found { IfOk result (Spells (lines bytes.now)) }
@@ -64,10 +72,10 @@ pub fn read_certificate(alloc: Global, bytes: &[u8]) -> Result<Certificate, Cert
     // Else the first line is named with which no certificate begins.
     ensures fault { IfErr result (IsCause (lines bytes.now)) }
     // What is written of an answer is read back.
-    ensures again { (line : ℕ) (query : Query) (count : ℕ) (answer : Answer)
-        → IsCertified line query count answer
-        → bytes.now ≡ outcome_text line (Some query) count (Answered answer)
-        → IsReadAs (certificate_of line query count answer) result }
+    ensures again { (line : ℕ) (query : Query) (count : ℕ) (versions : List ℕ) (answer : Answer)
+        → IsCertified line query count versions answer
+        → bytes.now ≡ outcome_text line (Some query) count versions (Answered answer)
+        → IsReadAs (certificate_of line query count versions answer) result }
 {
     read_lines(alloc, bytes)
 }

@@ -11,7 +11,7 @@ use super::fields::{FieldValue, fields_of};
 use super::words::{Word, put_further};
 use super::writing::name_of;
 use query_text::Query;
-use tk_io::{Pieces, Sink};
+use tk_io::Put;
 
 /// Why a query line isn't answered.
 #[derive(Clone, Copy)]
@@ -206,36 +206,25 @@ fn word_of<'t>(query: Option<&'t Query>, field: FieldValue) -> Word<'t>
 }
 
 /// Puts a space and a word for each field behind the bytes that wait.
-fn put_fields<K: Sink>(
-    out: &mut K,
-    pieces: &mut Pieces,
-    query: Option<&Query>,
-    fields: &[FieldValue],
-)
-    ensures { Puts (K.held out.old) (K.held out.new) (K.faults out.old) (K.faults out.new) pieces.old pieces.new
+fn put_fields<P: Put>(out: &mut P, query: Option<&Query>, fields: &[FieldValue])
+    ensures { Puts (P.at out.old) (P.at out.new)
         (further (map (field_word (names_of (option_copied query.entry))) (map shown_field fields.now))) }
 {
     for field in fields {
-        put_further(out, pieces, word_of(query, *field));
+        put_further(out, word_of(query, *field));
     }
 }
 
 /// Puts the line of a refusal of the query line with this number behind the bytes that wait:
 /// `refused`, the number, the refusal's name and its fields.
-pub(crate) fn put_refusal<K: Sink>(
-    out: &mut K,
-    pieces: &mut Pieces,
-    line: u64,
-    query: Option<&Query>,
-    refusal: Refusal,
-)
-    ensures { Puts (K.held out.old) (K.held out.new) (K.faults out.old) (K.faults out.new) pieces.old pieces.new
+pub(crate) fn put_refusal<P: Put>(out: &mut P, line: u64, query: Option<&Query>, refusal: Refusal)
+    ensures { Puts (P.at out.old) (P.at out.new)
         (refused_line line (names_of (option_copied query.entry)) refusal ++ 10 ∷ []) }
 {
-    pieces.put(out, b"refused");
-    put_further(out, pieces, Word::Number(line));
-    put_further(out, pieces, Word::Text(refusal_name(refusal)));
+    out.put(b"refused");
+    put_further(out, Word::Number(line));
+    put_further(out, Word::Text(refusal_name(refusal)));
     let fields = fields_of(refusal);
-    put_fields(out, pieces, query, fields.as_slice());
-    pieces.put(out, b"\n");
+    put_fields(out, query, fields.as_slice());
+    out.put(b"\n");
 }

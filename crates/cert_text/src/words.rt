@@ -5,7 +5,7 @@ ghost use Rattle.tk_io.specs.Pieces.{Puts};
 ghost use Rattle.cert_text.specs.Certificate.{spaced};
 ghost use Rattle.cert_text.specs.Writing.{word_text};
 
-use tk_io::{Pieces, Sink};
+use tk_io::Put;
 
 /// A word of a line.
 #[derive(Clone, Copy)]
@@ -17,24 +17,24 @@ pub(crate) enum Word<'t> {
 }
 
 /// Puts a space and a word behind the bytes that wait.
-pub(crate) fn put_further<K: Sink>(out: &mut K, pieces: &mut Pieces, word: Word)
-    ensures { Puts (K.held out.old) (K.held out.new) (K.faults out.old) (K.faults out.new) pieces.old pieces.new (32 ∷ word_text word.entry) }
+pub(crate) fn put_further<P: Put>(out: &mut P, word: Word)
+    ensures { Puts (P.at out.old) (P.at out.new) (32 ∷ word_text word.entry) }
 {
-    pieces.put(out, b" ");
+    out.put(b" ");
     match word {
-        Word::Text(text) => pieces.put(out, text),
-        Word::Number(number) => pieces.put_number(out, number),
+        Word::Text(text) => out.put(text),
+        Word::Number(number) => out.put_number(number),
     }
 }
 
 /// Puts the line of a first word and further words behind the bytes that wait.
-pub(crate) fn put_line<K: Sink>(out: &mut K, pieces: &mut Pieces, first: &[u8], words: &[Word])
-    ensures { Puts (K.held out.old) (K.held out.new) (K.faults out.old) (K.faults out.new) pieces.old pieces.new
+pub(crate) fn put_line<P: Put>(out: &mut P, first: &[u8], words: &[Word])
+    ensures { Puts (P.at out.old) (P.at out.new)
         (spaced (first.now ∷ map word_text words.now) ++ 10 ∷ []) }
 {
-    pieces.put(out, first);
+    out.put(first);
     for word in words {
-        put_further(out, pieces, *word);
+        put_further(out, *word);
     }
-    pieces.put(out, b"\n");
+    out.put(b"\n");
 }

@@ -1,25 +1,32 @@
 //! Certificates, written.
 
-ghost use Rattle.std.specs.Prelude.{◌≡◌, ◌++◌, ◌∷◌, [], map};
+ghost use Rattle.std.specs.Prelude.{◌≡◌, ◌++◌, ◌∷◌, [], length, map};
 ghost use Rattle.std.specs.Fmt.{decimal};
 ghost use Rattle.tk_io.specs.Pieces.{Puts};
 ghost use Rattle.line_text.specs.Lines.{unlines};
 ghost use Rattle.topk_theory.specs.Transcript.{depth};
 ghost use Rattle.query_text.specs.Query.{name_of};
-ghost use Rattle.cert_text.specs.Certificate.{spaced, answer_line, access_line, certificate_lines};
+ghost use Rattle.cert_text.specs.Certificate.{spaced, version_line, version_lines, answer_line, access_line, certificate_lines};
 ghost use Rattle.cert_text.specs.Outcome.{HasCost, certificate_of, figures_line};
 
 use super::words::{Word, put_line};
 use access_log::{Access, Items, Transcript};
 use machine_base::Answer;
 use query_text::{Names, Query, put_query};
-use tk_io::{Pieces, Sink};
+use tk_io::Put;
+
+/// The name of a list by its place among the names.
+fn name_at(names: &Names, list: u32) -> &[u8]
+    ensures { result.now ≡ name_of names.now list }
+{
+    names.get(list).unwrap_or(b"")
+}
 
 /// The name of a list by its number in the query.
 pub(crate) fn name_of(names: &Names, list: u8) -> &[u8]
     ensures { result.now ≡ name_of names.now list }
 {
-    names.get(u32::from(list)).unwrap_or(b"")
+    name_at(names, u32::from(list))
 }
 
 /// The greatest depth to which a transcript reads a list.
@@ -33,22 +40,46 @@ pub fn depth_of(transcript: &Transcript) -> u64
     u64::from(depth)
 }
 
+/// Puts the line of a list's version behind the bytes that wait, or nothing where the version is 0.
+fn put_version<P: Put>(out: &mut P, name: &[u8], version: u64)
+    ensures { Puts (P.at out.old) (P.at out.new)
+        (unlines (version_line name.now version)) }
+{
+    if version == 0 {
+        return;
+    }
+    put_line(out, b"version", &[Word::Text(name), Word::Number(version)]);
+}
+
+/// Puts the lines of the versions of lists behind the bytes that wait.
+fn put_versions<P: Put>(out: &mut P, names: &Names, versions: &[u64])
+    requires { length versions.now ≡ length names.now }
+    ensures { Puts (P.at out.old) (P.at out.new)
+        (unlines (version_lines names.now versions.now)) }
+{
+    let lists = names.len();
+    for list in 0..lists {
+        let name = name_at(names, list);
+        put_version(out, name, versions[list as usize]);
+    }
+}
+
 /// Puts the lines of an answer's objects behind the bytes that wait.
-fn put_items<K: Sink>(out: &mut K, pieces: &mut Pieces, items: &Items)
-    ensures { Puts (K.held out.old) (K.held out.new) (K.faults out.old) (K.faults out.new) pieces.old pieces.new
+fn put_items<P: Put>(out: &mut P, items: &Items)
+    ensures { Puts (P.at out.old) (P.at out.new)
         (unlines (map answer_line items.now)) }
 {
     for item in items.iter() {
         let object = Word::Number(u64::from(item.object));
         let bounds = [object, Word::Number(item.low), Word::Number(item.high)];
-        put_line(out, pieces, b"answer", &bounds);
+        put_line(out, b"answer", &bounds);
     }
 }
 
 /// Puts the line of the figures of the accesses behind the bytes that wait.
-fn put_figures<K: Sink>(out: &mut K, pieces: &mut Pieces, query: &Query, transcript: &Transcript)
+fn put_figures<P: Put>(out: &mut P, query: &Query, transcript: &Transcript)
     requires { HasCost query.now transcript.now }
-    ensures { Puts (K.held out.old) (K.held out.new) (K.faults out.old) (K.faults out.new) pieces.old pieces.new
+    ensures { Puts (P.at out.old) (P.at out.new)
         (figures_line query.now transcript.now ++ 10 ∷ []) }
 {
     let figures = [
@@ -61,33 +92,25 @@ fn put_figures<K: Sink>(out: &mut K, pieces: &mut Pieces, query: &Query, transcr
         Word::Text(b"cost"),
         Word::Number(transcript.cost(&query.costs_in_force())),
     ];
-    put_line(out, pieces, b"stop", &figures);
+    put_line(out, b"stop", &figures);
 }
 
 /// Puts the line of an access of this kind behind the bytes that wait.
-fn put_kind<K: Sink>(
-    out: &mut K,
-    pieces: &mut Pieces,
-    kind: &[u8],
-    name: &[u8],
-    object: u32,
-    grade: u32,
-)
-    ensures { Puts (K.held out.old) (K.held out.new) (K.faults out.old) (K.faults out.new) pieces.old pieces.new
+fn put_kind<P: Put>(out: &mut P, kind: &[u8], name: &[u8], object: u32, grade: u32)
+    ensures { Puts (P.at out.old) (P.at out.new)
         (spaced (kind.now ∷ name.now ∷ decimal object ∷ decimal grade ∷ []) ++ 10 ∷ []) }
 {
     let object = Word::Number(u64::from(object));
     put_line(
         out,
-        pieces,
         kind,
         &[Word::Text(name), object, Word::Number(u64::from(grade))],
     );
 }
 
 /// Puts the line of an access behind the bytes that wait.
-fn put_access<K: Sink>(out: &mut K, pieces: &mut Pieces, names: &Names, access: Access)
-    ensures { Puts (K.held out.old) (K.held out.new) (K.faults out.old) (K.faults out.new) pieces.old pieces.new
+fn put_access<P: Put>(out: &mut P, names: &Names, access: Access)
+    ensures { Puts (P.at out.old) (P.at out.new)
         (access_line names.now access ++ 10 ∷ []) }
 {
     match access {
@@ -95,45 +118,47 @@ fn put_access<K: Sink>(out: &mut K, pieces: &mut Pieces, names: &Names, access: 
             list,
             object,
             grade,
-        } => put_kind(out, pieces, b"s", name_of(names, list), object, grade),
+        } => put_kind(out, b"s", name_of(names, list), object, grade),
         Access::Random {
             list,
             object,
             grade,
-        } => put_kind(out, pieces, b"r", name_of(names, list), object, grade),
+        } => put_kind(out, b"r", name_of(names, list), object, grade),
     }
 }
 
 /// Puts the lines of the accesses behind the bytes that wait.
-fn put_accesses<K: Sink>(out: &mut K, pieces: &mut Pieces, names: &Names, transcript: &Transcript)
-    ensures { Puts (K.held out.old) (K.held out.new) (K.faults out.old) (K.faults out.new) pieces.old pieces.new
+fn put_accesses<P: Put>(out: &mut P, names: &Names, transcript: &Transcript)
+    ensures { Puts (P.at out.old) (P.at out.new)
         (unlines (map (access_line names.now) transcript.now.accesses)) }
 {
     for access in transcript.iter() {
-        put_access(out, pieces, names, *access);
+        put_access(out, names, *access);
     }
 }
 
 /// Puts the certificate of an answer behind the bytes that wait.
-pub(crate) fn put_certificate<K: Sink>(
-    out: &mut K,
-    pieces: &mut Pieces,
+pub(crate) fn put_certificate<P: Put>(
+    out: &mut P,
     line: u64,
     query: &Query,
     count: u32,
+    versions: &[u64],
     answer: &Answer,
 )
-    requires { HasCost query.now answer.now.transcript }
-    ensures { Puts (K.held out.old) (K.held out.new) (K.faults out.old) (K.faults out.new) pieces.old pieces.new
-        (unlines (certificate_lines (certificate_of line query.now count answer.now))) }
+    requires versioned { length versions.now ≡ length query.now.names }
+    requires cost { HasCost query.now answer.now.transcript }
+    ensures { Puts (P.at out.old) (P.at out.new)
+        (unlines (certificate_lines (certificate_of line query.now count versions.now answer.now))) }
 {
-    put_line(out, pieces, b"certificate", &[Word::Number(line)]);
-    pieces.put(out, b"query ");
-    put_query(out, pieces, query);
-    pieces.put(out, b"\n");
-    put_line(out, pieces, b"count", &[Word::Number(u64::from(count))]);
-    put_items(out, pieces, &answer.items);
-    put_figures(out, pieces, query, &answer.transcript);
-    put_accesses(out, pieces, &query.names, &answer.transcript);
-    pieces.put(out, b"end\n");
+    put_line(out, b"certificate", &[Word::Number(line)]);
+    out.put(b"query ");
+    put_query(out, query);
+    out.put(b"\n");
+    put_line(out, b"count", &[Word::Number(u64::from(count))]);
+    put_versions(out, &query.names, versions);
+    put_items(out, &answer.items);
+    put_figures(out, query, &answer.transcript);
+    put_accesses(out, &query.names, &answer.transcript);
+    out.put(b"end\n");
 }

@@ -54,6 +54,7 @@ fn tell(rt: &impl Wait, pool: &Pool, feeder: &mut Feeder, event: Event)
     ensures told { IsTold event feeder.old.pass.1 feeder.new.pass.1 }
 {
     let mut state = pool.take(rt, feeder);
+    // Serves the prover alone: `count` promises that the state is sound.
     let _ = state.count();
     state.apply(event);
     pool.give(feeder, state);

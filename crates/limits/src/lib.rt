@@ -50,6 +50,12 @@ pub const MAX_SOURCES: u32 = 64;
 /// The most query lines that are asked at once.
 pub const MAX_QUERIES: u64 = 64;
 
+/// The most bytes of the name or address of a host. The least is 1.
+pub const MAX_HOST: usize = 128;
+
+/// The most rows of a source that a query holds at once, copied from what was read of it.
+pub const MAX_WINDOW: u32 = 256;
+
 /// The most bytes of a list's name. The least is 1.
 pub const MAX_NAME: usize = 32;
 

@@ -56,6 +56,7 @@ impl ObjectList for &Transcript {
     }
 
     fn object(&self, place: usize) -> u32 {
+        // Serves the prover alone: `seen` promises that there are fewer than 2^32 seen objects.
         let _seen = self.seen();
         self.object_at(place as u32)
     }

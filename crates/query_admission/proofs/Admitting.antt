@@ -16,10 +16,10 @@ use Rattle.cert_text.specs.declared.refusal.Refusal.TheVariants.{ManyQueries, Un
 use Rattle.cert_text.specs.Refusal.{refused_lists}
 use Rattle.query_core.specs.declared.ready.Ready.{Ready}
 use Rattle.query_core.proofs.ListCount.{lists_counted}
-use Rattle.query_admission.specs.View.{View, AreListed}
+use Rattle.query_admission.specs.View.{View, AreListed, versions_at}
 use Rattle.query_admission.specs.Causes.{most_queries, QueryLine, Cause, text_causes, admission_causes, text_refusal, Over, ListsGive, RefusesFor, NoneOf}
 use Rattle.query_admission.specs.Admission.{RefusesLine, IsAdmitted, Admits}
-use Rattle.query_admission.specs.Screening.{list_causes, Screens, Weighs, admitted_as}
+use Rattle.query_admission.specs.Screening.{list_causes, Screens, FitsOver, Weighs, admitted_as}
 use Rattle.query_admission.specs.declared.admission.Weighed.{Weighed}
 use Rattle.query_admission.specs.declared.admission.Weighed.TheVariants.{Ready as Fits, Refused as NotReady}
 use Rattle.query_admission.specs.declared.lists.Listed.{Listed}
@@ -248,8 +248,8 @@ refused_lists_why x q lists refusal here why =
 
 -- a query is ready
 pub ready_admitted : (x : QueryLine) (ready : Ready) (lists : List Listed) → IsHere x ready.query lists → Screens ready.query lists (Ok ready.count)
-    → map (λ list. list.source) lists ≡ ready.sources.items → IsAdmitted x ready
-ready_admitted x ready lists here screens sources =
+    → map (λ list. list.source) lists ≡ ready.sources.items → versions_at lists ≡ ready.versions.items → IsAdmitted x ready
+ready_admitted x ready lists here screens sources versions =
     let many = listed_many x.view ready.query lists here.listed in
     let some : 0 < length lists = omega (arith, many, lists_counted ready.query here.reads.0.lawful, here.reads.1.lists.some) in
     record {
@@ -263,18 +263,29 @@ ready_admitted x ready lists here screens sources =
         ];
         counted = small_size lists 0 ready.count screens.2 some (sym (size_there lists 0 some) ∙ screens.1);
         sources = ap length (sym sources) ∙ length-map lists (λ (list : Listed). list.source) ∙ sym many;
+        versions = ap length (sym versions) ∙ length-map lists (λ (list : Listed). list.version) ∙ sym many;
       };
       reads = here.reads;
       lists = lists;
       listed = here.listed;
       count = screens.1;
       sources = sources;
+      versions = versions;
     }
+
+-- a query that fits its lists
+pub fits_weighed : {E : Type 0} (view : View) (q : Query) (lists : List Listed) (n : ℕ) (weighed : Result Weighed E) → AreListed view q lists
+    → Screens q lists (Ok n) → IfOk weighed (FitsOver lists n) → IfOk weighed (Weighs view q)
+fits_weighed view q lists n (Ok (Fits count sources versions)) listed screens is =
+    (lists, listed, subst (λ m. Screens q lists (Ok m)) (sym is.0) screens, is.1, is.2)
+fits_weighed view q lists n (Ok (NotReady refusal)) listed screens is = absurd is
+fits_weighed view q lists n (Err e) listed screens is = tt
 
 -- a query that was weighed over the lists of the line's view
 pub ready_weighed : (x : QueryLine) (ready : Ready) → x.number ≤ most_queries → Reads x.bytes (Ok ready.query)
-    → Weighs x.view ready.query (Fits ready.count ready.sources) → IsAdmitted x ready
-ready_weighed x ready few reads weighed = ready_admitted x ready weighed.0 (record { few = few; reads = reads; listed = weighed.1 }) weighed.2 weighed.3
+    → Weighs x.view ready.query (Fits ready.count ready.sources ready.versions) → IsAdmitted x ready
+ready_weighed x ready few reads weighed =
+    ready_admitted x ready weighed.0 (record { few = few; reads = reads; listed = weighed.1 }) weighed.2 weighed.3 weighed.4
 
 pub query_weighed : (x : QueryLine) (q : Query) (refusal : Refusal) → x.number ≤ most_queries → Reads x.bytes (Ok q) → Weighs x.view q (NotReady refusal)
     → RefusesLine admission_causes x refusal (Some q)
@@ -286,6 +297,7 @@ query_weighed x q refusal few reads weighed =
 
 pub weighed_admits : {E : Type 0} (x : QueryLine) (q : Query) (weighed : Result Weighed E) → x.number ≤ most_queries → Reads x.bytes (Ok q)
     → IfOk weighed (Weighs x.view q) → IfOk (admitted_as q weighed) (Admits x)
-weighed_admits x q (Ok (Fits count sources)) few reads is = ready_weighed x (record { query = q; count = count; sources = sources }) few reads is
+weighed_admits x q (Ok (Fits count sources versions)) few reads is =
+    ready_weighed x (record { query = q; count = count; sources = sources; versions = versions }) few reads is
 weighed_admits x q (Ok (NotReady refusal)) few reads is = query_weighed x q refusal few reads is
 weighed_admits x q (Err memory) few reads is = tt

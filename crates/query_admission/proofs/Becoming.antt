@@ -23,9 +23,9 @@ use Rattle.query_admission.specs.Becomes.{Becomes}
 use Rattle.query_admission.proofs.Admitting.{read_once, lists_once}
 
 -- what admission refuses is refused
-pub refused_line : (x : QueryLine) (refusal : Refusal) (query : Option Query) (count : ℕ) → RefusesLine admission_causes x refusal query
-    → Becomes x query count (Refused refusal)
-refused_line x refusal query count refused =
+pub refused_line : (x : QueryLine) (refusal : Refusal) (query : Option Query) (count : ℕ) (versions : List ℕ) → RefusesLine admission_causes x refusal query
+    → Becomes x query count versions (Refused refusal)
+refused_line x refusal query count versions refused =
     let f = refused.first in
     record {
       first = record {
@@ -40,10 +40,10 @@ refused_line x refusal query count refused =
       named = refused.named;
     }
 
-pub refused_writable : (query : Option Query) (x : QueryLine) (causes : List Cause) (refusal : Refusal) → RefusesLine causes x refusal query
-    → IsOutcome query (Refused refusal)
-refused_writable None x causes refusal refused = refused.named
-refused_writable (Some q) x causes refusal refused = refused.named
+pub refused_writable : (query : Option Query) (versions : List ℕ) (x : QueryLine) (causes : List Cause) (refusal : Refusal) → RefusesLine causes x refusal query
+    → IsOutcome query versions (Refused refusal)
+refused_writable None versions x causes refusal refused = refused.named
+refused_writable (Some q) versions x causes refusal refused = refused.named
 
 -- the rows of a query's lists are told one way
 told_once : (D E : List (List Row)) → map Some D ≡ map Some E → D ≡ E
@@ -56,9 +56,9 @@ told_once (rows ∷ D) (others ∷ E) e =
     ap (λ r. r ∷ D) here ∙ ap (λ ds. others ∷ ds) (told_once D E rest)
 
 -- a query that is ready is refused for its room
-pub full_line : (x : QueryLine) (ready : Ready) (D : List (List Row)) (room count : ℕ) → IsAdmitted x ready → AreTold x.view ready.query D
-    → IsOverRoom ready.query ready.count D room → Becomes x (Some ready.query) count (Refused (RoomFull room))
-full_line x ready D room count admitted told over = record {
+pub full_line : (x : QueryLine) (ready : Ready) (D : List (List Row)) (room count : ℕ) (versions : List ℕ) → IsAdmitted x ready → AreTold x.view ready.query D
+    → IsOverRoom ready.query ready.count D room → Becomes x (Some ready.query) count versions (Refused (RoomFull room))
+full_line x ready D room count versions admitted told over = record {
   first = record {
     cause = Cause.room_full;
     earlier = admission_causes;
@@ -97,13 +97,14 @@ one_more_cause P causes cause all here = All-push P causes cause all here
 
 -- a query that is ready is answered
 pub answered_line : (x : QueryLine) (ready : Ready) (D : List (List Row)) (answer : Answer) → IsAdmitted x ready → AreTold x.view ready.query D
-    → AnswersOver ready D answer → Becomes x (Some ready.query) ready.count (Answered answer)
+    → AnswersOver ready D answer → Becomes x (Some ready.query) ready.count ready.versions.items (Answered answer)
 answered_line x ready D answer admitted told over = record {
   unrefused = one_more_cause (λ cause. (refusal : Refusal) → ¬ RefusesFor x cause refusal) admission_causes Cause.room_full admitted.unrefused (fits_room x ready D admitted told over.roomy);
   reads = admitted.reads;
   lists = admitted.lists;
   listed = admitted.listed;
   counted = admitted.count;
+  opened = admitted.versions;
   right = over.answered;
   agrees = λ E e. subst (λ F. AgreesWith F answer.transcript) (sym (told_once E D (sym e ∙ told))) over.agrees;
 }
@@ -115,7 +116,9 @@ cost_small None h = (omega arith, omega arith)
 cost_small (Some cost) h = (h.0.1, h.1.1)
 
 pub answered_writable : (ready : Ready) (answer : Answer) → IsReady ready → IsAnswered ready.query ready.count answer
-    → IsOutcome (Some ready.query) (Answered answer)
+    → IsOutcome (Some ready.query) ready.versions.items (Answered answer)
 answered_writable ready answer is right =
-    let costs = cost_small ready.query.cost is.lawful.cost in
-    record { sorted = costs.0; random = costs.1; accesses = answered_short ready.query ready.count answer is.lawful is.expr.lists.some is.fits is.counted right }
+    let costs = cost_small ready.query.cost is.lawful.cost in (
+      is.versions,
+      record { sorted = costs.0; random = costs.1; accesses = answered_short ready.query ready.count answer is.lawful is.expr.lists.some is.fits is.counted right },
+    )

@@ -55,11 +55,11 @@ known_more known_by (first ∷ names) (other ∷ known) (suc place) name list so
     let later : map known_by (take (suc place) names) ≡ map Some (known ++ list ∷ []) = known_more known_by names known place name list rest at found in
     ap (λ o. o ∷ map known_by (take (suc place) names)) here ∙ ap (λ os. Some other ∷ os) later
 
--- the sources of one list more
-pub sourced_more : (lists : List Listed) (place : ℕ) (sources now : List ℕ) (d : Listed) → place < length lists → sources ≡ map (λ l. l.source) (take place lists)
-    → now ≡ sources ++ (get_or lists place d).source ∷ [] → now ≡ map (λ l. l.source) (take (place + 1) lists)
-sourced_more lists place sources now d within so_far push =
+-- what one list more says of itself
+pub gathered_more : (field : Listed → ℕ) (lists : List Listed) (place : ℕ) (gathered now : List ℕ) (d : Listed) → place < length lists
+    → gathered ≡ map field (take place lists) → now ≡ gathered ++ field (get_or lists place d) ∷ [] → now ≡ map field (take (place + 1) lists)
+gathered_more field lists place gathered now d within so_far push =
     push
-    ∙ ap (λ s. s ++ (get_or lists place d).source ∷ []) so_far
-    ∙ sym (map-append (λ (l : Listed). l.source) (take place lists) (get_or lists place d ∷ []))
-    ∙ ap (map (λ (l : Listed). l.source)) (sym (take_more lists place d within))
+    ∙ ap (λ s. s ++ field (get_or lists place d) ∷ []) so_far
+    ∙ sym (map-append field (take place lists) (get_or lists place d ∷ []))
+    ∙ ap (map field) (sym (take_more lists place d within))

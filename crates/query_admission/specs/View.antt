@@ -39,6 +39,10 @@ differs n list = size_passes (λ size. not (size == n)) list.size
 abbrev pub lacks_random : Listed → Bool
 lacks_random list = not list.random
 
+-- the versions that lists had when they were opened
+abbrev pub versions_at : List Listed → List ℕ
+versions_at lists = map (λ list. list.version) lists
+
 -- the size that the list with this number states; the count of a query is that of its first list
 abbrev pub size_stated : List Listed → ℕ → Option ℕ
 size_stated lists list = option_and_then (λ l. l.size) (slice_get lists list)

@@ -4,8 +4,8 @@ ghost use Rattle.std.specs.Prelude.{◌≡◌, ◌≤◌, ◌<◌, ℕ, List, le
 ghost use Rattle.query_text.specs.Reading.{Reads};
 ghost use Rattle.query_admission.specs.Causes.{most_queries};
 ghost use Rattle.query_admission.specs.Admission.{Admits, IsReadAs};
-ghost use Rattle.query_admission.specs.Screening.{Weighs, admitted_as};
-ghost use Rattle.query_admission.specs.View.{View, AreListed};
+ghost use Rattle.query_admission.specs.Screening.{Weighs, FitsOver, admitted_as};
+ghost use Rattle.query_admission.specs.View.{View, AreListed, versions_at};
 
 use super::Memory;
 use super::admitted::Admitted;
@@ -19,10 +19,14 @@ use query_core::Ready;
 use query_text::Query;
 use std::alloc::Global;
 
-/// What a query comes to over lists: ready with its count and the numbers of its sources, or refused.
+/// What a query comes to over lists: ready with its count, the numbers of its sources and the versions of its lists, or refused.
 #[derive(Drop)]
 pub(crate) enum Weighed {
-    Ready { count: u32, sources: Vec<u32> },
+    Ready {
+        count: u32,
+        sources: Vec<u32>,
+        versions: Vec<u64>,
+    },
     Refused(Refusal),
 }
 
@@ -82,10 +86,17 @@ fn admitted_as(query: Query, weighed: Result<Weighed, Memory>) -> Result<Admitte
     ensures { result ≡ admitted_as query weighed }
 {
     match weighed {
-        Ok(Weighed::Ready { count, sources }) => Ok(Admitted::Ready(Ready {
+        Ok(
+            Weighed::Ready {
+                count,
+                sources,
+                versions,
+            },
+        ) => Ok(Admitted::Ready(Ready {
             query,
             count,
             sources,
+            versions,
         })),
         Ok(Weighed::Refused(refusal)) => Ok(Admitted::Refused {
             refusal,
@@ -115,12 +126,26 @@ fn weigh_over(alloc: Global, query: &Query, known: &[Listed]) -> Result<Weighed,
     ensures { (view : View) → AreListed view query.now known.now → IfOk result (Weighs view query.now) }
 {
     match screen(query, known) {
-        Ok(count) => match sources_of(alloc, known) {
-            Ok(sources) => Ok(Weighed::Ready { count, sources }),
-            Err(_) => Err(Memory),
-        },
+        Ok(count) => fits(alloc, known, count),
         Err(refusal) => Ok(Weighed::Refused(refusal)),
     }
+}
+
+/// What a query of this count comes to, over its lists.
+fn fits(alloc: Global, known: &[Listed], count: u32) -> Result<Weighed, Memory>
+    ensures { IfOk result (FitsOver known.now count) }
+{
+    let Ok(sources) = sources_of(alloc, known) else {
+        return Err(Memory);
+    };
+    let Ok(versions) = versions_of(alloc, known) else {
+        return Err(Memory);
+    };
+    Ok(Weighed::Ready {
+        count,
+        sources,
+        versions,
+    })
 }
 
 /// The numbers of the sources of lists.
@@ -134,4 +159,17 @@ fn sources_of(alloc: Global, lists: &[Listed]) -> Result<Vec<u32>, Memory>
         };
     }
     Ok(sources)
+}
+
+/// The versions that lists had when they were opened.
+fn versions_of(alloc: Global, lists: &[Listed]) -> Result<Vec<u64>, Memory>
+    ensures { IfOk result (λ versions. versions.items ≡ versions_at lists.now) }
+{
+    let mut versions = Vec::new(alloc);
+    for list in lists {
+        let Ok(()) = versions.push(list.version) else {
+            return Err(Memory);
+        };
+    }
+    Ok(versions)
 }

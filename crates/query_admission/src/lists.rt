@@ -12,6 +12,8 @@ pub struct Listed {
     pub random: bool,
     /// The number of the list's source. It has no meaning where the list wasn't opened.
     pub source: u32,
+    /// The version that the list had when it was opened. It has no meaning where the list wasn't opened.
+    pub version: u64,
 }
 
 /// Lists that are found by their names.

@@ -102,6 +102,7 @@ impl Machine {
         match self {
             Machine::Ta(machine) => machine.feed_grade(grade),
             Machine::Nra(machine) => {
+                // Serves the prover alone: `need` promises that `nra` never needs a grade.
                 let _need = machine.need();
                 unreachable!()
             }

@@ -3,7 +3,8 @@
 use query_text::Query;
 
 /// A query that is admitted over lists: contracts that take one ask for `IsReady`, which says that
-/// `k` is at most `count`, that `count` is at most 200,000, and that each list has its source.
+/// `k` is at most `count`, that `count` is at most 200,000, and that each list has its source and its
+/// version.
 #[derive(Drop)]
 pub struct Ready {
     /// The query.
@@ -12,4 +13,6 @@ pub struct Ready {
     pub count: u32,
     /// The numbers of the sources of its lists, in the order of the lists.
     pub sources: Vec<u32>,
+    /// The versions that its lists had when they were opened, in the order of the lists.
+    pub versions: Vec<u64>,
 }

@@ -9,7 +9,7 @@ use Rattle.std.proofs.lemmas.Option.{unwrap_or-slice_get, slice_get_within, get_
 use Rattle.std.proofs.lemmas.Grind.{flat_map-append}
 use Rattle.monotone_fn.specs.Tree.{Tree, trees, terms}
 use Rattle.monotone_fn.specs.Shape.{depth, depth_in, depth_under}
-use Rattle.tk_io.specs.Pieces.{Puts}
+use Rattle.tk_io.specs.Pieces.{Puts, Written as At}
 use Rattle.query_text.specs.Written.{Written, Arguments, Argument, arguments_from}
 use Rattle.query_text.specs.Pieces.{Piece, piece_text, text_of}
 use Rattle.query_text.specs.Shape.{opening, weight_pieces, expr_pieces, argument_pieces, further_pieces, algorithm_word, algorithm_pieces, cost_pieces, room_pieces}
@@ -28,9 +28,8 @@ arguments_weighted names [] = refl
 arguments_weighted names (u ∷ us) = ap (Arguments.argument_then (Some (decimal u.0)) (written names u.1)) (arguments_weighted names us)
 
 -- a text is put as what it equals
-pub puts_as : (held held_now : Option (List ℕ)) (faults faults_now : ℕ) (before now : Option (List ℕ)) (x y : List ℕ) → x ≡ y
-    → Puts held held_now faults faults_now before now x → Puts held held_now faults faults_now before now y
-puts_as held held_now faults faults_now before now x y same put = subst (Puts held held_now faults faults_now before now) same put
+pub puts_as : (before now : At) (x y : List ℕ) → x ≡ y → Puts before now x → Puts before now y
+puts_as before now x y same put = subst (Puts before now) same put
 
 -- an operator, its arguments and the parenthesis
 pub call_text : (operator : Operator) (arguments : Arguments)

@@ -128,6 +128,7 @@ impl Inquiry {
         ensures sources { self.new.sources.items ≡ self.old.sources.items }
         ensures waiting { self.new.waiting ≡ self.old.waiting }
     {
+        // Serves the prover alone: `need` promises that the machine makes its run, also where it isn't fed.
         let _need = self.machine.need();
         match look {
             Look::Row(row) => {

@@ -24,6 +24,7 @@ fn choose_above(nodes: &mut [Option<u32>], leaves: usize, changed: usize)
     ensures tree { IsTree leaves nodes.new }
     ensures leaves { drop leaves nodes.new ≡ drop leaves nodes.old }
 {
+    // Serves the prover alone: the invariant of the loop names the leaves.
     let _ = leaves;
     let mut place = changed;
     while place > 1 {

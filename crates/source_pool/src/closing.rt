@@ -25,6 +25,7 @@ fn close_one(lock: TurnLock<SourceState>, hold: Hold, feeder: Feeder) -> SourceS
     } = feeder;
     lock.join(&mut writer, pass);
     let state = lock.close(writer);
+    // Serves the prover alone: `count` promises that the state is sound.
     let _ = state.count();
     state
 }

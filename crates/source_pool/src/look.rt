@@ -69,6 +69,7 @@ pub fn look_once(rt: &impl Wait, lock: &TurnLock<SourceState>, hold: &mut Hold, 
     ensures within { IsWithin hold.old → IsWithin hold.new }
 {
     let mut state = lock.take(rt, &mut hold.pass);
+    // Serves the prover alone: `count` promises that the state is sound.
     let _ = state.count();
     let answer = look_at(&mut state, &mut hold.waiting, need);
     lock.give(&mut hold.pass, state);

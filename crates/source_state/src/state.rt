@@ -217,6 +217,7 @@ impl SourceState {
         ensures grows { FactsGrow (facts_of self.old) (facts_of self.new) }
         ensures sound { IsSound self.new }
     {
+        // Serves the prover alone: a field that is read shows the invariant.
         let _ = &self.kept.count;
         let settling = self.settle(object, grade);
         self.add_settling(object, settling);
@@ -309,6 +310,7 @@ impl SourceState {
         ensures applied { IsApplied self.old self.new result }
         ensures sound { IsSound self.new }
     {
+        // Serves the prover alone: a field that is read shows the invariant.
         let _ = &self.kept.count;
         for place in 0..rows.len() {
             let row = row_at(rows, place);

@@ -44,16 +44,17 @@ enum Under {
 
 /// What is found under a name.
 fn listed(under: Under) -> Option<Listed> {
-    let (size, random, source) = match under {
+    let (size, random, source, version) = match under {
         Under::Nothing => return None,
-        Under::Closed => (None, false, 0),
-        Under::SortedOnly(size) => (Some(size), false, 9),
-        Under::Both(size) => (Some(size), true, 7),
+        Under::Closed => (None, false, 0, 0),
+        Under::SortedOnly(size) => (Some(size), false, 9, 3),
+        Under::Both(size) => (Some(size), true, 7, u64::MAX),
     };
     Some(Listed {
         size,
         random,
         source,
+        version,
     })
 }
 
@@ -185,10 +186,14 @@ fn refuses_in_order(rt: HostRuntime) {
     assert_eq!(rt; first_wrong(rt.alloc(), ROWS), None);
 }
 
-/// Whether a line is ready with this count and these sources.
-fn is_ready(admitted: &Admitted, count: u32, sources: &[u32]) -> bool {
+/// Whether a line is ready with this count, these sources and lists of these versions.
+fn is_ready(admitted: &Admitted, count: u32, sources: &[u32], versions: &[u64]) -> bool {
     match admitted {
-        Admitted::Ready(ready) => ready.count == count && ready.sources.as_slice() == sources,
+        Admitted::Ready(ready) => {
+            ready.count == count
+                && ready.sources.as_slice() == sources
+                && ready.versions.as_slice() == versions
+        }
         Admitted::Refused { .. } => false,
     }
 }
@@ -202,7 +207,7 @@ fn is_admitted(alloc: Global) -> bool {
     let Ok(admitted) = admit(alloc, &lists, 64, b"top 4 by sum(BB,A) using nra") else {
         return false;
     };
-    let is_so = is_ready(&admitted, 200_000, &[7, 9]);
+    let is_so = is_ready(&admitted, 200_000, &[7, 9], &[u64::MAX, 3]);
     drop(admitted);
     is_so
 }

@@ -11,7 +11,7 @@ use std::alloc::Global;
 use std::sync::Wait;
 use std::thread::Threads;
 use test_mem_source::MemShelf;
-use tk_io::{MemSink, Pieces};
+use tk_io::{MemSink, Writer};
 
 /// Settings of so many workers, rows in a page and pages that are read ahead, or the nearest that are in range.
 pub fn settings_of(workers: u32, page: u32, ahead: u32) -> Settings
@@ -66,20 +66,20 @@ fn outcomes_of<W: Threads + Wait + Sync>(
 fn write_all(out: &mut MemSink, outcomes: &[LineOutcome]) -> bool
     requires { All CanBeWritten outcomes.now }
 {
-    let mut pieces = Pieces::make();
+    let mut writer = Writer::make(out);
     let mut number: u64 = 0;
     for outcome in outcomes {
         number = number.saturating_add(1);
         put_outcome(
-            out,
-            &mut pieces,
+            &mut writer,
             number,
             outcome.query.as_ref(),
             outcome.count,
+            outcome.versions.as_slice(),
             &outcome.outcome,
         );
     }
-    pieces.end(out).is_ok()
+    writer.end().is_ok()
 }
 
 /// Runs lines over a shelf and the catalog of a text, and writes their outcomes. False where the text is no catalog, or where there is no

@@ -1,6 +1,6 @@
 //! Answers that are written.
 
-use super::{holds, let_go};
+use super::{holds, let_go, none_is_wrong};
 use access_log::{Access, Item, Items, Transcript};
 use cert_text::{Outcome, write_outcome};
 use machine_base::Answer;
@@ -9,8 +9,9 @@ use std::alloc::Global;
 use test_support::{Counting, FIRST_ACCESSES, FIRST_ITEM, FIRST_QUERY, FIRST_TEXT, sorted};
 use tk_io::{MemSink, Sink};
 
-/// A query without costs, how many objects it is asked over, the one object of its answer, and the accesses that it made.
-type Example<'a> = (&'a [u8], u32, Item, &'a [Access]);
+/// A query without costs, how many objects it is asked over, the one object of its answer, the accesses that it made, and the
+/// versions of its lists.
+type Example<'a> = (&'a [u8], u32, Item, &'a [Access], &'a [u64]);
 
 /// Takes accesses, as far as there is memory, and tells whether it took all.
 fn takes_all(transcript: &mut Transcript, accesses: &[Access]) -> bool {
@@ -24,7 +25,7 @@ fn takes_all(transcript: &mut Transcript, accesses: &[Access]) -> bool {
 
 /// The answer of an example before any access, whose query has so many lists.
 fn answer_of(alloc: Global, lists: u8, example: &Example<'_>) -> Option<Answer> {
-    let (_, count, item, _) = *example;
+    let (_, count, item, _, _) = *example;
     if lists == 0 || lists > 8 || count == 0 || count > 200_000 {
         return None;
     }
@@ -37,7 +38,7 @@ fn answer_of(alloc: Global, lists: u8, example: &Example<'_>) -> Option<Answer> 
 }
 
 /// Whether the answer of an example is written, whose query this is. None where the query has costs, or the answer is longer than
-/// any here.
+/// any here, or a list has no version.
 fn is_written_of<K: Sink>(
     alloc: Global,
     query: &Query,
@@ -47,9 +48,10 @@ fn is_written_of<K: Sink>(
     let mut answer = answer_of(alloc, query.expr.lists(), example)?;
     let is_taken = takes_all(&mut answer.transcript, example.3);
     let is_short = query.cost.is_none() && answer.transcript.len() < 4000;
+    let is_versioned = example.4.len() == query.names.len() as usize;
     let outcome = Outcome::Answered(answer);
-    let is_ok = if is_taken && is_short {
-        Some(write_outcome(out, 1, Some(query), example.1, &outcome).is_ok())
+    let is_ok = if is_taken && is_short && is_versioned {
+        Some(write_outcome(out, 1, Some(query), example.1, example.4, &outcome).is_ok())
     } else {
         None
     };
@@ -66,7 +68,7 @@ fn is_written<K: Sink>(alloc: Global, example: &Example<'_>, out: &mut K) -> Opt
 }
 
 /// The first example.
-static FIRST: Example<'static> = (FIRST_QUERY, 3, FIRST_ITEM, &FIRST_ACCESSES);
+static FIRST: Example<'static> = (FIRST_QUERY, 3, FIRST_ITEM, &FIRST_ACCESSES, &[0, 0]);
 
 /// Whether writing the first example ends so where there is such room and these calls fail: with a success or not, and so
 /// many bytes of its text.
@@ -87,6 +89,66 @@ fn writes_the_first_example(rt: HostRuntime) {
     let fronts = ends_so(rt.alloc(), 186, &[1], (false, 0))
         && ends_so(rt.alloc(), 185, &[], (false, 185));
     holds(&rt, whole && fronts);
+}
+
+/// The versions of both lists of the first example, the lines of these, and how many bytes its text has then.
+type Versioned = (&'static [u64], &'static str, u32);
+
+/// Version 0 has no line, and each other version has one behind the count.
+const VERSIONED: &[Versioned] = &[
+    (&[7, 0], "version A 7\n", 198),
+    (&[0, 7], "version B 7\n", 198),
+    (
+        &[1, u64::MAX],
+        "version A 1\nversion B 18446744073709551615\n",
+        229,
+    ),
+];
+
+/// Whether the first example is written so over lists of these versions.
+fn is_versioned_so(alloc: Global, row: &Versioned) -> bool {
+    let (versions, lines, len) = *row;
+    let Ok(mut out) = MemSink::make(alloc, len, &[]) else {
+        return false;
+    };
+    let example = (
+        FIRST_QUERY,
+        3,
+        FIRST_ITEM,
+        FIRST_ACCESSES.as_slice(),
+        versions,
+    );
+    let is_ok = is_written(alloc, &example, &mut out) == Some(true);
+    let is_so = is_ok && is_first_with(out.taken(), lines, len as usize);
+    drop(out);
+    is_so
+}
+
+/// Whether bytes are so many, and those of the first example's text with these lines behind its count.
+fn is_first_with(bytes: &[u8], lines: &str, len: usize) -> bool {
+    let head = FIRST_TEXT.as_bytes().get(..55).unwrap_or(b"");
+    let rest = FIRST_TEXT.as_bytes().get(55..).unwrap_or(b"");
+    let lines = lines.as_bytes();
+    let end = lines.len().saturating_add(55);
+    bytes.len() == len
+        && bytes.get(..55) == Some(head)
+        && bytes.get(55..end) == Some(lines)
+        && bytes.get(end..) == Some(rest)
+}
+
+/// The number of the first row that is written otherwise.
+fn first_wrong(alloc: Global, rows: &[Versioned]) -> Option<usize> {
+    for (number, row) in rows.iter().enumerate() {
+        if !is_versioned_so(alloc, row) {
+            return Some(number);
+        }
+    }
+    None
+}
+
+#[test]
+fn writes_the_versions_of_lists(rt: HostRuntime) {
+    none_is_wrong(&rt, first_wrong(rt.alloc(), VERSIONED));
 }
 
 /// Adds 3,000 tied objects, as far as there is memory, and tells whether it added all.
@@ -111,7 +173,11 @@ const TIED: Item = Item {
 fn is_long_written(alloc: Global, out: &mut Counting) -> bool {
     let mut accesses = Vec::new(alloc);
     let is_so = adds_ties(&mut accesses)
-        && is_written(alloc, &(b"top 1 by A using ta", 3000, TIED, &accesses), out) == Some(true);
+        && is_written(
+            alloc,
+            &(b"top 1 by A using ta", 3000, TIED, &accesses, &[0]),
+            out,
+        ) == Some(true);
     drop(accesses);
     is_so
 }

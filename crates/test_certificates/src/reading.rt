@@ -46,10 +46,11 @@ fn has_accesses(made: Accesses) -> bool {
     are_so
 }
 
-/// Whether a certificate is that of the first example.
-fn is_first(alloc: Global, certificate: Certificate) -> bool {
+/// Whether a certificate is that of the first example over lists of these versions.
+fn is_first(alloc: Global, certificate: Certificate, versions: &[u64]) -> bool {
     let is_printed = is_printed(alloc, &certificate.query, FIRST_QUERY);
-    let is_so = is_printed && has_numbers(&certificate);
+    let is_versioned = certificate.versions.as_slice() == versions;
+    let is_so = is_printed && is_versioned && has_numbers(&certificate);
     let Certificate {
         query,
         items,
@@ -61,20 +62,20 @@ fn is_first(alloc: Global, certificate: Certificate) -> bool {
     is_so && are_so
 }
 
-/// Whether a text is read as the certificate of the first example.
-fn is_read_as_first(alloc: Global, text: &[u8]) -> bool {
+/// Whether a text is read as the certificate of the first example over lists of these versions.
+fn is_read_as_first(alloc: Global, text: &[u8], versions: &[u64]) -> bool {
     match read_certificate(alloc, text) {
-        Ok(certificate) => is_first(alloc, certificate),
+        Ok(certificate) => is_first(alloc, certificate, versions),
         Err(_) => false,
     }
 }
 
-/// The same of the first example where each line ends by two bytes.
-fn is_read_by_two_bytes(alloc: Global) -> bool {
-    let Ok(text) = FIRST_TEXT.replace(alloc, "\n", "\r\n") else {
+/// The same of the first example with another text in place of one.
+fn is_changed_to_first(alloc: Global, old: &str, new: &str, versions: &[u64]) -> bool {
+    let Ok(text) = FIRST_TEXT.replace(alloc, old, new) else {
         return false;
     };
-    let is_so = is_read_as_first(alloc, text.as_bytes());
+    let is_so = is_read_as_first(alloc, text.as_bytes(), versions);
     drop(text);
     is_so
 }
@@ -82,9 +83,18 @@ fn is_read_by_two_bytes(alloc: Global) -> bool {
 /// Its lines may end by one byte or by two.
 #[test]
 fn reads_the_first_example(rt: HostRuntime) {
-    let is_read = is_read_as_first(rt.alloc(), FIRST_TEXT.as_bytes());
-    let is_read_so_too = is_read_by_two_bytes(rt.alloc());
+    let is_read = is_read_as_first(rt.alloc(), FIRST_TEXT.as_bytes(), &[0, 0]);
+    let is_read_so_too = is_changed_to_first(rt.alloc(), "\n", "\r\n", &[0, 0]);
     holds(&rt, is_read && is_read_so_too);
+}
+
+/// A list without a line has version 0.
+#[test]
+fn reads_the_versions_of_lists(rt: HostRuntime) {
+    let count = "count 3\n";
+    let first = is_changed_to_first(rt.alloc(), count, "count 3\nversion A 7\n", &[7, 0]);
+    let second = is_changed_to_first(rt.alloc(), count, "count 3\nversion B 1\n", &[0, 1]);
+    holds(&rt, first && second);
 }
 
 /// Whether this line of a text is at fault, or the text is read where it is none.
@@ -137,6 +147,20 @@ const ROWS: &[Row] = &[
     ("count 3", "count 03", Some(3)),
     ("count 3", "count 200001", Some(3)),
     ("count 3\n", "count 3\r\r\n", Some(3)),
+    ("count 3", "version A 7\ncount 3", Some(3)),
+    ("count 3", "count 3\nversion B 0", Some(4)),
+    ("count 3", "count 3\nversion A 07", Some(4)),
+    ("count 3", "count 3\nversion C 7", Some(4)),
+    ("count 3", "count 3\nversion AB 7", Some(4)),
+    ("count 3", "count 3\nversion A", Some(4)),
+    (
+        "count 3",
+        "count 3\nversion A 18446744073709551616",
+        Some(4),
+    ),
+    ("count 3", "count 3\nversion A 7\nversion A 7", Some(5)),
+    ("count 3", "count 3\nversion B 7\nversion A 7", Some(5)),
+    ("stop", "version A 7\nstop", Some(5)),
     ("answer 2", "answer 02", Some(4)),
     ("answer 2", "answer 4294967296", Some(4)),
     ("1500 1500", "1500", Some(4)),
@@ -162,6 +186,11 @@ const ROWS: &[Row] = &[
     ("using ta", "using nra", None),
     ("using ta", "using ca", None),
     ("count 3", "count 200000", None),
+    (
+        "count 3",
+        "count 3\nversion A 18446744073709551615\nversion B 1",
+        None,
+    ),
     ("answer 2", "answer 4294967295", None),
     (
         "1500 1500",

@@ -1,6 +1,6 @@
 //! Refusals, each as its line.
 
-ghost use Rattle.std.specs.Prelude.{◌≡◌, Some, IsTrue};
+ghost use Rattle.std.specs.Prelude.{◌≡◌, [], Some, IsTrue};
 ghost use Rattle.std.specs.Option.{option_copied};
 ghost use Rattle.cert_text.specs.declared.outcome.Outcome.TheVariants.{Refused};
 ghost use Rattle.cert_text.specs.Outcome.{IsOutcome};
@@ -147,7 +147,7 @@ const ROWS: &[Row] = &[
 
 /// Whether the list that a refusal names, if it names one, is a list of the query.
 fn is_of_query(query: &Query, refusal: Refusal) -> bool
-    ensures { IsTrue result → IsOutcome (Some query.now) (Refused refusal) }
+    ensures { IsTrue result → IsOutcome (Some query.now) [] (Refused refusal) }
 {
     match refusal {
         Refusal::CountsDiffer { list, other, .. } => {
@@ -180,13 +180,13 @@ fn is_written(
     refusal: Refusal,
     line: &str,
 ) -> bool
-    requires { IsOutcome (option_copied query) (Refused refusal) }
+    requires { IsOutcome (option_copied query) [] (Refused refusal) }
 {
     let Ok(mut out) = MemSink::make(alloc, 40, &[]) else {
         return false;
     };
     let outcome = Outcome::Refused(refusal);
-    let is_ok = write_outcome(&mut out, number, query, 3, &outcome).is_ok();
+    let is_ok = write_outcome(&mut out, number, query, 3, &[], &outcome).is_ok();
     let_go(outcome);
     let is_so = is_ok && out.taken() == line.as_bytes();
     drop(out);

@@ -8,6 +8,13 @@ use tk_io::MemSink;
 /// The certificate of a run of the threshold algorithm, the accesses of its second depth apart.
 const HEAD: &str = "certificate 1\nquery top 1 by sum(A,B) using ta\ncount 3\nanswer 2 1500 1500\n";
 
+/// The head of the same, where A is at version 7; and where B is at version 9 too.
+const HEAD_AT: &str = "certificate 1\nquery top 1 by sum(A,B) using ta\ncount 3\nversion A 7\n";
+
+const AND_AT: &str = "version B 9\n";
+
+const ANSWER: &str = "answer 2 1500 1500\n";
+
 const STOP: &str = "stop depth 2 sorted 4 random 3 cost 7\n";
 
 const FIRST: &str = "s A 1 900\ns B 2 700\nr B 1 500\nr A 2 800\n";
@@ -114,6 +121,73 @@ static CHANGED: [Row; 8] = [
 #[test]
 fn judges_texts(rt: HostRuntime) {
     none_is_wrong(&rt, first_wrong(rt.alloc(), &CHANGED));
+}
+
+/// Certificates whose lists have versions: the lines of the figures stand as many lines lower.
+static VERSIONED: [Row; 6] = [
+    (&[HEAD_AT, ANSWER, STOP, FIRST, SECOND, "end\n"], "fixes\n"),
+    (
+        &[
+            HEAD_AT,
+            ANSWER,
+            "stop depth 2 sorted 4 random 3 cost 8\n",
+            FIRST,
+            SECOND,
+            "end\n",
+        ],
+        "refused Figure 6\n",
+    ),
+    (
+        &[
+            HEAD_AT,
+            AND_AT,
+            "answer 2 1500 1501\n",
+            STOP,
+            FIRST,
+            SECOND,
+            "end\n",
+        ],
+        "refused Figure 6\n",
+    ),
+    (
+        &[
+            HEAD_AT,
+            "version B 0\n",
+            ANSWER,
+            STOP,
+            FIRST,
+            SECOND,
+            "end\n",
+        ],
+        "refused BadLine 5\n",
+    ),
+    (
+        &[
+            HEAD_AT,
+            AND_AT,
+            ANSWER,
+            STOP,
+            FIRST,
+            "s A 2 801\ns B 3 600\nr A 3 100\nend\n",
+        ],
+        "refused Inconsistent 5 6\n",
+    ),
+    (
+        &[
+            HEAD_AT,
+            AND_AT,
+            ANSWER,
+            "stop depth 1 sorted 2 random 2 cost 4\n",
+            FIRST,
+            "end\n",
+        ],
+        "beaten inside 2 low 1500 outside 0 high 1600\nlist A\n1,900\n0,900\n2,800\nlist B\n2,700\n0,700\n1,500\nquery top 1 by sum(A,B) using ta\n",
+    ),
+];
+
+#[test]
+fn judges_texts_with_versions(rt: HostRuntime) {
+    none_is_wrong(&rt, first_wrong(rt.alloc(), &VERSIONED));
 }
 
 /// Answers and figures of each kind that are wrong, beside right ones.

@@ -7,7 +7,7 @@ use std::io::{ErrorKind, Read, Write};
 use std::test::Fail;
 use test_support::Counting;
 use tk_io::{
-    Failed, MemIntake, MemSink, PIECE, Pieces, ReadError, Sink, StdIntake, StdSink, read_text,
+    Failed, MemIntake, MemSink, PIECE, Put, ReadError, Sink, StdIntake, StdSink, Writer, read_text,
     write_text,
 };
 
@@ -96,12 +96,12 @@ fn writes_whole_texts(rt: HostRuntime) {
 
 /// 60,000 words of 8 bytes and a space each.
 fn put_words(out: &mut Counting) -> Result<(), Failed> {
-    let mut pieces = Pieces::make();
+    let mut writer = Writer::make(out);
     for number in 0..60_000 {
-        pieces.put_number(out, 10_000_000 + number);
-        pieces.put(out, b" ");
+        writer.put_number(10_000_000 + number);
+        writer.put(b" ");
     }
-    pieces.end(out)
+    writer.end()
 }
 
 /// 60,000 words of 8 bytes and as many spaces go out in 66 writes.
@@ -117,11 +117,11 @@ const LONG: &[u8] = &[b'x'; 20_000];
 
 /// These texts one behind another.
 fn put_all(out: &mut MemSink, texts: &[&[u8]]) -> Result<(), Failed> {
-    let mut pieces = Pieces::make();
+    let mut writer = Writer::make(out);
     for text in texts {
-        pieces.put(out, text);
+        writer.put(text);
     }
-    pieces.end(out)
+    writer.end()
 }
 
 /// Whether putting these texts ends so where such calls fail: with a success or not, and so many bytes of the long text.

@@ -13,6 +13,10 @@ mod cases;
 #[cfg(test)]
 mod combined;
 #[cfg(test)]
+mod fa;
+#[cfg(test)]
+mod fagin;
+#[cfg(test)]
 mod halting;
 #[cfg(test)]
 mod no_random;

@@ -5,3 +5,4 @@ mod combined;
 mod phases;
 
 pub use combined::{ca_answer, ca_depth, ca_run};
+pub use phases::add_missing_grades;

@@ -119,7 +119,7 @@ pub fn is_quiet(
 }
 
 /// The sorted accesses at each place down to a depth.
-fn nra_run_to(alloc: Global, lists: &[MemList], depth: u32) -> Result<Vec<Access>, Memory>
+pub fn nra_run_to(alloc: Global, lists: &[MemList], depth: u32) -> Result<Vec<Access>, Memory>
     requires { length lists.now ≤ MAX_LISTS }
     ensures { IfOk result (λ accesses. accesses.items ≡ nra_run_to lists.now depth) }
 {

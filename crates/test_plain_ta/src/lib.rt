@@ -13,5 +13,5 @@ pub use blocks::{add_sorted_block, ta_run};
 pub use each_once::add_object;
 pub use memory::Memory;
 pub use order::{first_k, kth_low};
-pub use table::{aggregate, count_of, grade_in, objects_of};
+pub use table::{aggregate, count_of, grade_in, objects_of, place_in};
 pub use threshold::{items_of, ta_answer, ta_depth};

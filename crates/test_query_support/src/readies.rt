@@ -38,14 +38,22 @@ fn ready_of(alloc: Global, text: &str, count: u32, sources: &[u32]) -> Option<Re
     let Ok(query) = read(alloc, text.as_bytes()) else {
         return None;
     };
+    let mut versions = Vec::new(alloc);
+    let Ok(()) = versions.resize(sources.len(), 0) else {
+        drop(query);
+        drop(sources);
+        return None;
+    };
     let ready = Ready {
         query,
         count,
         sources,
+        versions,
     };
     if ready.query.k > count
         || count > 200_000
         || ready.query.names.len() as usize != ready.sources.len()
+        || ready.versions.len() != ready.sources.len()
     {
         drop(ready);
         return None;

@@ -8,11 +8,13 @@ use Rattle.std.proofs.lemmas.Grind.{flat_map-append}
 use Rattle.std.proofs.lemmas.Option.{slice_get_within, get_or_from_slice_get}
 use Rattle.std.proofs.lemmas.Bool.{false≢true}
 use Rattle.std.specs.Result.{is_err}
+use Rattle.std.specs.Borrow.{MutBor}
 use Rattle.std.specs.Io.KnownBytes.{Appends, Keeps}
 use Rattle.std.proofs.KnownBytes.{Appends-nil, Appends-trans, Keeps-refl}
 use Rattle.tk_io.specs.Faults.{HasCause, Rose}
+use Rattle.tk_io.specs.Sides.{Side}
 use Rattle.tk_io.specs.Whole.{TookFront}
-use Rattle.tk_io.specs.Pieces.{Passes, Puts, WaitsWhole, Ends, Writes}
+use Rattle.tk_io.specs.Pieces.{Passes, Sends, Puts, WaitsWhole, Ends, Writes, Written, written_to}
 
 -- after some of a text: what of it and of the bytes before it was sent and what waits, and that nothing was sent yet where all fits
 pub record Goes (piece : ℕ) (held held_now : Option (List ℕ)) (faults faults_now : ℕ) (waiting now text : List ℕ) (done : ℕ) : Type 0 where
@@ -66,8 +68,8 @@ goes_filled piece held held_now f g waiting mid now text rest done count goes is
 -- what is put where all of the text was taken
 pub goes_all : (piece : ℕ) (held held_now : Option (List ℕ)) (faults faults_now : ℕ) (waiting now text : List ℕ) (done : ℕ)
     → Goes piece held held_now faults faults_now waiting now text done → length text ≤ done
-    → Puts held held_now faults faults_now (Some waiting) (Some now) text × WaitsWhole piece held held_now (Some waiting) (Some now) text
-unfolding Puts WaitsWhole
+    → Sends held held_now faults faults_now (Some waiting) (Some now) text × WaitsWhole piece held held_now (Some waiting) (Some now) text
+unfolding Sends WaitsWhole
 goes_all piece held held_now f g waiting now text done goes past =
     let all : take done text ≡ text = take_all done text past in (
       ((goes.passes.0, goes.passes.1, ap (λ xs. waiting ++ xs) (sym all) ∙ goes.passes.2), goes.same),
@@ -84,8 +86,8 @@ stops_front held mid now sent full bytes rest passed is front =
 -- what is put where a write failed on the way
 pub goes_stopped : (piece : ℕ) (held mid now : Option (List ℕ)) (faults faults_mid faults_now : ℕ) (waiting full text : List ℕ) (done : ℕ)
     → Goes piece held mid faults faults_mid waiting full text done → length full ≡ piece → done < length text → TookFront mid now full → faults_mid ≤ faults_now → Rose faults_mid faults_now
-    → Puts held now faults faults_now (Some waiting) None text × WaitsWhole piece held now (Some waiting) None text
-unfolding Puts WaitsWhole
+    → Sends held now faults faults_now (Some waiting) None text × WaitsWhole piece held now (Some waiting) None text
+unfolding Sends WaitsWhole
 goes_stopped piece held mid now f g h waiting full text done goes is_full more front later rose =
     let whole : (waiting ++ take done text) ++ drop done text ≡ waiting ++ text = append_assoc waiting (take done text) (drop done text) ∙ ap (λ xs. waiting ++ xs) (take-append-drop done text) in (
       record {
@@ -100,18 +102,18 @@ goes_stopped piece held mid now f g h waiting full text done goes is_full more f
     )
 
 -- nothing is put once a write has failed
-pub puts_failed : (piece : ℕ) (held : Option (List ℕ)) (faults : ℕ) (text : List ℕ)
-    → Puts held held faults faults None None text × WaitsWhole piece held held None None text
-unfolding Puts WaitsWhole
-puts_failed piece held faults text = ((refl, refl, refl), tt)
+pub sends_failed : (piece : ℕ) (held : Option (List ℕ)) (faults : ℕ) (text : List ℕ)
+    → Sends held held faults faults None None text × WaitsWhole piece held held None None text
+unfolding Sends WaitsWhole
+sends_failed piece held faults text = ((refl, refl, refl), tt)
 
 -- one text and then another
-pub puts_then : (hb hm hn : Option (List ℕ)) (fb fm fn : ℕ) (before mid now : Option (List ℕ)) (x y : List ℕ)
-    → Puts hb hm fb fm before mid x → Puts hm hn fm fn mid now y → Puts hb hn fb fn before now (x ++ y)
-unfolding Puts
-puts_then hb hm hn fb fm fn None None now x y first second = (second.0, second.1 ∙ first.1, second.2 ∙ first.2)
-puts_then hb hm hn fb fm fn None (Some m) now x y first second = absurd cc
-puts_then hb hm hn fb fm fn (Some w) None None x y first second = record {
+pub sends_then : (hb hm hn : Option (List ℕ)) (fb fm fn : ℕ) (before mid now : Option (List ℕ)) (x y : List ℕ)
+    → Sends hb hm fb fm before mid x → Sends hm hn fm fn mid now y → Sends hb hn fb fn before now (x ++ y)
+unfolding Sends
+sends_then hb hm hn fb fm fn None None now x y first second = (second.0, second.1 ∙ first.1, second.2 ∙ first.2)
+sends_then hb hm hn fb fm fn None (Some m) now x y first second = absurd cc
+sends_then hb hm hn fb fm fn (Some w) None None x y first second = record {
   front = (
     first.front.0,
     first.front.1 ++ y,
@@ -121,8 +123,8 @@ puts_then hb hm hn fb fm fn (Some w) None None x y first second = record {
   later = omega (arith, first.later, second.2);
   rose = subst (λ n. Rose fb n) (sym second.2) first.rose;
 }
-puts_then hb hm hn fb fm fn (Some w) None (Some n) x y first second = absurd cc
-puts_then hb hm hn fb fm fn (Some w) (Some m) None x y first second =
+sends_then hb hm hn fb fm fn (Some w) None (Some n) x y first second = absurd cc
+sends_then hb hm hn fb fm fn (Some w) (Some m) None x y first second =
     let sent = first.0.0 in
     let front = stops_front hb hm hn sent (m ++ y) (w ++ (x ++ y)) [] first.0.1 (sym (append_assoc w x y) ∙ ap (λ z. z ++ y) first.0.2 ∙ append_assoc sent m y) second.front in
     record {
@@ -130,7 +132,7 @@ puts_then hb hm hn fb fm fn (Some w) (Some m) None x y first second =
       later = omega (arith, first.1, second.later);
       rose = subst (λ n. Rose n fn) first.1 second.rose;
     }
-puts_then hb hm hn fb fm fn (Some w) (Some m) (Some n) x y first second =
+sends_then hb hm hn fb fm fn (Some w) (Some m) (Some n) x y first second =
     let sent = first.0.0 in
     let more = second.0.0 in (
       (
@@ -141,47 +143,16 @@ puts_then hb hm hn fb fm fn (Some w) (Some m) (Some n) x y first second =
       second.1 ∙ first.1,
     )
 
--- the same text in other words
-pub puts_as : (hb hn : Option (List ℕ)) (fb fn : ℕ) (before now : Option (List ℕ)) (a b : List ℕ) → a ≡ b → Puts hb hn fb fn before now b
-    → Puts hb hn fb fn before now a
-puts_as hb hn fb fn before now a b same puts = subst (Puts hb hn fb fn before now) (sym same) puts
-
--- one member more was put of a list whose texts are put one after another
-more_text : {X : Type 0} (f : X → List ℕ) (xs : List X) (i : ℕ) (x : X) → slice_get xs i ≡ Some x → flat_map f (take (i + 1) xs) ≡ flat_map f (take i xs) ++ f x
-more_text f xs i x found =
-    ap (flat_map f) (take_more xs i x (slice_get_within xs i x found) ∙ ap (λ y. take i xs ++ y ∷ []) (get_or_from_slice_get xs i x x found))
-    ∙ flat_map-append f (take i xs) (x ∷ []) ∙ ap (λ t. flat_map f (take i xs) ++ t) (append-nil (f x))
-
-pub puts_next : {X : Type 0} (f : X → List ℕ) (xs : List X) (i : ℕ) (x : X) (hb hm hn : Option (List ℕ)) (fb fm fn : ℕ) (before mid now : Option (List ℕ))
-    → slice_get xs i ≡ Some x → Puts hb hm fb fm before mid (flat_map f (take i xs)) → Puts hm hn fm fn mid now (f x)
-    → Puts hb hn fb fn before now (flat_map f (take (i + 1) xs))
-puts_next f xs i x hb hm hn fb fm fn before mid now found first second =
-    puts_as hb hn fb fn before now _ _ (more_text f xs i x found) (puts_then hb hm hn fb fm fn before mid now (flat_map f (take i xs)) (f x) first second)
-
--- the same where the members are first written as lines or words
-pub puts_next_of : {X Y : Type 0} (f : Y → List ℕ) (g : X
-    → Y) (xs : List X) (i : ℕ) (x : X) (hb hm hn : Option (List ℕ)) (fb fm fn : ℕ) (before mid now : Option (List ℕ))
-    → slice_get xs i ≡ Some x → Puts hb hm fb fm before mid (flat_map f (map g (take i xs))) → Puts hm hn fm fn mid now (f (g x))
-    → Puts hb hn fb fn before now (flat_map f (map g (take (i + 1) xs)))
-puts_next_of f g xs i x hb hm hn fb fm fn before mid now found first second =
-    puts_as hb hn fb fn before now _ _ (flat_map-map f g (take (i + 1) xs))
-    (puts_next (λ y. f (g y)) xs i x hb hm hn fb fm fn before mid now found (puts_as hb hm fb fm before mid _ _ (sym (flat_map-map f g (take i xs))) first) second)
-
--- and where all were put
-pub puts_all : {X : Type 0} (text : List X → List ℕ) (xs : List X) (i : ℕ) (hb hn : Option (List ℕ)) (fb fn : ℕ) (before now : Option (List ℕ))
-    → length xs ≤ i → Puts hb hn fb fn before now (text (take i xs)) → Puts hb hn fb fn before now (text xs)
-puts_all text xs i hb hn fb fn before now past puts = subst (λ ys. Puts hb hn fb fn before now (text ys)) (take_all i xs past) puts
-
 -- nothing at all is put
-pub puts_none : (held : Option (List ℕ)) (faults : ℕ) (now : Option (List ℕ)) → Puts held held faults faults now now []
-unfolding Puts
-puts_none held faults None = (refl, refl, refl)
-puts_none held faults (Some waiting) = (([], Appends-nil held, append-nil waiting), refl)
+pub sends_none : (held : Option (List ℕ)) (faults : ℕ) (now : Option (List ℕ)) → Sends held held faults faults now now []
+unfolding Sends
+sends_none held faults None = (refl, refl, refl)
+sends_none held faults (Some waiting) = (([], Appends-nil held, append-nil waiting), refl)
 
 -- a text that was put where nothing waited, and its end
 written_from_none : {T E : Type 0} (hb hm hn : Option (List ℕ)) (fb fm fn : ℕ) (mid : Option (List ℕ)) (result : Result T E) (text : List ℕ)
-    → Puts hb hm fb fm (Some []) mid text → Ends hm hn fm fn mid result → Writes hb hn fb fn result text
-unfolding Puts Ends
+    → Sends hb hm fb fm (Some []) mid text → Ends hm hn fm fn mid result → Writes hb hn fb fn result text
+unfolding Sends Ends
 written_from_none hb hm hn fb fm fn None (Ok done) text puts ends = absurd ends
 written_from_none hb hm hn fb fm fn None (Err failed) text puts ends = record {
   whole = tt;
@@ -198,12 +169,6 @@ written_from_none hb hm hn fb fm fn (Some w) (Err failed) text puts ends = recor
   front = subst (TookFront hb hn) (append-nil text) (stops_front hb hm hn puts.0.0 w text [] puts.0.1 puts.0.2 ends.front);
   cause = record { later = omega (arith, puts.1, ends.later); failed = subst (λ n. Rose n fn) puts.1 ends.rose; stays = tt };
 }
-
--- the same where it is known that nothing waited
-pub puts_written : {T E : Type 0} (hb hm hn : Option (List ℕ)) (fb fm fn : ℕ) (before mid : Option (List ℕ)) (result : Result T E) (text : List ℕ)
-    → before ≡ Some [] → Puts hb hm fb fm before mid text → Ends hm hn fm fn mid result → Writes hb hn fb fn result text
-puts_written hb hm hn fb fm fn before mid result text none puts ends =
-    written_from_none hb hm hn fb fm fn mid result text (subst (λ p. Puts hb hm fb fm p mid text) none puts) ends
 
 -- the end of a text of which a write failed before
 pub ends_failed : (T : Type 0) {E : Type 0} (held : Option (List ℕ)) (faults : ℕ) (waiting : List ℕ) (failed : Bool) (self : Option (List ℕ)) (e : E)
@@ -224,8 +189,8 @@ ends_sent {T} {E} held held_now f g waiting false self (Err e) view is whole fro
     subst (λ s. Ends {T = T} {E = E} held held_now f g s (Err e)) view (record { front = front; later = cause.later; rose = cause.failed })
 
 -- what is put, and that it waits where it fits
-abbrev pub PutsWhole : ℕ → Option (List ℕ) → Option (List ℕ) → ℕ → ℕ → Option (List ℕ) → Option (List ℕ) → List ℕ → Type 0
-PutsWhole piece held held_now faults faults_now before now text = Puts held held_now faults faults_now before now text × WaitsWhole piece held held_now before now text
+abbrev pub SendsWhole : ℕ → Option (List ℕ) → Option (List ℕ) → ℕ → ℕ → Option (List ℕ) → Option (List ℕ) → List ℕ → Type 0
+SendsWhole piece held held_now faults faults_now before now text = Sends held held_now faults faults_now before now text × WaitsWhole piece held held_now before now text
 
 -- contracts see the bytes that wait where no write failed, and none where one did
 pub seen_waiting : (failed : Bool) (waiting : List ℕ) → failed ≡ false → Some waiting ≡ cond failed None (Some waiting)
@@ -236,10 +201,10 @@ pub seen_failed : (failed : Bool) (waiting : List ℕ) → failed ≡ true → N
 seen_failed true waiting is = refl
 seen_failed false waiting is = absurd (false≢true is)
 
-pub puts_seen : (piece : ℕ) (held held_now : Option (List ℕ)) (faults faults_now : ℕ) (before now seen seen_now : Option (List ℕ)) (text : List ℕ)
-    → before ≡ seen → now ≡ seen_now → PutsWhole piece held held_now faults faults_now before now text → PutsWhole piece held held_now faults faults_now seen seen_now text
-puts_seen piece held held_now f g before now seen seen_now text is is_now puts =
-    subst (λ n. PutsWhole piece held held_now f g seen n text) is_now (subst (λ b. PutsWhole piece held held_now f g b now text) is puts)
+pub sends_seen : (piece : ℕ) (held held_now : Option (List ℕ)) (faults faults_now : ℕ) (before now seen seen_now : Option (List ℕ)) (text : List ℕ)
+    → before ≡ seen → now ≡ seen_now → SendsWhole piece held held_now faults faults_now before now text → SendsWhole piece held held_now faults faults_now seen seen_now text
+sends_seen piece held held_now f g before now seen seen_now text is is_now puts =
+    subst (λ n. SendsWhole piece held held_now f g seen n text) is_now (subst (λ b. SendsWhole piece held held_now f g b now text) is puts)
 
 -- an error is one
 pub failed_is : {T E : Type 0} (held : Option (List ℕ)) (held_now : Option (List ℕ)) (faults faults_now : ℕ) (bytes : List ℕ) (result : Result T E)
@@ -253,3 +218,56 @@ pub sent_is : {T E : Type 0} (held held_now : Option (List ℕ)) (faults faults_
     → OnOk result (Appends held held_now bytes) → OnOk result (rest ≡ []) → HasCause faults faults_now result → Appends held held_now bytes × (rest ≡ []) × (faults_now ≡ faults)
 sent_is held held_now f g bytes rest (Ok x) is sent none cause = (sent, none, cause.stays)
 sent_is held held_now f g bytes rest (Err e) is sent none cause = absurd (false≢true (sym is))
+
+-- one text is put and then another
+pub puts_then : (before mid now : Written) (x y : List ℕ) → Puts before mid x → Puts mid now y → Puts before now (x ++ y)
+puts_then before mid now x y first second = record {
+  sends = sends_then before.held mid.held now.held before.faults mid.faults now.faults before.waiting mid.waiting now.waiting x y first.sends second.sends;
+  apart = second.apart ∙ first.apart;
+  same = second.same ∙ first.same;
+}
+
+-- nothing at all is put
+pub puts_none : (now : Written) → Puts now now []
+puts_none now = record { sends = sends_none now.held now.faults now.waiting; apart = refl; same = refl }
+
+-- the same text in other words
+pub puts_as : (before now : Written) (a b : List ℕ) → a ≡ b → Puts before now b → Puts before now a
+puts_as before now a b same puts = subst (Puts before now) (sym same) puts
+
+-- one member more was put of a list whose texts are put one after another
+more_text : {X : Type 0} (f : X → List ℕ) (xs : List X) (i : ℕ) (x : X) → slice_get xs i ≡ Some x → flat_map f (take (i + 1) xs) ≡ flat_map f (take i xs) ++ f x
+more_text f xs i x found =
+    ap (flat_map f) (take_more xs i x (slice_get_within xs i x found) ∙ ap (λ y. take i xs ++ y ∷ []) (get_or_from_slice_get xs i x x found))
+    ∙ flat_map-append f (take i xs) (x ∷ []) ∙ ap (λ t. flat_map f (take i xs) ++ t) (append-nil (f x))
+
+pub puts_next : {X : Type 0} (f : X → List ℕ) (xs : List X) (i : ℕ) (x : X) (before mid now : Written)
+    → slice_get xs i ≡ Some x → Puts before mid (flat_map f (take i xs)) → Puts mid now (f x)
+    → Puts before now (flat_map f (take (i + 1) xs))
+puts_next f xs i x before mid now found first second =
+    puts_as before now _ _ (more_text f xs i x found) (puts_then before mid now (flat_map f (take i xs)) (f x) first second)
+
+-- the same where the members are first written as lines or words
+pub puts_next_of : {X Y : Type 0} (f : Y → List ℕ) (g : X → Y) (xs : List X) (i : ℕ) (x : X) (before mid now : Written)
+    → slice_get xs i ≡ Some x → Puts before mid (flat_map f (map g (take i xs))) → Puts mid now (f (g x))
+    → Puts before now (flat_map f (map g (take (i + 1) xs)))
+puts_next_of f g xs i x before mid now found first second =
+    puts_as before now _ _ (flat_map-map f g (take (i + 1) xs))
+    (puts_next (λ y. f (g y)) xs i x before mid now found (puts_as before mid _ _ (sym (flat_map-map f g (take i xs))) first) second)
+
+-- and where all were put
+pub puts_all : {X : Type 0} (text : List X → List ℕ) (xs : List X) (i : ℕ) (before now : Written)
+    → length xs ≤ i → Puts before now (text (take i xs)) → Puts before now (text xs)
+puts_all text xs i before now past puts = subst (λ ys. Puts before now (text ys)) (take_all i xs past) puts
+
+-- what a writer wrote, from where it was made of a stream to its end, after which the stream is as `last`
+pub puts_written : {K T E : Type 0} (held : K → Option (List ℕ)) (faults : K → ℕ) (aside : K → Side) (before made told : MutBor K) (none waiting : Option (List ℕ))
+    (now last : K) (result : Result T E) (text : List ℕ)
+    → made.now ≡ before.now → none ≡ Some [] → Puts (written_to held faults aside made none) (written_to held faults aside told waiting) text
+    → Ends (held told.now) (held now) (faults told.now) (faults now) waiting result → now ≡ last
+    → Writes (held before.now) (held last) (faults before.now) (faults last) result text
+puts_written held faults aside before made told none waiting now last result text same is puts ends end =
+    subst (λ k. Writes (held before.now) (held k) (faults before.now) (faults k) result text) end
+    (written_from_none (held before.now) (held told.now) (held now) (faults before.now) (faults told.now) (faults now) waiting result text
+    (subst (λ k. Sends (held k) (held told.now) (faults k) (faults told.now) (Some []) waiting text) same
+    (subst (λ w. Sends (held made.now) (held told.now) (faults made.now) (faults told.now) w waiting text) is puts.sends)) ends)

@@ -44,4 +44,8 @@ pub trait Dial {
           write_faults = Self.L.Sink.faults link;
         }) }
         ensures faults { AddsFaults (faults self.old) (faults self.new) (Self.L.Intake.faults link + Self.L.Sink.faults link) };
+
+    /// How many calls failed, those of the links that were given back among them.
+    fn fault_count(&self) -> u64
+        ensures { result ≡ faults self };
 }

@@ -20,6 +20,7 @@ mod sink;
 mod std_intake;
 mod std_sink;
 mod whole;
+mod writer;
 
 pub use dial::Dial;
 pub use intake::Intake;
@@ -33,12 +34,13 @@ pub use memory::Memory;
 pub use net_dial::NetDial;
 pub use net_link::NetLink;
 pub use net_port::NetPort;
-pub use pieces::{PIECE, Pieces};
+pub use pieces::PIECE;
 pub use port::Port;
 pub use sink::Sink;
 pub use std_intake::StdIntake;
 pub use std_sink::StdSink;
 pub use whole::{ReadError, read_piece, read_text, write_text};
+pub use writer::{Put, Writer};
 
 /// A call to the outside failed, and the count of faults of its object has gone up.
 #[derive(Clone, Copy, Debug, PartialEq, Eq)]

@@ -112,4 +112,10 @@ impl Dial for MemDial {
         self.links.add_faults(link.write_faults());
         self.links.take_back(link);
     }
+
+    fn fault_count(&self) -> u64
+        ensures { result ≡ self.now.faults }
+    {
+        self.links.fault_count()
+    }
 }

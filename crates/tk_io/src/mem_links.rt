@@ -74,6 +74,13 @@ impl MemLinks {
         })
     }
 
+    /// How many calls failed.
+    pub(crate) fn fault_count(&self) -> u64
+        ensures { result ≡ self.now.faults }
+    {
+        self.faults
+    }
+
     /// Counts a call. It fails exactly where its number is among those that fail.
     pub(crate) fn call(&mut self) -> Result<(), Failed>
         ensures fails { IsErr result ↔ Contains self.old.fails (next_call self.old.calls) }

@@ -62,6 +62,10 @@ impl<R: Net<Stream = TcpStream> + Copy + Drop> Dial for NetDial<R> {
         self.faults = self.faults.saturating_add(link.write_faults());
         drop(link);
     }
+
+    fn fault_count(&self) -> u64 {
+        self.faults
+    }
 }
 
 /// A connection to the first of the host's addresses that answers in time.

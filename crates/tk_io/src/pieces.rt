@@ -4,7 +4,7 @@ ghost use Rattle.std.specs.Prelude.{◌≡◌, ◌≤◌, ◌-◌, ◌++◌, [],
 ghost use Rattle.std.specs.Io.KnownBytes.{Appends};
 ghost use Rattle.arrayvec.specs.ArrayVec.{array_vec_len};
 ghost use Rattle.tk_io.specs.Faults.{HasCause};
-ghost use Rattle.tk_io.specs.Pieces.{Puts, Ends, WaitsWhole};
+ghost use Rattle.tk_io.specs.Pieces.{Sends, Ends, WaitsWhole};
 ghost use Rattle.tk_io.specs.Whole.{TookFront};
 
 use super::{Failed, Sink, write_text};
@@ -22,7 +22,7 @@ pub const PIECE: usize = 8192;
 /// Contracts see it as the bytes that wait, or as `None` once a write has failed. From then on
 /// nothing is written, and `end` says so.
 #[derive(Drop)]
-pub struct Pieces {
+pub(crate) struct Pieces {
     waiting: ArrayVec<u8, PIECE>,
     failed: bool,
 }
@@ -37,7 +37,7 @@ impl Model for Pieces {
 
 impl Pieces {
     /// A text of which no byte waits yet.
-    pub fn make() -> Pieces
+    pub(crate) fn make() -> Pieces
         ensures { result ≡ Some [] }
     {
         Pieces {
@@ -48,8 +48,8 @@ impl Pieces {
 
     /// Puts a part of the text behind the bytes that wait. Where both fit into one piece, nothing is
     /// written yet.
-    pub fn put<K: Sink>(&mut self, out: &mut K, text: &[u8])
-        ensures puts { Puts (K.held out.old) (K.held out.new) (K.faults out.old) (K.faults out.new) self.old self.new text.now }
+    pub(crate) fn put<K: Sink>(&mut self, out: &mut K, text: &[u8])
+        ensures sends { Sends (K.held out.old) (K.held out.new) (K.faults out.old) (K.faults out.new) self.old self.new text.now }
         ensures waits { WaitsWhole PIECE (K.held out.old) (K.held out.new) self.old self.new text.now }
         ensures apart { K.aside out.new ≡ K.aside out.old }
     {
@@ -69,8 +69,8 @@ impl Pieces {
     }
 
     /// Puts a number in decimal behind the bytes that wait.
-    pub fn put_number<K: Sink>(&mut self, out: &mut K, number: u64)
-        ensures puts { Puts (K.held out.old) (K.held out.new) (K.faults out.old) (K.faults out.new) self.old self.new (decimal number) }
+    pub(crate) fn put_number<K: Sink>(&mut self, out: &mut K, number: u64)
+        ensures sends { Sends (K.held out.old) (K.held out.new) (K.faults out.old) (K.faults out.new) self.old self.new (decimal number) }
         ensures waits { WaitsWhole PIECE (K.held out.old) (K.held out.new) self.old self.new (decimal number) }
         ensures apart { K.aside out.new ≡ K.aside out.old }
     {
@@ -79,7 +79,7 @@ impl Pieces {
     }
 
     /// Writes the bytes that wait. It fails where this or an earlier write failed.
-    pub fn end<K: Sink>(mut self, out: &mut K) -> Result<(), Failed>
+    pub(crate) fn end<K: Sink>(mut self, out: &mut K) -> Result<(), Failed>
         ensures ends { Ends (K.held out.old) (K.held out.new) (K.faults out.old) (K.faults out.new) self result }
         ensures apart { K.aside out.new ≡ K.aside out.old }
     {

@@ -1,2 +1,3 @@
 -- How a command over memory ends for the caller of the library.
 mod Ending
+mod Replying

@@ -21,3 +21,12 @@ Ends replies bytes before now told status = (length bytes ≤ MAX_INPUT) × (tex
 -- the same, by the number that the caller gets: the program's exit status
 abbrev pub EndsWith : Replying → List ℕ → List ℕ → List ℕ → ℕ → ℕ → Type 0
 EndsWith replies bytes before now told code = (status : Status) × (code ≡ exit_code status) × Ends replies bytes before now told status
+
+-- how a call ends that is replied to so, whatever is given: memory was refused and no text is told, or the reply is told
+abbrev pub EndsReplying : (Status → List ℕ → Type 0) → List ℕ → List ℕ → ℕ → Status → Type 0
+EndsReplying replies before now told Memory = Tells [] before now told
+EndsReplying replies before now told status = (text : List ℕ) × replies status text × Tells text before now told
+
+-- the same, by the number that the caller gets: the program's exit status
+abbrev pub EndsReplyingWith : (Status → List ℕ → Type 0) → List ℕ → List ℕ → ℕ → ℕ → Type 0
+EndsReplyingWith replies before now told code = (status : Status) × (code ≡ exit_code status) × EndsReplying replies before now told status

@@ -3,12 +3,14 @@
 ghost use Rattle.std.specs.Prelude.{◌≡◌, ◌≤◌, ◌++◌, length, drop};
 ghost use Rattle.bundle_calls.specs.Reply.{Replies};
 ghost use Rattle.bundle_calls.specs.Judge.{JudgeReplies};
-ghost use Rattle.topk_c.specs.Calls.{Ends, Tells};
+ghost use Rattle.bundle_calls.specs.Lists.{RepliesToLists};
+ghost use Rattle.topk_c.specs.Calls.{Ends, EndsReplying, Tells};
 ghost use Rattle.topk_c.specs.Telling.{told_status, told_text};
 
 use super::given_text::GivenText;
 use super::kept_text::KeptText;
-use bundle_calls::{judge, one};
+use bundle_calls::{answer_lists, judge, one};
+use bundle_text::GivenList;
 use call_ends::Status;
 use std::alloc::Global;
 
@@ -19,6 +21,22 @@ pub(crate) fn answer(alloc: Global, bundle: &[u8], out: &mut [u8], written: &mut
     let mut input = GivenText::of(bundle);
     let mut text = KeptText::make(alloc);
     let status = one(alloc, &mut input, &mut text);
+    *written = tell(status, text.bytes(), out);
+    told_status(status)
+}
+
+/// Answers a query over lists in memory, and tells what `one` writes of the bundle that they print as.
+pub(crate) fn answer_rows(
+    alloc: Global,
+    lists: &[GivenList],
+    query: &[u8],
+    out: &mut [u8],
+    written: &mut usize,
+) -> Status
+    ensures { EndsReplying (RepliesToLists lists.now query.now) out.old out.new written.new result }
+{
+    let mut text = KeptText::make(alloc);
+    let status = answer_lists(alloc, lists, query, &mut text);
     *written = tell(status, text.bytes(), out);
     told_status(status)
 }

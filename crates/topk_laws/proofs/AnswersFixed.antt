@@ -53,16 +53,16 @@ fixed_text text c spells is =
           (h.status_is ∙ ap told_status told, h.text_is ∙ ap told_text told ∙ fixes_text);
     }
 
-of_answer : (content : Content) (query : Option Query) (count : ℕ) (outcome : Outcome) (text : List ℕ) → IsBundle content
-    → Becomes (bundle_line content) query count outcome
-    → Done ≡ outcome_status outcome → text ≡ outcome_text 1 query count outcome → IsFixedText text
-of_answer content query count (Refused refusal) text bundle becomes status same = absurd (cc)
-of_answer content None count (Answered answer) text bundle becomes status same = absurd becomes
-of_answer content (Some q) count (Answered answer) text bundle becomes status same =
-    let is = certified content q count answer bundle becomes in
-    fixed_text text (certificate_of 1 q count answer) (certified_spelled 1 q count answer text is.certified same)
-    (fixed_by 1 q count answer (fixed_of q count answer is.certified.lawful is.certified.expr is.fits becomes.right) becomes.right)
+of_answer : (content : Content) (query : Option Query) (count : ℕ) (versions : List ℕ) (outcome : Outcome) (text : List ℕ) → IsBundle content
+    → Becomes (bundle_line content) query count versions outcome
+    → Done ≡ outcome_status outcome → text ≡ outcome_text 1 query count versions outcome → IsFixedText text
+of_answer content query count versions (Refused refusal) text bundle becomes status same = absurd (cc)
+of_answer content None count versions (Answered answer) text bundle becomes status same = absurd becomes
+of_answer content (Some q) count versions (Answered answer) text bundle becomes status same =
+    let is = certified content q count versions answer bundle becomes in
+    fixed_text text (certificate_of 1 q count versions answer) (certified_spelled 1 q count versions answer text is.certified same)
+    (fixed_by 1 q count versions answer (fixed_of q count answer is.certified.lawful is.certified.expr is.fits becomes.right) becomes.right)
 
 pub answers_fixed : AnswersAreFixed
 answers_fixed bytes text (inl bundle) = absurd (let e = bundle.status_is in cc)
-answers_fixed bytes text (inr line) = of_answer line.content line.query line.count line.outcome text line.spelled.bundle line.becomes line.status_is line.text_is
+answers_fixed bytes text (inr line) = of_answer line.content line.query line.count line.versions line.outcome text line.spelled.bundle line.becomes line.status_is line.text_is

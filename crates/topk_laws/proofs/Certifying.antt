@@ -1,5 +1,6 @@
 -- What a bundle is answered with is certified: its numbers are within the ranges of a certificate.
 use Rattle.std.proofs.Common.{◌≡◌, ℕ, ◌<◌, ◌≤◌, ◌^◌, List, [], length, All, Contains, refl, sym, ap, subst, ◌∙◌, arith}
+use Rattle.std.proofs.lemmas.List.Elements.{All-weaker}
 use Rattle.std.proofs.lemmas.List.{length-map}
 use Rattle.ranked_list.specs.declared.row.Row.{Row}
 use Rattle.ranked_list.specs.declared.item.Item.{Item}
@@ -29,7 +30,7 @@ use Rattle.cert_text.specs.Outcome.{IsCertified}
 use Rattle.query_core.proofs.Answering.{answered_short}
 use Rattle.query_admission.specs.Becomes.{AnswersLine}
 use Rattle.bundle_calls.specs.Bundled.{bundle_line}
-use Rattle.bundle_calls.proofs.Bundling.{told_table}
+use Rattle.bundle_calls.proofs.Bundling.{told_table, versions_first}
 use Rattle.query_core.proofs.GivenBounds.{AreReached, bounds_reached}
 use Rattle.topk_laws.proofs.Fixing.{fixed_of}
 use Rattle.query_admission.proofs.Becoming.{cost_small}
@@ -92,13 +93,13 @@ object_small n D object table some small c =
     subst (λ z. z < 2 ^ 32) from.2 (member_of_all (λ row. row.object < 2 ^ 32) rows from.0 (member_of_all (λ rows. All (λ row. row.object < 2 ^ 32) rows) D rows small listed) from.1)
 
 -- what a bundle is answered with is certified, and the query asks for no more objects than there are
-pub record IsCertifiedAnswer (q : Query) (count : ℕ) (answer : Answer) : Type 0 where
-  pub certified : IsCertified 1 q count answer
+pub record IsCertifiedAnswer (q : Query) (count : ℕ) (versions : List ℕ) (answer : Answer) : Type 0 where
+  pub certified : IsCertified 1 q count versions answer
   pub fits : q.k ≤ count
 
-pub certified : (c : Content) (q : Query) (count : ℕ) (answer : Answer) → IsBundle c → AnswersLine (bundle_line c) q count answer
-    → IsCertifiedAnswer q count answer
-certified c q count answer bundle h =
+pub certified : (c : Content) (q : Query) (count : ℕ) (versions : List ℕ) (answer : Answer) → IsBundle c → AnswersLine (bundle_line c) q count versions answer
+    → IsCertifiedAnswer q count versions answer
+certified c q count versions answer bundle h =
     let right = h.right in
     let lawful = h.reads.0.lawful in
     let expr = h.reads.1 in
@@ -117,6 +118,7 @@ certified c q count answer bundle h =
     let fits : q.k ≤ count = omega (arith, top.sized, sized, right.count, distinct_fits (item_objects answer.items) (objects_of D) top.distinct (λ o d. member_of_all (Contains (objects_of D)) (item_objects answer.items) o top.members d)) in
     let honest = fixed_of q count answer lawful expr fits right in
     let costs = cost_small q.cost lawful.cost in
+    let first = versions_first c q h.lists versions h.listed h.opened in
     record {
       certified = record {
         line_from = omega arith;
@@ -125,6 +127,8 @@ certified c q count answer bundle h =
         expr = expr;
         lists = right.lists;
         counted = right.count;
+        versioned = first.0;
+        small = All-weaker (λ version. version ≡ 0) (λ version. version < 2 ^ 64) (λ version is. omega (arith, is)) versions first.1;
         cost = record { sorted = costs.0; random = costs.1; accesses = answered_short q count answer lawful expr.lists.some fits told.few right };
         limits = record {
           some_lists = some_lists;

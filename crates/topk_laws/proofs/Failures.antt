@@ -113,7 +113,7 @@ answered_refused answer refusal e = cc
 many_is_other : Cause.many_queries ≡ Cause.not_opened → ⊥
 many_is_other e = cc
 
-closed_open : {size source : ℕ} → Closed ≡ Open size source → ⊥
+closed_open : {size source version : ℕ} → Closed ≡ Open size source version → ⊥
 closed_open e = cc
 
 -- a refusal of a list comes with a query
@@ -139,7 +139,7 @@ module _ (r : CatalogRun) (outcomes : List LineOutcome) (run : IsRun r outcomes)
           → IsOpening r.lists r.catalog run.sources (IsWanted r.catalog r.lines) r.before run.mid place o
           → TroubleAt (r.before (entry_at r.catalog place).place) (run.mid (entry_at r.catalog place).place)
       go Closed closed opening = opening wanted
-      go (Open size source) closed opening = absurd cc
+      go (Open size source version) closed opening = absurd cc
 
   -- a line that is refused since a list wasn't opened
   not_opened : (at : ℕ) (bytes : List ℕ) (o : LineOutcome) (refusal : Refusal) (list : ℕ) → slice_get r.lines at ≡ Some bytes → at + 1 ≤ most_queries
@@ -226,12 +226,12 @@ module _ (r : CatalogRun) (outcomes : List LineOutcome) (run : IsRun r outcomes)
           by : (o : Opening) → opening_at run.openings place ≡ o → (said_of (entry_at r.catalog place).random o).size ≡ Some ready.count
               → slice_index_or run.sources.places (said_of (entry_at r.catalog place).random o).source 0 ≡ place
           by Closed is sized = absurd cc
-          by (Open size source) is sized =
+          by (Open size source version) is sized =
               let within : place < length run.openings = elim (cases_lt place (length run.openings)) [
                 | inl inside ↦ inside
                 | inr past ↦ absurd (closed_open (sym (get_or_past run.openings place Closed past) ∙ is))
               ] in
-              let opening : IsOpening r.lists r.catalog run.sources (IsWanted r.catalog r.lines) r.before run.mid place (Open size source) =
+              let opening : IsOpening r.lists r.catalog run.sources (IsWanted r.catalog r.lines) r.before run.mid place (Open size source version) =
               subst (IsOpening r.lists r.catalog run.sources (IsWanted r.catalog r.lines) r.before run.mid place) is (run.opened.each place within) in
               let source_is : IsSource r.lists r.catalog run.sources place size source = opening.1 in
               source_is.stands

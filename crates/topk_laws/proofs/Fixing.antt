@@ -111,8 +111,9 @@ fixed_of q n answer lawful expr fits right =
     }
 
 -- the certificate of a right answer
-pub fixed_by : (line : ℕ) (q : Query) (n : ℕ) (answer : Answer) → IsHonest q n answer → IsAnswered q n answer → IsFixedBy (certificate_of line q n answer)
-fixed_by line q n answer honest right =
+pub fixed_by : (line : ℕ) (q : Query) (n : ℕ) (versions : List ℕ) (answer : Answer) → IsHonest q n answer → IsAnswered q n answer
+    → IsFixedBy (certificate_of line q n versions answer)
+fixed_by line q n versions answer honest right =
     let m = list_count q.expr in
     let A = answer.transcript.accesses in
     let V : List ℕ → ℕ = value q.expr in

@@ -29,7 +29,7 @@ use Rattle.cert_text.specs.Certificate.{certificate_lines}
 use Rattle.cert_text.specs.Refusal.{Field, refusal_row, field_word, lists_in, refused_lists}
 use Rattle.cert_text.specs.Outcome.{names_of, refused_words, refused_line, outcome_text}
 use Rattle.query_core.specs.OneAnswer.{IsOneAnswer, one_run, one_items}
-use Rattle.query_admission.specs.View.{AreListed, AreTold, differs, size_stated, count_of}
+use Rattle.query_admission.specs.View.{AreListed, AreTold, differs, versions_at, size_stated, count_of}
 use Rattle.query_admission.specs.Causes.{QueryLine, Cause, line_causes, text_refusal, Over, ListsGive, RefusesFor, NoneOf, IsFirstOf}
 use Rattle.query_admission.specs.Admission.{RefusesLine}
 use Rattle.query_admission.specs.Becomes.{AnswersLine, Becomes}
@@ -130,27 +130,28 @@ words_same bytes p q a b (Field.list list ∷ fields) l m =
     ∙ ap (λ ws. name_of (names_of q) list ∷ ws)
     (words_same bytes p q a b fields (All-tail (λ n. n < length (names_of p)) list _ l) (All-tail (λ n. n < length (names_of q)) list _ m))
 
-refused_text : (number : ℕ) (query : Option Query) (count : ℕ) (r : Refusal)
-    → outcome_text number query count (Refused r) ≡ unlines (refused_line number (names_of query) r ∷ [])
+refused_text : (number : ℕ) (query : Option Query) (count : ℕ) (versions : List ℕ) (r : Refusal)
+    → outcome_text number query count versions (Refused r) ≡ unlines (refused_line number (names_of query) r ∷ [])
 unfolding outcome_text
-refused_text number None count r = refl
-refused_text number (Some query) count r = refl
+refused_text number None count versions r = refl
+refused_text number (Some query) count versions r = refl
 
-refused_once : (x : QueryLine) (causes : List Cause) (number : ℕ) (p q : Option Query) (c d : ℕ) (r s : Refusal) → RefusesLine causes x r p → RefusesLine causes x s q
-    → outcome_text number p c (Refused r) ≡ outcome_text number q d (Refused s)
-refused_once x causes number p q c d r s one two =
+refused_once : (x : QueryLine) (causes : List Cause) (number : ℕ) (p q : Option Query) (c d : ℕ) (v w : List ℕ) (r s : Refusal) → RefusesLine causes x r p
+    → RefusesLine causes x s q → outcome_text number p c v (Refused r) ≡ outcome_text number q d w (Refused s)
+refused_once x causes number p q c d v w r s one two =
     let same : s ≡ r = first_once x causes s r two.first one.first in
     let named : All (λ list. list < length (names_of q)) (refused_lists r) = subst (λ z. All (λ list. list < length (names_of q)) (refused_lists z)) same two.named in
     let words = words_same x.bytes p q one.reads two.reads (refusal_row r).1 one.named named in
-    refused_text number p c r ∙ ap (λ ws. unlines (refused_words number (refusal_row r).0 ws ∷ [])) words ∙ sym (refused_text number q d r)
-    ∙ ap (λ z. outcome_text number q d (Refused z)) (sym same)
+    refused_text number p c v r ∙ ap (λ ws. unlines (refused_words number (refusal_row r).0 ws ∷ [])) words ∙ sym (refused_text number q d w r)
+    ∙ ap (λ z. outcome_text number q d w (Refused z)) (sym same)
 
 -- an answer is certified by its items and its accesses
-certified : ℕ → Query → ℕ → List Item → ℕ → List Access → Certificate
-certified line query count items lists accesses = record {
+certified : ℕ → Query → ℕ → List ℕ → List Item → ℕ → List Access → Certificate
+certified line query count versions items lists accesses = record {
   line = line;
   query = query;
   count = count;
+  versions = versions;
   items = items;
   depth = depth lists accesses;
   sorted = sorted_count accesses;
@@ -159,38 +160,41 @@ certified line query count items lists accesses = record {
   accesses = accesses;
 }
 
-answered_text : (number : ℕ) (query : Query) (count : ℕ) (a : Answer)
-    → outcome_text number (Some query) count (Answered a) ≡ unlines (certificate_lines (certified number query count a.items a.transcript.lists a.transcript.accesses))
+answered_text : (number : ℕ) (query : Query) (count : ℕ) (versions : List ℕ) (a : Answer)
+    → outcome_text number (Some query) count versions (Answered a)
+    ≡ unlines (certificate_lines (certified number query count versions a.items a.transcript.lists a.transcript.accesses))
 unfolding outcome_text certified
-answered_text number query count a = refl
+answered_text number query count versions a = refl
 
 -- the rows of a line's lists are told, where nothing refuses it
 pub record HasRows (x : QueryLine) : Type 0 where
   pub rows : (q : Query) (lists : List Listed) → NoneOf (RefusesFor x) line_causes → Reads x.bytes (Ok q) → AreListed x.view q lists
       → (D : List (List Row)) × AreTold x.view q D
 
-answered_once : (x : QueryLine) (number : ℕ) (p q : Query) (c d : ℕ) (a b : Answer) → HasRows x → AnswersLine x p c a → AnswersLine x q d b
-    → outcome_text number (Some p) c (Answered a) ≡ outcome_text number (Some q) d (Answered b)
-answered_once x number p q c d a b has one two =
+answered_once : (x : QueryLine) (number : ℕ) (p q : Query) (c d : ℕ) (v w : List ℕ) (a b : Answer) → HasRows x → AnswersLine x p c v a
+    → AnswersLine x q d w b → outcome_text number (Some p) c v (Answered a) ≡ outcome_text number (Some q) d w (Answered b)
+answered_once x number p q c d v w a b has one two =
     let query : p ≡ q = read_once x.bytes p q one.reads two.reads in
     let listed : map Some one.lists ≡ map Some two.lists = sym one.listed ∙ ap (λ (z : Query). map x.view.listed z.names) query ∙ two.listed in
     let count : c ≡ d = same_Some c d (sym one.counted ∙ ap count_of (lists_once one.lists two.lists listed) ∙ two.counted) in
+    let versions : v ≡ w = sym one.opened ∙ ap versions_at (lists_once one.lists two.lists listed) ∙ two.opened in
     let told = has.rows p one.lists one.unrefused one.reads one.listed in
     let here : IsOneAnswer p told.0 a = one.right.every told.0 (one.agrees told.0 told.1) in
     let there : IsOneAnswer q told.0 b = two.right.every told.0 (two.agrees told.0 (subst (λ z. AreTold x.view z told.0) query told.1)) in
     let items : a.items ≡ b.items = here.items ∙ ap (λ z. one_items z told.0) query ∙ sym there.items in
     let accesses : a.transcript.accesses ≡ b.transcript.accesses = here.run ∙ ap (λ z. one_run z told.0) query ∙ sym there.run in
     let lists : a.transcript.lists ≡ b.transcript.lists = one.right.lists ∙ ap (λ (z : Query). list_count z.expr) query ∙ sym two.right.lists in
-    answered_text number p c a ∙ (λ i. unlines (certificate_lines (certified number (query i) (count i) (items i) (lists i) (accesses i)))) ∙ sym (answered_text number q d b)
+    answered_text number p c v a
+    ∙ (λ i. unlines (certificate_lines (certified number (query i) (count i) (versions i) (items i) (lists i) (accesses i)))) ∙ sym (answered_text number q d w b)
 
 -- the text of a line over lists that are told, and whether it is an answer
-pub becomes_once : (x : QueryLine) (number : ℕ) (p q : Option Query) (c d : ℕ) (o u : Outcome) → HasRows x → Becomes x p c o → Becomes x q d u
-    → (outcome_text number p c o ≡ outcome_text number q d u) × (is_answer o ≡ is_answer u)
-becomes_once x number p q c d (Refused r) (Refused s) has one two = (refused_once x line_causes number p q c d r s one two, refl)
-becomes_once x number p None c d (Refused r) (Answered b) has one two = absurd two
-becomes_once x number p (Some q) c d (Refused r) (Answered b) has one two = absurd (not_refused x line_causes r one.first two.unrefused)
-becomes_once x number None q c d (Answered a) (Refused s) has one two = absurd one
-becomes_once x number (Some p) q c d (Answered a) (Refused s) has one two = absurd (not_refused x line_causes s two.first one.unrefused)
-becomes_once x number None q c d (Answered a) (Answered b) has one two = absurd one
-becomes_once x number (Some p) None c d (Answered a) (Answered b) has one two = absurd two
-becomes_once x number (Some p) (Some q) c d (Answered a) (Answered b) has one two = (answered_once x number p q c d a b has one two, refl)
+pub becomes_once : (x : QueryLine) (number : ℕ) (p q : Option Query) (c d : ℕ) (v w : List ℕ) (o u : Outcome) → HasRows x → Becomes x p c v o
+    → Becomes x q d w u → (outcome_text number p c v o ≡ outcome_text number q d w u) × (is_answer o ≡ is_answer u)
+becomes_once x number p q c d v w (Refused r) (Refused s) has one two = (refused_once x line_causes number p q c d v w r s one two, refl)
+becomes_once x number p None c d v w (Refused r) (Answered b) has one two = absurd two
+becomes_once x number p (Some q) c d v w (Refused r) (Answered b) has one two = absurd (not_refused x line_causes r one.first two.unrefused)
+becomes_once x number None q c d v w (Answered a) (Refused s) has one two = absurd one
+becomes_once x number (Some p) q c d v w (Answered a) (Refused s) has one two = absurd (not_refused x line_causes s two.first one.unrefused)
+becomes_once x number None q c d v w (Answered a) (Answered b) has one two = absurd one
+becomes_once x number (Some p) None c d v w (Answered a) (Answered b) has one two = absurd two
+becomes_once x number (Some p) (Some q) c d v w (Answered a) (Answered b) has one two = (answered_once x number p q c d v w a b has one two, refl)

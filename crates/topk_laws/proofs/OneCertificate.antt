@@ -10,11 +10,12 @@ use Rattle.query_text.specs.Query.{printed}
 use Rattle.query_text.specs.Reading.{Reads}
 use Rattle.query_text.proofs.BackLaws.{printed_same}
 use Rattle.cert_text.specs.declared.certificate.Certificate.{Certificate}
-use Rattle.cert_text.specs.Certificate.{number_line, query_line, count_line, answer_line, stop_line, access_line, access_lines, IsItem, IsAccess}
-use Rattle.cert_text.specs.Judging.{AreNames, Found, FindsQuery, SpellsAccesses, SpellsFound, SpellsCounted, SpellsQueried}
+use Rattle.cert_text.specs.Certificate.{number_line, query_line, count_line, version_lines, answer_line, stop_line, access_line, access_lines, IsItem, IsAccess}
+use Rattle.cert_text.specs.Judging.{AreNames, Found, FindsQuery, SpellsAccesses, SpellsFound, SpellsVersioned, SpellsCounted, SpellsQueried}
 use Rattle.cert_text.specs.Reading.{Spells}
 use Rattle.cert_text.proofs.LineLaws.{number_in-line, count_in-line, item_in-line, figures_in-line, access_in-line}
 use Rattle.cert_text.proofs.QueryLaws.{names_of_lawful}
+use Rattle.cert_text.proofs.VersionLaws.{all_left, versions_one}
 use Rattle.cert_text.proofs.SpellLaws.{steps_end, steps_access, steps_item, steps_stop, steps_count, steps_query, steps_number, whole}
 
 accesses_one : (names : List (List ℕ)) (ls : List (List ℕ)) (xs ys : List Access) → AreNames names → SpellsAccesses names ls xs → SpellsAccesses names ls ys
@@ -55,12 +56,17 @@ found_one_by names ls (item ∷ items) x y is are one other =
 found_one : (names : List (List ℕ)) (ls : List (List ℕ)) (x y : Found) → AreNames names → SpellsFound names ls x → SpellsFound names ls y → y ≡ x
 found_one names ls x y are one other = found_one_by names ls x.items x y refl are one other
 
-counted_one : (names : List (List ℕ)) (ls : List (List ℕ)) (x y : ℕ × Found) → AreNames names → SpellsCounted names ls x → SpellsCounted names ls y → y ≡ x
+versioned_one : (names : List (List ℕ)) (ls : List (List ℕ)) (x y : List ℕ × Found) → AreNames names → SpellsVersioned names names ls x
+    → SpellsVersioned names names ls y → y ≡ x
+versioned_one names ls x y are one other =
+    versions_one names names ls x.0 x.1 y (all_left names are.each are.different) (λ rest f g this that. found_one names rest f g are this that) one other
+
+counted_one : (names : List (List ℕ)) (ls : List (List ℕ)) (x y : ℕ × List ℕ × Found) → AreNames names → SpellsCounted names ls x → SpellsCounted names ls y → y ≡ x
 counted_one names ls x y are one other =
     let steps = steps_count names (count_line x.0) x.0 (count_in-line x.0 one.low one.high) in
     let back = steps.drops one.rest y (subst (λ l. SpellsCounted names l y) one.first other) in
-    let with_count : Found → ℕ × Found = λ found. (x.0, found) in
-    back.2 ∙ ap with_count (found_one names one.rest x.1 back.0 are one.found back.1)
+    let with_count : List ℕ × Found → ℕ × List ℕ × Found = λ versioned. (x.0, versioned.0, versioned.1) in
+    back.2 ∙ ap with_count (versioned_one names one.rest (x.1, x.2) back.0 are one.versioned back.1)
 
 -- the line of a query is that of no other
 query_found : (query : Query) → Reads (printed query) (Ok query) → FindsQuery (query_line query) (Some query)
@@ -74,20 +80,21 @@ query_found query reads = (
       printed_same other query its.lawful own.lawful (same_Some (printed other) (printed query) text),
 )
 
-queried_one : (ls : List (List ℕ)) (x y : Query × ℕ × Found) → SpellsQueried ls x → SpellsQueried ls y → y ≡ x
+queried_one : (ls : List (List ℕ)) (x y : Query × ℕ × List ℕ × Found) → SpellsQueried ls x → SpellsQueried ls y → y ≡ x
 queried_one ls x y one other =
     let reads = one.query in
     let own = reads.0 in
     let steps = steps_query (query_line x.0) x.0 (query_found x.0 reads) in
     let back = steps.drops one.rest y (subst (λ l. SpellsQueried l y) one.first other) in
-    let with_query : ℕ × Found → Query × ℕ × Found = λ counted. (x.0, counted.0, counted.1) in
-    back.2 ∙ ap with_query (counted_one x.0.names one.rest (x.1, x.2) back.0 (names_of_lawful x.0 own.lawful) one.counted back.1)
+    let with_query : ℕ × List ℕ × Found → Query × ℕ × List ℕ × Found = λ counted. (x.0, counted.0, counted.1, counted.2) in
+    back.2 ∙ ap with_query (counted_one x.0.names one.rest (x.1, x.2, x.3) back.0 (names_of_lawful x.0 own.lawful) one.counted back.1)
 
 -- the certificate that lines spell is the only one
 pub spells_one : (ls : List (List ℕ)) (c d : Certificate) → Spells ls c → Spells ls d → d ≡ c
 spells_one ls c d one other =
     let fits = one.certificate in
-    let rest : List (List ℕ) = query_line c.query ∷ count_line c.count ∷ (map answer_line c.items ++ stop_line c.depth c.sorted c.random c.cost ∷ access_lines c.query.names c.accesses) in
+    let answer : List (List ℕ) = map answer_line c.items ++ stop_line c.depth c.sorted c.random c.cost ∷ access_lines c.query.names c.accesses in
+    let rest : List (List ℕ) = query_line c.query ∷ count_line c.count ∷ (version_lines c.query.names c.versions ++ answer) in
     let steps = steps_number (number_line c.line) c.line (number_in-line c.line fits.line_from fits.line_to) in
     let mine = steps.drops rest c (subst (λ l. Spells l c) one.spelled one) in
     let its = steps.drops rest d (subst (λ l. Spells l d) one.spelled other) in

@@ -50,7 +50,7 @@ use Rattle.topk_laws.proofs.Becoming.{served_all}
 use Rattle.topk_laws.proofs.Right.{never_answered, refused_answered, same_answer}
 use Rattle.topk_laws.proofs.ToldLists.{by_place, rows_at_source, rows_of, some_place}
 
-closed_open : {size source : ℕ} → Closed ≡ Open size source → ⊥
+closed_open : {size source version : ℕ} → Closed ≡ Open size source version → ⊥
 closed_open e = cc
 
 -- the sources of lists that are known tell these rows
@@ -93,12 +93,12 @@ module _ (r : CatalogRun) (outcomes : List LineOutcome) (run : IsRun r outcomes)
       by : (o : Opening) → opening_at run.openings place ≡ o → (said_of (entry_at r.catalog place).random o).size ≡ Some n
           → slice_index_or run.sources.told (said_of (entry_at r.catalog place).random o).source None ≡ Some rows
       by Closed is sized = absurd cc
-      by (Open size source) is sized =
+      by (Open size source version) is sized =
           let within : place < length run.openings = elim (cases_lt place (length run.openings)) [
             | inl inside ↦ inside
             | inr past ↦ absurd (closed_open (sym (get_or_past run.openings place Closed past) ∙ is))
           ] in
-          let opening : IsOpening r.lists r.catalog run.sources (IsWanted r.catalog r.lines) r.before run.mid place (Open size source) =
+          let opening : IsOpening r.lists r.catalog run.sources (IsWanted r.catalog r.lines) r.before run.mid place (Open size source version) =
           subst (IsOpening r.lists r.catalog run.sources (IsWanted r.catalog r.lines) r.before run.mid place) is (run.opened.each place within) in
           let at : IsSource r.lists r.catalog run.sources place size source = opening.1 in
           let told_as : IsToldAs (Some rows) (slice_index_or run.sources.told source None) size =

@@ -46,7 +46,7 @@ texts_once view number [] (o ∷ outcomes) others rows one two = absurd one
 texts_once view number (bytes ∷ lines) [] others rows one two = absurd one
 texts_once view number (bytes ∷ lines) (o ∷ outcomes) [] rows one two = absurd two
 texts_once view number (bytes ∷ lines) (o ∷ outcomes) (u ∷ others) rows one two =
-    let here = becomes_once (line_over view number bytes) number o.query u.query o.count u.count o.outcome u.outcome rows.0 one.0 two.0 in
+    let here = becomes_once (line_over view number bytes) number o.query u.query o.count u.count o.versions u.versions o.outcome u.outcome rows.0 one.0 two.0 in
     let rest = texts_once view (number + 1) lines outcomes others rows.1 one.1 two.1 in
     (λ i. here.0 i ++ rest.0 i, λ i. here.1 i && rest.1 i)
 

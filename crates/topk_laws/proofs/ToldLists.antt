@@ -214,7 +214,7 @@ module _ (r : CatalogRun) (outcomes : List LineOutcome) (run : IsRun r outcomes)
       go Closed is opening =
           let text = (entry_at r.catalog place).place in
           absurd (tells.untroubled place wanted (trouble_on (r.before text) (run.mid text) (r.after text) (opening wanted) (puts_at _ run.mid r.after text run.back)))
-      go (Open size source) is opening =
+      go (Open size source version) is opening =
           let told = tells.told place wanted in
           let at : IsSource r.lists r.catalog run.sources place size source = opening.1 in
           let told_as : IsToldAs (Some told.0) (slice_index_or run.sources.told source None) size =

@@ -1,7 +1,7 @@
 -- Lemmas on messages.
 pub mod ChunkLaws
 mod FindLaws
-mod OnlyLaws
+pub mod OnlyLaws
 mod PartLaws
 mod ReplyLaws
 mod StepLaws

@@ -8,7 +8,7 @@ ghost use Rattle.wire.specs.Writing.{joined, asking_text, request_text, reply_te
 ghost use Rattle.wire.specs.declared.fault.WireFault.TheVariants.{LinkFault};
 
 use super::WireFault;
-use tk_io::{Link, Pieces, Sink};
+use tk_io::{Link, Put, Sink, Writer};
 
 /// Where lists are served: a host, its port, and the path before the calls' names.
 #[derive(Drop)]
@@ -193,31 +193,29 @@ fn write_parts<K: Sink>(link: &mut K, parts: &[Part]) -> Result<(), WireFault>
     ensures fault { IfErr result (λ fault. fault ≡ LinkFault) }
     ensures apart { K.aside link.new ≡ K.aside link.old }
 {
-    let mut pieces = Pieces::make();
-    put_parts(link, &mut pieces, parts);
-    match pieces.end(link) {
+    let mut writer = Writer::make(link);
+    put_parts(&mut writer, parts);
+    match writer.end() {
         Ok(()) => Ok(()),
         Err(_) => Err(WireFault::LinkFault),
     }
 }
 
 /// Puts these parts behind the bytes that wait, one behind another.
-fn put_parts<K: Sink>(link: &mut K, pieces: &mut Pieces, parts: &[Part])
-    ensures puts { Puts (K.held link.old) (K.held link.new) (K.faults link.old) (K.faults link.new) pieces.old pieces.new (joined (map part_text parts.now)) }
-    ensures apart { K.aside link.new ≡ K.aside link.old }
+fn put_parts<P: Put>(link: &mut P, parts: &[Part])
+    ensures { Puts (P.at link.old) (P.at link.new) (joined (map part_text parts.now)) }
 {
     for part in parts {
-        put_part(link, pieces, *part);
+        put_part(link, *part);
     }
 }
 
 /// Puts a part behind the bytes that wait.
-fn put_part<K: Sink>(link: &mut K, pieces: &mut Pieces, part: Part)
-    ensures puts { Puts (K.held link.old) (K.held link.new) (K.faults link.old) (K.faults link.new) pieces.old pieces.new (part_text part.entry) }
-    ensures apart { K.aside link.new ≡ K.aside link.old }
+fn put_part<P: Put>(link: &mut P, part: Part)
+    ensures { Puts (P.at link.old) (P.at link.new) (part_text part.entry) }
 {
     match part {
-        Part::Text(text) => pieces.put(link, text),
-        Part::Number(number) => pieces.put_number(link, number),
+        Part::Text(text) => link.put(text),
+        Part::Number(number) => link.put_number(number),
     }
 }

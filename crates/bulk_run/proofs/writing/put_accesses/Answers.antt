@@ -11,6 +11,6 @@ returns g c =
     let random = figure (codes " random ") sums.random in
     let values = figure (codes " values ") sums.values in
     let end = codes "\n" in
-    puts_then _ _ _ _ _ _ _ _ _ sorted (concat (random ∷ values ∷ end ∷ [])) c.put_figure.ensures
-    (puts_then _ _ _ _ _ _ _ _ _ random (concat (values ∷ end ∷ [])) c.put_figure-2.ensures
-    (puts_then _ _ _ _ _ _ _ _ _ values (concat (end ∷ [])) c.put_figure-3.ensures c.put.ensures.puts))
+    puts_then _ _ _ sorted (concat (random ∷ values ∷ end ∷ [])) c.put_figure.ensures
+    (puts_then _ _ _ random (concat (values ∷ end ∷ [])) c.put_figure-2.ensures
+    (puts_then _ _ _ values (concat (end ∷ [])) c.put_figure-3.ensures c.put.ensures.puts))

@@ -3,4 +3,4 @@ use Rattle.tk_io.proofs.Putting.{puts_then}
 use Rattle.bulk_run.proofs.writing.put_figure.Goals as goal
 
 pub returns : goal.returns
-returns g c = puts_then _ _ _ _ _ _ _ _ _ c.args.before.now (decimal c.args.number) c.put.ensures.puts c.put_number.ensures.puts
+returns g c = puts_then _ _ _ c.args.before.now (decimal c.args.number) c.put.ensures.puts c.put_number.ensures.puts

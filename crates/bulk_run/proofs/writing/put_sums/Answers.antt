@@ -10,6 +10,6 @@ returns g c =
     let answered = figure (codes " answered ") sums.answered in
     let depth = figure (codes " depth ") sums.depth in
     let rest = accesses_text sums in
-    puts_then _ _ _ _ _ _ _ _ _ queries (answered ++ (depth ++ rest)) c.put_figure.ensures
-    (puts_then _ _ _ _ _ _ _ _ _ answered (depth ++ rest) c.put_figure-2.ensures
-    (puts_then _ _ _ _ _ _ _ _ _ depth rest c.put_figure-3.ensures c.put_accesses.ensures))
+    puts_then _ _ _ queries (answered ++ (depth ++ rest)) c.put_figure.ensures
+    (puts_then _ _ _ answered (depth ++ rest) c.put_figure-2.ensures
+    (puts_then _ _ _ depth rest c.put_figure-3.ensures c.put_accesses.ensures))

@@ -12,6 +12,6 @@ returns-in-Ok-Refused c =
     let refusal = c.in-Ok-Refused.refusal in
     let query = c.in-Ok-Refused.query in
     let refused = subst (Admits (record { view = bundle_view c.of.result; number = 1; bytes = c.deref.result.now })) c.in-Ok-Refused.field-0-is c.in-Ok-Refused.ensures in
-    line_refused bundle refusal query
+    rw (c.from_vec.ensures, c.new.ensures.items) (line_refused bundle refusal query
     (subst (λ d. RefusesLine admission_causes (record { view = bundle_view d; number = 1; bytes = c.args.bundle.now.query.items }) refusal query) c.of.ensures
-    (subst (λ bytes. RefusesLine admission_causes (record { view = bundle_view c.of.result; number = 1; bytes = bytes }) refusal query) c.deref.ensures.value refused))
+    (subst (λ bytes. RefusesLine admission_causes (record { view = bundle_view c.of.result; number = 1; bytes = bytes }) refusal query) c.deref.ensures.value refused)))

@@ -11,17 +11,17 @@ use Rattle.bundle_text.specs.Bundle.{row_line}
 use Rattle.bundle_text.proofs.rows.put_rows.Goals as goal
 
 pub loop-row-init : goal.loop-row-init
-loop-row-init g c = puts_none _ _ _
+loop-row-init g c = puts_none _
 
 pub loop-row-preserved : goal.loop-row-preserved
 loop-row-preserved g c =
     let rows = c.args.rows.now in
     let t = YieldsList-turn (YieldsList-from_slice rows (ap iter_rest c.into_iter-row-iterator.ensures.into_iter_gives ∙ c.iter-row-items.ensures.rest)) c.loop-row.yielded _ c.loop-row.yielded_by _ _ c.in-Some.row c.in-Some.is c.next.ensures.steps in
     rw (length_push c.loop-row.yielded c.in-Some.row)
-    (puts_next_of (λ (line : List ℕ). line ++ 10 ∷ []) row_line rows (length c.loop-row.yielded) c.in-Some.row.now _ _ _ _ _ _ _ _ _
+    (puts_next_of (λ (line : List ℕ). line ++ 10 ∷ []) row_line rows (length c.loop-row.yielded) c.in-Some.row.now _ _ _
     (slice_get-get_or rows (length c.loop-row.yielded) c.in-Some.row.now t.0 ∙ ap Some (sym t.1)) c.loop-row.invariant c.put_row.ensures)
 
 pub returns : goal.returns
 returns g c =
     let t = YieldsList-end (YieldsList-from_slice c.args.rows.now (ap iter_rest c.into_iter-row-iterator.ensures.into_iter_gives ∙ c.iter-row-items.ensures.rest)) c.loop-row.yielded _ c.loop-row.yielded_by _ _ c.in-None.is c.next.ensures.steps in
-    puts_all (λ (rows : List Row). unlines (map row_line rows)) c.args.rows.now (length c.loop-row.yielded) _ _ _ _ _ _ (omega (arith, t.1)) c.loop-row.invariant
+    puts_all (λ (rows : List Row). unlines (map row_line rows)) c.args.rows.now (length c.loop-row.yielded) _ _ (omega (arith, t.1)) c.loop-row.invariant

@@ -7,4 +7,4 @@ use Rattle.bundle_text.proofs.rows.put_rows.Given as goal
 -- the lines of the rows so far were put
 abbrev pub invariant-loop-row : goal.invariant-loop-row
 invariant-loop-row g l =
-    Puts (g.K.Sink.held l.fn.out) (g.K.Sink.held l.out) (g.K.Sink.faults l.fn.out) (g.K.Sink.faults l.out) l.fn.pieces l.pieces (unlines (map row_line (take (length l.yielded) l.rows)))
+    Puts (g.P.Put.at l.fn.out) (g.P.Put.at l.out) (unlines (map row_line (take (length l.yielded) l.rows)))

@@ -9,12 +9,12 @@ use Rattle.bundle_text.proofs.Sections.{puts_list, puts_lists}
 use Rattle.bundle_text.proofs.table.put_sections.Goals as goal
 
 pub loop-place-init : goal.loop-place-init
-loop-place-init g c = puts_none _ _ _
+loop-place-init g c = puts_none _
 
 pub loop-place-preserved : goal.loop-place-preserved
 loop-place-preserved g c =
-    puts_list c.args.lists.now c.loop-place.place c.index-lists-place.result _ _ _ _ _ _ _ _ _ (omega arith) c.loop-place.invariant
-    (subst (λ (rows : List Row). Puts (g.K.Sink.held c.loop-place.out) (g.K.Sink.held c.put_section.new.out) (g.K.Sink.faults c.loop-place.out) (g.K.Sink.faults c.put_section.new.out) c.loop-place.pieces c.put_section.new.pieces (unlines (section (list_name (c.loop-place.place + 1)) rows))) c.index-lists-place.is c.put_section.ensures)
+    puts_list c.args.lists.now c.loop-place.place c.index-lists-place.result _ _ _ (omega arith) c.loop-place.invariant
+    (subst (λ (rows : List Row). Puts (g.P.Put.at c.loop-place.out) (g.P.Put.at c.put_section.new.out) (unlines (section (list_name (c.loop-place.place + 1)) rows))) c.index-lists-place.is c.put_section.ensures)
 
 pub returns : goal.returns
-returns g c = puts_lists c.args.lists.now c.loop-place.place _ _ _ _ _ _ (omega arith) c.loop-place.invariant
+returns g c = puts_lists c.args.lists.now c.loop-place.place _ _ (omega arith) c.loop-place.invariant

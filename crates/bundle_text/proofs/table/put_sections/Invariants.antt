@@ -8,4 +8,4 @@ use Rattle.bundle_text.proofs.table.put_sections.Given as goal
 -- the sections of the lists so far were put
 abbrev pub invariant-loop-place : goal.invariant-loop-place
 invariant-loop-place g l =
-    Puts (g.K.Sink.held l.fn.out) (g.K.Sink.held l.out) (g.K.Sink.faults l.fn.out) (g.K.Sink.faults l.out) l.fn.pieces l.pieces (unlines (sections (list_names l.place) (take l.place l.lists)))
+    Puts (g.P.Put.at l.fn.out) (g.P.Put.at l.out) (unlines (sections (list_names l.place) (take l.place l.lists)))

@@ -6,15 +6,16 @@ use Rattle.catalog_calls.proofs.LineTexts.{puts_line}
 use Rattle.catalog_calls.proofs.line_outcomes.put_outcomes.Goals as goal
 
 pub loop-line-init : goal.loop-line-init
-loop-line-init g c = record { number = refl; put = puts_none _ _ _ }
+loop-line-init g c = record { number = refl; put = puts_none _ }
 
 pub loop-line-preserved : goal.loop-line-preserved
 loop-line-preserved g c = record {
   number = ap (λ n. n + 1) c.loop-line.invariant.number;
   put =
-      puts_line c.args.outcomes.now c.loop-line.line-index c.line-item.result c.loop-line.number _ _ _ _ _ _ _ _ _ _ c.loop-line.invariant.number c.as_ref.ensures.value
+      puts_line c.args.outcomes.now c.loop-line.line-index c.line-item.result c.loop-line.number _ c.as_slice.result.now _ _ _
+      c.loop-line.invariant.number c.as_ref.ensures.value c.as_slice.ensures
       (slice_get_read c.args.outcomes.now (length c.args.outcomes.now) c.loop-line.line-index c.line-item.result refl c.loop-line-test.true c.line-item.is) c.loop-line.invariant.put c.put_outcome.ensures;
 }
 
 pub returns : goal.returns
-returns g c = puts_all (outcomes_text 1) c.args.outcomes.now c.loop-line.line-index _ _ _ _ _ _ (omega arith) c.loop-line.invariant.put
+returns g c = puts_all (outcomes_text 1) c.args.outcomes.now c.loop-line.line-index _ _ (omega arith) c.loop-line.invariant.put

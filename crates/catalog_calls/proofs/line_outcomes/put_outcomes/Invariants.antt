@@ -7,6 +7,5 @@ use Rattle.catalog_calls.proofs.line_outcomes.put_outcomes.Given as goal
 abbrev pub invariant-loop-line : goal.invariant-loop-line
 invariant-loop-line g l = record {
   number : l.number ≡ l.line-index + 1;
-  put : Puts (g.K.Sink.held l.fn.out) (g.K.Sink.held l.out) (g.K.Sink.faults l.fn.out)
-      (g.K.Sink.faults l.out) l.fn.pieces l.pieces (outcomes_text 1 (take l.line-index l.outcomes));
+  put : Puts (g.P.Put.at l.fn.out) (g.P.Put.at l.out) (outcomes_text 1 (take l.line-index l.outcomes));
 }

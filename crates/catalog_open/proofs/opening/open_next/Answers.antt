@@ -72,7 +72,7 @@ returns-in-Some g c =
       opened = λ lists marks before same marked are.
           let told = subst (λ l. IsToldAs l (g.H.Item.Source.list c.in-Some.taken.source) c.in-Some.taken.size) (same c.place_of.result.now) opens.1 in
           let made = opened_as lists c.args.catalog.now (IsMarked marks) before (g.H.Shelf.at c.args.shelf.now) _ _ _ _ _ _ _ _ c.make_room.ensures.openings (ap (map (of_slot g.H.Item.Source.list)) c.make_room.ensures.sources) c.make_room.ensures.places c.make_room.ensures.counts are in
-          opened_some lists c.args.catalog.now (IsMarked marks) before (g.H.Shelf.at c.args.shelf.now) (g.H.Shelf.at c.open_source.new.shelf) c.args.place c.in-Some.taken.size _ c.place_of.result.now _ _ _ _ (g.H.Item.Source.list c.in-Some.taken.source) _ _ _ _
+          opened_some lists c.args.catalog.now (IsMarked marks) before (g.H.Shelf.at c.args.shelf.now) (g.H.Shelf.at c.open_source.new.shelf) c.args.place c.in-Some.taken.size _ c.in-Some.taken.version c.place_of.result.now _ _ _ _ (g.H.Item.Source.list c.in-Some.taken.source) _ _ _ _
           marked c.requires.place (ap length c.make_room.ensures.openings ∙ c.requires.next) (ap length c.make_room.ensures.sources ∙ c.requires.many ∙ ap length (sym c.make_room.ensures.places)) at c.open_source.ensures.elsewhere opens.2 told
           c.put_open.ensures.openings (ap (map (of_slot g.H.Item.Source.list)) c.put_open.ensures.sources ∙ map-append (of_slot g.H.Item.Source.list) c.make_room.new.sources.items (fresh_slot c.in-Some.taken.source ∷ [])) c.put_open.ensures.places c.put_open.ensures.counts made;
     }

@@ -7,5 +7,5 @@ returns c = (
   c.in-Some.ended,
   c.in-Some-pop.ensures.items,
   c.in-Some.ensures.items,
-  record { query = refl; count = refl; outcome = sym c.ended_outcome.ensures ∙ c.in-Some-ended_outcome.is },
+  record { query = refl; count = refl; versions = c.from_vec.ensures; outcome = sym c.ended_outcome.ensures ∙ c.in-Some-ended_outcome.is },
 )

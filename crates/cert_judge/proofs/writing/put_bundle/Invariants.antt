@@ -9,4 +9,4 @@ use Rattle.cert_judge.proofs.writing.put_bundle.Given as goal
 -- the lists so far were put
 abbrev pub invariant-loop-place : goal.invariant-loop-place
 invariant-loop-place g l =
-    Puts (g.K.Sink.held l.fn.out) (g.K.Sink.held l.out) (g.K.Sink.faults l.fn.out) (g.K.Sink.faults l.out) l.fn.pieces l.pieces (flat_map (λ (list : List ℕ × List Row). unlines (section list.0 list.1)) (take l.place (zip (content l.bundle).names (content l.bundle).lists)))
+    Puts (g.P.Put.at l.fn.out) (g.P.Put.at l.out) (flat_map (λ (list : List ℕ × List Row). unlines (section list.0 list.1)) (take l.place (zip (content l.bundle).names (content l.bundle).lists)))

@@ -9,7 +9,7 @@ use Rattle.cert_judge.proofs.writing.put_judged.Goals as goal
 pub returns-in-Beaten : goal.returns-in-Beaten
 unfolding told_text
 returns-in-Beaten g c =
-    rw c.in-Beaten.is (puts_then _ _ _ _ _ _ _ _ _ (beaten_line c.in-Beaten.inside c.in-Beaten.low c.in-Beaten.outside c.in-Beaten.high ++ 10 ∷ []) (unlines (bundle_lines (content c.in-Beaten.counter))) c.put_beaten.ensures c.put_bundle.ensures)
+    rw c.in-Beaten.is (puts_then _ _ _ (beaten_line c.in-Beaten.inside c.in-Beaten.low c.in-Beaten.outside c.in-Beaten.high ++ 10 ∷ []) (unlines (bundle_lines (content c.in-Beaten.counter))) c.put_beaten.ensures c.put_bundle.ensures)
 
 pub returns-in_default : goal.returns-in_default
 unfolding told_text

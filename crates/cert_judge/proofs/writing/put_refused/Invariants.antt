@@ -6,4 +6,4 @@ use Rattle.cert_judge.proofs.writing.put_refused.Given as goal
 -- the name and the fields so far were put
 abbrev pub invariant-loop-field : goal.invariant-loop-field
 invariant-loop-field g l =
-    Puts (g.K.Sink.held l.fn.out) (g.K.Sink.held l.out) (g.K.Sink.faults l.fn.out) (g.K.Sink.faults l.out) l.fn.pieces l.pieces (refused_line l.name (take l.field-index l.fields))
+    Puts (g.P.Put.at l.fn.out) (g.P.Put.at l.out) (refused_line l.name (take l.field-index l.fields))

@@ -9,4 +9,4 @@ returns-in-Some g c = rw (c.in-Some.is, c.in-Answered.is) c.put_certificate.ensu
 
 pub returns-in-Refused : goal.returns-in-Refused
 unfolding outcome_text
-returns-in-Refused g c = rw c.in-Refused.is (puts_as _ _ _ _ _ _ _ _ (append-nil _) c.put_refusal.ensures)
+returns-in-Refused g c = rw c.in-Refused.is (puts_as _ _ _ _ (append-nil _) c.put_refusal.ensures)

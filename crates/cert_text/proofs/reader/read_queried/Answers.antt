@@ -1,8 +1,6 @@
-use Rattle.std.proofs.Common.{ℕ, ◌+◌, Ok, refl}
+use Rattle.std.proofs.Common.{◌+◌, Ok, refl}
 use Rattle.line_text.specs.Lines.{lines}
-use Rattle.query_text.specs.declared.query.Query.{Query}
-use Rattle.cert_text.specs.declared.reader.Results.{Results}
-use Rattle.cert_text.specs.Judging.{SpellsCounted, SpellsQueried, found_of}
+use Rattle.cert_text.specs.Judging.{SpellsCounted, SpellsQueried, counted_of, queried_of}
 use Rattle.cert_text.proofs.JudgingLaws.{finds_first, finds_fault, judged_here, judged_end, carries_line}
 use Rattle.cert_text.proofs.SpellLaws.{steps_query, queried_end, queried_here}
 use Rattle.cert_text.proofs.QueryLaws.{names_of_found}
@@ -26,13 +24,13 @@ pub returns-in-Err-read_counted : goal.returns-in-Err-read_counted
 returns-in-Err-read_counted c =
     let query = c.in-Ok-Some.query in
     let found = rw c.in-Ok-Some.field-0-is at c.in-Ok-Some.ensures in
-    finds_fault (SpellsCounted query.names) SpellsQueried (lines c.in-Some.rest.now) (lines c.args.text.now) (λ counted. (query, counted.0, counted.1)) 1 c.args.first (c.args.first + 1) (λ (counted : ℕ × Results). (counted.0, found_of counted.1)) (λ (queried : Query × ℕ × Results). (queried.0, queried.1, found_of queried.2)) c.in-Err-read_counted.fault
-    (carries_line (SpellsCounted query.names) SpellsQueried c.in-Some.line.now (lines c.in-Some.rest.now) (lines c.args.text.now) (λ counted. (query, counted.0, counted.1)) c.in-Some.ensures.0 (steps_query c.in-Some.line.now query found))
+    finds_fault (SpellsCounted query.names) SpellsQueried (lines c.in-Some.rest.now) (lines c.args.text.now) (λ counted. (query, counted.0, counted.1, counted.2)) 1 c.args.first (c.args.first + 1) counted_of queried_of c.in-Err-read_counted.fault
+    (carries_line (SpellsCounted query.names) SpellsQueried c.in-Some.line.now (lines c.in-Some.rest.now) (lines c.args.text.now) (λ counted. (query, counted.0, counted.1, counted.2)) c.in-Some.ensures.0 (steps_query c.in-Some.line.now query found))
     refl c.in-Err-read_counted.ensures
 
 pub returns-in-Ok : goal.returns-in-Ok
 returns-in-Ok c =
     let query = c.in-Ok-Some.query in
     let found = rw c.in-Ok-Some.field-0-is at c.in-Ok-Some.ensures in
-    carries_line (SpellsCounted query.names) SpellsQueried c.in-Some.line.now (lines c.in-Some.rest.now) (lines c.args.text.now) (λ counted. (query, counted.0, counted.1)) c.in-Some.ensures.0 (steps_query c.in-Some.line.now query found)
-    (Ok (c.in-Ok.count, found_of c.in-Ok.results)) c.in-Ok.ensures
+    carries_line (SpellsCounted query.names) SpellsQueried c.in-Some.line.now (lines c.in-Some.rest.now) (lines c.args.text.now) (λ counted. (query, counted.0, counted.1, counted.2)) c.in-Some.ensures.0 (steps_query c.in-Some.line.now query found)
+    (Ok (counted_of c.in-Ok.counted)) c.in-Ok.ensures

@@ -14,5 +14,5 @@ pub returns-clause-fault : goal.returns-clause-fault
 returns-clause-fault c = finds_fault_line (lines c.args.bytes.now) c.read_lines.result c.read_lines.ensures
 
 pub returns-clause-again : goal.returns-clause-again
-returns-clause-again c = λ line query count answer is same.
-    finds_reads (lines c.args.bytes.now) c.read_lines.result c.read_lines.ensures (certificate_of line query count answer) (certified_spelled line query count answer c.args.bytes.now is same)
+returns-clause-again c = λ line query count versions answer is same.
+    finds_reads (lines c.args.bytes.now) c.read_lines.result c.read_lines.ensures (certificate_of line query count versions answer) (certified_spelled line query count versions answer c.args.bytes.now is same)

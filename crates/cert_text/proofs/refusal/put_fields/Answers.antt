@@ -11,15 +11,15 @@ use Rattle.cert_text.specs.Writing.{further, shown_field}
 use Rattle.cert_text.proofs.refusal.put_fields.Goals as goal
 
 pub loop-field-init : goal.loop-field-init
-loop-field-init g c = puts_none _ _ _
+loop-field-init g c = puts_none _
 
 pub loop-field-preserved : goal.loop-field-preserved
 loop-field-preserved g c =
-    puts_next_of (λ (word : List ℕ). 32 ∷ word) (λ (field : FieldValue). field_word (names_of (option_copied c.args.query)) (shown_field field)) c.args.fields.now c.loop-field.field-index _ _ _ _ _ _ _ _ _ _
+    puts_next_of (λ (word : List ℕ). 32 ∷ word) (λ (field : FieldValue). field_word (names_of (option_copied c.args.query)) (shown_field field)) c.args.fields.now c.loop-field.field-index _ _ _ _
     (slice_get-get_or c.args.fields.now c.loop-field.field-index (values.Number 0) (omega arith)) c.loop-field.invariant (rw c.word_of.ensures at c.put_further.ensures)
 
 pub returns : goal.returns
 returns g c =
     let words = λ (field : FieldValue). field_word (names_of (option_copied c.args.query)) (shown_field field) in
-    puts_as _ _ _ _ _ _ _ (further (map words c.args.fields.now)) (ap further (map_map (field_word (names_of (option_copied c.args.query))) shown_field c.args.fields.now))
-    (puts_all (λ fields. further (map words fields)) c.args.fields.now c.loop-field.field-index _ _ _ _ _ _ (omega arith) c.loop-field.invariant)
+    puts_as _ _ _ (further (map words c.args.fields.now)) (ap further (map_map (field_word (names_of (option_copied c.args.query))) shown_field c.args.fields.now))
+    (puts_all (λ fields. further (map words fields)) c.args.fields.now c.loop-field.field-index _ _ (omega arith) c.loop-field.invariant)

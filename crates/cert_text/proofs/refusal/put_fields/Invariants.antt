@@ -9,5 +9,5 @@ use Rattle.cert_text.proofs.refusal.put_fields.Given as goal
 -- the fields so far were put
 abbrev pub invariant-loop-field : goal.invariant-loop-field
 invariant-loop-field g l =
-    Puts (g.K.Sink.held l.fn.out) (g.K.Sink.held l.out) (g.K.Sink.faults l.fn.out) (g.K.Sink.faults l.out) l.fn.pieces l.pieces
+    Puts (g.P.Put.at l.fn.out) (g.P.Put.at l.out)
     (further (map (λ field. field_word (names_of (option_copied l.query)) (shown_field field)) (take l.field-index l.fields)))

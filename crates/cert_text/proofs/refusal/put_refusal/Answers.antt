@@ -14,9 +14,9 @@ unfolding refused_words
 returns g c =
     let fields = map (field_word (names_of (option_copied c.args.query))) (refusal_row c.args.refusal).1 in
     let name = c.refusal_name.result.now in
-    subst (Puts (g.K.Sink.held c.args.out.now) (g.K.Sink.held c.put-2.new.out) (g.K.Sink.faults c.args.out.now) (g.K.Sink.faults c.put-2.new.out) c.args.pieces.now c.put-2.new.self)
+    subst (Puts (g.P.Put.at c.args.out.now) (g.P.Put.at c.put-2.new.self))
     (sym (ap (λ n. refused_words c.args.line n fields ++ 10 ∷ []) (sym c.refusal_name.ensures) ∙ refused_parts (codes "refused") (decimal c.args.line) name fields))
-    (puts_then _ _ _ _ _ _ _ _ _ (codes "refused") ((32 ∷ decimal c.args.line) ++ ((32 ∷ name) ++ (further fields ++ 10 ∷ []))) c.put.ensures.puts
-    (puts_then _ _ _ _ _ _ _ _ _ (32 ∷ decimal c.args.line) ((32 ∷ name) ++ (further fields ++ 10 ∷ [])) c.put_further.ensures
-    (puts_then _ _ _ _ _ _ _ _ _ (32 ∷ name) (further fields ++ 10 ∷ []) c.put_further-2.ensures
-    (puts_then _ _ _ _ _ _ _ _ _ (further fields) (10 ∷ []) (rw (c.as_slice.ensures, c.fields_of-fields.ensures) at c.put_fields.ensures) c.put-2.ensures.puts))))
+    (puts_then _ _ _ (codes "refused") ((32 ∷ decimal c.args.line) ++ ((32 ∷ name) ++ (further fields ++ 10 ∷ []))) c.put.ensures.puts
+    (puts_then _ _ _ (32 ∷ decimal c.args.line) ((32 ∷ name) ++ (further fields ++ 10 ∷ [])) c.put_further.ensures
+    (puts_then _ _ _ (32 ∷ name) (further fields ++ 10 ∷ []) c.put_further-2.ensures
+    (puts_then _ _ _ (further fields) (10 ∷ []) (rw (c.as_slice.ensures, c.fields_of-fields.ensures) at c.put_fields.ensures) c.put-2.ensures.puts))))

@@ -10,7 +10,7 @@ use Rattle.cert_text.specs.Certificate.{access_line}
 use Rattle.cert_text.proofs.writing.put_accesses.Goals as goal
 
 pub loop-access-init : goal.loop-access-init
-loop-access-init g c = puts_none _ _ _
+loop-access-init g c = puts_none _
 
 pub loop-access-preserved : goal.loop-access-preserved
 loop-access-preserved g c =
@@ -18,11 +18,11 @@ loop-access-preserved g c =
     let place = length c.loop-access.yielded in
     let t = YieldsList-turn (YieldsList-from_slice accesses (ap iter_rest c.into_iter-access-iterator.ensures.into_iter_gives ∙ c.iter-access-items.ensures.rest)) c.loop-access.yielded _ c.loop-access.yielded_by _ _ c.in-Some.access c.in-Some.is c.next.ensures.steps in
     rw (length_push c.loop-access.yielded c.in-Some.access)
-    (puts_next_of (λ (line : List ℕ). line ++ 10 ∷ []) (access_line c.args.names.now) accesses place c.in-Some.access.now _ _ _ _ _ _ _ _ _
+    (puts_next_of (λ (line : List ℕ). line ++ 10 ∷ []) (access_line c.args.names.now) accesses place c.in-Some.access.now _ _ _
     (slice_get-get_or accesses place c.in-Some.access.now t.0 ∙ ap Some (sym t.1)) c.loop-access.invariant c.put_access.ensures)
 
 pub returns : goal.returns
 returns g c =
     let accesses = c.args.transcript.now.accesses in
     let t = YieldsList-end (YieldsList-from_slice accesses (ap iter_rest c.into_iter-access-iterator.ensures.into_iter_gives ∙ c.iter-access-items.ensures.rest)) c.loop-access.yielded _ c.loop-access.yielded_by _ _ c.in-None.is c.next.ensures.steps in
-    puts_all (λ xs. unlines (map (access_line c.args.names.now) xs)) accesses (length c.loop-access.yielded) _ _ _ _ _ _ (omega (arith, t.1)) c.loop-access.invariant
+    puts_all (λ xs. unlines (map (access_line c.args.names.now) xs)) accesses (length c.loop-access.yielded) _ _ (omega (arith, t.1)) c.loop-access.invariant

@@ -7,5 +7,5 @@ use Rattle.cert_text.proofs.writing.put_accesses.Given as goal
 -- the lines of the accesses so far were put
 abbrev pub invariant-loop-access : goal.invariant-loop-access
 invariant-loop-access g l =
-    Puts (g.K.Sink.held l.fn.out) (g.K.Sink.held l.out) (g.K.Sink.faults l.fn.out) (g.K.Sink.faults l.out) l.fn.pieces l.pieces
+    Puts (g.P.Put.at l.fn.out) (g.P.Put.at l.out)
     (unlines (map (access_line l.names) (take (length l.yielded) l.transcript.accesses)))

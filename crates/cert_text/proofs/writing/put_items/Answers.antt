@@ -10,7 +10,7 @@ use Rattle.cert_text.specs.Certificate.{answer_line}
 use Rattle.cert_text.proofs.writing.put_items.Goals as goal
 
 pub loop-item-init : goal.loop-item-init
-loop-item-init g c = puts_none _ _ _
+loop-item-init g c = puts_none _
 
 pub loop-item-preserved : goal.loop-item-preserved
 loop-item-preserved g c =
@@ -18,11 +18,11 @@ loop-item-preserved g c =
     let place = length c.loop-item.yielded in
     let t = YieldsList-turn (YieldsList-from_slice items (ap iter_rest c.into_iter-item-iterator.ensures.into_iter_gives ∙ c.iter-item-items.ensures.rest)) c.loop-item.yielded _ c.loop-item.yielded_by _ _ c.in-Some.item c.in-Some.is c.next.ensures.steps in
     rw (length_push c.loop-item.yielded c.in-Some.item)
-    (puts_next_of (λ (line : List ℕ). line ++ 10 ∷ []) answer_line items place c.in-Some.item.now _ _ _ _ _ _ _ _ _
+    (puts_next_of (λ (line : List ℕ). line ++ 10 ∷ []) answer_line items place c.in-Some.item.now _ _ _
     (slice_get-get_or items place c.in-Some.item.now t.0 ∙ ap Some (sym t.1)) c.loop-item.invariant (rw c.from.ensures at c.put_line.ensures))
 
 pub returns : goal.returns
 returns g c =
     let items = c.args.items.now in
     let t = YieldsList-end (YieldsList-from_slice items (ap iter_rest c.into_iter-item-iterator.ensures.into_iter_gives ∙ c.iter-item-items.ensures.rest)) c.loop-item.yielded _ c.loop-item.yielded_by _ _ c.in-None.is c.next.ensures.steps in
-    puts_all (λ xs. unlines (map answer_line xs)) items (length c.loop-item.yielded) _ _ _ _ _ _ (omega (arith, t.1)) c.loop-item.invariant
+    puts_all (λ xs. unlines (map answer_line xs)) items (length c.loop-item.yielded) _ _ (omega (arith, t.1)) c.loop-item.invariant

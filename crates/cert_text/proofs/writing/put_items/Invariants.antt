@@ -7,4 +7,4 @@ use Rattle.cert_text.proofs.writing.put_items.Given as goal
 -- the lines of the items so far were put
 abbrev pub invariant-loop-item : goal.invariant-loop-item
 invariant-loop-item g l =
-    Puts (g.K.Sink.held l.fn.out) (g.K.Sink.held l.out) (g.K.Sink.faults l.fn.out) (g.K.Sink.faults l.out) l.fn.pieces l.pieces (unlines (map answer_line (take (length l.yielded) l.items)))
+    Puts (g.P.Put.at l.fn.out) (g.P.Put.at l.out) (unlines (map answer_line (take (length l.yielded) l.items)))

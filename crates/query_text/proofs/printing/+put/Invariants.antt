@@ -12,14 +12,14 @@ use Rattle.query_text.proofs.printing.+put.Given as goal
 abbrev pub invariant-put_nodes-loop-place : goal.invariant-put_nodes-loop-place
 invariant-put_nodes-loop-place g l = record {
   place : l.place ≡ length l.yielded;
-  puts : Puts (g.K.Sink.held l.fn.out) (g.K.Sink.held l.out) (g.K.Sink.faults l.fn.out) (g.K.Sink.faults l.out) l.fn.pieces l.pieces
+  puts : Puts (g.P.Put.at l.fn.out) (g.P.Put.at l.out)
       (l.opening ++ text_of (argument_pieces (arguments_from (take l.place (map (plain_argument l.names) l.nodes)))));
 }
 
 abbrev pub invariant-put_terms-loop-place : goal.invariant-put_terms-loop-place
 invariant-put_terms-loop-place g l = record {
   place : l.place ≡ length l.yielded;
-  puts : Puts (g.K.Sink.held l.fn.out) (g.K.Sink.held l.out) (g.K.Sink.faults l.fn.out) (g.K.Sink.faults l.out) l.fn.pieces l.pieces
+  puts : Puts (g.P.Put.at l.fn.out) (g.P.Put.at l.out)
       (codes "wsum(" ++ text_of (argument_pieces (arguments_from (take l.place (map (weighted_argument l.names) l.weighted)))));
 }
 

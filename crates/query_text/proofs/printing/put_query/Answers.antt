@@ -12,13 +12,13 @@ use Rattle.query_text.proofs.printing.put_query.Goals as goal
 pub returns : goal.returns
 returns g c =
     let q = c.args.query.now in
-    subst (Puts (g.K.Sink.held c.args.out.now) (g.K.Sink.held c.put_room.new.out) (g.K.Sink.faults c.args.out.now) (g.K.Sink.faults c.put_room.new.out) c.args.pieces.now c.put_room.new.pieces)
+    subst (Puts (g.P.Put.at c.args.out.now) (g.P.Put.at c.put_room.new.out))
     ((λ i. codes "top " ++ (decimal (c.from.ensures i) ++ (codes " by " ++ (text_of (expr_pieces (written q.names (c.root.ensures.tree i))) ++ (codes " using " ++ (c.word.ensures i ++ (cost_text q.cost ++ room_text q.room)))))))
     ∙ query_text q)
-    (puts_then _ _ _ _ _ _ _ _ _ _ _ c.put.ensures.puts
-    (puts_then _ _ _ _ _ _ _ _ _ _ _ c.put_number.ensures.puts
-    (puts_then _ _ _ _ _ _ _ _ _ _ _ c.put-2.ensures.puts
-    (puts_then _ _ _ _ _ _ _ _ _ _ _ c.put_expr.ensures
-    (puts_then _ _ _ _ _ _ _ _ _ _ _ c.put-3.ensures.puts
-    (puts_then _ _ _ _ _ _ _ _ _ _ _ c.put-4.ensures.puts
-    (puts_then _ _ _ _ _ _ _ _ _ _ _ c.put_cost.ensures c.put_room.ensures)))))))
+    (puts_then _ _ _ _ _ c.put.ensures.puts
+    (puts_then _ _ _ _ _ c.put_number.ensures.puts
+    (puts_then _ _ _ _ _ c.put-2.ensures.puts
+    (puts_then _ _ _ _ _ c.put_expr.ensures
+    (puts_then _ _ _ _ _ c.put-3.ensures.puts
+    (puts_then _ _ _ _ _ c.put-4.ensures.puts
+    (puts_then _ _ _ _ _ c.put_cost.ensures c.put_room.ensures)))))))
