@@ -174,7 +174,7 @@ module _ (run : BatchRun) (batch : BatchState) (ran : IsBatch run batch) (lists 
       (λ object k.
       let one = (ran.used source (within run batch ran lists told tables q source c s)).named object k in
       named_in_list lists ran.states one.0 source object (served run batch ran lists told tables one.0 one.1) (agrees run batch ran lists told tables one.0 one.1) one.2)
-      (λ had other tells. let here = within run batch ran lists told tables q source c s in unmoved source here ((ran.counted source here).moved had other tells))
+      (λ had other tells. let here = within run batch ran lists told tables q source c s in unmoved source here ((ran.counted source here).moved had other tells).counted)
 
   true_for : (q : Inquiry) → Contains ran.queries q → IsTrueFor lists ran.states q
   true_for q c = record {

@@ -18,7 +18,7 @@ use Rattle.fetcher.specs.declared.slot.Slot.{Slot}
 use Rattle.fetcher.specs.Moving.{TellsNoMove}
 use Rattle.fetcher.specs.Telling.{TellsOf}
 use Rattle.limits.specs.declared.settings.Settings.{Settings}
-use Rattle.batch_result.specs.Numbered.{told_at, counts_at}
+use Rattle.batch_result.specs.Numbered.{told_at, version_at, counts_at}
 use Rattle.batch_result.specs.declared.batch.Use.{Use}
 use Rattle.batch_result.specs.Using.{IsUsed, HasCounted}
 
@@ -30,23 +30,26 @@ pub record BatchState : Type 0 where
 abbrev pub batch_of : List Ended → List Use → BatchState
 batch_of endings uses = record { endings = endings; uses = uses }
 
--- what a batch was run on: the settings, how many objects each source has, the queries that were ready, the lists that the sources tell, and
--- what the sources had counted before and count now
+-- what a batch was run on: the settings, how many objects each source has, the queries that were ready, the lists that the sources tell, their versions
+-- that are at hand, and what the sources had counted before and count now
 pub record BatchRun : Type 0 where
   pub settings : Settings
   pub sizes : List ℕ
   pub readies : List Ready
   pub told : List (Option (List Row))
+  pub versions : List ℕ
   pub before : List Counts
   pub now : List Counts
 
 -- the run of a batch on slots of sources, which stood so before and stand so now
-abbrev pub run_of : {S : Type 0} → (S → Option (List Row)) → (S → Counts) → Settings → List ℕ → List Ready → List (Slot S) → List (Slot S) → BatchRun
-run_of list counts settings sizes readies old new = record {
+abbrev pub run_of : {S : Type 0} → (S → Option (List Row)) → (S → Counts) → (S → ℕ) → Settings → List ℕ → List Ready → List (Slot S) → List (Slot S)
+    → BatchRun
+run_of list counts at_hand settings sizes readies old new = record {
   settings = settings;
   sizes = sizes;
   readies = readies;
   told = map (λ slot. list slot.source) old;
+  versions = map (λ slot. at_hand slot.source) old;
   before = map (λ slot. counts slot.source) old;
   now = map (λ slot. counts slot.source) new;
 }
@@ -79,7 +82,8 @@ IsSpared q = (list : ℕ) → q.refusal ≢ Some (Look list why.Memory)
 --   each query's transcript is drawn from the closing logs of its sources and is how the run of its algorithm begins on every table that
 --   agrees with it, and a refused one has its cause in the closing state of the source that it needed;
 --   each ended as it stood, with the answer of its run, which is right, or as it was refused, and none for want of memory;
---   of each source no more was used than the queries asked for, and no query is refused for a call that failed but where such calls were counted
+--   of each source no more was used than the queries asked for, no query is refused for a call that failed but where such calls were counted, and a list
+--   was replaced only where that was counted, in place of the version at hand
 pub record IsBatch (run : BatchRun) (batch : BatchState) : Type 0 where
   pub states : List State
   pub queries : List Inquiry
@@ -94,4 +98,5 @@ pub record IsBatch (run : BatchRun) (batch : BatchState) : Type 0 where
   pub used : (source : ℕ) → source < length run.sizes
       → IsUsed run.settings queries source (state_at states source) (counts_at run.before source) (counts_at run.now source) (use_at batch.uses source)
   pub counted : (source : ℕ) → source < length run.sizes
-      → HasCounted run.settings.workers queries source (state_at states source) (counts_at run.before source) (counts_at run.now source)
+      → HasCounted run.settings.workers queries source (state_at states source) (version_at run.versions source) (counts_at run.before source)
+      (counts_at run.now source)

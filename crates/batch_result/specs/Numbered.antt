@@ -9,6 +9,10 @@ use Rattle.source_api.specs.Counting.{no_counts}
 abbrev pub told_at : List (Option (List Row)) → ℕ → Option (List Row)
 told_at told source = slice_index_or told source None
 
+-- the version of a source that is at hand, by its number
+abbrev pub version_at : List ℕ → ℕ → ℕ
+version_at versions source = slice_index_or versions source 0
+
 -- the counts of the source of a number
 abbrev pub counts_at : List Counts → ℕ → Counts
 counts_at counts source = slice_index_or counts source no_counts

@@ -1,5 +1,5 @@
 -- What queries used of a source, and what the source gave for it.
-use Rattle.std.specs.Prelude.{◌≡◌, ◌≤◌, ◌==◌, ◌&&◌, ◌*◌, ◌⊎◌, ℕ, Bool, true, false, Option, Some, None, List, length, Contains, count_by}
+use Rattle.std.specs.Prelude.{◌≡◌, ◌≢◌, ◌≤◌, ◌==◌, ◌&&◌, ◌*◌, ◌⊎◌, ℕ, Bool, true, false, Option, Some, None, List, length, Contains, count_by}
 use Rattle.std.specs.List.{sum_by}
 use Rattle.tk_io.specs.Faults.{Rose}
 use Rattle.source_api.specs.declared.counts.Counts.{Counts}
@@ -85,9 +85,15 @@ pub record IsFewFor (workers lines calls : ℕ) (before now : ℕ) : Type 0 wher
   pub rose : RoseBy calls before now
   pub few : lines ≤ workers * calls
 
+-- a list was replaced: it was at this version, a reply stated another one, and that is counted
+pub record IsReplaced (version : ℕ) (before now : Counts) (had other : ℕ) : Type 0 where
+  pub at_hand : had ≡ version
+  pub differ : had ≢ other
+  pub counted : Rose before.moves now.moves
+
 -- the fails that refused queries, of either kind: the calls of the source that failed so, by its closing state, are counted, and the queries that
--- are refused for one are no more than the workers times these calls; and by its closing log its list was replaced only where that is counted
-pub record HasCounted (workers : ℕ) (queries : List Inquiry) (source : ℕ) (s : State) (before now : Counts) : Type 0 where
+-- are refused for one are no more than the workers times these calls; and by its closing log its list was replaced only where it was at this version and that is counted
+pub record HasCounted (workers : ℕ) (queries : List Inquiry) (source : ℕ) (s : State) (version : ℕ) (before now : Counts) : Type 0 where
   pub failed : IsFewFor workers (count_by (is_refused_for kind.Failed source) queries) s.tally.failed before.faults now.faults
   pub garbled : IsFewFor workers (count_by (is_refused_for kind.Garbled source) queries) s.tally.garbled before.garbles now.garbles
-  pub moved : (had other : ℕ) → TellsMove s.log had other → Rose before.moves now.moves
+  pub moved : (had other : ℕ) → TellsMove s.log had other → IsReplaced version before now had other

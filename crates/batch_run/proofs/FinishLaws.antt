@@ -38,7 +38,7 @@ use Rattle.fetcher.proofs.ToldLaws.{fetched_from_nothing}
 use Rattle.fetcher.proofs.ClosedLaws.{called_for}
 use Rattle.limits.specs.declared.settings.Settings.{Settings}
 use Rattle.limits.specs.Ranges.{AreSettings}
-use Rattle.batch_result.specs.Numbered.{told_at, counts_at}
+use Rattle.batch_result.specs.Numbered.{told_at, version_at, counts_at}
 use Rattle.batch_result.specs.declared.batch.Use.{Use}
 use Rattle.batch_sides.specs.declared.work.Worker.{Worker}
 use Rattle.batch_sides.specs.Shares.{share, share_from}
@@ -408,7 +408,7 @@ module _ (pool : List TableId) (settings : Settings) (counts : List ℕ) (readie
         subst (λ n. count_by test queries ≤ n * number) h.size total
 
     counted : (source : ℕ) → source < length counts
-        → HasCounted settings.workers queries source (state_at states source) (slot_at before source).counts (slot_at after source).counts
+        → HasCounted settings.workers queries source (state_at states source) (slot_at before source).version (slot_at before source).counts (slot_at after source).counts
     counted source s =
         let metered = (h.fetched source s).metered in
         let tally : (feed_at feeds source).pass.1.tally ≡ (state_at states source).tally = sym (h.closed.each source (there source s)).tally in
@@ -436,9 +436,9 @@ module _ (pool : List TableId) (settings : Settings) (counts : List ℕ) (readie
                 omega (arith, shown, knew, mine));
           };
           moved = λ had other tells.
-              elim (metered.moved had other (subst (λ log. TellsMove log had other) (h.closed.each source (there source s)).log tells)) [
+              elim ((h.fetched source s).moved had other (subst (λ log. TellsMove log had other) (h.closed.each source (there source s)).log tells)) [
                 | inl was ↦ absurd (none_told had other was)
-                | inr rose ↦ rose
+                | inr is ↦ is
               ];
         }
 
@@ -478,6 +478,9 @@ module _ (pool : List TableId) (settings : Settings) (counts : List ℕ) (readie
     counts_now : (source : ℕ) → source < length counts → counts_at (map (λ (slot : SlotState). slot.counts) after) source ≡ (slot_at after source).counts
     counts_now source s = map_at (λ (slot : SlotState). slot.counts) after source _ _ (let e = h.slots.1 in omega (arith, s, e))
 
+    version_before : (source : ℕ) → source < length counts → version_at (map (λ (slot : SlotState). slot.version) before) source ≡ (slot_at before source).version
+    version_before source s = map_at (λ (slot : SlotState). slot.version) before source _ _ (let e = h.slots.0 in omega (arith, s, e))
+
     told_before : (source : ℕ) → source < length counts → told_at (map (λ (slot : SlotState). slot.told) before) source ≡ (slot_at before source).told
     told_before source s = map_at (λ (slot : SlotState). slot.told) before source _ _ (let e = h.slots.0 in omega (arith, s, e))
 
@@ -498,8 +501,9 @@ module _ (pool : List TableId) (settings : Settings) (counts : List ℕ) (readie
           subst (λ c. IsUsed settings queries source (state_at states source) c (counts_at (map (λ (slot : SlotState). slot.counts) after) source) (use_at uses source)) (sym (counts_before source s))
           (subst (λ c. IsUsed settings queries source (state_at states source) (slot_at before source).counts c (use_at uses source)) (sym (counts_now source s)) (used_by source s));
       counted = λ source s.
-          subst (λ c. HasCounted settings.workers queries source (state_at states source) c (counts_at (map (λ (slot : SlotState). slot.counts) after) source)) (sym (counts_before source s))
-          (subst (λ c. HasCounted settings.workers queries source (state_at states source) (slot_at before source).counts c) (sym (counts_now source s)) (counted source s));
+          subst (λ v. HasCounted settings.workers queries source (state_at states source) v (counts_at (map (λ (slot : SlotState). slot.counts) before) source) (counts_at (map (λ (slot : SlotState). slot.counts) after) source)) (sym (version_before source s))
+          (subst (λ c. HasCounted settings.workers queries source (state_at states source) (slot_at before source).version c (counts_at (map (λ (slot : SlotState). slot.counts) after) source)) (sym (counts_before source s))
+          (subst (λ c. HasCounted settings.workers queries source (state_at states source) (slot_at before source).version (slot_at before source).counts c) (sym (counts_now source s)) (counted source s)));
     }
 
     pub their_shares : AreShares (map (λ (end : End). end.1) ends) workers

@@ -20,36 +20,46 @@ use Rattle.batch_run.specs.Finishing.{slots_run}
 use Rattle.batch_result.proofs.Places.{stands_at, map_at}
 use Rattle.batch_run.proofs.JoinLaws.{passes}
 
-module _ {S : Type 0} (list : S → Option (List Row)) (counts : S → Counts) where
+module _ {S : Type 0} (list : S → Option (List Row)) (counts : S → Counts) (at_hand : S → ℕ) where
   -- the parts of the slots, at once and by their states
-  told_twice : (slots : List (Slot S)) → map (λ (slot : Slot S). list slot.source) slots ≡ map (λ (s : SlotState). s.told) (states_of list counts slots)
+  told_twice : (slots : List (Slot S)) → map (λ (slot : Slot S). list slot.source) slots ≡ map (λ (s : SlotState). s.told) (states_of list counts at_hand slots)
   told_twice [] = refl
   told_twice (slot ∷ slots) = ap (λ xs. list slot.source ∷ xs) (told_twice slots)
 
-  counts_twice : (slots : List (Slot S)) → map (λ (slot : Slot S). counts slot.source) slots ≡ map (λ (s : SlotState). s.counts) (states_of list counts slots)
+  versions_twice : (slots : List (Slot S)) → map (λ (slot : Slot S). at_hand slot.source) slots ≡ map (λ (s : SlotState). s.version) (states_of list counts at_hand slots)
+  versions_twice [] = refl
+  versions_twice (slot ∷ slots) = ap (λ xs. at_hand slot.source ∷ xs) (versions_twice slots)
+
+  counts_twice : (slots : List (Slot S)) → map (λ (slot : Slot S). counts slot.source) slots ≡ map (λ (s : SlotState). s.counts) (states_of list counts at_hand slots)
   counts_twice [] = refl
   counts_twice (slot ∷ slots) = ap (λ xs. counts slot.source ∷ xs) (counts_twice slots)
 
   pub run_is : (settings : Settings) (sizes : List ℕ) (readies : List Ready) (old new : List (Slot S))
-      → run_of list counts settings sizes readies old new ≡ slots_run settings sizes readies (states_of list counts old) (states_of list counts new)
+      → run_of list counts at_hand settings sizes readies old new ≡ slots_run settings sizes readies (states_of list counts at_hand old) (states_of list counts at_hand new)
   run_is settings sizes readies old new =
-      ap (λ told. run settings sizes readies told (map (λ (slot : Slot S). counts slot.source) old) (map (λ (slot : Slot S). counts slot.source) new)) (told_twice old)
-      ∙ (ap (λ before. run settings sizes readies (map (λ (s : SlotState). s.told) (states_of list counts old)) before (map (λ (slot : Slot S). counts slot.source) new)) (counts_twice old)
-      ∙ ap (λ now. run settings sizes readies (map (λ (s : SlotState). s.told) (states_of list counts old)) (map (λ (s : SlotState). s.counts) (states_of list counts old)) now) (counts_twice new))
+      ap (λ told. run settings sizes readies told (map (λ (slot : Slot S). at_hand slot.source) old) (map (λ (slot : Slot S). counts slot.source) old)
+      (map (λ (slot : Slot S). counts slot.source) new)) (told_twice old)
+      ∙ (ap (λ versions. run settings sizes readies (map (λ (s : SlotState). s.told) (states_of list counts at_hand old)) versions
+      (map (λ (slot : Slot S). counts slot.source) old) (map (λ (slot : Slot S). counts slot.source) new)) (versions_twice old)
+      ∙ (ap (λ before. run settings sizes readies (map (λ (s : SlotState). s.told) (states_of list counts at_hand old))
+      (map (λ (s : SlotState). s.version) (states_of list counts at_hand old)) before (map (λ (slot : Slot S). counts slot.source) new)) (counts_twice old)
+      ∙ ap (λ now. run settings sizes readies (map (λ (s : SlotState). s.told) (states_of list counts at_hand old))
+      (map (λ (s : SlotState). s.version) (states_of list counts at_hand old)) (map (λ (s : SlotState). s.counts) (states_of list counts at_hand old)) now) (counts_twice new)))
     where
-      run : Settings → List ℕ → List Ready → List (Option (List Row)) → List Counts → List Counts → BatchRun
-      run settings sizes readies told before now = record { settings = settings; sizes = sizes; readies = readies; told = told; before = before; now = now }
+      run : Settings → List ℕ → List Ready → List (Option (List Row)) → List ℕ → List Counts → List Counts → BatchRun
+      run settings sizes readies told versions before now =
+          record { settings = settings; sizes = sizes; readies = readies; told = told; versions = versions; before = before; now = now }
 
-  -- the lists stay, and no count falls, where that is so of each slot
-  pub lists_stay : (old new : List SlotState) → length old ≡ length new
-      → ((source : ℕ) → source < length old → (slot_at new source).told ≡ (slot_at old source).told) → map (λ (s : SlotState). s.told) new ≡ map (λ (s : SlotState). s.told) old
-  lists_stay [] [] size h = refl
-  lists_stay [] (s ∷ new) size h = absurd (omega (arith, size))
-  lists_stay (s ∷ old) [] size h = absurd (omega (arith, size))
-  lists_stay (s ∷ old) (t ∷ new) size h =
-      let first : t.told ≡ s.told = h 0 (omega arith) in
-      let rest = lists_stay old new (omega (arith, size)) (λ source l. h (suc source) (omega (arith, l))) in
-      ap (λ x. x ∷ map (λ (s : SlotState). s.told) new) first ∙ ap (λ xs. s.told ∷ xs) rest
+  -- a part of the slots stays, and no count falls, where that is so of each slot
+  pub parts_stay : {X : Type 0} (part : SlotState → X) (old new : List SlotState) → length old ≡ length new
+      → ((source : ℕ) → source < length old → part (slot_at new source) ≡ part (slot_at old source)) → map part new ≡ map part old
+  parts_stay part [] [] size h = refl
+  parts_stay part [] (s ∷ new) size h = absurd (omega (arith, size))
+  parts_stay part (s ∷ old) [] size h = absurd (omega (arith, size))
+  parts_stay part (s ∷ old) (t ∷ new) size h =
+      let first : part t ≡ part s = h 0 (omega arith) in
+      let rest = parts_stay part old new (omega (arith, size)) (λ source l. h (suc source) (omega (arith, l))) in
+      ap (λ x. x ∷ map part new) first ∙ ap (λ xs. part s ∷ xs) rest
 
   pub none_fell : (old new : List SlotState) → length old ≡ length new
       → ((source : ℕ) → source < length old → NoneFell (slot_at old source).counts (slot_at new source).counts)
@@ -60,16 +70,21 @@ module _ {S : Type 0} (list : S → Option (List Row)) (counts : S → Counts) w
   none_fell (s ∷ old) (t ∷ new) size h = (h 0 (omega arith), none_fell old new (omega (arith, size)) (λ source l. h (suc source) (omega (arith, l))))
 
   pub slots_lists : (old new : List (Slot S))
-      → map (λ (s : SlotState). s.told) (states_of list counts new) ≡ map (λ (s : SlotState). s.told) (states_of list counts old)
+      → map (λ (s : SlotState). s.told) (states_of list counts at_hand new) ≡ map (λ (s : SlotState). s.told) (states_of list counts at_hand old)
       → map (λ (slot : Slot S). list slot.source) new ≡ map (λ (slot : Slot S). list slot.source) old
   slots_lists old new e = told_twice new ∙ (e ∙ sym (told_twice old))
 
+  pub slots_versions : (old new : List (Slot S))
+      → map (λ (s : SlotState). s.version) (states_of list counts at_hand new) ≡ map (λ (s : SlotState). s.version) (states_of list counts at_hand old)
+      → map (λ (slot : Slot S). at_hand slot.source) new ≡ map (λ (slot : Slot S). at_hand slot.source) old
+  slots_versions old new e = versions_twice new ∙ (e ∙ sym (versions_twice old))
+
   pub slots_counts : (old new : List (Slot S))
-      → AllZip NoneFell (map (λ (s : SlotState). s.counts) (states_of list counts old)) (map (λ (s : SlotState). s.counts) (states_of list counts new))
+      → AllZip NoneFell (map (λ (s : SlotState). s.counts) (states_of list counts at_hand old)) (map (λ (s : SlotState). s.counts) (states_of list counts at_hand new))
       → AllZip NoneFell (map (λ (slot : Slot S). counts slot.source) old) (map (λ (slot : Slot S). counts slot.source) new)
   slots_counts old new h =
       subst (λ xs. AllZip NoneFell xs (map (λ (slot : Slot S). counts slot.source) new)) (sym (counts_twice old))
-      (subst (AllZip NoneFell (map (λ (s : SlotState). s.counts) (states_of list counts old))) (sym (counts_twice new)) h)
+      (subst (AllZip NoneFell (map (λ (s : SlotState). s.counts) (states_of list counts at_hand old))) (sym (counts_twice new)) h)
 
   -- no count fell where nothing was called
   pub counts_same : (slots : List (Slot S))
@@ -116,20 +131,28 @@ pub parts_left : (pool : List TableId) (settings : Settings) (counts : List ℕ)
     → (i : ℕ) (d : Worker) → i < length workers → (source : ℕ) → source < length counts → (hold_at (slice_index_or workers i d).pass source).pass.1.parts ≡ 1
 parts_left pool settings counts readies workers each i d l source s = (each i d l).parts source s
 
-module _ {S : Type 0} (list : S → Option (List Row)) (counts : S → Counts) where
+module _ {S : Type 0} (list : S → Option (List Row)) (counts : S → Counts) (at_hand : S → ℕ) where
   -- what a run keeps of the sources
   pub kept_lists : (settings : Settings) (sizes : List ℕ) (readies : List Ready) (old new : List (Slot S)) (crew : Crew)
-      → HasRun settings sizes readies (states_of list counts old) (states_of list counts new) crew
+      → HasRun settings sizes readies (states_of list counts at_hand old) (states_of list counts at_hand new) crew
       → map (λ (slot : Slot S). list slot.source) new ≡ map (λ (slot : Slot S). list slot.source) old
   kept_lists settings sizes readies old new crew ran =
-      slots_lists list counts old new
-      (lists_stay list counts (states_of list counts old) (states_of list counts new) (ran.slots.0 ∙ sym ran.slots.1)
+      slots_lists list counts at_hand old new
+      (parts_stay list counts at_hand (λ (s : SlotState). s.told) (states_of list counts at_hand old) (states_of list counts at_hand new) (ran.slots.0 ∙ sym ran.slots.1)
       (λ source l. (ran.fetched source (subst (λ n. source < n) ran.slots.0 l)).told))
 
+  pub kept_versions : (settings : Settings) (sizes : List ℕ) (readies : List Ready) (old new : List (Slot S)) (crew : Crew)
+      → HasRun settings sizes readies (states_of list counts at_hand old) (states_of list counts at_hand new) crew
+      → map (λ (slot : Slot S). at_hand slot.source) new ≡ map (λ (slot : Slot S). at_hand slot.source) old
+  kept_versions settings sizes readies old new crew ran =
+      slots_versions list counts at_hand old new
+      (parts_stay list counts at_hand (λ (s : SlotState). s.version) (states_of list counts at_hand old) (states_of list counts at_hand new) (ran.slots.0 ∙ sym ran.slots.1)
+      (λ source l. (ran.fetched source (subst (λ n. source < n) ran.slots.0 l)).version))
+
   pub kept_counts : (settings : Settings) (sizes : List ℕ) (readies : List Ready) (old new : List (Slot S)) (crew : Crew)
-      → HasRun settings sizes readies (states_of list counts old) (states_of list counts new) crew
+      → HasRun settings sizes readies (states_of list counts at_hand old) (states_of list counts at_hand new) crew
       → AllZip NoneFell (map (λ (slot : Slot S). counts slot.source) old) (map (λ (slot : Slot S). counts slot.source) new)
   kept_counts settings sizes readies old new crew ran =
-      slots_counts list counts old new
-      (none_fell list counts (states_of list counts old) (states_of list counts new) (ran.slots.0 ∙ sym ran.slots.1)
+      slots_counts list counts at_hand old new
+      (none_fell list counts at_hand (states_of list counts at_hand old) (states_of list counts at_hand new) (ran.slots.0 ∙ sym ran.slots.1)
       (λ source l. (ran.fetched source (subst (λ n. source < n) ran.slots.0 l)).later))

@@ -13,6 +13,8 @@ use Rattle.fetcher.specs.declared.turned.Fetched.{Fetched}
 use Rattle.fetcher.specs.Turning.{Feeds}
 use Rattle.fetcher.specs.Chaining.{moment, IsFetched}
 use Rattle.fetcher.specs.Metering.{IsMetered, nothing}
+use Rattle.fetcher.specs.Moving.{MovesOnly}
+use Rattle.batch_result.specs.Using.{IsReplaced}
 use Rattle.limits.specs.declared.settings.Settings.{Settings}
 use Rattle.batch_sides.specs.Slots.{SlotState, state_of, states_of, slot_at, HasFeeder, Fetches, AllFetch, AreLent, AreTakenBack}
 use Rattle.batch_run.specs.Crews.{HasFetched}
@@ -33,10 +35,12 @@ fetched_one pool settings source count b l g k feed end lent f back was first =
     let counts_b : l.counts ≡ b.counts = ap (λ (s : SlotState). s.counts) lent in
     let counts_k : g.counts ≡ k.counts = sym (ap (λ (s : SlotState). s.counts) back) in
     let told_b : l.told ≡ b.told = ap (λ (s : SlotState). s.told) lent in
+    let version_b : l.version ≡ b.version = ap (λ (s : SlotState). s.version) lent in
     let fetched_k : g.fetched ≡ k.fetched = sym (ap (λ (s : SlotState). s.fetched) back) in
     record {
       fetched = record {
         told = ap (λ (s : SlotState). s.told) back ∙ (f.told ∙ told_b);
+        version = ap (λ (s : SlotState). s.version) back ∙ (f.version ∙ version_b);
         later = subst (λ (c : Counts). NoneFell c k.counts) counts_b (subst (NoneFell l.counts) counts_k f.later);
         feeds = subst (λ (x : Feed). Feeds x.pass.1 end.pass.1) mine (subst (λ (x : Feed). Feeds f.feed.pass.1 x.pass.1) his f.feeds);
         turns = subst (λ (t : Option (List Row)). IsFetched settings.page settings.ahead t (moment b.counts (first_feed (lock_at pool source) source count).pass.1) (moment k.counts end.pass.1)) told_b
@@ -49,6 +53,11 @@ fetched_one pool settings source count b l g k feed end lent f back was first =
             (subst (λ (c : Counts). IsMetered settings.page settings.ahead k.fetched l.counts c f.feed.pass.1 end.pass.1) counts_k
             (subst (λ (n : Fetched). IsMetered settings.page settings.ahead n l.counts g.counts f.feed.pass.1 end.pass.1) fetched_k
             (subst (λ (x : Feed). IsMetered settings.page settings.ahead g.fetched l.counts g.counts f.feed.pass.1 x.pass.1) his f.metered))));
+        moved = subst (λ v. MovesOnly (IsReplaced v b.counts k.counts) (first_feed (lock_at pool source) source count).pass.1.seen end.pass.1.seen) version_b
+            (subst (λ (c : Counts). MovesOnly (IsReplaced l.version c k.counts) (first_feed (lock_at pool source) source count).pass.1.seen end.pass.1.seen) counts_b
+            (subst (λ (x : Feed). MovesOnly (IsReplaced l.version l.counts k.counts) x.pass.1.seen end.pass.1.seen) mine
+            (subst (λ (c : Counts). MovesOnly (IsReplaced l.version l.counts c) f.feed.pass.1.seen end.pass.1.seen) counts_k
+            (subst (λ (x : Feed). MovesOnly (IsReplaced l.version l.counts g.counts) f.feed.pass.1.seen x.pass.1.seen) his f.moved))));
       };
       idle = subst (IsIdleOf pool) his f.idle;
       number = ap (λ (x : Feed). x.source) (sym his) ∙ (f.source ∙ ap (λ (x : Feed). x.source) mine);
@@ -61,41 +70,41 @@ came_back len before after = take len (after ++ drop (length after) before)
 back_as : {A : Type 0} (len : ℕ) (before after : List A) → len ≡ length before → length after ≡ length before → came_back len before after ≡ after
 back_as len before after long same = ap (λ (n : ℕ). take n (after ++ drop (length after) before)) long ∙ lent_back before after same
 
-module _ {S : Type 0} (list : S → Option (List Row)) (counts : S → Counts) where
+module _ {S : Type 0} (list : S → Option (List Row)) (counts : S → Counts) (at_hand : S → ℕ) where
   -- the state of a slot by its place
   pub slot_is : (slots : List (Slot S)) (source : ℕ) (d : Slot S) → source < length slots
-      → slot_at (states_of list counts slots) source ≡ state_of list counts (slice_index_or slots source d)
-  slot_is slots source d l = map_at (state_of list counts) slots source d _ l
+      → slot_at (states_of list counts at_hand slots) source ≡ state_of list counts at_hand (slice_index_or slots source d)
+  slot_is slots source d l = map_at (state_of list counts at_hand) slots source d _ l
 
-  pub states_long : (slots : List (Slot S)) → length (states_of list counts slots) ≡ length slots
-  states_long slots = length-map slots (state_of list counts)
+  pub states_long : (slots : List (Slot S)) → length (states_of list counts at_hand slots) ≡ length slots
+  states_long slots = length-map slots (state_of list counts at_hand)
 
   fetched_at : (pool : List TableId) (settings : Settings) (sizes : List ℕ) (feeds ends : List Feed) (before lent fetched after : List (Slot S))
-      → AreLent list counts feeds before lent → AllFetch list counts pool settings lent fetched → AreTakenBack list counts fetched ends after
+      → AreLent list counts at_hand feeds before lent → AllFetch list counts at_hand pool settings lent fetched → AreTakenBack list counts at_hand fetched ends after
       → (source : ℕ) → source < length before → feed_at feeds source ≡ first_feed (lock_at pool source) source (slice_index sizes source)
-      → FetchedOne pool settings source (slice_index sizes source) (slot_at (states_of list counts before) source) (slot_at (states_of list counts after) source) (feed_at ends source)
+      → FetchedOne pool settings source (slice_index sizes source) (slot_at (states_of list counts at_hand before) source) (slot_at (states_of list counts at_hand after) source) (feed_at ends source)
   fetched_at pool settings sizes feeds ends before lent fetched after given fetch back source l first =
       let d = (stands_at before source l).item in
       let there : source < length lent = let e = given.size in omega (arith, e, l) in
       let then_ : source < length fetched = let e = fetch.size in omega (arith, e, there) in
       let now : source < length after = let e = back.size in omega (arith, e, then_) in
-      fetched_one pool settings source (slice_index sizes source) (slot_at (states_of list counts before) source) (state_of list counts (slice_index_or lent source d))
-      (state_of list counts (slice_index_or fetched source d)) (slot_at (states_of list counts after) source) (feed_at feeds source) (feed_at ends source)
-      (subst (λ (s : SlotState). state_of list counts (slice_index_or lent source d) ≡ record s { feeder = Some (feed_at feeds source); fetched = nothing }) (sym (slot_is before source d l)) (given.each source d l))
+      fetched_one pool settings source (slice_index sizes source) (slot_at (states_of list counts at_hand before) source) (state_of list counts at_hand (slice_index_or lent source d))
+      (state_of list counts at_hand (slice_index_or fetched source d)) (slot_at (states_of list counts at_hand after) source) (feed_at feeds source) (feed_at ends source)
+      (subst (λ (s : SlotState). state_of list counts at_hand (slice_index_or lent source d) ≡ record s { feeder = Some (feed_at feeds source); fetched = nothing }) (sym (slot_is before source d l)) (given.each source d l))
       (fetch.each source d there)
-      (subst (λ (s : SlotState). s ≡ record (state_of list counts (slice_index_or fetched source d)) { feeder = None }) (sym (slot_is after source d now)) (back.each source d then_))
+      (subst (λ (s : SlotState). s ≡ record (state_of list counts at_hand (slice_index_or fetched source d)) { feeder = None }) (sym (slot_is after source d now)) (back.each source d then_))
       (back.were source d then_) first
 
   -- what all fetchers did, and that their feeders are those of the pool
   pub record AllFetched (pool : List TableId) (settings : Settings) (sizes : List ℕ) (before after : List (Slot S)) (ends : List Feed) : Type 0 where
-    pub slots : (length (states_of list counts before) ≡ length sizes) × (length (states_of list counts after) ≡ length sizes)
+    pub slots : (length (states_of list counts at_hand before) ≡ length sizes) × (length (states_of list counts at_hand after) ≡ length sizes)
     pub feeders : AreFeedersOf pool ends
     pub fetched : (source : ℕ) → source < length sizes
-        → HasFetched pool settings source (slice_index sizes source) (slot_at (states_of list counts before) source) (slot_at (states_of list counts after) source) (feed_at ends source)
+        → HasFetched pool settings source (slice_index sizes source) (slot_at (states_of list counts at_hand before) source) (slot_at (states_of list counts at_hand after) source) (feed_at ends source)
 
   pub all_fetched : (pool : List TableId) (settings : Settings) (sizes : List ℕ) (feeds ends : List Feed) (before lent fetched after : List (Slot S))
       → length pool ≡ length sizes → length sizes ≡ length before
-      → AreLent list counts feeds before lent → AllFetch list counts pool settings lent fetched → AreTakenBack list counts fetched ends after
+      → AreLent list counts at_hand feeds before lent → AllFetch list counts at_hand pool settings lent fetched → AreTakenBack list counts at_hand fetched ends after
       → ((source : ℕ) → source < length sizes → feed_at feeds source ≡ first_feed (lock_at pool source) source (slice_index sizes source))
       → AllFetched pool settings sizes before after ends
   all_fetched pool settings sizes feeds ends before lent fetched after size many given fetch back first =
@@ -118,7 +127,7 @@ module _ {S : Type 0} (list : S → Option (List Row)) (counts : S → Counts) w
 
   -- every slot has a feeder once all were lent
   pub lists_same : (pool : List TableId) (settings : Settings) (feeds ends : List Feed) (before lent fetched after : List (Slot S))
-      → AreLent list counts feeds before lent → AllFetch list counts pool settings lent fetched → AreTakenBack list counts fetched ends after
+      → AreLent list counts at_hand feeds before lent → AllFetch list counts at_hand pool settings lent fetched → AreTakenBack list counts at_hand fetched ends after
       → (source : ℕ) (d : Slot S) → source < length before → list (slice_index_or after source d).source ≡ list (slice_index_or before source d).source
   lists_same pool settings feeds ends before lent fetched after given fetch back source d l =
       let there : source < length lent = let e = given.size in omega (arith, e, l) in
@@ -127,7 +136,7 @@ module _ {S : Type 0} (list : S → Option (List Row)) (counts : S → Counts) w
 
   -- the slots have feeders of the pool once all were lent
   pub all_fed : (pool : List TableId) (feeds : List Feed) (before lent : List (Slot S)) → length feeds ≡ length before → AreFeedersOf pool feeds
-      → AreLent list counts feeds before lent → All (λ (slot : Slot S). HasFeeder pool slot.feeder) lent
+      → AreLent list counts at_hand feeds before lent → All (λ (slot : Slot S). HasFeeder pool slot.feeder) lent
   all_fed pool feeds before lent many own given i d l =
       let size = given.size in
       let there : i < length before = omega (arith, l, size) in
@@ -142,33 +151,33 @@ module _ {S : Type 0} (list : S → Option (List Row)) (counts : S → Counts) w
       }
 
   -- slots that were lent as a slice, and came back with feeders, or without them
-  pub lent_slots : (len : ℕ) (feeds : List Feed) (before lent after : List (Slot S)) → len ≡ length before → lent ≡ before → AreLent list counts feeds lent after
-      → AreLent list counts feeds before (came_back len before after)
+  pub lent_slots : (len : ℕ) (feeds : List Feed) (before lent after : List (Slot S)) → len ≡ length before → lent ≡ before → AreLent list counts at_hand feeds lent after
+      → AreLent list counts at_hand feeds before (came_back len before after)
   lent_slots len feeds before lent after long same given =
-      let here = subst (λ (xs : List (Slot S)). AreLent list counts feeds xs after) same given in
-      subst (AreLent list counts feeds before) (sym (back_as len before after long here.size)) here
+      let here = subst (λ (xs : List (Slot S)). AreLent list counts at_hand feeds xs after) same given in
+      subst (AreLent list counts at_hand feeds before) (sym (back_as len before after long here.size)) here
 
   pub taken_slots : (len : ℕ) (feeds : List Feed) (before lent after : List (Slot S)) → len ≡ length before → lent ≡ before
-      → AreTakenBack list counts lent feeds after → AreTakenBack list counts before feeds (came_back len before after)
+      → AreTakenBack list counts at_hand lent feeds after → AreTakenBack list counts at_hand before feeds (came_back len before after)
   taken_slots len feeds before lent after long same given =
-      let here = subst (λ (xs : List (Slot S)). AreTakenBack list counts xs feeds after) same given in
-      subst (AreTakenBack list counts before feeds) (sym (back_as len before after long here.size)) here
+      let here = subst (λ (xs : List (Slot S)). AreTakenBack list counts at_hand xs feeds after) same given in
+      subst (AreTakenBack list counts at_hand before feeds) (sym (back_as len before after long here.size)) here
 
   pub empty_slots : (len : ℕ) (feeds : List Feed) (before lent after : List (Slot S)) → len ≡ length before → lent ≡ before
-      → AreTakenBack list counts lent feeds after → All (λ (slot : Slot S). slot.feeder ≡ None) after
+      → AreTakenBack list counts at_hand lent feeds after → All (λ (slot : Slot S). slot.feeder ≡ None) after
       → All (λ (slot : Slot S). slot.feeder ≡ None) (came_back len before after)
   empty_slots len feeds before lent after long same given none =
       subst (All (λ (slot : Slot S). slot.feeder ≡ None)) (sym (back_as len before after long (given.size ∙ ap length same))) none
 
   -- nothing is fetched of them yet
-  pub all_fresh : (feeds : List Feed) (before lent : List (Slot S)) → AreLent list counts feeds before lent
+  pub all_fresh : (feeds : List Feed) (before lent : List (Slot S)) → AreLent list counts at_hand feeds before lent
       → All (λ (slot : Slot S). slot.fetched ≡ nothing) lent
   all_fresh feeds before lent given i d l =
       let size = given.size in
       ap (λ (s : SlotState). s.fetched) (given.each i d (omega (arith, l, size)))
 
   -- and have them once all fetchers have fetched
-  pub all_full : (pool : List TableId) (settings : Settings) (lent fetched : List (Slot S)) → AllFetch list counts pool settings lent fetched
+  pub all_full : (pool : List TableId) (settings : Settings) (lent fetched : List (Slot S)) → AllFetch list counts at_hand pool settings lent fetched
       → All (λ (slot : Slot S). is_some slot.feeder ≡ true) fetched
   all_full pool settings lent fetched fetch i d l =
       let size = fetch.size in

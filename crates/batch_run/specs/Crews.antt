@@ -12,6 +12,8 @@ use Rattle.source_api.specs.Counting.{NoneFell}
 use Rattle.fetcher.specs.Turning.{Feeds}
 use Rattle.fetcher.specs.Chaining.{moment, IsFetched}
 use Rattle.fetcher.specs.Metering.{IsMetered}
+use Rattle.fetcher.specs.Moving.{MovesOnly}
+use Rattle.batch_result.specs.Using.{IsReplaced}
 use Rattle.limits.specs.declared.settings.Settings.{Settings}
 use Rattle.batch_sides.specs.declared.work.Worker.{Worker}
 use Rattle.batch_run.specs.declared.hire.Crew.{Crew}
@@ -65,12 +67,14 @@ pub record HasLeft (pool : List TableId) (counts : List ℕ) (workers : ℕ) (re
 -- what a fetcher did of the source of a number, which has so many objects, between what stood in its slot before and what stands there now
 pub record HasFetched (pool : List TableId) (settings : Settings) (source count : ℕ) (before after : SlotState) (feed : Feed) : Type 0 where
   pub told : after.told ≡ before.told
+  pub version : after.version ≡ before.version
   pub later : NoneFell before.counts after.counts
   pub feeds : Feeds (first_feed (lock_at pool source) source count).pass.1 feed.pass.1
   pub turns : IsFetched settings.page settings.ahead before.told (moment before.counts (first_feed (lock_at pool source) source count).pass.1)
       (moment after.counts feed.pass.1)
   pub metered : IsMetered settings.page settings.ahead after.fetched before.counts after.counts
       (first_feed (lock_at pool source) source count).pass.1 feed.pass.1
+  pub moved : MovesOnly (IsReplaced before.version before.counts after.counts) (first_feed (lock_at pool source) source count).pass.1.seen feed.pass.1.seen
 
 -- a crew that has run: its first pass did nothing, each worker left its share, and each feeder fetched
 pub record HasRun (settings : Settings) (counts : List ℕ) (readies : List Ready) (before after : List SlotState) (crew : Crew) : Type 0 where

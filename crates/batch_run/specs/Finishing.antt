@@ -33,6 +33,7 @@ slots_run settings counts readies before after = record {
   sizes = counts;
   readies = readies;
   told = map (λ slot. slot.told) before;
+  versions = map (λ slot. slot.version) before;
   before = map (λ slot. slot.counts) before;
   now = map (λ slot. slot.counts) after;
 }

@@ -32,7 +32,7 @@ impl Crew {
             × (length counts ≡ length slots.old.items) × All (IsReadyFor counts) queries.now }
         requires few { length slots.old.items < 2 ^ 32 }
         ensures ran { (counts : List ℕ) → IsNewCrew counts (length queries.now) settings.workers self.old → All (IsReadyFor counts) queries.now
-            → HasRun settings counts queries.now (states_of S.list S.counts slots.old.items) (states_of S.list S.counts slots.new.items) self.new }
+            → HasRun settings counts queries.now (states_of S.list S.counts S.at_hand slots.old.items) (states_of S.list S.counts S.at_hand slots.new.items) self.new }
         ensures empty { All (λ slot. slot.feeder ≡ None) slots.new.items }
     {
         lend(&mut self.feeders, slots.as_mut_slice());

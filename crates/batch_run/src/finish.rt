@@ -65,7 +65,7 @@ fn use_all<S: Source>(states: &States, slots: &[Slot<S>], uses: &mut Vec<Use>)
     requires room { length slots.now ≤ vec_capacity uses.old }
     ensures size { length uses.new.items ≡ length slots.now }
     ensures each { (source : ℕ) → source < length slots.now
-        → UsedOf (state_at states.now source) (slot_at (states_of S.list S.counts slots.now) source).fetched (use_at uses.new.items source) }
+        → UsedOf (state_at states.now source) (slot_at (states_of S.list S.counts S.at_hand slots.now) source).fetched (use_at uses.new.items source) }
 {
     for source in 0..states.len() {
         uses.push_reserved(used(states, source, slots[source as usize].fetched));
@@ -75,10 +75,10 @@ fn use_all<S: Source>(states: &States, slots: &[Slot<S>], uses: &mut Vec<Use>)
 /// What the batch gives, once its crew has run and no worker wanted memory.
 pub(crate) fn finish<S: Source>(crew: Crew, slots: &[Slot<S>], queries: usize) -> Batch
     requires { (settings : Settings) × (counts : List ℕ) × (readies : List Ready) × (before : List SlotState)
-        × CanFinish settings counts readies before (states_of S.list S.counts slots.now) queries crew }
+        × CanFinish settings counts readies before (states_of S.list S.counts S.at_hand slots.now) queries crew }
     ensures { (settings : Settings) (counts : List ℕ) (readies : List Ready) (before : List SlotState)
-        → CanFinish settings counts readies before (states_of S.list S.counts slots.now) queries crew
-        → IsBatch (slots_run settings counts readies before (states_of S.list S.counts slots.now)) result }
+        → CanFinish settings counts readies before (states_of S.list S.counts S.at_hand slots.now) queries crew
+        → IsBatch (slots_run settings counts readies before (states_of S.list S.counts S.at_hand slots.now)) result }
 {
     let Crew {
         pool,

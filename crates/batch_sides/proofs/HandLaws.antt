@@ -150,7 +150,7 @@ module _ {S : Type 0} where
 module _ {S : Type 0} (list : S → Option (List Row)) (counts : S → Counts) (calls : S → Option (List Call)) (at_hand : S → ℕ) (states : S → Option ℕ) where
   -- what was served at a slot is what a fetcher does
   fetches_of : (pool : List TableId) (settings : Settings) (before now : Slot S) → IsServed list counts calls at_hand states pool settings.page settings.ahead before now
-      → Fetches pool settings (state_of list counts before) (state_of list counts now)
+      → Fetches pool settings (state_of list counts at_hand before) (state_of list counts at_hand now)
   fetches_of pool settings before now s = record {
     feed = s.feed;
     left = s.left;
@@ -159,10 +159,15 @@ module _ {S : Type 0} (list : S → Option (List Row)) (counts : S → Counts) (
     idle = s.idle;
     source = s.source;
     told = s.told;
+    version = s.version;
     later = s.later;
     feeds = s.feeds;
     turns = s.turns;
     metered = s.meters.metered;
+    moved = λ had other tells. elim (s.moved had other tells) [
+      | inl was ↦ inl was
+      | inr is ↦ inr (record { at_hand = is.move.at_hand; differ = is.move.differ; counted = is.counted })
+    ];
   }
 
   fresh_at : (pool : List TableId) (settings : Settings) (slot : Slot S) → AreSettings settings → IfSome (list slot.source) HasEachOnce
@@ -198,8 +203,8 @@ module _ {S : Type 0} (list : S → Option (List Row)) (counts : S → Counts) (
   -- no turn at all
   pub none_fetched : (pool : List TableId) (settings : Settings) (slots now : List (Slot S)) → AreSettings settings
       → ((source : S) → IfSome (list source) HasEachOnce) → All (λ (slot : Slot S). HasFeeder pool slot.feeder) slots
-      → All (λ (slot : Slot S). slot.fetched ≡ nothing) slots → now ≡ slots → AllFetch list counts pool settings slots now
-  none_fetched pool settings slots now are once has none same = subst (λ (xs : List (Slot S)). AllFetch list counts pool settings slots xs) (sym same) record {
+      → All (λ (slot : Slot S). slot.fetched ≡ nothing) slots → now ≡ slots → AllFetch list counts at_hand pool settings slots now
+  none_fetched pool settings slots now are once has none same = subst (λ (xs : List (Slot S)). AllFetch list counts at_hand pool settings slots xs) (sym same) record {
     size = refl;
     each = λ i d l. fetches_of pool settings (slice_index_or slots i d) (slice_index_or slots i d)
         (fresh_at pool settings (slice_index_or slots i d) are (once (slice_index_or slots i d).source) (has i d l) (none i d l));
@@ -208,7 +213,7 @@ module _ {S : Type 0} (list : S → Option (List Row)) (counts : S → Counts) (
   -- what the posts gave back is what all fetchers do
   pub all_served : (posts : Posts S) (pool : List TableId) (settings : Settings) (slots now : List (Slot S)) → ArePosts posts pool
       → posts.lock.key.page ≡ settings.page → posts.lock.key.ahead ≡ settings.ahead → posts.lock.key.slots.value.items ≡ slots → length now ≡ length slots
-      → KeepAll kept_fact posts.lock.key now → AllFetch list counts pool settings slots now
+      → KeepAll kept_fact posts.lock.key now → AllFetch list counts at_hand pool settings slots now
   all_served posts pool settings slots now are page ahead were size keep = record {
     size = size;
     each = λ i d l. fetches_of pool settings (slice_index_or slots i d) (slice_index_or now i d)

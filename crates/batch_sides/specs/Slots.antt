@@ -11,25 +11,35 @@ use Rattle.fetcher.specs.declared.turned.Fetched.{Fetched}
 use Rattle.fetcher.specs.Turning.{Feeds}
 use Rattle.fetcher.specs.Chaining.{moment, IsFetched}
 use Rattle.fetcher.specs.Metering.{IsMetered, nothing}
+use Rattle.fetcher.specs.Moving.{MovesOnly}
+use Rattle.batch_result.specs.Using.{IsReplaced}
 use Rattle.limits.specs.declared.settings.Settings.{Settings}
 
--- a slot of any kind of source: the list that its source tells, what the source counted, its feeder, and what was fetched
+-- a slot of any kind of source: the list that its source tells, its version that is at hand, what the source counted, its feeder, and what was fetched
 pub record SlotState : Type 0 where
   pub told : Option (List Row)
+  pub version : ℕ
   pub counts : Counts
   pub feeder : Option Feed
   pub fetched : Fetched
 
-module _ {S : Type 0} (list : S → Option (List Row)) (counts : S → Counts) where
+module _ {S : Type 0} (list : S → Option (List Row)) (counts : S → Counts) (at_hand : S → ℕ) where
   abbrev pub state_of : Slot S → SlotState
-  state_of slot = record { told = list slot.source; counts = counts slot.source; feeder = slot.feeder; fetched = slot.fetched }
+  state_of slot = record {
+    told = list slot.source;
+    version = at_hand slot.source;
+    counts = counts slot.source;
+    feeder = slot.feeder;
+    fetched = slot.fetched;
+  }
 
   abbrev pub states_of : List (Slot S) → List SlotState
   states_of slots = map state_of slots
 
 -- the state of the slot of a source; none of it where the source isn't there
 abbrev pub slot_at : List SlotState → ℕ → SlotState
-slot_at slots source = slice_index_or slots source (record { told = None; counts = no_counts; feeder = None; fetched = record { rows = 0; grades = 0 } })
+slot_at slots source =
+    slice_index_or slots source (record { told = None; version = 0; counts = no_counts; feeder = None; fetched = record { rows = 0; grades = 0 } })
 
 -- there is a feeder of this pool, which has no turn
 pub record HasFeeder (pool : List TableId) (feeder : Option Feed) : Type 0 where
@@ -46,23 +56,25 @@ pub record Fetches (pool : List TableId) (settings : Settings) (before after : S
   pub idle : IsIdleOf pool left
   pub source : left.source ≡ feed.source
   pub told : after.told ≡ before.told
+  pub version : after.version ≡ before.version
   pub later : NoneFell before.counts after.counts
   pub feeds : Feeds feed.pass.1 left.pass.1
   pub turns : IsFetched settings.page settings.ahead before.told (moment before.counts feed.pass.1) (moment after.counts left.pass.1)
   pub metered : IsMetered settings.page settings.ahead after.fetched before.counts after.counts feed.pass.1 left.pass.1
+  pub moved : MovesOnly (IsReplaced before.version before.counts after.counts) feed.pass.1.seen left.pass.1.seen
 
-module _ {S : Type 0} (list : S → Option (List Row)) (counts : S → Counts) where
+module _ {S : Type 0} (list : S → Option (List Row)) (counts : S → Counts) (at_hand : S → ℕ) where
   -- a fetcher took turns in each slot
   pub record AllFetch (pool : List TableId) (settings : Settings) (before after : List (Slot S)) : Type 0 where
     pub size : length after ≡ length before
     pub each : (i : ℕ) (d : Slot S) → i < length before
-        → Fetches pool settings (state_of list counts (slice_index_or before i d)) (state_of list counts (slice_index_or after i d))
+        → Fetches pool settings (state_of list counts at_hand (slice_index_or before i d)) (state_of list counts at_hand (slice_index_or after i d))
 
   -- each slot got the feeder of its place, nothing is fetched yet, and else it stays
   pub record AreLent (feeds : List Feed) (before after : List (Slot S)) : Type 0 where
     pub size : length after ≡ length before
     pub each : (i : ℕ) (d : Slot S) → i < length before
-        → state_of list counts (slice_index_or after i d) ≡ record (state_of list counts (slice_index_or before i d)) { feeder = Some (feed_at feeds i); fetched = nothing }
+        → state_of list counts at_hand (slice_index_or after i d) ≡ record (state_of list counts at_hand (slice_index_or before i d)) { feeder = Some (feed_at feeds i); fetched = nothing }
 
   -- the feeders were taken out of the slots, which else stay
   pub record AreTakenBack (before : List (Slot S)) (feeds : List Feed) (after : List (Slot S)) : Type 0 where
@@ -70,4 +82,4 @@ module _ {S : Type 0} (list : S → Option (List Row)) (counts : S → Counts) w
     pub many : length feeds ≡ length before
     pub were : (i : ℕ) (d : Slot S) → i < length before → (slice_index_or before i d).feeder ≡ Some (feed_at feeds i)
     pub each : (i : ℕ) (d : Slot S) → i < length before
-        → state_of list counts (slice_index_or after i d) ≡ record (state_of list counts (slice_index_or before i d)) { feeder = None }
+        → state_of list counts at_hand (slice_index_or after i d) ≡ record (state_of list counts at_hand (slice_index_or before i d)) { feeder = None }

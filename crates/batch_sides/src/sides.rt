@@ -244,7 +244,7 @@ pub fn run_sides<W: Threads + Wait + Sync, S: Source>(
     requires many { length slots.old.items ≡ length pool.now }
     requires few { (length workers.old.items ≤ 32) × (length slots.old.items < 2 ^ 32) }
     requires workers { All (IsAtWork pool.now (length workers.old.items) queries.now) workers.old.items }
-    ensures fetched { AllFetch S.list S.counts pool.now settings slots.old.items slots.new.items }
+    ensures fetched { AllFetch S.list S.counts S.at_hand pool.now settings slots.old.items slots.new.items }
     ensures worked { AllWorked pool.now (length workers.old.items) queries.now workers.old.items workers.new.items }
 {
     let Ok(mut hands) = make_room::<S>(alloc, workers.len(), slots.len()) else {

@@ -36,6 +36,10 @@ told_once held = told_law None [] held.rows
 abbrev pub counts_of : Held → Counts
 counts_of held = record { faults = 0; garbles = 0; moves = 0; rows_given = held.rows_given; grades_given = held.grades_given }
 
+-- its list is never replaced, so that its version stays 0
+abbrev pub version_of : Held → ℕ
+version_of held = 0
+
 -- no object's number is above the number of rows
 abbrev pub AreSmall : List Row → Type 0
 AreSmall rows = All (λ row. row.object ≤ length rows) rows

@@ -88,13 +88,13 @@ impl MadeSource {
 
 impl Source for MadeSource {
     ghost use Rattle.std.specs.Prelude.{Some};
-    ghost use Rattle.bulk_run.specs.Held.{told_rows, told_once, counts_of};
+    ghost use Rattle.bulk_run.specs.Held.{told_rows, told_once, counts_of, version_of};
 
     ghost list = { told_rows };
 
     ghost counts = { counts_of };
 
-    ghost at_hand = { λ _. 0 };
+    ghost at_hand = { version_of };
 
     ghost states = { λ _. Some 0 };
 

@@ -16,8 +16,8 @@ use Rattle.call_ends.specs.declared.status.Status.TheVariants.{Done, WriteFault}
 abbrev pub outside_at : Option (List ℕ) → ℕ → Option (List ℕ) → ℕ → Shelf → Outside
 outside_at left reads held writes shelf = record { input = record { left = left; faults = reads }; output = record { held = held; faults = writes }; shelf = shelf }
 
-abbrev pub shelf_at : (List ℕ → Option (List ℕ)) → (List ℕ → Option (List Row)) → (List ℕ → PlaceCounts) → Shelf
-shelf_at texts lists at = record { texts = texts; lists = lists; at = at }
+abbrev pub shelf_at : (List ℕ → Option (List ℕ)) → (List ℕ → Option (List Row)) → (List ℕ → Option ℕ) → (List ℕ → PlaceCounts) → Shelf
+shelf_at texts lists versions at = record { texts = texts; lists = lists; versions = versions; at = at }
 
 -- nothing of the input was read, or all of it
 consumed_none : (before now : Option (List ℕ)) → Keeps before now → Consumes before now []

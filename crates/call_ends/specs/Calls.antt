@@ -37,8 +37,9 @@ input_as left faults input = record { left = left input; faults = faults input }
 abbrev pub output_as : {K : Type 0} → (K → Option (List ℕ)) → (K → ℕ) → K → Output
 output_as held faults out = record { held = held out; faults = faults out }
 
-abbrev pub shelf_as : {H : Type 0} → (H → List ℕ → Option (List ℕ)) → (H → List ℕ → Option (List Row)) → (H → List ℕ → PlaceCounts) → H → Shelf
-shelf_as texts lists at shelf = record { texts = texts shelf; lists = lists shelf; at = at shelf }
+abbrev pub shelf_as : {H : Type 0} → (H → List ℕ → Option (List ℕ)) → (H → List ℕ → Option (List Row)) → (H → List ℕ → Option ℕ)
+    → (H → List ℕ → PlaceCounts) → H → Shelf
+shelf_as texts lists versions at shelf = record { texts = texts shelf; lists = lists shelf; versions = versions shelf; at = at shelf }
 
 -- the call with these words, between what stands outside before it and after it
 abbrev pub outside_of : Input → Output → Shelf → Outside
@@ -49,10 +50,10 @@ call_at words before after = record { words = words; before = before; after = af
 
 -- the call with these words, between an input, an output and a shelf as they stand before it and as they stand after it
 abbrev pub call_of : {R K H : Type 0} → (R → Option (List ℕ)) → (R → ℕ) → (K → Option (List ℕ)) → (K → ℕ) → (H → List ℕ → Option (List ℕ))
-    → (H → List ℕ → Option (List Row)) → (H → List ℕ → PlaceCounts) → List (List ℕ) → R × K × H → R × K × H → Call
-call_of left reads held writes texts lists at words before after =
-    call_at words (outside_of (input_as left reads before.0) (output_as held writes before.1) (shelf_as texts lists at before.2))
-    (outside_of (input_as left reads after.0) (output_as held writes after.1) (shelf_as texts lists at after.2))
+    → (H → List ℕ → Option (List Row)) → (H → List ℕ → Option ℕ) → (H → List ℕ → PlaceCounts) → List (List ℕ) → R × K × H → R × K × H → Call
+call_of left reads held writes texts lists versions at words before after =
+    call_at words (outside_of (input_as left reads before.0) (output_as held writes before.1) (shelf_as texts lists versions at before.2))
+    (outside_of (input_as left reads after.0) (output_as held writes after.1) (shelf_as texts lists versions at after.2))
 
 -- the most bytes of an input
 abbrev pub input_limit : ℕ

@@ -5,16 +5,19 @@ use Rattle.ranked_list.specs.declared.row.Row.{Row}
 use Rattle.source_api.specs.declared.ledger.PlaceCounts.{PlaceCounts}
 use Rattle.source_api.specs.Places.{CountsTexts, SameAtEach, SameElsewhere, text_limit}
 
--- a shelf: the texts of its places and the lists of their sources, where it tells them, and what it has counted at each place
+-- a shelf: the texts of its places, the lists of their sources and the versions that these state, where it tells them, and what it has counted at
+-- each place
 pub record Shelf : Type 0 where
   pub texts : List ℕ → Option (List ℕ)
   pub lists : List ℕ → Option (List Row)
+  pub versions : List ℕ → Option ℕ
   pub at : List ℕ → PlaceCounts
 
 -- a shelf tells what it told before
 pub record TellsTheSame (before now : Shelf) : Type 0 where
   pub texts : SameAtEach before.texts now.texts
   pub lists : SameAtEach before.lists now.lists
+  pub versions : SameAtEach before.versions now.versions
 
 -- a shelf was asked for the text of a place: its count of texts that failed may have gone up there, and nothing else was counted
 pub record AsksText (place : List ℕ) (before now : Shelf) : Type 0 where

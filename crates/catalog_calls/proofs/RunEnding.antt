@@ -28,7 +28,7 @@ use Rattle.catalog_calls.proofs.LineTexts.{is_run_status}
 -- a shelf of which nothing was asked
 asks_none : (place : List ℕ) (s : Shelf) → AsksText place s s
 asks_none place s = record {
-  tells = record { texts = λ other. refl; lists = λ other. refl };
+  tells = record { texts = λ other. refl; lists = λ other. refl; versions = λ other. refl };
   here = record { later = omega arith; others = refl };
   elsewhere = λ other differs. refl;
 }
@@ -38,9 +38,9 @@ asks_kept place before now same = subst (AsksText place before) (sym same) (asks
 
 -- a shelf that was asked for the text of a place, which is this one
 pub asks_text : (place named : List ℕ) (before now : Shelf) → named ≡ place → SameAtEach before.texts now.texts → SameAtEach before.lists now.lists
-    → SameElsewhere named before.at now.at → CountsTexts (before.at named) (now.at named) → AsksText place before now
-asks_text place named before now is texts lists elsewhere here =
-    subst (λ p. AsksText p before now) is (record { tells = record { texts = texts; lists = lists }; here = here; elsewhere = elsewhere })
+    → SameAtEach before.versions now.versions → SameElsewhere named before.at now.at → CountsTexts (before.at named) (now.at named) → AsksText place before now
+asks_text place named before now is texts lists versions elsewhere here =
+    subst (λ p. AsksText p before now) is (record { tells = record { texts = texts; lists = lists; versions = versions }; here = here; elsewhere = elsewhere })
 
 -- it gave this text
 pub gives_text : (place named : List ℕ) (before now : Shelf) (text : List ℕ) → named ≡ place → AsksText place before now
@@ -64,7 +64,7 @@ text_failed place named before now trouble failed is asked cause = record {
 -- no source was taken of a shelf
 pub takes_none : (catalog : List Entry) (lines : List (List ℕ)) (s : Shelf) → TakesSources catalog lines s s
 takes_none catalog lines s = record {
-  tells = record { texts = λ other. refl; lists = λ other. refl };
+  tells = record { texts = λ other. refl; lists = λ other. refl; versions = λ other. refl };
   used = [];
   moves = moves_none s.at;
   few = few_still catalog lines s.at s.at (λ place. refl);

@@ -25,6 +25,7 @@ lines_run settings catalog lines before after = record {
   catalog = catalog;
   lines = lines;
   lists = before.lists;
+  versions = before.versions;
   settings = settings;
   before = before.at;
   after = after.at;

@@ -53,7 +53,7 @@ pub fn run<W: Threads + Wait + Sync, H: Shelf, R: Intake, K: Sink>(
     requires { AreSettings options.now.settings }
     ensures reads { R.faults input.old ≤ R.faults input.new }
     ensures writes { K.faults out.old ≤ K.faults out.new }
-    ensures ends { (words : List (List ℕ)) → EndsRunning options.now (call_of R.left R.faults K.held K.faults H.texts H.lists H.at words
+    ensures ends { (words : List (List ℕ)) → EndsRunning options.now (call_of R.left R.faults K.held K.faults H.texts H.lists H.versions H.at words
         (input.old, out.old, shelf.old) (input.new, out.new, shelf.new)) result }
 {
     match shelf.text(alloc, options.catalog.as_str()) {
@@ -78,7 +78,7 @@ fn run_over<W: Threads + Wait + Sync, H: Shelf, R: Intake, K: Sink>(
     requires { AreSettings settings }
     ensures reads { R.faults input.old ≤ R.faults input.new }
     ensures writes { K.faults out.old ≤ K.faults out.new }
-    ensures ends { (words : List (List ℕ)) → RunsOverCatalog settings text.items (call_of R.left R.faults K.held K.faults H.texts H.lists H.at words
+    ensures ends { (words : List (List ℕ)) → RunsOverCatalog settings text.items (call_of R.left R.faults K.held K.faults H.texts H.lists H.versions H.at words
         (input.old, out.old, shelf.old) (input.new, out.new, shelf.new)) result }
 {
     let read = read_catalog(alloc, &text);
@@ -139,7 +139,7 @@ fn run_input<W: Threads + Wait + Sync, H: Shelf, R: Intake, K: Sink>(
     ensures reads { R.faults input.old ≤ R.faults input.new }
     ensures writes { K.faults out.old ≤ K.faults out.new }
     ensures ends { (words : List (List ℕ)) (text : List ℕ) → IsCatalog (records_of text) catalog.now
-        → RunsOverCatalog settings text (call_of R.left R.faults K.held K.faults H.texts H.lists H.at words
+        → RunsOverCatalog settings text (call_of R.left R.faults K.held K.faults H.texts H.lists H.versions H.at words
         (input.old, out.old, shelf.old) (input.new, out.new, shelf.new)) result }
 {
     match read_text(alloc, input, MAX_INPUT) {
@@ -163,8 +163,8 @@ fn reply_to<W: Threads + Wait + Sync, H: Shelf, K: Sink>(
     requires { AreSettings settings }
     ensures writes { K.faults out.old ≤ K.faults out.new }
     ensures ends { (words : List (List ℕ)) (text : List ℕ) (before after : Input) → IsCatalog (records_of text) catalog.now
-        → let call = call_at words (outside_of before (output_as K.held K.faults out.old) (shelf_as H.texts H.lists H.at shelf.old))
-        (outside_of after (output_as K.held K.faults out.new) (shelf_as H.texts H.lists H.at shelf.new)) in
+        → let call = call_at words (outside_of before (output_as K.held K.faults out.old) (shelf_as H.texts H.lists H.versions H.at shelf.old))
+        (outside_of after (output_as K.held K.faults out.new) (shelf_as H.texts H.lists H.versions H.at shelf.new)) in
         ReadWhole call bytes.now → RunsOverCatalog settings text call result }
 {
     match run_text(rt, alloc, catalog, settings, shelf, bytes) {
@@ -187,9 +187,9 @@ fn run_text<W: Threads + Wait + Sync, H: Shelf>(
     text: &[u8],
 ) -> Result<Vec<LineOutcome>, Memory>
     requires { AreSettings settings }
-    ensures takes { TakesSources catalog.now (lines text.now) (shelf_as H.texts H.lists H.at shelf.old) (shelf_as H.texts H.lists H.at shelf.new) }
+    ensures takes { TakesSources catalog.now (lines text.now) (shelf_as H.texts H.lists H.versions H.at shelf.old) (shelf_as H.texts H.lists H.versions H.at shelf.new) }
     ensures run { IfOk result (λ outcomes. IsRun (lines_run settings catalog.now (lines text.now)
-        (shelf_as H.texts H.lists H.at shelf.old) (shelf_as H.texts H.lists H.at shelf.new)) outcomes.items) }
+        (shelf_as H.texts H.lists H.versions H.at shelf.old) (shelf_as H.texts H.lists H.versions H.at shelf.new)) outcomes.items) }
     ensures writable { IfOk result (λ outcomes. All CanBeWritten outcomes.items) }
 {
     let lines = lines_of(alloc, text)?;

@@ -13,7 +13,7 @@ use Rattle.source_api.specs.declared.source.Trouble.TheVariants.{Failed, Garbled
 use Rattle.source_api.specs.Places.{HasTakeCause, SameElsewhere, counts_taken}
 use Rattle.catalog_text.specs.Catalog.{Listed as Entry}
 use Rattle.catalog_open.specs.Entries.{entry_at}
-use Rattle.catalog_open.specs.Openings.{AsksAtMost, AsksEachAtMostOnce, AsksEachOnce, AsksFor, Counted, PutsBack, PutsOneBack, TroubleAt, Used, counted_times, marked_at, one_at}
+use Rattle.catalog_open.specs.Openings.{AsksAtMost, AsksEachAtMostOnce, AsksEachOnce, AsksFor, Counted, IsAtVersion, PutsBack, PutsOneBack, TroubleAt, Used, counted_times, marked_at, one_at}
 use Rattle.catalog_open.proofs.Moving.{times_add}
 
 -- what holds in any case
@@ -65,14 +65,16 @@ asked_back before mid now took put =
     asks_given before now (ap (λ (c : PlaceCounts). c.taken) put.1 ∙ ap (λ (c : PlaceCounts). c.taken) took)
     (ap (λ (c : PlaceCounts). c.take_faults) put.1 ∙ ap (λ (c : PlaceCounts). c.take_faults) took)
 
-pub asked_once : {S E : Type 0} (r : Result (Option S) E) (list_of : S → Option (List Row)) (size_of : S → ℕ) (before mid now : PlaceCounts) (one : Option (List Row))
+pub asked_once : {S E : Type 0} (r : Result (Option S) E) (list_of : S → Option (List Row)) (size_of held_of version_of : S → ℕ) (before mid now : PlaceCounts) (one : Option (List Row))
+    (stated : Option ℕ)
     → mid ≡ counts_taken before
-    → IfOk r (λ found. MatchOption found (TroubleAt mid now × PutsOneBack mid now) (λ taken. (now ≡ mid) × (list_of taken ≡ one) × IfSome one (λ rows. size_of taken ≡ length rows)))
+    → IfOk r (λ found. MatchOption found (TroubleAt mid now × PutsOneBack mid now) (λ taken. (now ≡ mid) × (list_of taken ≡ one) × IfSome one (λ rows. size_of taken ≡ length rows)
+    × IsAtVersion stated (held_of taken) (version_of taken)))
     → OnOk r (AsksFor 1 before now)
-asked_once (Ok None) list_of size_of before mid now one took found = asked_back before mid now took found.1
-asked_once (Ok (Some taken)) list_of size_of before mid now one took found =
+asked_once (Ok None) list_of size_of held_of version_of before mid now one stated took found = asked_back before mid now took found.1
+asked_once (Ok (Some taken)) list_of size_of held_of version_of before mid now one stated took found =
     asks_given before now (ap (λ (c : PlaceCounts). c.taken) (found.0 ∙ took)) (ap (λ (c : PlaceCounts). c.take_faults) (found.0 ∙ took))
-asked_once (Err e) list_of size_of before mid now one took found = tt
+asked_once (Err e) list_of size_of held_of version_of before mid now one stated took found = tt
 
 pub asked_few : {A E : Type 0} (r : Result A E) (before mid now : PlaceCounts) → mid ≡ counts_taken before → OnErr r (PutsOneBack mid now) → OnErr r (AsksAtMost 1 before now)
 asked_few (Ok x) before mid now took put = tt
@@ -119,6 +121,16 @@ asks_here here text before now is elsewhere one = here_alone AsksFor asks_none h
 pub few_here : (here text : List ℕ) (before now : Counted) → here ≡ text → SameElsewhere text before now → AsksAtMost 1 (before text) (now text) → (place : List ℕ)
     → AsksAtMost (one_at here place) (before place) (now place)
 few_here here text before now is elsewhere one = here_alone AsksAtMost (few_none 0) here text before now is elsewhere one
+
+-- the same of an entry that is wanted or isn't
+pub asks_wanted : (wanted : Bool) (n : ℕ) (before now : PlaceCounts) → wanted ≡ true → AsksFor n before now → AsksFor (if wanted then n else 0) before now
+asks_wanted wanted n before now is asks = subst (λ b. AsksFor (if b then n else 0) before now) (sym is) asks
+
+pub few_wanted : (wanted : Bool) (n : ℕ) (before now : PlaceCounts) → wanted ≡ true → AsksAtMost n before now → AsksAtMost (if wanted then n else 0) before now
+few_wanted wanted n before now is asks = subst (λ b. AsksAtMost (if b then n else 0) before now) (sym is) asks
+
+pub asks_passed : (wanted : Bool) (n : ℕ) (at : PlaceCounts) → wanted ≡ false → AsksFor (if wanted then n else 0) at at
+asks_passed wanted n at is = subst (λ b. AsksFor (if b then n else 0) at at) (sym is) (asks_none at at refl)
 
 no_marks : (catalog : List Entry) (place : List ℕ) → marked_at catalog [] place ≡ 0
 no_marks [] place = refl

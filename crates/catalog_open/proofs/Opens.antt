@@ -13,17 +13,18 @@ use Rattle.catalog_text.specs.Catalog.{Listed as Entry}
 use Rattle.catalog_open.specs.declared.opened.Opening.{Opening}
 use Rattle.catalog_open.specs.declared.opened.Opening.TheVariants.{Closed, Open}
 use Rattle.catalog_open.specs.Entries.{no_entry, entry_at, opening_at, entry_told}
-use Rattle.catalog_open.specs.Openings.{Counted, Used, Moves, MovesAt, PutsOneBack, TakesNone, KeepsOthers, TroubleAt, one_at, standing, Sources, run_count, IsToldAs, IsSource, IsOpening, IsNumbered, AreOpened, IsKnownAt}
+use Rattle.catalog_open.specs.Openings.{Counted, Used, Moves, MovesAt, PutsOneBack, TakesNone, KeepsOthers, TroubleAt, one_at, standing, Sources, run_count, IsToldAs, IsAtVersion, IsSource, IsOpening, IsNumbered, AreOpened, IsKnownAt}
 use Rattle.catalog_open.proofs.Moving.{at_place, moves_nothing, moves_on, moves_then, moves_here, moves_at, moves_taken, took_back, trouble_on, trouble_from, keeps_then, keeps_here}
 use Rattle.limits.specs.declared.TheConstants.{MAX_OBJECTS}
 
 -- nothing is open yet
-pub opened_none : (lists : List ℕ → Option (List Row)) (catalog : List Entry) (Wanted : ℕ → Type 0) (before : Counted)
-    → AreOpened lists catalog Wanted before before [] (record { told = []; places = []; counts = [] })
-opened_none lists catalog Wanted before = record {
+pub opened_none : (lists : List ℕ → Option (List Row)) (versions : List ℕ → Option ℕ) (catalog : List Entry) (Wanted : ℕ → Type 0) (before : Counted)
+    → AreOpened lists versions catalog Wanted before before [] (record { told = []; versions = []; places = []; counts = [] })
+opened_none lists versions catalog Wanted before = record {
   each = λ place h. absurd (omega arith);
   numbered = λ source h. absurd (omega arith);
   many_told = refl;
+  many_versions = refl;
   many_counts = refl;
   small = All-from_recursion (λ count. count ≤ MAX_OBJECTS) [] tt;
   used = [];
@@ -31,20 +32,21 @@ opened_none lists catalog Wanted before = record {
   others = λ place apart. refl;
 }
 
-opening_on : (lists : List ℕ → Option (List Row)) (catalog : List Entry) (s : Sources) (Wanted : ℕ
+opening_on : (lists : List ℕ → Option (List Row)) (versions : List ℕ → Option ℕ) (catalog : List Entry) (s : Sources) (Wanted : ℕ
     → Type 0) (before mid now : Counted) (place : ℕ) (o : Opening)
-    → MovesAt (mid (entry_at catalog place).place) (now (entry_at catalog place).place) → IsOpening lists catalog s Wanted before mid place o → IsOpening lists catalog s Wanted before now place o
-opening_on lists catalog s Wanted before mid now place Closed moves is = λ wanted. trouble_on (before (entry_at catalog place).place) (mid (entry_at catalog place).place) (now (entry_at catalog place).place) (is wanted) moves
-opening_on lists catalog s Wanted before mid now place (Open size source version) moves is = is
+    → MovesAt (mid (entry_at catalog place).place) (now (entry_at catalog place).place) → IsOpening lists versions catalog s Wanted before mid place o → IsOpening lists versions catalog s Wanted before now place o
+opening_on lists versions catalog s Wanted before mid now place Closed moves is = λ wanted. trouble_on (before (entry_at catalog place).place) (mid (entry_at catalog place).place) (now (entry_at catalog place).place) (is wanted) moves
+opening_on lists versions catalog s Wanted before mid now place (Open size source version) moves is = is
 
 -- the shelf went on
-pub opened_moved : (lists : List ℕ → Option (List Row)) (catalog : List Entry) (Wanted : ℕ
+pub opened_moved : (lists : List ℕ → Option (List Row)) (versions : List ℕ → Option ℕ) (catalog : List Entry) (Wanted : ℕ
     → Type 0) (before mid now : Counted) (openings : List Opening) (s : Sources) (u : List Used)
-    → AreOpened lists catalog Wanted before mid openings s → Moves u mid now → KeepsOthers catalog Wanted mid now → AreOpened lists catalog Wanted before now openings s
-opened_moved lists catalog Wanted before mid now openings s u are moves others = record {
-  each = λ place within. opening_on lists catalog s Wanted before mid now place (opening_at openings place) (moves_at u mid now (entry_at catalog place).place moves) (are.each place within);
+    → AreOpened lists versions catalog Wanted before mid openings s → Moves u mid now → KeepsOthers catalog Wanted mid now → AreOpened lists versions catalog Wanted before now openings s
+opened_moved lists versions catalog Wanted before mid now openings s u are moves others = record {
+  each = λ place within. opening_on lists versions catalog s Wanted before mid now place (opening_at openings place) (moves_at u mid now (entry_at catalog place).place moves) (are.each place within);
   numbered = are.numbered;
   many_told = are.many_told;
+  many_versions = are.many_versions;
   many_counts = are.many_counts;
   small = are.small;
   used = are.used ++ u;
@@ -75,22 +77,23 @@ last_or : (place n : ℕ) → place < n + 1 → (place < n) ⊎ (place ≡ n)
 last_or place n h = elim (cases_lt place n) [ inl less ↦ inl less | inr more ↦ inr (omega (arith, more)) ]
 
 -- the next source isn't open
-pub opened_closed : (lists : List ℕ → Option (List Row)) (catalog : List Entry) (Wanted : ℕ
+pub opened_closed : (lists : List ℕ → Option (List Row)) (versions : List ℕ → Option ℕ) (catalog : List Entry) (Wanted : ℕ
     → Type 0) (before now : Counted) (openings : List Opening) (s : Sources) (next : ℕ)
-    → AreOpened lists catalog Wanted before now openings s → length openings ≡ next → (Wanted next → TroubleAt (before (entry_at catalog next).place) (now (entry_at catalog next).place))
-    → AreOpened lists catalog Wanted before now (openings ++ Closed ∷ []) s
-opened_closed lists catalog Wanted before now openings s next are long trouble = record {
+    → AreOpened lists versions catalog Wanted before now openings s → length openings ≡ next → (Wanted next → TroubleAt (before (entry_at catalog next).place) (now (entry_at catalog next).place))
+    → AreOpened lists versions catalog Wanted before now (openings ++ Closed ∷ []) s
+opened_closed lists versions catalog Wanted before now openings s next are long trouble = record {
   each = λ place within.
       let inside : place < length openings + 1 = omega (arith, within, length-append openings (Closed ∷ [])) in
       elim (last_or place (length openings) inside) [
-        | inl old ↦ subst (IsOpening lists catalog s Wanted before now place) (sym (get_or_append_left openings (Closed ∷ []) Closed place old)) (are.each place old)
+        | inl old ↦ subst (IsOpening lists versions catalog s Wanted before now place) (sym (get_or_append_left openings (Closed ∷ []) Closed place old)) (are.each place old)
         | inr new ↦
             let here : opening_at (openings ++ Closed ∷ []) place ≡ Closed = get_or_push openings Closed Closed place (sym new) in
             let same : next ≡ place = sym long ∙ sym new in
-            subst (IsOpening lists catalog s Wanted before now place) (sym here) (subst (λ p. Wanted p → TroubleAt (before (entry_at catalog p).place) (now (entry_at catalog p).place)) same trouble)
+            subst (IsOpening lists versions catalog s Wanted before now place) (sym here) (subst (λ p. Wanted p → TroubleAt (before (entry_at catalog p).place) (now (entry_at catalog p).place)) same trouble)
       ];
   numbered = λ source within. numbered_on catalog openings Closed (slice_index_or s.places source 0) source (are.numbered source within);
   many_told = are.many_told;
+  many_versions = are.many_versions;
   many_counts = are.many_counts;
   small = are.small;
   used = are.used;
@@ -99,25 +102,28 @@ opened_closed lists catalog Wanted before now openings s next are long trouble =
 }
 
 -- the sources with one more
-abbrev pub more_sources : Sources → Option (List Row) → ℕ → ℕ → Sources
-more_sources s told place count = record { told = s.told ++ told ∷ []; places = s.places ++ place ∷ []; counts = s.counts ++ count ∷ [] }
+abbrev pub more_sources : Sources → Option (List Row) → ℕ → ℕ → ℕ → Sources
+more_sources s told held place count =
+    record { told = s.told ++ told ∷ []; versions = s.versions ++ held ∷ []; places = s.places ++ place ∷ []; counts = s.counts ++ count ∷ [] }
 
-source_on : (lists : List ℕ → Option (List Row)) (catalog : List Entry) (s : Sources) (told : Option (List Row)) (next count place size source : ℕ)
-    → length s.told ≡ length s.places → length s.counts ≡ length s.places
-    → IsSource lists catalog s place size source → IsSource lists catalog (more_sources s told next count) place size source
-source_on lists catalog s told next count place size source many_told many_counts is = record {
+source_on : (lists : List ℕ → Option (List Row)) (versions : List ℕ → Option ℕ) (catalog : List Entry) (s : Sources) (told : Option (List Row)) (held next count place size source version : ℕ)
+    → length s.told ≡ length s.places → length s.versions ≡ length s.places → length s.counts ≡ length s.places
+    → IsSource lists versions catalog s place size source version → IsSource lists versions catalog (more_sources s told held next count) place size source version
+source_on lists versions catalog s told held next count place size source version many_told many_versions many_counts is = record {
   within = omega (arith, is.within, length-append s.places (next ∷ []));
   stands = get_or_append_left s.places (next ∷ []) 0 source is.within ∙ is.stands;
   counted = get_or_append_left s.counts (count ∷ []) 0 source (omega (arith, is.within, many_counts)) ∙ is.counted;
   told = subst (λ t. IsToldAs (entry_told lists catalog place) t size) (sym (get_or_append_left s.told (told ∷ []) None source (omega (arith, is.within, many_told)))) is.told;
+  at = subst (λ h. IsAtVersion (entry_told versions catalog place) h version) (sym (get_or_append_left s.versions (held ∷ []) 0 source (omega (arith, is.within, many_versions)))) is.at;
 }
 
-still_opening : (lists : List ℕ → Option (List Row)) (catalog : List Entry) (s : Sources) (told : Option (List Row)) (next count : ℕ) (Wanted : ℕ
+still_opening : (lists : List ℕ → Option (List Row)) (versions : List ℕ → Option ℕ) (catalog : List Entry) (s : Sources) (told : Option (List Row)) (held next count : ℕ) (Wanted : ℕ
     → Type 0) (before now : Counted) (place : ℕ) (o : Opening)
-    → length s.told ≡ length s.places → length s.counts ≡ length s.places
-    → IsOpening lists catalog s Wanted before now place o → IsOpening lists catalog (more_sources s told next count) Wanted before now place o
-still_opening lists catalog s told next count Wanted before now place Closed many_told many_counts is = is
-still_opening lists catalog s told next count Wanted before now place (Open size source version) many_told many_counts is = (is.0, source_on lists catalog s told next count place size source many_told many_counts is.1)
+    → length s.told ≡ length s.places → length s.versions ≡ length s.places → length s.counts ≡ length s.places
+    → IsOpening lists versions catalog s Wanted before now place o → IsOpening lists versions catalog (more_sources s told held next count) Wanted before now place o
+still_opening lists versions catalog s told held next count Wanted before now place Closed many_told many_versions many_counts is = is
+still_opening lists versions catalog s told held next count Wanted before now place (Open size source version) many_told many_versions many_counts is =
+    (is.0, source_on lists versions catalog s told held next count place size source version many_told many_versions many_counts is.1)
 
 run_count_small : (size : ℕ) → run_count size ≤ MAX_OBJECTS
 run_count_small size = small (nat_le size MAX_OBJECTS) (leb-true size MAX_OBJECTS)
@@ -143,12 +149,12 @@ standing_more catalog (e ∷ entries) entry place = go (bytes_eq (entry_at catal
     go false e = e
 
 -- the next source is open
-pub opened_open : (lists : List ℕ → Option (List Row)) (catalog : List Entry) (Wanted : ℕ
-    → Type 0) (before mid now : Counted) (openings : List Opening) (s : Sources) (next size version : ℕ) (told : Option (List Row))
-    → AreOpened lists catalog Wanted before mid openings s → length openings ≡ next → next < length catalog → Wanted next → IsToldAs (entry_told lists catalog next) told size
-    → SameElsewhere (entry_at catalog next).place mid now → now (entry_at catalog next).place ≡ counts_taken (mid (entry_at catalog next).place)
-    → AreOpened lists catalog Wanted before now (openings ++ Open size (length s.places) version ∷ []) (more_sources s told next (run_count size))
-opened_open lists catalog Wanted before mid now openings s next size version told are long inside wanted is_told elsewhere here_taken =
+pub opened_open : (lists : List ℕ → Option (List Row)) (versions : List ℕ → Option ℕ) (catalog : List Entry) (Wanted : ℕ
+    → Type 0) (before mid now : Counted) (openings : List Opening) (s : Sources) (next size version held : ℕ) (told : Option (List Row))
+    → AreOpened lists versions catalog Wanted before mid openings s → length openings ≡ next → next < length catalog → Wanted next → IsToldAs (entry_told lists catalog next) told size
+    → IsAtVersion (entry_told versions catalog next) held version → SameElsewhere (entry_at catalog next).place mid now → now (entry_at catalog next).place ≡ counts_taken (mid (entry_at catalog next).place)
+    → AreOpened lists versions catalog Wanted before now (openings ++ Open size (length s.places) version ∷ []) (more_sources s told held next (run_count size))
+opened_open lists versions catalog Wanted before mid now openings s next size version held told are long inside wanted is_told is_at elsewhere here_taken =
     let o = Open size (length s.places) version in
     let text = (entry_at catalog next).place in
     let step = moves_taken text mid now elsewhere here_taken in
@@ -156,13 +162,13 @@ opened_open lists catalog Wanted before mid now openings s next size version tol
       each = λ place within.
           let within_more : place < length openings + 1 = omega (arith, within, length-append openings (o ∷ [])) in
           elim (last_or place (length openings) within_more) [
-            | inl old ↦ subst (IsOpening lists catalog (more_sources s told next (run_count size)) Wanted before now place) (sym (get_or_append_left openings (o ∷ []) Closed place old))
-                (still_opening lists catalog s told next (run_count size) Wanted before now place (opening_at openings place) are.many_told are.many_counts
-                (opening_on lists catalog s Wanted before mid now place (opening_at openings place) (moves_at [] mid now (entry_at catalog place).place step) (are.each place old)))
+            | inl old ↦ subst (IsOpening lists versions catalog (more_sources s told held next (run_count size)) Wanted before now place) (sym (get_or_append_left openings (o ∷ []) Closed place old))
+                (still_opening lists versions catalog s told held next (run_count size) Wanted before now place (opening_at openings place) are.many_told are.many_versions are.many_counts
+                (opening_on lists versions catalog s Wanted before mid now place (opening_at openings place) (moves_at [] mid now (entry_at catalog place).place step) (are.each place old)))
             | inr new ↦
                 let here : opening_at (openings ++ o ∷ []) place ≡ o = get_or_push openings o Closed place (sym new) in
                 let same : next ≡ place = sym long ∙ sym new in
-                subst (IsOpening lists catalog (more_sources s told next (run_count size)) Wanted before now place) (sym here) (
+                subst (IsOpening lists versions catalog (more_sources s told held next (run_count size)) Wanted before now place) (sym here) (
                   subst Wanted same wanted,
                   record {
                     within = omega (arith, length-append s.places (next ∷ []));
@@ -170,6 +176,8 @@ opened_open lists catalog Wanted before mid now openings s next size version tol
                     counted = get_or_push s.counts (run_count size) 0 (length s.places) are.many_counts;
                     told = subst (λ p. IsToldAs (entry_told lists catalog p) (slice_index_or (s.told ++ told ∷ []) (length s.places) None) size) same
                         (subst (λ t. IsToldAs (entry_told lists catalog next) t size) (sym (get_or_push s.told told None (length s.places) are.many_told)) is_told);
+                    at = subst (λ p. IsAtVersion (entry_told versions catalog p) (slice_index_or (s.versions ++ held ∷ []) (length s.places) 0) version) same
+                        (subst (λ h. IsAtVersion (entry_told versions catalog next) h version) (sym (get_or_push s.versions held 0 (length s.places) are.many_versions)) is_at);
                   },
                 )
           ];
@@ -186,6 +194,7 @@ opened_open lists catalog Wanted before mid now openings s next size version tol
             })
           ];
       many_told = omega (arith, length-append s.told (told ∷ []), length-append s.places (next ∷ []), are.many_told);
+      many_versions = omega (arith, length-append s.versions (held ∷ []), length-append s.places (next ∷ []), are.many_versions);
       many_counts = omega (arith, length-append s.counts (run_count size ∷ []), length-append s.places (next ∷ []), are.many_counts);
       small = All-push (λ count. count ≤ MAX_OBJECTS) s.counts (run_count size) are.small (run_count_small size);
       used = are.used ++ [];
@@ -208,51 +217,53 @@ pub match_some : {X : Type 0} (o : Option X) (P : Type 0) (Q : X → Type 0) (x 
 match_some None P Q x h e = absurd cc
 match_some (Some y) P Q x h e = subst Q (same_Some y x e) h
 
-abbrev sources_of : List (Option (List Row)) → List ℕ → List ℕ → Sources
-sources_of told places counts = record { told = told; places = places; counts = counts }
+abbrev sources_of : List (Option (List Row)) → List ℕ → List ℕ → List ℕ → Sources
+sources_of told held places counts = record { told = told; versions = held; places = places; counts = counts }
 
 -- the same in other words
-pub opened_as : (lists : List ℕ → Option (List Row)) (catalog : List Entry) (Wanted : ℕ
-    → Type 0) (before now : Counted) (os os_now : List Opening) (told told_now : List (Option (List Row))) (places places_now counts counts_now : List ℕ)
-    → os_now ≡ os → told_now ≡ told → places_now ≡ places → counts_now ≡ counts → AreOpened lists catalog Wanted before now os (sources_of told places counts) → AreOpened lists catalog Wanted before now os_now (sources_of told_now places_now counts_now)
-opened_as lists catalog Wanted before now os os_now told told_now places places_now counts counts_now o t p c are =
-    subst (λ x. AreOpened lists catalog Wanted before now x (sources_of told_now places_now counts_now)) (sym o)
-    (subst (λ x. AreOpened lists catalog Wanted before now os (sources_of x places_now counts_now)) (sym t)
-    (subst (λ x. AreOpened lists catalog Wanted before now os (sources_of told x counts_now)) (sym p)
-    (subst (λ x. AreOpened lists catalog Wanted before now os (sources_of told places x)) (sym c) are)))
+pub opened_as : (lists : List ℕ → Option (List Row)) (versions : List ℕ → Option ℕ) (catalog : List Entry) (Wanted : ℕ
+    → Type 0) (before now : Counted) (os os_now : List Opening) (told told_now : List (Option (List Row))) (held held_now places places_now counts counts_now : List ℕ)
+    → os_now ≡ os → told_now ≡ told → held_now ≡ held → places_now ≡ places → counts_now ≡ counts → AreOpened lists versions catalog Wanted before now os (sources_of told held places counts) → AreOpened lists versions catalog Wanted before now os_now (sources_of told_now held_now places_now counts_now)
+opened_as lists versions catalog Wanted before now os os_now told told_now held held_now places places_now counts counts_now o t h p c are =
+    subst (λ x. AreOpened lists versions catalog Wanted before now x (sources_of told_now held_now places_now counts_now)) (sym o)
+    (subst (λ x. AreOpened lists versions catalog Wanted before now os (sources_of x held_now places_now counts_now)) (sym t)
+    (subst (λ x. AreOpened lists versions catalog Wanted before now os (sources_of told x places_now counts_now)) (sym h)
+    (subst (λ x. AreOpened lists versions catalog Wanted before now os (sources_of told held x counts_now)) (sym p)
+    (subst (λ x. AreOpened lists versions catalog Wanted before now os (sources_of told held places x)) (sym c) are))))
 
 -- a source was tried to be opened
-pub opened_tried : (lists : List ℕ → Option (List Row)) (catalog : List Entry) (Wanted : ℕ
+pub opened_tried : (lists : List ℕ → Option (List Row)) (versions : List ℕ → Option ℕ) (catalog : List Entry) (Wanted : ℕ
     → Type 0) (before mid now : Counted) (place : ℕ) (text : List ℕ) (os : List Opening) (s : Sources)
-    → Wanted place → (entry_at catalog place).place ≡ text → SameElsewhere text mid now → TakesNone (mid text) (now text) → AreOpened lists catalog Wanted before mid os s → AreOpened lists catalog Wanted before now os s
-opened_tried lists catalog Wanted before mid now place text os s wanted at elsewhere moves are =
-    opened_moved lists catalog Wanted before mid now os s (at_place text moves.moves.counts) are (moves_here text mid now elsewhere moves) (keeps_here catalog Wanted place text mid now wanted at elsewhere)
+    → Wanted place → (entry_at catalog place).place ≡ text → SameElsewhere text mid now → TakesNone (mid text) (now text) → AreOpened lists versions catalog Wanted before mid os s → AreOpened lists versions catalog Wanted before now os s
+opened_tried lists versions catalog Wanted before mid now place text os s wanted at elsewhere moves are =
+    opened_moved lists versions catalog Wanted before mid now os s (at_place text moves.moves.counts) are (moves_here text mid now elsewhere moves) (keeps_here catalog Wanted place text mid now wanted at elsewhere)
 
 -- it isn't open
-pub opened_not : (lists : List ℕ → Option (List Row)) (catalog : List Entry) (Wanted : ℕ
+pub opened_not : (lists : List ℕ → Option (List Row)) (versions : List ℕ → Option ℕ) (catalog : List Entry) (Wanted : ℕ
     → Type 0) (before mid now : Counted) (place : ℕ) (text : List ℕ) (os os_now : List Opening) (s : Sources)
     → Wanted place → length os ≡ place → (entry_at catalog place).place ≡ text → SameElsewhere text mid now → TakesNone (mid text) (now text) → TroubleAt (mid text) (now text) → os_now ≡ os ++ Closed ∷ []
-    → AreOpened lists catalog Wanted before mid os s → AreOpened lists catalog Wanted before now os_now s
-opened_not lists catalog Wanted before mid now place text os os_now s wanted long at elsewhere moves trouble put are =
-    let tried = opened_tried lists catalog Wanted before mid now place text os s wanted at elsewhere moves are in
+    → AreOpened lists versions catalog Wanted before mid os s → AreOpened lists versions catalog Wanted before now os_now s
+opened_not lists versions catalog Wanted before mid now place text os os_now s wanted long at elsewhere moves trouble put are =
+    let tried = opened_tried lists versions catalog Wanted before mid now place text os s wanted at elsewhere moves are in
     let earlier : MovesAt (before text) (mid text) = moves_at are.used before mid text are.moves in
     let whole : TroubleAt (before text) (now text) = trouble_from (before text) (mid text) (now text) earlier trouble in
-    subst (λ x. AreOpened lists catalog Wanted before now x s) (sym put)
-    (opened_closed lists catalog Wanted before now os s place tried long (λ w. subst (λ t. TroubleAt (before t) (now t)) (sym at) whole))
+    subst (λ x. AreOpened lists versions catalog Wanted before now x s) (sym put)
+    (opened_closed lists versions catalog Wanted before now os s place tried long (λ w. subst (λ t. TroubleAt (before t) (now t)) (sym at) whole))
 
 -- it is open
-pub opened_some : (lists : List ℕ → Option (List Row)) (catalog : List Entry) (Wanted : ℕ
+pub opened_some : (lists : List ℕ → Option (List Row)) (versions : List ℕ → Option ℕ) (catalog : List Entry) (Wanted : ℕ
     → Type 0) (before mid now : Counted) (place size number version : ℕ) (text : List ℕ) (os os_now : List Opening)
-    (told told_now : List (Option (List Row))) (one : Option (List Row)) (places places_now counts counts_now : List ℕ)
-    → Wanted place → place < length catalog → length os ≡ place → number ≡ length places → (entry_at catalog place).place ≡ text → SameElsewhere text mid now → now text ≡ counts_taken (mid text) → IsToldAs (lists text) one size
-    → os_now ≡ os ++ Open size number version ∷ [] → told_now ≡ told ++ one ∷ [] → places_now ≡ places ++ place ∷ [] → counts_now ≡ counts ++ run_count size ∷ []
-    → AreOpened lists catalog Wanted before mid os (sources_of told places counts) → AreOpened lists catalog Wanted before now os_now (sources_of told_now places_now counts_now)
-opened_some lists catalog Wanted before mid now place size number version text os os_now told told_now one places places_now counts counts_now wanted inside long many at elsewhere took is_told o t p c are =
+    (told told_now : List (Option (List Row))) (one : Option (List Row)) (held held_now : List ℕ) (has : ℕ) (places places_now counts counts_now : List ℕ)
+    → Wanted place → place < length catalog → length os ≡ place → number ≡ length places → (entry_at catalog place).place ≡ text → SameElsewhere text mid now → now text ≡ counts_taken (mid text) → IsToldAs (lists text) one size → IsAtVersion (versions text) has version
+    → os_now ≡ os ++ Open size number version ∷ [] → told_now ≡ told ++ one ∷ [] → held_now ≡ held ++ has ∷ [] → places_now ≡ places ++ place ∷ [] → counts_now ≡ counts ++ run_count size ∷ []
+    → AreOpened lists versions catalog Wanted before mid os (sources_of told held places counts) → AreOpened lists versions catalog Wanted before now os_now (sources_of told_now held_now places_now counts_now)
+opened_some lists versions catalog Wanted before mid now place size number version text os os_now told told_now one held held_now has places places_now counts counts_now wanted inside long many at elsewhere took is_told is_at o t h p c are =
     let told_here : IsToldAs (entry_told lists catalog place) one size = subst (λ x. IsToldAs (lists x) one size) (sym at) is_told in
-    let now_open = opened_open lists catalog Wanted before mid now os (sources_of told places counts) place size version one are long inside wanted told_here
+    let at_here : IsAtVersion (entry_told versions catalog place) has version = subst (λ x. IsAtVersion (versions x) has version) (sym at) is_at in
+    let now_open = opened_open lists versions catalog Wanted before mid now os (sources_of told held places counts) place size version has one are long inside wanted told_here at_here
     (subst (λ x. SameElsewhere x mid now) (sym at) elsewhere) (subst (λ x. now x ≡ counts_taken (mid x)) (sym at) took) in
-    opened_as lists catalog Wanted before now (os ++ Open size (length places) version ∷ []) os_now (told ++ one ∷ []) told_now (places ++ place ∷ []) places_now (counts ++ run_count size ∷ []) counts_now
-    (o ∙ ap (λ n. os ++ Open size n version ∷ []) many) t p c now_open
+    opened_as lists versions catalog Wanted before now (os ++ Open size (length places) version ∷ []) os_now (told ++ one ∷ []) told_now (held ++ has ∷ []) held_now (places ++ place ∷ []) places_now (counts ++ run_count size ∷ []) counts_now
+    (o ∙ ap (λ n. os ++ Open size n version ∷ []) many) t h p c now_open
 
 -- sources count at their places
 pub known_on : (catalog : List Entry) (before now : List ℕ → Bool) (places : List ℕ) → ((other : List ℕ) → before other ≡ true → now other ≡ true)
@@ -267,15 +278,15 @@ known_more catalog before now places same more place text on inside at known is 
     (All-push (IsKnownAt catalog now) places place (known_on catalog before now places on all) (record { within = inside; known = subst (λ t. now t ≡ true) (sym at) known }))
 
 -- a source that isn't wanted is passed, unless memory was refused
-pub opened_passed : {A E : Type 0} (r : Result A E) (lists : List ℕ → Option (List Row)) (catalog : List Entry) (Wanted : ℕ
-    → Type 0) (before now : Counted) (place : ℕ) (os os_now : List Opening) (told : List (Option (List Row))) (places places_now counts counts_now : List ℕ)
+pub opened_passed : {A E : Type 0} (r : Result A E) (lists : List ℕ → Option (List Row)) (versions : List ℕ → Option ℕ) (catalog : List Entry) (Wanted : ℕ
+    → Type 0) (before now : Counted) (place : ℕ) (os os_now : List Opening) (told : List (Option (List Row))) (held places places_now counts counts_now : List ℕ)
     → OnOk r (os_now ≡ os ++ Closed ∷ []) → OnErr r (os_now ≡ os) → places_now ≡ places → counts_now ≡ counts → length os ≡ place → (Wanted place → ⊥)
-    → AreOpened lists catalog Wanted before now os (sources_of told places counts) → AreOpened lists catalog Wanted before now os_now (sources_of told places_now counts_now)
-opened_passed (Ok x) lists catalog Wanted before now place os os_now told places places_now counts counts_now ok err p c long un are =
-    opened_as lists catalog Wanted before now (os ++ Closed ∷ []) os_now told told places places_now counts counts_now ok refl p c
-    (opened_closed lists catalog Wanted before now os (sources_of told places counts) place are long (λ wanted. absurd (un wanted)))
-opened_passed (Err e) lists catalog Wanted before now place os os_now told places places_now counts counts_now ok err p c long un are =
-    opened_as lists catalog Wanted before now os os_now told told places places_now counts counts_now err refl p c are
+    → AreOpened lists versions catalog Wanted before now os (sources_of told held places counts) → AreOpened lists versions catalog Wanted before now os_now (sources_of told held places_now counts_now)
+opened_passed (Ok x) lists versions catalog Wanted before now place os os_now told held places places_now counts counts_now ok err p c long un are =
+    opened_as lists versions catalog Wanted before now (os ++ Closed ∷ []) os_now told told held held places places_now counts counts_now ok refl refl p c
+    (opened_closed lists versions catalog Wanted before now os (sources_of told held places counts) place are long (λ wanted. absurd (un wanted)))
+opened_passed (Err e) lists versions catalog Wanted before now place os os_now told held places places_now counts counts_now ok err p c long un are =
+    opened_as lists versions catalog Wanted before now os os_now told told held held places places_now counts counts_now err refl refl p c are
 
 -- lists with one more
 pub one_longer : {X : Type 0} (xs same more : List X) (x : X) (n : ℕ) → same ≡ xs → more ≡ same ++ x ∷ [] → length xs ≡ n → length more ≡ n + 1
@@ -300,20 +311,33 @@ pub passed_next : {A E : Type 0} (r : Result A E) (os os_now : List Opening) (pl
 passed_next (Ok x) os os_now place put long = one_longer os os os_now Closed place refl put long
 passed_next (Err e) os os_now place put long = tt
 
+-- a source's version is the one at hand, and the stated one
+pub at_version : (stated : Option ℕ) (held version : ℕ) → version ≡ held → IfSome stated (λ states. held ≡ states) → IsAtVersion stated held version
+at_version stated held version is states =
+    record { at_hand = sym is; stated = subst (λ v. IfSome stated (λ s. v ≡ s)) (sym is) states }
+
+-- and the told one, where the source states that
+at_told : (told stated : Option ℕ) (held version : ℕ) → IfSome told (λ t. stated ≡ Some t) → IsAtVersion stated held version → IsAtVersion told held version
+at_told None stated held version states is = record { at_hand = is.at_hand; stated = tt }
+at_told (Some t) stated held version states is =
+    record { at_hand = is.at_hand; stated = subst (λ o. IfSome o (λ s. version ≡ s)) states is.stated }
+
 told_as : (told one tells : Option (List Row)) (size : ℕ) → IfSome told (λ rows. one ≡ Some rows) → tells ≡ one → IfSome one (λ rows. size ≡ length rows)
     → IsToldAs told tells size
 told_as None one tells size list same stated = tt
 told_as (Some rows) one tells size list same stated = (same ∙ list, subst (λ o. IfSome o (λ rows. size ≡ length rows)) list stated)
 
 -- a source that was taken, and asked for its size
-pub asked : {S E : Type 0} (r : Result (Option S) E) (list_of : S → Option (List Row)) (size_of : S → ℕ) (before mid now : PlaceCounts) (Known : Type 0)
-    (told one : Option (List Row))
-    → MovesAt before mid → mid ≡ counts_taken before → Known → IfSome told (λ rows. one ≡ Some rows)
-    → IfOk r (λ found. MatchOption found (TroubleAt mid now × PutsOneBack mid now) (λ taken. (now ≡ mid) × (list_of taken ≡ one) × IfSome one (λ rows. size_of taken ≡ length rows)))
-    → IfOk r (λ found. MatchOption found (TroubleAt before now × TakesNone before now) (λ taken. Known × IsToldAs told (list_of taken) (size_of taken) × (now ≡ counts_taken before)))
-asked (Ok None) list_of size_of before mid now Known told one moves took known list found = (trouble_from before mid now moves found.0, took_back before mid now took found.1)
-asked (Ok (Some taken)) list_of size_of before mid now Known told one moves took known list found = (known, told_as told one (list_of taken) (size_of taken) list found.1 found.2, found.0 ∙ took)
-asked (Err e) list_of size_of before mid now Known told one moves took known list found = tt
+pub asked : {S E : Type 0} (r : Result (Option S) E) (list_of : S → Option (List Row)) (size_of held_of version_of : S → ℕ) (before mid now : PlaceCounts) (Known : Type 0)
+    (told one : Option (List Row)) (version stated : Option ℕ)
+    → MovesAt before mid → mid ≡ counts_taken before → Known → IfSome told (λ rows. one ≡ Some rows) → IfSome version (λ v. stated ≡ Some v)
+    → IfOk r (λ found. MatchOption found (TroubleAt mid now × PutsOneBack mid now) (λ taken. (now ≡ mid) × (list_of taken ≡ one) × IfSome one (λ rows. size_of taken ≡ length rows)
+    × IsAtVersion stated (held_of taken) (version_of taken)))
+    → IfOk r (λ found. MatchOption found (TroubleAt before now × TakesNone before now) (λ taken. Known × IsToldAs told (list_of taken) (size_of taken)
+    × IsAtVersion version (held_of taken) (version_of taken) × (now ≡ counts_taken before)))
+asked (Ok None) list_of size_of held_of version_of before mid now Known told one version stated moves took known list at found = (trouble_from before mid now moves found.0, took_back before mid now took found.1)
+asked (Ok (Some taken)) list_of size_of held_of version_of before mid now Known told one version stated moves took known list at found = (known, told_as told one (list_of taken) (size_of taken) list found.1 found.2, at_told version stated (held_of taken) (version_of taken) at found.3, found.0 ∙ took)
+asked (Err e) list_of size_of held_of version_of before mid now Known told one version stated moves took known list at found = tt
 
 -- memory was refused once a source was taken
 pub asked_short : {A E : Type 0} (r : Result A E) (before mid now : PlaceCounts) → mid ≡ counts_taken before → OnErr r (PutsOneBack mid now) → OnErr r (TakesNone before now)

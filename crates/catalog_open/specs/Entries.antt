@@ -1,6 +1,5 @@
 -- The entries of a catalog by their places.
-use Rattle.std.specs.Prelude.{◌≡◌, ℕ, Bool, true, false, List, [], Option, slice_index_or}
-use Rattle.ranked_list.specs.declared.row.Row.{Row}
+use Rattle.std.specs.Prelude.{◌≡◌, ℕ, Bool, true, false, List, [], slice_index_or}
 use Rattle.catalog_text.specs.Catalog.{Listed as Entry}
 use Rattle.catalog_open.specs.declared.opened.Opening.{Opening}
 use Rattle.catalog_open.specs.declared.opened.Opening.TheVariants.{Closed}
@@ -16,9 +15,9 @@ entry_at catalog place = slice_index_or catalog place no_entry
 abbrev pub opening_at : List Opening → ℕ → Opening
 opening_at openings place = slice_index_or openings place Closed
 
--- what is told of the list at a place of the catalog, by what is told of the lists at the places of a shelf
-abbrev pub entry_told : (List ℕ → Option (List Row)) → List Entry → ℕ → Option (List Row)
-entry_told lists catalog place = lists (entry_at catalog place).place
+-- what is told at a place of the catalog, of the rows of its list or of their version, by what is told at the places of a shelf
+abbrev pub entry_told : {X : Type 0} → (List ℕ → X) → List Entry → ℕ → X
+entry_told told catalog place = told (entry_at catalog place).place
 
 -- whether a place is marked
 abbrev pub is_marked : List Bool → ℕ → Bool

@@ -112,9 +112,11 @@ standing catalog [] place = 0
 standing catalog (entry ∷ entries) place =
     if bytes_eq (entry_at catalog entry).place place then suc (standing catalog entries place) else standing catalog entries place
 
--- the open sources, by their numbers: the lists that they tell, where they stand in the catalog, and how many objects they have
+-- the open sources, by their numbers: the lists that they tell, the versions that are at hand, where they stand in the catalog, and how many objects
+-- they have
 pub record Sources : Type 0 where
   pub told : List (Option (List Row))
+  pub versions : List ℕ
   pub places : List ℕ
   pub counts : List ℕ
 
@@ -126,18 +128,27 @@ run_count size = if nat_le size MAX_OBJECTS then size else 0
 abbrev pub IsToldAs : Option (List Row) → Option (List Row) → ℕ → Type 0
 IsToldAs list told size = IfSome list (λ rows. (told ≡ Some rows) × (size ≡ length rows))
 
--- the source at a place of the catalog is the one of this number, and states so many objects
-pub record IsSource (lists : List ℕ → Option (List Row)) (catalog : List Entry) (s : Sources) (place size source : ℕ) : Type 0 where
+-- a source is at this version: it is the one at hand, and the one that is told, where one is
+pub record IsAtVersion (told : Option ℕ) (held version : ℕ) : Type 0 where
+  pub at_hand : held ≡ version
+  pub stated : IfSome told (λ states. version ≡ states)
+
+-- the source at a place of the catalog is the one of this number, and states so many objects at this version
+pub record IsSource (lists : List ℕ → Option (List Row)) (versions : List ℕ → Option ℕ) (catalog : List Entry) (s : Sources)
+    (place size source version : ℕ) : Type 0 where
   pub within : source < length s.places
   pub stands : slice_index_or s.places source 0 ≡ place
   pub counted : slice_index_or s.counts source 0 ≡ run_count size
   pub told : IsToldAs (entry_told lists catalog place) (slice_index_or s.told source None) size
+  pub at : IsAtVersion (entry_told versions catalog place) (slice_index_or s.versions source 0) version
 
 -- what became of the source at a place: it is wanted and open, or it isn't open, and had trouble where it is wanted
-abbrev pub IsOpening : (lists : List ℕ → Option (List Row)) (catalog : List Entry) (s : Sources) (Wanted : ℕ → Type 0) (before now : Counted) (place : ℕ)
-    → Opening → Type 0
-IsOpening lists catalog s Wanted before now place Closed = Wanted place → TroubleAt (before (entry_at catalog place).place) (now (entry_at catalog place).place)
-IsOpening lists catalog s Wanted before now place (Open size source version) = Wanted place × IsSource lists catalog s place size source
+abbrev pub IsOpening : (lists : List ℕ → Option (List Row)) (versions : List ℕ → Option ℕ) (catalog : List Entry) (s : Sources) (Wanted : ℕ → Type 0)
+    (before now : Counted) (place : ℕ) → Opening → Type 0
+IsOpening lists versions catalog s Wanted before now place Closed =
+    Wanted place → TroubleAt (before (entry_at catalog place).place) (now (entry_at catalog place).place)
+IsOpening lists versions catalog s Wanted before now place (Open size source version) =
+    Wanted place × IsSource lists versions catalog s place size source version
 
 -- a source that has a number is open under this number
 pub record IsNumbered (catalog : List Entry) (openings : List Opening) (place source : ℕ) : Type 0 where
@@ -148,11 +159,12 @@ pub record IsNumbered (catalog : List Entry) (openings : List Opening) (place so
 
 -- the sources of the first entries of a catalog were opened, those that are wanted: what became of each, and what the shelf has counted. The open ones
 -- were taken of their places, one for each entry, and all others that were taken were put back
-pub record AreOpened (lists : List ℕ → Option (List Row)) (catalog : List Entry) (Wanted : ℕ → Type 0) (before now : Counted)
-    (openings : List Opening) (s : Sources) : Type 0 where
-  pub each : (place : ℕ) → place < length openings → IsOpening lists catalog s Wanted before now place (opening_at openings place)
+pub record AreOpened (lists : List ℕ → Option (List Row)) (versions : List ℕ → Option ℕ) (catalog : List Entry) (Wanted : ℕ → Type 0)
+    (before now : Counted) (openings : List Opening) (s : Sources) : Type 0 where
+  pub each : (place : ℕ) → place < length openings → IsOpening lists versions catalog s Wanted before now place (opening_at openings place)
   pub numbered : (source : ℕ) → source < length s.places → IsNumbered catalog openings (slice_index_or s.places source 0) source
   pub many_told : length s.told ≡ length s.places
+  pub many_versions : length s.versions ≡ length s.places
   pub many_counts : length s.counts ≡ length s.places
   pub small : All (λ count. count ≤ MAX_OBJECTS) s.counts
   pub used : List Used

@@ -25,6 +25,7 @@ pub fn put_back_all<H: Shelf>(
     requires known { All (IsKnownAt catalog.now (H.knows shelf.old)) places.now }
     ensures texts { SameAtEach (H.texts shelf.old) (H.texts shelf.new) }
     ensures lists { SameAtEach (H.lists shelf.old) (H.lists shelf.new) }
+    ensures versions { SameAtEach (H.versions shelf.old) (H.versions shelf.new) }
     ensures others { KeepsOthers catalog.now (Contains places.now) (H.at shelf.old) (H.at shelf.new) }
     ensures moves { PutsBack (reverse (put_back catalog.now places.now (map (of_slot H.Item.counts) slots.items))) (H.at shelf.old) (H.at shelf.new) }
 {

@@ -5,8 +5,8 @@ ghost use Rattle.ranked_list.specs.declared.row.Row.{Row};
 ghost use Rattle.source_api.specs.Counting.{no_counts};
 ghost use Rattle.source_api.specs.Places.{SameAtEach, SameElsewhere, counts_taken};
 ghost use Rattle.catalog_open.specs.Entries.{entry_at, is_marked, IsMarked};
-ghost use Rattle.catalog_open.specs.Openings.{AreOpened, AsksAtMost, AsksEachAtMostOnce, AsksEachOnce, AsksFor, Counted, GivesNothing, IsKnownAt, IsToldAs, IsUnread, PutsOneBack, ReadsNothing, TakesNone, TroubleAt, one_at, run_count};
-ghost use Rattle.catalog_open.specs.Slots.{IsIdle, fresh_slot, of_slot};
+ghost use Rattle.catalog_open.specs.Openings.{AreOpened, AsksAtMost, AsksEachAtMostOnce, AsksEachOnce, AsksFor, Counted, GivesNothing, IsAtVersion, IsKnownAt, IsToldAs, IsUnread, PutsOneBack, ReadsNothing, TakesNone, TroubleAt, one_at, run_count};
+ghost use Rattle.catalog_open.specs.Slots.{IsIdle, fresh_slot, of_slot, sources_in};
 ghost use Rattle.catalog_open.specs.declared.opened.Opening.TheVariants as Opening;
 
 use super::Memory;
@@ -50,6 +50,7 @@ fn ask_size<H: Shelf>(
     requires knows { H.knows shelf.old place.now ≡ true }
     ensures texts { SameAtEach (H.texts shelf.old) (H.texts shelf.new) }
     ensures lists { SameAtEach (H.lists shelf.old) (H.lists shelf.new) }
+    ensures versions { SameAtEach (H.versions shelf.old) (H.versions shelf.new) }
     ensures known { (other : List ℕ) → H.knows shelf.old other ≡ true → H.knows shelf.new other ≡ true }
     ensures elsewhere { SameElsewhere place.now (H.at shelf.old) (H.at shelf.new) }
     ensures back { GivesNothing (H.at shelf.old place.now) (H.at shelf.new place.now) }
@@ -57,7 +58,8 @@ fn ask_size<H: Shelf>(
     ensures opens { IfOk result (λ found. MatchOption found
         (TroubleAt (H.at shelf.old place.now) (H.at shelf.new place.now) × PutsOneBack (H.at shelf.old place.now) (H.at shelf.new place.now))
         (λ taken. (H.at shelf.new place.now ≡ H.at shelf.old place.now) × (H.Item.list taken.source ≡ H.Item.list source)
-        × IfSome (H.Item.list source) (λ rows. taken.size ≡ length rows))) }
+        × IfSome (H.Item.list source) (λ rows. taken.size ≡ length rows)
+        × IsAtVersion (H.Item.states source) (H.Item.at_hand taken.source) taken.version)) }
     ensures short { OnErr result (PutsOneBack (H.at shelf.old place.now) (H.at shelf.new place.now)) }
 {
     match source.size(alloc) {
@@ -90,6 +92,7 @@ fn open_source<H: Shelf>(
 ) -> Result<Option<OpenSource<H::Item>>, Memory>
     ensures texts { SameAtEach (H.texts shelf.old) (H.texts shelf.new) }
     ensures lists { SameAtEach (H.lists shelf.old) (H.lists shelf.new) }
+    ensures versions { SameAtEach (H.versions shelf.old) (H.versions shelf.new) }
     ensures known { (other : List ℕ) → H.knows shelf.old other ≡ true → H.knows shelf.new other ≡ true }
     ensures elsewhere { SameElsewhere place.now (H.at shelf.old) (H.at shelf.new) }
     ensures back { GivesNothing (H.at shelf.old place.now) (H.at shelf.new place.now) }
@@ -97,7 +100,7 @@ fn open_source<H: Shelf>(
     ensures opens { IfOk result (λ found. MatchOption found
         (TroubleAt (H.at shelf.old place.now) (H.at shelf.new place.now) × TakesNone (H.at shelf.old place.now) (H.at shelf.new place.now))
         (λ taken. (H.knows shelf.new place.now ≡ true) × IsToldAs (H.lists shelf.old place.now) (H.Item.list taken.source) taken.size
-        × (H.at shelf.new place.now ≡ counts_taken (H.at shelf.old place.now)))) }
+        × IsAtVersion (H.versions shelf.old place.now) (H.Item.at_hand taken.source) taken.version × (H.at shelf.new place.now ≡ counts_taken (H.at shelf.old place.now)))) }
     ensures short { OnErr result (TakesNone (H.at shelf.old place.now) (H.at shelf.new place.now)) }
     ensures asks { OnOk result (AsksFor 1 (H.at shelf.old place.now) (H.at shelf.new place.now)) }
     ensures few { OnErr result (AsksAtMost 1 (H.at shelf.old place.now) (H.at shelf.new place.now)) }
@@ -164,50 +167,6 @@ fn put_open<S: Source>(
     slots.push_reserved(Slot::make(taken.source));
 }
 
-/// Opens the source of the next entry of the catalog, which is wanted.
-fn open_next<H: Shelf>(
-    alloc: Global,
-    shelf: &mut H,
-    catalog: &Catalog,
-    place: u32,
-    opened: &mut Opened,
-    slots: &mut Vec<Slot<H::Item>>,
-) -> Result<(), Memory>
-    requires place { place < length catalog.now }
-    requires next { length opened.old.openings.items ≡ place }
-    requires many { length slots.old.items ≡ length opened.old.places.items }
-    requires few { length slots.old.items ≤ place }
-    ensures texts { SameAtEach (H.texts shelf.old) (H.texts shelf.new) }
-    ensures lists { SameAtEach (H.lists shelf.old) (H.lists shelf.new) }
-    ensures next { OnOk result (length opened.new.openings.items ≡ place + 1) }
-    ensures many { length slots.new.items ≡ length opened.new.places.items }
-    ensures few { length slots.new.items ≤ place + 1 }
-    ensures known { All (IsKnownAt catalog.now (H.knows shelf.old)) opened.old.places.items
-        → All (IsKnownAt catalog.now (H.knows shelf.new)) opened.new.places.items }
-    ensures once { OnOk result ((other : List ℕ) → AsksFor (one_at (entry_at catalog.now place).place other) (H.at shelf.old other) (H.at shelf.new other)) }
-    ensures few_asks { (other : List ℕ) → AsksAtMost (one_at (entry_at catalog.now place).place other) (H.at shelf.old other) (H.at shelf.new other) }
-    ensures idle { All IsIdle slots.old.items → All IsIdle slots.new.items }
-    ensures unread { ReadsNothing (H.at shelf.old) (H.at shelf.new) (map (of_slot H.Item.counts) slots.old.items) (map (of_slot H.Item.counts) slots.new.items) }
-    ensures opened { (lists : List ℕ → Option (List Row)) (marks : List Bool) (before : Counted) → SameAtEach lists (H.lists shelf.old)
-        → is_marked marks place ≡ true
-        → AreOpened lists catalog.now (IsMarked marks) before (H.at shelf.old) opened.old.openings.items
-        (record { told = map (of_slot H.Item.list) slots.old.items; places = opened.old.places.items; counts = opened.old.counts.items })
-        → AreOpened lists catalog.now (IsMarked marks) before (H.at shelf.new) opened.new.openings.items
-        (record { told = map (of_slot H.Item.list) slots.new.items; places = opened.new.places.items; counts = opened.new.counts.items }) }
-{
-    let Ok(()) = make_room(opened, slots) else {
-        return Err(Memory);
-    };
-    let Ok(found) = open_source(alloc, shelf, place_of(catalog, place)) else {
-        return Err(Memory);
-    };
-    match found {
-        Some(taken) => put_open(opened, slots, place, taken),
-        None => opened.openings.push_reserved(Opening::Closed),
-    }
-    Ok(())
-}
-
 /// Puts a source that isn't wanted behind the others.
 fn pass_next(opened: &mut Opened) -> Result<(), Memory>
     ensures openings { OnOk result (opened.new.openings.items ≡ opened.old.openings.items ++ Opening.Closed ∷ []) }
@@ -222,7 +181,7 @@ fn pass_next(opened: &mut Opened) -> Result<(), Memory>
 }
 
 /// Opens the source of the next entry of the catalog where it is wanted.
-fn visit_next<H: Shelf>(
+fn open_next<H: Shelf>(
     alloc: Global,
     shelf: &mut H,
     catalog: &Catalog,
@@ -237,6 +196,7 @@ fn visit_next<H: Shelf>(
     requires few { length slots.old.items ≤ place }
     ensures texts { SameAtEach (H.texts shelf.old) (H.texts shelf.new) }
     ensures lists { SameAtEach (H.lists shelf.old) (H.lists shelf.new) }
+    ensures versions { SameAtEach (H.versions shelf.old) (H.versions shelf.new) }
     ensures next { OnOk result (length opened.new.openings.items ≡ place + 1) }
     ensures many { length slots.new.items ≡ length opened.new.places.items }
     ensures few { length slots.new.items ≤ place + 1 }
@@ -248,17 +208,28 @@ fn visit_next<H: Shelf>(
         → AsksAtMost (if wanted then one_at (entry_at catalog.now place).place other else 0) (H.at shelf.old other) (H.at shelf.new other) }
     ensures idle { All IsIdle slots.old.items → All IsIdle slots.new.items }
     ensures unread { ReadsNothing (H.at shelf.old) (H.at shelf.new) (map (of_slot H.Item.counts) slots.old.items) (map (of_slot H.Item.counts) slots.new.items) }
-    ensures opened { (lists : List ℕ → Option (List Row)) (marks : List Bool) (before : Counted) → SameAtEach lists (H.lists shelf.old)
+    ensures opened { (lists : List ℕ → Option (List Row)) (versions : List ℕ → Option ℕ) (marks : List Bool) (before : Counted)
+        → SameAtEach lists (H.lists shelf.old) → SameAtEach versions (H.versions shelf.old)
         → is_marked marks place ≡ wanted
-        → AreOpened lists catalog.now (IsMarked marks) before (H.at shelf.old) opened.old.openings.items
-        (record { told = map (of_slot H.Item.list) slots.old.items; places = opened.old.places.items; counts = opened.old.counts.items })
-        → AreOpened lists catalog.now (IsMarked marks) before (H.at shelf.new) opened.new.openings.items
-        (record { told = map (of_slot H.Item.list) slots.new.items; places = opened.new.places.items; counts = opened.new.counts.items }) }
+        → AreOpened lists versions catalog.now (IsMarked marks) before (H.at shelf.old) opened.old.openings.items
+        (sources_in H.Item.list H.Item.at_hand slots.old.items opened.old.places.items opened.old.counts.items)
+        → AreOpened lists versions catalog.now (IsMarked marks) before (H.at shelf.new) opened.new.openings.items
+        (sources_in H.Item.list H.Item.at_hand slots.new.items opened.new.places.items opened.new.counts.items) }
 {
-    if wanted {
-        return open_next(alloc, shelf, catalog, place, opened, slots);
+    if !wanted {
+        return pass_next(opened);
     }
-    pass_next(opened)
+    let Ok(()) = make_room(opened, slots) else {
+        return Err(Memory);
+    };
+    let Ok(found) = open_source(alloc, shelf, place_of(catalog, place)) else {
+        return Err(Memory);
+    };
+    match found {
+        Some(taken) => put_open(opened, slots, place, taken),
+        None => opened.openings.push_reserved(Opening::Closed),
+    }
+    Ok(())
 }
 
 /// Opens the sources of a catalog that are marked, in its order: each is asked of the shelf exactly once, and for its size. What became of
@@ -282,6 +253,7 @@ pub fn open_wanted<H: Shelf>(
     requires sources { slots.old.items ≡ [] }
     ensures texts { SameAtEach (H.texts shelf.old) (H.texts shelf.new) }
     ensures lists { SameAtEach (H.lists shelf.old) (H.lists shelf.new) }
+    ensures versions { SameAtEach (H.versions shelf.old) (H.versions shelf.new) }
     ensures all { OnOk result (length opened.new.openings.items ≡ length catalog.now) }
     ensures known { All (IsKnownAt catalog.now (H.knows shelf.new)) opened.new.places.items }
     ensures back { (place : List ℕ) → GivesNothing (H.at shelf.old place) (H.at shelf.new place) }
@@ -290,12 +262,13 @@ pub fn open_wanted<H: Shelf>(
     ensures few_asks { AsksEachAtMostOnce catalog.now marks.now (H.at shelf.old) (H.at shelf.new) }
     ensures idle { All IsIdle slots.new.items }
     ensures unread { All IsUnread (map (of_slot H.Item.counts) slots.new.items) }
-    ensures opened { AreOpened (H.lists shelf.old) catalog.now (IsMarked marks.now) (H.at shelf.old) (H.at shelf.new) opened.new.openings.items
-        (record { told = map (of_slot H.Item.list) slots.new.items; places = opened.new.places.items; counts = opened.new.counts.items }) }
+    ensures opened { AreOpened (H.lists shelf.old) (H.versions shelf.old) catalog.now (IsMarked marks.now) (H.at shelf.old) (H.at shelf.new)
+        opened.new.openings.items
+        (sources_in H.Item.list H.Item.at_hand slots.new.items opened.new.places.items opened.new.counts.items) }
 {
     for place in 0..catalog.len() {
         let wanted = marks[place as usize];
-        visit_next(alloc, shelf, catalog, place, wanted, opened, slots)?;
+        open_next(alloc, shelf, catalog, place, wanted, opened, slots)?;
     }
     Ok(())
 }

@@ -10,7 +10,7 @@ use Rattle.query_core.specs.declared.ready.Ready.{Ready as ReadyQuery}
 use Rattle.topk_theory.proofs.AgreementLists.{contains_here, member_of_all}
 use Rattle.cert_text.specs.declared.refusal.Refusal.{Refusal}
 use Rattle.cert_text.specs.declared.refusal.Refusal.TheVariants.{ManyQueries}
-use Rattle.query_admission.specs.View.{View}
+use Rattle.query_admission.specs.View.{View, versions_at}
 use Rattle.query_admission.specs.Causes.{most_queries, Cause, admission_causes, RefusesFor, NoneOf}
 use Rattle.query_admission.specs.Admission.{IsAdmitted}
 use Rattle.query_admission.specs.declared.lists.Listed.{Listed}
@@ -26,7 +26,8 @@ use Rattle.catalog_open.specs.Views.{entry_named, said_of, listed_at, view_over,
 use Rattle.catalog_open.specs.Entries.{entry_at, opening_at}
 use Rattle.catalog_open.specs.Openings.{Counted, Sources, AreOpened, IsOpening, IsSource, run_count}
 use Rattle.catalog_open.specs.Admissions.{AreAdmitted}
-use Rattle.catalog_run.specs.Runs.{IsReadyOf}
+use Rattle.batch_result.specs.Numbered.{version_at}
+use Rattle.catalog_run.specs.Runs.{HasVersions, IsReadyOf}
 use Rattle.limits.specs.declared.TheConstants.{MAX_OBJECTS}
 
 -- a source that a query names is there, and has as many objects
@@ -36,10 +37,13 @@ HasCount counts n source = (source < length counts) × (slice_index_or counts so
 run_count_is : (size : ℕ) → size ≤ MAX_OBJECTS → run_count size ≡ size
 run_count_is size small = ap (λ t. cond t size 0) (le-leb size MAX_OBJECTS small)
 
-module _ (lists told : List ℕ → Option (List Row)) (catalog : List Entry) (Wanted : ℕ → Type 0) (before now : Counted) (openings : List Opening) (s : Sources) (are : AreOpened lists catalog Wanted before now openings s) where
-  -- a list that states a size is that of an open source
+module _ (lists told : List ℕ → Option (List Row)) (versions : List ℕ → Option ℕ) (catalog : List Entry) (Wanted : ℕ → Type 0) (before now : Counted) (openings : List Opening) (s : Sources) (are : AreOpened lists versions catalog Wanted before now openings s) where
+  abbrev IsThere : ℕ → Listed → Type 0
+  IsThere n l = HasCount s.counts n l.source × (version_at s.versions l.source ≡ l.version)
+
+  -- a list that states a size is that of an open source, and at the version at hand
   open_source : (n place : ℕ) (o : Opening) (l : Listed) → n ≤ MAX_OBJECTS → opening_at openings place ≡ o → said_of (entry_at catalog place).random o ≡ l
-      → l.size ≡ Some n → HasCount s.counts n l.source
+      → l.size ≡ Some n → IsThere n l
   open_source n place Closed l small is said size = absurd (none_some (ap (λ (k : Listed). k.size) said ∙ size))
     where
       none_some : {m : ℕ} → None ≡ Some m → ⊥
@@ -50,20 +54,22 @@ module _ (lists told : List ℕ → Option (List Row)) (catalog : List Entry) (W
         | inl inside ↦ inside
         | inr past ↦ absurd (closed_open (sym (get_or_past openings place Closed past) ∙ is))
       ] in
-      let opening : IsOpening lists catalog s Wanted before now place (Open size source version) = subst (IsOpening lists catalog s Wanted before now place) is (are.each place within) in
-      let source_is : IsSource lists catalog s place size source = opening.1 in
+      let opening : IsOpening lists versions catalog s Wanted before now place (Open size source version) = subst (IsOpening lists versions catalog s Wanted before now place) is (are.each place within) in
+      let source_is : IsSource lists versions catalog s place size source version = opening.1 in
       let counted : slice_index_or s.counts source 0 ≡ n = source_is.counted ∙ (ap run_count same ∙ run_count_is n small) in
-      let there : source < length s.counts = omega (arith, source_is.within, are.many_counts) in
-      subst (HasCount s.counts n) (ap (λ (k : Listed). k.source) said) (there, counted)
+      let there : source < length s.counts = omega (arith, source_is.within, are.many_counts) in (
+        subst (HasCount s.counts n) (ap (λ (k : Listed). k.source) said) (there, counted),
+        ap (version_at s.versions) (sym (ap (λ (k : Listed). k.source) said)) ∙ (source_is.at.at_hand ∙ ap (λ (k : Listed). k.version) said),
+      )
     where
       closed_open : {size source version : ℕ} → Closed ≡ Open size source version → ⊥
       closed_open e = cc
 
   named_source : (n : ℕ) (name : List ℕ) (l : Listed) → n ≤ MAX_OBJECTS → option_map (listed_at catalog openings) (entry_named catalog name) ≡ Some l
-      → l.size ≡ Some n → HasCount s.counts n l.source
+      → l.size ≡ Some n → IsThere n l
   named_source n name l small e size = at (entry_named catalog name) e
     where
-      at : (p : Option ℕ) → option_map (listed_at catalog openings) p ≡ Some l → HasCount s.counts n l.source
+      at : (p : Option ℕ) → option_map (listed_at catalog openings) p ≡ Some l → IsThere n l
       at None e = absurd cc
       at (Some place) e = open_source n place (opening_at openings place) l small refl (same_Some (listed_at catalog openings place) l e) size
 
@@ -75,7 +81,20 @@ module _ (lists told : List ℕ → Option (List Row)) (catalog : List Entry) (W
   all_sourced n (name ∷ names) (l ∷ ls) small e sizes =
       let here : (view_over catalog openings told).listed name ≡ Some l = cc in
       let rest : map (view_over catalog openings told).listed names ≡ map Some ls = cc in
-      (named_source n name l small here (sizes 0 (omega arith)), all_sourced n names ls small rest (λ place h. sizes (suc place) (omega (arith, h))))
+      ((named_source n name l small here (sizes 0 (omega arith))).0, all_sourced n names ls small rest (λ place h. sizes (suc place) (omega (arith, h))))
+
+  all_at_hand : (n : ℕ) (names : List (List ℕ)) (ls : List Listed) → n ≤ MAX_OBJECTS → map (view_over catalog openings told).listed names ≡ map Some ls
+      → ((place : ℕ) → place < length ls → (slice_index_or ls place nothing).size ≡ Some n)
+      → versions_at ls ≡ map (version_at s.versions) (map (λ (l : Listed). l.source) ls)
+  all_at_hand n [] [] small e sizes = refl
+  all_at_hand n [] (l ∷ ls) small e sizes = absurd cc
+  all_at_hand n (name ∷ names) [] small e sizes = refl
+  all_at_hand n (name ∷ names) (l ∷ ls) small e sizes =
+      let here : (view_over catalog openings told).listed name ≡ Some l = cc in
+      let rest : map (view_over catalog openings told).listed names ≡ map Some ls = cc in
+      let one = (named_source n name l small here (sizes 0 (omega arith))).1 in
+      ap (λ v. v ∷ versions_at ls) (sym one)
+      ∙ ap (λ vs. version_at s.versions l.source ∷ vs) (all_at_hand n names ls small rest (λ place h. sizes (suc place) (omega (arith, h))))
 
   ready_for : (number : ℕ) (bytes : List ℕ) (ready : ReadyQuery) → IsAdmitted (line_over (view_over catalog openings told) number bytes) ready
       → IsReadyFor s.counts ready
@@ -94,6 +113,27 @@ module _ (lists told : List ℕ → Option (List Row)) (catalog : List Entry) (W
   readies_for number (bytes ∷ lines) (Refused refusal query ∷ stages) readies all = readies_for (number + 1) lines stages readies all.1
   readies_for number (bytes ∷ lines) (Ready ∷ stages) [] all = absurd all
   readies_for number (bytes ∷ lines) (Ready ∷ stages) (ready ∷ readies) all = (ready_for number bytes ready all.0, readies_for (number + 1) lines stages readies all.1)
+
+  pub ready_versions : (number : ℕ) (bytes : List ℕ) (ready : ReadyQuery) → IsAdmitted (line_over (view_over catalog openings told) number bytes) ready
+      → HasVersions s.versions ready
+  ready_versions number bytes ready admitted =
+      sym admitted.versions
+      ∙ (all_at_hand ready.count ready.query.names admitted.lists admitted.sound.counted admitted.listed (admitted_states (line_over (view_over catalog openings told) number bytes) ready admitted)
+      ∙ ap (map (version_at s.versions)) admitted.sources)
+
+  all_versions_of : (number : ℕ) (lines : List (List ℕ)) (stages : List Stage) (readies : List ReadyQuery)
+      → AreAdmitted (view_over catalog openings told) number lines stages readies → AllByRecursion (HasVersions s.versions) readies
+  all_versions_of number [] [] readies all = subst (AllByRecursion (HasVersions s.versions)) (sym all) tt
+  all_versions_of number [] (stage ∷ stages) readies all = absurd all
+  all_versions_of number (bytes ∷ lines) [] readies all = absurd all
+  all_versions_of number (bytes ∷ lines) (Refused refusal query ∷ stages) readies all = all_versions_of (number + 1) lines stages readies all.1
+  all_versions_of number (bytes ∷ lines) (Ready ∷ stages) [] all = absurd all
+  all_versions_of number (bytes ∷ lines) (Ready ∷ stages) (ready ∷ readies) all = (ready_versions number bytes ready all.0, all_versions_of (number + 1) lines stages readies all.1)
+
+  -- and its versions are those at hand
+  pub all_versions : (number : ℕ) (lines : List (List ℕ)) (stages : List Stage) (readies : List ReadyQuery)
+      → AreAdmitted (view_over catalog openings told) number lines stages readies → All (HasVersions s.versions) readies
+  all_versions number lines stages readies all = All-from_recursion (HasVersions s.versions) readies (all_versions_of number lines stages readies all)
 
   -- each query that is ready is ready for the counts of the sources
   pub all_ready : (number : ℕ) (lines : List (List ℕ)) (stages : List Stage) (readies : List ReadyQuery)

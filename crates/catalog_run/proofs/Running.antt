@@ -15,7 +15,7 @@ use Rattle.catalog_open.specs.Admissions.{AreAdmitted}
 use Rattle.catalog_open.specs.Openings.{Sources}
 use Rattle.query_admission.specs.declared.line_outcome.LineOutcome.{LineOutcome}
 use Rattle.catalog_run.specs.Merging.{Fit, Merges}
-use Rattle.catalog_run.specs.Runs.{CanBeWritten, RanOver}
+use Rattle.catalog_run.specs.Runs.{CanBeWritten, HasVersions, RanOver}
 use Rattle.catalog_run.specs.OpenSources.{batch_over}
 use Rattle.catalog_run.proofs.Outcomes.{outcomes_are, right_fit}
 use Rattle.catalog_run.proofs.Readies.{all_own}
@@ -28,14 +28,15 @@ batch_of_readies settings s begun now lent readies batch same ran = subst (λ rs
 
 pub ran_over : (settings : Settings) (s : Sources) (begun now : List Counts) (view : View) (lines : List (List ℕ)) (stages : List Stage)
     (readies : List ReadyQuery) (batch : BatchState) (outcomes : List LineOutcome) → length begun ≡ length s.told → AllZip NoneFell begun now
-    → All (IsReadyFor s.counts) readies → IsBatch (batch_over settings s begun now readies) batch → AreAdmitted view 1 lines stages readies
+    → All (IsReadyFor s.counts) readies → All (HasVersions s.versions) readies → IsBatch (batch_over settings s begun now readies) batch → AreAdmitted view 1 lines stages readies
     → Merges stages readies batch.endings outcomes → RanOver settings s begun now view lines outcomes
-ran_over settings s begun now view lines stages readies batch outcomes many later ready ran are merged = record {
+ran_over settings s begun now view lines stages readies batch outcomes many later ready versions ran are merged = record {
   many = many;
   later = later;
   readies = readies;
   own = all_own view lines stages readies are;
   ready = ready;
+  versions = versions;
   batch = batch;
   ran = ran;
   outcomes_are = outcomes_are view 1 lines stages readies ran.queries batch.endings outcomes are merged ran.of ran.ends ran.right;

@@ -19,20 +19,21 @@ use Rattle.catalog_open.proofs.Back.{back_standing}
 use Rattle.catalog_open.proofs.Once.{few_back, few_none}
 use Rattle.catalog_open.proofs.Opens.{numbered_within}
 
-opening_for : (lists : List ℕ → Option (List Row)) (catalog : List Entry) (s : Sources) (W V : ℕ → Type 0) (before now : Counted) (place : ℕ) (o : Opening)
+opening_for : (lists : List ℕ → Option (List Row)) (versions : List ℕ → Option ℕ) (catalog : List Entry) (s : Sources) (W V : ℕ → Type 0) (before now : Counted) (place : ℕ) (o : Opening)
     → ((p : ℕ) → W p → V p) → ((p : ℕ) → V p → W p)
-    → IsOpening lists catalog s W before now place o → IsOpening lists catalog s V before now place o
-opening_for lists catalog s W V before now place Closed to from is = λ v. is (from place v)
-opening_for lists catalog s W V before now place (Open size source version) to from is = (to place is.0, is.1)
+    → IsOpening lists versions catalog s W before now place o → IsOpening lists versions catalog s V before now place o
+opening_for lists versions catalog s W V before now place Closed to from is = λ v. is (from place v)
+opening_for lists versions catalog s W V before now place (Open size source version) to from is = (to place is.0, is.1)
 
 -- the same sources are wanted, in other words
-pub opened_for : (lists : List ℕ → Option (List Row)) (catalog : List Entry) (W V : ℕ → Type 0) (before now : Counted) (openings : List Opening) (s : Sources)
+pub opened_for : (lists : List ℕ → Option (List Row)) (versions : List ℕ → Option ℕ) (catalog : List Entry) (W V : ℕ → Type 0) (before now : Counted) (openings : List Opening) (s : Sources)
     → ((p : ℕ) → W p → V p) → ((p : ℕ) → V p → W p)
-    → AreOpened lists catalog W before now openings s → AreOpened lists catalog V before now openings s
-opened_for lists catalog W V before now openings s to from are = record {
-  each = λ place within. opening_for lists catalog s W V before now place (opening_at openings place) to from (are.each place within);
+    → AreOpened lists versions catalog W before now openings s → AreOpened lists versions catalog V before now openings s
+opened_for lists versions catalog W V before now openings s to from are = record {
+  each = λ place within. opening_for lists versions catalog s W V before now place (opening_at openings place) to from (are.each place within);
   numbered = are.numbered;
   many_told = are.many_told;
+  many_versions = are.many_versions;
   many_counts = are.many_counts;
   small = are.small;
   used = are.used;
@@ -41,39 +42,39 @@ opened_for lists catalog W V before now openings s to from are = record {
 }
 
 pub opened_marked : (lists : List ℕ
-    → Option (List Row)) (catalog : List Entry) (lines : List (List ℕ)) (marks : List Bool) (before now : Counted) (openings : List Opening) (s : Sources) → AreMarked catalog lines marks
-    → AreOpened lists catalog (IsMarked marks) before now openings s → AreOpened lists catalog (IsWanted catalog lines) before now openings s
-opened_marked lists catalog lines marks before now openings s marked are = opened_for lists catalog (IsMarked marks) (IsWanted catalog lines) before now openings s marked.wanted marked.marked are
+    → Option (List Row)) (versions : List ℕ → Option ℕ) (catalog : List Entry) (lines : List (List ℕ)) (marks : List Bool) (before now : Counted) (openings : List Opening) (s : Sources) → AreMarked catalog lines marks
+    → AreOpened lists versions catalog (IsMarked marks) before now openings s → AreOpened lists versions catalog (IsWanted catalog lines) before now openings s
+opened_marked lists versions catalog lines marks before now openings s marked are = opened_for lists versions catalog (IsMarked marks) (IsWanted catalog lines) before now openings s marked.wanted marked.marked are
 
 -- an open source is wanted
-pub open_wanted : (lists : List ℕ → Option (List Row)) (catalog : List Entry) (W : ℕ → Type 0) (before now : Counted) (openings : List Opening) (s : Sources)
-    → AreOpened lists catalog W before now openings s
+pub open_wanted : (lists : List ℕ → Option (List Row)) (versions : List ℕ → Option ℕ) (catalog : List Entry) (W : ℕ → Type 0) (before now : Counted) (openings : List Opening) (s : Sources)
+    → AreOpened lists versions catalog W before now openings s
     → (source : ℕ) → source < length s.places → W (slice_index_or s.places source 0)
-open_wanted lists catalog W before now openings s are source within =
+open_wanted lists versions catalog W before now openings s are source within =
     let place = slice_index_or s.places source 0 in
     let is = are.numbered source within in
-    let opening : IsOpening lists catalog s W before now place (Open is.size source) = subst (IsOpening lists catalog s W before now place) is.open_as (are.each place (numbered_within catalog openings place source is)) in
+    let opening : IsOpening lists versions catalog s W before now place (Open is.size source is.version) = subst (IsOpening lists versions catalog s W before now place) is.open_as (are.each place (numbered_within catalog openings place source is)) in
     opening.0
 
 member_is : (xs : List ℕ) (x : ℕ) → (c : Contains xs x) → slice_index_or xs c.0 0 ≡ x
 member_is xs x c = get_or_default xs c.0 0 x c.1 ∙ c.2
 
 -- putting back keeps the others
-pub back_keeps : (lists : List ℕ → Option (List Row)) (catalog : List Entry) (W : ℕ
-    → Type 0) (before mid now : Counted) (openings : List Opening) (s : Sources) → AreOpened lists catalog W before mid openings s
+pub back_keeps : (lists : List ℕ → Option (List Row)) (versions : List ℕ → Option ℕ) (catalog : List Entry) (W : ℕ
+    → Type 0) (before mid now : Counted) (openings : List Opening) (s : Sources) → AreOpened lists versions catalog W before mid openings s
     → KeepsOthers catalog (Contains s.places) mid now → KeepsOthers catalog W before now
-back_keeps lists catalog W before mid now openings s are back =
+back_keeps lists versions catalog W before mid now openings s are back =
     keeps_then catalog W before mid now are.others
-    (λ place apart. back place (λ entry c. apart entry (subst W (member_is s.places entry c) (open_wanted lists catalog W before mid openings s are c.0 (c.1)))))
+    (λ place apart. back place (λ entry c. apart entry (subst W (member_is s.places entry c) (open_wanted lists versions catalog W before mid openings s are c.0 (c.1)))))
 
 -- the whole run
 pub is_run : (catalog : List Entry) (lines : List (List ℕ)) (lists : List ℕ
-    → Option (List Row)) (settings : Settings) (before mid after : Counted) (openings : List Opening) (s : Sources) (begun now : List Counts) (outcomes : List LineOutcome)
-    → AreOpened lists catalog (IsWanted catalog lines) before mid openings s → length openings ≡ length catalog → AsksWantedOnce catalog lines before mid
+    → Option (List Row)) (versions : List ℕ → Option ℕ) (settings : Settings) (before mid after : Counted) (openings : List Opening) (s : Sources) (begun now : List Counts) (outcomes : List LineOutcome)
+    → AreOpened lists versions catalog (IsWanted catalog lines) before mid openings s → length openings ≡ length catalog → AsksWantedOnce catalog lines before mid
     → ((place : List ℕ) → GivesNothing (before place) (mid place)) → All IsUnread begun
     → RanOver settings s begun now (view_over catalog openings nothing_told) lines outcomes → PutsBack (reverse (put_back catalog s.places now)) mid after
-    → IsRun (record { catalog = catalog; lines = lines; lists = lists; settings = settings; before = before; after = after }) outcomes
-is_run catalog lines lists settings before mid after openings s begun now outcomes are all once idle unread ran back = record {
+    → IsRun (record { catalog = catalog; lines = lines; lists = lists; versions = versions; settings = settings; before = before; after = after }) outcomes
+is_run catalog lines lists versions settings before mid after openings s begun now outcomes are all once idle unread ran back = record {
   openings = openings;
   sources = s;
   mid = mid;
@@ -123,20 +124,29 @@ pub few_put : (catalog : List Entry) (lines : List (List ℕ)) (back : List Used
 few_put catalog lines back before mid now few puts = λ marks are. few_back catalog marks back before mid now (few marks are) puts
 
 -- what the shelf counted
-pub run_moves : (lists : List ℕ → Option (List Row)) (catalog : List Entry) (W : ℕ
+pub run_moves : (lists : List ℕ → Option (List Row)) (versions : List ℕ → Option ℕ) (catalog : List Entry) (W : ℕ
     → Type 0) (before mid after : Counted) (openings : List Opening) (s : Sources) (now : List Counts) → length now ≡ length s.places
-    → AreOpened lists catalog W before mid openings s → PutsBack (reverse (put_back catalog s.places now)) mid after → (used : List Used) × Moves used before after
-run_moves lists catalog W before mid after openings s now many are back =
+    → AreOpened lists versions catalog W before mid openings s → PutsBack (reverse (put_back catalog s.places now)) mid after → (used : List Used) × Moves used before after
+run_moves lists versions catalog W before mid after openings s now many are back =
     let used = reverse (put_back catalog s.places now) in
     (are.used ++ used, moves_back (standing catalog s.places) are.used used before mid after are.moves back (λ place. back_standing catalog s.places now place many))
 
--- the lists that the sources tell, in other words
-pub opened_told : (lists : List ℕ → Option (List Row)) (catalog : List Entry) (W : ℕ
-    → Type 0) (before now : Counted) (openings : List Opening) (told same : List (Option (List Row))) (places counts : List ℕ) → same ≡ told
-    → AreOpened lists catalog W before now openings (record { told = told; places = places; counts = counts }) → AreOpened lists catalog W before now openings (record { told = same; places = places; counts = counts })
-opened_told lists catalog W before now openings told same places counts is are = subst (λ t. AreOpened lists catalog W before now openings (record { told = t; places = places; counts = counts })) (sym is) are
+-- the lists and the versions of the sources, in other words
+abbrev sources_as : List (Option (List Row)) → List ℕ → List ℕ → List ℕ → Sources
+sources_as told held places counts = record { told = told; versions = held; places = places; counts = counts }
 
-pub ran_told : (settings : Settings) (told same : List (Option (List Row))) (places counts : List ℕ) (begun now : List Counts) (view : View)
-    (lines : List (List ℕ)) (outcomes : List LineOutcome) → same ≡ told
-    → RanOver settings (record { told = told; places = places; counts = counts }) begun now view lines outcomes → RanOver settings (record { told = same; places = places; counts = counts }) begun now view lines outcomes
-ran_told settings told same places counts begun now view lines outcomes is ran = subst (λ t. RanOver settings (record { told = t; places = places; counts = counts }) begun now view lines outcomes) (sym is) ran
+pub opened_told : (lists : List ℕ → Option (List Row)) (versions : List ℕ → Option ℕ) (catalog : List Entry) (W : ℕ → Type 0) (before now : Counted)
+    (openings : List Opening) (told same : List (Option (List Row))) (held same_held places counts : List ℕ) → same ≡ told → same_held ≡ held
+    → AreOpened lists versions catalog W before now openings (sources_as told held places counts)
+    → AreOpened lists versions catalog W before now openings (sources_as same same_held places counts)
+opened_told lists versions catalog W before now openings told same held same_held places counts is at are =
+    subst (λ t. AreOpened lists versions catalog W before now openings (sources_as t same_held places counts)) (sym is)
+    (subst (λ h. AreOpened lists versions catalog W before now openings (sources_as told h places counts)) (sym at) are)
+
+pub ran_told : (settings : Settings) (told same : List (Option (List Row))) (held same_held places counts : List ℕ) (begun now : List Counts) (view : View)
+    (lines : List (List ℕ)) (outcomes : List LineOutcome) → same ≡ told → same_held ≡ held
+    → RanOver settings (sources_as told held places counts) begun now view lines outcomes
+    → RanOver settings (sources_as same same_held places counts) begun now view lines outcomes
+ran_told settings told same held same_held places counts begun now view lines outcomes is at ran =
+    subst (λ t. RanOver settings (sources_as t same_held places counts) begun now view lines outcomes) (sym is)
+    (subst (λ h. RanOver settings (sources_as told h places counts) begun now view lines outcomes) (sym at) ran)

@@ -8,4 +8,5 @@ use Rattle.catalog_open.specs.Openings.{Sources}
 
 -- the batch of these queries over the open sources, which had counted so much before it and count so much now
 abbrev pub batch_over : Settings → Sources → List Counts → List Counts → List Ready → BatchRun
-batch_over settings s begun now readies = record { settings = settings; sizes = s.counts; readies = readies; told = s.told; before = begun; now = now }
+batch_over settings s begun now readies =
+    record { settings = settings; sizes = s.counts; readies = readies; told = s.told; versions = s.versions; before = begun; now = now }

@@ -1,5 +1,5 @@
 -- What query lines over the lists of a catalog come to, as a whole.
-use Rattle.std.specs.Prelude.{◌≡◌, ◌⊎◌, ◌+◌, ℕ, Bool, List, [], ◌∷◌, All, Option, Some, length, reverse, slice_get}
+use Rattle.std.specs.Prelude.{◌≡◌, ◌⊎◌, ◌+◌, ℕ, Bool, List, [], ◌∷◌, All, Option, Some, length, map, reverse, slice_get}
 use Rattle.std.specs.List.{AllZip}
 use Rattle.ranked_list.specs.declared.row.Row.{Row}
 use Rattle.source_api.specs.declared.counts.Counts.{Counts}
@@ -17,6 +17,7 @@ use Rattle.query_turns.specs.Made.{IsOf, IsReadyFor}
 use Rattle.query_turns.specs.Endings.{EndsAs, IsRight}
 use Rattle.limits.specs.declared.settings.Settings.{Settings}
 use Rattle.batch_result.specs.Batches.{BatchState, IsBatch}
+use Rattle.batch_result.specs.Numbered.{version_at}
 use Rattle.catalog_text.specs.Catalog.{Listed as Entry}
 use Rattle.catalog_open.specs.declared.opened.Opening.{Opening}
 use Rattle.catalog_open.specs.Views.{view_over, line_over, nothing_told}
@@ -64,11 +65,17 @@ pub record IsReadyOf (view : View) (lines : List (List ℕ)) (ready : Ready) : T
   pub line : slice_get lines at ≡ Some bytes
   pub admitted : IsAdmitted (line_over view (at + 1) bytes) ready
 
--- a run of query lines over a catalog: the lists that are told at the places of the shelf, the settings, and what the shelf counted before and afterwards
+-- the versions of a ready query are those of its sources that are at hand
+abbrev pub HasVersions : List ℕ → Ready → Type 0
+HasVersions versions ready = ready.versions.items ≡ map (version_at versions) ready.sources.items
+
+-- a run of query lines over a catalog: the lists and the versions that are told at the places of the shelf, the settings, and what the shelf counted before
+-- and afterwards
 pub record CatalogRun : Type 0 where
   pub catalog : List Entry
   pub lines : List (List ℕ)
   pub lists : List ℕ → Option (List Row)
+  pub versions : List ℕ → Option ℕ
   pub settings : Settings
   pub before : Counted
   pub after : Counted
@@ -82,6 +89,7 @@ pub record RanOver (settings : Settings) (s : Sources) (begun now : List Counts)
   pub readies : List Ready
   pub own : All (IsReadyOf view lines) readies
   pub ready : All (IsReadyFor s.counts) readies
+  pub versions : All (HasVersions s.versions) readies
   pub batch : BatchState
   pub ran : IsBatch (batch_over settings s begun now readies) batch
   pub outcomes_are : AreOutcomes view ran.queries 1 lines outcomes
@@ -101,7 +109,7 @@ pub record IsRun (r : CatalogRun) (outcomes : List LineOutcome) : Type 0 where
   pub sources : Sources
   pub mid : Counted
   pub idle : (place : List ℕ) → GivesNothing (r.before place) (mid place)
-  pub opened : AreOpened r.lists r.catalog (IsWanted r.catalog r.lines) r.before mid openings sources
+  pub opened : AreOpened r.lists r.versions r.catalog (IsWanted r.catalog r.lines) r.before mid openings sources
   pub all : length openings ≡ length r.catalog
   pub once : AsksWantedOnce r.catalog r.lines r.before mid
   pub begun : List Counts

@@ -37,8 +37,9 @@ pub fn run_queries<W: Threads + Wait + Sync, S: Source>(
     requires idle { All IsIdle slots.old.items }
     ensures idle { All IsIdle slots.new.items }
     ensures lists { map (of_slot S.list) slots.new.items ≡ map (of_slot S.list) slots.old.items }
+    ensures versions { map (of_slot S.at_hand) slots.new.items ≡ map (of_slot S.at_hand) slots.old.items }
     ensures later { AllZip NoneFell (map (of_slot S.counts) slots.old.items) (map (of_slot S.counts) slots.new.items) }
-    ensures batch { IfOk result (IsBatch (run_of S.list S.counts settings counts.now queries.now slots.old.items slots.new.items)) }
+    ensures batch { IfOk result (IsBatch (run_of S.list S.counts S.at_hand settings counts.now queries.now slots.old.items slots.new.items)) }
 {
     let Ok(batch) = run_all(rt, alloc, slots, counts, queries, settings) else {
         return Err(Memory);

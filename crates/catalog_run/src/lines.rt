@@ -7,7 +7,7 @@ ghost use Rattle.source_api.specs.Places.{SameAtEach};
 ghost use Rattle.limits.specs.Ranges.{AreSettings};
 ghost use Rattle.catalog_open.specs.Views.{view_over, nothing_told};
 ghost use Rattle.catalog_open.specs.Wanted.{AreRead, IsWanted};
-ghost use Rattle.catalog_open.specs.Slots.{IsIdle, of_slot};
+ghost use Rattle.catalog_open.specs.Slots.{IsIdle, of_slot, sources_in};
 ghost use Rattle.catalog_open.specs.Entries.{IsMarked};
 ghost use Rattle.catalog_open.specs.Openings.{AreOpened, Counted, GivesNothing, IsKnownAt, IsUnread, KeepsOthers, Moves, Used};
 ghost use Rattle.catalog_run.specs.Runs.{AsksWantedAtMostOnce, AsksWantedOnce, CanBeWritten, IsRun, RanOver};
@@ -47,6 +47,7 @@ pub fn run_lines<W: Threads + Wait + Sync, H: Shelf>(
     requires { AreSettings settings }
     ensures texts { SameAtEach (H.texts shelf.old) (H.texts shelf.new) }
     ensures lists { SameAtEach (H.lists shelf.old) (H.lists shelf.new) }
+    ensures versions { SameAtEach (H.versions shelf.old) (H.versions shelf.new) }
     ensures others { KeepsOthers catalog.now (IsWanted catalog.now (map (λ line. line.now) lines.now)) (H.at shelf.old) (H.at shelf.new) }
     ensures moves { (used : List Used) × Moves used (H.at shelf.old) (H.at shelf.new) }
     ensures few { AsksWantedAtMostOnce catalog.now (map (λ line. line.now) lines.now) (H.at shelf.old) (H.at shelf.new) }
@@ -54,6 +55,7 @@ pub fn run_lines<W: Threads + Wait + Sync, H: Shelf>(
       catalog = catalog.now;
       lines = map (λ line. line.now) lines.now;
       lists = H.lists shelf.old;
+      versions = H.versions shelf.old;
       settings = settings;
       before = H.at shelf.old;
       after = H.at shelf.new;
@@ -94,24 +96,19 @@ fn open_and_run<W: Threads + Wait + Sync, H: Shelf>(
     requires sources { slots.old.items ≡ [] }
     ensures texts { SameAtEach (H.texts shelf.old) (H.texts shelf.new) }
     ensures lists { SameAtEach (H.lists shelf.old) (H.lists shelf.new) }
+    ensures versions { SameAtEach (H.versions shelf.old) (H.versions shelf.new) }
     ensures known { All (IsKnownAt catalog.now (H.knows shelf.new)) opened.new.places.items }
     ensures many { length slots.new.items ≡ length opened.new.places.items }
     ensures free { All IsIdle slots.new.items }
-    ensures opened { AreOpened (H.lists shelf.old) catalog.now (IsWanted catalog.now (map (λ line. line.now) lines.now))
-        (H.at shelf.old) (H.at shelf.new) opened.new.openings.items (record {
-          told = map (of_slot H.Item.list) slots.new.items;
-          places = opened.new.places.items;
-          counts = opened.new.counts.items;
-        }) }
+    ensures opened { AreOpened (H.lists shelf.old) (H.versions shelf.old) catalog.now (IsWanted catalog.now (map (λ line. line.now) lines.now))
+        (H.at shelf.old) (H.at shelf.new) opened.new.openings.items
+        (sources_in H.Item.list H.Item.at_hand slots.new.items opened.new.places.items opened.new.counts.items) }
     ensures all { OnOk result (length opened.new.openings.items ≡ length catalog.now) }
     ensures once { OnOk result (AsksWantedOnce catalog.now (map (λ line. line.now) lines.now) (H.at shelf.old) (H.at shelf.new)) }
     ensures few { AsksWantedAtMostOnce catalog.now (map (λ line. line.now) lines.now) (H.at shelf.old) (H.at shelf.new) }
     ensures idle { (place : List ℕ) → GivesNothing (H.at shelf.old place) (H.at shelf.new place) }
-    ensures ran { IfOk result (λ outcomes. (begun : List Counts) × All IsUnread begun × RanOver settings (record {
-      told = map (of_slot H.Item.list) slots.new.items;
-      places = opened.new.places.items;
-      counts = opened.new.counts.items;
-    })
+    ensures ran { IfOk result (λ outcomes. (begun : List Counts) × All IsUnread begun × RanOver settings
+        (sources_in H.Item.list H.Item.at_hand slots.new.items opened.new.places.items opened.new.counts.items)
         begun (map (of_slot H.Item.counts) slots.new.items) (view_over catalog.now opened.new.openings.items nothing_told)
         (map (λ line. line.now) lines.now) outcomes.items) }
     ensures writable { IfOk result (λ outcomes. All CanBeWritten outcomes.items) }
@@ -145,22 +142,17 @@ fn run_opened<W: Threads + Wait + Sync, S: Source>(
     settings: Settings,
 ) -> Result<Vec<LineOutcome>, Memory>
     requires settings { AreSettings settings }
-    requires opened { (lists : List ℕ → Option (List Row)) × (marks : List Bool) × (before : Counted) × (now : Counted)
-        × AreOpened lists catalog.now (IsMarked marks) before now opened.now.openings.items (record {
-          told = map (of_slot S.list) slots.old.items;
-          places = opened.now.places.items;
-          counts = opened.now.counts.items;
-        }) }
+    requires opened { (lists : List ℕ → Option (List Row)) × (versions : List ℕ → Option ℕ) × (marks : List Bool) × (before : Counted) × (now : Counted)
+        × AreOpened lists versions catalog.now (IsMarked marks) before now opened.now.openings.items
+        (sources_in S.list S.at_hand slots.old.items opened.now.places.items opened.now.counts.items) }
     requires read { (lines : List (List ℕ)) × AreRead lines read.items }
     requires free { All IsIdle slots.old.items }
     requires few { length slots.old.items ≤ length catalog.now }
     ensures free { All IsIdle slots.new.items }
     ensures lists { map (of_slot S.list) slots.new.items ≡ map (of_slot S.list) slots.old.items }
-    ensures ran { (lines : List (List ℕ)) → AreRead lines read.items → IfOk result (λ outcomes. RanOver settings (record {
-      told = map (of_slot S.list) slots.old.items;
-      places = opened.now.places.items;
-      counts = opened.now.counts.items;
-    })
+    ensures versions { map (of_slot S.at_hand) slots.new.items ≡ map (of_slot S.at_hand) slots.old.items }
+    ensures ran { (lines : List (List ℕ)) → AreRead lines read.items → IfOk result (λ outcomes. RanOver settings
+        (sources_in S.list S.at_hand slots.old.items opened.now.places.items opened.now.counts.items)
         (map (of_slot S.counts) slots.old.items) (map (of_slot S.counts) slots.new.items) (view_over catalog.now opened.now.openings.items nothing_told)
         lines outcomes.items) }
     ensures writable { IfOk result (λ outcomes. All CanBeWritten outcomes.items) }

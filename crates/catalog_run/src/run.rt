@@ -4,9 +4,9 @@ ghost use Rattle.std.specs.Prelude.{◌≡◌, ◌≤◌, ◌<◌, ◌^◌, ℕ,
 ghost use Rattle.query_admission.specs.View.{View as AnyView};
 ghost use Rattle.query_turns.specs.Made.{IsReadyFor};
 ghost use Rattle.limits.specs.Ranges.{AreSettings};
-ghost use Rattle.catalog_open.specs.Slots.{IsIdle, of_slot};
+ghost use Rattle.catalog_open.specs.Slots.{IsIdle, of_slot, sources_in};
 ghost use Rattle.catalog_open.specs.Admissions.{AreAdmitted};
-ghost use Rattle.catalog_run.specs.Runs.{CanBeWritten, RanOver};
+ghost use Rattle.catalog_run.specs.Runs.{CanBeWritten, HasVersions, RanOver};
 
 use super::Memory;
 use super::batch::run_queries;
@@ -36,12 +36,14 @@ pub(crate) fn run_admitted<W: Threads + Wait + Sync, S: Source>(
     requires small { All (λ count. count ≤ MAX_OBJECTS) counts.now }
     requires idle { All IsIdle slots.old.items }
     requires ready { All (IsReadyFor counts.now) admissions.readies.items }
+    requires versions { All (HasVersions (map (of_slot S.at_hand) slots.old.items)) admissions.readies.items }
     requires admitted { (view : AnyView) × (lines : List (List ℕ)) × AreAdmitted view 1 lines admissions.stages.items admissions.readies.items }
     ensures idle { All IsIdle slots.new.items }
     ensures lists { map (of_slot S.list) slots.new.items ≡ map (of_slot S.list) slots.old.items }
+    ensures versions { map (of_slot S.at_hand) slots.new.items ≡ map (of_slot S.at_hand) slots.old.items }
     ensures ran { IfOk result (λ outcomes. (view : AnyView) (lines : List (List ℕ)) (places : List ℕ)
         → AreAdmitted view 1 lines admissions.stages.items admissions.readies.items
-        → RanOver settings (record { told = map (of_slot S.list) slots.old.items; places = places; counts = counts.now })
+        → RanOver settings (sources_in S.list S.at_hand slots.old.items places counts.now)
         (map (of_slot S.counts) slots.old.items) (map (of_slot S.counts) slots.new.items) view lines outcomes.items) }
     ensures writable { IfOk result (λ outcomes. All CanBeWritten outcomes.items) }
 {

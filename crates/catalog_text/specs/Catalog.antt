@@ -1,7 +1,7 @@
 -- What a catalog is. Each record is the list of its fields.
-use Rattle.std.specs.Prelude.{◌≡◌, ◌≢◌, ◌||◌, ◌≤◌, ℕ, Bool, true, false, List, [], ◌∷◌, Option, Some, None, length, map, codes, nat_eq, All, AllPairs, IsUtf8}
-use Rattle.std.specs.List.{starts_with}
+use Rattle.std.specs.Prelude.{◌≡◌, ◌≢◌, ◌≤◌, ℕ, Bool, true, false, List, [], ◌∷◌, Option, Some, None, length, map, codes, All, AllPairs, IsUtf8}
 use Rattle.line_text.specs.Names.{IsName}
+use Rattle.place_text.specs.Places.{IsPathOrAddress}
 use Rattle.limits.specs.declared.TheConstants.{MAX_SOURCES}
 
 -- a source: the name of its list, its place, and whether it allows random access
@@ -22,15 +22,11 @@ yes_or_no false = codes "no"
 abbrev pub spelled : Listed → List (List ℕ)
 spelled source = source.name ∷ source.place ∷ yes_or_no source.random ∷ []
 
--- the text begins as an address of another host does
-abbrev pub is_remote : List ℕ → Bool
-is_remote place = starts_with nat_eq place (codes "http://") || starts_with nat_eq place (codes "https://")
-
--- a place is a file's path of 1 to 255 bytes of text
+-- a place is a file's path or an address, in 1 to 255 bytes of text
 pub record IsPlace (place : List ℕ) : Type 0 where
   pub some : 1 ≤ length place
   pub most : length place ≤ 255
-  pub local : is_remote place ≡ false
+  pub form : IsPathOrAddress place
   pub text : IsUtf8 place
 
 -- what a catalog may say of a source

@@ -20,7 +20,7 @@ use std::slice::Iter;
 pub struct Entry {
     /// The name of its list: 1 to 32 bytes, a letter and then letters, digits and `_`.
     pub name: Vec<u8>,
-    /// Where it is: a file's path.
+    /// Where it is: a file's path, or the address `http://HOST:PORT/PATH` of a server's list.
     pub place: String,
     /// Whether it allows random access.
     pub random: bool,

@@ -7,6 +7,7 @@ ghost use Rattle.catalog_text.specs.Listed.{ReadsRandom, ReadsSource, three_now}
 
 use csv::ByteRecord;
 use line_text::is_name;
+use place_text::location_of;
 use std::str::from_utf8;
 
 /// What the record of a source says.
@@ -76,18 +77,19 @@ pub(crate) fn source_in(row: &ByteRecord) -> Option<Parts<'_>>
 }
 
 /// The place that a field is.
+#[tactic(auto, using(place_text::proofs::AddressLaws::located))]
 fn place_in(field: &[u8]) -> Option<&str>
     ensures { MatchOption result (¬ IsPlace field.now) (λ place. (place.now ≡ field.now) × IsPlace field.now) }
 {
     if field.is_empty() || field.len() > 255 {
         return None;
     }
-    if field.starts_with(b"http://") || field.starts_with(b"https://") {
+    let Ok(place) = from_utf8(field) else {
         return None;
-    }
-    match from_utf8(field) {
-        Ok(place) => Some(place),
-        Err(_) => None,
+    };
+    match location_of(place) {
+        Some(_) => Some(place),
+        None => None,
     }
 }
 

@@ -16,8 +16,8 @@ use std::alloc::Global;
 
 /// Reads a catalog: values separated by commas. The first record has the fields `name`, `place` and
 /// `random`. Each further record is a source, of which there are at most 64: the name of its list, a
-/// place of 1 to 255 bytes, and `yes` or `no` for random access. A place is a file's path, which
-/// doesn't begin with `http://` or `https://`. No two sources have one name. The fault names the first
+/// place of 1 to 255 bytes, and `yes` or `no` for random access. A place is a file's path or the address
+/// `http://HOST:PORT/PATH` of a server's list, as `place_text` reads them. No two sources have one name. The fault names the first
 /// record that is wrong, or the first record where there is none.
 ///
 /// *Cost*: one pass, and for each source three look-ups of its name.

@@ -23,7 +23,7 @@ use Rattle.query_text.specs.Shape.{weight_pieces, expr_pieces, argument_pieces, 
 use Rattle.query_text.specs.Query.{name_of, written, arguments, weighted, cost_digits, printed, IsPlain, ArePlain, AreWeighed, IsCount, IsLawful}
 use Rattle.query_text.specs.declared.query.Query.{Query}
 use Rattle.query_text.specs.declared.algorithm.Algorithm.{Algorithm}
-use Rattle.query_text.specs.declared.algorithm.Algorithm.TheVariants.{Ta, Nra, Ca}
+use Rattle.query_text.specs.declared.algorithm.Algorithm.TheVariants.{Ta, Nra, Ca, Fa}
 use Rattle.cert_text.specs.declared.certificate.Certificate.{Certificate}
 use Rattle.cert_text.specs.Certificate.{number_line, query_line, count_line, version_lines, answer_line, stop_line, access_line, access_lines, certificate_lines, IsItem, IsAccess, IsCertificate}
 use Rattle.cert_text.proofs.LineLaws.{version_text, version_line_some}
@@ -133,6 +133,7 @@ algorithm_clean : (algorithm : Algorithm) → AreClean (algorithm_pieces algorit
 algorithm_clean Ta = refl
 algorithm_clean Nra = refl
 algorithm_clean Ca = refl
+algorithm_clean Fa = refl
 
 count_clean : (n : ℕ) → IsCount n → IsClean (decimal n)
 count_clean n is = clean_decimal n (omega (arith, is.1))

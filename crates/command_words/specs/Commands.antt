@@ -2,7 +2,7 @@
 use Rattle.std.specs.Prelude.{ℕ, Bool, true, false, List, [], ◌∷◌, Option, None, Some, option_map, codes, if◌then◌else◌}
 use Rattle.std.specs.Str.{bytes_eq}
 use Rattle.command_words.specs.declared.command.Command.{Command}
-use Rattle.command_words.specs.declared.command.Command.TheVariants.{One, Judge, Make, Run, Bulk}
+use Rattle.command_words.specs.declared.command.Command.TheVariants.{One, Judge, Compare, Make, Run, Bulk}
 use Rattle.command_words.specs.Bulking.{bulk_options, AreBulkOptions}
 use Rattle.command_words.specs.Making.{make_options}
 use Rattle.command_words.specs.Running.{run_options}
@@ -20,7 +20,9 @@ are_no_words (word ∷ next ∷ rest) = false
 
 -- the command without words of this name
 abbrev pub command_named : List ℕ → Option Command
-command_named word = if bytes_eq word (codes "one") then Some One else (if bytes_eq word (codes "judge") then Some Judge else None)
+command_named word =
+    if bytes_eq word (codes "one") then Some One
+    else (if bytes_eq word (codes "judge") then Some Judge else (if bytes_eq word (codes "compare") then Some Compare else None))
 
 -- a command that takes no words, where there are none
 abbrev pub without_words : Option Command → List (List ℕ) → Option Command
@@ -45,8 +47,6 @@ command_of words =
 
 -- the settings that a command has are within their ranges
 abbrev pub HasSettings : Command → Type 0
-HasSettings One = Unit {0}
-HasSettings Judge = Unit {0}
-HasSettings (Make options) = Unit {0}
 HasSettings (Run options) = AreSettings options.settings
 HasSettings (Bulk options) = AreBulkOptions options
+HasSettings _ = Unit {0}

@@ -16,6 +16,8 @@ pub enum Command {
     One,
     /// `judge`: judges a certificate.
     Judge,
+    /// `compare`: tells what each algorithm reads for the query of a bundle.
+    Compare,
     /// `make`: writes a made table.
     Make(MakeOptions),
     /// `run`: answers query lines over the lists of a catalog.
@@ -96,6 +98,8 @@ fn command_named(name: &str) -> Option<Command>
         Some(Command::One)
     } else if name == "judge" {
         Some(Command::Judge)
+    } else if name == "compare" {
+        Some(Command::Compare)
     } else {
         None
     }

@@ -86,13 +86,19 @@ missing_member D A (first ∷ objects) object list c l none =
       | inr r ↦ Contains-append_right (missing_grades D A first) (flat_map (missing_grades D A) objects) _ (missing_member D A objects object list r l none)
     ]
 
-pub fa_knows : (k : ℕ) (D : List (List Row)) (object : ℕ) → Contains (fa_seen k D) object → unknown_lists (length D) (fa_run k D) object ≡ []
-fa_knows k D object seen =
-    none_unknown (length D) (fa_run k D) object (λ list l.
-    elim (option_cases (known_grade (fa_rows k D) object list)) [
-      | inl none ↦ asked_known (fa_run k D) list object (grade_in (list_at D list) object) (Contains-append_right (fa_rows k D) (fa_asks k D) _ (missing_member D (fa_rows k D) (fa_seen k D) object list seen l none))
-      | inr some ↦ ap (λ (o : Option ℕ). is_none o) (known_grade_kept (fa_rows k D) (fa_asks k D) object list some.0 some.1)
+-- so each object that is asked for all its unknown grades has none then
+pub asks_know : (D : List (List Row)) (A : List Access) (objects : List ℕ) (object : ℕ) → Contains objects object
+    → unknown_lists (length D) (A ++ flat_map (missing_grades D A) objects) object ≡ []
+asks_know D A objects object c =
+    let asks : List Access = flat_map (missing_grades D A) objects in
+    none_unknown (length D) (A ++ asks) object (λ list l.
+    elim (option_cases (known_grade A object list)) [
+      | inl none ↦ asked_known (A ++ asks) list object (grade_in (list_at D list) object) (Contains-append_right A asks _ (missing_member D A objects object list c l none))
+      | inr some ↦ ap (λ (o : Option ℕ). is_none o) (known_grade_kept A asks object list some.0 some.1)
     ])
+
+pub fa_knows : (k : ℕ) (D : List (List Row)) (object : ℕ) → Contains (fa_seen k D) object → unknown_lists (length D) (fa_run k D) object ≡ []
+fa_knows k D object seen = asks_know D (fa_rows k D) (fa_seen k D) object seen
 
 -- ---- the seen objects are those of the rows
 asks_unseen : (D : List (List Row)) (may : ℕ → Type 0) (B : List Access) → ((a : Access) → Contains B a → Asks D may a) → filter_map sorted_object B ≡ []
@@ -101,11 +107,13 @@ asks_unseen D may (a ∷ B) each =
     let is = (each a (contains_here a B)).is in
     subst (λ x. filter_map sorted_object (x ∷ B) ≡ []) (sym is) (asks_unseen D may B (λ b c. each b (contains_there a B b c)))
 
+pub asks_see_none : (D : List (List Row)) (may : ℕ → Type 0) (A B : List Access) → ((a : Access) → Contains B a → Asks D may a)
+    → seen_objects (A ++ B) ≡ seen_objects A
+asks_see_none D may A B each =
+    ap each_once (filter_map-append sorted_object A B ∙ ap (λ (os : List ℕ). filter_map sorted_object A ++ os) (asks_unseen D may B each) ∙ append-nil (filter_map sorted_object A))
+
 pub seen_same : (k : ℕ) (D : List (List Row)) → seen_objects (fa_run k D) ≡ fa_seen k D
-seen_same k D =
-    ap each_once (filter_map-append sorted_object (fa_rows k D) (fa_asks k D)
-    ∙ ap (λ (os : List ℕ). filter_map sorted_object (fa_rows k D) ++ os) (asks_unseen D (Contains (fa_seen k D)) (fa_asks k D) (fa_asks_seen k D))
-    ∙ append-nil (filter_map sorted_object (fa_rows k D)))
+seen_same k D = asks_see_none D (Contains (fa_seen k D)) (fa_rows k D) (fa_asks k D) (fa_asks_seen k D)
 
 pub fa_knows_all : (k : ℕ) (D : List (List Row)) → All (λ object. unknown_lists (length D) (fa_run k D) object ≡ []) (seen_objects (fa_run k D))
 fa_knows_all k D =
@@ -155,7 +163,7 @@ missing_long D A object =
     let all : length (list_numbers (length D)) ≡ length D = length-range_with_len 0 (length D) in
     omega arith
 
-asks_long : (D : List (List Row)) (A : List Access) (objects : List ℕ) → length (flat_map (missing_grades D A) objects) ≤ length D * length objects
+pub asks_long : (D : List (List Row)) (A : List Access) (objects : List ℕ) → length (flat_map (missing_grades D A) objects) ≤ length D * length objects
 asks_long D A [] = omega arith
 asks_long D A (object ∷ objects) =
     let more : length (flat_map (missing_grades D A) objects) ≤ length D * length objects = asks_long D A objects in

@@ -106,7 +106,7 @@ fn give(
 }
 
 /// Counts a call for a text that ended so, and says how it ends. Want of memory isn't counted.
-fn count_text(ledger: &mut Ledger, alloc: Global, place: &str, trouble: Trouble) -> Trouble
+pub fn count_text(ledger: &mut Ledger, alloc: Global, place: &str, trouble: Trouble) -> Trouble
     ensures known { (other : List ℕ) → is_known ledger.old other ≡ true → is_known ledger.new other ≡ true }
     ensures elsewhere { SameElsewhere place.now (counts_at ledger.old) (counts_at ledger.new) }
     ensures counts { CountsTexts (counts_at ledger.old place.now) (counts_at ledger.new place.now) }
@@ -122,7 +122,7 @@ fn count_text(ledger: &mut Ledger, alloc: Global, place: &str, trouble: Trouble)
 }
 
 /// Counts a call for a source that ended so, and says how it ends. Want of memory isn't counted.
-fn count_take(ledger: &mut Ledger, alloc: Global, place: &str, trouble: Trouble) -> Trouble
+pub fn count_take(ledger: &mut Ledger, alloc: Global, place: &str, trouble: Trouble) -> Trouble
     ensures known { (other : List ℕ) → is_known ledger.old other ≡ true → is_known ledger.new other ≡ true }
     ensures elsewhere { SameElsewhere place.now (counts_at ledger.old) (counts_at ledger.new) }
     ensures counts { CountsTakes (counts_at ledger.old place.now) (counts_at ledger.new place.now) }

@@ -7,7 +7,7 @@ mod file_tree;
 mod list_file;
 mod numbers;
 
-pub use file_shelf::{FileShelf, read_file};
+pub use file_shelf::{FileShelf, count_take, count_text, read_file};
 pub use file_source::FileSource;
 pub use file_tree::FileTree;
 pub use source_api::Memory;

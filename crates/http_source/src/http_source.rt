@@ -23,14 +23,14 @@ use wire::Place;
 /// version at hand, and of what it has counted. Its count of faults is that of its dial: a call is
 /// `Failed` exactly where that rose. It tells neither its list nor the version that replies state.
 #[derive(Drop)]
-pub struct HttpSource<D: Dial + Send + Drop> {
+pub struct HttpSource<D: Dial + Drop> {
     dial: D,
     place: Place,
     version: u64,
     counted: Counts,
 }
 
-impl<D: Dial + Send + Drop> Model for HttpSource<D> {
+impl<D: Dial + Drop> Model for HttpSource<D> {
     ghost use Rattle.std.specs.Prelude.{string_bytes};
     ghost use Rattle.http_source.specs.Served.{Served, served_code};
 
@@ -48,7 +48,7 @@ impl<D: Dial + Send + Drop> Model for HttpSource<D> {
     } };
 }
 
-impl<D: Dial + Send + Drop> HttpSource<D> {
+impl<D: Dial + Drop> HttpSource<D> {
     /// The source of the list that is served at the place. It has answered no size yet, and has counted
     /// nothing but what its dial has. Where memory is refused the dial is dropped.
     pub fn make(alloc: Global, dial: D, place: &Place) -> Result<HttpSource<D>, Memory>
@@ -82,12 +82,104 @@ impl<D: Dial + Send + Drop> HttpSource<D> {
         &self.dial
     }
 
-    /// What it has counted. Its faults are the calls that failed; those of its dial count the links'
-    /// calls.
+    /// What it has counted beside its dial. Its faults here are the calls that failed.
     pub fn counted(&self) -> Counts
         ensures { result ≡ self.now.counted }
     {
         self.counted
+    }
+
+    /// What it has counted. Its faults are those of its dial, which counts the links' calls.
+    pub fn counts(&self) -> Counts
+        ensures { result ≡ counts_with (D.faults self.now.dial) self.now.counted }
+    {
+        Counts {
+            faults: self.dial.fault_count(),
+            ..self.counted
+        }
+    }
+
+    /// The version that the last answer for the number of rows stated, 0 before one.
+    pub fn at_hand(&self) -> u64
+        ensures { result ≡ self.now.version }
+    {
+        self.version
+    }
+
+    /// Asks for the number of rows, which may be any. The version that the reply states is the one at
+    /// hand from then on.
+    pub fn ask_size(&mut self, alloc: Global) -> Result<u64, Trouble>
+        ensures answers { IfSome (next_bytes (D.links self.old.dial)) (λ bytes. AnswersSize bytes self.new.version result) }
+        ensures unlinked { D.links self.old.dial ≡ Some [] → IsUnanswered result }
+        ensures failed { FailsWith (D.faults self.old.dial) (D.faults self.new.dial) result }
+        ensures link { UsesLink (request_of self.old size_tail)
+            (D.links self.old.dial) (D.links self.new.dial) (D.closed self.old.dial) (D.closed self.new.dial) result }
+        ensures after { self.new ≡ record self.old {
+          dial = self.new.dial;
+          version = self.new.version;
+          counted = size_counted result self.old.counted;
+        } }
+        ensures kept { OnErr result (self.new.version ≡ self.old.version) }
+        ensures unmoved { IfErr result IsNoMove }
+        ensures later { NoneFell (counts_with (D.faults self.old.dial) self.old.counted) (counts_with (D.faults self.new.dial) self.new.counted) }
+        ensures cause { IfErr result (TroubleHasCause (counts_with (D.faults self.old.dial) self.old.counted) (counts_with (D.faults self.new.dial) self.new.counted)) }
+        ensures alone { IfErr result (CountsAlone (counts_with (D.faults self.old.dial) self.old.counted) (counts_with (D.faults self.new.dial) self.new.counted)) }
+        ensures given { GaveNothing (counts_with (D.faults self.old.dial) self.old.counted) (counts_with (D.faults self.new.dial) self.new.counted) }
+        ensures quiet { OnOk result (counts_with (D.faults self.new.dial) self.new.counted ≡ counts_with (D.faults self.old.dial) self.old.counted) }
+    {
+        let answer = ask_size(alloc, &mut self.dial, &self.place, &mut self.version);
+        self.counted = after_size(self.counted, &answer);
+        answer
+    }
+
+    /// Asks for rows, at most `count` of them, at the version at hand.
+    pub fn ask_page(&mut self, alloc: Global, from: u32, count: u32) -> Result<Vec<Row>, Trouble>
+        ensures answers { IfSome (next_bytes (D.links self.old.dial)) (λ bytes. AnswersPage bytes self.old.version count result) }
+        ensures unlinked { D.links self.old.dial ≡ Some [] → IsUnanswered result }
+        ensures failed { FailsWith (D.faults self.old.dial) (D.faults self.new.dial) result }
+        ensures link { UsesLink (request_of self.old (page_tail from count))
+            (D.links self.old.dial) (D.links self.new.dial) (D.closed self.old.dial) (D.closed self.new.dial) result }
+        ensures after { self.new ≡ record self.old { dial = self.new.dial; counted = page_counted result self.old.counted } }
+        ensures bound { IfOk result (λ page. vec_len page ≤ count) }
+        ensures later { NoneFell (counts_with (D.faults self.old.dial) self.old.counted) (counts_with (D.faults self.new.dial) self.new.counted) }
+        ensures cause { IfErr result (TroubleHasCause (counts_with (D.faults self.old.dial) self.old.counted) (counts_with (D.faults self.new.dial) self.new.counted)) }
+        ensures alone { IfErr result (CountsAlone (counts_with (D.faults self.old.dial) self.old.counted) (counts_with (D.faults self.new.dial) self.new.counted)) }
+        ensures given { IfOk result (λ page. GaveRows (vec_len page) (counts_with (D.faults self.old.dial) self.old.counted) (counts_with (D.faults self.new.dial) self.new.counted)) }
+        ensures gave_nothing { OnErr result (GaveNothing (counts_with (D.faults self.old.dial) self.old.counted) (counts_with (D.faults self.new.dial) self.new.counted)) }
+        ensures quiet { IfOk result (λ page. counts_with (D.faults self.new.dial) self.new.counted ≡ gave_rows (vec_len page) (counts_with (D.faults self.old.dial) self.old.counted)) }
+        ensures moved { IfErr result (MovedHasCause self.old.version None) }
+    {
+        let answer = ask_page(
+            alloc,
+            &mut self.dial,
+            &self.place,
+            self.version,
+            from,
+            count,
+        );
+        self.counted = after_page(self.counted, &answer);
+        answer
+    }
+
+    /// Asks for the grade of an object at the version at hand.
+    pub fn ask_grade(&mut self, alloc: Global, object: u32) -> Result<Option<u32>, Trouble>
+        ensures answers { IfSome (next_bytes (D.links self.old.dial)) (λ bytes. AnswersGrade bytes self.old.version result) }
+        ensures unlinked { D.links self.old.dial ≡ Some [] → IsUnanswered result }
+        ensures failed { FailsWith (D.faults self.old.dial) (D.faults self.new.dial) result }
+        ensures link { UsesLink (request_of self.old (grade_tail object))
+            (D.links self.old.dial) (D.links self.new.dial) (D.closed self.old.dial) (D.closed self.new.dial) result }
+        ensures after { self.new ≡ record self.old { dial = self.new.dial; counted = grade_counted result self.old.counted } }
+        ensures later { NoneFell (counts_with (D.faults self.old.dial) self.old.counted) (counts_with (D.faults self.new.dial) self.new.counted) }
+        ensures cause { IfErr result (TroubleHasCause (counts_with (D.faults self.old.dial) self.old.counted) (counts_with (D.faults self.new.dial) self.new.counted)) }
+        ensures alone { IfErr result (CountsAlone (counts_with (D.faults self.old.dial) self.old.counted) (counts_with (D.faults self.new.dial) self.new.counted)) }
+        ensures given { OnOk result (GaveGrade (counts_with (D.faults self.old.dial) self.old.counted) (counts_with (D.faults self.new.dial) self.new.counted)) }
+        ensures gave_nothing { OnErr result (GaveNothing (counts_with (D.faults self.old.dial) self.old.counted) (counts_with (D.faults self.new.dial) self.new.counted)) }
+        ensures quiet { OnOk result (counts_with (D.faults self.new.dial) self.new.counted ≡ gave_grade (counts_with (D.faults self.old.dial) self.old.counted)) }
+        ensures moved { IfErr result (MovedHasCause self.old.version None) }
+    {
+        let answer = ask_grade(alloc, &mut self.dial, &self.place, self.version, object);
+        self.counted = after_grade(self.counted, &answer);
+        answer
     }
 }
 
@@ -118,86 +210,26 @@ impl<D: Dial + Send + Drop> Source for HttpSource<D> {
 
     ghost states = { λ _. None };
 
-    /// Asks for the number of rows, which may be any. The version that the reply states is the one at
-    /// hand from then on.
-    fn size(&mut self, alloc: Global) -> Result<u64, Trouble>
-        ensures answers { IfSome (next_bytes (D.links self.old.dial)) (λ bytes. AnswersSize bytes self.new.version result) }
-        ensures unlinked { D.links self.old.dial ≡ Some [] → IsUnanswered result }
-        ensures failed { FailsWith (D.faults self.old.dial) (D.faults self.new.dial) result }
-        ensures link { UsesLink (request_of self.old size_tail)
-            (D.links self.old.dial) (D.links self.new.dial) (D.closed self.old.dial) (D.closed self.new.dial) result }
-        ensures after { self.new ≡ record self.old {
-          dial = self.new.dial;
-          version = self.new.version;
-          counted = size_counted result self.old.counted;
-        } }
-        ensures kept { OnErr result (self.new.version ≡ self.old.version) }
-        ensures unmoved { IfErr result IsNoMove }
-        ensures later { NoneFell (counts_with (D.faults self.old.dial) self.old.counted) (counts_with (D.faults self.new.dial) self.new.counted) }
-        ensures cause { IfErr result (TroubleHasCause (counts_with (D.faults self.old.dial) self.old.counted) (counts_with (D.faults self.new.dial) self.new.counted)) }
-        ensures alone { IfErr result (CountsAlone (counts_with (D.faults self.old.dial) self.old.counted) (counts_with (D.faults self.new.dial) self.new.counted)) }
-        ensures given { GaveNothing (counts_with (D.faults self.old.dial) self.old.counted) (counts_with (D.faults self.new.dial) self.new.counted) }
-        ensures quiet { OnOk result (counts_with (D.faults self.new.dial) self.new.counted ≡ counts_with (D.faults self.old.dial) self.old.counted) }
-    {
-        let answer = ask_size(alloc, &mut self.dial, &self.place, &mut self.version);
-        self.counted = after_size(self.counted, &answer);
-        answer
+    /// Asks for the number of rows, as `ask_size` does.
+    fn size(&mut self, alloc: Global) -> Result<u64, Trouble> {
+        self.ask_size(alloc)
     }
 
-    /// Asks for rows, at most `count` of them, at the version at hand.
+    /// Asks for rows, as `ask_page` does.
     fn page(&mut self, alloc: Global, from: u32, count: u32) -> Result<Vec<Row>, Trouble>
         requires { 1 ≤ count }
-        ensures answers { IfSome (next_bytes (D.links self.old.dial)) (λ bytes. AnswersPage bytes self.old.version count result) }
-        ensures unlinked { D.links self.old.dial ≡ Some [] → IsUnanswered result }
-        ensures failed { FailsWith (D.faults self.old.dial) (D.faults self.new.dial) result }
-        ensures link { UsesLink (request_of self.old (page_tail from count))
-            (D.links self.old.dial) (D.links self.new.dial) (D.closed self.old.dial) (D.closed self.new.dial) result }
-        ensures after { self.new ≡ record self.old { dial = self.new.dial; counted = page_counted result self.old.counted } }
-        ensures bound { IfOk result (λ page. vec_len page ≤ count) }
-        ensures later { NoneFell (counts_with (D.faults self.old.dial) self.old.counted) (counts_with (D.faults self.new.dial) self.new.counted) }
-        ensures cause { IfErr result (TroubleHasCause (counts_with (D.faults self.old.dial) self.old.counted) (counts_with (D.faults self.new.dial) self.new.counted)) }
-        ensures alone { IfErr result (CountsAlone (counts_with (D.faults self.old.dial) self.old.counted) (counts_with (D.faults self.new.dial) self.new.counted)) }
-        ensures given { IfOk result (λ page. GaveRows (vec_len page) (counts_with (D.faults self.old.dial) self.old.counted) (counts_with (D.faults self.new.dial) self.new.counted)) }
-        ensures gave_nothing { OnErr result (GaveNothing (counts_with (D.faults self.old.dial) self.old.counted) (counts_with (D.faults self.new.dial) self.new.counted)) }
-        ensures quiet { IfOk result (λ page. counts_with (D.faults self.new.dial) self.new.counted ≡ gave_rows (vec_len page) (counts_with (D.faults self.old.dial) self.old.counted)) }
-        ensures moved { IfErr result (MovedHasCause self.old.version None) }
     {
-        let answer = ask_page(
-            alloc,
-            &mut self.dial,
-            &self.place,
-            self.version,
-            from,
-            count,
-        );
-        self.counted = after_page(self.counted, &answer);
-        answer
+        self.ask_page(alloc, from, count)
     }
 
-    /// Asks for the grade of an object at the version at hand.
-    fn grade(&mut self, alloc: Global, object: u32) -> Result<Option<u32>, Trouble>
-        ensures answers { IfSome (next_bytes (D.links self.old.dial)) (λ bytes. AnswersGrade bytes self.old.version result) }
-        ensures unlinked { D.links self.old.dial ≡ Some [] → IsUnanswered result }
-        ensures failed { FailsWith (D.faults self.old.dial) (D.faults self.new.dial) result }
-        ensures link { UsesLink (request_of self.old (grade_tail object))
-            (D.links self.old.dial) (D.links self.new.dial) (D.closed self.old.dial) (D.closed self.new.dial) result }
-        ensures after { self.new ≡ record self.old { dial = self.new.dial; counted = grade_counted result self.old.counted } }
-        ensures later { NoneFell (counts_with (D.faults self.old.dial) self.old.counted) (counts_with (D.faults self.new.dial) self.new.counted) }
-        ensures cause { IfErr result (TroubleHasCause (counts_with (D.faults self.old.dial) self.old.counted) (counts_with (D.faults self.new.dial) self.new.counted)) }
-        ensures alone { IfErr result (CountsAlone (counts_with (D.faults self.old.dial) self.old.counted) (counts_with (D.faults self.new.dial) self.new.counted)) }
-        ensures given { OnOk result (GaveGrade (counts_with (D.faults self.old.dial) self.old.counted) (counts_with (D.faults self.new.dial) self.new.counted)) }
-        ensures gave_nothing { OnErr result (GaveNothing (counts_with (D.faults self.old.dial) self.old.counted) (counts_with (D.faults self.new.dial) self.new.counted)) }
-        ensures quiet { OnOk result (counts_with (D.faults self.new.dial) self.new.counted ≡ gave_grade (counts_with (D.faults self.old.dial) self.old.counted)) }
-        ensures moved { IfErr result (MovedHasCause self.old.version None) }
-    {
-        let answer = ask_grade(alloc, &mut self.dial, &self.place, self.version, object);
-        self.counted = after_grade(self.counted, &answer);
-        answer
+    /// Asks for the grade of an object, as `ask_grade` does.
+    fn grade(&mut self, alloc: Global, object: u32) -> Result<Option<u32>, Trouble> {
+        self.ask_grade(alloc, object)
     }
 
     /// The version that the last answer of `size` stated, 0 before one.
     fn version(&self) -> u64 {
-        self.version
+        self.at_hand()
     }
 
     ghost distinct = { λ _. tt };

@@ -23,6 +23,8 @@ use Rattle.topk_theory.proofs.Agreement.{objects_of_count}
 use Rattle.topk_theory.proofs.ThresholdDepth.{least_from-end}
 use Rattle.topk_theory.proofs.ThresholdLists.{filter_fits}
 use Rattle.optimal_law.proofs.Costs.{new_few}
+use Rattle.fa_theory.specs.Fagin.{fa_run}
+use Rattle.fa_theory.proofs.Runs.{fa_run_long}
 
 sorted_long : (list depth : ℕ) (D : List (List Row)) → length (sorted_block list depth D) ≡ length D
 sorted_long list depth [] = refl
@@ -140,3 +142,9 @@ ca_short V k phase n D monotone asked few counted =
     let ends : k * length D ≤ k * 8 = mul-le-mul_left k few in
     let fits : k ≤ n = asked.fits in
     omega (arith, length-append (ca_blocks V k phase D) (finish V k D (ca_blocks V k phase D)))
+
+pub fa_short : (k n : ℕ) (D : List (List Row)) → IsAsked k n D → length D ≤ 8 → n ≤ 200000 → length (fa_run k D) < 2 ^ 24
+fa_short k n D asked few counted =
+    let long : length (fa_run k D) ≤ 2 * (length D * n) = fa_run_long k n D asked in
+    let most : n * length D ≤ n * 8 = mul-le-mul_left n few in
+    omega arith

@@ -7,6 +7,7 @@ pub mod Facts
 pub mod ThresholdFacts
 pub mod NoRandomFacts
 pub mod CombinedFacts
+pub mod FaginFacts
 pub mod AllFacts
 pub mod RunLength
 pub mod Feeding

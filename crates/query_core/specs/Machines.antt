@@ -1,10 +1,10 @@
 -- A machine of any of the algorithms.
 use Rattle.std.specs.Prelude.{◌≡◌, unwrap_or}
 use Rattle.query_text.specs.declared.algorithm.Algorithm.{Algorithm}
-use Rattle.query_text.specs.declared.algorithm.Algorithm.TheVariants.{Ta, Nra, Ca}
+use Rattle.query_text.specs.declared.algorithm.Algorithm.TheVariants.{Ta, Nra, Ca, Fa}
 use Rattle.machine_base.specs.Machine.{MachineState, MakesRun, IsBegun}
 use Rattle.query_core.specs.declared.machine.Machine.{Machine}
-use Rattle.query_core.specs.declared.machine.Machine.TheVariants.{Ta as TaMachine, Nra as NraMachine, Ca as CaMachine}
+use Rattle.query_core.specs.declared.machine.Machine.TheVariants.{Ta as TaMachine, Nra as NraMachine, Ca as CaMachine, Fa as FaMachine}
 use Rattle.query_core.specs.declared.ready.Ready.{Ready}
 use Rattle.query_core.specs.Methods.{Method, with_algorithm, run_with}
 use Rattle.query_text.specs.Costs.{costs_in_force}
@@ -14,6 +14,7 @@ abbrev pub method_of : Machine → Method
 method_of (TaMachine t) = with_algorithm Ta
 method_of (NraMachine t) = with_algorithm Nra
 method_of (CaMachine t) = with_algorithm Ca
+method_of (FaMachine t) = with_algorithm Fa
 
 abbrev pub algorithm_of : Machine → Algorithm
 algorithm_of machine = (method_of machine).algorithm
@@ -22,6 +23,7 @@ abbrev pub state_of : Machine → MachineState
 state_of (TaMachine t) = t
 state_of (NraMachine t) = t
 state_of (CaMachine t) = t
+state_of (FaMachine t) = t
 
 -- the machine makes the run of its method
 abbrev pub MakesItsRun : Machine → Type 0

@@ -13,5 +13,6 @@ pub fn asks_grades(algorithm: Algorithm) -> bool
         Algorithm::Ta => true,
         Algorithm::Nra => false,
         Algorithm::Ca => true,
+        Algorithm::Fa => true,
     }
 }

@@ -13,6 +13,7 @@ use super::Memory;
 use super::ready::Ready;
 use access_log::Transcript;
 use ca_core::Ca;
+use fa_core::Fa;
 use machine_base::{Answer, CoreFault};
 use nra_core::Nra;
 use query_text::Algorithm;
@@ -30,6 +31,8 @@ pub enum Machine {
     Nra(Nra),
     /// Of the combined algorithm.
     Ca(Ca),
+    /// Of Fagin's algorithm.
+    Fa(Fa),
 }
 
 impl Machine {
@@ -61,6 +64,10 @@ impl Machine {
                 let machine = Ca::make(alloc, expr, query.k, count, room, costs)?;
                 Ok(Machine::Ca(machine))
             }
+            Algorithm::Fa => {
+                let machine = Fa::make(alloc, expr, query.k, count, room, costs)?;
+                Ok(Machine::Fa(machine))
+            }
         }
     }
 
@@ -75,6 +82,7 @@ impl Machine {
             Machine::Ta(machine) => machine.need(),
             Machine::Nra(machine) => machine.need(),
             Machine::Ca(machine) => machine.need(),
+            Machine::Fa(machine) => machine.need(),
         }
     }
 
@@ -89,6 +97,7 @@ impl Machine {
             Machine::Ta(machine) => machine.feed_row(row),
             Machine::Nra(machine) => machine.feed_row(row),
             Machine::Ca(machine) => machine.feed_row(row),
+            Machine::Fa(machine) => machine.feed_row(row),
         }
     }
 
@@ -107,6 +116,7 @@ impl Machine {
                 unreachable!()
             }
             Machine::Ca(machine) => machine.feed_grade(grade),
+            Machine::Fa(machine) => machine.feed_grade(grade),
         }
     }
 
@@ -119,6 +129,7 @@ impl Machine {
             Machine::Ta(machine) => machine.transcript(),
             Machine::Nra(machine) => machine.transcript(),
             Machine::Ca(machine) => machine.transcript(),
+            Machine::Fa(machine) => machine.transcript(),
         }
     }
 
@@ -137,6 +148,7 @@ impl Machine {
             Machine::Ta(machine) => machine.answer(),
             Machine::Nra(machine) => machine.answer(),
             Machine::Ca(machine) => machine.answer(),
+            Machine::Fa(machine) => machine.answer(),
         }
     }
 
@@ -146,6 +158,7 @@ impl Machine {
             Machine::Ta(machine) => machine.let_go(),
             Machine::Nra(machine) => machine.let_go(),
             Machine::Ca(machine) => machine.let_go(),
+            Machine::Fa(machine) => machine.let_go(),
         }
     }
 }

@@ -16,7 +16,7 @@ use Rattle.query_text.specs.Shape.{SyntaxTree, IsShape, spelled, opening, algori
 use Rattle.query_text.specs.Words.{Class, opened_by, begins, is_whole}
 use Rattle.query_text.specs.Front.{Frame, Head, Front, class_of, reads, begun, opened, operand_read, is_weighted, shape_from, IsCost, IsRoom}
 use Rattle.query_text.specs.declared.algorithm.Algorithm.{Algorithm}
-use Rattle.query_text.specs.declared.algorithm.Algorithm.TheVariants.{Ta, Nra, Ca}
+use Rattle.query_text.specs.declared.algorithm.Algorithm.TheVariants.{Ta, Nra, Ca, Fa}
 use Rattle.query_text.specs.declared.operator.Operator.{Operator}
 use Rattle.query_text.specs.declared.operator.Operator.TheVariants.{Min, Max, Sum, Median, Wsum}
 use Rattle.query_text.proofs.WordLaws.{reads-word, Stops, opened_word}
@@ -288,6 +288,7 @@ algorithm_read : (k : List ℕ) (e : Written) (a : Algorithm) (t : List ℕ)
 algorithm_read k e Ta t = reads-word (Front.at_algorithm k e) (codes "ta") t refl (stops_always (class_of (Front.at_algorithm k e)) (codes "ta") t (λ x. refl))
 algorithm_read k e Nra t = reads-word (Front.at_algorithm k e) (codes "nra") t refl (stops_always (class_of (Front.at_algorithm k e)) (codes "nra") t (λ x. refl))
 algorithm_read k e Ca t = reads-word (Front.at_algorithm k e) (codes "ca") t refl (stops_always (class_of (Front.at_algorithm k e)) (codes "ca") t (λ x. refl))
+algorithm_read k e Fa t = reads-word (Front.at_algorithm k e) (codes "fa") t refl (stops_always (class_of (Front.at_algorithm k e)) (codes "fa") t (λ x. refl))
 
 cost_fine : (c : Option (List ℕ × List ℕ)) → IfSome c (λ cost. IsNumber cost.0 × IsNumber cost.1) → IsCost c
 cost_fine None h = tt

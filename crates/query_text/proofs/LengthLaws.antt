@@ -19,7 +19,7 @@ use Rattle.query_text.specs.Shape.{weight_pieces, expr_pieces, argument_pieces, 
 use Rattle.query_text.specs.Query.{name_of, written, arguments, weighted, cost_digits, printed, IsPlain, ArePlain, AreWeighed, IsCount, IsLawful}
 use Rattle.query_text.specs.declared.query.Query.{Query}
 use Rattle.query_text.specs.declared.algorithm.Algorithm.{Algorithm}
-use Rattle.query_text.specs.declared.algorithm.Algorithm.TheVariants.{Ta, Nra, Ca}
+use Rattle.query_text.specs.declared.algorithm.Algorithm.TheVariants.{Ta, Nra, Ca, Fa}
 use Rattle.limits.specs.declared.TheConstants.{MAX_LINE, MAX_WEIGHT}
 
 -- how long the text of pieces is
@@ -107,6 +107,7 @@ word_short : (algorithm : Algorithm) → length (algorithm_word algorithm) ≤ 8
 word_short Ta = omega arith
 word_short Nra = omega arith
 word_short Ca = omega arith
+word_short Fa = omega arith
 
 algorithm_size : (algorithm : Algorithm) → size (algorithm_pieces algorithm) ≤ 15
 algorithm_size algorithm = omega (arith, length-append (algorithm_word algorithm) [], word_short algorithm)

@@ -3,7 +3,7 @@ use Rattle.std.specs.Prelude.{◌≡◌, ◌+◌, ◌<◌, ◌≤◌, ℕ, List,
 use Rattle.query_text.specs.Written.{Written, Arguments, IsNumber, IsWritten}
 use Rattle.query_text.specs.Pieces.{Piece, text_of}
 use Rattle.query_text.specs.declared.algorithm.Algorithm.{Algorithm}
-use Rattle.query_text.specs.declared.algorithm.Algorithm.TheVariants.{Ta, Nra, Ca}
+use Rattle.query_text.specs.declared.algorithm.Algorithm.TheVariants.{Ta, Nra, Ca, Fa}
 use Rattle.query_text.specs.declared.operator.Operator.{Operator}
 use Rattle.query_text.specs.declared.operator.Operator.TheVariants.{Min, Max, Sum, Median, Wsum}
 use Rattle.limits.specs.declared.TheConstants.{MAX_NUMBER, MAX_WEIGHT}
@@ -13,10 +13,11 @@ abbrev pub algorithm_word : Algorithm → List ℕ
 algorithm_word Ta = codes "ta"
 algorithm_word Nra = codes "nra"
 algorithm_word Ca = codes "ca"
+algorithm_word Fa = codes "fa"
 
 -- the algorithms that a query may name
 abbrev pub algorithms : List Algorithm
-algorithms = Ta ∷ Nra ∷ Ca ∷ []
+algorithms = Ta ∷ Nra ∷ Ca ∷ Fa ∷ []
 
 -- the word of an operator
 abbrev pub operator_word : Operator → List ℕ

@@ -12,6 +12,8 @@ pub enum Algorithm {
     Nra,
     /// The combined algorithm, `ca`.
     Ca,
+    /// Fagin's algorithm, `fa`.
+    Fa,
 }
 
 impl Algorithm {
@@ -23,6 +25,7 @@ impl Algorithm {
             Algorithm::Ta => b"ta",
             Algorithm::Nra => b"nra",
             Algorithm::Ca => b"ca",
+            Algorithm::Fa => b"fa",
         }
     }
 }

@@ -37,6 +37,9 @@ pub fn algorithm_of(word: &[u8]) -> Option<Algorithm>
     if is_text(word, b"ca") {
         return Some(Algorithm::Ca);
     }
+    if is_text(word, b"fa") {
+        return Some(Algorithm::Fa);
+    }
     None
 }
 

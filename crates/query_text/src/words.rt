@@ -104,7 +104,8 @@ fn algorithm_len(text: &[u8]) -> usize
     let threshold = common(Algorithm::Ta.word(), text);
     let without_random = common(Algorithm::Nra.word(), text);
     let combined = common(Algorithm::Ca.word(), text);
-    threshold.max(without_random.max(combined))
+    let fagin = common(Algorithm::Fa.word(), text);
+    threshold.max(without_random.max(combined.max(fagin)))
 }
 
 /// How many bytes of a text begin what may stand behind an operand.

@@ -14,9 +14,10 @@ use Rattle.topk_theory.specs.Threshold.{IsAsked}
 use Rattle.topk_theory.specs.Machine.{CanServe}
 use Rattle.topk_theory.proofs.Agreement.{drawn_more}
 use Rattle.topk_theory.proofs.AgreementLists.{all_from_members, member_of_all, contains_map, contains_at, contains_nil, contains_cases, begins_splits, begins_get, distinct_fits}
-use Rattle.topk_theory.proofs.AgreementRows.{list_at_ranked, list_at_length, objects_in_each}
+use Rattle.topk_theory.proofs.AgreementRows.{list_at_length, objects_in_each}
 use Rattle.access_log.specs.Log.{AgreesWith}
 use Rattle.machine_base.specs.Machine.{MachineState, HasRoomFor}
+use Rattle.machine_base.specs.declared.core_fault.CoreFault.{CoreFault}
 use Rattle.machine_base.specs.declared.core_fault.CoreFault.TheVariants.{Strangers, RoomFull}
 use Rattle.source_log.specs.declared.entry.Settling.TheVariants.{Graded, Bad, Missed}
 use Rattle.source_log.specs.declared.entry.SourceFault.{SourceFault}
@@ -33,7 +34,7 @@ use Rattle.query_turns.specs.declared.ended.Refusal.{Refusal}
 use Rattle.query_turns.specs.declared.ended.Refusal.TheVariants as refusal
 use Rattle.query_turns.specs.declared.inquiry.Inquiry.{Inquiry}
 use Rattle.query_turns.specs.Inquiries.{told_to, needed, list_needed, source_of, source_needed, is_done}
-use Rattle.query_turns.specs.Causes.{RowLacksRoom, IsAtFault, IsMissed, AreAsksFull, IsCause, CanNotBeHad}
+use Rattle.query_turns.specs.Causes.{LacksRoom, RowLacksRoom, IsAtFault, IsMissed, AreAsksFull, IsCause, CanNotBeHad}
 use Rattle.query_turns.specs.Kept.{IsServed}
 use Rattle.query_turns.specs.Honest.{lists_of, HasTable, IsGradeOf, IsTrueOf, IsTrueFor, MayRefuse, IsOnItsRun}
 use Rattle.query_turns.proofs.Serving.{sound_at, state_set, state_other, rows_told, known_told, source_at, listed, source_there, of_some_list}
@@ -109,18 +110,31 @@ true_agrees lists states q sound h is = record {
     grows : Grows (length q.sources.items) (told_to states q) (whole D)
     grows = record { rows = front; known = known }
 
--- the object of a needed grade stands in the list
-pub need_of_object : (lists : List (List Row)) (states : List State) (q : Inquiry) (n : Need) → All IsSound states → IsServed states q → IsTrueFor lists states q
-    → needed q ≡ n → is_done n ≡ false → IsOfObject (list_at lists (source_of q (list_needed n))) n
-need_of_object lists states q (need.Row list depth) sound h is e going = tt
-need_of_object lists states q (need.Grade list object) sound h is e going =
+-- the object of a needed grade stands in the list, where the query's lists agree with its transcript
+pub needed_stands : (lists : List (List Row)) (states : List State) (q : Inquiry) (n : Need) → IsServed states q
+    → AgreesWith (lists_of lists q) (state_of q.machine).log → needed q ≡ n → is_done n ≡ false → IsOfObject (list_at lists (source_of q (list_needed n))) n
+needed_stands lists states q (need.Row list depth) h agrees e going = tt
+needed_stands lists states q (need.Grade list object) h agrees e going =
     let D = lists_of lists q in
-    let agrees = true_agrees lists states q sound h is in
     let serves : CanServe D (need.Grade list object) = subst (CanServe D) e (h.run.served D agrees) in
     let long : length D ≡ length q.sources.items = length-map q.sources.items (list_at lists) in
-    let there = objects_in_each (state_of q.machine).log.count D list object is.table serves.0 serves.1 in
+    let there = objects_in_each (state_of q.machine).log.count D list object agrees.table serves.0 serves.1 in
     subst (λ rows. Contains (objects rows) object) (list_is lists q.sources.items list (omega (arith, serves.0, long))) there
-need_of_object lists states q need.Done sound h is e going = absurd (cc)
+needed_stands lists states q need.Done h agrees e going = absurd (cc)
+
+pub need_of_object : (lists : List (List Row)) (states : List State) (q : Inquiry) (n : Need) → All IsSound states → IsServed states q → IsTrueFor lists states q
+    → needed q ≡ n → is_done n ≡ false → IsOfObject (list_at lists (source_of q (list_needed n))) n
+need_of_object lists states q n sound h is e going = needed_stands lists states q n h (true_agrees lists states q sound h is) e going
+
+-- a query's lists agree with its transcript, and begin with the rows that the logs of their sources have
+pub record ReadsThem (lists : List (List Row)) (states : List State) (q : Inquiry) : Type 0 where
+  pub agrees : AgreesWith (lists_of lists q) (state_of q.machine).log
+  pub rows : (list : ℕ) → list < length q.sources.items
+      → Begins (rows_in (state_at states (source_of q list)).log) (list_at lists (source_of q list))
+
+true_reads : (lists : List (List Row)) (states : List State) (q : Inquiry) → All IsSound states → IsServed states q → IsTrueFor lists states q
+    → ReadsThem lists states q
+true_reads lists states q sound h is = record { agrees = true_agrees lists states q sound h is; rows = λ list l. (is.each list 0 l).rows }
 
 -- a query over its own table
 row_lacks : (s : State) (t : MachineState) (n : Need) (object : ℕ) → RowLacksRoom s t n object
@@ -139,25 +153,44 @@ record LacksOn (D : List (List Row)) (q : Inquiry) : Type 0 where
   found : slice_get (list_at D list) (depth - 1) ≡ Some row
   full : ¬ HasRoomFor (state_of q.machine) row.object
 
-lacks_on : (lists : List (List Row)) (states : List State) (q : Inquiry) (object : ℕ) → All IsSound states → IsServed states q → IsTrueFor lists states q
+lacks_on : (lists : List (List Row)) (states : List State) (q : Inquiry) (object : ℕ) → IsServed states q → ReadsThem lists states q
     → RowLacksRoom (state_at states (source_needed q)) (state_of q.machine) (needed q) object → LacksOn (lists_of lists q) q
-lacks_on lists states q object sound h is lacks =
+lacks_on lists states q object h reads lacks =
     let t = state_of q.machine in
     let D = lists_of lists q in
     let parts = row_lacks (state_at states (source_needed q)) t (needed q) object lacks in
     let list = parts.0 in
     let depth = parts.1 in
-    let agrees = true_agrees lists states q sound h is in
-    let served : CanServe D (need.Row list depth) = subst (CanServe D) parts.2 (h.run.served D agrees) in
+    let served : CanServe D (need.Row list depth) = subst (CanServe D) parts.2 (h.run.served D reads.agrees) in
     let long : length D ≡ length q.sources.items = length-map q.sources.items (list_at lists) in
     let within : list < length q.sources.items = omega (arith, served.0, long) in
     let source : source_needed q ≡ source_of q list = ap (λ n. source_of q (list_needed n)) parts.2 in
     let there : slice_get (rows_in (state_at states (source_of q list)).log) (depth - 1) ≡ Some parts.3 = ap (λ s. slice_get (rows_in (state_at states s).log) (depth - 1)) (sym source) ∙ parts.4 in
     let found : slice_get (list_at D list) (depth - 1) ≡ Some parts.3 =
     ap (λ (rows : List Row). slice_get rows (depth - 1)) (list_is lists q.sources.items list within)
-    ∙ begins_get (rows_in (state_at states (source_of q list)).log) (list_at lists (source_of q list)) (depth - 1) parts.3 (is.each list 0 within).rows there in
-    let asked : IsAsked t.k t.log.count D = record { table = is.table; lists = omega (arith, served.0); positive = h.run.posed.positive; fits = h.run.posed.fits } in
-    record { list = list; depth = depth; row = parts.3; can = record { asked = asked; agrees = agrees; roomy = h.drawn.roomy }; needs = parts.2; found = found; full = parts.5 }
+    ∙ begins_get (rows_in (state_at states (source_of q list)).log) (list_at lists (source_of q list)) (depth - 1) parts.3 (reads.rows list within) there in
+    let asked : IsAsked t.k t.log.count D
+    = record { table = reads.agrees.table; lists = omega (arith, served.0); positive = h.run.posed.positive; fits = h.run.posed.fits } in
+    record {
+      list = list;
+      depth = depth;
+      row = parts.3;
+      can = record { asked = asked; agrees = reads.agrees; roomy = h.drawn.roomy };
+      needs = parts.2;
+      found = found;
+      full = parts.5;
+    }
+
+-- the room for which a query is refused is one that it may be refused for
+pub may_lack : (lists : List (List Row)) (states : List State) (q : Inquiry) (fault : CoreFault) → IsServed states q → ReadsThem lists states q
+    → LacksRoom (state_at states (source_needed q)) (state_of q.machine) fault → MayRefuse (lists_of lists q) q (Some (refusal.Core fault))
+may_lack lists states q (Strangers object count) h reads cause =
+    let on = lacks_on lists states q object h reads cause.0 in
+    no_stranger (algorithm_of q.machine) (lists_of lists q) (state_of q.machine) on.list on.depth on.row on.can h.run on.needs on.found on.full cause.1
+may_lack lists states q (RoomFull room) h reads cause =
+    let on = lacks_on lists states q cause.0.0 h reads cause.0.1 in
+    let stops = room_stops (algorithm_of q.machine) (lists_of lists q) (state_of q.machine) on.list on.depth on.row room on.can h.run on.needs on.found on.full cause.1 cause.2 in
+    (stops.1, stops.2)
 
 -- what is settled of a list is neither bad nor missed
 no_bad : (list : List Row) (object : ℕ) (fault : SourceFault) → IsGradeOf list object (Bad fault) → ⊥
@@ -177,25 +210,24 @@ none_missed list s (need.Grade l named) object h at = no_miss list object (h.set
 none_missed list s need.Done object h at = at
 
 -- there is always room for the ask of an object of the list
-none_full : (list : List Row) (s : State) (n : Need) (kept : ℕ) → IsRanked list → length list ≡ s.count → IsSound s → IsTrueOf list s → IsOfObject list n
-    → AreAsksFull s n kept → ⊥
-none_full list s (need.Row l depth) kept ranked long sound h of full = full
-none_full list s (need.Grade l object) kept ranked long sound h of full =
+pub none_full : (list : List Row) (s : State) (n : Need) (kept : ℕ) → length list ≡ s.count → IsSound s
+    → ((object : ℕ) → Contains s.asks object → Contains (objects list) object) → IsOfObject list n → AreAsksFull s n kept → ⊥
+none_full list s (need.Row l depth) kept long sound asked of full = full
+none_full list s (need.Grade l object) kept long sound asked of full =
     let more : AllPairs (λ (x : ℕ) (y : ℕ). x ≡ y → ⊥) (s.asks ++ object ∷ []) =
     all_pairs_push (λ (x : ℕ) (y : ℕ). x ≡ y → ⊥) s.asks object sound.distinct (λ k d l. λ same. full.absent (subst (Contains s.asks) same (contains_at s.asks k d l))) in
     let fits = distinct_fits (s.asks ++ object ∷ []) (objects list) more (λ o c. elim (Contains-append_cases s.asks (object ∷ []) o c) [
-      | inl old ↦ h.asked o old
+      | inl old ↦ asked o old
       | inr new ↦ elim (contains_cases object [] o new) [ inl e ↦ subst (Contains (objects list)) e of | inr t ↦ absurd (contains_nil o t) ]
     ]) in
     let all = full.full in
     omega (arith, fits, length-append s.asks (object ∷ []), length-map list (λ (row : Row). row.object), long, all)
-none_full list s need.Done kept ranked long sound h of full = full
+none_full list s need.Done kept long sound asked of full = full
 
 -- what is known of the source of a need
 pub record NeedsTrue (lists : List (List Row)) (states : List State) (q : Inquiry) : Type 0 where
   pub is : IsTrueOf (list_at lists (source_needed q)) (state_at states (source_needed q))
   pub sound : IsSound (state_at states (source_needed q))
-  pub ranked : IsRanked (list_at lists (source_needed q))
   pub long : length (list_at lists (source_needed q)) ≡ (state_at states (source_needed q)).count
   pub of : IsOfObject (list_at lists (source_needed q)) (needed q)
 
@@ -211,7 +243,6 @@ needs_true lists states q sound h is going =
     record {
       is = is.each list 0 l;
       sound = sound_at states (source_needed q) sound there.0;
-      ranked = subst IsRanked same (list_at_ranked (state_of q.machine).log.count D list is.table long);
       long = ap (length {A = Row}) (sym same) ∙ list_at_length (state_of q.machine).log.count D list is.table long ∙ sym there.1;
       of = need_of_object lists states q (needed q) sound h is refl going;
     }
@@ -220,7 +251,7 @@ may_refuse_look : (lists : List (List Row)) (states : List State) (q : Inquiry) 
     → CanNotBeHad (state_at states (source_needed q)) (needed q) q.waiting.noted fault → MayRefuse (lists_of lists q) q (Some (refusal.Look list fault))
 may_refuse_look lists states q list (why.Source fault) t had = no_fault (list_at lists (source_needed q)) (state_at states (source_needed q)) (needed q) fault t.is had
 may_refuse_look lists states q list (why.Missing object) t had = none_missed (list_at lists (source_needed q)) (state_at states (source_needed q)) (needed q) object t.is had
-may_refuse_look lists states q list (why.AsksFull kept) t had = none_full (list_at lists (source_needed q)) (state_at states (source_needed q)) (needed q) kept t.ranked t.long t.sound t.is t.of had
+may_refuse_look lists states q list (why.AsksFull kept) t had = none_full (list_at lists (source_needed q)) (state_at states (source_needed q)) (needed q) kept t.long t.sound t.is.asked t.of had
 may_refuse_look lists states q list why.Failed t had = tt
 may_refuse_look lists states q list why.Garbled t had = tt
 may_refuse_look lists states q list why.Memory t had = tt
@@ -229,13 +260,7 @@ may_refuse : (lists : List (List Row)) (states : List State) (q : Inquiry) (refu
     → IsTrueFor lists states q → IsCause (state_at states (source_needed q)) (state_of q.machine) q.waiting.noted refused
     → MayRefuse (lists_of lists q) q refused
 may_refuse lists states q None sound h is cause = tt
-may_refuse lists states q (Some (refusal.Core (Strangers object count))) sound h is cause =
-    let on = lacks_on lists states q object sound h is cause.0 in
-    no_stranger (algorithm_of q.machine) (lists_of lists q) (state_of q.machine) on.list on.depth on.row on.can h.run on.needs on.found on.full cause.1
-may_refuse lists states q (Some (refusal.Core (RoomFull room))) sound h is cause =
-    let on = lacks_on lists states q cause.0.0 sound h is cause.0.1 in
-    let stops = room_stops (algorithm_of q.machine) (lists_of lists q) (state_of q.machine) on.list on.depth on.row room on.can h.run on.needs on.found on.full cause.1 cause.2 in
-    (stops.1, stops.2)
+may_refuse lists states q (Some (refusal.Core fault)) sound h is cause = may_lack lists states q fault h (true_reads lists states q sound h is) cause
 may_refuse lists states q (Some (refusal.Look list fault)) sound h is cause =
     may_refuse_look lists states q list fault (needs_true lists states q sound h is (of_some_list list (needed q) cause.0)) cause.1
 

@@ -1,5 +1,7 @@
-//! Tests of catalogs by their public calls.
+//! Tests of catalogs and of places by their public calls.
 #![tactic(auto)]
 
 #[cfg(test)]
 mod catalogs;
+#[cfg(test)]
+mod places;

@@ -1,5 +1,4 @@
-//! Queries by Fagin's algorithm, worked out by hand. A query's text has no word for it yet, so the texts name another one: of a text the
-//! driver takes the expression, how many objects are asked for, the room and the costs.
+//! Queries by Fagin's algorithm, worked out by hand.
 
 use super::cases::{
     Case, EVEN, FaultCase, STRANGE, STRANGERS, THREE, Wanted, first_wrong, first_wrong_fault,
@@ -39,7 +38,7 @@ const ONE: Lists<'static> = &[&[(1, 9), (2, 8)]];
 /// first sight and then list, not by number.
 const CASES: &[Case] = &[
     Case {
-        text: "top 1 by sum(A,B) using ta",
+        text: "top 1 by sum(A,B) using fa",
         lists: THREE,
         items: &[item_row!(2, 1500, 1500)],
         accesses: Wanted::All(&[
@@ -54,7 +53,7 @@ const CASES: &[Case] = &[
         figures: [2, 4, 2, 6],
     },
     Case {
-        text: "top 1 by min(A,B) using ta",
+        text: "top 1 by min(A,B) using fa",
         lists: THREE,
         items: &[item_row!(2, 700, 700)],
         accesses: Wanted::Random(&[random_row!(1, 1, 500), random_row!(0, 3, 100)]),
@@ -62,7 +61,7 @@ const CASES: &[Case] = &[
         figures: [2, 4, 2, 6],
     },
     Case {
-        text: "top 3 by sum(A,B) using ta",
+        text: "top 3 by sum(A,B) using fa",
         lists: THREE,
         items: &[
             item_row!(2, 1500, 1500),
@@ -74,7 +73,7 @@ const CASES: &[Case] = &[
         figures: [3, 6, 0, 6],
     },
     Case {
-        text: "top 1 by A using ta",
+        text: "top 1 by A using fa",
         lists: ONE,
         items: &[item_row!(1, 9, 9)],
         accesses: Wanted::Random(&[]),
@@ -82,7 +81,7 @@ const CASES: &[Case] = &[
         figures: [1, 1, 0, 1],
     },
     Case {
-        text: "top 1 by sum(A,B) using ta room 9",
+        text: "top 1 by sum(A,B) using fa room 9",
         lists: TIES,
         items: &[item_row!(1, 10, 10)],
         accesses: Wanted::Random(&[random_row!(1, 2, 5), random_row!(0, 3, 5)]),
@@ -90,7 +89,7 @@ const CASES: &[Case] = &[
         figures: [2, 4, 2, 6],
     },
     Case {
-        text: "top 1 by sum(A,B,C) using ta",
+        text: "top 1 by sum(A,B,C) using fa",
         lists: AROUND,
         items: &[item_row!(1, 12, 12)],
         accesses: Wanted::Random(&[]),
@@ -98,7 +97,7 @@ const CASES: &[Case] = &[
         figures: [3, 9, 0, 9],
     },
     Case {
-        text: "top 1 by sum(A,B) using ta",
+        text: "top 1 by sum(A,B) using fa",
         lists: TOPPED,
         items: &[item_row!(1, 950, 950)],
         accesses: Wanted::Random(&[random_row!(1, 1, 50), random_row!(0, 3, 50)]),
@@ -106,7 +105,7 @@ const CASES: &[Case] = &[
         figures: [2, 4, 2, 6],
     },
     Case {
-        text: "top 1 by sum(A,B,C) using ta",
+        text: "top 1 by sum(A,B,C) using fa",
         lists: SEEN,
         items: &[item_row!(7, 25, 25)],
         accesses: Wanted::Random(&[
@@ -118,7 +117,7 @@ const CASES: &[Case] = &[
         figures: [2, 6, 3, 9],
     },
     Case {
-        text: "top 2 by sum(A,B,C) using ta",
+        text: "top 2 by sum(A,B,C) using fa",
         lists: SEEN,
         items: &[item_row!(7, 25, 25), item_row!(5, 24, 24)],
         accesses: Wanted::Random(&[
@@ -139,9 +138,9 @@ fn answers_by_hand(rt: HostRuntime) {
 
 /// Queries, their lists, and why a row is refused that is one object too many: for the lists, and for the room that was stated.
 const FAULTS: &[FaultCase] = &[
-    ("top 2 by sum(A,B) using ta", STRANGE, STRANGERS),
+    ("top 2 by sum(A,B) using fa", STRANGE, STRANGERS),
     (
-        "top 2 by sum(A,B) using ta room 1",
+        "top 2 by sum(A,B) using fa room 1",
         STRANGE,
         CoreFault::RoomFull { room: 1 },
     ),

@@ -8,6 +8,7 @@ use query_text::{Algorithm, Costs, Query, read};
 use ranked_list::{Item, MemList, is_table};
 use std::alloc::Global;
 use test_plain_ca::{ca_answer, ca_depth, ca_run};
+use test_plain_fa::{fa_answer, fa_depth, fa_run};
 use test_plain_nra::{nra_answer, nra_depth, nra_run};
 use test_plain_ta::{ta_answer, ta_depth, ta_run};
 use test_support::{Lists, table_of};
@@ -80,6 +81,17 @@ fn by_ca(alloc: Global, table: &[MemList], query: &Query, costs: Costs) -> Optio
     })
 }
 
+/// What Fagin's algorithm finds.
+fn by_fa(alloc: Global, table: &[MemList], query: &Query) -> Option<Found>
+    requires { IsPosed table.now query.now.expr }
+{
+    Some(Found {
+        depth: fa_depth(alloc, table, query.k).ok()?,
+        accesses: fa_run(alloc, table, query.k).ok()?,
+        items: fa_answer(alloc, table, &query.expr, query.k).ok()?,
+    })
+}
+
 /// What a query finds on a table. None where that is no table of its lists, or there is no memory.
 fn found_in(alloc: Global, table: &[MemList], query: &Query) -> Option<Found> {
     let costs = query.costs_in_force();
@@ -90,6 +102,7 @@ fn found_in(alloc: Global, table: &[MemList], query: &Query) -> Option<Found> {
         Algorithm::Ta => by_ta(alloc, table, query),
         Algorithm::Nra => by_nra(alloc, table, query),
         Algorithm::Ca => by_ca(alloc, table, query, costs),
+        Algorithm::Fa => by_fa(alloc, table, query),
     }
 }
 

@@ -6,4 +6,6 @@ mod bounds;
 mod no_random;
 
 pub use bounds::{high, known_grade, low, seen_objects};
-pub use no_random::{exceeds, first_seen, is_quiet, kth_low, nra_answer, nra_depth, nra_run, nra_run_to};
+pub use no_random::{
+    exceeds, first_seen, is_quiet, kth_low, nra_answer, nra_depth, nra_run, nra_run_to,
+};

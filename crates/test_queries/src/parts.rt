@@ -19,6 +19,7 @@ const ALGORITHMS: &[(&[u8], Algorithm)] = &[
     (b"top 1 by A using ta", Algorithm::Ta),
     (b"top 1 by A using nra", Algorithm::Nra),
     (b"top 1 by A using ca", Algorithm::Ca),
+    (b"top 1 by A using fa", Algorithm::Fa),
 ];
 
 /// The number of the first line whose query asks for another algorithm.

@@ -50,7 +50,7 @@ static NO_CATALOGS: [Row; 5] = [
     Row {
         case: Case {
             words: RUN,
-            catalog: "name,place,random\nA,http://host/a,yes\n",
+            catalog: "name,place,random\nA,http://host/,yes\n",
             sources: &[],
             lines: LINES,
         },

@@ -105,11 +105,12 @@ fn first_wrong(alloc: Global, algorithms: &[&str]) -> Option<(usize, usize)> {
     None
 }
 
-/// Each algorithm: the threshold algorithm, the one without random access, and the combined one at costs whose ratio is less
+/// Each algorithm: the threshold algorithm, the one without random access, Fagin's, and the combined one at costs whose ratio is less
 /// than 1, 1, between 1 and 2, 2, and more than there are depths.
 const ALGORITHMS: &[&str] = &[
     "ta",
     "nra",
+    "fa",
     "ca",
     "ca cost 7 2",
     "ca cost 2 3",

@@ -10,6 +10,7 @@ use query_text::{Algorithm, Costs, Query, read};
 use ranked_list::{Item, MemList, is_table};
 use std::alloc::Global;
 use test_plain_ca::{ca_answer, ca_run};
+use test_plain_fa::{fa_answer, fa_run};
 use test_plain_nra::{nra_answer, nra_run};
 use test_plain_ta::{ta_answer, ta_run};
 use topk_theory::Access;
@@ -24,6 +25,7 @@ fn plain_items(alloc: Global, lists: &[MemList], query: &Query, costs: Costs) ->
         Algorithm::Ta => ta_answer(alloc, lists, expr, query.k).ok(),
         Algorithm::Nra => nra_answer(alloc, lists, expr, query.k).ok(),
         Algorithm::Ca => ca_answer(alloc, lists, expr, query.k, costs).ok(),
+        Algorithm::Fa => fa_answer(alloc, lists, expr, query.k).ok(),
     }
 }
 
@@ -42,6 +44,7 @@ fn plain_accesses(
         Algorithm::Ta => ta_run(alloc, lists, expr, query.k).ok(),
         Algorithm::Nra => nra_run(alloc, lists, expr, query.k).ok(),
         Algorithm::Ca => ca_run(alloc, lists, expr, query.k, costs).ok(),
+        Algorithm::Fa => fa_run(alloc, lists, query.k).ok(),
     }
 }
 

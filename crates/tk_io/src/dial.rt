@@ -47,5 +47,5 @@ pub trait Dial {
 
     /// How many calls failed, those of the links that were given back among them.
     fn fault_count(&self) -> u64
-        ensures { result ≡ faults self };
+        ensures { result ≡ faults self.now };
 }

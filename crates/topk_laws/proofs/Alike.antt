@@ -13,7 +13,7 @@ use Rattle.cert_text.specs.declared.refusal.Refusal.TheVariants.{ManyQueries, Ro
 use Rattle.cert_text.specs.declared.outcome.Outcome.{Outcome}
 use Rattle.cert_text.specs.declared.outcome.Outcome.TheVariants.{Answered, Refused}
 use Rattle.query_core.specs.OneAnswer.{IsOverRoom}
-use Rattle.query_admission.specs.View.{View, AreTold, is_closed, is_large, differs, lacks_random, size_stated, count_of}
+use Rattle.query_admission.specs.View.{View, AreTold, is_closed, is_large, differs, lacks_random, versions_at, size_stated, count_of}
 use Rattle.query_admission.specs.Causes.{most_queries, Cause, admission_causes, Over, ListsGive, RefusesFor, NoneOf, IsFirstOf}
 use Rattle.query_admission.specs.Admission.{RefusesLine}
 use Rattle.query_admission.specs.Becomes.{Becomes}
@@ -56,6 +56,13 @@ size_plain (x ∷ xs) (suc place) = size_plain xs place
 
 size_same : (xs ys : List Listed) (place : ℕ) → map plain xs ≡ map plain ys → size_stated xs place ≡ size_stated ys place
 size_same xs ys place e = sym (size_plain xs place) ∙ ap (λ ls. size_stated ls place) e ∙ size_plain ys place
+
+versions_plain : (xs : List Listed) → versions_at (map plain xs) ≡ versions_at xs
+versions_plain [] = refl
+versions_plain (x ∷ xs) = ap (λ vs. x.version ∷ vs) (versions_plain xs)
+
+versions_same : (xs ys : List Listed) → map plain xs ≡ map plain ys → versions_at xs ≡ versions_at ys
+versions_same xs ys e = sym (versions_plain xs) ∙ ap versions_at e ∙ versions_plain ys
 
 -- what lists give that say the same
 lists_give : (q : Query) (xs ys : List Listed) → map plain xs ≡ map plain ys → (c : Cause) (refusal : Refusal) → ListsGive q xs c refusal
@@ -198,12 +205,12 @@ late_refused V W number bytes refusal query late refused =
 
 -- what becomes of a line
 pub becomes_alike : (V W : View) (number : ℕ) (bytes : List ℕ) → Alike bytes V.listed W.listed → Alike bytes W.listed V.listed
-    → ((c : Cause) → SameTold V W c) → ((c : Cause) → SameTold W V c) → (query : Option Query) (count : ℕ) (outcome : Outcome)
-    → Becomes (line_over V number bytes) query count outcome → Becomes (line_over W number bytes) query count outcome
-becomes_alike V W number bytes to from told back query count (Refused refusal) is =
+    → ((c : Cause) → SameTold V W c) → ((c : Cause) → SameTold W V c) → (query : Option Query) (count : ℕ) (versions : List ℕ) (outcome : Outcome)
+    → Becomes (line_over V number bytes) query count versions outcome → Becomes (line_over W number bytes) query count versions outcome
+becomes_alike V W number bytes to from told back query count versions (Refused refusal) is =
     refused_alike V W number bytes to from (admission_causes ++ Cause.room_full ∷ []) (λ c m. told c) (λ c m. back c) refusal query is
-becomes_alike V W number bytes to from told back None count (Answered answer) is = absurd is
-becomes_alike V W number bytes to from told back (Some q) count (Answered answer) is =
+becomes_alike V W number bytes to from told back None count versions (Answered answer) is = absurd is
+becomes_alike V W number bytes to from told back (Some q) count versions (Answered answer) is =
     let l = to.lists q is.lists is.reads is.listed in
     record {
       unrefused = none_alike V W number bytes from (admission_causes ++ Cause.room_full ∷ []) (λ c m. back c) is.unrefused;
@@ -211,6 +218,7 @@ becomes_alike V W number bytes to from told back (Some q) count (Answered answer
       lists = l.lists;
       listed = l.there;
       counted = sym (size_same is.lists l.lists 0 l.same) ∙ is.counted;
+      opened = sym (versions_same is.lists l.lists l.same) ∙ is.opened;
       right = is.right;
       agrees = λ D e. is.agrees D (subst (λ t. map t q.names ≡ map Some D) (back Cause.room_full) e);
     }

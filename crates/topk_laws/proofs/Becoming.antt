@@ -35,7 +35,7 @@ use Rattle.query_turns.specs.Causes.{IsAtFault, IsCause}
 use Rattle.query_turns.proofs.Serving.{of_some_list, source_there as needs_source}
 use Rattle.fetcher.specs.Moving.{TellsMove}
 use Rattle.query_core.specs.Machines.{state_of}
-use Rattle.batch_result.specs.Numbered.{counts_at}
+use Rattle.batch_result.specs.Numbered.{counts_at, version_at}
 use Rattle.query_turns.specs.Endings.{EndsAs}
 use Rattle.query_turns.specs.Honest.{lists_of, IsOnItsRun}
 use Rattle.query_turns.specs.Kept.{IsServed}
@@ -115,9 +115,11 @@ module _ (r : CatalogRun) (outcomes : List LineOutcome) (run : IsRun r outcomes)
       let some = calls_behind kind.Garbled why.Garbled run.ran.ran.states run.ran.ran.queries q list r.settings.workers _ _ _ refl (served_all q c) c e counted.garbled in
       (within, rose_garbles _ run.mid r.after (text_for q list) _ run.back (counted_back r.catalog run.sources.places run.now source within inside) some)
 
-  -- where a query is refused because a list was replaced, the log of its source tells this, and what the source counted rose
+  -- where a query is refused because a list was replaced, the log of its source tells this, what the source counted rose, and the version that it had is the
+  -- one at hand
   pub moved_rose_at : (q : Inquiry) (list had other : ℕ) → Contains run.ran.ran.queries q → q.refusal ≡ Some (refusal.Look list (why.Source (fault.Moved had other)))
       → (source_of q list < length run.sources.places) × Rose (run.mid (text_for q list)).sources.moves (r.after (text_for q list)).sources.moves
+      × (had ≡ version_at run.sources.versions (source_of q list))
   moved_rose_at q list had other c e =
       let states = run.ran.ran.states in
       let served = served_all q c in
@@ -133,9 +135,10 @@ module _ (r : CatalogRun) (outcomes : List LineOutcome) (run : IsRun r outcomes)
       let inside : source < length run.now = omega (arith, within, now_long) in
       let tells : TellsMove (state_at states source).log had other =
       subst (λ n. TellsMove (state_at states n).log had other) (sym same) (tells_move (state_at states (source_needed q)) (needed q) had other cause.1) in
-      let rose : Rose (counts_at run.begun source).moves (counts_at run.now source).moves = (run.ran.ran.counted source there).moved had other tells in
+      let replaced = (run.ran.ran.counted source there).moved had other tells in
+      let rose : Rose (counts_at run.begun source).moves (counts_at run.now source).moves = replaced.counted in
       let some : 1 ≤ (counts_at run.now source).moves = omega (arith, rose) in
-      (within, rose_moves _ run.mid r.after (text_for q list) _ run.back (counted_back r.catalog run.sources.places run.now source within inside) some)
+      (within, rose_moves _ run.mid r.after (text_for q list) _ run.back (counted_back r.catalog run.sources.places run.now source within inside) some, replaced.at_hand)
 
   module _ (law : QueriesAreOnTheirRuns) (tells : ShelfTellsTables r) where
     abbrev V : View
@@ -145,7 +148,7 @@ module _ (r : CatalogRun) (outcomes : List LineOutcome) (run : IsRun r outcomes)
     T = view_over r.catalog run.openings r.lists
 
     abbrev W : View
-    W = view_told r.catalog r.lists
+    W = view_told r.catalog r.lists r.versions
 
     -- nothing failed
     calm : (place : ℕ) → IsWanted r.catalog r.lines place → TroubleAt (r.before (entry_at r.catalog place).place) (r.after (entry_at r.catalog place).place) → ⊥
@@ -153,7 +156,7 @@ module _ (r : CatalogRun) (outcomes : List LineOutcome) (run : IsRun r outcomes)
 
     wanted_source : (q : Inquiry) (list : ℕ) → source_of q list < length run.sources.places
         → IsWanted r.catalog r.lines (slice_index_or run.sources.places (source_of q list) 0)
-    wanted_source q list within = open_wanted r.lists r.catalog (IsWanted r.catalog r.lines) r.before run.mid run.openings run.sources run.opened (source_of q list) within
+    wanted_source q list within = open_wanted r.lists r.versions r.catalog (IsWanted r.catalog r.lines) r.before run.mid run.openings run.sources run.opened (source_of q list) within
 
     -- trouble while the lines ran is trouble in the run
     troubled : (text : List ℕ) → TroubleAt (run.mid text) (r.after text) → TroubleAt (r.before text) (r.after text)
@@ -171,10 +174,10 @@ module _ (r : CatalogRun) (outcomes : List LineOutcome) (run : IsRun r outcomes)
 
     -- a line that admission refuses
     refused_becomes : (at : ℕ) (bytes : List ℕ) (o : LineOutcome) → slice_get r.lines at ≡ Some bytes → IsLineRefused V (at + 1) bytes o
-        → Becomes (line_over W (at + 1) bytes) o.query o.count o.outcome
+        → Becomes (line_over W (at + 1) bytes) o.query o.count o.versions o.outcome
     refused_becomes at bytes o line is =
-        subst (Becomes (line_over W (at + 1) bytes) o.query o.count) (sym is.outcome)
-        (refused_line (line_over W (at + 1) bytes) is.refusal o.query o.count
+        subst (Becomes (line_over W (at + 1) bytes) o.query o.count o.versions) (sym is.outcome)
+        (refused_line (line_over W (at + 1) bytes) is.refusal o.query o.count o.versions
         (elim (cases_lt most_queries (at + 1)) [
           | inl late ↦ late_refused V W (at + 1) bytes is.refusal o.query late is.refused
           | inr few ↦ refused_alike V W (at + 1) bytes (to_told r outcomes run tells at bytes line few) (from_told r outcomes run tells at bytes line few) admission_causes
@@ -192,6 +195,7 @@ module _ (r : CatalogRun) (outcomes : List LineOutcome) (run : IsRun r outcomes)
       listed = admitted.listed;
       count = admitted.count;
       sources = admitted.sources;
+      versions = admitted.versions;
     }
       where
         same_lists : Alike bytes T.listed V.listed
@@ -222,14 +226,14 @@ module _ (r : CatalogRun) (outcomes : List LineOutcome) (run : IsRun r outcomes)
     -- how a query ended over its lists is what becomes of its line
     ended_becomes : (number : ℕ) (bytes : List ℕ) (ready : ReadyQuery) (D : List (List Row)) (e : Ended) (outcome : Outcome)
         → IsAdmitted (line_over V number bytes) ready → map T.told ready.query.names ≡ map Some D → EndsOver D ready e → ended_outcome e ≡ Some outcome
-        → Becomes (line_over T number bytes) (Some ready.query) ready.count outcome
+        → Becomes (line_over T number bytes) (Some ready.query) ready.count ready.versions.items outcome
     ended_becomes number bytes ready D (ended.Answered answer) outcome admitted told over is =
-        subst (Becomes (line_over T number bytes) (Some ready.query) ready.count) (same_Some (Answered answer) outcome is)
+        subst (Becomes (line_over T number bytes) (Some ready.query) ready.count ready.versions.items) (same_Some (Answered answer) outcome is)
         (answered_line (line_over T number bytes) ready D answer (admitted_told number bytes ready admitted) told over)
     ended_becomes number bytes ready D (ended.Core (core.Strangers object count)) outcome admitted told over is = absurd over
     ended_becomes number bytes ready D (ended.Core (core.RoomFull room)) outcome admitted told over is =
-        subst (Becomes (line_over T number bytes) (Some ready.query) ready.count) (same_Some _ outcome is)
-        (full_line (line_over T number bytes) ready D room ready.count (admitted_told number bytes ready admitted) told over)
+        subst (Becomes (line_over T number bytes) (Some ready.query) ready.count ready.versions.items) (same_Some _ outcome is)
+        (full_line (line_over T number bytes) ready D room ready.count ready.versions.items (admitted_told number bytes ready admitted) told over)
     ended_becomes number bytes ready D (ended.Look list fault) outcome admitted told over is = absurd over
 
     -- a query that ran ended over its lists
@@ -245,15 +249,16 @@ module _ (r : CatalogRun) (outcomes : List LineOutcome) (run : IsRun r outcomes)
         (λ list is. none_failed q list c is) (λ list is. none_garbled q list c is) spared e ends)
 
     run_becomes : (at : ℕ) (bytes : List ℕ) (o : LineOutcome) (q : Inquiry) → slice_get r.lines at ≡ Some bytes → Contains run.ran.ran.queries q
-        → IsLineRun V q (at + 1) bytes o → Becomes (line_over W (at + 1) bytes) o.query o.count o.outcome
+        → IsLineRun V q (at + 1) bytes o → Becomes (line_over W (at + 1) bytes) o.query o.count o.versions o.outcome
     run_becomes at bytes o q line c is =
         let has = has_lists r outcomes run tells at bytes is.ready line is.admitted in
         let few = admitted_few V (at + 1) bytes is.admitted.unrefused in
         let becomes = ended_becomes (at + 1) bytes is.ready has.D is.ended o.outcome is.admitted has.told (ends_there is.ready q is.ended has is.of c is.ends) is.outcome.outcome in
-        let moved : Becomes (line_over W (at + 1) bytes) (Some is.ready.query) is.ready.count o.outcome =
-        becomes_alike T W (at + 1) bytes (to_told r outcomes run tells at bytes line few) (from_told r outcomes run tells at bytes line few) same_rows rows_same (Some is.ready.query) is.ready.count o.outcome becomes in
-        subst (λ query. Becomes (line_over W (at + 1) bytes) query o.count o.outcome) (sym is.outcome.query)
-        (subst (λ count. Becomes (line_over W (at + 1) bytes) (Some is.ready.query) count o.outcome) (sym is.outcome.count) moved)
+        let moved : Becomes (line_over W (at + 1) bytes) (Some is.ready.query) is.ready.count is.ready.versions.items o.outcome =
+        becomes_alike T W (at + 1) bytes (to_told r outcomes run tells at bytes line few) (from_told r outcomes run tells at bytes line few) same_rows rows_same (Some is.ready.query) is.ready.count is.ready.versions.items o.outcome becomes in
+        subst (λ query. Becomes (line_over W (at + 1) bytes) query o.count o.versions o.outcome) (sym is.outcome.query)
+        (subst (λ count. Becomes (line_over W (at + 1) bytes) (Some is.ready.query) count o.versions o.outcome) (sym is.outcome.count)
+        (subst (λ versions. Becomes (line_over W (at + 1) bytes) (Some is.ready.query) is.ready.count versions o.outcome) (sym is.outcome.versions) moved))
 
     -- the lines from one on
     all_become : (at : ℕ) (queries : List Inquiry) (lines : List (List ℕ)) (others : List LineOutcome)

@@ -38,6 +38,8 @@ use Rattle.query_turns.specs.Inquiries.{source_of}
 use Rattle.query_turns.specs.Endings.{EndsAs}
 use Rattle.query_turns.specs.Kept.{IsServed}
 use Rattle.query_turns.specs.Made.{IsOf}
+use Rattle.batch_result.specs.Numbered.{version_at}
+use Rattle.batch_result.proofs.Places.{map_at}
 use Rattle.catalog_text.specs.Catalog.{Listed as Entry}
 use Rattle.catalog_open.specs.declared.opened.Opening.{Opening}
 use Rattle.catalog_open.specs.declared.opened.Opening.TheVariants.{Closed, Open}
@@ -49,10 +51,11 @@ use Rattle.catalog_open.proofs.Marking.{places_within}
 use Rattle.query_admission.specs.declared.line_outcome.LineOutcome.{LineOutcome}
 use Rattle.catalog_run.specs.Outcomes.{ended_outcome}
 use Rattle.catalog_run.specs.Runs.{CatalogRun, IsRun, IsLineRefused, IsLineRun, AreOutcomes}
-use Rattle.topk_laws.specs.Failures.{place_at, failed_list, HasRisen, HasFailedAt, HasFailure}
+use Rattle.topk_laws.specs.Failures.{place_at, failed_list, HasRisen, NamesVersion, HasFailedAt, HasFailure}
 use Rattle.topk_laws.proofs.Alike.{first_is_many}
 use Rattle.topk_laws.proofs.Becoming.{failed_rose_at, garbled_rose_at, moved_rose_at, served_all, text_for}
 use Rattle.catalog_run.proofs.Failing.{refused_there}
+use Rattle.catalog_run.proofs.Readies.{ready_versions}
 use Rattle.topk_laws.proofs.ToldLists.{known_places, named_wanted}
 
 -- the place of a list of a query
@@ -136,7 +139,7 @@ module _ (r : CatalogRun) (outcomes : List LineOutcome) (run : IsRun r outcomes)
       go (opening_at run.openings place) closed (run.opened.each place (omega (arith, inside, all)))
     where
       go : (o : Opening) → is_closed (said_of (entry_at r.catalog place).random o) ≡ true
-          → IsOpening r.lists r.catalog run.sources (IsWanted r.catalog r.lines) r.before run.mid place o
+          → IsOpening r.lists r.versions r.catalog run.sources (IsWanted r.catalog r.lines) r.before run.mid place o
           → TroubleAt (r.before (entry_at r.catalog place).place) (run.mid (entry_at r.catalog place).place)
       go Closed closed opening = opening wanted
       go (Open size source version) closed opening = absurd cc
@@ -172,6 +175,7 @@ module _ (r : CatalogRun) (outcomes : List LineOutcome) (run : IsRun r outcomes)
         place = text;
         place_is = subst (λ n. place_at r.catalog q n ≡ Some text) number at_place;
         risen = subst (HasRisen (r.before text) (run.mid text) (r.after text)) (sym h.1) trouble;
+        had = subst (NamesVersion (slice_index_or o.versions list 0)) (sym h.1) tt;
       }
 
   -- the cause of a refusal of a list that comes before the line runs
@@ -231,9 +235,9 @@ module _ (r : CatalogRun) (outcomes : List LineOutcome) (run : IsRun r outcomes)
                 | inl inside ↦ inside
                 | inr past ↦ absurd (closed_open (sym (get_or_past run.openings place Closed past) ∙ is))
               ] in
-              let opening : IsOpening r.lists r.catalog run.sources (IsWanted r.catalog r.lines) r.before run.mid place (Open size source version) =
-              subst (IsOpening r.lists r.catalog run.sources (IsWanted r.catalog r.lines) r.before run.mid place) is (run.opened.each place within) in
-              let source_is : IsSource r.lists r.catalog run.sources place size source = opening.1 in
+              let opening : IsOpening r.lists r.versions r.catalog run.sources (IsWanted r.catalog r.lines) r.before run.mid place (Open size source version) =
+              subst (IsOpening r.lists r.versions r.catalog run.sources (IsWanted r.catalog r.lines) r.before run.mid place) is (run.opened.each place within) in
+              let source_is : IsSource r.lists r.versions r.catalog run.sources place size source version = opening.1 in
               source_is.stands
 
   pub ran_list : (q : Inquiry) (ready : ReadyQuery) (list : ℕ) (f : LookFault) → IsServed run.ran.ran.states q → IsOf ready q
@@ -244,28 +248,40 @@ module _ (r : CatalogRun) (outcomes : List LineOutcome) (run : IsRun r outcomes)
       let many : length q.sources.items ≡ length ready.query.names = ap (length {A = ℕ}) of.sources ∙ of.is.sources in
       omega (arith, l, many)
 
+  -- the version that is at hand of the source of a query's list is the one that its line names
+  named_version : (at : ℕ) (bytes : List ℕ) (o : LineOutcome) (q : Inquiry) (ready : ReadyQuery) (list other : ℕ)
+      → IsAdmitted (line_over U (at + 1) bytes) ready → IsOf ready q → o.versions ≡ ready.versions.items → other ≡ list → other < length ready.query.names
+      → version_at run.sources.versions (source_of q other) ≡ slice_index_or o.versions list 0
+  named_version at bytes o q ready list other admitted of held number l =
+      let many : length ready.sources.items ≡ length ready.query.names = of.is.sources in
+      let versions : o.versions ≡ map (version_at run.sources.versions) ready.sources.items =
+      held ∙ ready_versions r.lists nothing_told r.versions r.catalog (IsWanted r.catalog r.lines) r.before run.mid run.openings run.sources run.opened (at + 1) bytes ready admitted in
+      ap (λ (sources : List ℕ). version_at run.sources.versions (slice_index_or sources other 0)) of.sources
+      ∙ (sym (map_at (version_at run.sources.versions) ready.sources.items other 0 0 (omega (arith, l, many)))
+      ∙ (ap (λ (vs : List ℕ). slice_index_or vs other 0) (sym versions) ∙ ap (λ n. slice_index_or o.versions n 0) number))
+
   -- a query that ran and is refused because a call failed
   ran_why : (at : ℕ) (bytes : List ℕ) (o : LineOutcome) (q : Inquiry) (ready : ReadyQuery) (e : Ended) (refusal : Refusal) (list : ℕ)
       → IsAdmitted (line_over U (at + 1) bytes) ready → IsOf ready q → IsServed run.ran.ran.states q → Contains run.ran.ran.queries q → EndsAs q e
-      → o.query ≡ Some ready.query → ended_outcome e ≡ Some (Refused refusal) → failed_list refusal ≡ Some list → HasFailedAt r run.mid o refusal list
-  ran_why at bytes o q ready (ended.Answered answer) refusal list admitted of served c ends is e fails = absurd (answered_refused answer refusal e)
-  ran_why at bytes o q ready (ended.Core (core.Strangers object count)) refusal list admitted of served c ends is e fails =
+      → o.query ≡ Some ready.query → o.versions ≡ ready.versions.items → ended_outcome e ≡ Some (Refused refusal) → failed_list refusal ≡ Some list → HasFailedAt r run.mid o refusal list
+  ran_why at bytes o q ready (ended.Answered answer) refusal list admitted of served c ends is held e fails = absurd (answered_refused answer refusal e)
+  ran_why at bytes o q ready (ended.Core (core.Strangers object count)) refusal list admitted of served c ends is held e fails =
       absurd (not_listed refusal _ list (sym (refused_some _ refusal e)) refl fails)
-  ran_why at bytes o q ready (ended.Core (core.RoomFull room)) refusal list admitted of served c ends is e fails =
+  ran_why at bytes o q ready (ended.Core (core.RoomFull room)) refusal list admitted of served c ends is held e fails =
       absurd (not_listed refusal _ list (sym (refused_some _ refusal e)) refl fails)
-  ran_why at bytes o q ready (ended.Look other (why.Source (fault.OutOfOrder place above below))) refusal list admitted of served c ends is e fails =
+  ran_why at bytes o q ready (ended.Look other (why.Source (fault.OutOfOrder place above below))) refusal list admitted of served c ends is held e fails =
       absurd (not_listed refusal _ list (sym (refused_some _ refusal e)) refl fails)
-  ran_why at bytes o q ready (ended.Look other (why.Source (fault.TooHigh place grade))) refusal list admitted of served c ends is e fails =
+  ran_why at bytes o q ready (ended.Look other (why.Source (fault.TooHigh place grade))) refusal list admitted of served c ends is held e fails =
       absurd (not_listed refusal _ list (sym (refused_some _ refusal e)) refl fails)
-  ran_why at bytes o q ready (ended.Look other (why.Source (fault.Repeated object place))) refusal list admitted of served c ends is e fails =
+  ran_why at bytes o q ready (ended.Look other (why.Source (fault.Repeated object place))) refusal list admitted of served c ends is held e fails =
       absurd (not_listed refusal _ list (sym (refused_some _ refusal e)) refl fails)
-  ran_why at bytes o q ready (ended.Look other (why.Source (fault.Clash object sorted random))) refusal list admitted of served c ends is e fails =
+  ran_why at bytes o q ready (ended.Look other (why.Source (fault.Clash object sorted random))) refusal list admitted of served c ends is held e fails =
       absurd (not_listed refusal _ list (sym (refused_some _ refusal e)) refl fails)
-  ran_why at bytes o q ready (ended.Look other (why.Source (fault.Above object grade bottom))) refusal list admitted of served c ends is e fails =
+  ran_why at bytes o q ready (ended.Look other (why.Source (fault.Above object grade bottom))) refusal list admitted of served c ends is held e fails =
       absurd (not_listed refusal _ list (sym (refused_some _ refusal e)) refl fails)
-  ran_why at bytes o q ready (ended.Look other (why.Source (fault.ShortList stated got))) refusal list admitted of served c ends is e fails =
+  ran_why at bytes o q ready (ended.Look other (why.Source (fault.ShortList stated got))) refusal list admitted of served c ends is held e fails =
       absurd (not_listed refusal _ list (sym (refused_some _ refusal e)) refl fails)
-  ran_why at bytes o q ready (ended.Look other (why.Source (fault.Moved had stated))) refusal list admitted of served c ends is e fails =
+  ran_why at bytes o q ready (ended.Look other (why.Source (fault.Moved had stated))) refusal list admitted of served c ends is held e fails =
       let same : Moved other had stated ≡ refusal = refused_some (Moved other had stated) refusal e in
       let number : other ≡ list = same_Some other list (ap failed_list same ∙ fails) in
       let l = ran_list q ready other (why.Source (fault.Moved had stated)) served of ends in
@@ -277,13 +293,14 @@ module _ (r : CatalogRun) (outcomes : List LineOutcome) (run : IsRun r outcomes)
         place = text;
         place_is = subst (λ n. place_at r.catalog ready.query n ≡ Some text) number (ran_at at bytes q ready other admitted of l);
         risen = subst (HasRisen (r.before text) (run.mid text) (r.after text)) same rose.1;
+        had = subst (NamesVersion (slice_index_or o.versions list 0)) same (rose.2 ∙ named_version at bytes o q ready list other admitted of held number l);
       }
-  ran_why at bytes o q ready (ended.Look other (why.Missing object)) refusal list admitted of served c ends is e fails =
+  ran_why at bytes o q ready (ended.Look other (why.Missing object)) refusal list admitted of served c ends is held e fails =
       absurd (not_listed refusal _ list (sym (refused_some _ refusal e)) refl fails)
-  ran_why at bytes o q ready (ended.Look other (why.AsksFull kept)) refusal list admitted of served c ends is e fails =
+  ran_why at bytes o q ready (ended.Look other (why.AsksFull kept)) refusal list admitted of served c ends is held e fails =
       absurd (not_listed refusal _ list (sym (refused_some _ refusal e)) refl fails)
-  ran_why at bytes o q ready (ended.Look other why.Memory) refusal list admitted of served c ends is e fails = absurd cc
-  ran_why at bytes o q ready (ended.Look other why.Failed) refusal list admitted of served c ends is e fails =
+  ran_why at bytes o q ready (ended.Look other why.Memory) refusal list admitted of served c ends is held e fails = absurd cc
+  ran_why at bytes o q ready (ended.Look other why.Failed) refusal list admitted of served c ends is held e fails =
       let same : Failed other ≡ refusal = refused_some (Failed other) refusal e in
       let number : other ≡ list = same_Some other list (ap failed_list same ∙ fails) in
       let l = ran_list q ready other why.Failed served of ends in
@@ -295,8 +312,9 @@ module _ (r : CatalogRun) (outcomes : List LineOutcome) (run : IsRun r outcomes)
         place = text;
         place_is = subst (λ n. place_at r.catalog ready.query n ≡ Some text) number (ran_at at bytes q ready other admitted of l);
         risen = subst (HasRisen (r.before text) (run.mid text) (r.after text)) same rose.1;
+        had = subst (NamesVersion (slice_index_or o.versions list 0)) same tt;
       }
-  ran_why at bytes o q ready (ended.Look other why.Garbled) refusal list admitted of served c ends is e fails =
+  ran_why at bytes o q ready (ended.Look other why.Garbled) refusal list admitted of served c ends is held e fails =
       let same : Garbled other ≡ refusal = refused_some (Garbled other) refusal e in
       let number : other ≡ list = same_Some other list (ap failed_list same ∙ fails) in
       let l = ran_list q ready other why.Garbled served of ends in
@@ -308,11 +326,12 @@ module _ (r : CatalogRun) (outcomes : List LineOutcome) (run : IsRun r outcomes)
         place = text;
         place_is = subst (λ n. place_at r.catalog ready.query n ≡ Some text) number (ran_at at bytes q ready other admitted of l);
         risen = subst (HasRisen (r.before text) (run.mid text) (r.after text)) same rose.1;
+        had = subst (NamesVersion (slice_index_or o.versions list 0)) same tt;
       }
 
   line_ran : (at : ℕ) (bytes : List ℕ) (o : LineOutcome) (q : Inquiry) → Contains run.ran.ran.queries q → IsLineRun U q (at + 1) bytes o → HasFailure r run.mid o
   line_ran at bytes o q c is = λ refusal list e fails.
-      ran_why at bytes o q is.ready is.ended refusal list is.admitted is.of (served_all r outcomes run q c) c is.ends is.outcome.query
+      ran_why at bytes o q is.ready is.ended refusal list is.admitted is.of (served_all r outcomes run q c) c is.ends is.outcome.query is.outcome.versions
       (is.outcome.outcome ∙ ap Some e) fails
 
   -- the lines from one on

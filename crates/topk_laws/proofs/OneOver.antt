@@ -98,16 +98,16 @@ module _ (r : CatalogRun) (outcomes : List LineOutcome) (run : IsRun r outcomes)
             | inl inside ↦ inside
             | inr past ↦ absurd (closed_open (sym (get_or_past run.openings place Closed past) ∙ is))
           ] in
-          let opening : IsOpening r.lists r.catalog run.sources (IsWanted r.catalog r.lines) r.before run.mid place (Open size source version) =
-          subst (IsOpening r.lists r.catalog run.sources (IsWanted r.catalog r.lines) r.before run.mid place) is (run.opened.each place within) in
-          let at : IsSource r.lists r.catalog run.sources place size source = opening.1 in
+          let opening : IsOpening r.lists r.versions r.catalog run.sources (IsWanted r.catalog r.lines) r.before run.mid place (Open size source version) =
+          subst (IsOpening r.lists r.versions r.catalog run.sources (IsWanted r.catalog r.lines) r.before run.mid place) is (run.opened.each place within) in
+          let at : IsSource r.lists r.versions r.catalog run.sources place size source version = opening.1 in
           let told_as : IsToldAs (Some rows) (slice_index_or run.sources.told source None) size =
           subst (λ o. IsToldAs o (slice_index_or run.sources.told source None) size) told at.told in
           told_as.0
 
   -- so the sources of an admitted query's lists tell them
   tell_rows : (names : List (List ℕ)) (ls : List Listed) (D : List (List Row)) (n : ℕ) → map (by_place r.catalog said) names ≡ map Some ls
-      → map (view_told r.catalog r.lists).told names ≡ map Some D
+      → map (view_told r.catalog r.lists r.versions).told names ≡ map Some D
       → ((place : ℕ) → place < length ls → (slice_index_or ls place nothing).size ≡ Some n) → TellRows run.sources.told ls D
   tell_rows [] [] [] n known told sizes = tt
   tell_rows [] [] (d ∷ D) n known told sizes = absurd cc
@@ -118,7 +118,7 @@ module _ (r : CatalogRun) (outcomes : List LineOutcome) (run : IsRun r outcomes)
       let here : option_map said (entry_named r.catalog name) ≡ Some l = cc in
       let rest : map (by_place r.catalog said) names ≡ map Some ls = cc in
       let told_here : option_and_then (entry_told r.lists r.catalog) (entry_named r.catalog name) ≡ Some d = cc in
-      let told_rest : map (view_told r.catalog r.lists).told names ≡ map Some D = cc in
+      let told_rest : map (view_told r.catalog r.lists r.versions).told names ≡ map Some D = cc in
       let one = some_place said (entry_named r.catalog name) l here in
       let rows : entry_told r.lists r.catalog one.0 ≡ Some d = sym (ap (option_and_then (entry_told r.lists r.catalog)) one.1) ∙ told_here in
       let sized : (said one.0).size ≡ Some n = subst (λ (k : Listed). k.size ≡ Some n) one.2 (sizes 0 (omega arith)) in (
@@ -138,7 +138,7 @@ module _ (r : CatalogRun) (outcomes : List LineOutcome) (run : IsRun r outcomes)
 
   -- the lists of a query that ran agree with its transcript, where they are told and form a table
   lists_agree : (number : ℕ) (bytes : List ℕ) (q : Inquiry) (ready : ReadyQuery) (D : List (List Row)) → IsAdmitted (line_over Y number bytes) ready → IsOf ready q
-      → Contains run.ran.ran.queries q → AreTold (view_told r.catalog r.lists) ready.query D → IsTable ready.count D → AgreesWith D (state_of q.machine).log
+      → Contains run.ran.ran.queries q → AreTold (view_told r.catalog r.lists r.versions) ready.query D → IsTable ready.count D → AgreesWith D (state_of q.machine).log
   lists_agree number bytes q ready D admitted of c told table =
       let b = run.ran.ran in
       let served = served_all r outcomes run q c in
@@ -171,7 +171,7 @@ module _ (r : CatalogRun) (outcomes : List LineOutcome) (run : IsRun r outcomes)
   line_one number bytes o q c line = λ query answer D query_is is told table.
       let ready = line.ready in
       let same : ready.query ≡ query = same_Some ready.query query (sym line.outcome.query ∙ query_is) in
-      let agrees = lists_agree number bytes q ready D line.admitted line.of c (subst (λ x. AreTold (view_told r.catalog r.lists) x D) (sym same) told)
+      let agrees = lists_agree number bytes q ready D line.admitted line.of c (subst (λ x. AreTold (view_told r.catalog r.lists r.versions) x D) (sym same) told)
       (subst (λ n. IsTable n D) line.outcome.count table) in
       subst (λ x. IsOneAnswer x D answer) same (ended_one q ready line.ended D answer line.ends line.right (line.outcome.outcome ∙ ap Some is) agrees)
 

@@ -52,28 +52,28 @@ texts_once view number (bytes ∷ lines) (o ∷ outcomes) (u ∷ others) rows on
 
 -- the lines of a run whose sources tell tables have their rows
 module _ (r : CatalogRun) (tells : ShelfTellsTables r) where
-  has_rows : (at : ℕ) (bytes : List ℕ) → slice_get r.lines at ≡ Some bytes → HasRows (line_over (view_told r.catalog r.lists) (at + 1) bytes)
+  has_rows : (at : ℕ) (bytes : List ℕ) → slice_get r.lines at ≡ Some bytes → HasRows (line_over (view_told r.catalog r.lists r.versions) (at + 1) bytes)
   has_rows at bytes line = record {
     rows = λ q lists none reads listed.
-        let view = view_told r.catalog r.lists in
+        let view = view_told r.catalog r.lists r.versions in
         let x : QueryLine = line_over view (at + 1) bytes in
         let admitted : NoneOf (RefusesFor x) admission_causes = all_from_members (λ (c : Cause). (refusal : Refusal) → ¬ RefusesFor x c refusal) admission_causes
         (λ c m. member_of_all (λ (d : Cause). (refusal : Refusal) → ¬ RefusesFor x d refusal) line_causes c none
         (Contains-append_left admission_causes (Cause.room_full ∷ []) c m)) in
         let few = admitted_few view (at + 1) bytes admitted in
-        let h = known_places r.catalog (told_listed r.lists r.catalog) q.names lists listed in
+        let h = known_places r.catalog (told_listed r.lists r.versions r.catalog) q.names lists listed in
         let told : (place : ℕ) → Contains h.places place → entry_told r.lists r.catalog place ≡ Some (rows_of (entry_told r.lists r.catalog place)) =
         λ place named.
         let its = tells.told place (named_wanted r.catalog r.lines at bytes q h.places line few reads h.known place named) in
         its.1 ∙ ap (λ o. Some (rows_of o)) (sym its.1) in
-        (map (λ place. rows_of (entry_told r.lists r.catalog place)) h.places, names_told r.lists r.catalog q.names h.places h.known told);
+        (map (λ place. rows_of (entry_told r.lists r.catalog place)) h.places, names_told r.lists r.versions r.catalog q.names h.places h.known told);
   }
 
   -- what they come to is one
-  pub come_to_one : (status other : Status) (text said : List ℕ) → ComeTo r.catalog r.lists r.lines status text → ComeTo r.catalog r.lists r.lines other said
+  pub come_to_one : (status other : Status) (text said : List ℕ) → ComeTo r.catalog r.lists r.versions r.lines status text → ComeTo r.catalog r.lists r.versions r.lines other said
       → (other ≡ status) × (said ≡ text)
   come_to_one status other text said one two =
-      let rows = rows_each (view_told r.catalog r.lists) 1 r.lines has_rows in
-      let same = texts_once (view_told r.catalog r.lists) 1 r.lines two.outcomes one.outcomes rows two.become one.become in
+      let rows = rows_each (view_told r.catalog r.lists r.versions) 1 r.lines has_rows in
+      let same = texts_once (view_told r.catalog r.lists r.versions) 1 r.lines two.outcomes one.outcomes rows two.become one.become in
       let ended : run_status two.outcomes ≡ run_status one.outcomes = ap (λ b. if b then Done else Partial) same.1 in
       (two.status_is ∙ ended ∙ sym one.status_is, two.text_is ∙ same.0 ∙ sym one.text_is)

@@ -1,6 +1,6 @@
 -- The lists that the sources of a run tell, and that they form the tables of the queries.
 use Rattle.std.proofs.Common.{◌≡◌, ℕ, zero, suc, ◌+◌, ◌<◌, ◌≤◌, List, [], ◌∷◌, All, Contains, map, length, Option, None, Some, is_none, option_map, unwrap_or, slice_get, slice_index_or, refl, sym, ap, ◌∙◌, subst, arith}
-use Rattle.std.specs.Prelude.{Ok}
+use Rattle.std.specs.Prelude.{Ok, Bool, IfSome}
 use Rattle.std.specs.Option.{option_and_then}
 use Rattle.std.proofs.lemmas.List.Elements.{length_all_zip}
 use Rattle.std.proofs.lemmas.Option.{same_Some}
@@ -153,12 +153,18 @@ rows_at_source [] source rows e = absurd cc
 rows_at_source (o ∷ os) zero rows e = let is : o ≡ Some rows = e in ap rows_of is
 rows_at_source (o ∷ os) (suc source) rows e = rows_at_source os source rows e
 
--- a source that tells the rows of a place and is open
+-- what a list says of itself, without the number of its source
+abbrev said_plain : Bool → Option ℕ → ℕ → Listed
+said_plain random size version = record { size = size; random = random; source = 0; version = version }
+
+-- a source that tells the rows of a place and is open, at the version that is told
 pub record IsToldOpen (r : CatalogRun) (openings : List Opening) (s : Sources) (place : ℕ) : Type 0 where
   pub rows : List Row
   pub told : entry_told r.lists r.catalog place ≡ Some rows
+  pub version : ℕ
+  pub stated : entry_told r.versions r.catalog place ≡ Some version
   pub source : ℕ
-  pub opens : opening_at openings place ≡ Open (length rows) source
+  pub opens : opening_at openings place ≡ Open (length rows) source version
   pub tells : slice_index_or s.told source None ≡ Some rows
 
 -- the rows that are told of a place
@@ -168,7 +174,7 @@ rows_at r place = rows_of (entry_told r.lists r.catalog place)
 -- the lists of a query that is ready, where they form a table
 pub record HasLists (r : CatalogRun) (lists : List (List Row)) (ready : ReadyQuery) : Type 0 where
   pub D : List (List Row)
-  pub told : map (view_told r.catalog r.lists).told ready.query.names ≡ map Some D
+  pub told : map (view_told r.catalog r.lists r.versions).told ready.query.names ≡ map Some D
   pub is : D ≡ map (list_at lists) ready.sources.items
   pub table : IsTable ready.count D
 
@@ -186,19 +192,19 @@ told_once_at : (lists : List ℕ → Option (List Row)) (catalog : List Entry) (
     → entry_told lists catalog place ≡ Some rows → option_and_then (entry_told lists catalog) o ≡ Some rows
 told_once_at lists catalog o place rows is told = ap (option_and_then (entry_told lists catalog)) is ∙ told
 
-pub names_told : (lists : List ℕ → Option (List Row)) (catalog : List Entry) (names : List (List ℕ)) (places : List ℕ)
+pub names_told : (lists : List ℕ → Option (List Row)) (versions : List ℕ → Option ℕ) (catalog : List Entry) (names : List (List ℕ)) (places : List ℕ)
     → map (entry_named catalog) names ≡ map Some places
     → ((place : ℕ) → Contains places place → entry_told lists catalog place ≡ Some (rows_of (entry_told lists catalog place)))
-    → map (view_told catalog lists).told names ≡ map Some (map (λ place. rows_of (entry_told lists catalog place)) places)
-names_told lists catalog [] [] e told = refl
-names_told lists catalog [] (p ∷ ps) e told = absurd cc
-names_told lists catalog (n ∷ ns) [] e told = absurd cc
-names_told lists catalog (n ∷ ns) (p ∷ ps) e told =
+    → map (view_told catalog lists versions).told names ≡ map Some (map (λ place. rows_of (entry_told lists catalog place)) places)
+names_told lists versions catalog [] [] e told = refl
+names_told lists versions catalog [] (p ∷ ps) e told = absurd cc
+names_told lists versions catalog (n ∷ ns) [] e told = absurd cc
+names_told lists versions catalog (n ∷ ns) (p ∷ ps) e told =
     let here : entry_named catalog n ≡ Some p = cc in
     let rest : map (entry_named catalog) ns ≡ map Some ps = cc in
     let rows = rows_of (entry_told lists catalog p) in
-    ap (λ o. o ∷ map (view_told catalog lists).told ns) (told_once_at lists catalog (entry_named catalog n) p rows here (told p (contains_here p ps)))
-    ∙ ap (λ os. Some rows ∷ os) (names_told lists catalog ns ps rest (λ q c. told q (contains_there p ps q c)))
+    ap (λ o. o ∷ map (view_told catalog lists versions).told ns) (told_once_at lists catalog (entry_named catalog n) p rows here (told p (contains_here p ps)))
+    ∙ ap (λ os. Some rows ∷ os) (names_told lists versions catalog ns ps rest (λ q c. told q (contains_there p ps q c)))
 
 module _ (r : CatalogRun) (outcomes : List LineOutcome) (run : IsRun r outcomes) (tells : ShelfTellsTables r) where
   -- each source that the lines want is open and tells the rows of its place
@@ -210,26 +216,37 @@ module _ (r : CatalogRun) (outcomes : List LineOutcome) (run : IsRun r outcomes)
       go (opening_at run.openings place) refl (run.opened.each place (omega (arith, inside, all)))
     where
       go : (o : Opening) → opening_at run.openings place ≡ o
-          → IsOpening r.lists r.catalog run.sources (IsWanted r.catalog r.lines) r.before run.mid place o → IsToldOpen r run.openings run.sources place
+          → IsOpening r.lists r.versions r.catalog run.sources (IsWanted r.catalog r.lines) r.before run.mid place o → IsToldOpen r run.openings run.sources place
       go Closed is opening =
           let text = (entry_at r.catalog place).place in
           absurd (tells.untroubled place wanted (trouble_on (r.before text) (run.mid text) (r.after text) (opening wanted) (puts_at _ run.mid r.after text run.back)))
       go (Open size source version) is opening =
           let told = tells.told place wanted in
-          let at : IsSource r.lists r.catalog run.sources place size source = opening.1 in
+          let at : IsSource r.lists r.versions r.catalog run.sources place size source version = opening.1 in
           let told_as : IsToldAs (Some told.0) (slice_index_or run.sources.told source None) size =
           subst (λ o. IsToldAs o (slice_index_or run.sources.told source None) size) told.1 at.told in
-          record { rows = told.0; told = told.1; source = source; opens = is ∙ ap (λ n. Open n source) told_as.1; tells = told_as.0 }
+          let stated = tells.versions place wanted in
+          let at_version : IfSome (Some stated.0) (λ v. version ≡ v) = subst (λ o. IfSome o (λ v. version ≡ v)) stated.1 at.at.stated in
+          record {
+            rows = told.0;
+            told = told.1;
+            version = stated.0;
+            stated = stated.1;
+            source = source;
+            opens = is ∙ ap (λ n. Open n source version) told_as.1 ∙ ap (Open (length told.0) source) at_version;
+            tells = told_as.0;
+          }
 
   -- what a wanted list says of itself is what its rows say
   pub says_same : (place : ℕ) → IsWanted r.catalog r.lines place
-      → plain (listed_at r.catalog run.openings place) ≡ plain (told_listed r.lists r.catalog place)
+      → plain (listed_at r.catalog run.openings place) ≡ plain (told_listed r.lists r.versions r.catalog place)
   says_same place wanted =
       let o = told_open place wanted in
       let random = (entry_at r.catalog place).random in
-      let here : plain (listed_at r.catalog run.openings place) ≡ record { size = Some (length o.rows); random = random; source = 0 } = ap (λ p. plain (said_of random p)) o.opens in
-      let there : plain (told_listed r.lists r.catalog place) ≡ record { size = Some (length o.rows); random = random; source = 0 } =
-      ap (λ (t : Option (List Row)). record { size = option_map length t; random = random; source = 0 }) o.told in
+      let here : plain (listed_at r.catalog run.openings place) ≡ said_plain random (Some (length o.rows)) o.version = ap (λ p. plain (said_of random p)) o.opens in
+      let there : plain (told_listed r.lists r.versions r.catalog place) ≡ said_plain random (Some (length o.rows)) o.version =
+      ap (λ (t : Option (List Row)). said_plain random (option_map length t) (unwrap_or (entry_told r.versions r.catalog place) 0)) o.told
+      ∙ ap (λ (v : Option ℕ). said_plain random (Some (length o.rows)) (unwrap_or v 0)) o.stated in
       here ∙ sym there
 
   -- the lists that the sources tell, by their numbers
@@ -240,9 +257,9 @@ module _ (r : CatalogRun) (outcomes : List LineOutcome) (run : IsRun r outcomes)
   each_told source within =
       let place = slice_index_or run.sources.places source 0 in
       let n : IsNumbered r.catalog run.openings place source = run.opened.numbered source within in
-      let wanted = open_wanted r.lists r.catalog (IsWanted r.catalog r.lines) r.before run.mid run.openings run.sources run.opened source within in
+      let wanted = open_wanted r.lists r.versions r.catalog (IsWanted r.catalog r.lines) r.before run.mid run.openings run.sources run.opened source within in
       let o = told_open place wanted in
-      let same : Open n.size source ≡ Open (length o.rows) o.source = sym n.open_as ∙ o.opens in
+      let same : Open n.size source n.version ≡ Open (length o.rows) o.source o.version = sym n.open_as ∙ o.opens in
       let number : source ≡ o.source = cc in
       (o.rows, subst (λ k. slice_index_or run.sources.told k None ≡ Some o.rows) (sym number) o.tells)
 
@@ -251,13 +268,13 @@ module _ (r : CatalogRun) (outcomes : List LineOutcome) (run : IsRun r outcomes)
 
   -- what is said of the lists of a line is alike
   pub to_told : (at : ℕ) (bytes : List ℕ) → slice_get r.lines at ≡ Some bytes → at + 1 ≤ most_queries
-      → Alike bytes (by_place r.catalog (listed_at r.catalog run.openings)) (by_place r.catalog (told_listed r.lists r.catalog))
-  to_told at bytes line few = alike_places r.catalog r.lines (listed_at r.catalog run.openings) (told_listed r.lists r.catalog) at bytes line few says_same
+      → Alike bytes (by_place r.catalog (listed_at r.catalog run.openings)) (by_place r.catalog (told_listed r.lists r.versions r.catalog))
+  to_told at bytes line few = alike_places r.catalog r.lines (listed_at r.catalog run.openings) (told_listed r.lists r.versions r.catalog) at bytes line few says_same
 
   pub from_told : (at : ℕ) (bytes : List ℕ) → slice_get r.lines at ≡ Some bytes → at + 1 ≤ most_queries
-      → Alike bytes (by_place r.catalog (told_listed r.lists r.catalog)) (by_place r.catalog (listed_at r.catalog run.openings))
+      → Alike bytes (by_place r.catalog (told_listed r.lists r.versions r.catalog)) (by_place r.catalog (listed_at r.catalog run.openings))
   from_told at bytes line few =
-      alike_places r.catalog r.lines (told_listed r.lists r.catalog) (listed_at r.catalog run.openings) at bytes line few (λ place wanted. sym (says_same place wanted))
+      alike_places r.catalog r.lines (told_listed r.lists r.versions r.catalog) (listed_at r.catalog run.openings) at bytes line few (λ place wanted. sym (says_same place wanted))
 
   -- the lists of an admitted query are told and form a table
   pub has_lists : (at : ℕ) (bytes : List ℕ) (ready : ReadyQuery) → slice_get r.lines at ≡ Some bytes
@@ -269,10 +286,10 @@ module _ (r : CatalogRun) (outcomes : List LineOutcome) (run : IsRun r outcomes)
       let h = known_places r.catalog (listed_at r.catalog run.openings) q.names admitted.lists admitted.listed in
       let wanted = named_wanted r.catalog r.lines at bytes q h.places line few admitted.reads h.known in
       let D = map (rows_at r) h.places in
-      let told : map (view_told r.catalog r.lists).told q.names ≡ map Some D =
-      names_told r.lists r.catalog q.names h.places h.known (λ place c. let o = told_open place (wanted place c) in o.told ∙ ap Some (sym (ap rows_of o.told))) in
-      let none = none_alike V (view_told r.catalog r.lists) (at + 1) bytes (from_told at bytes line few) admission_causes
-      (λ c m. unseen_rows (view_told r.catalog r.lists) V c m) admitted.unrefused in
+      let told : map (view_told r.catalog r.lists r.versions).told q.names ≡ map Some D =
+      names_told r.lists r.versions r.catalog q.names h.places h.known (λ place c. let o = told_open place (wanted place c) in o.told ∙ ap Some (sym (ap rows_of o.told))) in
+      let none = none_alike V (view_told r.catalog r.lists r.versions) (at + 1) bytes (from_told at bytes line few) admission_causes
+      (λ c m. unseen_rows (view_told r.catalog r.lists r.versions) V c m) admitted.unrefused in
       let table = tells.tables at bytes line q D none admitted.reads told in
       let sizes : (place : ℕ) → Contains h.places place → (listed_at r.catalog run.openings place).size ≡ Some (length (rows_at r place)) =
       λ place c. let o = told_open place (wanted place c) in ap (λ p. (said_of (entry_at r.catalog place).random p).size) o.opens ∙ ap (λ (rows : List Row). Some (length rows)) (sym (ap rows_of o.told)) in
@@ -315,7 +332,7 @@ module _ (r : CatalogRun) (outcomes : List LineOutcome) (run : IsRun r outcomes)
       let place = slice_index_or run.sources.places source 0 in
       let text = (entry_at r.catalog place).place in
       let some : 1 ≤ (counts_at run.now source).moves = omega (arith, up) in
-      tells.unmoved place (open_wanted r.lists r.catalog (IsWanted r.catalog r.lines) r.before run.mid run.openings run.sources run.opened source within)
+      tells.unmoved place (open_wanted r.lists r.versions r.catalog (IsWanted r.catalog r.lines) r.before run.mid run.openings run.sources run.opened source within)
       (moved_from (r.before text) (run.mid text) (r.after text) (moves_at run.opened.used r.before run.mid text run.opened.moves)
       (rose_moves _ run.mid r.after text _ run.back (counted_back r.catalog run.sources.places run.now source within inside) some))
 

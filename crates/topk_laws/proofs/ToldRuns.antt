@@ -65,10 +65,13 @@ tells_since : (s : Settings) (catalog : List Entry) (ls : List (List ℕ)) (plac
     → ShelfTellsTables (lines_run s catalog ls before after) → ShelfTellsTables (lines_run s catalog ls given after)
 tells_since s catalog ls place before given after asked tells =
     let lists : before.lists ≡ given.lists = sym (λ i at. asked.tells.lists at i) in
-    let moved : ShelfTellsTables (lines_run s catalog ls (record before { lists = given.lists }) after) =
-    subst (λ l. ShelfTellsTables (lines_run s catalog ls (record before { lists = l }) after)) lists tells in
+    let versions : before.versions ≡ given.versions = sym (λ i at. asked.tells.versions at i) in
+    let moved : ShelfTellsTables (lines_run s catalog ls (record before { lists = given.lists; versions = given.versions }) after) =
+    subst (λ v. ShelfTellsTables (lines_run s catalog ls (record before { lists = given.lists; versions = v }) after)) versions
+    (subst (λ l. ShelfTellsTables (lines_run s catalog ls (record before { lists = l }) after)) lists tells) in
     record {
       told = moved.told;
+      versions = moved.versions;
       tables = moved.tables;
       untroubled = λ entry wanted trouble. moved.untroubled entry wanted (trouble_at place before given (after.at (entry_at catalog entry).place) (entry_at catalog entry).place asked trouble);
       unmoved = λ entry wanted rose. moved.unmoved entry wanted (moved_at place before given (after.at (entry_at catalog entry).place) (entry_at catalog entry).place asked rose);
@@ -76,7 +79,7 @@ tells_since s catalog ls place before given after asked tells =
 
 -- what lines come to where all is told
 abbrev pub ComeToOne : Type 0
-ComeToOne = (r : CatalogRun) (outcomes : List LineOutcome) → IsRun r outcomes → ShelfTellsTables r → AllBecome (view_told r.catalog r.lists) 1 r.lines outcomes
+ComeToOne = (r : CatalogRun) (outcomes : List LineOutcome) → IsRun r outcomes → ShelfTellsTables r → AllBecome (view_told r.catalog r.lists r.versions) 1 r.lines outcomes
 
 -- the reply to lines where all is told
 replied : ComeToOne → (o : RunOptions) (c : Call) (status : Status) (catalog : List Entry) (bytes text : List ℕ) (given : Shelf) (said : List ℕ)
@@ -91,15 +94,17 @@ replied one o c status catalog bytes text given said all gives r wrote =
     subst (λ k. ShelfTellsTables (lines_run o.settings k (lines r.bytes) given c.after.shelf)) (sym same_catalog)
     (subst (λ b. ShelfTellsTables (lines_run o.settings catalog (lines b) given c.after.shelf)) (sym same_bytes)
     (tells_since o.settings catalog (lines bytes) o.catalog c.before.shelf given c.after.shelf gives.asked all.tables)) in
-    let become : AllBecome (view_told r.replies.catalog given.lists) 1 (lines r.bytes) r.replies.outcomes =
+    let become : AllBecome (view_told r.replies.catalog given.lists given.versions) 1 (lines r.bytes) r.replies.outcomes =
     one (lines_run o.settings r.replies.catalog (lines r.bytes) given c.after.shelf) r.replies.outcomes r.replies.run tables in
     let lists : given.lists ≡ c.before.shelf.lists = λ i at. gives.asked.tells.lists at i in
-    let comes : ComeTo catalog c.before.shelf.lists (lines bytes) status said = record {
+    let versions : given.versions ≡ c.before.shelf.versions = λ i at. gives.asked.tells.versions at i in
+    let comes : ComeTo catalog c.before.shelf.lists c.before.shelf.versions (lines bytes) status said = record {
       outcomes = r.replies.outcomes;
       become =
-          subst (λ l. AllBecome (view_told catalog l) 1 (lines bytes) r.replies.outcomes) lists
-          (subst (λ k. AllBecome (view_told k given.lists) 1 (lines bytes) r.replies.outcomes) same_catalog
-          (subst (λ b. AllBecome (view_told r.replies.catalog given.lists) 1 (lines b) r.replies.outcomes) same_bytes become));
+          subst (λ l. AllBecome (view_told catalog l c.before.shelf.versions) 1 (lines bytes) r.replies.outcomes) lists
+          (subst (λ v. AllBecome (view_told catalog given.lists v) 1 (lines bytes) r.replies.outcomes) versions
+          (subst (λ k. AllBecome (view_told k given.lists given.versions) 1 (lines bytes) r.replies.outcomes) same_catalog
+          (subst (λ b. AllBecome (view_told r.replies.catalog given.lists given.versions) 1 (lines b) r.replies.outcomes) same_bytes become)));
       status_is = r.replies.status_is;
       text_is = r.replies.said_is;
     } in
@@ -136,7 +141,9 @@ wrote_same : (o p : RunOptions) (c d : Call) (status other : Status) (catalog : 
     → WritesTheOne c catalog bytes status → WritesTheOne d catalog bytes other → WroteTheSame c d status other
 wrote_same o p c d status other catalog bytes tell one two =
     let lists : d.before.shelf.lists ≡ c.before.shelf.lists = λ i at. tell.lists at i in
-    let same = one.only other two.text (subst (λ l. ComeTo catalog l (lines bytes) other two.text) lists two.comes) in
+    let versions : d.before.shelf.versions ≡ c.before.shelf.versions = λ i at. tell.versions at i in
+    let same = one.only other two.text (subst (λ v. ComeTo catalog c.before.shelf.lists v (lines bytes) other two.text) versions
+    (subst (λ l. ComeTo catalog l d.before.shelf.versions (lines bytes) other two.text) lists two.comes)) in
     record { text = one.text; one = one.wrote; two = subst (WroteWhole d) same.1 two.wrote; status_is = sym same.0 }
 
 pub settings_nothing : ToldRunsWriteTheOne → SettingsChangeNothing

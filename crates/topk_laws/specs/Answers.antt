@@ -20,4 +20,4 @@ IsRightLine o = (answer : Answer) → o.outcome ≡ Answered answer → (query :
 abbrev pub IsOneOverTold : CatalogRun → LineOutcome → Type 0
 IsOneOverTold r o =
     (query : Query) (answer : Answer) (D : List (List Row)) → o.query ≡ Some query → o.outcome ≡ Answered answer
-    → AreTold (view_told r.catalog r.lists) query D → IsTable o.count D → IsOneAnswer query D answer
+    → AreTold (view_told r.catalog r.lists r.versions) query D → IsTable o.count D → IsOneAnswer query D answer

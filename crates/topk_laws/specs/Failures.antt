@@ -1,6 +1,6 @@
 -- What stands behind the refusals of lists that failed: the counts of their places on the shelf.
 use Rattle.std.specs.Prelude.{◌≡◌, ◌≤◌, ◌⊎◌, ◌*◌, ◌-◌, ◌^◌, ◌&&◌, ℕ, Bool, true, false}
-use Rattle.std.specs.Prelude.{List, Option, None, Some, option_map, slice_get, count_by}
+use Rattle.std.specs.Prelude.{List, Option, None, Some, option_map, slice_get, slice_index_or, count_by}
 use Rattle.std.specs.Option.{option_and_then}
 use Rattle.std.specs.Str.{bytes_eq}
 use Rattle.tk_io.specs.Faults.{Rose}
@@ -38,7 +38,12 @@ HasRisen before mid after (Garbled list) = Rose mid.sources.garbles after.source
 HasRisen before mid after (Moved list had now) = Rose mid.sources.moves after.sources.moves
 HasRisen before mid after other = Unit {0}
 
--- the outcome comes with the query that has this list, and in a run whose sources had been opened when so much was counted the count behind the
+-- a refusal for a replaced list names this version as the one that the list had
+abbrev pub NamesVersion : ℕ → Refusal → Type 0
+NamesVersion version (Moved list had now) = had ≡ version
+NamesVersion version other = Unit {0}
+
+-- the outcome comes with the query that has this list, a replaced one names its version at opening, and in a run whose sources had been opened when so much was counted the count behind the
 -- refusal rose at the list's place
 pub record HasFailedAt (r : CatalogRun) (mid : Counted) (o : LineOutcome) (refusal : Refusal) (list : ℕ) : Type 0 where
   pub query : Query
@@ -46,6 +51,7 @@ pub record HasFailedAt (r : CatalogRun) (mid : Counted) (o : LineOutcome) (refus
   pub place : List ℕ
   pub place_is : place_at r.catalog query list ≡ Some place
   pub risen : HasRisen (r.before place) (mid place) (r.after place) refusal
+  pub had : NamesVersion (slice_index_or o.versions list 0) refusal
 
 -- where a line is refused for a list that wasn't opened, failed, was garbled or was replaced, the count behind that rose: in the opening, or in the running
 abbrev pub HasFailure : CatalogRun → Counted → LineOutcome → Type 0

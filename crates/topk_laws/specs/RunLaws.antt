@@ -55,10 +55,11 @@ pub record TellsAll (o : RunOptions) (c : Call) (catalog : List Entry) (bytes : 
   pub reads : ¬ Rose c.before.input.faults c.after.input.faults
   pub writes : ¬ Rose c.before.output.faults c.after.output.faults
 
--- what lines come to over the lists that are told: the text is that of what each line becomes, and the status is done exactly where each is answered
-pub record ComeTo (catalog : List Entry) (lists : List ℕ → Option (List Row)) (lines : List (List ℕ)) (status : Status) (text : List ℕ) : Type 0 where
+-- what lines come to over the lists that are told, at their versions: the text is that of what each line becomes, and the status is done exactly where each is answered
+pub record ComeTo (catalog : List Entry) (lists : List ℕ → Option (List Row)) (versions : List ℕ → Option ℕ) (lines : List (List ℕ)) (status : Status)
+    (text : List ℕ) : Type 0 where
   pub outcomes : List LineOutcome
-  pub become : AllBecome (view_told catalog lists) 1 lines outcomes
+  pub become : AllBecome (view_told catalog lists versions) 1 lines outcomes
   pub status_is : status ≡ run_status outcomes
   pub text_is : text ≡ outcomes_text 1 outcomes
 
@@ -66,8 +67,8 @@ pub record ComeTo (catalog : List Entry) (lists : List ℕ → Option (List Row)
 pub record WritesTheOne (c : Call) (catalog : List Entry) (bytes : List ℕ) (status : Status) : Type 0 where
   pub text : List ℕ
   pub wrote : WroteWhole c text
-  pub comes : ComeTo catalog c.before.shelf.lists (lines bytes) status text
-  pub only : (other : Status) (said : List ℕ) → ComeTo catalog c.before.shelf.lists (lines bytes) other said → (other ≡ status) × (said ≡ text)
+  pub comes : ComeTo catalog c.before.shelf.lists c.before.shelf.versions (lines bytes) status text
+  pub only : (other : Status) (said : List ℕ) → ComeTo catalog c.before.shelf.lists c.before.shelf.versions (lines bytes) other said → (other ≡ status) × (said ≡ text)
 
 -- where all is told and nothing fails, a run writes the one text, whatever its settings, unless memory is wanting
 abbrev pub ToldRunsWriteTheOne : Type 0
@@ -75,11 +76,12 @@ ToldRunsWriteTheOne =
     (o : RunOptions) (c : Call) (status : Status) (catalog : List Entry) (bytes : List ℕ) → TellsAll o c catalog bytes → CallEnds c status
     → (status ≡ Memory) ⊎ WritesTheOne c catalog bytes status
 
--- for two runs the same is told: of the same catalog and the same bytes, by shelves that tell the same lists
+-- for two runs the same is told: of the same catalog and the same bytes, by shelves that tell the same lists at the same versions
 pub record TellTheSame (o p : RunOptions) (c d : Call) (catalog : List Entry) (bytes : List ℕ) : Type 0 where
   pub one : TellsAll o c catalog bytes
   pub other : TellsAll p d catalog bytes
   pub lists : SameAtEach c.before.shelf.lists d.before.shelf.lists
+  pub versions : SameAtEach c.before.shelf.versions d.before.shelf.versions
 
 -- two runs wrote one text and ended with one status
 pub record WroteTheSame (c d : Call) (status other : Status) : Type 0 where

@@ -17,7 +17,7 @@ use batch_result::queries_are_on_their_runs;
 /// or answered by the one answer of its query. The settings don't change it.
 pub fn told_tables_give_the_one_outcome()
     ensures { (r : CatalogRun) (outcomes : List AnyOutcome) → IsRun r outcomes → ShelfTellsTables r
-        → AllBecome (view_told r.catalog r.lists) 1 r.lines outcomes }
+        → AllBecome (view_told r.catalog r.lists r.versions) 1 r.lines outcomes }
 {
     queries_are_on_their_runs();
 }
@@ -36,6 +36,7 @@ pub fn answers_over_told_tables_are_the_one()
 
 /// A line is refused for a list that wasn't opened only where the count behind that rose at the list's place on the shelf while the sources
 /// were opened, and for a list that failed, was garbled or was replaced only where it rose there while the lines ran; or it stands at its last value.
+/// A line that is refused for a replaced list names the version that the list had when it was opened.
 pub fn failed_lists_have_causes()
     ensures { (r : CatalogRun) (outcomes : List AnyOutcome) → (run : IsRun r outcomes) → All (HasFailure r run.mid) outcomes }
 {}

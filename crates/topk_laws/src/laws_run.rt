@@ -12,7 +12,7 @@ pub fn wrong_catalogs_are_refused()
     ensures { WrongCatalogsAreRefused }
 {}
 
-/// Where the catalog's text, the input and the lists of the sources that the lines want are told, these form a table for
+/// Where the catalog's text, the input and the lists of the sources that the lines want are told with their versions, these form a table for
 /// each line, and no call fails, a run writes the one text: that of the first refusal that holds of each line, or of the one
 /// answer of its query. The lines come to no other text over these lists, and to no other status.
 pub fn told_runs_write_the_one_text()
@@ -21,7 +21,7 @@ pub fn told_runs_write_the_one_text()
     told_tables_give_the_one_outcome();
 }
 
-/// Two such runs of the same lines over the same lists write the same text and end with the same status, however many workers
+/// Two such runs of the same lines over the same lists at the same versions write the same text and end with the same status, however many workers
 /// run the queries, whatever the rows of a page are and what is read ahead, and in whatever order the threads go on.
 pub fn settings_change_nothing()
     ensures { SettingsChangeNothing }

@@ -45,7 +45,7 @@ pub fn top<W: Threads + Wait + Sync, H: Shelf, R: Intake, K: Sink>(
 ) -> Status
     ensures reads { R.faults input.old ≤ R.faults input.new }
     ensures writes { K.faults out.old ≤ K.faults out.new }
-    ensures ends { CallEnds (call_of R.left R.faults K.held K.faults H.texts H.lists H.at words.now
+    ensures ends { CallEnds (call_of R.left R.faults K.held K.faults H.texts H.lists H.versions H.at words.now
         (input.old, out.old, shelf.old) (input.new, out.new, shelf.new)) result }
 {
     match read_command(alloc, words) {

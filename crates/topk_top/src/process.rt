@@ -26,7 +26,7 @@ pub fn run_process<W: Threads + Wait + Sync, E: Env, H: Shelf, R: Intake, K: Sin
     input: &mut R,
     out: &mut K,
 ) -> u8
-    ensures { (words : List (List ℕ)) × ExitsBy (call_of R.left R.faults K.held K.faults H.texts H.lists H.at words
+    ensures { (words : List (List ℕ)) × ExitsBy (call_of R.left R.faults K.held K.faults H.texts H.lists H.versions H.at words
         (input.old, out.old, shelf.old) (input.new, out.new, shelf.new)) result }
 {
     let words = match read_words(env, alloc) {

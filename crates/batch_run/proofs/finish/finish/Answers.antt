@@ -39,14 +39,14 @@ close-states-requires-clause-whole g c =
 pub use_all-requires-clause-states : goal.use_all-requires-clause-states
 use_all-requires-clause-states g c κs within =
     let can = c.requires.4 in
-    c.close-states.ensures.size ∙ (can.ran.base.size ∙ (sym can.ran.slots.1 ∙ states_long g.S.Source.list g.S.Source.counts c.args.slots.now))
+    c.close-states.ensures.size ∙ (can.ran.base.size ∙ (sym can.ran.slots.1 ∙ states_long g.S.Source.list g.S.Source.counts g.S.Source.at_hand c.args.slots.now))
 
 pub use_all-requires-clause-room : goal.use_all-requires-clause-room
 use_all-requires-clause-room g c κs within =
     let can = c.requires.4 in
     let room = can.ran.uses.1 in
     let many = can.ran.slots.1 in
-    let long = states_long g.S.Source.list g.S.Source.counts c.args.slots.now in
+    let long = states_long g.S.Source.list g.S.Source.counts g.S.Source.at_hand c.args.slots.now in
     omega (arith, room, many, long)
 
 pub make-requires-clause-uses : goal.make-requires-clause-uses
@@ -54,7 +54,7 @@ make-requires-clause-uses g c =
     let can = c.requires.4 in
     let few = can.few.1 in
     let many = can.ran.slots.1 in
-    let long = states_long g.S.Source.list g.S.Source.counts c.args.slots.now in
+    let long = states_long g.S.Source.list g.S.Source.counts g.S.Source.at_hand c.args.slots.now in
     let used = c.use_all.ensures.size in
     let items = c.use_all.new.uses.ok.0 in
     omega (arith, few, many, long, used, items)
@@ -63,7 +63,7 @@ pub returns : goal.returns
 returns g c settings counts readies before can =
     let pool = c.args.crew.pool in
     let workers = c.args.crew.workers.items in
-    let after = states_of g.S.Source.list g.S.Source.counts c.args.slots.now in
+    let after = states_of g.S.Source.list g.S.Source.counts g.S.Source.at_hand c.args.slots.now in
     let size = can.ran.size in
     let left = left_as pool settings counts readies workers size can.ran.each in
     let situation : Situation pool settings counts readies before after workers c.args.crew.pass c.rejoin.new.pass c.args.crew.feeders.items c.close-states.result c.use_all.new.uses.items =
@@ -77,8 +77,8 @@ returns g c settings counts readies before can =
       fetched = can.ran.fetched;
       rejoins = subst (λ ps. Rejoins pool ps c.args.crew.pass c.rejoin.new.pass) c.gather.ensures.passes c.rejoin.ensures;
       closed = subst (λ feeds. AreClosed pool c.rejoin.new.pass feeds c.close-states.result) c.from_vec.ensures c.close-states.ensures;
-      uses_many = c.use_all.ensures.size ∙ (sym (states_long g.S.Source.list g.S.Source.counts c.args.slots.now) ∙ can.ran.slots.1);
-      used = λ source l. c.use_all.ensures.each source (let e = can.ran.slots.1 in let m = states_long g.S.Source.list g.S.Source.counts c.args.slots.now in omega (arith, l, e, m));
+      uses_many = c.use_all.ensures.size ∙ (sym (states_long g.S.Source.list g.S.Source.counts g.S.Source.at_hand c.args.slots.now) ∙ can.ran.slots.1);
+      used = λ source l. c.use_all.ensures.each source (let e = can.ran.slots.1 in let m = states_long g.S.Source.list g.S.Source.counts g.S.Source.at_hand c.args.slots.now in omega (arith, l, e, m));
     } in
     let p = all_ends pool counts readies workers left (none_short workers can.enough) in
     let batch = is_batch pool settings counts readies before after workers c.args.crew.pass c.rejoin.new.pass c.args.crew.feeders.items c.close-states.result c.use_all.new.uses.items situation p in

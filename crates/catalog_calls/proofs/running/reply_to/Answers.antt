@@ -10,8 +10,8 @@ use Rattle.catalog_calls.proofs.running.reply_to.Goals as goal
 
 pub returns-in-Ok-clause-ends : goal.returns-in-Ok-clause-ends
 returns-in-Ok-clause-ends g c = λ words text before after is read.
-    let shelf : Shelf = shelf_at (g.H.Shelf.texts c.args.shelf.now) (g.H.Shelf.lists c.args.shelf.now) (g.H.Shelf.at c.args.shelf.now) in
-    let shelf_after : Shelf = shelf_at (g.H.Shelf.texts c.run_text.new.shelf) (g.H.Shelf.lists c.run_text.new.shelf) (g.H.Shelf.at c.run_text.new.shelf) in
+    let shelf : Shelf = shelf_at (g.H.Shelf.texts c.args.shelf.now) (g.H.Shelf.lists c.args.shelf.now) (g.H.Shelf.versions c.args.shelf.now) (g.H.Shelf.at c.args.shelf.now) in
+    let shelf_after : Shelf = shelf_at (g.H.Shelf.texts c.run_text.new.shelf) (g.H.Shelf.lists c.run_text.new.shelf) (g.H.Shelf.versions c.run_text.new.shelf) (g.H.Shelf.at c.run_text.new.shelf) in
     let call : Call = call_at words (outside_of before (output_as g.K.Sink.held g.K.Sink.faults c.args.out.now) shelf) (outside_of after (output_as g.K.Sink.held g.K.Sink.faults c.write_outcomes-status.new.out) shelf_after) in
     let outcomes = c.in-Ok.outcomes.items in
     ends_lines c.args.settings text (outcomes_text 1 outcomes) call outcomes c.write_outcomes-status.result

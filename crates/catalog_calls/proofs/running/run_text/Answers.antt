@@ -8,7 +8,7 @@ use Rattle.catalog_calls.proofs.RunEnding.{takes_none}
 use Rattle.catalog_calls.proofs.running.run_text.Goals as goal
 
 pub returns-in_err-lines-clause-takes : goal.returns-in_err-lines-clause-takes
-returns-in_err-lines-clause-takes g c = takes_none c.args.catalog.now (lines c.args.text.now) (shelf_as g.H.Shelf.texts g.H.Shelf.lists g.H.Shelf.at c.args.shelf.now)
+returns-in_err-lines-clause-takes g c = takes_none c.args.catalog.now (lines c.args.text.now) (shelf_as g.H.Shelf.texts g.H.Shelf.lists g.H.Shelf.versions g.H.Shelf.at c.args.shelf.now)
 
 pub returns-clause-takes : goal.returns-clause-takes
 returns-clause-takes g c =
@@ -18,7 +18,7 @@ returns-clause-takes g c =
     let same : map (λ line. line.now) c.deref.result.now ≡ lines c.args.text.now =
     ap (λ (found : List (Bor (List ℕ))). map (λ line. line.now) found) c.deref.ensures.value ∙ c.in_ok-lines.ensures in
     record {
-      tells = record { texts = c.run_lines.ensures.texts; lists = c.run_lines.ensures.lists };
+      tells = record { texts = c.run_lines.ensures.texts; lists = c.run_lines.ensures.lists; versions = c.run_lines.ensures.versions };
       used = c.run_lines.ensures.moves.0;
       moves = c.run_lines.ensures.moves.1;
       few = subst (λ ls. AsksWantedAtMostOnce catalog ls before now) same c.run_lines.ensures.few;

@@ -10,6 +10,7 @@ pub loop-slot-init : goal.loop-slot-init
 loop-slot-init g c = record {
   texts = λ place. refl;
   lists = λ place. refl;
+  versions = λ place. refl;
   known = c.requires.known;
   idle = c.requires.idle;
   few = let many = c.requires.many in omega arith;
@@ -34,6 +35,7 @@ loop-slot-preserved g c =
     record {
       texts = λ other. c.put_back.ensures.texts other ∙ inv.texts other;
       lists = λ other. c.put_back.ensures.lists other ∙ inv.lists other;
+      versions = λ other. c.put_back.ensures.versions other ∙ inv.versions other;
       known = known_on c.args.catalog.now (g.H.Shelf.knows c.loop-slot.shelf) (g.H.Shelf.knows c.put_back.new.self) c.args.places.now c.put_back.ensures.known inv.known;
       idle = idle_rest c.loop-slot.slots.items c.pop.new.self.items c.in-Some.slot inv.idle c.in-Some.ensures.items;
       few = omega (arith, inside);

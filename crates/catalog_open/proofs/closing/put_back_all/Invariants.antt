@@ -10,6 +10,7 @@ abbrev pub invariant-loop-slot : goal.invariant-loop-slot
 invariant-loop-slot g l = record {
   texts : SameAtEach (g.H.Shelf.texts l.fn.shelf) (g.H.Shelf.texts l.shelf);
   lists : SameAtEach (g.H.Shelf.lists l.fn.shelf) (g.H.Shelf.lists l.shelf);
+  versions : SameAtEach (g.H.Shelf.versions l.fn.shelf) (g.H.Shelf.versions l.shelf);
   known : All (IsKnownAt l.catalog (g.H.Shelf.knows l.shelf)) l.places;
   idle : All IsIdle l.slots.items;
   few : length l.slots.items ≤ length l.places;

@@ -8,6 +8,7 @@ pub returns-in-Failed : goal.returns-in-Failed
 returns-in-Failed g c = record {
   texts = c.put_back.ensures.texts;
   lists = c.put_back.ensures.lists;
+  versions = c.put_back.ensures.versions;
   known = c.put_back.ensures.known;
   elsewhere = c.put_back.ensures.elsewhere;
   back = put_unread _ _ _ _ _ c.put_back.ensures.counts c.requires.knows c.requires.fresh c.size.ensures.given;
@@ -20,6 +21,7 @@ pub returns-in-Garbled : goal.returns-in-Garbled
 returns-in-Garbled g c = record {
   texts = c.put_back.ensures.texts;
   lists = c.put_back.ensures.lists;
+  versions = c.put_back.ensures.versions;
   known = c.put_back.ensures.known;
   elsewhere = c.put_back.ensures.elsewhere;
   back = put_unread _ _ _ _ _ c.put_back.ensures.counts c.requires.knows c.requires.fresh c.size.ensures.given;
@@ -32,6 +34,7 @@ pub returns-in-Memory : goal.returns-in-Memory
 returns-in-Memory g c = record {
   texts = c.put_back.ensures.texts;
   lists = c.put_back.ensures.lists;
+  versions = c.put_back.ensures.versions;
   known = c.put_back.ensures.known;
   elsewhere = c.put_back.ensures.elsewhere;
   back = put_unread _ _ _ _ _ c.put_back.ensures.counts c.requires.knows c.requires.fresh c.size.ensures.given;

@@ -14,15 +14,17 @@ returns-in-Ok g c =
     record {
       texts = λ other. c.ask_size.ensures.texts other ∙ c.take.ensures.texts other;
       lists = λ other. c.ask_size.ensures.lists other ∙ c.take.ensures.lists other;
+      versions = λ other. c.ask_size.ensures.versions other ∙ c.take.ensures.versions other;
       known = λ other is. c.ask_size.ensures.known other (c.take.ensures.known other is);
       elsewhere = λ other apart. c.ask_size.ensures.elsewhere other apart ∙ c.take.ensures.elsewhere other apart;
       back = gives_then before mid now (took_nothing before mid c.take.ensures.counts) c.ask_size.ensures.back;
       unread = c.ask_size.ensures.unread;
-      opens = asked c.ask_size.result (λ taken. g.H.Item.Source.list taken.source) (λ taken. taken.size) before mid now (g.H.Shelf.knows c.ask_size.new.shelf c.args.place.now ≡ true) (g.H.Shelf.lists c.args.shelf.now c.args.place.now) (g.H.Item.Source.list c.in-Ok.source)
-          (take_moves before mid c.take.ensures.counts) c.in-Ok.ensures.taken (c.ask_size.ensures.known c.args.place.now c.in-Ok.ensures.knows) c.in-Ok.ensures.list c.ask_size.ensures.opens;
+      opens = asked c.ask_size.result (λ taken. g.H.Item.Source.list taken.source) (λ taken. taken.size) (λ taken. g.H.Item.Source.at_hand taken.source) (λ taken. taken.version) before mid now (g.H.Shelf.knows c.ask_size.new.shelf c.args.place.now ≡ true) (g.H.Shelf.lists c.args.shelf.now c.args.place.now) (g.H.Item.Source.list c.in-Ok.source)
+          (g.H.Shelf.versions c.args.shelf.now c.args.place.now) (g.H.Item.Source.states c.in-Ok.source)
+          (take_moves before mid c.take.ensures.counts) c.in-Ok.ensures.taken (c.ask_size.ensures.known c.args.place.now c.in-Ok.ensures.knows) c.in-Ok.ensures.list c.in-Ok.ensures.version c.ask_size.ensures.opens;
       short = asked_short c.ask_size.result before mid now c.in-Ok.ensures.taken c.ask_size.ensures.short;
-      asks = asked_once c.ask_size.result (λ taken. g.H.Item.Source.list taken.source) (λ taken. taken.size) before mid now (g.H.Item.Source.list c.in-Ok.source)
-          c.in-Ok.ensures.taken c.ask_size.ensures.opens;
+      asks = asked_once c.ask_size.result (λ taken. g.H.Item.Source.list taken.source) (λ taken. taken.size) (λ taken. g.H.Item.Source.at_hand taken.source) (λ taken. taken.version) before mid now (g.H.Item.Source.list c.in-Ok.source)
+          (g.H.Item.Source.states c.in-Ok.source) c.in-Ok.ensures.taken c.ask_size.ensures.opens;
       few = asked_few c.ask_size.result before mid now c.in-Ok.ensures.taken c.ask_size.ensures.short;
     }
 
@@ -33,6 +35,7 @@ returns-in-Err-Memory g c =
     record {
       texts = c.take.ensures.texts;
       lists = c.take.ensures.lists;
+      versions = c.take.ensures.versions;
       known = c.take.ensures.known;
       elsewhere = c.take.ensures.elsewhere;
       back = took_nothing before mid c.take.ensures.counts;
@@ -53,6 +56,7 @@ returns-in-Err-Failed g c =
     record {
       texts = c.take.ensures.texts;
       lists = c.take.ensures.lists;
+      versions = c.take.ensures.versions;
       known = c.take.ensures.known;
       elsewhere = c.take.ensures.elsewhere;
       back = took_nothing before mid c.take.ensures.counts;
@@ -70,6 +74,7 @@ returns-in-Err-Garbled g c =
     record {
       texts = c.take.ensures.texts;
       lists = c.take.ensures.lists;
+      versions = c.take.ensures.versions;
       known = c.take.ensures.known;
       elsewhere = c.take.ensures.elsewhere;
       back = took_nothing before mid c.take.ensures.counts;

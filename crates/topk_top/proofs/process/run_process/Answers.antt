@@ -13,7 +13,7 @@ pub returns-in-Err-Memory : goal.returns-in-Err-Memory
 returns-in-Err-Memory g c =
     let left = g.R.Intake.left c.args.input.now in
     let held = g.K.Sink.held c.args.out.now in
-    let shelf : Shelf = shelf_at (g.H.Shelf.texts c.args.shelf.now) (g.H.Shelf.lists c.args.shelf.now) (g.H.Shelf.at c.args.shelf.now) in
+    let shelf : Shelf = shelf_at (g.H.Shelf.texts c.args.shelf.now) (g.H.Shelf.lists c.args.shelf.now) (g.H.Shelf.versions c.args.shelf.now) (g.H.Shelf.at c.args.shelf.now) in
     let outside : Outside = outside_at left (g.R.Intake.faults c.args.input.now) held (g.K.Sink.faults c.args.out.now) shelf in
     let ends = ends_without_memory (command_of []) (call_at [] outside outside) refl
     (record { left = Keeps-refl left; faults = refl }) (record { held = Keeps-refl held; faults = refl }) in

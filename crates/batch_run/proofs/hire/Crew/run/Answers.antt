@@ -17,16 +17,16 @@ run_sides-requires-clause-feeders g c κs within =
     let size = new.1.hiring.base.size in
     let many = new.2 in
     let before = c.args.slots.now in
-    all_fed g.S.Source.list g.S.Source.counts c.args.self.now.pool c.args.self.now.feeders.items before.items (came_back before.len before.items c.lend.new.slots)
+    all_fed g.S.Source.list g.S.Source.counts g.S.Source.at_hand c.args.self.now.pool c.args.self.now.feeders.items before.items (came_back before.len before.items c.lend.new.slots)
     (omega (arith, feeders, size, many)) new.1.feeders
-    (lent_slots g.S.Source.list g.S.Source.counts before.len c.args.self.now.feeders.items before.items c.as_mut_slice.result.now c.lend.new.slots before.ok.0
+    (lent_slots g.S.Source.list g.S.Source.counts g.S.Source.at_hand before.len c.args.self.now.feeders.items before.items c.as_mut_slice.result.now c.lend.new.slots before.ok.0
     c.as_mut_slice.ensures.value c.lend.ensures.lent)
 
 pub run_sides-requires-clause-fresh : goal.run_sides-requires-clause-fresh
 run_sides-requires-clause-fresh g c κs within =
     let before = c.args.slots.now in
-    all_fresh g.S.Source.list g.S.Source.counts c.args.self.now.feeders.items before.items (came_back before.len before.items c.lend.new.slots)
-    (lent_slots g.S.Source.list g.S.Source.counts before.len c.args.self.now.feeders.items before.items c.as_mut_slice.result.now c.lend.new.slots before.ok.0
+    all_fresh g.S.Source.list g.S.Source.counts g.S.Source.at_hand c.args.self.now.feeders.items before.items (came_back before.len before.items c.lend.new.slots)
+    (lent_slots g.S.Source.list g.S.Source.counts g.S.Source.at_hand before.len c.args.self.now.feeders.items before.items c.as_mut_slice.result.now c.lend.new.slots before.ok.0
     c.as_mut_slice.ensures.value c.lend.ensures.lent)
 
 pub run_sides-requires-clause-many : goal.run_sides-requires-clause-many
@@ -35,19 +35,19 @@ run_sides-requires-clause-many g c κs within =
     let size = new.1.hiring.base.size in
     let many = new.2 in
     let before = c.args.slots.now in
-    let given = lent_slots g.S.Source.list g.S.Source.counts before.len c.args.self.now.feeders.items before.items c.as_mut_slice.result.now c.lend.new.slots before.ok.0
+    let given = lent_slots g.S.Source.list g.S.Source.counts g.S.Source.at_hand before.len c.args.self.now.feeders.items before.items c.as_mut_slice.result.now c.lend.new.slots before.ok.0
     c.as_mut_slice.ensures.value c.lend.ensures.lent in
     given.size ∙ (sym many ∙ sym size)
 
 pub take_back-requires-clause-full : goal.take_back-requires-clause-full
 take_back-requires-clause-full g c κs within =
     subst (All (λ slot. is_some slot.feeder ≡ true)) (sym c.as_mut_slice-2.ensures.value)
-    (all_full g.S.Source.list g.S.Source.counts c.args.self.now.pool c.args.settings _ c.run_sides.new.slots.items c.run_sides.ensures.fetched)
+    (all_full g.S.Source.list g.S.Source.counts g.S.Source.at_hand c.args.self.now.pool c.args.settings _ c.run_sides.new.slots.items c.run_sides.ensures.fetched)
 
 pub returns-clause-empty : goal.returns-clause-empty
 returns-clause-empty g c =
     let fetched = c.run_sides.new.slots in
-    empty_slots g.S.Source.list g.S.Source.counts fetched.len c.take_back.new.feeders.items fetched.items c.as_mut_slice-2.result.now c.take_back.new.slots fetched.ok.0
+    empty_slots g.S.Source.list g.S.Source.counts g.S.Source.at_hand fetched.len c.take_back.new.feeders.items fetched.items c.as_mut_slice-2.result.now c.take_back.new.slots fetched.ok.0
     c.as_mut_slice-2.ensures.value c.take_back.ensures.back c.take_back.ensures.empty
 
 pub returns-clause-ran : goal.returns-clause-ran
@@ -59,12 +59,12 @@ returns-clause-ran g c counts new ready =
     let same = here.1.hiring.base.size in
     let before = c.args.slots.now in
     let fetched = c.run_sides.new.slots in
-    let all = all_fetched g.S.Source.list g.S.Source.counts pool c.args.settings counts c.args.self.now.feeders.items c.take_back.new.feeders.items before.items
+    let all = all_fetched g.S.Source.list g.S.Source.counts g.S.Source.at_hand pool c.args.settings counts c.args.self.now.feeders.items c.take_back.new.feeders.items before.items
     (came_back before.len before.items c.lend.new.slots) fetched.items (came_back fetched.len fetched.items c.take_back.new.slots) size (omega (arith, many, size, same))
-    (lent_slots g.S.Source.list g.S.Source.counts before.len c.args.self.now.feeders.items before.items c.as_mut_slice.result.now c.lend.new.slots before.ok.0
+    (lent_slots g.S.Source.list g.S.Source.counts g.S.Source.at_hand before.len c.args.self.now.feeders.items before.items c.as_mut_slice.result.now c.lend.new.slots before.ok.0
     c.as_mut_slice.ensures.value c.lend.ensures.lent)
     c.run_sides.ensures.fetched
-    (taken_slots g.S.Source.list g.S.Source.counts fetched.len c.take_back.new.feeders.items fetched.items c.as_mut_slice-2.result.now c.take_back.new.slots fetched.ok.0
+    (taken_slots g.S.Source.list g.S.Source.counts g.S.Source.at_hand fetched.len c.take_back.new.feeders.items fetched.items c.as_mut_slice-2.result.now c.take_back.new.slots fetched.ok.0
     c.as_mut_slice-2.ensures.value c.take_back.ensures.back) new.fed in
     let parts = ran_parts c.args.settings counts c.args.queries.now pool c.args.self.now.pass c.args.self.now.workers.items c.run_sides.new.workers.items
     c.run_sides.new.workers.items new.hiring new.size c.run_sides.ensures.worked refl in

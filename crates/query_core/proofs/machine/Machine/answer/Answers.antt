@@ -1,6 +1,6 @@
 use Rattle.std.proofs.Common.{ap}
-use Rattle.query_text.specs.declared.algorithm.Algorithm.TheVariants.{Ta, Nra, Ca}
-use Rattle.query_core.specs.declared.machine.Machine.TheVariants.{Ta as TaMachine, Nra as NraMachine, Ca as CaMachine}
+use Rattle.query_text.specs.declared.algorithm.Algorithm.TheVariants.{Ta, Nra, Ca, Fa}
+use Rattle.query_core.specs.declared.machine.Machine.TheVariants.{Ta as TaMachine, Nra as NraMachine, Ca as CaMachine, Fa as FaMachine}
 use Rattle.query_core.specs.Machines.{algorithm_of, state_of}
 use Rattle.query_core.proofs.Answering.{ends_near, ends_true, ends_items}
 use Rattle.query_core.proofs.machine.Machine.answer.Goals as goal
@@ -34,3 +34,13 @@ returns-in-Ca-clause-near c =
 
 pub returns-in-Ca-clause-bounds : goal.returns-in-Ca-clause-bounds
 returns-in-Ca-clause-bounds c = ends_true c.args.self Ca c.in-Ca.machine c.answer-in-Ca.result (ap state_of c.in-Ca.is) c.answer-in-Ca.ensures.run c.answer-in-Ca.ensures.items c.answer-in-Ca.ensures.transcript
+
+pub returns-in-Fa-clause-items : goal.returns-in-Fa-clause-items
+returns-in-Fa-clause-items c = ends_items c.args.self (FaMachine c.in-Fa.machine) c.answer-in-Fa.result c.in-Fa.is c.answer-in-Fa.ensures.items
+
+pub returns-in-Fa-clause-near : goal.returns-in-Fa-clause-near
+returns-in-Fa-clause-near c =
+    ends_near c.args.self Fa c.in-Fa.machine c.answer-in-Fa.result (ap algorithm_of c.in-Fa.is) (ap state_of c.in-Fa.is) c.answer-in-Fa.ensures.run c.requires c.answer-in-Fa.ensures.items c.answer-in-Fa.ensures.transcript
+
+pub returns-in-Fa-clause-bounds : goal.returns-in-Fa-clause-bounds
+returns-in-Fa-clause-bounds c = ends_true c.args.self Fa c.in-Fa.machine c.answer-in-Fa.result (ap state_of c.in-Fa.is) c.answer-in-Fa.ensures.run c.answer-in-Fa.ensures.items c.answer-in-Fa.ensures.transcript

@@ -1,5 +1,5 @@
 use Rattle.std.proofs.Common.{sym}
-use Rattle.query_core.specs.declared.machine.Machine.TheVariants.{Ta as TaMachine, Nra as NraMachine, Ca as CaMachine}
+use Rattle.query_core.specs.declared.machine.Machine.TheVariants.{Ta as TaMachine, Nra as NraMachine, Ca as CaMachine, Fa as FaMachine}
 use Rattle.query_core.proofs.Making.{machine_for}
 use Rattle.query_core.proofs.machine.Machine.make.Goals as goal
 
@@ -17,3 +17,8 @@ pub returns-in_ok-machine-in-Ca-clause-begun : goal.returns-in_ok-machine-in-Ca-
 returns-in_ok-machine-in-Ca-clause-begun c =
     machine_for c.args.ready.now (CaMachine c.in_ok-machine-in-Ca.machine) _ _ _ (sym c.in-Ca.is) c.in-Ok.ensures c.unwrap_or-room.ensures c.costs_in_force-costs.ensures
     c.in_ok-machine-in-Ca.ensures.begun
+
+pub returns-in_ok-machine-in-Fa-clause-begun : goal.returns-in_ok-machine-in-Fa-clause-begun
+returns-in_ok-machine-in-Fa-clause-begun c =
+    machine_for c.args.ready.now (FaMachine c.in_ok-machine-in-Fa.machine) _ _ _ (sym c.in-Fa.is) c.in-Ok.ensures c.unwrap_or-room.ensures c.costs_in_force-costs.ensures
+    c.in_ok-machine-in-Fa.ensures.begun

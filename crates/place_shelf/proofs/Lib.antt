@@ -1,0 +1,2 @@
+-- Lemmas on what the source of a place tells.
+pub mod SourceLaws

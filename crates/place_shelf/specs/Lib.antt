@@ -1,0 +1,3 @@
+-- What the source of a place is, and what a shelf of places is.
+pub mod Sources
+pub mod Shelved

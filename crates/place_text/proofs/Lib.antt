@@ -1,0 +1,2 @@
+-- Lemmas on the pieces of an address.
+pub mod AddressLaws

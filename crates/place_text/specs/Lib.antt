@@ -1,0 +1,3 @@
+-- What the place of a list is, and how an address is taken to pieces.
+pub mod Places
+pub mod Pieces
