@@ -10,7 +10,6 @@ use Rattle.atomic_table.specs.Seated.{TableId}
 use Rattle.limits.specs.declared.settings.Settings.{Settings}
 use Rattle.limits.specs.Ranges.{AreSettings}
 use Rattle.keyed_lock.specs.declared.hold.Hold.{Hold}
-use Rattle.keyed_lock.specs.Hold.{KeepAll}
 use Rattle.source_api.specs.declared.counts.Counts.{Counts}
 use Rattle.source_api.specs.Calls.{Call}
 use Rattle.source_api.specs.Told.{HasEachOnce}
@@ -18,15 +17,15 @@ use Rattle.query_core.specs.declared.ready.Ready.{Ready}
 use Rattle.fetcher.specs.declared.slot.Slot.{Slot}
 use Rattle.fetcher.specs.declared.post.Began.{Began}
 use Rattle.fetcher.specs.Metering.{nothing}
-use Rattle.fetcher.specs.Serving.{IsServed, IsServedFrom}
+use Rattle.fetcher.specs.Serving.{IsServed}
 use Rattle.fetcher.proofs.ServeLaws.{served_none}
 use Rattle.batch_result.proofs.Places.{stands_at, same_at, map_at}
 use Rattle.batch_sides.specs.declared.work.Worker.{Worker}
 use Rattle.batch_sides.specs.declared.hands.Hand.{Hand}
-use Rattle.batch_sides.specs.declared.posts.Posts.{Posts}
+use Rattle.fetcher.specs.declared.posts.Posts.{Posts}
 use Rattle.batch_sides.specs.Working.{IsAtWork, Worked, AllWorked}
 use Rattle.batch_sides.specs.Slots.{state_of, HasFeeder, Fetches, AllFetch}
-use Rattle.batch_sides.specs.Serving.{ArePosts}
+use Rattle.fetcher.specs.Posting.{ArePosts, AreServed}
 use Rattle.batch_sides.specs.Handing.{AllHands, AreSpared}
 use Rattle.batch_sides.proofs.WorkLaws.{knows_same}
 
@@ -175,49 +174,37 @@ module _ {S : Type 0} (list : S → Option (List Row)) (counts : S → Counts) (
   fresh_at pool settings slot are once has none =
       served_none list counts calls at_hand states pool settings.page settings.ahead slot has.feed are.some_rows are.few_rows are.few_pages once has.is has.idle none
 
-  -- before any turn the slots keep what the posts are opened with
-  pub keep_begun : (pool : List TableId) (settings : Settings) (slots : List (Slot S)) → AreSettings settings → ((source : S) → IfSome (list source) HasEachOnce)
+  -- at slots that got their feeders no turn was taken yet
+  pub all_fresh : (pool : List TableId) (settings : Settings) (slots : List (Slot S)) → AreSettings settings → ((source : S) → IfSome (list source) HasEachOnce)
       → All (λ (slot : Slot S). HasFeeder pool slot.feeder) slots → All (λ (slot : Slot S). slot.fetched ≡ nothing) slots
-      → (place : ℕ) (d : Slot S) → place < length slots
-      → IsServedFrom list counts calls at_hand states pool settings.page settings.ahead slots place (slice_index_or slots place d)
-  keep_begun pool settings slots are once has none place d l = record {
-    served = λ e. subst (λ (b : Slot S). IsServed list counts calls at_hand states pool settings.page settings.ahead b (slice_index_or slots place d)) (same_at slots place d e l)
-        (fresh_at pool settings (slice_index_or slots place d) are (once (slice_index_or slots place d).source) (has place d l) (none place d l));
+      → AreServed list counts calls at_hand states pool settings.page settings.ahead slots slots
+  all_fresh pool settings slots are once has none = record {
+    size = refl;
+    each = λ i d l. fresh_at pool settings (slice_index_or slots i d) are (once (slice_index_or slots i d).source) (has i d l) (none i d l);
   }
 
-  -- the fact that the posts keep
-  abbrev pub kept_fact : Began S → ℕ → Slot S → Type 0
-  kept_fact began place slot = IsServedFrom list counts calls at_hand states began.pool.value began.page began.ahead began.slots.value.items place slot
-
-  pub keep_opened : (began : Began S) (pool : List TableId) (settings : Settings) (slots : List (Slot S)) → began.pool.value ≡ pool
-      → began.page ≡ settings.page → began.ahead ≡ settings.ahead → began.slots.value.items ≡ slots → AreSettings settings
-      → ((source : S) → IfSome (list source) HasEachOnce)
-      → All (λ (slot : Slot S). HasFeeder pool slot.feeder) slots → All (λ (slot : Slot S). slot.fetched ≡ nothing) slots → KeepAll kept_fact began slots
-  keep_opened began pool settings slots own page ahead were are once has none = record {
-    each = λ place d l.
-        subst (λ (z : List TableId × ℕ × ℕ × List (Slot S)). IsServedFrom list counts calls at_hand states z.0 z.1 z.2 z.3 place (slice_index_or slots place d))
-        (λ k. (sym own k, sym page k, sym ahead k, sym were k))
-        (keep_begun pool settings slots are once has none place d l);
+  -- what was served is what all fetchers do
+  all_fetch : (pool : List TableId) (settings : Settings) (slots now : List (Slot S))
+      → AreServed list counts calls at_hand states pool settings.page settings.ahead slots now → AllFetch list counts at_hand pool settings slots now
+  all_fetch pool settings slots now s = record {
+    size = s.size;
+    each = λ i d l. fetches_of pool settings (slice_index_or slots i d) (slice_index_or now i d) (s.each i d l);
   }
 
   -- no turn at all
   pub none_fetched : (pool : List TableId) (settings : Settings) (slots now : List (Slot S)) → AreSettings settings
       → ((source : S) → IfSome (list source) HasEachOnce) → All (λ (slot : Slot S). HasFeeder pool slot.feeder) slots
       → All (λ (slot : Slot S). slot.fetched ≡ nothing) slots → now ≡ slots → AllFetch list counts at_hand pool settings slots now
-  none_fetched pool settings slots now are once has none same = subst (λ (xs : List (Slot S)). AllFetch list counts at_hand pool settings slots xs) (sym same) record {
-    size = refl;
-    each = λ i d l. fetches_of pool settings (slice_index_or slots i d) (slice_index_or slots i d)
-        (fresh_at pool settings (slice_index_or slots i d) are (once (slice_index_or slots i d).source) (has i d l) (none i d l));
-  }
+  none_fetched pool settings slots now are once has none same =
+      subst (λ (xs : List (Slot S)). AllFetch list counts at_hand pool settings slots xs) (sym same)
+      (all_fetch pool settings slots slots (all_fresh pool settings slots are once has none))
 
-  -- what the posts gave back is what all fetchers do
+  -- what the posts gave back
   pub all_served : (posts : Posts S) (pool : List TableId) (settings : Settings) (slots now : List (Slot S)) → ArePosts posts pool
-      → posts.lock.key.page ≡ settings.page → posts.lock.key.ahead ≡ settings.ahead → posts.lock.key.slots.value.items ≡ slots → length now ≡ length slots
-      → KeepAll kept_fact posts.lock.key now → AllFetch list counts at_hand pool settings slots now
-  all_served posts pool settings slots now are page ahead were size keep = record {
-    size = size;
-    each = λ i d l. fetches_of pool settings (slice_index_or slots i d) (slice_index_or now i d)
-        (subst (λ (z : List TableId × ℕ × ℕ × List (Slot S)). IsServed list counts calls at_hand states z.0 z.1 z.2 (slice_index_or z.3 i d) (slice_index_or now i d))
-        (λ k. (are.of k, page k, ahead k, were k))
-        ((keep.each i d (omega (arith, size, l))).served d));
-  }
+      → posts.lock.key.page ≡ settings.page → posts.lock.key.ahead ≡ settings.ahead → posts.lock.key.slots.value.items ≡ slots
+      → AreServed list counts calls at_hand states posts.lock.key.pool.value posts.lock.key.page posts.lock.key.ahead posts.lock.key.slots.value.items now
+      → AllFetch list counts at_hand pool settings slots now
+  all_served posts pool settings slots now are page ahead were served =
+      all_fetch pool settings slots now
+      (subst (λ (z : List TableId × ℕ × ℕ × List (Slot S)). AreServed list counts calls at_hand states z.0 z.1 z.2 z.3 now)
+      (λ k. (are.of k, page k, ahead k, were k)) served)

@@ -6,7 +6,6 @@ pub mod ShareLaws
 pub mod Picks
 pub mod Zips
 pub mod WorkLaws
--- Lemmas on turns at the posts.
-pub mod ServingLaws
+-- Lemmas on passes to the posts, and on who has them.
 pub mod PassLaws
 pub mod HandLaws

@@ -3,7 +3,7 @@ use Rattle.std.proofs.Common.{◌≡◌, ◌<◌, ◌+◌, ◌-◌, ℕ, Some, N
 use Rattle.atomic_table.specs.Seated.{TableId}
 use Rattle.keyed_lock.specs.declared.hold.Hold.{Hold}
 use Rattle.keyed_lock.specs.Hold.{Lock, IsPassOf, with_parts, joined}
-use Rattle.batch_sides.specs.Serving.{share_of}
+use Rattle.fetcher.specs.Posting.{share_of}
 
 module _ {K : Type 0} where
   pub share_own : (lock : Lock K) (pass : TableId × Hold K) (parts : ℕ) → pass ≡ share_of lock parts → IsPassOf lock pass

@@ -3,6 +3,5 @@ pub mod Slots
 -- What workers and fetchers do.
 pub mod Shares
 pub mod Working
--- Who takes turns at the slots of the sources.
-pub mod Serving
+-- What workers leave that have passes to the posts.
 pub mod Handing

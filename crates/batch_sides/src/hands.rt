@@ -1,11 +1,10 @@
 //! The hands of a run: workers and fetchers, each with a pass of its own to the posts.
 
 ghost use Rattle.std.specs.Prelude.{◌≡◌, ◌≤◌, ◌<◌, ◌-◌, ◌+◌, [], All, IfOk, map, vec_len, vec_capacity};
-ghost use Rattle.batch_sides.specs.Serving.{share_of};
+ghost use Rattle.fetcher.specs.Posting.{share_of};
 
-use super::posts::Posts;
 use super::work::Worker;
-use fetcher::Slot;
+use fetcher::{Posts, Slot};
 use keyed_lock::Pass;
 use source_api::Source;
 use std::alloc::{AllocError, Global};
@@ -17,17 +16,11 @@ pub struct Hand<S: Source> {
     pub pass: Pass<Slot<S>>,
 }
 
-/// The fetcher of a source: its pass to the posts.
-#[derive(Drop)]
-pub struct Fetcher<S: Source> {
-    pub pass: Pass<Slot<S>>,
-}
-
-/// The workers and the fetchers, one a source.
+/// The workers, and for the fetcher of each source its pass to the posts.
 #[derive(Drop)]
 pub struct Hands<S: Source> {
     pub workers: Vec<Hand<S>>,
-    pub fetchers: Vec<Fetcher<S>>,
+    pub fetchers: Vec<Pass<Slot<S>>>,
 }
 
 /// Room for so many workers and fetchers.
@@ -93,7 +86,7 @@ pub fn hand_in<S: Source>(
 pub fn split_all<S: Source>(
     posts: &Posts<S>,
     pass: &mut Pass<Slot<S>>,
-    fetchers: &mut Vec<Fetcher<S>>,
+    fetchers: &mut Vec<Pass<Slot<S>>>,
     sources: usize,
 )
     requires own { pass.old ≡ share_of posts.now.lock pass.old.1.parts }
@@ -101,12 +94,12 @@ pub fn split_all<S: Source>(
     requires none { fetchers.old.items ≡ [] }
     requires room { sources ≤ vec_capacity fetchers.old }
     ensures pass { pass.new ≡ share_of posts.now.lock (pass.old.1.parts - sources) }
-    ensures shares { All (λ fetcher. fetcher.pass ≡ share_of posts.now.lock 1) fetchers.new.items }
+    ensures shares { All (λ own. own ≡ share_of posts.now.lock 1) fetchers.new.items }
     ensures size { vec_len fetchers.new ≡ sources }
 {
     for place in 0..sources {
         let own = posts.lock.split(pass, 1);
-        fetchers.push_reserved(Fetcher { pass: own });
+        fetchers.push_reserved(own);
     }
 }
 
@@ -114,14 +107,13 @@ pub fn split_all<S: Source>(
 pub fn join_all<S: Source>(
     posts: &Posts<S>,
     pass: &mut Pass<Slot<S>>,
-    fetchers: &mut Vec<Fetcher<S>>,
+    fetchers: &mut Vec<Pass<Slot<S>>>,
 )
     requires own { pass.old ≡ share_of posts.now.lock pass.old.1.parts }
-    requires shares { All (λ fetcher. fetcher.pass ≡ share_of posts.now.lock 1) fetchers.old.items }
+    requires shares { All (λ own. own ≡ share_of posts.now.lock 1) fetchers.old.items }
     ensures { pass.new ≡ share_of posts.now.lock (pass.old.1.parts + vec_len fetchers.old) }
 {
-    while let Some(fetcher) = fetchers.pop() {
-        let Fetcher { pass: own } = fetcher;
+    while let Some(own) = fetchers.pop() {
         posts.lock.join(pass, own);
     }
 }

@@ -6,12 +6,10 @@
 
 mod hands;
 mod lending;
-mod posts;
 mod sides;
 mod work;
 
-pub use hands::{Fetcher, Hand, Hands};
+pub use hands::{Hand, Hands};
 pub use lending::{lend, take_back};
-pub use posts::Posts;
 pub use sides::run_sides;
 pub use work::Worker;

@@ -2,25 +2,22 @@
 
 ghost use Rattle.std.specs.Prelude.{◌≡◌, ◌≤◌, ◌<◌, ◌^◌, [], All, IfSome, IfNone, length, vec_len, vec_capacity};
 ghost use Rattle.limits.specs.Ranges.{AreSettings};
-ghost use Rattle.keyed_lock.specs.Hold.{all_parts, KeepAll};
+ghost use Rattle.keyed_lock.specs.Hold.{all_parts};
 ghost use Rattle.fetcher.specs.Metering.{nothing};
-ghost use Rattle.fetcher.specs.Serving.{IsServedFrom};
+ghost use Rattle.fetcher.specs.Posting.{ArePosts, AreServed, MayServe, share_of};
 ghost use Rattle.batch_sides.specs.Working.{IsAtWork, Worked, AllWorked};
 ghost use Rattle.batch_sides.specs.Slots.{HasFeeder, AllFetch};
-ghost use Rattle.batch_sides.specs.Serving.{ArePosts, MayServe, share_of};
 ghost use Rattle.batch_sides.specs.Handing.{AllHands, AreSpared};
 
-use super::hands::{Fetcher, Hand, Hands, hand_in, hand_out, join_all, make_room, split_all};
-use super::posts::{Posts, make_bells, serve_loop, serve_or_wait};
+use super::hands::{Hand, Hands, hand_in, hand_out, join_all, make_room, split_all};
 use super::work::{Worker, work};
 use batch_result::Settings;
-use fetcher::{Began, Slot, Stop};
-use keyed_lock::{KeyedLock, Pass};
+use fetcher::{Posts, Slot, serve_loop, serve_or_wait};
+use keyed_lock::Pass;
 use query_core::Ready;
 use source_api::Source;
 use source_pool::Pool;
 use std::alloc::Global;
-use std::snapshot::Snapshot;
 use std::sync::Wait;
 use std::thread;
 use std::thread::Threads;
@@ -31,12 +28,12 @@ fn fetch_all<W: Threads + Wait + Sync, S: Source>(
     alloc: Global,
     pool: &Pool,
     posts: &Posts<S>,
-    fetchers: &mut [Fetcher<S>],
+    fetchers: &mut [Pass<Slot<S>>],
 )
     requires posts { ArePosts posts.now pool.now }
-    requires shares { All (λ fetcher. fetcher.pass ≡ share_of posts.now.lock 1) fetchers.old }
+    requires shares { All (λ own. own ≡ share_of posts.now.lock 1) fetchers.old }
     requires many { length fetchers.old ≡ length pool.now }
-    ensures shares { All (λ fetcher. fetcher.pass ≡ share_of posts.now.lock 1) fetchers.new }
+    ensures shares { All (λ own. own ≡ share_of posts.now.lock 1) fetchers.new }
     ensures size { length fetchers.new ≡ length fetchers.old }
 {
     let threads = fetchers.len().max(1);
@@ -44,9 +41,9 @@ fn fetch_all<W: Threads + Wait + Sync, S: Source>(
         rt,
         fetchers,
         threads,
-        &|place, fetcher: &mut Fetcher<S>|
-            requires { ArePosts posts.now pool.now × (place < length pool.now) × (fetcher.now.pass ≡ share_of posts.now.lock 1) }
-        { serve_loop(rt, alloc, pool, posts, &mut fetcher.pass, place) },
+        &|place, own: &mut Pass<Slot<S>>|
+            requires { ArePosts posts.now pool.now × (place < length pool.now) × (own.now ≡ share_of posts.now.lock 1) }
+        { serve_loop(rt, alloc, pool, posts, own, place) },
     );
 }
 
@@ -122,65 +119,23 @@ fn run_both<W: Threads + Wait + Sync, S: Source>(
     requires posts { ArePosts posts.now pool.now }
     requires workers { All (λ hand. IsAtWork pool.now (length hands.old.workers.items) queries.now hand.worker) hands.old.workers.items }
     requires shares { All (λ hand. hand.pass ≡ share_of posts.now.lock 1) hands.old.workers.items }
-    requires fetchers { All (λ fetcher. fetcher.pass ≡ share_of posts.now.lock 1) hands.old.fetchers.items }
+    requires fetchers { All (λ own. own ≡ share_of posts.now.lock 1) hands.old.fetchers.items }
     requires many { vec_len hands.old.fetchers ≡ length pool.now }
     ensures worked { AllHands pool.now (length hands.old.workers.items) queries.now hands.old.workers.items hands.new.workers.items }
-    ensures fetchers { All (λ fetcher. fetcher.pass ≡ share_of posts.now.lock 1) hands.new.fetchers.items }
+    ensures fetchers { All (λ own. own ≡ share_of posts.now.lock 1) hands.new.fetchers.items }
     ensures many { vec_len hands.new.fetchers ≡ vec_len hands.old.fetchers }
 {
     let Hands { workers, fetchers } = hands;
     thread::join_mut(
         rt,
         &mut ||
-            requires { ArePosts posts.now pool.now × All (λ fetcher. fetcher.pass ≡ share_of posts.now.lock 1) fetchers.now.items × (vec_len fetchers.now ≡ length pool.now) }
+            requires { ArePosts posts.now pool.now × All (λ own. own ≡ share_of posts.now.lock 1) fetchers.now.items × (vec_len fetchers.now ≡ length pool.now) }
         { fetch_all(rt, alloc, pool, posts, fetchers) },
         &mut ||
             requires { ArePosts posts.now pool.now × All (λ hand. IsAtWork pool.now (length workers.now.items) queries.now hand.worker) workers.now.items
                 × All (λ hand. hand.pass ≡ share_of posts.now.lock 1) workers.now.items }
         { work_all(rt, alloc, pool, posts, workers, queries) },
     );
-}
-
-/// Opens posts for the slots, with the pass that has all parts. Where memory is wanted the slots stay.
-fn open_posts<S: Source>(
-    alloc: Global,
-    pool: &Pool,
-    slots: &mut Vec<Slot<S>>,
-    settings: Settings,
-) -> Option<(Posts<S>, Pass<Slot<S>>)>
-    requires settings { AreSettings settings }
-    requires feeders { All (λ slot. HasFeeder pool.now slot.feeder) slots.old.items }
-    requires fresh { All (λ slot. slot.fetched ≡ nothing) slots.old.items }
-    requires many { length slots.old.items ≡ length pool.now }
-    requires few { length slots.old.items < 2 ^ 32 }
-    ensures posts { IfSome result (λ r. ArePosts r.0 pool.now × (r.1 ≡ share_of r.0.lock all_parts)) }
-    ensures began { IfSome result (λ r. (r.0.lock.key.page ≡ settings.page) × (r.0.lock.key.ahead ≡ settings.ahead) × (r.0.lock.key.slots.value ≡ slots.old)) }
-    ensures taken { IfSome result (λ _. slots.new.items ≡ []) }
-    ensures stay { IfNone result (slots.new.items ≡ slots.old.items) }
-    ensures room { vec_capacity slots.new ≡ vec_capacity slots.old }
-{
-    let began = Began {
-        pool: Snapshot::of(pool),
-        page: settings.page,
-        ahead: settings.ahead,
-        slots: Snapshot::of(slots),
-    };
-    let Ok(bells) = make_bells(alloc, slots.len()) else {
-        return None;
-    };
-    match KeyedLock::open(alloc, &began, slots) {
-        Ok((lock, pass)) => Some((
-            Posts {
-                lock,
-                page: settings.page,
-                ahead: settings.ahead,
-                bells,
-                stop: Stop::make(),
-            },
-            pass,
-        )),
-        Err(_) => None,
-    }
 }
 
 /// Runs both sides over the posts, and takes the slots back.
@@ -203,9 +158,8 @@ fn run_posts<W: Threads + Wait + Sync, S: Source>(
     requires workers { All (IsAtWork pool.now (length workers.old.items) queries.now) workers.old.items }
     requires few { (length workers.old.items ≤ 32) × (length pool.now < 2 ^ 32) }
     ensures worked { AllWorked pool.now (length workers.old.items) queries.now workers.old.items workers.new.items }
-    ensures size { length slots.new.items ≡ length pool.now }
-    ensures keep { KeepAll (λ began place slot. IsServedFrom S.list S.counts S.calls S.at_hand S.states began.pool.value began.page began.ahead began.slots.value.items place slot)
-        posts.lock.key slots.new.items }
+    ensures served { AreServed S.list S.counts S.calls S.at_hand S.states posts.lock.key.pool.value posts.lock.key.page posts.lock.key.ahead
+        posts.lock.key.slots.value.items slots.new.items }
 {
     let sources = posts.bells.len();
     hand_out(&posts, &mut pass, workers, &mut hands.workers);
@@ -213,8 +167,7 @@ fn run_posts<W: Threads + Wait + Sync, S: Source>(
     run_both(rt, alloc, pool, &posts, hands, queries);
     hand_in(&posts, &mut pass, &mut hands.workers, workers);
     join_all(&posts, &mut pass, &mut hands.fetchers);
-    let Posts { lock, .. } = posts;
-    lock.close(pass, slots);
+    posts.close(pass, slots);
 }
 
 /// Tells all workers that memory was wanted.
@@ -251,7 +204,7 @@ pub fn run_sides<W: Threads + Wait + Sync, S: Source>(
         spare(workers);
         return;
     };
-    match open_posts(alloc, pool, slots, settings) {
+    match Posts::open(alloc, pool, slots, settings.page, settings.ahead) {
         Some((posts, pass)) => run_posts(
             rt, alloc, pool, workers, slots, queries, posts, pass, &mut hands,
         ),

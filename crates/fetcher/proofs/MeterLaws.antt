@@ -34,7 +34,7 @@ use Rattle.fetcher.specs.declared.turned.Turned.TheVariants as turned
 use Rattle.fetcher.specs.Turning.{Feeds, IsFed, Brings}
 use Rattle.fetcher.specs.Moving.{MovesOnly}
 use Rattle.fetcher.specs.Causes.{IsFaultOfGrade, ComesOf, HasGiven}
-use Rattle.fetcher.specs.Metering.{WentUp, RoseBy, IsMetered, KeepsAll, Meters, nothing, counted_by, HasCountOf}
+use Rattle.fetcher.specs.Metering.{WentUp, RoseBy, KeepsAll, Meters, nothing, counted_by, HasCountOf}
 use Rattle.fetcher.proofs.ReachLaws.{reach_more, reach_within}
 use Rattle.fetcher.proofs.CauseLaws.{page_most, settle_bad, page_comes, settled_comes, moved_comes, comes_none}
 use Rattle.fetcher.proofs.MoveLaws.{turn_moves, rose_as, moves_none, moves_more, rose_later, rose_still}

@@ -10,11 +10,9 @@ ghost use Rattle.source_api.specs.Counting.{NoneFell, GaveNothing};
 ghost use Rattle.fetcher.specs.Turning.{IsFound, Feeds, IsPlanned, IsFed, Brings, MayTellPage, MayTellGrade, MayFetch, IsNext};
 ghost use Rattle.fetcher.specs.Turning.{settled_by, answer_by, troubled_by, failed_by, IsOfSource};
 ghost use Rattle.fetcher.specs.Calling.{IsLooked, IsTold, CalledForPage, CalledForGrade, IsFetchTurn};
-ghost use Rattle.fetcher.specs.Chaining.{moment, IsFetched, point, MadeItsCalls};
-ghost use Rattle.fetcher.specs.Moving.{IsMovedAs, HasMovesOf};
-ghost use Rattle.fetcher.specs.Metering.{IsMetered, HasCountOf, counted_by};
+ghost use Rattle.fetcher.specs.Moving.{IsMovedAs};
+ghost use Rattle.fetcher.specs.Metering.{HasCountOf, counted_by};
 
-use super::stop::Stop;
 use super::turned::{Fetched, Turned};
 use ranked_list::PageRows;
 use source_api::{Source, Trouble};
@@ -283,55 +281,4 @@ pub(crate) fn counted(fetched: Fetched, turned: Turned) -> Fetched
         Turned::Failed | Turned::Garbled | Turned::Memory | Turned::Moved { .. } | Turned::Idle =>
             fetched,
     }
-}
-
-/// Sleeps until something is wanted, where nothing was to be fetched.
-fn rest(rt: &impl Wait, pool: &Pool, feeder: &Feeder, turned: Turned, wanted: u64)
-    requires { IsIdleOf pool.now feeder.now }
-{
-    if turned == Turned::Idle {
-        pool.sleep_till_wanted(rt, feeder, wanted);
-    }
-}
-
-/// Takes turns until `stop` is set, and tells how much the source gave. Where nothing is to be fetched it sleeps until something is wanted
-/// or `stop` is set.
-///
-/// *Cost*: its turns; after an idle one it sleeps until something is wanted.
-pub fn fetch_loop<S: Source>(
-    rt: &impl Wait,
-    alloc: Global,
-    pool: &Pool,
-    feeder: &mut Feeder,
-    source: &mut S,
-    page: u32,
-    ahead: u32,
-    stop: &Stop,
-) -> Fetched
-    requires own { IsIdleOf pool.now feeder.old }
-    requires page { (1 ≤ page) × (page ≤ 10000) }
-    requires ahead { ahead ≤ 100 }
-    ensures own { IsIdleOf pool.now feeder.new }
-    ensures source { feeder.new.source ≡ feeder.old.source }
-    ensures feeds { Feeds feeder.old.pass.1 feeder.new.pass.1 }
-    ensures list { S.list source.new ≡ S.list source.old }
-    ensures at_hand { S.at_hand source.new ≡ S.at_hand source.old }
-    ensures states { S.states source.new ≡ S.states source.old }
-    ensures later { NoneFell (S.counts source.old) (S.counts source.new) }
-    ensures turns { IsFetched page ahead (S.list source.old) (moment (S.counts source.old) feeder.old.pass.1) (moment (S.counts source.new) feeder.new.pass.1) }
-    ensures calls { MadeItsCalls page ahead (point (S.calls source.old) feeder.old.pass.1) (point (S.calls source.new) feeder.new.pass.1) }
-    ensures moved { HasMovesOf (S.at_hand source.old) (S.states source.old) (S.counts source.old) (S.counts source.new) feeder.old.pass.1.seen feeder.new.pass.1.seen }
-    ensures metered { IsMetered page ahead result (S.counts source.old) (S.counts source.new) feeder.old.pass.1 feeder.new.pass.1 }
-{
-    let mut fetched = Fetched { rows: 0, grades: 0 };
-    for _ in rt.forever() {
-        let wanted = pool.wanted(feeder);
-        if stop.is_set() {
-            return fetched;
-        }
-        let turned = fetch_turn(rt, alloc, pool, feeder, source, page, ahead);
-        fetched = counted(fetched, turned);
-        rest(rt, pool, feeder, turned, wanted);
-    }
-    unreachable!()
 }

@@ -5,16 +5,18 @@
 mod fetch;
 mod laws;
 mod post;
+mod posts;
 mod slot;
 mod stop;
 mod turned;
 
-pub use fetch::{fetch_loop, fetch_turn};
+pub use fetch::fetch_turn;
 pub use laws::{
     told_lists_neither_repeat_nor_clash, turns_tell_the_list, what_a_turn_gave_tells_its_plan,
     what_is_fetched_is_called_for,
 };
 pub use post::{Began, serve_turn};
+pub use posts::{Posts, serve_loop, serve_or_wait};
 pub use slot::Slot;
 pub use source_state::reach;
 pub use stop::Stop;

@@ -2,7 +2,7 @@
 
 use super::sides::read_beside;
 use super::slow::Slow;
-use fetcher::{Fetched, Stop};
+use fetcher::Stop;
 use std::alloc::Global;
 use std::sync::Wait;
 use std::sync::atomic::AtomicU64;
@@ -18,24 +18,24 @@ const HELD: Held = Held {
     kind: Kind::Honest,
 };
 
-/// The sum of the grades, and what was fetched.
-const ALL: (u32, Fetched) = (1800, Fetched { rows: 3, grades: 0 });
+/// The sum of the grades, and how many rows were fetched.
+const ALL: (u32, u32) = (1800, 3);
 
 /// Whether all rows are read that are fetched beside the reader. None without memory.
 fn reads_all<R: Threads + Wait + Sync>(rt: &R, alloc: Global) -> Option<bool> {
     let looks = AtomicU64::new(0);
-    let source = source_of(alloc, &HELD)?;
-    Some(read_beside(rt, alloc, source, 3, &looks) == Some(ALL))
+    let mut source = source_of(alloc, &HELD)?;
+    Some(read_beside(rt, alloc, &mut source, 3, &looks) == Some(ALL))
 }
 
 /// The same of a source that answers only after the reader has looked once more.
 fn reads_all_slowly<R: Threads + Wait + Sync>(rt: &R, alloc: Global) -> Option<bool> {
     let looks = AtomicU64::new(0);
-    let source = Slow {
+    let mut source = Slow {
         rows: source_of(alloc, &HELD)?,
         looks: &looks,
     };
-    Some(read_beside(rt, alloc, source, 3, &looks) == Some(ALL))
+    Some(read_beside(rt, alloc, &mut source, 3, &looks) == Some(ALL))
 }
 
 #[test]

@@ -1,10 +1,10 @@
 //! The two sides of a run over one source.
 
-ghost use Rattle.std.specs.Prelude.{◌≡◌, ◌≤◌, ◌<◌, ◌+◌, None, length};
+ghost use Rattle.std.specs.Prelude.{◌≡◌, ◌≤◌, ◌<◌, ◌+◌, length};
 ghost use Rattle.source_pool.specs.Passes.{IsIdleOf};
 ghost use Rattle.test_pool.specs.Reading.{IsReader};
 
-use fetcher::{Fetched, Slot, Stop, fetch_loop};
+use fetcher::Stop;
 use ranked_list::Need;
 use source_api::Source;
 use source_pool::{Feeder, Pool, PoolPass};
@@ -14,23 +14,7 @@ use std::sync::Wait;
 use std::sync::atomic::{AtomicU64, Ordering};
 use std::thread;
 use std::thread::{Threads, join_mut};
-use test_pool_support::only;
-
-/// The fetcher's side: it fetches page by page until the sign is set.
-pub fn fetch_side<S: Source>(
-    rt: &impl Wait,
-    alloc: Global,
-    pool: &Pool,
-    feeder: &mut Feeder,
-    source: &mut S,
-    fetched: &mut Fetched,
-    stop: &Stop,
-)
-    requires { IsIdleOf pool.now feeder.old }
-    ensures { IsIdleOf pool.now feeder.new }
-{
-    *fetched = fetch_loop(rt, alloc, pool, feeder, source, 1, 0, stop);
-}
+use test_pool_support::{fetch_till_set, only};
 
 /// Looks for a row until it is there or can't be had, and counts the looks.
 fn wait_for(
@@ -77,21 +61,21 @@ pub fn read_side(
     stop.set(pool);
 }
 
-/// A fetcher and a reader of a list of `count` rows at the same time: the sum of the grades that were read, and what was fetched.
+/// A fetcher and a reader of a list of `count` rows at the same time: the sum of the grades that were read, and how many rows were fetched.
 pub fn read_beside<R: Threads + Wait + Sync, S: Source>(
     rt: &R,
     alloc: Global,
-    source: S,
+    source: &mut S,
     count: u32,
     looks: &AtomicU64,
-) -> Option<(u32, Fetched)>
+) -> Option<(u32, u32)>
     requires { count ≤ 200000 }
 {
     let Ok((pool, mut pass, feeders)) = Pool::open(alloc, &[count]) else {
         return None;
     };
     let mut feeder = only(feeders)?;
-    let mut slot = Slot::make(source);
+    let mut given = 0;
     let stop = Stop::make();
     let mut sum: u32 = 0;
     run_both(
@@ -100,15 +84,14 @@ pub fn read_beside<R: Threads + Wait + Sync, S: Source>(
         &pool,
         &mut pass,
         &mut feeder,
-        &mut slot,
+        source,
+        &mut given,
         count,
         &mut sum,
         looks,
         &stop,
     );
-    let fetched = slot.fetched;
-    drop(slot.into_source());
-    Some((sum, fetched))
+    Some((sum, given))
 }
 
 /// Both sides, each in a thread of its own.
@@ -118,7 +101,8 @@ fn run_both<R: Threads + Wait + Sync, S: Source>(
     pool: &Pool,
     pass: &mut PoolPass,
     feeder: &mut Feeder,
-    slot: &mut Slot<S>,
+    source: &mut S,
+    given: &mut u32,
     count: u32,
     sum: &mut u32,
     looks: &AtomicU64,
@@ -126,16 +110,12 @@ fn run_both<R: Threads + Wait + Sync, S: Source>(
 )
     requires feeder { IsIdleOf pool.now feeder.old }
     requires reader { IsReader pool.now count pass.old }
-    requires empty { slot.old.feeder ≡ None }
-    ensures { slot.new.feeder ≡ None }
 {
-    let source = &mut slot.source;
-    let fetched = &mut slot.fetched;
     join_mut(
         rt,
         &mut ||
             requires { IsIdleOf pool.now feeder.now }
-        { fetch_side(rt, alloc, pool, feeder, source, fetched, stop) },
+        { *given = fetch_till_set(rt, alloc, pool, feeder, source, stop) },
         &mut ||
             requires { IsReader pool.now count pass.now }
         { read_side(rt, pool, pass, count, sum, looks, stop) },

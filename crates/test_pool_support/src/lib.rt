@@ -2,8 +2,10 @@
 //! sources.
 #![tactic(auto)]
 
+mod beside;
 mod desk;
 mod pair;
 
+pub use beside::fetch_till_set;
 pub use desk::{Desk, Step, first_wrong, only};
 pub use pair::Pair;

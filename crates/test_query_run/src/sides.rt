@@ -6,7 +6,7 @@ ghost use Rattle.test_pool_support.specs.Pairs.{IsPair};
 ghost use Rattle.query_turns.specs.Made.{IsReadyFor};
 ghost use Rattle.test_query_run.specs.Running.{MayRun};
 
-use fetcher::{Stop, fetch_loop};
+use fetcher::Stop;
 use query_core::Ready;
 use query_run::run_query;
 use source_pool::{Feeder, Pool, PoolPass};
@@ -14,7 +14,7 @@ use std::alloc::Global;
 use std::sync::Wait;
 use std::thread::{Threads, join_mut};
 use test_mem_source::MemSource;
-use test_pool_support::Pair;
+use test_pool_support::{Pair, fetch_till_set};
 use test_query_support::{Expected, has_ended_so};
 
 /// The query's side: it runs the query, tells whether it ended as it is to, and sets the sign.
@@ -45,7 +45,7 @@ fn fetch(
 )
     requires { IsIdleOf pool.now feeder.old }
 {
-    fetch_loop(rt, alloc, pool, feeder, source, 1, 0, stop);
+    fetch_till_set(rt, alloc, pool, feeder, source, stop);
 }
 
 /// Both sources' sides.

@@ -1,5 +1,5 @@
 use Rattle.std.proofs.Common.{◌+◌, vec_len, arith}
-use Rattle.batch_sides.specs.Serving.{share_of}
+use Rattle.fetcher.specs.Posting.{share_of}
 use Rattle.batch_sides.proofs.PassLaws.{share_more}
 use Rattle.batch_sides.proofs.HandLaws.{hand_taken, workers_back}
 use Rattle.batch_sides.proofs.hands.hand_in.Goals as goal

@@ -1,6 +1,6 @@
 use Rattle.std.proofs.Common.{◌≡◌, ◌≤◌, ◌+◌, ◌++◌, All, map, vec_len, vec_capacity}
 use Rattle.std.specs.Prelude.{reverse}
-use Rattle.batch_sides.specs.Serving.{share_of}
+use Rattle.fetcher.specs.Posting.{share_of}
 use Rattle.batch_sides.proofs.hands.hand_in.Given as goal
 
 abbrev pub invariant-loop-hand : goal.invariant-loop-hand

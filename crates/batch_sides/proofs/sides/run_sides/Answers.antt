@@ -1,7 +1,12 @@
 use Rattle.std.proofs.Common.{◌++◌, ap, refl, sym, ◌∙◌, take, drop, length}
 use Rattle.batch_result.proofs.Places.{lent_back}
-use Rattle.batch_sides.proofs.HandLaws.{all_served, none_fetched, spared_back}
+use Rattle.batch_sides.proofs.HandLaws.{all_fresh, all_served, none_fetched, spared_back}
 use Rattle.batch_sides.proofs.sides.run_sides.Goals as goal
+
+pub open-requires-clause-fresh : goal.open-requires-clause-fresh
+open-requires-clause-fresh g c κs within =
+    all_fresh g.S.Source.list g.S.Source.counts g.S.Source.calls g.S.Source.at_hand g.S.Source.states c.args.pool.now c.args.settings c.args.slots.now.items c.requires.settings
+    ((g.met.S.Source g.world.𝓛 g.world.𝓜 g.world.𝓡 ((λ s x. x), (λ x. x), (λ x. x), λ x. x)).distinct) c.requires.feeders c.requires.fresh
 
 pub returns-in_default-clause-fetched : goal.returns-in_default-clause-fetched
 returns-in_default-clause-fetched g c =
@@ -19,11 +24,11 @@ pub returns-in-Some-clause-fetched : goal.returns-in-Some-clause-fetched
 returns-in-Some-clause-fetched g c =
     let began = c.in-Some.ensures.began in
     all_served g.S.Source.list g.S.Source.counts g.S.Source.calls g.S.Source.at_hand g.S.Source.states c.in-Some.posts c.args.pool.now c.args.settings c.args.slots.now.items c.run_posts.new.slots.items
-    c.in-Some.ensures.posts.0 began.0 began.1 (ap (λ v. v.items) began.2) (c.run_posts.ensures.size ∙ sym c.requires.many) c.run_posts.ensures.keep
+    c.in-Some.ensures.posts.0 began.0 began.1 (ap (λ v. v.items) began.2) c.run_posts.ensures.served
 
 pub returns-clause-fetched : goal.returns-clause-fetched
 returns-clause-fetched g c =
-    none_fetched g.S.Source.list g.S.Source.counts g.S.Source.calls g.S.Source.at_hand g.S.Source.states c.args.pool.now c.args.settings c.args.slots.now.items c.open_posts.new.slots.items c.requires.settings
+    none_fetched g.S.Source.list g.S.Source.counts g.S.Source.calls g.S.Source.at_hand g.S.Source.states c.args.pool.now c.args.settings c.args.slots.now.items c.open.new.slots.items c.requires.settings
     ((g.met.S.Source g.world.𝓛 g.world.𝓜 g.world.𝓡 ((λ s x. x), (λ x. x), (λ x. x), λ x. x)).distinct) c.requires.feeders c.requires.fresh c.in-None.ensures.stay
 
 pub returns-clause-worked : goal.returns-clause-worked

@@ -1,13 +1,18 @@
 //! The slots of all sources while a run goes on, each at one thread at a time.
 
-ghost use Rattle.std.specs.Prelude.{◌≡◌, ◌<◌, IfOk, length, vec_len};
-ghost use Rattle.batch_sides.specs.Serving.{MayServe};
+ghost use Rattle.std.specs.Prelude.{◌≡◌, ◌<◌, ◌≤◌, ◌^◌, [], IfOk, IfSome, IfNone, length, vec_len, vec_capacity};
+ghost use Rattle.keyed_lock.specs.Hold.{all_parts};
+ghost use Rattle.fetcher.specs.Posting.{ArePosts, AreServed, MayServe, share_of};
 
-use fetcher::{Slot, Stop, Turned, serve_turn};
+use super::post::{Began, serve_turn};
+use super::slot::Slot;
+use super::stop::Stop;
+use super::turned::Turned;
 use keyed_lock::{KeyedLock, Pass};
 use source_api::Source;
 use source_pool::Pool;
 use std::alloc::{AllocError, Global};
+use std::snapshot::Snapshot;
 use std::sync::Wait;
 use turn_lock::Bell;
 
@@ -25,7 +30,7 @@ pub struct Posts<S: Source> {
 }
 
 /// So many bells.
-pub fn make_bells(alloc: Global, count: usize) -> Result<Vec<Bell>, AllocError>
+fn make_bells(alloc: Global, count: usize) -> Result<Vec<Bell>, AllocError>
     ensures { IfOk result (λ bells. vec_len bells ≡ count) }
 {
     let mut bells = Vec::with_capacity(alloc, count)?;
@@ -100,6 +105,60 @@ pub fn serve_loop<S: Source>(
 }
 
 impl<S: Source> Posts<S> {
+    /// Posts for slots at which no turn was taken yet, with the pass that has all parts. Where memory is wanted the slots stay.
+    pub fn open(
+        alloc: Global,
+        pool: &Pool,
+        slots: &mut Vec<Slot<S>>,
+        page: u32,
+        ahead: u32,
+    ) -> Option<(Posts<S>, Pass<Slot<S>>)>
+        requires fresh { AreServed S.list S.counts S.calls S.at_hand S.states pool.now page ahead slots.old.items slots.old.items }
+        requires many { length slots.old.items ≡ length pool.now }
+        requires few { length slots.old.items < 2 ^ 32 }
+        ensures posts { IfSome result (λ r. ArePosts r.0 pool.now × (r.1 ≡ share_of r.0.lock all_parts)) }
+        ensures began { IfSome result (λ r. (r.0.lock.key.page ≡ page) × (r.0.lock.key.ahead ≡ ahead) × (r.0.lock.key.slots.value ≡ slots.old)) }
+        ensures taken { IfSome result (λ _. slots.new.items ≡ []) }
+        ensures stay { IfNone result (slots.new.items ≡ slots.old.items) }
+        ensures room { vec_capacity slots.new ≡ vec_capacity slots.old }
+    {
+        let began = Began {
+            pool: Snapshot::of(pool),
+            page,
+            ahead,
+            slots: Snapshot::of(slots),
+        };
+        let Ok(bells) = make_bells(alloc, slots.len()) else {
+            return None;
+        };
+        match KeyedLock::open(alloc, &began, slots) {
+            Ok((lock, pass)) => Some((
+                Posts {
+                    lock,
+                    page,
+                    ahead,
+                    bells,
+                    stop: Stop::make(),
+                },
+                pass,
+            )),
+            Err(_) => None,
+        }
+    }
+
+    /// Takes the posts down, by the pass that has all parts, and gives the slots back in their order. Takes no memory.
+    pub fn close(self, pass: Pass<Slot<S>>, slots: &mut Vec<Slot<S>>)
+        requires size { self.lock.size ≡ length self.lock.key.slots.value.items }
+        requires whole { pass ≡ share_of self.lock all_parts }
+        requires none { slots.old.items ≡ [] }
+        requires room { self.lock.size ≤ vec_capacity slots.old }
+        ensures { AreServed S.list S.counts S.calls S.at_hand S.states self.lock.key.pool.value self.lock.key.page self.lock.key.ahead
+            self.lock.key.slots.value.items slots.new.items }
+    {
+        let Posts { lock, .. } = self;
+        lock.close(pass, slots);
+    }
+
     /// Wakes the fetcher of a source where a turn brought a page, and more may be read ahead.
     fn wake(&self, place: usize, turned: Turned)
         requires { place < vec_len self.now.bells }

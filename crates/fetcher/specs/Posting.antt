@@ -1,10 +1,16 @@
 -- Turns at the posts of a run, and who may take them.
-use Rattle.std.specs.Prelude.{◌≡◌, ℕ, None, Some, List, length, vec_len}
+use Rattle.std.specs.Prelude.{◌≡◌, ◌<◌, ℕ, Option, None, Some, List, length, vec_len}
+use Rattle.std.specs.List.{slice_index_or}
+use Rattle.ranked_list.specs.declared.row.Row.{Row}
 use Rattle.atomic_table.specs.Seated.{TableId}
 use Rattle.keyed_lock.specs.declared.hold.Hold.{Hold}
 use Rattle.keyed_lock.specs.Hold.{Lock, IsPassOf}
+use Rattle.source_api.specs.declared.counts.Counts.{Counts}
+use Rattle.source_api.specs.Calls.{Call}
+use Rattle.fetcher.specs.declared.slot.Slot.{Slot}
+use Rattle.fetcher.specs.Serving.{IsServed}
 use Rattle.fetcher.specs.declared.post.Began.{Began}
-use Rattle.batch_sides.specs.declared.posts.Posts.{Posts}
+use Rattle.fetcher.specs.declared.posts.Posts.{Posts}
 
 -- the posts are those of the sources of this pool, in their order
 pub record ArePosts {S : Type 0} (posts : Posts S) (pool : List TableId) : Type 0 where
@@ -12,6 +18,7 @@ pub record ArePosts {S : Type 0} (posts : Posts S) (pool : List TableId) : Type 
   pub page : posts.lock.key.page ≡ posts.page
   pub ahead : posts.lock.key.ahead ≡ posts.ahead
   pub size : posts.lock.size ≡ length pool
+  pub many : length posts.lock.key.slots.value.items ≡ length pool
   pub bells : vec_len posts.bells ≡ length pool
 
 -- who has this pass may take turns at the posts
@@ -23,3 +30,11 @@ pub record MayServe {S : Type 0} (posts : Posts S) (pool : List TableId) (pass :
 -- a pass of a lock that has so many parts, and no value
 abbrev pub share_of : {K : Type 0} → Lock K → ℕ → TableId × Hold K
 share_of lock parts = (lock.id, record { key = Some lock.key; parts = parts; held = None })
+
+module _ {S : Type 0} (list : S → Option (List Row)) (counts : S → Counts) (calls : S → Option (List Call))
+    (at_hand : S → ℕ) (states : S → Option ℕ) where
+  -- turns were taken at slots, which stay at their places; of slots and themselves: none was taken yet
+  pub record AreServed (pool : List TableId) (page ahead : ℕ) (before now : List (Slot S)) : Type 0 where
+    pub size : length now ≡ length before
+    pub each : (place : ℕ) (d : Slot S) → place < length before
+        → IsServed list counts calls at_hand states pool page ahead (slice_index_or before place d) (slice_index_or now place d)

@@ -1,6 +1,6 @@
 use Rattle.std.proofs.Common.{slice_index_or}
-use Rattle.batch_sides.proofs.ServingLaws.{taken, given}
-use Rattle.batch_sides.proofs.posts.serve.Goals as goal
+use Rattle.fetcher.proofs.PostLaws.{taken, given}
+use Rattle.fetcher.proofs.posts.serve.Goals as goal
 
 pub serve_turn-turned-requires-after_bounds : goal.serve_turn-turned-requires-after_bounds
 serve_turn-turned-requires-after_bounds g c κs within = (

@@ -1,0 +1,55 @@
+-- A slot that was taken from its post, and one that is given back; posts that are opened and closed.
+use Rattle.std.proofs.Common.{◌≡◌, ℕ, Option, List, length, slice_index_or, sym, subst, arith}
+use Rattle.std.proofs.lemmas.List.{get_or_default}
+use Rattle.ranked_list.specs.declared.row.Row.{Row}
+use Rattle.atomic_table.specs.Seated.{TableId}
+use Rattle.source_api.specs.declared.counts.Counts.{Counts}
+use Rattle.source_api.specs.Calls.{Call}
+use Rattle.fetcher.specs.declared.slot.Slot.{Slot}
+use Rattle.fetcher.specs.Serving.{IsServed, IsServedFrom}
+use Rattle.fetcher.specs.declared.posts.Posts.{Posts}
+use Rattle.keyed_lock.specs.Hold.{KeepAll}
+use Rattle.fetcher.specs.declared.post.Began.{Began}
+use Rattle.fetcher.specs.Posting.{ArePosts, AreServed}
+
+module _ {S : Type 0} (list : S → Option (List Row)) (counts : S → Counts) (calls : S → Option (List Call)) (at_hand : S → ℕ) (states : S → Option ℕ) where
+  pub taken : (posts : Posts S) (pool : List TableId) (place : ℕ) (slot : Slot S) → ArePosts posts pool
+      → IsServedFrom list counts calls at_hand states posts.lock.key.pool.value posts.lock.key.page posts.lock.key.ahead posts.lock.key.slots.value.items place slot
+      → (d : Slot S) → IsServed list counts calls at_hand states pool posts.page posts.ahead (slice_index_or posts.lock.key.slots.value.items place d) slot
+  taken posts pool place slot are h d =
+      subst (λ (z : List TableId × ℕ × ℕ). IsServed list counts calls at_hand states z.0 z.1 z.2 (slice_index_or posts.lock.key.slots.value.items place d) slot)
+      (λ i. (are.of i, are.page i, are.ahead i)) (h.served d)
+
+  pub given : (posts : Posts S) (pool : List TableId) (place : ℕ) (slot : Slot S) → ArePosts posts pool
+      → ((d : Slot S) → IsServed list counts calls at_hand states pool posts.page posts.ahead (slice_index_or posts.lock.key.slots.value.items place d) slot)
+      → IsServedFrom list counts calls at_hand states posts.lock.key.pool.value posts.lock.key.page posts.lock.key.ahead posts.lock.key.slots.value.items place slot
+  given posts pool place slot are h = record {
+    served = λ d. subst (λ (z : List TableId × ℕ × ℕ). IsServed list counts calls at_hand states z.0 z.1 z.2 (slice_index_or posts.lock.key.slots.value.items place d) slot)
+        (λ i. (sym are.of i, sym are.page i, sym are.ahead i)) (h d);
+  }
+
+  -- the fact that the posts keep
+  abbrev pub kept_fact : Began S → ℕ → Slot S → Type 0
+  kept_fact began place slot = IsServedFrom list counts calls at_hand states began.pool.value began.page began.ahead began.slots.value.items place slot
+
+  -- before any turn the slots keep what the posts are opened with
+  pub keep_opened : (began : Began S) (pool : List TableId) (page ahead : ℕ) (slots : List (Slot S)) → began.pool.value ≡ pool
+      → began.page ≡ page → began.ahead ≡ ahead → began.slots.value.items ≡ slots
+      → AreServed list counts calls at_hand states pool page ahead slots slots → KeepAll kept_fact began slots
+  keep_opened began pool page ahead slots own paged read were fresh = record {
+    each = λ place d l.
+        subst (λ (z : List TableId × ℕ × ℕ × List (Slot S)). IsServedFrom list counts calls at_hand states z.0 z.1 z.2 z.3 place (slice_index_or slots place d))
+        (λ k. (sym own k, sym paged k, sym read k, sym were k))
+        (record {
+          served = λ e. subst (λ (b : Slot S). IsServed list counts calls at_hand states pool page ahead b (slice_index_or slots place d))
+              (get_or_default slots place d e l) (fresh.each place d l);
+        });
+  }
+
+  -- what the posts keep is what was served at them
+  pub kept_served : (began : Began S) (now : List (Slot S)) → length now ≡ length began.slots.value.items → KeepAll kept_fact began now
+      → AreServed list counts calls at_hand states began.pool.value began.page began.ahead began.slots.value.items now
+  kept_served began now size keep = record {
+    size = size;
+    each = λ place d l. (keep.each place d (omega (arith, size, l))).served d;
+  }

@@ -1,0 +1,8 @@
+use Rattle.std.proofs.Common.{◌∙◌}
+use Rattle.fetcher.proofs.PostLaws.{kept_served}
+use Rattle.fetcher.proofs.posts.Posts.close.Goals as goal
+
+pub returns : goal.returns
+returns g c =
+    kept_served g.S.Source.list g.S.Source.counts g.S.Source.calls g.S.Source.at_hand g.S.Source.states c.args.self.lock.key c.close.new.values.items
+    (c.close.ensures.size ∙ c.requires.size) c.close.ensures.keep
