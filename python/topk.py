@@ -155,7 +155,7 @@ def answer(lists: Mapping[str, Pairs], query: str) -> Answer:
     """Answers a query over lists.
 
     `lists` has the lists by name: all of the same objects, each object once in a list, the rows in any order. Objects are integers
-    up to 4294967295, grades up to 1000000. `query` is `top K by EXPRESSION using ALGORITHM`, with the algorithm `ta`, `nra` or `ca`.
+    up to 4294967295, grades up to 1000000. `query` is `top K by EXPRESSION using ALGORITHM`, with the algorithm `ta`, `nra`, `ca` or `fa`.
 
     It is the answer of `answer_bundle` to what `bundle_of` makes of them, without that text.
 

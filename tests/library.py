@@ -155,7 +155,7 @@ def library_rows_as_program(program):
     """Every bundle of the examples that lists print as, and made ones: the text that the program writes of the printed text."""
     answer = library().topk_answer_rows
     texts = {path.name: path.read_bytes() for path in sorted(EXAMPLES.glob("*.bundle"))}
-    texts |= {word.decode(): made_bundle(500, 5, b"top 7 by sum(l0,min(l1,l2),median(l3,l4)) using " + word) for word in (b"ta", b"nra", b"ca")}
+    texts |= {word.decode(): made_bundle(500, 5, b"top 7 by sum(l0,min(l1,l2),median(l3,l4)) using " + word) for word in (b"ta", b"nra", b"ca", b"fa")}
     apart = {name: (text, taken_apart(text)) for name, text in texts.items()}
     if sum(lists is not None for _, lists in apart.values()) < 20:
         return "too few examples are what lists print as"
@@ -337,6 +337,13 @@ def python_doctests(program):
     return None if tried.failed == 0 and tried.attempted > 0 else f"{tried.failed} of {tried.attempted} doctests fail"
 
 
+def python_page(program):
+    """The examples of the page on the library."""
+    module()
+    tried = doctest.testfile(str(REPOSITORY / "docs" / "LIBRARY.md"), module_relative=False)
+    return None if tried.failed == 0 and tried.attempted > 0 else f"{tried.failed} of {tried.attempted} examples fail"
+
+
 def python_answers(program):
     """The figures of the page on certificates, by pairs, by two arrays, by a text."""
     topk = module()
@@ -441,5 +448,5 @@ def tests():
     """Each test with its name."""
     for test in (library_one_as_program, library_rows_as_program, library_rows_of_no_bundle, library_judge_as_program, library_short_buffer,
                  library_empty_input, library_largest_input, library_on_threads, library_keeps_nothing, library_refused_memory, library_header,
-                 python_doctests, python_answers, python_any_order, python_refusals, python_long_text, python_numpy):
+                 python_doctests, python_page, python_answers, python_any_order, python_refusals, python_long_text, python_numpy):
         yield test.__name__, test

@@ -105,9 +105,10 @@ module _ (run : BatchRun) (batch : BatchState) (lists : List (List Row)) (ran : 
 
   one_ends : (ready : Ready) (q : Inquiry) (end : Ended) → Contains ran.queries q → IsOf ready q → EndsAs q end → EndsOver (lists_for lists ready) ready end
   one_ends ready q end c of ends =
+      let on = member_of_all (IsOnItsRun lists) ran.queries q runs c in
       subst (λ D. EndsOver D ready end) (sym (same_lists lists ready q of))
-      (ends_over lists ran.states ready q (member_of_all (IsServed ran.states) ran.queries q ran.served c) of (own_table ready q of c)
-      (member_of_all (IsOnItsRun lists) ran.queries q runs c) (λ list. none_refused kind.Failed why.Failed q list refl none_failed c)
+      (ends_over lists ran.states ready q (member_of_all (IsServed ran.states) ran.queries q ran.served c) of (own_table ready q of c) on.agrees on
+      (λ list. none_refused kind.Failed why.Failed q list refl none_failed c)
       (λ list. none_refused kind.Garbled why.Garbled q list refl none_garbled c) (member_of_all IsSpared ran.queries q ran.spared c) end ends)
 
   pub ends_over_all : AllZip (λ ready. EndsOver (lists_for lists ready) ready) run.readies batch.endings

@@ -1,11 +1,11 @@
--- What a query is refused for over told lists is of these lists, and over told tables only a call that failed refuses it otherwise than alone.
-use Rattle.std.proofs.Common.{◌≡◌, ◌≢◌, ◌<◌, inl, inr, ℕ, suc, Option, Some, None, IfSome, List, [], ◌∷◌, ◌++◌, length, map, All, Contains, append_assoc, drop, refl, sym, ap, subst, ◌∙◌, arith}
+-- What a query is refused for over told lists is of these lists.
+use Rattle.std.proofs.Common.{◌≡◌, ◌≢◌, ◌<◌, inl, inr, ℕ, suc, Option, Some, None, IfSome, List, [], ◌∷◌, ◌++◌, length, Contains, append_assoc, drop, refl, sym, ap, subst, ◌∙◌, arith}
 use Rattle.std.specs.List.{AllZip, slice_index_or}
 use Rattle.std.proofs.lemmas.List.Elements.{Contains-append_cases, Contains-append_right}
 use Rattle.ranked_list.specs.declared.row.Row.{Row}
 use Rattle.ranked_list.specs.declared.need.Need.{Need}
 use Rattle.ranked_list.specs.declared.need.Need.TheVariants as need
-use Rattle.ranked_list.specs.Table.{IsRanked, IsTable, objects, top_grade}
+use Rattle.ranked_list.specs.Table.{IsRanked, objects, top_grade}
 use Rattle.topk_theory.specs.Transcript.{Begins, last_grade}
 use Rattle.topk_theory.proofs.AgreementLists.{begins_splits, contains_cases, contains_here, contains_map, contains_map_from, contains_nil, member_of_all}
 use Rattle.topk_theory.proofs.ConsistentRows.{behind_below_last, ranked_capped}
@@ -27,21 +27,16 @@ use Rattle.query_turns.specs.declared.inquiry.Inquiry.{Inquiry}
 use Rattle.query_turns.specs.Inquiries.{needed, source_needed, source_of}
 use Rattle.query_turns.specs.Causes.{CanNotBeHad, IsAtFault, IsCause, IsMissed}
 use Rattle.query_turns.specs.Endings.{EndsAs}
-use Rattle.query_turns.specs.Honest.{lists_of, HasTable, IsOnItsRun}
 use Rattle.query_turns.specs.Kept.{IsServed}
 use Rattle.query_turns.specs.Made.{IsOf}
 use Rattle.query_turns.proofs.Serving.{of_some_list, source_there}
 use Rattle.fetcher.specs.Causes.{ComesOf, IsFaultOfRow, IsUnder}
 use Rattle.fetcher.specs.Telling.{IsTrueSettling, TellsOf}
 use Rattle.fetcher.proofs.ToldLaws.{never_clashes, never_repeated}
-use Rattle.batch_result.specs.Batches.{BatchRun, BatchState, IsBatch, IsSpared}
+use Rattle.batch_result.specs.Batches.{BatchRun, BatchState, IsBatch}
 use Rattle.batch_result.specs.Numbered.{told_at}
-use Rattle.batch_result.specs.Tables.{EndsOrFails, NoneMoved, lists_for}
 use Rattle.batch_result.specs.ToldFaults.{HasFault, HasToldCause, told_list}
 use Rattle.batch_result.proofs.EndingLaws.{need_list, zip_through}
-use Rattle.batch_result.proofs.OwnTables.{all_tables, same_lists}
-use Rattle.batch_result.proofs.RunOverLists.{ends_or_fails}
-use Rattle.batch_result.proofs.TableLaws.{on_their_runs}
 
 -- ---- one list
 head_apart : (row : Row) (rows : List Row) (other : Row) → HasEachOnce (row ∷ rows) → Contains rows other → row.object ≢ other.object
@@ -136,6 +131,22 @@ row_fault list log (Moved had now) tells e = elim (tells.fault (Moved had now) e
   | inr (inr moved) ↦ subst (HasFault list) (sym moved.is) moved.differ
 ]
 
+-- a ranked list has no grade above those of rows before it
+pub none_above : (list : List Row) (object grade bottom : ℕ) → IsRanked list → HasFault list (Above object grade bottom) → ⊥
+none_above list object grade bottom ranked h =
+    let one : Row = record { object = object; grade = grade } in
+    let front = h.1.front in
+    let rest : List Row = drop (length front) list in
+    let split : list ≡ front ++ rest = begins_splits front list h.1.begins in
+    let last = h.1.last in
+    let above = h.1.above in
+    elim (Contains-append_cases front rest one (subst (λ xs. Contains xs one) split h.0)) [
+      | inl kept ↦ h.1.absent (contains_map (λ (z : Row). z.object) front one kept)
+      | inr behind ↦
+          let low = behind_below_last front rest one (subst IsRanked split ranked) behind in
+          omega (arith, low, last, above)
+    ]
+
 -- a ranked list has no row at fault
 pub ranked_rows : (list : List Row) (log : List LogEntry) (row : Row) (fault : SourceFault) → IsRanked list → HasFault list fault → IsFaultOfRow log row fault → ⊥
 ranked_rows list log row (OutOfOrder place above below) ranked h of =
@@ -153,19 +164,7 @@ ranked_rows list log row (TooHigh place grade) ranked h of =
     let here = h.is.is in
     let high = h.is.high in
     omega (arith, capped, here, high)
-ranked_rows list log row (Above object grade bottom) ranked h of =
-    let one : Row = record { object = object; grade = grade } in
-    let front = h.1.front in
-    let rest : List Row = drop (length front) list in
-    let split : list ≡ front ++ rest = begins_splits front list h.1.begins in
-    let last = h.1.last in
-    let above = h.1.above in
-    elim (Contains-append_cases front rest one (subst (λ xs. Contains xs one) split h.0)) [
-      | inl kept ↦ h.1.absent (contains_map (λ (z : Row). z.object) front one kept)
-      | inr behind ↦
-          let low = behind_below_last front rest one (subst IsRanked split ranked) behind in
-          omega (arith, low, last, above)
-    ]
+ranked_rows list log row (Above object grade bottom) ranked h of = none_above list object grade bottom ranked h
 ranked_rows list log row (Repeated object place) ranked h of = h
 ranked_rows list log row (Clash object sorted random) ranked h of = h
 ranked_rows list log row (ShortList stated got) ranked h of = of
@@ -197,7 +196,7 @@ has_fault list s (need.Row number depth) fault tells h = row_fault list s.log fa
 has_fault list s (need.Grade number object) fault tells h = grade_fault list object fault (tells.settled object (Bad fault) h)
 has_fault list s need.Done fault tells h = absurd h
 
-lacks : (list : List Row) (s : State) (n : Need) (object : ℕ) → TellsOf list s.log → IsMissed s n object → ¬ Contains (objects list) object
+pub lacks : (list : List Row) (s : State) (n : Need) (object : ℕ) → TellsOf list s.log → IsMissed s n object → ¬ Contains (objects list) object
 lacks list s (need.Grade number named) object tells h = tells.settled object Missed h.1
 lacks list s (need.Row number depth) object tells h = absurd h
 lacks list s need.Done object tells h = absurd h
@@ -249,21 +248,3 @@ module _ (run : BatchRun) (batch : BatchState) (ran : IsBatch run batch) where
     where
       one_cause_of : (ready : Ready) (q : Inquiry) (end : Ended) → Contains ran.queries q → IsOf ready q → EndsAs q end → HasToldCause run.told ready end
       one_cause_of ready q end c of ends = one_cause ready q end c of ends
-
-  -- where the sources tell tables, and none was replaced
-  module _ (lists : List (List Row)) (told : run.told ≡ map Some lists) (unmoved : NoneMoved run)
-      (tables : All (λ ready. IsTable ready.count (lists_for lists ready)) run.readies) where
-    own : All (HasTable lists) ran.queries
-    own = all_tables lists run.readies ran.queries ran.of tables
-
-    one_ends : (ready : Ready) (q : Inquiry) (end : Ended) → Contains ran.queries q → IsOf ready q → EndsAs q end
-        → EndsOrFails (lists_for lists ready) ready end
-    one_ends ready q end c of ends =
-        let table : IsTable ready.count (lists_of lists q) = subst (λ n. IsTable n (lists_of lists q)) (of.goes.count ∙ of.begun.count) (member_of_all (HasTable lists) ran.queries q own c) in
-        subst (λ D. EndsOrFails D ready end) (sym (same_lists lists ready q of))
-        (ends_or_fails lists ran.states ready q (member_of_all (IsServed ran.states) ran.queries q ran.served c) of table
-        (member_of_all (IsOnItsRun lists) ran.queries q (on_their_runs run batch ran lists told unmoved own) c) (member_of_all IsSpared ran.queries q ran.spared c) end ends)
-
-    pub ends_or_fails_all : AllZip (λ ready. EndsOrFails (lists_for lists ready) ready) run.readies batch.endings
-    ends_or_fails_all = zip_through IsOf EndsAs (λ ready. EndsOrFails (lists_for lists ready) ready) run.readies ran.queries batch.endings
-        (λ ready q end c of ends. one_ends ready q end c of ends) ran.of ran.ends

@@ -11,3 +11,4 @@ pub mod EndingLaws
 pub mod AskedLaws
 pub mod AccountLaws
 pub mod FaultLaws
+pub mod OutsideLaws

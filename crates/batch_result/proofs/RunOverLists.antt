@@ -4,8 +4,11 @@ use Rattle.ranked_list.specs.declared.row.Row.{Row}
 use Rattle.ranked_list.specs.Table.{IsTable}
 use Rattle.monotone_fn.specs.Shape.{list_count}
 use Rattle.topk_theory.specs.Transcript.{whole}
+use Rattle.access_log.specs.Log.{AgreesWith}
 use Rattle.machine_base.specs.declared.answer.Answer.{Answer}
+use Rattle.machine_base.specs.declared.core_fault.CoreFault.{CoreFault}
 use Rattle.machine_base.specs.declared.core_fault.CoreFault.TheVariants as core
+use Rattle.source_state.specs.declared.look.LookFault.{LookFault}
 use Rattle.source_state.specs.declared.look.LookFault.TheVariants as why
 use Rattle.source_state.specs.State.{State, state_at}
 use Rattle.query_core.specs.declared.drive_fault.DriveFault.{DriveFault}
@@ -26,19 +29,19 @@ use Rattle.query_turns.specs.Honest.{lists_of, MayRefuse, IsOnItsRun}
 use Rattle.query_turns.specs.Kept.{IsServed}
 use Rattle.query_turns.specs.Made.{IsOf}
 use Rattle.batch_result.specs.Batches.{IsSpared}
-use Rattle.batch_result.specs.Tables.{EndsOrFails, EndsOver}
+use Rattle.batch_result.specs.Tables.{EndsOrFails, EndsOver, IsOutside}
 
--- a query on its run over its own lists, which form a table
+-- a query over its own lists, which form a table and agree with its transcript
 module _ (lists : List (List Row)) (states : List State) (ready : Ready) (q : Inquiry) (served : IsServed states q) (of : IsOf ready q)
-    (table : IsTable ready.count (lists_of lists q)) (on : IsOnItsRun lists q) where
+    (table : IsTable ready.count (lists_of lists q)) (agrees : AgreesWith (lists_of lists q) (state_of q.machine).log) where
   abbrev D : List (List Row)
   D = lists_of lists q
 
   fed : IsFedFrom (whole D) (state_of q.machine)
-  fed = record { drawn = on.agrees.drawn; roomy = served.drawn.roomy }
+  fed = record { drawn = agrees.drawn; roomy = served.drawn.roomy }
 
   many_lists : length D ≡ list_count ready.query.expr
-  many_lists = on.agrees.lists ∙ of.goes.lists ∙ of.begun.lists
+  many_lists = agrees.lists ∙ of.goes.lists ∙ of.begun.lists
 
   comes : (result : Result Answer DriveFault) → Drives ready.query.algorithm D of.first result → RunsOver ready D result
   comes result drives = drives_begun ready D ready.query.algorithm of.first result of.is table many_lists of.is.expr.lists.some refl of.begun drives
@@ -47,34 +50,31 @@ module _ (lists : List (List Row)) (states : List State) (ready : Ready) (q : In
   answers_over answer ends =
       comes (Ok answer) (finishes_begun D ready.query.algorithm of.first q.machine (Ok answer) of.algorithm of.goes fed ends.done (served.run, ends.items, ends.log))
 
-  pub is_over : (room : ℕ) → q.refusal ≡ Some (refusal.Core (core.RoomFull room)) → IsOverRoom ready.query ready.count D room
-  is_over room e =
-      let may : MayRefuse D q (Some (refusal.Core (core.RoomFull room))) = subst (MayRefuse D q) e on.refused in
+  pub is_over : (room : ℕ) → MayRefuse D q (Some (refusal.Core (core.RoomFull room))) → q.refusal ≡ Some (refusal.Core (core.RoomFull room))
+      → IsOverRoom ready.query ready.count D room
+  is_over room may e =
       let cause : IsCause (state_at states (source_needed q)) (state_of q.machine) q.waiting.noted (Some (refusal.Core (core.RoomFull room))) =
       subst (IsCause (state_at states (source_needed q)) (state_of q.machine) q.waiting.noted) e served.cause in
       comes (Err (RoomFull room)) (stops_begun D ready.query.algorithm of.first q.machine (RoomFull room) of.algorithm of.goes (cause.2, may.0, may.1))
 
-  -- whatever failed, the query ends over its lists, or is refused for a call that failed
-  pub ends_or_fails : IsSpared q → (end : Ended) → EndsAs q end → EndsOrFails D ready end
-  ends_or_fails spared (ended.Answered answer) ends = answers_over answer ends
-  ends_or_fails spared (ended.Core (core.RoomFull room)) ends = is_over room ends
-  ends_or_fails spared (ended.Core (core.Strangers object count)) ends = subst (MayRefuse D q) ends on.refused
-  ends_or_fails spared (ended.Look list (why.Source fault)) ends = subst (MayRefuse D q) ends on.refused
-  ends_or_fails spared (ended.Look list (why.Missing object)) ends = subst (MayRefuse D q) ends on.refused
-  ends_or_fails spared (ended.Look list (why.AsksFull kept)) ends = subst (MayRefuse D q) ends on.refused
-  ends_or_fails spared (ended.Look list why.Failed) ends = tt
-  ends_or_fails spared (ended.Look list why.Garbled) ends = tt
-  ends_or_fails spared (ended.Look list why.Memory) ends = spared list ends
+  -- whatever happened outside, the query ends over its lists, or is refused for that
+  pub ends_or_fails : ((fault : CoreFault) → q.refusal ≡ Some (refusal.Core fault) → MayRefuse D q (Some (refusal.Core fault)))
+      → ((list : ℕ) (fault : LookFault) → q.refusal ≡ Some (refusal.Look list fault) → IsOutside fault) → (end : Ended) → EndsAs q end → EndsOrFails D ready end
+  ends_or_fails lacked looked (ended.Answered answer) ends = answers_over answer ends
+  ends_or_fails lacked looked (ended.Core (core.RoomFull room)) ends = is_over room (lacked (core.RoomFull room) ends) ends
+  ends_or_fails lacked looked (ended.Core (core.Strangers object count)) ends = lacked (core.Strangers object count) ends
+  ends_or_fails lacked looked (ended.Look list fault) ends = looked list fault ends
 
   -- where no call that failed refuses it, the query ends over its lists
-  pub ends_over : ((list : ℕ) → q.refusal ≡ Some (refusal.Look list why.Failed) → ⊥) → ((list : ℕ) → q.refusal ≡ Some (refusal.Look list why.Garbled) → ⊥)
+  pub ends_over : IsOnItsRun lists q → ((list : ℕ) → q.refusal ≡ Some (refusal.Look list why.Failed) → ⊥)
+      → ((list : ℕ) → q.refusal ≡ Some (refusal.Look list why.Garbled) → ⊥)
       → IsSpared q → (end : Ended) → EndsAs q end → EndsOver D ready end
-  ends_over failed garbled spared (ended.Answered answer) ends = answers_over answer ends
-  ends_over failed garbled spared (ended.Core (core.RoomFull room)) ends = is_over room ends
-  ends_over failed garbled spared (ended.Core (core.Strangers object count)) ends = subst (MayRefuse D q) ends on.refused
-  ends_over failed garbled spared (ended.Look list (why.Source fault)) ends = subst (MayRefuse D q) ends on.refused
-  ends_over failed garbled spared (ended.Look list (why.Missing object)) ends = subst (MayRefuse D q) ends on.refused
-  ends_over failed garbled spared (ended.Look list (why.AsksFull kept)) ends = subst (MayRefuse D q) ends on.refused
-  ends_over failed garbled spared (ended.Look list why.Failed) ends = failed list ends
-  ends_over failed garbled spared (ended.Look list why.Garbled) ends = garbled list ends
-  ends_over failed garbled spared (ended.Look list why.Memory) ends = spared list ends
+  ends_over on failed garbled spared (ended.Answered answer) ends = answers_over answer ends
+  ends_over on failed garbled spared (ended.Core (core.RoomFull room)) ends = is_over room (subst (MayRefuse D q) ends on.refused) ends
+  ends_over on failed garbled spared (ended.Core (core.Strangers object count)) ends = subst (MayRefuse D q) ends on.refused
+  ends_over on failed garbled spared (ended.Look list (why.Source fault)) ends = subst (MayRefuse D q) ends on.refused
+  ends_over on failed garbled spared (ended.Look list (why.Missing object)) ends = subst (MayRefuse D q) ends on.refused
+  ends_over on failed garbled spared (ended.Look list (why.AsksFull kept)) ends = subst (MayRefuse D q) ends on.refused
+  ends_over on failed garbled spared (ended.Look list why.Failed) ends = failed list ends
+  ends_over on failed garbled spared (ended.Look list why.Garbled) ends = garbled list ends
+  ends_over on failed garbled spared (ended.Look list why.Memory) ends = spared list ends

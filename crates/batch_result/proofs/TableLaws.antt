@@ -98,7 +98,7 @@ asked_of_list lists states q list object grade h agrees c =
           objects_in_each t.log.count D list object agrees.table serves.0 serves.1
     ]
 
-named_in_list : (lists : List (List Row)) (states : List State) (q : Inquiry) (source object : ℕ) → IsServed states q
+pub named_in_list : (lists : List (List Row)) (states : List State) (q : Inquiry) (source object : ℕ) → IsServed states q
     → AgreesWith (lists_of lists q) (state_of q.machine).log → AsksGradeOf q source object → Contains (objects (list_at lists source)) object
 named_in_list lists states q source object h agrees asks =
     subst (λ s. Contains (objects (list_at lists s)) object) asks.of

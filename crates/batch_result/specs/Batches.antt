@@ -19,6 +19,7 @@ use Rattle.fetcher.specs.Moving.{TellsNoMove}
 use Rattle.fetcher.specs.Telling.{TellsOf}
 use Rattle.limits.specs.declared.settings.Settings.{Settings}
 use Rattle.batch_result.specs.Numbered.{told_at, version_at, counts_at}
+use Rattle.batch_result.specs.Refusing.{IsByOwnTurns}
 use Rattle.batch_result.specs.declared.batch.Use.{Use}
 use Rattle.batch_result.specs.Using.{IsUsed, HasCounted}
 
@@ -81,7 +82,7 @@ IsSpared q = (list : ℕ) → q.refusal ≢ Some (Look list why.Memory)
 -- how a batch ended. There are the closing states of the sources, and the queries as they stood at their ends, in their order:
 --   each query's transcript is drawn from the closing logs of its sources and is how the run of its algorithm begins on every table that
 --   agrees with it, and a refused one has its cause in the closing state of the source that it needed;
---   each ended as it stood, with the answer of its run, which is right, or as it was refused, and none for want of memory;
+--   each ended as it stood, with the answer of its run, which is right, or as it was refused, by its own turns, and none for want of memory;
 --   of each source no more was used than the queries asked for, no query is refused for a call that failed but where such calls were counted, and a list
 --   was replaced only where that was counted, in place of the version at hand
 pub record IsBatch (run : BatchRun) (batch : BatchState) : Type 0 where
@@ -94,6 +95,7 @@ pub record IsBatch (run : BatchRun) (batch : BatchState) : Type 0 where
   pub ends : AllZip EndsAs queries batch.endings
   pub right : AllZip IsRight run.readies batch.endings
   pub spared : All IsSpared queries
+  pub own : All (IsByOwnTurns states) queries
   pub uses : length batch.uses ≡ length run.sizes
   pub used : (source : ℕ) → source < length run.sizes
       → IsUsed run.settings queries source (state_at states source) (counts_at run.before source) (counts_at run.now source) (use_at batch.uses source)

@@ -1,11 +1,13 @@
 -- What comes of a batch whose sources tell tables.
-use Rattle.std.specs.Prelude.{◌≡◌, ◌<◌, ℕ, Some, List, All, length, map}
+use Rattle.std.specs.Prelude.{◌≡◌, ◌≢◌, ◌<◌, ℕ, Some, List, All, length, map}
 use Rattle.tk_io.specs.Faults.{Rose}
 use Rattle.ranked_list.specs.declared.row.Row.{Row}
 use Rattle.ranked_list.specs.Table.{IsTable}
 use Rattle.topk_theory.specs.Transcript.{list_at}
 use Rattle.machine_base.specs.declared.core_fault.CoreFault.TheVariants.{RoomFull}
 use Rattle.source_api.specs.declared.counts.Counts.{Counts}
+use Rattle.source_log.specs.declared.entry.SourceFault.TheVariants.{Moved}
+use Rattle.source_state.specs.declared.look.LookFault.{LookFault}
 use Rattle.source_state.specs.declared.look.LookFault.TheVariants as why
 use Rattle.query_core.specs.declared.ready.Ready.{Ready}
 use Rattle.query_core.specs.Driving.{AnswersOver}
@@ -41,10 +43,16 @@ EndsOver D ready (ended.Answered answer) = AnswersOver ready D answer
 EndsOver D ready (ended.Core (RoomFull room)) = IsOverRoom ready.query ready.count D room
 EndsOver _ _ _ = ⊥
 
--- how a query ends over its lists D whatever failed: as it does alone, or refused because a call failed or was answered by garbled data
+-- a look fails for what happened outside: a call failed or was answered by garbled data, or the list was replaced by one of another version
+abbrev pub IsOutside : LookFault → Type 0
+IsOutside why.Failed = Unit {0}
+IsOutside why.Garbled = Unit {0}
+IsOutside (why.Source (Moved had now)) = had ≢ now
+IsOutside _ = ⊥
+
+-- how a query ends over its lists D whatever happened outside: as it does alone, or refused for that
 abbrev pub EndsOrFails : List (List Row) → Ready → Ended → Type 0
 EndsOrFails D ready (ended.Answered answer) = AnswersOver ready D answer
 EndsOrFails D ready (ended.Core (RoomFull room)) = IsOverRoom ready.query ready.count D room
-EndsOrFails D ready (ended.Look list why.Failed) = Unit {0}
-EndsOrFails D ready (ended.Look list why.Garbled) = Unit {0}
+EndsOrFails D ready (ended.Look list fault) = IsOutside fault
 EndsOrFails _ _ _ = ⊥

@@ -45,10 +45,11 @@ pub fn answers_bound_the_uses()
         → IsWithin run.settings (size_at run.sizes source) source (printed_readings run.readies batch.endings) (use_at batch.uses source) }
 {}
 
-/// Where the sources tell lists that form a table for each query, and none was replaced, no query is refused for what was read of a list: whatever
-/// failed, each is answered by the one answer over its lists, or refused for its room, or for a call that failed or was answered by garbled data.
+/// Where the sources tell lists that form a table for each query, no query is refused for what was read of a list: whatever failed or was replaced,
+/// each is answered by the one answer over its lists, or refused for its room, for a call that failed or was answered by garbled data, or because a
+/// list was replaced.
 pub fn told_tables_end_or_fail()
-    ensures { (run : BatchRun) (batch : BatchState) → IsBatch run batch → (lists : List (List Row)) → run.told ≡ map Some lists → NoneMoved run
+    ensures { (run : BatchRun) (batch : BatchState) → IsBatch run batch → (lists : List (List Row)) → run.told ≡ map Some lists
         → All (λ ready. IsTable ready.count (lists_for lists ready)) run.readies
         → AllZip (λ ready. EndsOrFails (lists_for lists ready) ready) run.readies batch.endings }
 {}

@@ -25,6 +25,7 @@ use Rattle.source_pool.specs.Closed.{HaveAll, IsClosed, AreClosed}
 use Rattle.query_core.specs.declared.ready.Ready.{Ready}
 use Rattle.query_turns.specs.declared.ended.Ended.{Ended}
 use Rattle.query_turns.specs.declared.inquiry.Inquiry.{Inquiry}
+use Rattle.query_turns.specs.Inquiries.{source_needed}
 use Rattle.query_turns.specs.Kept.{IsServed}
 use Rattle.query_turns.specs.Made.{IsOf}
 use Rattle.query_turns.specs.Endings.{EndsAs, IsRight}
@@ -43,6 +44,7 @@ use Rattle.batch_result.specs.declared.batch.Use.{Use}
 use Rattle.batch_sides.specs.declared.work.Worker.{Worker}
 use Rattle.batch_sides.specs.Shares.{share, share_from}
 use Rattle.batch_result.specs.Using.{is_refused_for, IsWantedBy, IsNamedBy, all_grades_asked, IsUsed, HasCounted}
+use Rattle.batch_result.specs.Refusing.{IsByOwnTurns}
 use Rattle.batch_result.specs.Batches.{batch_of, use_at, IsClosing, IsSpared, IsBatch}
 use Rattle.batch_sides.specs.Working.{End, IsEndOf, DidOf, RanAll}
 use Rattle.batch_sides.specs.Slots.{SlotState, slot_at}
@@ -185,6 +187,7 @@ pub record IsEnded (states : List State) (ready : Ready) (end : End) : Type 0 wh
   pub ends : EndsAs end.0 end.1
   pub right : IsRight ready end.1
   pub spared : IsSpared end.0
+  pub own : IsByOwnTurns states end.0
   pub served : IsServed states end.0
 
 pub ended_at : (states : List State) (holds : List Hold) (ready : Ready) (end : End) → length states ≡ length holds
@@ -194,16 +197,26 @@ pub ended_at : (states : List State) (holds : List Hold) (ready : Ready) (end : 
     → IsEndOf holds ready end → IsEnded states ready end
 ended_at states holds ready end many ahead sound shut h =
     let long : length holds ≡ length h.then_held = h.since.size in
+    let saw : (source : ℕ) → source < length holds → IsAhead (hold_at h.then_held source).pass.1 (state_at states source)
+    = λ source l.
+    let more = h.since.each source in
+    ahead_of (hold_at h.then_held source).pass.1 (hold_at holds source).pass.1 (state_at states source) more.follows more.name (ahead source l) in
     record {
       of = h.of;
       ends = h.ends;
       right = h.right;
       spared = h.spared;
+      own = record {
+        before = h.first_held;
+        after = h.then_held;
+        why = h.why;
+        later = h.later;
+        seen = λ l. (saw (source_needed end.0) (omega (arith, l, many))).seen;
+        tally = λ l. (saw (source_needed end.0) (omega (arith, l, many))).tally;
+      };
       served = served_later h.then_held states end.0
           (all_later h.then_held states (many ∙ long)
-          (λ source l.
-          let more = h.since.each source in
-          ahead_of (hold_at h.then_held source).pass.1 (hold_at holds source).pass.1 (state_at states source) more.follows more.name (ahead source (omega (arith, l, long))))
+          (λ source l. saw source (omega (arith, l, long)))
           (λ source l. sound source (omega (arith, l, long))) (λ source l. shut source (omega (arith, l, long))))
           h.served;
     }
@@ -303,6 +316,9 @@ module _ (pool : List TableId) (settings : Settings) (counts : List ℕ) (readie
 
     spared_all : All IsSpared queries
     spared_all = all_seconds (IsEnded states) (λ (end : End). end.0) IsSpared (λ ready end is. is.spared) readies ends whole.follows
+
+    own_all : All (IsByOwnTurns states) queries
+    own_all = all_seconds (IsEnded states) (λ (end : End). end.0) (IsByOwnTurns states) (λ ready end is. is.own) readies ends whole.follows
 
     ends_all : AllZip EndsAs queries (map (λ (end : End). end.1) ends)
     ends_all = both_parts (IsEnded states) (λ (end : End). end.0) (λ (end : End). end.1) EndsAs (λ ready end is. is.ends) readies ends whole.follows
@@ -496,6 +512,7 @@ module _ (pool : List TableId) (settings : Settings) (counts : List ℕ) (readie
       ends = ends_all;
       right = right_all;
       spared = spared_all;
+      own = own_all;
       uses = h.uses_many;
       used = λ source s.
           subst (λ c. IsUsed settings queries source (state_at states source) c (counts_at (map (λ (slot : SlotState). slot.counts) after) source) (use_at uses source)) (sym (counts_before source s))

@@ -160,8 +160,11 @@ end_on before after knows ready end h = record {
   ends = h.ends;
   right = h.right;
   spared = h.spared;
+  first_held = h.first_held;
   then_held = h.then_held;
   served = h.served;
+  later = h.later;
+  why = h.why;
   since = knows_on h.then_held before after h.since knows;
 }
 
@@ -232,7 +235,18 @@ ran_next workers place readies ready before after l is own one long h =
     ap (λ n. share workers n (take (place + 1) readies)) one.number
     ∙ (share_to workers before.number place readies ready l is ∙ ap (λ r. share workers before.number (take place readies) ++ r) here) in
     let ended : IsEndOf after.pass ready end =
-    record { of = ran.2.of; ends = ran.2.ends; right = ran.3; spared = ran.2.spared; then_held = after.pass; served = ran.2.served; since = knows_same after.pass } in
+    record {
+      of = ran.2.of;
+      ends = ran.2.ends;
+      right = ran.3;
+      spared = ran.2.spared;
+      first_held = before.pass;
+      then_held = after.pass;
+      served = ran.2.served;
+      later = ran.2.uses.since;
+      why = ran.2.why;
+      since = knows_same after.pass;
+    } in
     record {
       ends = h.ends ++ end ∷ [];
       ran = record {

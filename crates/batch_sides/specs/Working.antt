@@ -2,6 +2,7 @@
 use Rattle.std.specs.Prelude.{◌≡◌, ◌≤◌, ◌<◌, ◌++◌, ◌∷◌, [], ℕ, min, false, List, All, Contains, length, map, reverse, count_by}
 use Rattle.std.specs.List.{AllZip, slice_index_or}
 use Rattle.atomic_table.specs.Seated.{TableId}
+use Rattle.turn_lock.specs.Facts.{AtMost}
 use Rattle.source_log.specs.declared.entry.FailKind.TheVariants as kind
 use Rattle.source_state.specs.State.{last_count}
 use Rattle.source_pool.specs.declared.hold.Hold.{Hold}
@@ -11,11 +12,13 @@ use Rattle.query_core.specs.declared.ready.Ready.{Ready}
 use Rattle.query_core.specs.Ready.{IsReady}
 use Rattle.query_turns.specs.declared.ended.Ended.{Ended}
 use Rattle.query_turns.specs.declared.inquiry.Inquiry.{Inquiry}
+use Rattle.query_turns.specs.Inquiries.{source_needed}
 use Rattle.query_turns.specs.Kept.{IsServed}
 use Rattle.query_turns.specs.Made.{IsOf}
 use Rattle.query_turns.specs.Endings.{EndsAs, IsRight}
 use Rattle.query_run.specs.Seen.{states_seen}
 use Rattle.query_run.specs.Advancing.{WaitsForNothing, HasSourcesIn, KnowsMore}
+use Rattle.query_run.specs.Failing.{LookRefused}
 use Rattle.query_run.specs.Ran.{Ran}
 use Rattle.batch_sides.specs.declared.work.Worker.{Worker}
 use Rattle.batch_sides.specs.Shares.{share}
@@ -31,14 +34,18 @@ pub record KnowsAll (before after : List Hold) : Type 0 where
 abbrev pub End : Type 0
 End = Inquiry × Ended
 
--- a ready query ended so: what it read was drawn from what the pass knew then, and since then the pass came to know more at most
+-- a ready query ended so: what it read was drawn from what the pass knew then, and since then the pass came to know more at most; where it is refused, it
+-- is so by the turns that the pass took from what it held first on, and for no fail that the pass knew of by then
 pub record IsEndOf (holds : List Hold) (ready : Ready) (end : End) : Type 0 where
   pub of : IsOf ready end.0
   pub ends : EndsAs end.0 end.1
   pub right : IsRight ready end.1
   pub spared : IsSpared end.0
+  pub first_held : List Hold
   pub then_held : List Hold
   pub served : IsServed (states_seen then_held) end.0
+  pub later : AtMost (hold_at first_held (source_needed end.0)).pass.1.tally end.0.waiting.noted
+  pub why : LookRefused end.0 first_held then_held end.0.refusal
   pub since : KnowsAll then_held holds
 
 -- what these queries did of a source through a pass: it was raised no further than they asked, no more asks were added than they asked

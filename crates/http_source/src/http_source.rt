@@ -216,9 +216,7 @@ impl<D: Dial + Send + Drop> Source for HttpSource<D> {
     }
 
     /// Asks for rows, as `ask_page` does.
-    fn page(&mut self, alloc: Global, from: u32, count: u32) -> Result<Vec<Row>, Trouble>
-        requires { 1 ≤ count }
-    {
+    fn page(&mut self, alloc: Global, from: u32, count: u32) -> Result<Vec<Row>, Trouble> {
         self.ask_page(alloc, from, count)
     }
 

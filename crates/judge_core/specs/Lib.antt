@@ -1,4 +1,5 @@
 pub mod Judging
+pub mod JudgingWithin
 pub mod Extremes
 pub mod Objects
 pub mod Question

@@ -1,4 +1,5 @@
-//! Whether a transcript fixes an answer on every table that agrees with it, and where it does not, a table on which the answer is beaten.
+//! Whether a transcript fixes an answer, or how near it is to the best, on every table that agrees with it, and where it does
+//! not, a table on which the answer is beaten.
 //!
 //! On that table an object of the answer has its low and every other object its high.
 #![tactic(auto)]
@@ -12,7 +13,7 @@ mod question;
 mod verdict;
 
 pub use counter::counter_table;
-pub use decision::judge;
+pub use decision::{judge, judge_within};
 pub use memory::Memory;
 pub use objects::Objects;
 pub use verdict::{JudgeFault, Verdict};

@@ -32,6 +32,10 @@ const ONE_ROW: &[&str] = &[
 const ANSWER: &str =
     "certificate 1\nquery top 1 by sum(A,B) using ta\ncount 3\nanswer 2 1500 1500\nstop depth 2 sorted 4 random 3 cost 7\ns A 1 900\ns B 2 700\nr B 1 500\nr A 2 800\ns A 2 800\ns B 3 600\nr A 3 100\nend\n";
 
+/// The same where A is at version 7: one line more, 12 bytes.
+const ANSWER_AT_7: &str =
+    "certificate 1\nquery top 1 by sum(A,B) using ta\ncount 3\nversion A 7\nanswer 2 1500 1500\nstop depth 2 sorted 4 random 3 cost 7\ns A 1 900\ns B 2 700\nr B 1 500\nr A 2 800\ns A 2 800\ns B 3 600\nr A 3 100\nend\n";
+
 /// Version 7 of a list is replaced by version 8 just before the grade of object 2 is asked of it, which is the third call; after the last call.
 const AT_A_GRADE: Kind = Kind::Moves(Move {
     had: 7,
@@ -46,7 +50,7 @@ const AT_THE_END: Kind = Kind::Moves(Move {
 });
 
 /// Each call that the line makes, and of those that it doesn't make the next ones.
-static CALLS: [Calls; 7] = [
+static CALLS: [Calls; 8] = [
     Calls {
         place: "a",
         kinds: &[
@@ -92,9 +96,15 @@ static CALLS: [Calls; 7] = [
     },
     Calls {
         place: "a",
-        kinds: &[Kind::FailsAtPage(3), Kind::GarblesAtGrade(3), AT_THE_END],
+        kinds: &[Kind::FailsAtPage(3), Kind::GarblesAtGrade(3)],
         status: Status::Done,
         text: ANSWER,
+    },
+    Calls {
+        place: "a",
+        kinds: &[Kind::IsAt(7), AT_THE_END],
+        status: Status::Done,
+        text: ANSWER_AT_7,
     },
     Calls {
         place: "b",

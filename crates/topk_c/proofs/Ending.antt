@@ -14,7 +14,7 @@ use Rattle.topk_c.specs.Telling.{Kept, told_status, told_text}
 
 -- a shelf that has nothing and counts nothing
 abbrev pub no_shelf : Shelf
-no_shelf = record { texts = λ _. None; lists = λ _. None; at = λ _. nothing_at }
+no_shelf = record { texts = λ _. None; lists = λ _. None; versions = λ _. None; at = λ _. nothing_at }
 
 -- the call that finds these bytes and leaves some of them, and that has written a text
 abbrev pub in_memory : List ℕ → List ℕ → List ℕ → ℕ → Call

@@ -245,7 +245,7 @@ module _ (r : CatalogRun) (outcomes : List LineOutcome) (run : IsRun r outcomes)
         let on = member_of_all (IsOnItsRun lists) run.ran.ran.queries q (on_their_runs r outcomes run tells law) c in
         let spared = member_of_all IsSpared run.ran.ran.queries q run.ran.ran.spared c in
         subst (λ D. EndsOver D ready e) (sym same)
-        (ends_over lists run.ran.ran.states ready q (served_all q c) of (subst (IsTable ready.count) same has.table) on
+        (ends_over lists run.ran.ran.states ready q (served_all q c) of (subst (IsTable ready.count) same has.table) on.agrees on
         (λ list is. none_failed q list c is) (λ list is. none_garbled q list c is) spared e ends)
 
     run_becomes : (at : ℕ) (bytes : List ℕ) (o : LineOutcome) (q : Inquiry) → slice_get r.lines at ≡ Some bytes → Contains run.ran.ran.queries q

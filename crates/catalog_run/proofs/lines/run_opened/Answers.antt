@@ -21,7 +21,7 @@ run_admitted-requires-clause-ready g c =
     search rules
 
 pub run_admitted-requires-clause-versions : goal.run_admitted-requires-clause-versions
-run_admitted-requires-clause-versions g c =
+run_admitted-requires-clause-versions g c κs within =
     let o = c.requires.opened in
     let readies = c.in-Ok.admissions.readies.items in
     let stages = c.in-Ok.admissions.stages.items in

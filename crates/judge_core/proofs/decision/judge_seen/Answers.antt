@@ -4,7 +4,9 @@ use Rattle.monotone_fn.proofs.Laws.{value-monotone}
 use Rattle.topk_theory.specs.Transcript.{seen_objects}
 use Rattle.topk_theory.specs.Bounds.{high}
 use Rattle.judge_core.specs.Extremes.{FindsGreatest}
-use Rattle.judge_core.specs.Judging.{Judges, IsOutside}
+use Rattle.theta_theory.specs.Within.{Factor}
+use Rattle.judge_core.specs.Judging.{IsOutside}
+use Rattle.judge_core.specs.JudgingWithin.{JudgesWithin}
 use Rattle.judge_core.proofs.Telling.{tells}
 use Rattle.judge_core.proofs.decision.judge_seen.Goals as goal
 
@@ -16,8 +18,9 @@ returns c =
     let V = value c.args.expr.now in
     let log = c.args.transcript.now in
     let Y = c.args.answer.now in
-    subst (λ v. Judges V c.args.k log Y (Ok v)) (sym c.verdict_of.ensures)
-    (tells V c.args.k log Y c.least_low-inside.result c.greatest_high-outside.result
+    let factor : Factor = record { p = c.args.p; q = c.args.q } in
+    subst (λ v. JudgesWithin V c.args.k factor log Y (Ok v)) (sym c.verdict_within.ensures)
+    (tells V c.args.k factor log Y c.least_low-inside.result c.greatest_high-outside.result
     (record {
       monotone = value-monotone c.args.expr.now;
       lists = c.greatest_high-outside.ensures.limits.some_lists;

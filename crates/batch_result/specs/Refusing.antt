@@ -1,0 +1,20 @@
+-- What a query's own turns show of why it is refused.
+use Rattle.std.specs.Prelude.{◌≡◌, ◌<◌, List, length}
+use Rattle.turn_lock.specs.Facts.{AtMost, IsFrontOf}
+use Rattle.source_pool.specs.declared.hold.Hold.{Hold}
+use Rattle.source_pool.specs.Passes.{hold_at}
+use Rattle.source_state.specs.State.{State, state_at}
+use Rattle.query_turns.specs.declared.inquiry.Inquiry.{Inquiry}
+use Rattle.query_turns.specs.Inquiries.{source_needed}
+use Rattle.query_run.specs.Failing.{LookRefused}
+
+-- a query is refused by the turns that its pass took while it ran. For a call that failed or was garbled it is so only where it had called for its need
+-- itself in one of these turns, and the pass saw later that more such calls had come since, after all that it knew of when the query began. What the
+-- pass saw at the end is how the closing log of the source begins
+pub record IsByOwnTurns (states : List State) (q : Inquiry) : Type 0 where
+  pub before : List Hold
+  pub after : List Hold
+  pub why : LookRefused q before after q.refusal
+  pub later : AtMost (hold_at before (source_needed q)).pass.1.tally q.waiting.noted
+  pub seen : source_needed q < length states → IsFrontOf (hold_at after (source_needed q)).pass.1.seen (state_at states (source_needed q)).log
+  pub tally : source_needed q < length states → AtMost (hold_at after (source_needed q)).pass.1.tally (state_at states (source_needed q)).tally
