@@ -5,3 +5,5 @@ pub mod Bundling
 mod Ending
 mod Replying
 mod MadeLaws
+mod CompareLaws
+mod CompareEnding

@@ -7,3 +7,5 @@ pub mod Reply
 pub mod Lists
 pub mod Judge
 pub mod Outcomes
+pub mod Compare
+pub mod Comparing

@@ -26,7 +26,8 @@ pub fn answer_over(
     requires ready { IsReady ready.now }
     requires table { IsTable ready.now.count lists.old }
     requires lists { length lists.old ≡ list_count ready.now.query.expr }
-    ensures { RunsOver ready.now lists.old result }
+    ensures runs { RunsOver ready.now lists.old result }
+    ensures same { lists.new ≡ lists.old }
 {
     match Machine::make(alloc, ready) {
         Ok(machine) => drive(alloc, machine, lists),
@@ -37,7 +38,8 @@ pub fn answer_over(
 /// Feeds a machine from the lists until it needs nothing more, and has its answer.
 fn drive(alloc: Global, machine: Machine, lists: &mut [ToldList]) -> Result<Answer, DriveFault>
     requires { CanDrive lists.old (state_of machine) }
-    ensures { Drives (algorithm_of machine) lists.old (state_of machine) result }
+    ensures drives { Drives (algorithm_of machine) lists.old (state_of machine) result }
+    ensures same { lists.new ≡ lists.old }
 {
     let mut machine = machine;
     match feed_all(alloc, &mut machine, lists) {
@@ -52,6 +54,7 @@ fn drive(alloc: Global, machine: Machine, lists: &mut [ToldList]) -> Result<Answ
 /// Feeds a machine from the lists until it needs nothing more.
 fn feed_all(alloc: Global, machine: &mut Machine, lists: &mut [ToldList]) -> Result<(), DriveFault>
     requires { CanDrive lists.old (state_of machine.old) }
+    ensures same { lists.new ≡ lists.old }
     ensures ok { OnOk result (IsDriven lists.old machine.old machine.new) }
     ensures err { IfErr result (StopsDriving (algorithm_of machine.old) lists.old (state_of machine.old)) }
 {

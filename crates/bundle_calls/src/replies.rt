@@ -26,7 +26,7 @@ pub(crate) enum Reply {
 }
 
 /// The number of a bundle's query line.
-const QUERY_LINE: u64 = 1;
+pub(crate) const QUERY_LINE: u64 = 1;
 
 /// The reply to an input.
 pub(crate) fn reply_to(alloc: Global, bytes: &[u8]) -> Result<Reply, Memory>

@@ -1,6 +1,6 @@
 //! How the commands end on an input in memory.
 
-use bundle_calls::{judge, one};
+use bundle_calls::{compare, judge, one};
 use call_ends::Status;
 use std::alloc::Global;
 use tk_io::{MemIntake, MemSink, Sink};
@@ -25,6 +25,14 @@ pub fn one_into<K: Sink>(
 pub fn judge_into<K: Sink>(alloc: Global, input: &[u8], out: &mut K) -> Option<Status> {
     match MemIntake::make(alloc, input, PIECE, &[]) {
         Ok(mut input) => Some(judge(alloc, &mut input, out)),
+        Err(_) => None,
+    }
+}
+
+/// How `compare` ends on this input, into a stream. None where there is no memory for the input.
+pub fn compare_into<K: Sink>(alloc: Global, input: &[u8], out: &mut K) -> Option<Status> {
+    match MemIntake::make(alloc, input, PIECE, &[]) {
+        Ok(mut input) => Some(compare(alloc, &mut input, out)),
         Err(_) => None,
     }
 }

@@ -1,6 +1,6 @@
 //! Whether a command ends as it is to, and writes what it is to.
 
-use super::drives::{judge_into, one_into};
+use super::drives::{compare_into, judge_into, one_into};
 use bundle_calls::make;
 use call_ends::Status;
 use std::alloc::Global;
@@ -46,6 +46,17 @@ pub fn judge_ends(alloc: Global, input: &[u8], expected: (Status, &str)) -> bool
         return false;
     };
     let status = judge_into(alloc, input, &mut out);
+    let is_written = out.taken() == expected.1.as_bytes();
+    drop(out);
+    status == Some(expected.0) && is_written
+}
+
+/// Whether `compare` ends so on this input, and writes this text.
+pub fn compare_ends(alloc: Global, input: &[u8], expected: (Status, &str)) -> bool {
+    let Ok(mut out) = MemSink::make(alloc, ROOM, &[]) else {
+        return false;
+    };
+    let status = compare_into(alloc, input, &mut out);
     let is_written = out.taken() == expected.1.as_bytes();
     drop(out);
     status == Some(expected.0) && is_written

@@ -88,8 +88,23 @@ const BY_SORTED: &[Answer] = &[
     ),
 ];
 
+/// By Fagin's algorithm.
+const BY_FAGIN: &[Answer] = &[
+    (
+        LISTS,
+        "top 1 by sum(A,B) using fa",
+        "count 3\nanswer 2 1500 1500\nstop depth 2 sorted 4 random 2 cost 6\ns A 1 900\ns B 2 700\ns A 2 800\ns B 3 600\nr B 1 500\nr A 3 100\nend\n",
+    ),
+    (
+        LISTS,
+        "top 1 by min(A,B) using fa",
+        "count 3\nanswer 2 700 700\nstop depth 2 sorted 4 random 2 cost 6\ns A 1 900\ns B 2 700\ns A 2 800\ns B 3 600\nr B 1 500\nr A 3 100\nend\n",
+    ),
+];
+
 #[test]
 fn answers_queries(rt: HostRuntime) {
     none_is_wrong(&rt, first_wrong(rt.alloc(), BY_THRESHOLD));
     none_is_wrong(&rt, first_wrong(rt.alloc(), BY_SORTED));
+    none_is_wrong(&rt, first_wrong(rt.alloc(), BY_FAGIN));
 }

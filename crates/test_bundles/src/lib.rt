@@ -1,10 +1,12 @@
-//! Tests of the commands `one`, `make` and `judge`: rows from outside, and each fault of the streams in turn.
+//! Tests of the commands `one`, `compare`, `make` and `judge`: rows from outside, and each fault of the streams in turn.
 #![tactic(auto)]
 
 #[cfg(test)]
 mod answers;
 #[cfg(test)]
 mod combined;
+#[cfg(test)]
+mod compared;
 #[cfg(test)]
 mod faults;
 #[cfg(test)]

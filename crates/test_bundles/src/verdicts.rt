@@ -65,6 +65,10 @@ const NINE_CHANGED: &[Changed] = &[
     ),
 ];
 
+/// The certificate of Fagin's algorithm on the first example.
+const FAGINS: &str =
+    "certificate 1\nquery top 1 by sum(A,B) using fa\ncount 3\nanswer 2 1500 1500\nstop depth 2 sorted 4 random 2 cost 6\ns A 1 900\ns B 2 700\ns A 2 800\ns B 3 600\nr B 1 500\nr A 3 100\nend\n";
+
 /// The certificate of the first depth of the first example.
 const SHORT: &str =
     "certificate 1\nquery top 1 by sum(A,B) using ta\ncount 3\nanswer 2 1500 1500\nstop depth 1 sorted 2 random 2 cost 4\ns A 1 900\ns B 2 700\nr B 1 500\nr A 2 800\nend\n";
@@ -84,6 +88,7 @@ type Judged = (&'static str, Status, &'static str);
 const JUDGED: &[Judged] = &[
     (FIRST_TEXT, Status::Done, "fixes\n"),
     (NINE, Status::Done, "fixes\n"),
+    (FAGINS, Status::Done, "fixes\n"),
     (SHORT, Status::Partial, BEATEN),
     (COUNTERED, Status::Done, "fixes\n"),
 ];

@@ -10,6 +10,7 @@ use test_support::words_of;
 enum Told {
     One,
     Judge,
+    Compare,
     BadWords,
 }
 
@@ -18,6 +19,7 @@ fn is_told(command: &Result<Command, WordsFault>, told: Told) -> bool {
     match (command, told) {
         (Ok(Command::One), Told::One)
         | (Ok(Command::Judge), Told::Judge)
+        | (Ok(Command::Compare), Told::Compare)
         | (Err(WordsFault::BadWords), Told::BadWords) => true,
         _ => false,
     }
@@ -41,6 +43,7 @@ const ROWS: &[Row] = &[
     (&["one", "--"], Told::One),
     (&["judge"], Told::Judge),
     (&["judge", "--"], Told::Judge),
+    (&["compare"], Told::Compare),
     (&[], Told::BadWords),
     (&[""], Told::BadWords),
     (&["--help"], Told::BadWords),
@@ -57,6 +60,7 @@ const ROWS: &[Row] = &[
     (&["one", "--x"], Told::BadWords),
     (&["judge", "one"], Told::BadWords),
     (&["judge", "x"], Told::BadWords),
+    (&["compare", "one"], Told::BadWords),
     (&["run"], Told::BadWords),
     (
         &[

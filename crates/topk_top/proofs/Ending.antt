@@ -2,7 +2,7 @@
 use Rattle.std.proofs.Common.{◌≡◌, Option, Some, None, inl, inr, sym, subst}
 use Rattle.command_words.specs.Commands.{command_of}
 use Rattle.command_words.specs.declared.command.Command.{Command}
-use Rattle.command_words.specs.declared.command.Command.TheVariants.{One, Judge, Make, Run, Bulk}
+use Rattle.command_words.specs.declared.command.Command.TheVariants.{One, Judge, Compare, Make, Run, Bulk}
 use Rattle.topk_top.specs.Ends.{words_refused_text, CommandEnds, EndsRefused, CallEnds}
 use Rattle.call_ends.specs.Calls.{Call, KeepsShelf, LeftAlone, WroteNothing}
 use Rattle.call_ends.specs.Ends.{Says}
@@ -24,6 +24,7 @@ pub ends_without_memory : (command : Option Command) (c : Call) → KeepsShelf c
 ends_without_memory None c kept alone nothing = (kept, (alone, nothing))
 ends_without_memory (Some One) c kept alone nothing = (kept, (read_none c alone, nothing))
 ends_without_memory (Some Judge) c kept alone nothing = (kept, (read_none c alone, nothing))
+ends_without_memory (Some Compare) c kept alone nothing = (kept, (read_none c alone, nothing))
 ends_without_memory (Some (Make options)) c kept alone nothing = (kept, (alone, nothing))
 ends_without_memory (Some (Bulk options)) c kept alone nothing = (kept, (alone, nothing))
 ends_without_memory (Some (Run options)) c kept alone nothing = inl (asks_kept options.catalog c.before.shelf c.after.shelf kept, alone, nothing)

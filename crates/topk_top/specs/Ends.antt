@@ -2,7 +2,7 @@
 use Rattle.std.specs.Prelude.{◌≡◌, ℕ, List, Option, Some, None, codes}
 use Rattle.command_words.specs.Commands.{command_of}
 use Rattle.command_words.specs.declared.command.Command.{Command}
-use Rattle.command_words.specs.declared.command.Command.TheVariants.{One, Judge, Make, Run, Bulk}
+use Rattle.command_words.specs.declared.command.Command.TheVariants.{One, Judge, Compare, Make, Run, Bulk}
 use Rattle.call_ends.specs.Calls.{Call, LeftAlone, KeepsShelf, WroteNothing, WroteWhole, WroteFront}
 use Rattle.catalog_calls.specs.RunEnds.{EndsRunning}
 use Rattle.bulk_run.specs.Bulk.{bulk_text}
@@ -10,6 +10,7 @@ use Rattle.call_ends.specs.Codes.{exit_code}
 use Rattle.bundle_calls.specs.Made.{made_text}
 use Rattle.bundle_calls.specs.Reply.{Replies}
 use Rattle.bundle_calls.specs.Judge.{JudgeReplies}
+use Rattle.bundle_calls.specs.Compare.{Compares}
 use Rattle.call_ends.specs.declared.status.Status.{Status}
 use Rattle.call_ends.specs.declared.status.Status.TheVariants.{BadWords, Memory}
 use Rattle.call_ends.specs.declared.status.Status.TheVariants.{WriteFault}
@@ -31,6 +32,7 @@ abbrev pub CommandEnds : Option Command → Call → Status → Type 0
 CommandEnds None c status = KeepsShelf c × EndsRefused c status
 CommandEnds (Some One) c status = KeepsShelf c × EndsReading Replies c status
 CommandEnds (Some Judge) c status = KeepsShelf c × EndsReading JudgeReplies c status
+CommandEnds (Some Compare) c status = KeepsShelf c × EndsReading Compares c status
 CommandEnds (Some (Make options)) c status = KeepsShelf c × EndsWriting (made_text options.start options.count options.lists) c status
 CommandEnds (Some (Run options)) c status = EndsRunning options c status
 CommandEnds (Some (Bulk options)) c status = KeepsShelf c × EndsWriting (bulk_text options) c status

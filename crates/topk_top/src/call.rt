@@ -5,7 +5,7 @@ ghost use Rattle.call_ends.specs.Calls.{call_of};
 ghost use Rattle.topk_top.specs.Ends.{CallEnds};
 
 use bulk_run::bulk;
-use bundle_calls::{judge, make, one};
+use bundle_calls::{compare, judge, make, one};
 use call_ends::{Status, say};
 use catalog_calls::run;
 use command_words::{Command, Words, WordsFault, read_command};
@@ -22,7 +22,8 @@ const WORDS_REFUSED: &[u8] = b"refused words\n";
 ///
 /// `one` reads a bundle from the input, answers its query over the lists that the query names, and
 /// writes the certificate of the answer or the line of a refusal: `refused bundle LINE` where the
-/// input is no bundle, else the first refusal that holds of the query line. `judge` reads a certificate
+/// input is no bundle, else the first refusal that holds of the query line. `compare` reads a bundle too,
+/// and writes what each algorithm reads for its query. `judge` reads a certificate
 /// and writes `fixes`, or on which table the answer is beaten, or why it isn't judged. `make` writes the
 /// made table that its options ask for, and leaves the input as it was. `run` reads query lines from the
 /// input, answers them over the lists of the catalog that its words name, whose sources are taken of the
@@ -51,6 +52,7 @@ pub fn top<W: Threads + Wait + Sync, H: Shelf, R: Intake, K: Sink>(
     match read_command(alloc, words) {
         Ok(Command::One) => one(alloc, input, out),
         Ok(Command::Judge) => judge(alloc, input, out),
+        Ok(Command::Compare) => compare(alloc, input, out),
         Ok(Command::Make(options)) => make(alloc, options.start, options.count, options.lists, out),
         Ok(Command::Run(options)) => run(rt, alloc, &options, shelf, input, out),
         Ok(Command::Bulk(options)) => bulk(rt, alloc, options, out),

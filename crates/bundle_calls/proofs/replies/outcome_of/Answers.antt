@@ -25,10 +25,10 @@ answer_over-requires-clause-lists c =
 pub returns-in-Ok-answer_over : goal.returns-in-Ok-answer_over
 returns-in-Ok-answer_over c =
     let bundle = content c.args.bundle.now in
-    becomes_answered bundle c.args.ready.now c.deref_mut.result.now c.in-Ok-answer_over.answer c.requires.admitted (c.deref_mut.ensures.value ∙ (c.in-Ok.ensures ∙ ap (lists_at bundle) c.deref.ensures.value)) c.in-Ok-answer_over.ensures
+    becomes_answered bundle c.args.ready.now c.deref_mut.result.now c.in-Ok-answer_over.answer c.requires.admitted (c.deref_mut.ensures.value ∙ (c.in-Ok.ensures ∙ ap (lists_at bundle) c.deref.ensures.value)) c.in-Ok-answer_over.ensures.runs
 
 pub returns-in-Err-RoomFull : goal.returns-in-Err-RoomFull
 returns-in-Err-RoomFull c =
     let bundle = content c.args.bundle.now in
     becomes_full bundle c.args.ready.now c.deref_mut.result.now c.in-Err-RoomFull.room c.requires.admitted (c.deref_mut.ensures.value ∙ (c.in-Ok.ensures ∙ ap (lists_at bundle) c.deref.ensures.value))
-    (subst (λ fault. RunsOver c.args.ready.now c.deref_mut.result.now (Err fault)) c.in-Err-RoomFull.field-0-is c.in-Err-RoomFull.ensures)
+    (subst (λ fault. RunsOver c.args.ready.now c.deref_mut.result.now (Err fault)) c.in-Err-RoomFull.field-0-is c.in-Err-RoomFull.ensures.runs)

@@ -1,7 +1,7 @@
 use Rattle.std.proofs.Common.{Some, None, Err, refl, ap, ◌∙◌}
 use Rattle.std.proofs.KnownBytes.{Keeps-refl}
 use Rattle.command_words.specs.Commands.{command_of}
-use Rattle.command_words.specs.declared.command.Command.TheVariants.{One, Judge, Make, Run, Bulk}
+use Rattle.command_words.specs.declared.command.Command.TheVariants.{One, Judge, Compare, Make, Run, Bulk}
 use Rattle.call_ends.specs.Calls.{Input, Outside, call_at}
 use Rattle.call_ends.specs.Shelves.{Shelf}
 use Rattle.call_ends.specs.declared.status.Status.TheVariants.{Memory}
@@ -20,6 +20,12 @@ returns-in-Ok-Judge-clause-ends g c =
     let shelf : Shelf = shelf_at (g.H.Shelf.texts c.args.shelf.now) (g.H.Shelf.lists c.args.shelf.now) (g.H.Shelf.versions c.args.shelf.now) (g.H.Shelf.at c.args.shelf.now) in
     ends_as (Some Judge) (call_at c.args.words.now (outside_at (g.R.Intake.left c.args.input.now) (g.R.Intake.faults c.args.input.now) (g.K.Sink.held c.args.out.now) (g.K.Sink.faults c.args.out.now) shelf) (outside_at (g.R.Intake.left c.judge.new.input) (g.R.Intake.faults c.judge.new.input) (g.K.Sink.held c.judge.new.out) (g.K.Sink.faults c.judge.new.out) shelf)) c.judge.result
     (c.in-Ok-Judge.ensures.read ∙ ap Some c.in-Ok-Judge.field-0-is) (refl, c.judge.ensures.ends c.args.words.now shelf)
+
+pub returns-in-Ok-Compare-clause-ends : goal.returns-in-Ok-Compare-clause-ends
+returns-in-Ok-Compare-clause-ends g c =
+    let shelf : Shelf = shelf_at (g.H.Shelf.texts c.args.shelf.now) (g.H.Shelf.lists c.args.shelf.now) (g.H.Shelf.versions c.args.shelf.now) (g.H.Shelf.at c.args.shelf.now) in
+    ends_as (Some Compare) (call_at c.args.words.now (outside_at (g.R.Intake.left c.args.input.now) (g.R.Intake.faults c.args.input.now) (g.K.Sink.held c.args.out.now) (g.K.Sink.faults c.args.out.now) shelf) (outside_at (g.R.Intake.left c.compare.new.input) (g.R.Intake.faults c.compare.new.input) (g.K.Sink.held c.compare.new.out) (g.K.Sink.faults c.compare.new.out) shelf)) c.compare.result
+    (c.in-Ok-Compare.ensures.read ∙ ap Some c.in-Ok-Compare.field-0-is) (refl, c.compare.ensures.ends c.args.words.now shelf)
 
 pub returns-in-Ok-Make-clause-ends : goal.returns-in-Ok-Make-clause-ends
 returns-in-Ok-Make-clause-ends g c =
