@@ -4,7 +4,7 @@ _topk() {
     local current=${COMP_WORDS[COMP_CWORD]} previous=${COMP_WORDS[COMP_CWORD - 1]} options word
     COMPREPLY=()
     if ((COMP_CWORD == 1)); then
-        mapfile -t COMPREPLY < <(compgen -W 'run one judge make bulk' -- "$current")
+        mapfile -t COMPREPLY < <(compgen -W 'run one compare judge make bulk' -- "$current")
         return
     fi
     case ${COMP_WORDS[1]} in

@@ -4,6 +4,7 @@ complete -c topk -f
 
 complete -c topk -n __fish_use_subcommand -a run -d 'answer query lines over the lists of a catalog'
 complete -c topk -n __fish_use_subcommand -a one -d 'answer the query of a bundle'
+complete -c topk -n __fish_use_subcommand -a compare -d 'tell what each algorithm reads for the query of a bundle'
 complete -c topk -n __fish_use_subcommand -a judge -d 'check a certificate'
 complete -c topk -n __fish_use_subcommand -a make -d 'write a made table'
 complete -c topk -n __fish_use_subcommand -a bulk -d 'run made queries over a made table'

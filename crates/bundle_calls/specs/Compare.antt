@@ -7,7 +7,6 @@ use Rattle.ranked_list.specs.declared.row.Row.{Row}
 use Rattle.monotone_fn.specs.declared.costs.Costs.{Costs}
 use Rattle.topk_theory.specs.declared.access.Access.{Access}
 use Rattle.topk_theory.specs.Transcript.{depth, sorted_count, random_count, cost}
-use Rattle.access_log.specs.Log.{Log}
 use Rattle.machine_base.specs.declared.answer.Answer.{Answer}
 use Rattle.query_text.specs.declared.algorithm.Algorithm.{Algorithm}
 use Rattle.query_text.specs.declared.algorithm.Algorithm.TheVariants.{Ta, Nra, Ca, Fa}

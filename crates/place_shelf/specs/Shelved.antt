@@ -1,5 +1,5 @@
 -- What a shelf of files and of lists that hosts serve is, and what it tells.
-use Rattle.std.specs.Prelude.{◌≡◌, ℕ, List, Option, Some, None, refl, if◌then◌else◌}
+use Rattle.std.specs.Prelude.{ℕ, List, Option, Some, None, refl, if◌then◌else◌}
 use Rattle.std.specs.Coded.{Coded, code_by, coded×}
 use Rattle.ranked_list.specs.declared.row.Row.{Row}
 use Rattle.source_api.specs.Places.{Noted}

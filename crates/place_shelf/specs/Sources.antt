@@ -1,5 +1,5 @@
 -- What the source of a place is, by whether it is over a file or over a list that a host serves.
-use Rattle.std.specs.Prelude.{◌≡◌, ℕ, List, Option, Some, None, IfSome}
+use Rattle.std.specs.Prelude.{◌≡◌, false, ℕ, List, Option, Some, None, IfSome}
 use Rattle.ranked_list.specs.declared.row.Row.{Row}
 use Rattle.source_api.specs.declared.counts.Counts.{Counts}
 use Rattle.source_api.specs.Counting.{no_counts}
@@ -13,27 +13,27 @@ use Rattle.place_shelf.specs.declared.place_source.PlaceSource.{PlaceSource}
 use Rattle.place_shelf.specs.declared.place_source.PlaceSource.TheVariants.{File, Http}
 
 -- the list that it tells: that of a file
-abbrev pub list_of : {D : Type 0} → PlaceSource D → Option (List Row)
+abbrev pub list_of : {D L : Type 0} → PlaceSource D L → Option (List Row)
 list_of (File f) = told_list f
 list_of (Http s) = None
 
 -- what it has counted; over a dial its faults are those of the dial
-abbrev pub counts_of : {D : Type 0} → (D → ℕ) → PlaceSource D → Counts
+abbrev pub counts_of : {D L : Type 0} → (D → ℕ) → PlaceSource D L → Counts
 counts_of faults (File f) = f.counts
 counts_of faults (Http s) = counts_with (faults s.dial) s.counted
 
 -- the version at hand: 0 of a file
-abbrev pub version_of : {D : Type 0} → PlaceSource D → ℕ
+abbrev pub version_of : {D L : Type 0} → PlaceSource D L → ℕ
 version_of (File f) = 0
 version_of (Http s) = s.version
 
 -- the version that all replies state: 0 of a file
-abbrev pub states_of : {D : Type 0} → PlaceSource D → Option ℕ
+abbrev pub states_of : {D L : Type 0} → PlaceSource D L → Option ℕ
 states_of (File f) = Some 0
 states_of (Http s) = None
 
 -- no object comes twice in a list that is told
-pub list_has_each_once : {D : Type 0} (s : PlaceSource D) → IfSome (list_of s) HasEachOnce
+pub list_has_each_once : {D L : Type 0} (s : PlaceSource D L) → IfSome (list_of s) HasEachOnce
 list_has_each_once (File f) = told_has_each_once f
 list_has_each_once (Http s) = tt
 
@@ -52,6 +52,16 @@ pub record IsServedAt {D : Type 0} (Makes : D → Type 0) (faults : D → ℕ) (
   pub fresh : s.counted ≡ no_counts
 
 -- the source of a place: over its file, or over a dial to its address
-abbrev pub IsSourceOf : {D : Type 0} → (List ℕ → Option (List ℕ)) → (D → Type 0) → (D → ℕ) → List ℕ → PlaceSource D → Type 0
+abbrev pub IsSourceOf : {D L : Type 0} → (List ℕ → Option (List ℕ)) → (D → Type 0) → (D → ℕ) → List ℕ → PlaceSource D L → Type 0
 IsSourceOf contents Makes faults place (File f) = IsFileOf contents place f
 IsSourceOf contents Makes faults place (Http s) = IsServedAt Makes faults place s
+
+-- the source of a file, before it is known what makes dials
+abbrev pub IsOverFile : {D L : Type 0} → (List ℕ → Option (List ℕ)) → List ℕ → PlaceSource D L → Type 0
+IsOverFile contents place (File f) = IsFileOf contents place f
+IsOverFile contents place (Http s) = ⊥
+
+-- the source over this dial to this address; it has answered no size and counted nothing
+abbrev pub IsOverDial : {D L : Type 0} → D → List ℕ → ℕ → List ℕ → PlaceSource D L → Type 0
+IsOverDial dial host port path (File f) = ⊥
+IsOverDial dial host port path (Http s) = s ≡ record { dial = dial; host = host; port = port; path = path; version = 0; counted = no_counts }

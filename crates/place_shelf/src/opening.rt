@@ -1,9 +1,11 @@
 //! Opening the source of a place.
 
-ghost use Rattle.std.specs.Prelude.{◌≡◌, false, ℕ, List, Option, string_bytes, IfErr, IfOk};
+ghost use Rattle.std.specs.Prelude.{◌≡◌, false, Some, string_bytes, IfErr, IfOk, IfSome};
+ghost use Rattle.source_api.specs.Counting.{no_counts};
 ghost use Rattle.file_source.specs.Shelved.{IsFileTrouble};
-ghost use Rattle.place_shelf.specs.Sources.{IsSourceOf};
-ghost use Rattle.place_text.specs.Places.{is_remote, IsAddress};
+ghost use Rattle.place_shelf.specs.Shelved.{list_at, version_at};
+ghost use Rattle.place_shelf.specs.Sources.{IsSourceOf, IsOverFile, IsOverDial, list_of, counts_of, version_of, states_of};
+ghost use Rattle.place_text.specs.Places.{is_remote};
 
 use super::dial_maker::DialMaker;
 use super::place_source::PlaceSource;
@@ -34,6 +36,22 @@ pub fn open_place<F: FileTree, M: DialMaker>(
     }
 }
 
+/// The same, and what a shelf tells of its source.
+pub(crate) fn open_told<F: FileTree, M: DialMaker>(
+    alloc: Global,
+    files: &F,
+    dials: &M,
+    place: &str,
+) -> Result<PlaceSource<M::D>, Trouble>
+    ensures fresh { IfOk result (λ source. counts_of M.D.faults source ≡ no_counts) }
+    ensures unasked { IfOk result (λ source. version_of source ≡ 0) }
+    ensures states { IfOk result (λ source. IfSome (version_at place.now) (λ told. states_of source ≡ Some told)) }
+    ensures lists { IfOk result (λ source. IfSome (list_at (F.contents files.now) place.now) (λ told. list_of source ≡ Some told)) }
+    ensures sound { IfErr result IsFileTrouble }
+{
+    open_place(alloc, files, dials, place)
+}
+
 /// The source over all bytes of a file.
 fn open_file<F: FileTree, D: Dial + Drop>(
     alloc: Global,
@@ -41,7 +59,7 @@ fn open_file<F: FileTree, D: Dial + Drop>(
     place: &str,
 ) -> Result<PlaceSource<D>, Trouble>
     requires { is_remote place.now ≡ false }
-    ensures source { (Makes : D → Type 0) → IfOk result (IsSourceOf (F.contents files.now) Makes D.faults place.now) }
+    ensures source { IfOk result (IsOverFile (F.contents files.now) place.now) }
     ensures sound { IfErr result IsFileTrouble }
 {
     let text = match read_file(alloc, files, place) {
@@ -60,9 +78,7 @@ fn open_served<D: Dial + Drop>(
     dial: D,
     address: Address<'_>,
 ) -> Result<PlaceSource<D>, Trouble>
-    requires { D.faults dial ≡ 0 }
-    ensures source { (Makes : D → Type 0) (contents : List ℕ → Option (List ℕ)) (place : List ℕ) → Makes dial
-        → IsAddress place address.entry.host.now address.entry.port address.entry.path.now → IfOk result (IsSourceOf contents Makes D.faults place) }
+    ensures source { IfOk result (IsOverDial dial address.entry.host.now address.entry.port address.entry.path.now) }
     ensures sound { IfErr result IsFileTrouble }
 {
     let Ok(place) = place_of(alloc, address) else {

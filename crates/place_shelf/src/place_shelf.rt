@@ -6,7 +6,7 @@ ghost use Rattle.source_api.specs.declared.source.Trouble.TheVariants.{Memory};
 ghost use Rattle.source_api.specs.Places.{IsTaking};
 
 use super::dial_maker::DialMaker;
-use super::opening::open_place;
+use super::opening::open_told;
 use super::place_source::PlaceSource;
 use file_source::{FileTree, count_take, count_text, read_file};
 use source_api::{Ledger, Shelf, Trouble};
@@ -81,7 +81,7 @@ where
     }
 
     fn take(&mut self, alloc: Global, place: &str) -> Result<PlaceSource<M::D>, Trouble> {
-        match open_place(alloc, self.files, self.dials, place) {
+        match open_told(alloc, self.files, self.dials, place) {
             Ok(source) => give(&mut self.ledger, alloc, place, source),
             Err(trouble) => Err(count_take(&mut self.ledger, alloc, place, trouble)),
         }

@@ -1,7 +1,7 @@
 //! The source of a place.
 
-ghost use Rattle.std.specs.Prelude.{◌≡◌, ◌≤◌};
-ghost use Rattle.place_shelf.specs.Sources.{counts_of, version_of};
+ghost use Rattle.std.specs.Prelude.{◌≡◌};
+ghost use Rattle.place_shelf.specs.Sources.{counts_of};
 
 use file_source::FileSource;
 use http_source::HttpSource;
@@ -51,9 +51,7 @@ impl<D: Dial + Send + Drop> Source for PlaceSource<D> {
         }
     }
 
-    fn page(&mut self, alloc: Global, from: u32, count: u32) -> Result<Vec<Row>, Trouble>
-        requires { 1 ≤ count }
-    {
+    fn page(&mut self, alloc: Global, from: u32, count: u32) -> Result<Vec<Row>, Trouble> {
         match self {
             PlaceSource::File(source) => source.page(alloc, from, count),
             PlaceSource::Http(source) => source.ask_page(alloc, from, count),

@@ -124,6 +124,13 @@ const ROWS: &[Row] = &[
         QUERY,
         ("NoRandom", [1, 0, 0, 0]),
     ),
+    (
+        Under::Both(4),
+        Under::SortedOnly(4),
+        1,
+        b"top 4 by sum(A,BB) using fa",
+        ("NoRandom", [1, 0, 0, 0]),
+    ),
 ];
 
 /// The name and the fields of a refusal of these rows.

@@ -5,6 +5,8 @@
 mod texts;
 #[cfg(test)]
 mod verdicts;
+#[cfg(test)]
+mod within;
 
 #[cfg(test)]
 use std::process::Abort;

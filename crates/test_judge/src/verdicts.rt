@@ -14,13 +14,19 @@ use test_support::{random_row, sorted_row};
 
 /// The expression of a query over so many lists of so many objects, a transcript, and an answer of k objects.
 #[derive(Clone, Copy)]
-struct Question {
-    query: &'static [u8],
-    lists: u8,
-    count: u32,
-    accesses: &'static [Access],
-    k: u32,
-    answer: &'static [u32],
+pub struct Question {
+    /// The query's text.
+    pub query: &'static [u8],
+    /// How many lists it names.
+    pub lists: u8,
+    /// How many objects each of them has.
+    pub count: u32,
+    /// The accesses.
+    pub accesses: &'static [Access],
+    /// How many objects are asked for.
+    pub k: u32,
+    /// The answer.
+    pub answer: &'static [u32],
 }
 
 /// What is told of an answer.
@@ -53,7 +59,7 @@ fn takes_all(log: &mut Transcript, accesses: &[Access]) -> bool {
 }
 
 /// The accesses of a question over a few small lists. None where no table agrees with them, and without memory.
-fn transcript_of(alloc: Global, question: &Question) -> Option<Transcript> {
+pub fn transcript_of(alloc: Global, question: &Question) -> Option<Transcript> {
     let (lists, count) = (question.lists, question.count);
     if lists == 0 || lists >= 5 || count == 0 || count >= 10 {
         return None;
@@ -175,7 +181,7 @@ fn first_wrong(alloc: Global, rows: &[Row]) -> Option<usize> {
 const SUM: Asked = (b"top 1 by sum(A,B) using ta", 2);
 
 /// A whole run of the threshold algorithm.
-const RUN: [Access; 7] = [
+pub const RUN: [Access; 7] = [
     sorted_row!(0, 1, 900),
     sorted_row!(1, 2, 700),
     random_row!(1, 1, 500),
@@ -186,7 +192,7 @@ const RUN: [Access; 7] = [
 ];
 
 /// Its first depth.
-const FIRST: [Access; 4] = [
+pub const FIRST: [Access; 4] = [
     sorted_row!(0, 1, 900),
     sorted_row!(1, 2, 700),
     random_row!(1, 1, 500),

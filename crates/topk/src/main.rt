@@ -1,14 +1,14 @@
-//! The program: the top call over the words, the standard streams and the files of the process.
+//! The program: the top call over the words, the standard streams and the files of the process, and the lists that hosts serve.
 #![tactic(auto)]
 
-use file_source::FileShelf;
+use place_shelf::PlaceShelf;
 use std::process::ExitCode;
 use tk_io::{StdIntake, StdSink};
 use topk_top::run_process;
 
 /// Ends with the status of the top call.
 fn main(rt: HostRuntime) -> ExitCode {
-    let mut shelf = FileShelf::make(rt.alloc(), &rt);
+    let mut shelf = PlaceShelf::make(rt.alloc(), &rt, &rt);
     let mut input = StdIntake::make(rt.stdin());
     let mut out = StdSink::make(rt.stdout());
     let code = run_process(&rt, &rt, rt.alloc(), &mut shelf, &mut input, &mut out);

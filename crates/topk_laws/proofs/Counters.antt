@@ -18,7 +18,7 @@ use Rattle.topk_theory.proofs.Consistent.{object_set_below}
 use Rattle.query_text.specs.Query.{printed}
 use Rattle.query_core.proofs.ListCount.{lists_counted}
 use Rattle.cert_text.specs.declared.certificate.Certificate.{Certificate}
-use Rattle.cert_text.specs.Certificate.{IsAccess, number_line, query_line, count_line, answer_line, stop_line, access_lines, certificate_lines}
+use Rattle.cert_text.specs.Certificate.{IsAccess, number_line, query_line, count_line, version_lines, answer_line, stop_line, access_lines, certificate_lines}
 use Rattle.cert_text.specs.Reading.{Spells}
 use Rattle.topk_laws.specs.Laws.{CountersAreBundles}
 
@@ -39,7 +39,7 @@ rows_small m n A D all few table over = all_from_members (λ rows. All (λ row. 
 -- the text of a certificate's query is one line
 one_line : (bytes : List ℕ) (c : Certificate) → Spells (lines bytes) c → All (λ byte. byte ≢ 10) (printed c.query)
 one_line bytes c spells = all_from_members (λ byte. byte ≢ 10) (printed c.query) (λ byte h.
-    let rest = count_line c.count ∷ (map answer_line c.items ++ stop_line c.depth c.sorted c.random c.cost ∷ access_lines c.query.names c.accesses) in
+    let rest = count_line c.count ∷ (version_lines c.query.names c.versions ++ (map answer_line c.items ++ stop_line c.depth c.sorted c.random c.cost ∷ access_lines c.query.names c.accesses)) in
     let line : Contains (certificate_lines c) (query_line c.query) = contains_there (number_line c.line) (query_line c.query ∷ rest) (query_line c.query) (contains_here (query_line c.query) rest) in
     let plain = member_of_all (All (λ byte. byte ≢ 10)) (lines bytes) (query_line c.query) (lines_have_no_end bytes) (subst (λ ls. Contains ls (query_line c.query)) (sym spells.spelled) line) in
     member_of_all (λ byte. byte ≢ 10) (query_line c.query) byte plain (Contains-append_right (codes "query ") (printed c.query) byte h))

@@ -29,7 +29,7 @@ use Rattle.judge_core.specs.Judging.{IsFair, IsWildAfter}
 use Rattle.cert_judge.specs.declared.judgement.Judgement.{Judgement}
 use Rattle.cert_judge.specs.declared.judgement.Judgement.TheVariants.{BadLine, Inconsistent, WildGuess, WrongSize, UnseenAnswer, Figure, Fixes as IsFixed, Beaten}
 use Rattle.cert_judge.specs.Transcripts.{log_of, front}
-use Rattle.cert_judge.specs.Figures.{HasItsFigures, item_figures}
+use Rattle.cert_judge.specs.Figures.{HasItsFigures, figures_from, item_figures}
 use Rattle.cert_judge.specs.Judging.{TellsOfCertificate}
 use Rattle.query_core.proofs.AllFacts.{facts}
 use Rattle.query_core.proofs.Facts.{IsRunOn}
@@ -66,7 +66,7 @@ only_fixed c (UnseenAnswer object) is h =
     let first = h.judged.2 in
     absurd (first.4 (member_of_all (Contains (seen_objects c.accesses)) (item_objects c.items) object is.fair.seen
     (subst (λ ys. Contains ys object) (sym first.2) (contains_middle first.0 object first.1))))
-only_fixed c (Figure line) is h = absurd (h.2.1.here (ap (λ xs. slice_get xs (line - 4)) is.figures))
+only_fixed c (Figure line) is h = absurd (h.2.1.here (ap (λ xs. slice_get xs (line - figures_from c)) is.figures))
 only_fixed c IsFixed is h = refl
 only_fixed c (Beaten inside outside low high counter) is h = absurd (h.0.judged.1.unfixed is.fixed)
 

@@ -1,0 +1,2 @@
+-- Lemmas on links that are served one after another.
+pub mod ServingLaws

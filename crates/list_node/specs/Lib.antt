@@ -1,0 +1,2 @@
+-- What a node at a port does with the links of the port.
+pub mod Serving

@@ -1,0 +1,18 @@
+//! Tests of the machines that stop within a factor and early, and of what their transcripts guarantee: tables worked out by hand.
+#![tactic(auto)]
+
+#[cfg(test)]
+mod cases;
+#[cfg(test)]
+mod early;
+#[cfg(test)]
+mod theta;
+
+#[cfg(test)]
+use std::process::Abort;
+
+/// Every case comes to what is wanted: there is no first one that doesn't.
+#[cfg(test)]
+fn none_is_wrong(rt: &impl Abort, first_wrong: Option<usize>) {
+    assert_eq!(rt; first_wrong, None);
+}
