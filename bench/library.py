@@ -3,15 +3,16 @@
 
 Use, after `make lib` and with a built program:  bench/library.py [--program ./topk] [--lists 4] [--count 20000] [--algorithms ta,nra,ca] [--rounds 20]
 
-The lists are those that the program's `make` writes, as two arrays of 32 bits each: of numpy, or of the module array where numpy isn't there. Milliseconds
-are those of the clock, the least of the rounds in turn; those of the program have its start and its reading in them. Of an answer from Python, `arrays` is the
-putting together of the rows, `library` the call and `parts` the taking apart of the certificate; `by text` is the same answer by way of a bundle's text, of
-which `text` is the making of it.
+The lists are those that the program's `make` writes, as two arrays of 32 bits each: of numpy, or of the module array where numpy isn't there.
+Milliseconds are those of the processor, the least of the rounds in turn; those of the program have its start and its reading in them. Of an answer from
+Python, `arrays` is the putting together of the rows, `library` the call and `parts` the taking apart of the certificate; `by text` is the same answer by
+way of a bundle's text, of which `text` is the making of it.
 """
 
 import argparse
 import array
 import pathlib
+import resource
 import subprocess
 import sys
 import time
@@ -42,6 +43,12 @@ def lists_in(text):
     return {name: tuple(map(column, zip(*rows))) for name, rows in lists.items()}
 
 
+def seconds():
+    """The seconds of the processor that this process and those that it waited for have taken."""
+    ended = resource.getrusage(resource.RUSAGE_CHILDREN)
+    return time.process_time() + ended.ru_utime + ended.ru_stime
+
+
 class Clock:
     """The least time that each of several things took."""
 
@@ -50,9 +57,9 @@ class Clock:
 
     def call(self, name, work, *given):
         """What the work gives, timed under this name."""
-        began = time.perf_counter()
+        began = seconds()
         result = work(*given)
-        took = time.perf_counter() - began
+        took = seconds() - began
         self.least[name] = min(took, self.least.get(name, took))
         return result
 

@@ -68,7 +68,12 @@ fn guaranteed_over(transcript: &Transcript, expr: &Expr, answer: &[u32]) -> Opti
 }
 
 /// What an answer's transcript guarantees of an object of it, by the expression of a query. None without memory.
-pub fn guaranteed(alloc: Global, answer: &Answer, case: &Case, objects: &[u32]) -> Option<Guarantee> {
+pub fn guaranteed(
+    alloc: Global,
+    answer: &Answer,
+    case: &Case,
+    objects: &[u32],
+) -> Option<Guarantee> {
     let (expr, _) = asked(alloc, case.text, case.lists)?;
     let guarantee = guaranteed_over(&answer.transcript, &expr, objects);
     expr.let_go();

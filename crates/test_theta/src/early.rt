@@ -72,7 +72,9 @@ static ROWS: [Row; 6] = [
 fn answer_of(alloc: Global, row: &Row) -> Option<Answer> {
     let case = row.1;
     let (expr, task) = asked(alloc, case.text, case.lists)?;
-    match Early::make(alloc, expr, task.k, task.count, task.room, task.costs, row.0) {
+    match Early::make(
+        alloc, expr, task.k, task.count, task.room, task.costs, row.0,
+    ) {
         Ok(machine) => drive(alloc, machine, case.lists).ok(),
         Err(_) => None,
     }
