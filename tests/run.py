@@ -6,18 +6,22 @@ Use, from anywhere: python3 tests/run.py [--program PATH] [NAME ..]
 Without names all tests run. Each folder of cases/ is one: `words` (a word a line), `input` (standard input, empty where there is none), `files/`
 (copied to where the program runs), `output` (what it has to write) and `status` (0 where there is none). Tests that need more than a folder, as
 inputs of 128 MB or a full device, stand in special.py, those of the completions for shells in completions.py, of the library beside the program in
-library.py, of the page that draws certificates in view.py, and those in which each allocation is refused in turn in starving.py. What a machine lacks
-is skipped by name. Ends with 'N passed, M failed', and with the status 0 exactly where none failed. Standard library alone.
+library.py, of the page that draws certificates in view.py, of the nodes over databases in bridges.py, of `run` over lists that hosts serve in
+hosts.py, and those in which each allocation is refused in turn in starving.py. What a machine lacks is skipped by name. Ends with 'N passed, M
+failed', and with the status 0 exactly where none failed. Standard library alone.
 """
 import argparse
 import os
 import pathlib
 import shutil
+import signal
 import subprocess
 import sys
 import tempfile
 
+import bridges
 import completions
+import hosts
 import library
 import special
 import starving
@@ -53,12 +57,13 @@ def tests(program):
     """Names with what runs the test: it answers what is wrong, or None, or raises Skipped."""
     for folder in sorted((HERE / "cases").iterdir()):
         yield folder.name, lambda folder=folder: run_case(program, folder)
-    for module in (special, completions, library, view, starving):
+    for module in (special, completions, library, view, bridges, hosts, starving):
         for name, test in module.tests():
             yield name, lambda test=test: test(program)
 
 
 def main():
+    signal.signal(signal.SIGTERM, lambda *_: sys.exit("ended from outside"))  # What tests have started is ended all the same.
     words = argparse.ArgumentParser(description="Runs the built program as its users do.")
     words.add_argument("--program", type=pathlib.Path, default=PROGRAM)
     words.add_argument("names", nargs="*")

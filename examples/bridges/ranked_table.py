@@ -1,0 +1,183 @@
+"""A column of a table as a ranked list: its size, its rows from a place on, the grade of an object.
+
+The rows of a list are (object, grade), by grade falling and then by object rising. An index on (grade desc, object) has them in this
+order, so that no statement here sorts a table. A page that begins far down isn't counted off from the top either: the rows before the
+places `STEP`, 2 * `STEP` and so on are remembered, as marks, and a page begins from the last of them above it.
+"""
+from __future__ import annotations
+
+import contextlib
+import queue
+import threading
+from collections.abc import Callable, Iterator, Sequence
+from typing import Any, NamedTuple
+
+MAX_NUMBER = 4_294_967_295
+MAX_GRADE = 1_000_000
+MAX_VERSION = 2**63 - 1
+STEP = 256
+CONNECTIONS = 8
+
+SIZE = """select (select count(*) from {table}), (select count(*) from {table} where {grade} is null),
+    (select max({grade}) from {table}), (select min({grade}) from {table}),
+    (select max({object}) from {table}), (select min({object}) from {table})"""
+TOP = "select {object}, {grade} from {table} order by {grade} desc, {object} limit {mark} offset {mark}"
+# Two searches of the index, since databases don't search it for `grade < g or grade = g and object > o`.
+BELOW = """select * from (select {object}, {grade} from {table} where {grade} = {mark} and {object} > {mark}
+        order by {grade} desc, {object} limit {mark}) as equal_ones
+    union all select * from (select {object}, {grade} from {table} where {grade} < {mark}
+        order by {grade} desc, {object} limit {mark}) as lower_ones
+    order by 2 desc, 1 limit {mark} offset {mark}"""
+GRADE = "select {grade} from {table} where {object} = {mark}"
+
+Row = tuple[Any, Any]
+
+
+class Database(NamedTuple):
+    """What databases differ in."""
+
+    connect: Callable[[], Any]
+    """Opens a connection, on which no transaction begins by itself. Any thread may use it, one at a time."""
+    begin: str
+    """Begins a transaction that sees one state of the database, whoever changes it meanwhile."""
+    mark: str
+    """What stands in a statement for a number that is given with it."""
+    quote: Callable[[str], str]
+    """A name as statements have it, so that each character in it is part of the name."""
+
+
+class Pool:
+    """Connections to a database, at most `CONNECTIONS`, which stay open from one transaction to the next."""
+
+    def __init__(self, database: Database) -> None:
+        self._database = database
+        self._room = threading.BoundedSemaphore(CONNECTIONS)
+        self._idle: queue.SimpleQueue[Any] = queue.SimpleQueue()
+
+    @contextlib.contextmanager
+    def transaction(self) -> Iterator[Any]:
+        """A cursor on one state of the database. Waits where all connections are in use."""
+        with self._room:
+            connection = self._begun()
+            try:
+                cursor = connection.cursor()
+                yield cursor
+                cursor.execute("rollback")
+            except BaseException:
+                connection.close()
+                raise
+            self._idle.put(connection)
+
+    def _begun(self) -> Any:
+        """A connection in a transaction: an idle one, where its database hasn't been restarted meanwhile, or else a new one."""
+        with contextlib.suppress(queue.Empty):
+            while True:
+                connection = self._idle.get_nowait()
+                try:
+                    return self._begin(connection)
+                except Exception:  # Whatever the database says.
+                    connection.close()
+        return self._begin(self._database.connect())
+
+    def _begin(self, connection: Any) -> Any:
+        connection.cursor().execute(self._database.begin)
+        return connection
+
+
+class Known(NamedTuple):
+    """The marks of one version of a list that were met so far."""
+
+    version: int
+    marks: tuple[Row, ...] = ()
+
+
+class RankedTable:
+    """A list of a table. Each call sees one state of the database, and answers the body of a reply."""
+
+    def __init__(self, database: Database, pool: Pool, table: str, columns: tuple[str, str], version: int | str) -> None:
+        """The columns are those of objects and of grades; the version is a number, or a statement that gives it."""
+        names = {
+            "table": ".".join(map(database.quote, table.split("."))),
+            "object": database.quote(columns[0]),
+            "grade": database.quote(columns[1]),
+            "mark": database.mark,
+        }
+        self._size, self._top, self._below, self._grade = (it.format(**names) for it in (SIZE, TOP, BELOW, GRADE))
+        self._pool, self._version = pool, version
+        self._known = Known(0)
+
+    def size(self) -> dict[str, Any]:
+        """Counts the rows, by an index. The marks are forgotten: a table whose version isn't stated may be another one by now."""
+        with self._reading() as (cursor, version):
+            cursor.execute(self._size, ())
+            count, gradeless, *ends = cursor.fetchone()
+            self._known = Known(version)
+        if gradeless:
+            raise ValueError(f"{gradeless} rows have no grade")
+        if count:
+            for number, limit in zip(ends, (MAX_GRADE, MAX_GRADE, MAX_NUMBER, MAX_NUMBER)):
+                whole(number, limit)
+        return stated({"count": count}, version)
+
+    def page(self, first: int, count: int) -> dict[str, Any]:
+        """The rows from a place on. Where the marks above it are known, two ranges of at most count + STEP - 1 rows are read."""
+        with self._reading() as (cursor, version):
+            marks = self._marks(cursor, version, first // STEP)
+            rows = self._rows(cursor, marks, first - STEP * len(marks), count)
+        return stated({"rows": [(whole(item), whole(grade)) for item, grade in rows]}, version)
+
+    def grade(self, item: int) -> dict[str, Any]:
+        """The grade of an object, or None."""
+        with self._reading() as (cursor, version):
+            cursor.execute(self._grade, (item,))
+            found = cursor.fetchone()
+        return stated({"grade": found and whole(found[0])}, version)
+
+    @contextlib.contextmanager
+    def _reading(self) -> Iterator[tuple[Any, int]]:
+        """A cursor on one state of the database, and the version of this state."""
+        with self._pool.transaction() as cursor:
+            version = self._version
+            if isinstance(version, str):
+                cursor.execute(version)
+                found = cursor.fetchone()
+                version = whole(found and found[0], MAX_VERSION)
+            yield cursor, version
+
+    def _marks(self, cursor: Any, version: int, count: int) -> Sequence[Row]:
+        """The first marks, as many as the list has. Those that are met here are remembered."""
+        known = self._known
+        marks = list(known.marks) if known.version == version else []
+        while len(marks) < count:
+            met = self._rows(cursor, marks, STEP - 1, 1)
+            if not met:
+                break
+            marks += met
+        if self._known is known:
+            self._known = Known(version, tuple(marks))
+        return marks[:count]
+
+    def _rows(self, cursor: Any, marks: Sequence[Row], skipped: int, count: int) -> list[Row]:
+        """So many rows below the last mark, or from the top, after so many that are skipped."""
+        if marks:
+            item, grade = marks[-1]
+            cursor.execute(self._below, (grade, item, skipped + count, grade, skipped + count, count, skipped))
+        else:
+            cursor.execute(self._top, (count, skipped))
+        return cursor.fetchall()
+
+
+def whole(value: Any, limit: int = MAX_NUMBER) -> int:
+    """What a database gives for a number, where it is a whole one up to the limit."""
+    try:
+        number = int(value)
+    except (TypeError, ValueError, OverflowError):
+        number = -1
+    if number != value or not 0 <= number <= limit:
+        raise ValueError(f"{value!r} is no whole number from 0 to {limit}")
+    return number
+
+
+def stated(body: dict[str, Any], version: int) -> dict[str, Any]:
+    """A body with its version; version 0 isn't written."""
+    return {**body, "version": version} if version else body

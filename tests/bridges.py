@@ -1,0 +1,479 @@
+"""Tests of the bridges in examples/bridges: list nodes over tables of SQLite and PostgreSQL, as processes on free ports of 127.0.0.1.
+
+Each test runs for both databases. That of PostgreSQL is a cluster of its own in a temporary folder, behind a socket there, which runs
+as another user where this process is root; it is stopped when this process ends.
+"""
+from __future__ import annotations
+
+import atexit
+import concurrent.futures
+import contextlib
+import functools
+import json
+import os
+import pathlib
+import pwd
+import re
+import shutil
+import socket
+import sqlite3
+import subprocess
+import sys
+import tempfile
+import threading
+import time
+from collections.abc import Callable, Iterable, Iterator
+from typing import Any, Protocol
+
+from special import SECONDS, Skipped
+
+EXAMPLES = pathlib.Path(__file__).resolve().parent.parent / "examples"
+BRIDGES = EXAMPLES / "bridges"
+# A name of which each character but the first would do harm where it isn't quoted.
+TABLE = "l `x` \"y\" 'z' %s :a ?; drop table l --"
+WORDS = ("--table", TABLE, "--object", "the object", "--grade", "A", "--grade", "B=%(second) \"grade\"")
+ROWS = [(0, 0, 1_000_000), (1, 900, 500), (2, 800, 700), (3, 100, 600), (4_294_967_295, 800, 700)]
+ANSWERS = {
+    "/lists/A/size": '{"count":5}',
+    "/lists/B/size?from=x": '{"count":5}',
+    "/lists/A/page?from=0&count=10000": '{"rows":[[1,900],[2,800],[4294967295,800],[3,100],[0,0]]}',
+    "/lists/A/page?from=1&count=2": '{"rows":[[2,800],[4294967295,800]]}',
+    "/lists/A/page?from=2&count=1": '{"rows":[[4294967295,800]]}',
+    "/lists/B/page?count=3&from=0": '{"rows":[[0,1000000],[2,700],[4294967295,700]]}',
+    "/lists/A/page?from=4&count=2": '{"rows":[[0,0]]}',
+    "/lists/A/page?from=5&count=1": '{"rows":[]}',
+    "/lists/A/page?from=4294967295&count=10000": '{"rows":[]}',
+    "/lists/A/page?from=3&count=1&from=0&count=0&order=x": '{"rows":[[3,100]]}',
+    "/lists/A/page?f%72om=%33&&count=1": '{"rows":[[3,100]]}',
+    "/lists/A/grade?object=2": '{"grade":800}',
+    "/lists/A/grade?object=0": '{"grade":0}',
+    "/lists/B/grade?object=4294967295": '{"grade":700}',
+    "/lists/B/grade?object=4": '{"grade":null}',
+    "http://elsewhere:81/lists/A/grade?object=3": '{"grade":100}',
+    "HTTP://elsewhere/lists/B/size": '{"count":5}',
+}
+NO_ROUTES = ("/", "/?", "/lists/A", "/lists/A/", "/lists/A/size/", "//lists/A/size", "/lists/C/size", "/lists/a/size", "/lists/A/rows",
+             "/lists/%41/size", "/lists/C/page?from=x", "/lists/C/grade", "http://elsewhere", "http://elsewhere?q")
+BAD_TARGETS = (
+    "lists/A/size", "*", "http://", "http:///lists/A/size", "http://?q", "ftp://elsewhere/lists/A/size",
+    "/lists/A/page", "/lists/A/page?from=0", "/lists/A/page?count=1", "/lists/A/page?from=&count=1", "/lists/A/page?from=-1&count=1",
+    "/lists/A/page?from=+1&count=1", "/lists/A/page?from=01&count=1", "/lists/A/page?from=1.0&count=1", "/lists/A/page?from=4294967296&count=1",
+    "/lists/A/page?from=0&count=0", "/lists/A/page?from=0&count=10001", "/lists/A/page?from=0&count=1%20or%201", "/lists/A/page?From=0&count=1",
+    "/lists/A/page?from=%D9%A3&count=1", "/lists/A/page?from=x&from=0&count=1", "/lists/A/grade", "/lists/A/grade?object=",
+    "/lists/A/grade?object=4294967296", "/lists/A/grade?object=1%3Bdrop+table+l", f"/lists/A/grade?object={'9' * 5000}",
+)
+HOST = b"Host: 127.0.0.1\r\n"
+HEADS = {
+    b"POST /lists/A/size HTTP/1.1\r\n" + HOST + b"Content-Length: 3\r\n\r\nx=1": (405, "Method Not Allowed"),
+    b"DELETE /nothing HTTP/1.0\r\n\r\n": (405, "Method Not Allowed"),
+    b"get /lists/A/size HTTP/1.1\r\n" + HOST + b"\r\n": (405, "Method Not Allowed"),
+    b"GET /lists/A/size HTTP/1.1\r\n\r\n": (400, "Bad Request"),
+    b"POST /lists/A/size HTTP/1.1\r\n\r\n": (400, "Bad Request"),
+    b"GET /lists/A/size HTTP/1.1\r\n" + HOST + HOST + b"\r\n": (400, "Bad Request"),
+    b"GET /lists/A/size HTTP/1.0\r\n" + HOST + HOST + b"\r\n": (400, "Bad Request"),
+    b"GET /lists/A/size HTTP/1.1\r\nHost: a/b\r\n\r\n": (400, "Bad Request"),
+    b"GET /lists/A/size HTTP/2.0\r\n" + HOST + b"\r\n": (400, "Bad Request"),
+    b"GET /lists/A/size HTTP/1.9\r\n" + HOST + b"\r\n": (400, "Bad Request"),
+    b"GET /lists/A/size\r\n\r\n": (400, "Bad Request"),
+    b"hello\r\n\r\n": (400, "Bad Request"),
+    b"GET /lists/A/size HTTP/1.1\r\n" + HOST + b"a: b\r\n" * 200 + b"\r\n": (431, "Request Header Fields Too Large"),
+    b"GET /" + b"a" * 70_000 + b" HTTP/1.1\r\n" + HOST + b"\r\n": (431, "Request Header Fields Too Large"),
+}
+
+
+class Base(Protocol):
+    """A database for one test."""
+
+    name: str
+    words: tuple[str, ...]
+
+    def do(self, script: str) -> None:
+        """Runs statements, each of them a transaction but where the script says otherwise."""
+
+    def fill(self, table: str, rows: Iterable[tuple[int, ...]]) -> None:
+        """Adds rows to a table."""
+
+    def forget(self) -> None:
+        """Ends all connections, where there are any."""
+
+
+class Sqlite:
+    """A file."""
+
+    name = "sqlite"
+
+    def __init__(self, place: str) -> None:
+        self.path = os.path.join(place, "a b%20?#.db")
+        self.words = (sys.executable, str(BRIDGES / "sqlite.py"), self.path)
+        self.do("pragma journal_mode = wal")
+
+    def do(self, script: str) -> None:
+        with contextlib.closing(sqlite3.connect(self.path, timeout=SECONDS)) as connection:
+            connection.executescript(script)
+
+    def fill(self, table: str, rows: Iterable[tuple[int, ...]]) -> None:
+        given = list(rows)
+        with contextlib.closing(sqlite3.connect(self.path)) as connection, connection:
+            connection.executemany(f"insert into {quoted(table)} values ({','.join('?' * len(given[0]))})", given)
+
+    def forget(self) -> None:
+        pass
+
+
+class Cluster:
+    """A server of PostgreSQL in a temporary folder."""
+
+    def __init__(self) -> None:
+        self._programs = next((it.parent for it in programs("initdb")), None)
+        if self._programs is None or shutil.which("psql") is None:
+            raise Skipped("there is no initdb, or no psql")
+        self.python = next(filter(has_psycopg2, dict.fromkeys((sys.executable, "/usr/bin/python3"))), None)
+        if self.python is None:
+            raise Skipped("there is no psycopg2")
+        self._folder = tempfile.TemporaryDirectory()
+        self.place = self._folder.name
+        self._as: dict[str, Any] = {}
+        if os.geteuid() == 0:
+            user = next(it for it in pwd.getpwall() if it.pw_name in ("postgres", "nobody"))
+            os.chown(self.place, user.pw_uid, user.pw_gid)
+            self._as = {"user": user.pw_uid, "group": user.pw_gid, "extra_groups": []}
+        self._run("initdb", "-D", "data", "-U", "topk", "-A", "trust", "-E", "UTF8", "--locale=C", "--no-sync")
+        atexit.register(self._stop)
+        self._run("pg_ctl", "-D", "data", "-l", "log", "-w", "-t", str(SECONDS), "-o", f"-k {self.place} -c listen_addresses= -F", "start")
+        self.bases = 0
+
+    def _run(self, program: str, *words: str) -> None:
+        done = self._ended(program, *words)
+        if done.returncode != 0:
+            raise Skipped(f"{program} ended with {done.returncode}: {done.stderr[-300:]!r}")
+
+    def _ended(self, program: str, *words: str) -> subprocess.CompletedProcess[bytes]:
+        return subprocess.run([self._programs / program, *words], cwd=self.place, stdout=subprocess.DEVNULL, stderr=subprocess.PIPE, timeout=SECONDS,
+                              check=False, **self._as)
+
+    def _stop(self) -> None:
+        self._ended("pg_ctl", "-D", "data", "-m", "immediate", "stop")
+        self._folder.cleanup()
+
+
+class Postgres:
+    """A database of the cluster."""
+
+    name = "postgres"
+
+    def __init__(self, cluster: Cluster) -> None:
+        self._reached = ("psql", "-X", "-q", "-v", "ON_ERROR_STOP=1", "-h", cluster.place, "-U", "topk")
+        self._base = "postgres"
+        cluster.bases += 1
+        self.do(f"create database base{cluster.bases}")
+        self._base = f"base{cluster.bases}"
+        self.words = (cluster.python, str(BRIDGES / "postgres.py"), f"host={cluster.place} user=topk dbname={self._base}")
+
+    def do(self, script: str) -> None:
+        subprocess.run([*self._reached, self._base], input=script, text=True, stdout=subprocess.DEVNULL, timeout=SECONDS, check=True)
+
+    def fill(self, table: str, rows: Iterable[tuple[int, ...]]) -> None:
+        text = "".join("\t".join(map(str, row)) + "\n" for row in rows)
+        self.do(f"copy {quoted(table)} from stdin;\n{text}\\.\nvacuum analyze {quoted(table)};\n")
+
+    def forget(self) -> None:
+        self.do("select pg_terminate_backend(pid) from pg_stat_activity where backend_type = 'client backend' and pid <> pg_backend_pid()")
+
+
+def programs(name: str) -> Iterator[pathlib.Path]:
+    """Where a program of PostgreSQL may be; Debian keeps them out of the path."""
+    found = shutil.which(name)
+    if found:
+        yield pathlib.Path(found)
+    yield from sorted(pathlib.Path("/usr/lib/postgresql").glob(f"*/bin/{name}"), reverse=True)
+
+
+def has_psycopg2(python: str) -> bool:
+    """Whether a Python is there and has psycopg2."""
+    words = [python, "-c", "import psycopg2"]
+    return os.path.exists(python) and subprocess.run(words, stderr=subprocess.DEVNULL, timeout=SECONDS, check=False).returncode == 0
+
+
+def quoted(name: str) -> str:
+    """A name of a table as both databases have it."""
+    return '"' + name.replace('"', '""') + '"'
+
+
+@contextlib.contextmanager
+def sqlite() -> Iterator[Base]:
+    """A file of its own."""
+    with tempfile.TemporaryDirectory() as place:
+        yield Sqlite(place)
+
+
+@functools.lru_cache
+def cluster() -> Cluster:
+    """The one cluster of all tests."""
+    return Cluster()
+
+
+@contextlib.contextmanager
+def postgres() -> Iterator[Base]:
+    """A database of its own."""
+    yield Postgres(cluster())
+
+
+@contextlib.contextmanager
+def node(base: Base, *words: str) -> Iterator[int]:
+    """A bridge that runs meanwhile, by its port."""
+    with tempfile.TemporaryFile("w+") as noise:
+        with subprocess.Popen([*base.words, *words, "--at", "0"], stdout=subprocess.PIPE, stderr=noise, text=True) as process:
+            late = threading.Timer(SECONDS, process.kill)
+            late.start()
+            try:
+                line = process.stdout.readline()
+                found = re.fullmatch(r"http://127\.0\.0\.1:([0-9]+)/lists/[A-Za-z]+\n", line)
+                if found is None:
+                    process.kill()
+                    noise.seek(0)
+                    raise AssertionError(f"printed {line!r} in place of its address: {noise.read()[-500:]}")
+                yield int(found[1])
+            finally:
+                late.cancel()
+                process.kill()
+
+
+def said(port: int, request: bytes) -> bytes:
+    """The whole reply to a request."""
+    with socket.create_connection(("127.0.0.1", port), timeout=SECONDS) as link:
+        link.sendall(request)
+        return b"".join(iter(lambda: link.recv(65_536), b""))
+
+
+def got(port: int, target: str) -> bytes:
+    """The whole reply to GET."""
+    return said(port, b"GET " + target.encode() + b" HTTP/1.1\r\n" + HOST + b"Connection: close\r\n\r\n")
+
+
+def body(port: int, target: str) -> Any:
+    """What an answer says, or the line of its status."""
+    head, _, text = got(port, target).partition(b"\r\n\r\n")
+    return json.loads(text) if head.startswith(b"HTTP/1.1 200 OK\r\n") else head.split(b"\r\n")[0].decode()
+
+
+def answer(text: str) -> bytes:
+    """The reply with this body."""
+    return f"HTTP/1.1 200 OK\r\nContent-Type: application/json\r\nContent-Length: {len(text)}\r\nConnection: close\r\n\r\n{text}".encode()
+
+
+def refusal(status: int, reason: str) -> bytes:
+    """The reply without an answer."""
+    allow = "Allow: GET\r\n" if status == 405 else ""
+    length = f"Content-Length: {len(reason) + 1}\r\n"
+    return f"HTTP/1.1 {status} {reason}\r\nContent-Type: text/plain\r\n{allow}{length}Connection: close\r\n\r\n{reason}\n".encode()
+
+
+def first_difference(rows: Iterable[tuple[str, Any, Any]]) -> str | None:
+    """What is wrong with the first row whose values differ, or None."""
+    for what, found, wanted in rows:
+        if found != wanted:
+            return f"{what}: {str(found)[:300]} in place of {str(wanted)[:300]}"
+    return None
+
+
+def make_small(base: Base) -> None:
+    """The table of ROWS under names that have to be quoted."""
+    columns = 'bigint primary key, "A" integer not null, "%(second) ""grade""" integer not null'
+    base.do(f'create table {quoted(TABLE)} ("the object" {columns});')
+    base.fill(TABLE, ROWS)
+
+
+def requests(base: Base) -> str | None:
+    """Each route, to the byte; so are answers over HTTP/1.0, and the reply to HEAD, which has neither a body nor its length."""
+    make_small(base)
+    with node(base, *WORDS) as port:
+        rows = [(target, got(port, target), answer(text)) for target, text in ANSWERS.items()]
+        rows.append(("HTTP/1.0", said(port, b"GET /lists/A/size HTTP/1.0\r\n\r\n"), answer('{"count":5}')))
+        rows.append(("HEAD", said(port, b"HEAD /lists/A/size HTTP/1.1\r\n" + HOST + b"\r\n"),
+                     b"HTTP/1.1 405 Method Not Allowed\r\nContent-Type: text/plain\r\nAllow: GET\r\nConnection: close\r\n\r\n"))
+    return first_difference(rows)
+
+
+def refusals(base: Base) -> str | None:
+    """Each request that has no answer, to the byte, and afterwards the table is as it was."""
+    make_small(base)
+    with node(base, *WORDS) as port:
+        rows = [(target, got(port, target), refusal(404, "Not Found")) for target in NO_ROUTES]
+        rows += [(target[:60], got(port, target), refusal(400, "Bad Request")) for target in BAD_TARGETS]
+        rows += [(str(head[:60]), said(port, head), refusal(*reply)) for head, reply in HEADS.items()]
+        rows.append(("afterwards", got(port, "/lists/A/size"), answer('{"count":5}')))
+    return first_difference(rows)
+
+
+def starts(base: Base) -> str | None:
+    """A bridge that couldn't answer doesn't start, and says why."""
+    base.do("create table t (object bigint, good integer, great integer, part real, none integer);")
+    base.do("insert into t values (1, 5, 1000001, 4.5, null); create table other (object bigint, grade integer); insert into other values (-1, 5);")
+    table = ("--table", "t", "--grade")
+    cases = [(1, "good", ("--table", "nothing", "--grade", "good")), (1, "nothing", (*table, "nothing")), (1, "great", (*table, "great")),
+             (1, "part", (*table, "part")), (1, "gradeless", (*table, "gradeless=none")), (1, "grade", ("--table", "other", "--grade", "grade")),
+             (1, "good", (*table, "good", "--version-query", "select 'x'")), (2, "usage", (*table, "1st")), (2, "usage", (*table, "good", "--version", "-1")),
+             (2, "usage", (*table, "good", "--version", "1", "--version-query", "select 1")), (2, "usage", ("--table", "t"))]
+    with socket.create_server(("127.0.0.1", 0)) as taken:
+        port = taken.getsockname()[1]
+        cases.append((1, f"port {port}", (*table, "good", "--at", str(port))))
+        for status, word, words in cases:
+            at = () if "--at" in words else ("--at", "0")
+            done = subprocess.run([*base.words, *words, *at], capture_output=True, text=True, timeout=SECONDS, check=False)
+            if done.returncode != status or not done.stderr.startswith(word) or done.stdout:
+                return f"{words}: ended with {done.returncode} and wrote {done.stdout!r}, {done.stderr[-300:]!r}"
+    return None
+
+
+def faults(base: Base) -> str | None:
+    """What the database can't answer is a 500, and what it can again afterwards is answered; so is what it can on a new connection."""
+    base.do("create table t (object bigint, grade integer); insert into t values (1, 5);")
+    page, size, grade = "/lists/grade/page?from=0&count=9", "/lists/grade/size", "/lists/grade/grade?object=1"
+    wrong, rows = refusal(500, "Internal Server Error"), []
+    with node(base, "--table", "t", "--grade", "grade") as port:
+        rows.append(("at first", got(port, page), answer('{"rows":[[1,5]]}')))
+        base.do("alter table t rename to away;")
+        rows += [(f"without the table, {it}", got(port, it), wrong) for it in (size, page, grade)]
+        base.do("alter table away rename to t;")
+        rows.append(("with the table", got(port, page), answer('{"rows":[[1,5]]}')))
+        base.do("update t set grade = null;")
+        rows += [(f"without a grade, {it}", got(port, it), wrong) for it in (size, page, grade)]
+        base.do("update t set grade = 7;")
+        base.forget()
+        rows += [(f"on a new connection, {it}", got(port, it), answer(text)) for it, text in ((grade, '{"grade":7}'), (size, '{"count":1}'))]
+    return first_difference(rows)
+
+
+def versions(base: Base) -> str | None:
+    """A version that is given, one that a statement gives, and no version: then whoever asks for the size sees the table that is there."""
+    base.do("create table t (object bigint primary key, grade integer not null); create table versions (number bigint); insert into versions values (7);")
+    base.fill("t", ((it, 1000 - it) for it in range(1000)))
+    change = "begin; insert into t select object + 1000, grade + 1000 from t where object < 5; update versions set number = 8; commit;"
+    table, asked = ("--table", "t", "--grade", "grade"), "/lists/grade/page?from=600&count=1"
+    with node(base, *table) as plain, node(base, *table, "--version-query", "select number from versions") as told, \
+            node(base, *table, "--version", "9223372036854775807") as stated:
+        rows = [
+            ("size, version stated", got(stated, "/lists/grade/size"), answer('{"count":1000,"version":9223372036854775807}')),
+            ("size", got(told, "/lists/grade/size"), answer('{"count":1000,"version":7}')),
+            ("page", got(told, asked), answer('{"rows":[[600,400]],"version":7}')),
+            ("page, no version", got(plain, asked), answer('{"rows":[[600,400]]}')),
+            ("no grade", got(told, "/lists/grade/grade?object=1000"), answer('{"grade":null,"version":7}')),
+        ]
+        base.do(change)
+        rows += [
+            ("page of the changed table", got(told, asked), answer('{"rows":[[595,405]],"version":8}')),
+            ("grade of the changed table", got(told, "/lists/grade/grade?object=1000"), answer('{"grade":2000,"version":8}')),
+            ("size of the changed table", got(told, "/lists/grade/size"), answer('{"count":1005,"version":8}')),
+            ("size, no version", got(plain, "/lists/grade/size"), answer('{"count":1005}')),
+            ("page behind it, no version", got(plain, asked), answer('{"rows":[[595,405]]}')),
+        ]
+        base.do("update versions set number = -1;")
+        rows.append(("version that is none", got(told, asked), refusal(500, "Internal Server Error")))
+    return first_difference(rows)
+
+
+def changes(base: Base) -> str | None:
+    """While the table changes over and over, each reply has the rows of the version that it states: n grades of n at version n."""
+    base.do("create table t (object bigint primary key, grade integer not null); create table versions (number bigint);")
+    base.do("insert into versions values (1); insert into t values (1, 1), (2, 1);")
+    step = "begin; update versions set number = number + 1; update t set grade = grade + 1; commit;\n"
+    seen, reads, ended, late = set(), 0, threading.Event(), time.monotonic() + SECONDS / 2
+
+    def change() -> None:
+        while not ended.is_set():
+            base.do(step * 50)
+
+    with node(base, "--table", "t", "--grade", "grade", "--version-query", "select number from versions") as port:
+        with concurrent.futures.ThreadPoolExecutor(1) as pool:
+            changing = pool.submit(change)
+            try:
+                while (reads < 150 or len(seen) < 5) and time.monotonic() < late:
+                    found = body(port, "/lists/grade/page?from=0&count=2")
+                    version = found["rows"][0][1] if isinstance(found, dict) and found["rows"] else None
+                    if found != {"rows": [[1, version], [2, version]], "version": version}:
+                        return f"read {found}"
+                    seen.add(version)
+                    reads += 1
+            finally:
+                ended.set()
+            changing.result(SECONDS)
+    return None if len(seen) >= 5 else f"saw {len(seen)} versions"
+
+
+def great_list(base: Base) -> str | None:
+    """200,000 rows: a page at the end has its rows and comes as fast as one at the front, with grades that differ and with equal ones."""
+    count = 200_000
+    grades = [it * 7919 % 1_000_001 for it in range(count)]
+    base.do("create table t (object bigint primary key, many integer not null, one integer not null);")
+    base.fill("t", ((it, grade, 5) for it, grade in enumerate(grades)))
+    base.do("create index t_many on t (many desc, object); create index t_one on t (one desc, object);")
+    wanted = {"many": sorted(([it, grade] for it, grade in enumerate(grades)), key=lambda row: (-row[1], row[0])), "one": [[it, 5] for it in range(count)]}
+    with node(base, "--table", "t", "--grade", "many", "--grade", "one") as port:
+        for name, rows in wanted.items():
+            asked = functools.partial("/lists/{}/page?from={}&count={}".format, name)
+            places = [(199_900, 200), (0, 100), (255, 3), (256, 1), (511, 1000), (99_999, 10_000), (190_000, 10_000), (count, 1)]
+            wrong = first_difference((asked(*it), body(port, asked(*it)), {"rows": rows[it[0]:it[0] + it[1]]}) for it in places)
+            if wrong is not None:
+                return wrong
+            front, end = quickest(port, asked(0, 10), asked(199_990, 10))
+            if end > 3 * front:
+                return f"a page of {name} took {front} s at the front and {end} s at the end"
+    return None
+
+
+def quickest(port: int, *targets: str) -> list[float]:
+    """The least time that a reply to each of these took in 60 rounds."""
+    def once(target: str) -> float:
+        began = time.perf_counter()
+        got(port, target)
+        return time.perf_counter() - began
+    return [min(times) for times in zip(*([once(target) for target in targets] for _ in range(60)))]
+
+
+def clients(base: Base) -> str | None:
+    """Eight clients at once, while one says nothing, one says a part, and one leaves: each gets its own answers."""
+    base.do("create table t (object bigint primary key, grade integer not null);")
+    base.fill("t", ((it, 5000 - it) for it in range(5000)))
+
+    def client(number: int, port: int) -> str | None:
+        for it in range(number, 5000, 157):
+            wrong = first_difference([(f"page {it}", body(port, f"/lists/grade/page?from={it}&count=1"), {"rows": [[it, 5000 - it]]}),
+                                      (f"grade {it}", body(port, f"/lists/grade/grade?object={it}"), {"grade": 5000 - it})])
+            if wrong is not None:
+                return wrong
+        return None
+
+    with node(base, "--table", "t", "--grade", "grade") as port, contextlib.ExitStack() as links, concurrent.futures.ThreadPoolExecutor(8) as pool:
+        for part in (b"", b"GET /lists/grade/si"):
+            links.enter_context(socket.create_connection(("127.0.0.1", port), timeout=SECONDS)).sendall(part)
+        with socket.create_connection(("127.0.0.1", port), timeout=SECONDS) as left:
+            left.sendall(b"GET /lists/grade/page?from=0&count=5000 HTTP/1.0\r\n\r\n")
+        return next(filter(None, pool.map(client, range(8), [port] * 8)), None)
+
+
+def hotels(base: Base) -> str | None:
+    """The table of examples/bridges has the hotels' lists row by row, at the places of examples/catalog_http.csv."""
+    base.do((BRIDGES / "hotels.sql").read_text(encoding="utf-8"))
+    files = EXAMPLES.parent / "crates" / "topk" / "data" / "hotels"
+    names = re.findall(r"^(\w+),http://127\.0\.0\.1:8001/lists/\1,(?:yes|no)$", (EXAMPLES / "catalog_http.csv").read_text(encoding="utf-8"), re.M)
+    if len(names) != 4:
+        return f"the catalog names {names}"
+    with node(base, "--table", "hotels", "--object", "id", *[word for name in names for word in ("--grade", name)]) as port:
+        rows = []
+        for name in names:
+            lines = (files / f"{name}.csv").read_text(encoding="utf-8").split()[1:]
+            rows.append((name, body(port, f"/lists/{name}/page?from=0&count=100"), {"rows": [[int(it) for it in line.split(",")] for line in lines]}))
+    return first_difference(rows)
+
+
+def tests() -> Iterator[tuple[str, Callable[[str], str | None]]]:
+    """Each test with its name, for each database."""
+    def over(opened: Callable[[], Any], test: Callable[[Base], str | None]) -> str | None:
+        try:
+            with opened() as base:
+                return test(base)
+        except (AssertionError, OSError, sqlite3.Error, subprocess.CalledProcessError) as fault:
+            return f"{type(fault).__name__}: {fault}"
+    for opened in (sqlite, postgres):
+        for test in (requests, refusals, starts, faults, versions, changes, great_list, clients, hotels):
+            yield f"bridge_{opened.__name__}_{test.__name__}", lambda _, opened=opened, test=test: over(opened, test)

@@ -1,0 +1,181 @@
+"""Tests of `run` over lists that hosts serve: nodes of this process on free ports of 127.0.0.1, which answer as each test says, and a bridge.
+
+The table is L of the certificate's page: A has 1 900, 2 800, 3 100 and B has 2 700, 3 600, 1 500.
+"""
+from __future__ import annotations
+
+import contextlib
+import os
+import pathlib
+import re
+import socketserver
+import subprocess
+import tempfile
+import threading
+from collections.abc import Callable, Iterator
+
+import bridges
+from special import SECONDS, differs, run, write
+
+DATA = pathlib.Path(__file__).resolve().parent.parent / "crates" / "topk" / "data"
+LISTS = {"A": [(1, 900), (2, 800), (3, 100)], "B": [(2, 700), (3, 600), (1, 500)]}
+QUERY = b"top 1 by sum(A,B) using ta"
+# One call after another, and none that isn't needed: A is asked for its size, row 1, the grade of 2, row 2, the grade of 3.
+ALONE = ("--workers", "1", "--page", "1", "--ahead", "0")
+SIZE, ROW, GRADE = 1, 2, 3
+CERTIFICATE = b"""certificate 1
+query top 1 by sum(A,B) using ta
+count 3
+version A 7
+answer 2 1500 1500
+stop depth 2 sorted 4 random 3 cost 7
+s A 1 900
+s B 2 700
+r B 1 500
+r A 2 800
+s A 2 800
+s B 3 600
+r A 3 100
+end
+"""
+# What a node replies to one of A's requests, the others being answered well, and what becomes of the line then.
+REPLIES = [
+    ("no reply to size", SIZE, b"", b"refused 1 NotOpened A\n"),
+    ("size isn't there", SIZE, b"HTTP/1.1 404 Not Found\r\nContent-Length: 0\r\n\r\n", b"refused 1 NotOpened A\n"),
+    ("size fails", SIZE, b"HTTP/1.1 500 Internal Server Error\r\nContent-Length: 0\r\n\r\n", b"refused 1 NotOpened A\n"),
+    ("size is no number", SIZE, bridges.answer('{"count":"3"}'), b"refused 1 NotOpened A\n"),
+    ("size of another list", SIZE, bridges.answer('{"count":2}'), b"refused 1 CountsDiffer A 2 B 3\n"),
+    ("size above the limit", SIZE, bridges.answer('{"count":200001}'), b"refused 1 TooLarge A 200001\n"),
+    ("no reply to a page", ROW, b"", b"refused 1 Garbled A\n"),
+    ("a page isn't there", ROW, b"HTTP/1.1 404 Not Found\r\nContent-Length: 0\r\n\r\n", b"refused 1 Garbled A\n"),
+    ("a page is no JSON", ROW, bridges.answer("[1,900]"), b"refused 1 Garbled A\n"),
+    ("a page is longer than asked for", ROW, bridges.answer('{"rows":[[1,900],[2,800]]}'), b"refused 1 Garbled A\n"),
+    ("a page is short", ROW, bridges.answer('{"rows":[]}'), b"refused 1 ShortList A 3 0\n"),
+    ("a grade above the greatest", ROW, bridges.answer('{"rows":[[1,1000001]]}'), b"refused 1 TooHigh A 1 1000001\n"),
+    ("a page of another version", ROW, bridges.answer('{"rows":[[1,900]],"version":8}'), b"refused 1 Moved A 0 8\n"),
+    ("an object isn't there", GRADE, bridges.answer('{"grade":null}'), b"refused 1 Missing A 2\n"),
+    ("a grade of another version", GRADE, bridges.answer('{"grade":800,"version":8}'), b"refused 1 Moved A 0 8\n"),
+    ("no reply to a grade", GRADE, b"", b"refused 1 Garbled A\n"),
+]
+
+
+def answered(target: str, version: int = 0) -> bytes:
+    """What a node of L replies to a target that it knows."""
+    name, call = re.fullmatch(r"/lists/([AB])/(.*)", target).groups()
+    stated = f',"version":{version}' if version else ""
+    if call == "size":
+        return bridges.answer(f'{{"count":{len(LISTS[name])}{stated}}}')
+    if page := re.fullmatch(r"page\?from=(\d+)&count=(\d+)", call):
+        rows = LISTS[name][int(page[1]):][:int(page[2])]
+        return bridges.answer('{"rows":[' + ",".join(f"[{row[0]},{row[1]}]" for row in rows) + f"]{stated}}}")
+    wanted = int(re.fullmatch(r"grade\?object=(\d+)", call)[1])
+    return bridges.answer(f'{{"grade":{dict(LISTS[name])[wanted]}{stated}}}')
+
+
+@contextlib.contextmanager
+def node(reply: Callable[[str, int], bytes]) -> Iterator[tuple[int, list[str]]]:
+    """A node that replies so to the target of each request and its number among those of its list, from 1; its port, and the targets so far."""
+    targets: list[str] = []
+    lock = threading.Lock()
+
+    class Link(socketserver.StreamRequestHandler):
+        timeout = SECONDS
+
+        def handle(self) -> None:
+            words = self.rfile.readline().decode().split()
+            while self.rfile.readline() not in (b"\r\n", b""):
+                pass
+            with lock:
+                targets.append(words[1])
+                number = sum(it.startswith(words[1][:len("/lists/A/")]) for it in targets)
+            self.wfile.write(reply(words[1], number))
+
+    with socketserver.ThreadingTCPServer(("127.0.0.1", 0), Link) as server:
+        server.daemon_threads = True
+        threading.Thread(target=server.serve_forever, daemon=True).start()
+        try:
+            yield server.server_address[1], targets
+        finally:
+            server.shutdown()
+
+
+def run_over(program: str, port: int, *words: str) -> subprocess.CompletedProcess:
+    """A run of the query over the lists that a host at this port serves."""
+    with tempfile.TemporaryDirectory() as place:
+        write(place, "catalog.csv", "name,place,random\n" + "".join(f"{it},http://127.0.0.1:{port}/lists/{it},yes\n" for it in LISTS))
+        return run(program, ["run", *words, "catalog.csv"], QUERY, place)
+
+
+def at_versions(program: str) -> str | None:
+    """A certificate says which version of a list it speaks of."""
+    with node(lambda target, number: answered(target, 7 if target[7] == "A" else 0)) as (port, targets):
+        return differs(run_over(program, port), 0, CERTIFICATE)
+
+
+def requests(program: str) -> str | None:
+    """Each call is one request, and none is made that the query doesn't need."""
+    wanted = ["/lists/A/size", "/lists/B/size", "/lists/A/page?from=0&count=1", "/lists/B/page?from=0&count=1", "/lists/B/grade?object=1",
+              "/lists/A/grade?object=2", "/lists/A/page?from=1&count=1", "/lists/B/page?from=1&count=1", "/lists/A/grade?object=3"]
+    with node(lambda target, number: answered(target)) as (port, targets):
+        wrong = differs(run_over(program, port, *ALONE), 0, CERTIFICATE.replace(b"version A 7\n", b""))
+        return wrong or (None if targets == wanted else f"asked for {targets}")
+
+
+def moved(program: str) -> str | None:
+    """A list that is replaced while it is read is refused, with the version at opening and the one of the reply."""
+    def reply(target: str, number: int) -> bytes:
+        return answered(target, (7 if number < 3 else 8) if target[7] == "A" else 0)
+    with node(reply) as (port, targets):
+        return differs(run_over(program, port, *ALONE), 1, b"refused 1 Moved A 7 8\n")
+
+
+def replies(program: str) -> str | None:
+    """Whatever one reply says, the line is answered or refused by name."""
+    for name, call, bad, wanted in REPLIES:
+        with node(lambda target, number: bad if target[7] == "A" and number == call else answered(target)) as (port, targets):
+            wrong = differs(run_over(program, port, *ALONE), 1, wanted)
+            if wrong is not None:
+                return f"{name}: {wrong}"
+    return None
+
+
+def cut(program: str) -> str | None:
+    """A reply that is cut after any of its bytes is garbled."""
+    whole = answered("/lists/A/page?from=0&count=1")
+    for length in range(len(whole)):
+        with node(lambda target, number: whole[:length] if target[7] == "A" and number == ROW else answered(target)) as (port, targets):
+            wrong = differs(run_over(program, port, *ALONE), 1, b"refused 1 Garbled A\n")
+            if wrong is not None:
+                return f"after {length} bytes: {wrong}"
+    return None
+
+
+def nobody(program: str) -> str | None:
+    """Where nobody listens the list isn't opened."""
+    with node(lambda target, number: b"") as (port, targets):
+        pass
+    return differs(run_over(program, port), 1, b"refused 1 NotOpened A\n")
+
+
+def bridge(program: str) -> str | None:
+    """Lists of a database come to the bytes that the files of the same lists come to, whatever the settings."""
+    queries = (DATA.parent / "stdin").read_bytes()
+    files = run(program, ["run", "catalog.csv"], queries, DATA)
+    names = ("price", "rating", "centre", "quiet", "stars")
+    with bridges.sqlite() as base, tempfile.TemporaryDirectory() as place:
+        base.do((bridges.BRIDGES / "hotels.sql").read_text(encoding="utf-8"))
+        words = [word for name in names[:4] for word in ("--grade", name)]
+        with bridges.node(base, "--table", "hotels", "--object", "id", *words) as port:
+            lines = [f"{name},http://127.0.0.1:{port}/lists/{name},{'no' if name == 'quiet' else 'yes'}\n" for name in names]
+            write(place, "catalog.csv", "name,place,random\n" + "".join(lines))
+            for settings in ((), ("--workers", "1", "--page", "3", "--ahead", "0"), ("--workers", "8", "--page", "1", "--ahead", "5")):
+                wrong = differs(run(program, ["run", *settings, os.path.join(place, "catalog.csv")], queries), files.returncode, files.stdout)
+                if wrong is not None:
+                    return f"{' '.join(settings)}: {wrong}"
+    return None
+
+
+def tests() -> Iterator[tuple[str, Callable[[str], str | None]]]:
+    """Each test with its name."""
+    for test in (at_versions, requests, moved, replies, cut, nobody, bridge):
+        yield f"hosts_{test.__name__}", test
