@@ -1,5 +1,5 @@
 -- Made queries are lawful.
-use Rattle.std.proofs.Common.{◌≡◌, ◌≢◌, ◌≤◌, ◌<◌, ◌+◌, ◌%◌, min, ℕ, zero, suc, true, List, [], ◌∷◌, length, map, All, AllPairs, Contains, Some, None, Err, refl, sym, ap, ◌∙◌, subst, arith, inl, inr}
+use Rattle.std.proofs.Common.{◌≡◌, ◌≢◌, ◌≤◌, ◌<◌, ◌+◌, ◌%◌, ◌==◌, min, ℕ, zero, suc, Bool, true, false, cond, List, [], ◌∷◌, length, map, All, AllPairs, Contains, Some, None, Err, refl, sym, ap, ◌∙◌, subst, arith, inl, inr}
 use Rattle.std.specs.List.{range_with_len, list_all}
 use Rattle.std.specs.Str.{bytes_eq}
 use Rattle.std.specs.Fmt as fmt
@@ -15,8 +15,9 @@ use Rattle.monotone_fn.specs.Limits.{Makes}
 use Rattle.monotone_fn.specs.declared.fault.ExprFault.{ExprFault}
 use Rattle.monotone_fn.specs.declared.fault.ExprFault.TheVariants.{TooManyNodes, TooDeep, TooBig, Memory}
 use Rattle.query_text.specs.declared.algorithm.Algorithm.{Algorithm}
+use Rattle.query_text.specs.declared.algorithm.Algorithm.TheVariants.{Ta, Nra, Ca}
 use Rattle.query_text.specs.Pieces.{each_once}
-use Rattle.query_text.specs.Query.{name_of, lists_of, lists_among, lists_under, IsPlain, ArePlain, AreWeighed, IsLawful, IsCount}
+use Rattle.query_text.specs.Query.{name_of, lists_of, lists_among, lists_under, IsPlain, ArePlain, AreWeighed, IsRated, IsLawful, IsCount}
 use Rattle.query_text.proofs.ListLaws.{once_different, no_pairs}
 use Rattle.bundle_text.specs.Numbered.{list_names}
 use Rattle.made_inputs.specs.MadeQueries.{list_trees, list_terms, made_tree, made_algorithm, made_query}
@@ -118,6 +119,15 @@ made_plain number (suc n) some few =
     let plain = plain_trees (range_with_len 0 (suc n)) in
     each_tree IsPlain number (suc n) (tt, plain) (tt, plain) (tt, plain) (tt, plain) (tt, weighed_terms 0 (suc n) (omega arith))
 
+-- ---- the algorithms have no numbers
+made_rated : (number : ℕ) → IsRated (made_algorithm number)
+made_rated number = go (number % 3 == 0) (number % 3 == 1)
+  where
+    go : (first second : Bool) → IsRated (cond first Ta (cond second Nra Ca))
+    go true second = tt
+    go false true = tt
+    go false false = tt
+
 -- ---- the query
 turn : (number most : ℕ) → 1 ≤ most → most ≤ 1000000 → IsCount (1 + number % most)
 turn number most some few = let low : number % most < most = mod-lt number (omega arith) in (omega arith, omega arith)
@@ -137,6 +147,7 @@ made_lawful number count lists objects some few =
           omega (arith, at, size));
       numbered = ap (λ ls. each_once bytes_eq (map (name_of (list_names lists)) ls)) (made_lists number lists) ∙ ap (each_once bytes_eq) names.numbered ∙ names.once;
       weights = made_plain number lists some few;
+      algorithm = made_rated number;
       cost = ((omega arith, omega arith), turn number 4 (omega arith) (omega arith));
       room = tt;
     }

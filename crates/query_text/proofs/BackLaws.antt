@@ -10,17 +10,16 @@ use Rattle.std.proofs.lemmas.List.{length-append}
 use Rattle.std.proofs.lemmas.List.Elements.{All-head, All-tail}
 use Rattle.std.proofs.lemmas.Fmt.{decimal_injective}
 use Rattle.line_text.specs.Names.{IsName}
-use Rattle.line_text.proofs.NumberLaws.{number_of-decimal, number_of-some}
 use Rattle.monotone_fn.specs.Tree.{Tree, Trees, Terms}
 use Rattle.monotone_fn.specs.Shape.{nodes_of}
 use Rattle.monotone_fn.specs.Limits.{IsExpr, Makes, top_value}
 use Rattle.monotone_fn.specs.declared.fault.ExprFault.TheVariants.{TooManyNodes as ManyNodes, TooDeep as Deep, TooBig as Big}
 use Rattle.monotone_fn.specs.declared.costs.Costs.{Costs}
-use Rattle.query_text.proofs.ListLaws.{same_bytes, bytes_same, names_in-append, once-append, once-extends}
+use Rattle.query_text.proofs.ListLaws.{Each, same_bytes, bytes_same, names_in-append, once-append, once-extends}
 use Rattle.query_text.specs.Written.{Written, Arguments, IsNumber, IsWeight, IsWritten, AreArguments, HasArgument}
 use Rattle.query_text.specs.Pieces.{Piece, IsInRange, AreInRange, names_in, lists_in, each_once, IsNumberFault, IsNameFault}
-use Rattle.query_text.specs.Shape.{IsShape, expr_pieces, argument_pieces, further_pieces, algorithm_pieces, cost_pieces, room_pieces, pieces_of}
-use Rattle.query_text.specs.Query.{written, arguments, weighted, name_of, cost_digits, shape_of, printed, lists_of, lists_among, lists_under, HasTree, HasTerm, IsPlain, ArePlain, AreWeighed, IsCount, IsLawful}
+use Rattle.query_text.specs.Shape.{IsShape, named_pieces, expr_pieces, argument_pieces, further_pieces, algorithm_pieces, cost_pieces, room_pieces, pieces_of}
+use Rattle.query_text.specs.Query.{written, arguments, weighted, name_of, named_as, cost_digits, shape_of, printed, lists_of, lists_among, lists_under, HasTree, HasTerm, IsPlain, ArePlain, AreWeighed, IsCount, IsLawful}
 use Rattle.query_text.specs.Reading.{Reads, IsReadBack}
 use Rattle.query_text.proofs.LengthLaws.{length-printed}
 use Rattle.query_text.specs.declared.query.Query.{Query}
@@ -29,22 +28,14 @@ use Rattle.query_text.specs.declared.operator.Operator.TheVariants.{Min, Max, Su
 use Rattle.query_text.specs.declared.fault.QueryFault.{QueryFault}
 use Rattle.query_text.specs.declared.fault.QueryFault.TheVariants as faults
 use Rattle.query_text.proofs.CompleteLaws.{one_shape}
-use Rattle.query_text.proofs.FinalLaws.{Each, value_of, names_in-shape, names_written}
+use Rattle.query_text.proofs.FinalLaws.{names_in-shape, names_written}
 use Rattle.query_text.proofs.NumberingLaws.{Each-left}
+use Rattle.query_text.proofs.RatedLaws.{value_of, number_is, range_of, count_small, rated_named, rated_ranges, named_same, never_below}
 use Rattle.limits.specs.declared.TheConstants.{MAX_LINE, MAX_NUMBER, MAX_VALUE, MAX_WEIGHT}
 
 Each-from : {A : Type 0} (P : A → Type 0) (xs : List A) → All P xs → Each P xs
 Each-from P [] h = tt
 Each-from P (x ∷ xs) h = (All-head P x xs h, Each-from P xs (All-tail P x xs h))
-
-number_is : (n : ℕ) → n < 2 ^ 64 → IsNumber (decimal n)
-number_is n small = (number_of-some (decimal n) n (number_of-decimal n small)).0
-
-range_of : (least most n : ℕ) → n < 2 ^ 64 → least ≤ n → n ≤ most → IsInRange (Piece.number least most (decimal n))
-range_of least most n small low high = let e = value_of n small in (omega (arith, e), omega (arith, e))
-
-count_small : (n : ℕ) → IsCount n → n < 2 ^ 64
-count_small n h = let high = h.1 in omega arith
 
 -- the names of a lawful query
 name_fine : (names : List (List ℕ)) (l : ℕ) → Each IsName names → l < length names → IsName (name_of names l)
@@ -139,6 +130,7 @@ pub lawful_shape : (q : Query) → IsLawful q → IsShape (shape_of q)
 lawful_shape q h = record {
   k = number_is q.k (count_small q.k h.k);
   expr = written_fine q.expr q.names (Each-from IsName q.names h.names) (Each-from (λ l. l < length q.names) (lists_of q.expr) h.listed) h.weights;
+  algorithm = rated_named q.algorithm h.algorithm;
   cost = cost_sound q.cost h.cost;
   room = room_sound q.room h.room;
 }
@@ -150,9 +142,12 @@ lawful_ranges q h = (
     range_of 1 MAX_NUMBER q.k (count_small q.k h.k) h.k.0 h.k.1,
     (
       tt,
-      AreInRange-append (expr_pieces (written q.names q.expr)) (algorithm_pieces q.algorithm ++ (cost_pieces (option_map cost_digits q.cost) ++ room_pieces (option_map decimal q.room)))
-          (ranges_written q.expr q.names h.weights)
-          (tt, (tt, AreInRange-append (cost_pieces (option_map cost_digits q.cost)) (room_pieces (option_map decimal q.room)) (cost_ranges q.cost h.cost) (room_ranges q.room h.room))),
+      AreInRange-append (expr_pieces (written q.names q.expr)) (algorithm_pieces (named_as q.algorithm) ++ (cost_pieces (option_map cost_digits q.cost) ++ room_pieces (option_map decimal q.room)))
+          (ranges_written q.expr q.names h.weights) (
+            tt,
+            AreInRange-append (named_pieces (named_as q.algorithm)) (cost_pieces (option_map cost_digits q.cost) ++ room_pieces (option_map decimal q.room)) (rated_ranges q.algorithm h.algorithm)
+                (AreInRange-append (cost_pieces (option_map cost_digits q.cost)) (room_pieces (option_map decimal q.room)) (cost_ranges q.cost h.cost) (room_ranges q.room h.room)),
+          ),
     ),
   ),
 )
@@ -261,7 +256,8 @@ query_same p q h k e =
     let number : p.k ≡ q.k = decimal_injective p.k q.k (count_small p.k h.k) (count_small q.k k.k) (ap (λ s. s.k) e) in
     let cost : p.cost ≡ q.cost = cost_same p.cost q.cost h.cost k.cost (ap (λ s. s.cost) e) in
     let room : p.room ≡ q.room = room_same p.room q.room h.room k.room (ap (λ s. s.room) e) in
-    λ i. record { k = number i; names = names i; expr = tree i; algorithm = (ap (λ s. s.algorithm) e) i; cost = cost i; room = room i }
+    let algorithm : p.algorithm ≡ q.algorithm = named_same p.algorithm q.algorithm h.algorithm k.algorithm (ap (λ s. s.algorithm) e) in
+    λ i. record { k = number i; names = names i; expr = tree i; algorithm = algorithm i; cost = cost i; room = room i }
 
 pub printed_same : (p q : Query) → IsLawful p → IsLawful q → printed p ≡ printed q → p ≡ q
 unfolding printed
@@ -321,6 +317,9 @@ read_back line (Err (faults.Number a)) reads q lawful expr text =
     absurd (no_number_fault q a lawful (subst (λ s. IsNumberFault (pieces_of s) a) (one_shape reads.shape (shape_of q) reads.sound (lawful_shape q lawful) (reads.text ∙ sym text)) reads.fault))
 read_back line (Err (faults.TooManyLists a)) reads q lawful expr text =
     absurd (no_name_fault q a lawful (subst (λ s. IsNameFault (pieces_of s) a) (one_shape reads.shape (shape_of q) reads.sound (lawful_shape q lawful) (reads.text ∙ sym text)) reads.fault))
+read_back line (Err (faults.BadTheta p r)) reads q lawful expr text =
+    let same : reads.shape ≡ shape_of q = one_shape reads.shape (shape_of q) reads.sound (lawful_shape q lawful) (reads.text ∙ sym text) in
+    absurd (never_below q.algorithm reads.over reads.under p r lawful.algorithm (ap (λ s. s.algorithm) (sym same) ∙ reads.factor) reads.is_over reads.is_under reads.less)
 read_back line (Err (faults.TooManyNodes n)) reads q lawful expr text =
     let same : reads.query ≡ q = printed_same reads.query q reads.spells.lawful lawful (reads.spells.text ∙ sym text) in
     absurd (no_many q.expr n expr (subst (λ p. Makes p.expr (Err (ManyNodes n))) same reads.refused))

@@ -1,7 +1,7 @@
 -- Each text of the shape is read as its syntax tree.
 use Rattle.std.proofs.Common.{◌≡◌, ℕ, Bool, true, false, cond, ◌&&◌, eqb, List, [], ◌∷◌, ◌++◌, Option, Some, None, is_some, refl, sym, ap, ◌∙◌, append_assoc, codes, eq-eqb}
-use Rattle.std.specs.List.{list_all}
-use Rattle.std.specs.Str.{all_ascii_digits}
+use Rattle.std.specs.List.{list_all, list_any}
+use Rattle.std.specs.Str.{all_ascii_digits, bytes_eq}
 use Rattle.std.specs.Char.{is_ascii_digit, is_ascii_alphabetic}
 use Rattle.std.proofs.lemmas.Bool.{and_left, and_right, or_from, false≢true, or_left, false_from_ne_true}
 use Rattle.std.proofs.lemmas.List.{append-nil}
@@ -12,13 +12,12 @@ use Rattle.line_text.specs.Numbers.{is_empty, is_number}
 use Rattle.line_text.specs.Names.{is_name, is_name_byte}
 use Rattle.query_text.specs.Written.{Written, Arguments, IsNumber, IsWeight, IsWritten, AreArguments, Argument, arguments_from}
 use Rattle.query_text.specs.Pieces.{Piece, piece_text, text_of}
-use Rattle.query_text.specs.Shape.{SyntaxTree, IsShape, spelled, opening, algorithm_word, weight_pieces, expr_pieces, argument_pieces, further_pieces, algorithm_pieces, cost_pieces, room_pieces}
+use Rattle.query_text.specs.Shape.{SyntaxTree, Named, IsNamed, IsShape, spelled, opening, algorithm_words, named_pieces, weight_pieces, expr_pieces, argument_pieces, further_pieces, algorithm_pieces, cost_pieces, room_pieces}
 use Rattle.query_text.specs.Words.{Class, opened_by, begins, is_whole}
-use Rattle.query_text.specs.Front.{Frame, Head, Front, class_of, reads, begun, opened, operand_read, is_weighted, shape_from, IsCost, IsRoom}
-use Rattle.query_text.specs.declared.algorithm.Algorithm.{Algorithm}
-use Rattle.query_text.specs.declared.algorithm.Algorithm.TheVariants.{Ta, Nra, Ca, Fa}
+use Rattle.query_text.specs.Front.{Frame, Head, head_of, Front, class_of, reads, begun, opened, operand_read, is_weighted, shape_from, IsCost, IsRoom}
 use Rattle.query_text.specs.declared.operator.Operator.{Operator}
 use Rattle.query_text.specs.declared.operator.Operator.TheVariants.{Min, Max, Sum, Median, Wsum}
+use Rattle.query_text.proofs.ListLaws.{any_same}
 use Rattle.query_text.proofs.WordLaws.{reads-word, Stops, opened_word}
 
 -- no byte goes on with the word
@@ -283,12 +282,71 @@ options_read h (Some c) (Some r) cost room =
     ∙ (reads-word (Front.at_priced h c) (codes " room ") (r ++ []) refl (stops_always (class_of (Front.at_priced h c)) (codes " room ") (r ++ []) (λ x. refl))
     ∙ reads-word (Front.at_room h (Some c)) r [] room tt))))
 
-algorithm_read : (k : List ℕ) (e : Written) (a : Algorithm) (t : List ℕ)
-    → reads (Front.at_algorithm k e) [] (algorithm_word a ++ t) ≡ reads (Front.at_options (record { k = k; expr = e; algorithm = a })) [] t
-algorithm_read k e Ta t = reads-word (Front.at_algorithm k e) (codes "ta") t refl (stops_always (class_of (Front.at_algorithm k e)) (codes "ta") t (λ x. refl))
-algorithm_read k e Nra t = reads-word (Front.at_algorithm k e) (codes "nra") t refl (stops_always (class_of (Front.at_algorithm k e)) (codes "nra") t (λ x. refl))
-algorithm_read k e Ca t = reads-word (Front.at_algorithm k e) (codes "ca") t refl (stops_always (class_of (Front.at_algorithm k e)) (codes "ca") t (λ x. refl))
-algorithm_read k e Fa t = reads-word (Front.at_algorithm k e) (codes "fa") t refl (stops_always (class_of (Front.at_algorithm k e)) (codes "fa") t (λ x. refl))
+-- the end of a text or a blank
+abbrev EndsWord : List ℕ → Type 0
+EndsWord [] = Unit {0}
+EndsWord (x ∷ t) = x ≡ 32
+
+options_end : (c : Option (List ℕ × List ℕ)) (r : Option (List ℕ)) → EndsWord (text_of (cost_pieces c ++ room_pieces r))
+options_end None None = tt
+options_end None (Some r) = refl
+options_end (Some c) r = refl
+
+-- no longer word begins with that of the threshold algorithm and a blank
+threshold_ends : (k : List ℕ) (e : Written) (t : List ℕ) → EndsWord t → Stops (class_of (Front.at_algorithm k e)) (codes "ta") t
+threshold_ends k e [] ends = tt
+threshold_ends k e (x ∷ t) ends = ap (λ y. begins (class_of (Front.at_algorithm k e)) (codes "ta" ++ y ∷ [])) ends
+
+number_ends : (w t : List ℕ) → is_number w ≡ true → EndsWord t → Stops Class.digits w t
+number_ends w [] number ends = tt
+number_ends w (x ∷ t) number ends = digits_end w x t number (ap is_ascii_digit ends)
+
+-- an algorithm without numbers is read
+word_read : (k : List ℕ) (e : Written) (w t : List ℕ) → list_any (bytes_eq w) algorithm_words ≡ true → EndsWord t
+    → reads (Front.at_algorithm k e) [] (w ++ t) ≡ reads (Front.at_options (head_of k e (Named.word w))) [] t
+word_read k e w t named ends =
+    any_same (λ v. reads (Front.at_algorithm k e) [] (v ++ t) ≡ reads (Front.at_options (head_of k e (Named.word v))) [] t) w algorithm_words (
+      reads-word f (codes "ta") t refl (threshold_ends k e t ends),
+      (
+        reads-word f (codes "nra") t refl (stops_always (class_of f) (codes "nra") t (λ x. refl)),
+        (
+          reads-word f (codes "ca") t refl (stops_always (class_of f) (codes "ca") t (λ x. refl)),
+          (
+            reads-word f (codes "fa") t refl (stops_always (class_of f) (codes "fa") t (λ x. refl)),
+            (reads-word f (codes "taz") t refl (stops_always (class_of f) (codes "taz") t (λ x. refl)), tt),
+          ),
+        ),
+      ),
+    ) named
+  where
+    f : Front
+    f = Front.at_algorithm k e
+
+-- the two numbers of a factor are read
+factor_read : (k : List ℕ) (e : Written) (p q t : List ℕ) → is_number p ≡ true → is_number q ≡ true → EndsWord t
+    → reads (Front.at_factor k e) [] (p ++ (47 ∷ (q ++ t))) ≡ reads (Front.at_options (head_of k e (Named.factor p q))) [] t
+factor_read k e p q t first second ends =
+    let over = Front.at_over k e p in
+    reads-word (Front.at_factor k e) p (47 ∷ (q ++ t)) first (digits_end p 47 (q ++ t) first refl)
+    ∙ (reads-word over (codes "/") (q ++ t) refl (stops_always (class_of over) (codes "/") (q ++ t) (λ x. refl))
+    ∙ reads-word (Front.at_under k e p) q t second (number_ends q t second ends))
+
+algorithm_read : (k : List ℕ) (e : Written) (a : Named) (t : List ℕ) → IsNamed a → EndsWord t
+    → reads (Front.at_algorithm k e) [] (text_of (named_pieces a) ++ t) ≡ reads (Front.at_options (head_of k e a)) [] t
+algorithm_read k e (Named.word w) t named ends =
+    ap (λ z. reads (Front.at_algorithm k e) [] (z ++ t)) (append-nil w) ∙ word_read k e w t named ends
+algorithm_read k e (Named.factor p q) t named ends =
+    let f = Front.at_algorithm k e in
+    let text : (p ++ (47 ∷ (q ++ []))) ++ t ≡ p ++ (47 ∷ (q ++ t)) =
+    append_assoc p (47 ∷ (q ++ [])) t ∙ ap (λ z. p ++ (47 ∷ (z ++ t))) (append-nil q) in
+    ap (λ z. reads f [] (codes "theta " ++ z)) text
+    ∙ (reads-word f (codes "theta ") (p ++ (47 ∷ (q ++ t))) refl (stops_always (class_of f) (codes "theta ") (p ++ (47 ∷ (q ++ t))) (λ x. refl))
+    ∙ factor_read k e p q t named.0 named.1 ends)
+algorithm_read k e (Named.depth d) t named ends =
+    let f = Front.at_algorithm k e in
+    ap (λ z. reads f [] (codes "early " ++ (z ++ t))) (append-nil d)
+    ∙ (reads-word f (codes "early ") (d ++ t) refl (stops_always (class_of f) (codes "early ") (d ++ t) (λ x. refl))
+    ∙ reads-word (Front.at_depth k e) d t named (number_ends d t named ends))
 
 cost_fine : (c : Option (List ℕ × List ℕ)) → IfSome c (λ cost. IsNumber cost.0 × IsNumber cost.1) → IsCost c
 cost_fine None h = tt
@@ -302,6 +360,7 @@ room_fine (Some r) h = h
 pub complete : (s : SyntaxTree) → IsShape s → reads Front.at_top [] (spelled s) ≡ Some s
 complete s sound =
     let options = cost_pieces s.cost ++ room_pieces s.room in
+    let named = named_pieces s.algorithm ++ options in
     let end = algorithm_pieces s.algorithm ++ options in
     let rest = expr_pieces s.expr ++ end in
     let behind = Front.at_behind s.k [] s.expr in
@@ -310,9 +369,10 @@ complete s sound =
     ∙ (reads-word (Front.at_by s.k) (codes " by ") (text_of rest) refl (stops_always (class_of (Front.at_by s.k)) (codes " by ") (text_of rest) (λ x. refl))
     ∙ (ap (reads (Front.at_operand s.k []) []) (flat_map-append piece_text (expr_pieces s.expr) end)
     ∙ (expr_reads s.expr sound.expr s.k [] (text_of end) (refl, refl)
-    ∙ (reads-word behind (codes " using ") (algorithm_word s.algorithm ++ text_of options) refl (stops_always (class_of behind) (codes " using ") (algorithm_word s.algorithm ++ text_of options) (λ x. refl))
-    ∙ (algorithm_read s.k s.expr s.algorithm (text_of options)
-    ∙ options_read (record { k = s.k; expr = s.expr; algorithm = s.algorithm }) s.cost s.room (cost_fine s.cost sound.cost) (room_fine s.room sound.room)))))))
+    ∙ (reads-word behind (codes " using ") (text_of named) refl (stops_always (class_of behind) (codes " using ") (text_of named) (λ x. refl))
+    ∙ (ap (reads (Front.at_algorithm s.k s.expr) []) (flat_map-append piece_text (named_pieces s.algorithm) options)
+    ∙ (algorithm_read s.k s.expr s.algorithm (text_of options) sound.algorithm (options_end s.cost s.room)
+    ∙ options_read (head_of s.k s.expr s.algorithm) s.cost s.room (cost_fine s.cost sound.cost) (room_fine s.room sound.room))))))))
 
 -- a text has one syntax tree
 pub one_shape : (s t : SyntaxTree) → IsShape s → IsShape t → spelled s ≡ spelled t → s ≡ t

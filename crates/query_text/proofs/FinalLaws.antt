@@ -3,26 +3,24 @@ use Rattle.std.proofs.Common.{◌≡◌, ◌≢◌, ℕ, zero, suc, ◌^◌, ◌
 use Rattle.std.specs.List.{list_any, All, AllPairs}
 use Rattle.std.specs.Option.{IfSome}
 use Rattle.std.specs.Str.{bytes_eq}
-use Rattle.std.specs.Str.Parse.{digits_value}
 use Rattle.std.specs.Fmt.{decimal}
 use Rattle.std.proofs.lemmas.Bool.{false≢true}
 use Rattle.std.proofs.lemmas.List.{append-nil, map-append}
 use Rattle.std.proofs.lemmas.List.Elements.{All-cons, All-nil}
 use Rattle.line_text.specs.Names.{IsName}
-use Rattle.line_text.proofs.NumberLaws.{number_of-decimal, number_of-some}
 use Rattle.monotone_fn.specs.Tree.{Tree, Trees, Terms}
 use Rattle.monotone_fn.specs.Shown.{tree_of}
 use Rattle.monotone_fn.specs.declared.costs.Costs.{Costs}
 use Rattle.query_text.specs.Course.{may_end}
-use Rattle.query_text.proofs.ListLaws.{names_in-append, once_different, no_pairs}
+use Rattle.query_text.proofs.ListLaws.{Each, names_in-append, once_different, no_pairs}
 use Rattle.query_text.specs.Written.{Written, Arguments, IsWritten, AreArguments}
-use Rattle.query_text.specs.Pieces.{Piece, text_of, IsInRange, AreInRange, names_in, lists_in, with_member, each_once_after, each_once, AreFine}
-use Rattle.query_text.specs.Shape.{SyntaxTree, IsShape, spelled, count_piece, weight_pieces, expr_pieces, argument_pieces, further_pieces, algorithm_pieces, cost_pieces, room_pieces, pieces_of}
-use Rattle.query_text.specs.Query.{written, arguments, weighted, name_of, cost_digits, shape_of, printed, lists_of, lists_among, lists_under, names_given, IsPlain, IsCount, IsLawful}
+use Rattle.query_text.specs.Pieces.{Piece, text_of, AreInRange, names_in, lists_in, with_member, each_once_after, each_once, AreFine}
+use Rattle.query_text.specs.Shape.{SyntaxTree, Named, IsShape, spelled, named_pieces, weight_pieces, expr_pieces, argument_pieces, further_pieces, algorithm_pieces, cost_pieces, room_pieces, pieces_of}
+use Rattle.query_text.specs.Query.{written, arguments, weighted, name_of, named_as, cost_digits, shape_of, printed, lists_of, lists_among, lists_under, names_given, IsPlain, IsCount, IsLawful}
 use Rattle.query_text.specs.Front.{Front, stage_of, shape_at, shape_from}
 use Rattle.query_text.specs.Draft.{names_of, head_in, unset, priced, front_of}
 use Rattle.query_text.specs.Reached.{IsDraftOf}
-use Rattle.query_text.specs.Finish.{query_in, IsSmall}
+use Rattle.query_text.specs.Finish.{query_in, IsFair, IsSmall}
 use Rattle.query_text.specs.declared.draft.Draft.{Draft}
 use Rattle.query_text.specs.declared.stage.Stage.{Stage}
 use Rattle.query_text.specs.declared.stage.Stage.TheVariants as stages
@@ -30,6 +28,7 @@ use Rattle.query_text.specs.declared.operator.Operator.{Operator}
 use Rattle.query_text.specs.declared.operator.Operator.TheVariants.{Min, Max, Sum, Median, Wsum}
 use Rattle.query_text.proofs.FrontLaws.{whole_at}
 use Rattle.query_text.proofs.ReachLaws.{ends_at}
+use Rattle.query_text.proofs.RatedLaws.{count_from, rated_from, named_names}
 use Rattle.limits.specs.declared.TheConstants.{MAX_LISTS}
 
 -- the syntax tree that a draft shows
@@ -47,6 +46,10 @@ shape_shown names stages.Behind d shape may h = absurd (false≢true may)
 shape_shown names stages.Weight d shape may h = absurd (false≢true may)
 shape_shown names stages.Times d shape may h = absurd (false≢true may)
 shape_shown names stages.Algorithm d shape may h = absurd (false≢true may)
+shape_shown names stages.Factor d shape may h = absurd (false≢true may)
+shape_shown names stages.Over d shape may h = absurd (false≢true may)
+shape_shown names stages.Under d shape may h = absurd (false≢true may)
+shape_shown names stages.Depth d shape may h = absurd (false≢true may)
 shape_shown names stages.Options d shape may h = by_options d.cost d.room refl refl h
   where
     by_options : (c : Option Costs) (r : Option ℕ) → d.cost ≡ c → d.room ≡ r → shape_at (unset c (unset r (Front.at_options (head_in names d)))) ≡ Some shape
@@ -71,16 +74,6 @@ shape_shown names stages.Priced d shape may h = by_options d.cost d.room refl re
 shape_shown names stages.Room d shape may h = absurd (false≢true may)
 shape_shown names stages.Done d shape may h = let e : shape_from (head_in names d) (option_map cost_digits d.cost) (option_map decimal d.room) ≡ shape = cc in sym e
 
--- the value of a number's text
-pub value_of : (n : ℕ) → n < 2 ^ 64 → digits_value 10 (decimal n) ≡ n
-value_of n small = (number_of-some (decimal n) n (number_of-decimal n small)).1
-
-count_from : (n : ℕ) → n < 2 ^ 32 → IsInRange (count_piece (decimal n)) → IsCount n
-count_from n small h =
-    let fits : n < 2 ^ 64 = omega arith in
-    let e = value_of n fits in
-    (omega (arith, h.0, e), omega (arith, h.1, e))
-
 AreInRange-parts : (ps qs : List Piece) → AreInRange (ps ++ qs) → AreInRange ps × AreInRange qs
 AreInRange-parts [] qs h = (tt, h)
 AreInRange-parts (p ∷ ps) qs h = let r = AreInRange-parts ps qs h.1 in ((h.0, r.0), r.1)
@@ -103,10 +96,16 @@ names_in-room : (r : Option (List ℕ)) → names_in (room_pieces r) ≡ []
 names_in-room None = refl
 names_in-room (Some r) = refl
 
+names_in-end : (a : Named) (c : Option (List ℕ × List ℕ)) (r : Option (List ℕ)) → names_in (named_pieces a ++ (cost_pieces c ++ room_pieces r)) ≡ []
+names_in-end a c r =
+    names_in-append (named_pieces a) (cost_pieces c ++ room_pieces r)
+    ∙ ((λ i. named_names a i ++ names_in (cost_pieces c ++ room_pieces r))
+    ∙ (names_in-append (cost_pieces c) (room_pieces r) ∙ (λ i. names_in-cost c i ++ names_in-room r i)))
+
 pub names_in-shape : (s : SyntaxTree) → names_in (pieces_of s) ≡ names_in (expr_pieces s.expr)
 names_in-shape s =
     names_in-append (expr_pieces s.expr) (algorithm_pieces s.algorithm ++ (cost_pieces s.cost ++ room_pieces s.room))
-    ∙ (ap (λ z. names_in (expr_pieces s.expr) ++ z) (names_in-append (cost_pieces s.cost) (room_pieces s.room) ∙ (λ i. names_in-cost s.cost i ++ names_in-room s.room i))
+    ∙ (ap (λ z. names_in (expr_pieces s.expr) ++ z) (names_in-end s.algorithm s.cost s.room)
     ∙ append-nil (names_in (expr_pieces s.expr)))
 
 names_in-weight : (w : Option (List ℕ)) → names_in (weight_pieces w) ≡ []
@@ -144,11 +143,6 @@ mutual
   names_under (Terms.term_then w t us) names =
       names_three (Some (decimal w)) (expr_pieces (written names t)) (further_pieces (weighted names us))
       ∙ ((λ i. names_written t names i ++ (further_names (weighted names us) ∙ names_under us names) i) ∙ sym (map-append (name_of names) (lists_of t) (lists_under us)))
-
--- what holds of each member
-abbrev pub Each : {A : Type 0} → (A → Type 0) → List A → Type 0
-Each P [] = Unit {0}
-Each P (x ∷ xs) = P x × Each P xs
 
 pub Each-append : {A : Type 0} (P : A → Type 0) (xs ys : List A) → Each P xs → Each P ys → Each P (xs ++ ys)
 Each-append P [] ys h k = k
@@ -190,13 +184,13 @@ listed_from names [] h = tt
 listed_from names (l ∷ ls) h = (within_names names l h.0, listed_from names ls h.1)
 
 -- what a draft of a whole line shows
-record IsShown (d : Draft) (s : SyntaxTree) : Type 0 where
-  shape : s ≡ shape_of (query_in d)
-  sound : IsShape (shape_of (query_in d))
-  fine : AreFine (pieces_of (shape_of (query_in d)))
-  lists : names_of d ≡ lists_in (pieces_of (shape_of (query_in d)))
+pub record IsShown (d : Draft) (s : SyntaxTree) : Type 0 where
+  pub shape : s ≡ shape_of (query_in d)
+  pub sound : IsShape (shape_of (query_in d))
+  pub fine : AreFine (pieces_of (shape_of (query_in d)))
+  pub lists : names_of d ≡ lists_in (pieces_of (shape_of (query_in d)))
 
-draft_shown : (line : List ℕ) (d : Draft) → (h : IsDraftOf line d) → IsShown d h.shape
+pub draft_shown : (line : List ℕ) (d : Draft) → (h : IsDraftOf line d) → IsShown d h.shape
 unfolding shape_in
 draft_shown line d h =
     let f = h.front in
@@ -239,13 +233,15 @@ draft_listed line d h =
     }
 
 -- a draft of a whole line is lawful, and its text is the line
-pub draft_lawful : (line : List ℕ) (d : Draft) → IsDraftOf line d → IsSmall d → IsLawful (query_in d)
-draft_lawful line d h small =
+pub draft_lawful : (line : List ℕ) (d : Draft) → IsDraftOf line d → IsSmall d → IsFair d.algorithm → IsLawful (query_in d)
+draft_lawful line d h small fair =
     let shown = draft_shown line d h in
     let listed = draft_listed line d h in
     let expr = written (names_of d) (tree_of d.operand) in
-    let ranges = AreInRange-parts (expr_pieces expr) (algorithm_pieces d.algorithm ++ (cost_pieces (option_map cost_digits d.cost) ++ room_pieces (option_map decimal d.room))) shown.fine.ranges.1.1.1 in
-    let options = AreInRange-parts (cost_pieces (option_map cost_digits d.cost)) (room_pieces (option_map decimal d.room)) ranges.1.1.1 in
+    let behind = cost_pieces (option_map cost_digits d.cost) ++ room_pieces (option_map decimal d.room) in
+    let ranges = AreInRange-parts (expr_pieces expr) (algorithm_pieces (named_as d.algorithm) ++ behind) shown.fine.ranges.1.1.1 in
+    let end = AreInRange-parts (named_pieces (named_as d.algorithm)) behind ranges.1.1 in
+    let options = AreInRange-parts (cost_pieces (option_map cost_digits d.cost)) (room_pieces (option_map decimal d.room)) end.1 in
     record {
       k = count_from d.k small.k shown.fine.ranges.1.0;
       names = Each-all IsName (names_of d) listed.fine;
@@ -254,6 +250,7 @@ draft_lawful line d h small =
       listed = Each-all (λ l. l < length (names_of d)) (lists_of (tree_of d.operand)) listed.listed;
       numbered = listed.numbered;
       weights = listed.plain;
+      algorithm = rated_from d.algorithm small.algorithm fair end.0;
       cost = cost_counts d.cost small.cost options.0;
       room = room_counts d.room small.room options.1;
     }

@@ -1,19 +1,17 @@
 -- A word adds its piece to a front, and keeps it well formed.
-use Rattle.std.proofs.Common.{◌≡◌, ℕ, Bool, true, false, cond, ◌||◌, List, [], ◌∷◌, ◌++◌, Option, Some, None, is_some, refl, sym, ap, ◌∙◌, subst, ⊎_elim, append_assoc, codes, map, unwrap_or, IfSome}
-use Rattle.std.specs.List.{list_any, flat_map, find}
+use Rattle.std.proofs.Common.{◌≡◌, ℕ, Bool, true, false, cond, ◌||◌, List, [], ◌∷◌, ◌++◌, Option, Some, None, is_some, refl, sym, ap, ◌∙◌, subst, ⊎_elim, append_assoc, codes, IfSome}
+use Rattle.std.specs.List.{list_any, flat_map}
 use Rattle.std.specs.Str.{bytes_eq}
 use Rattle.std.proofs.lemmas.Bool.{or_cases, false≢true}
 use Rattle.std.proofs.lemmas.List.{append-nil}
 use Rattle.std.proofs.lemmas.Grind.{flat_map-append}
 use Rattle.line_text.specs.Names.{is_name}
-use Rattle.query_text.proofs.ListLaws.{same_bytes}
+use Rattle.query_text.proofs.ListLaws.{any_same, same_bytes}
 use Rattle.query_text.specs.Written.{Written, IsNumber, HasNoWeight, IsWeight, IsWritten, AreArguments, HasArgument, Argument, arguments_from}
 use Rattle.query_text.specs.Pieces.{Piece, piece_text, text_of}
-use Rattle.query_text.specs.Shape.{SyntaxTree, opening, algorithm_word, algorithms, weight_pieces, expr_pieces, argument_pieces, further_pieces, front_pieces, algorithm_pieces, cost_pieces, pieces_of, IsShape}
-use Rattle.query_text.specs.Words.{opened_by, is_whole}
-use Rattle.query_text.specs.Front.{Frame, Front, stage_of, class_of, done_pieces, frame_pieces, open_pieces, pieces_before, next, shape_at, begun, opened, all_done, operand_read, argument_read, operand_piece, piece_at, is_weighted, AreDone, AreOpen, IsCost, IsRoom, IsFine, head_pieces}
-use Rattle.query_text.specs.declared.algorithm.Algorithm.{Algorithm}
-use Rattle.query_text.specs.declared.algorithm.Algorithm.TheVariants.{Ta}
+use Rattle.query_text.specs.Shape.{SyntaxTree, Named, IsNamed, opening, weight_pieces, expr_pieces, argument_pieces, further_pieces, front_pieces, algorithm_pieces, cost_pieces, pieces_of, IsShape}
+use Rattle.query_text.specs.Words.{opened_by, is_whole, using_words}
+use Rattle.query_text.specs.Front.{Frame, Front, stage_of, class_of, done_pieces, frame_pieces, open_pieces, pieces_before, using_pieces, next, named_read, head_of, IsHead, shape_at, begun, opened, all_done, operand_read, argument_read, operand_piece, piece_at, is_weighted, AreDone, AreOpen, IsCost, IsRoom, IsFine, head_pieces}
 use Rattle.std.proofs.lemmas.Option.{same_Some}
 use Rattle.query_text.specs.declared.operator.Operator.{Operator}
 use Rattle.query_text.specs.declared.operator.Operator.TheVariants.{Min, Max, Sum, Median, Wsum}
@@ -38,21 +36,12 @@ regroup_end a b c d x y = simp append_assoc
 regroup_weight : (a b c : List Piece) (x y z : Piece) → a ++ (b ++ (x ∷ (c ++ y ∷ z ∷ []))) ≡ (a ++ ((b ++ (x ∷ (c ++ []))) ++ y ∷ [])) ++ z ∷ []
 regroup_weight a b c x y z = simp (append-nil, append_assoc)
 
-regroup_algorithm : (a b : List Piece) (x y : Piece) → a ++ (b ++ x ∷ y ∷ []) ≡ (a ++ (b ++ x ∷ [])) ++ y ∷ []
-regroup_algorithm a b x y = simp append_assoc
+regroup_last : (a b c : List Piece) (x : Piece) → a ++ (b ++ (c ++ x ∷ [])) ≡ (a ++ (b ++ c)) ++ x ∷ []
+regroup_last a b c x = simp append_assoc
 
--- a word of the table is that of the algorithm that it names
-pub algorithm_word-of : (w : List ℕ) (xs : List Algorithm) → list_any (bytes_eq w) (map algorithm_word xs) ≡ true
-    → algorithm_word (unwrap_or (find (λ a. bytes_eq w (algorithm_word a)) xs) Ta) ≡ w
-algorithm_word-of w [] h = absurd (false≢true h)
-algorithm_word-of w (a ∷ xs) h = by_test (bytes_eq w (algorithm_word a)) refl (λ k. algorithm_word-of w xs k) h
-  where
-    by_test : (b : Bool) → bytes_eq w (algorithm_word a) ≡ b
-        → (list_any (bytes_eq w) (map algorithm_word xs) ≡ true → algorithm_word (unwrap_or (find (λ x. bytes_eq w (algorithm_word x)) xs) Ta) ≡ w)
-        → (b || list_any (bytes_eq w) (map algorithm_word xs)) ≡ true
-        → algorithm_word (unwrap_or (cond b (Some a) (find (λ x. bytes_eq w (algorithm_word x)) xs)) Ta) ≡ w
-    by_test true is later k = sym (same_bytes w (algorithm_word a) is)
-    by_test false is later k = later k
+-- one more piece of the algorithm
+more_using : (k : List ℕ) (e : Written) (ps : List Piece) (p : Piece) → using_pieces k e (ps ++ p ∷ []) ≡ using_pieces k e ps ++ p ∷ []
+more_using k e ps p = regroup_last (front_pieces k) (expr_pieces e) (Piece.fixed (codes " using ") ∷ ps) p
 
 -- an operator that opens has no arguments and no weight
 opened_pieces : (op : Operator) → frame_pieces (opened op) ≡ Piece.fixed (opening op) ∷ []
@@ -160,8 +149,32 @@ pieces-next (Front.at_times k (f ∷ fs) d) w fine h =
     ∙ (regroup_weight (front_pieces k) (open_pieces fs) (flat_map done_pieces f.done) (Piece.fixed (opening f.operator)) x (Piece.fixed w)
     ∙ ap (λ z. (front_pieces k ++ ((open_pieces fs ++ (Piece.fixed (opening f.operator) ∷ (flat_map done_pieces f.done ++ weight_pieces z))) ++ x ∷ [])) ++ Piece.fixed w ∷ []) (sym none))
 pieces-next (Front.at_algorithm k e) w fine h =
-    ap (λ z. front_pieces k ++ (expr_pieces e ++ Piece.fixed (codes " using ") ∷ Piece.fixed z ∷ [])) (algorithm_word-of w algorithms h)
-    ∙ regroup_algorithm (front_pieces k) (expr_pieces e) (Piece.fixed (codes " using ")) (Piece.fixed w)
+    any_same (λ v. pieces_before (named_read k e v) ≡ using_pieces k e [] ++ Piece.fixed v ∷ []) w using_words (
+      more_using k e [] (Piece.fixed (codes "ta")),
+      (
+        more_using k e [] (Piece.fixed (codes "nra")),
+        (
+          more_using k e [] (Piece.fixed (codes "ca")),
+          (
+            more_using k e [] (Piece.fixed (codes "fa")),
+            (
+              more_using k e [] (Piece.fixed (codes "taz")),
+              (
+                more_using k e [] (Piece.fixed (codes "theta ")),
+                (more_using k e [] (Piece.fixed (codes "early ")), tt),
+              ),
+            ),
+          ),
+        ),
+      ),
+    ) h
+pieces-next (Front.at_factor k e) w fine h = more_using k e (Piece.fixed (codes "theta ") ∷ []) (Piece.number 1 MAX_NUMBER w)
+pieces-next (Front.at_over k e p) w fine h =
+    ap (λ z. using_pieces k e (Piece.fixed (codes "theta ") ∷ Piece.number 1 MAX_NUMBER p ∷ Piece.fixed z ∷ [])) (sym (only_word w (codes "/") h))
+    ∙ more_using k e (Piece.fixed (codes "theta ") ∷ Piece.number 1 MAX_NUMBER p ∷ []) (Piece.fixed w)
+pieces-next (Front.at_under k e p) w fine h =
+    more_using k e (Piece.fixed (codes "theta ") ∷ Piece.number 1 MAX_NUMBER p ∷ Piece.fixed (codes "/") ∷ []) (Piece.number 1 MAX_NUMBER w)
+pieces-next (Front.at_depth k e) w fine h = more_using k e (Piece.fixed (codes "early ") ∷ []) (Piece.number 1 MAX_NUMBER w)
 pieces-next (Front.at_options head) w fine h = by_cost (bytes_eq w (codes " cost ")) refl h
   where
     by_cost : (b : Bool) → bytes_eq w (codes " cost ") ≡ b → (b || (bytes_eq w (codes " room ") || false)) ≡ true
@@ -198,6 +211,10 @@ next_piece_text (Front.at_behind k fs e) w = refl
 next_piece_text (Front.at_weight k fs) w = refl
 next_piece_text (Front.at_times k fs d) w = refl
 next_piece_text (Front.at_algorithm k e) w = refl
+next_piece_text (Front.at_factor k e) w = refl
+next_piece_text (Front.at_over k e p) w = refl
+next_piece_text (Front.at_under k e p) w = refl
+next_piece_text (Front.at_depth k e) w = refl
 next_piece_text (Front.at_options h) w = refl
 next_piece_text (Front.at_sorted h) w = refl
 next_piece_text (Front.at_between h d) w = refl
@@ -244,6 +261,15 @@ begun_fine k f fs number done none open_frames = by_test (is_weighted f.operator
     by_test true is = (number, (done, weighted_is f.operator is, none, open_frames))
     by_test false is = (number, (done, plain_weight f.operator f.weight is none, open_frames))
 
+-- behind the word of an algorithm
+named_fine : (k : List ℕ) (e : Written) (w : List ℕ) → IsNumber k × IsWritten e → list_any (bytes_eq w) using_words ≡ true → IsFine (named_read k e w)
+named_fine k e w fine h =
+    any_same (λ v. IsFine (named_read k e v)) w using_words
+    (alone (codes "ta") refl, (alone (codes "nra") refl, (alone (codes "ca") refl, (alone (codes "fa") refl, (alone (codes "taz") refl, (fine, (fine, tt))))))) h
+  where
+    alone : (v : List ℕ) → IsNamed (Named.word v) → IsHead (head_of k e (Named.word v))
+    alone v named = record { k = fine.0; expr = fine.1; algorithm = named }
+
 -- a word keeps a front well formed
 pub fine-next : (f : Front) (w : List ℕ) → IsFine f → is_whole (class_of f) w ≡ true → IsFine (next f w)
 fine-next Front.at_top w fine h = tt
@@ -266,7 +292,11 @@ fine-next (Front.at_behind k (f ∷ fs) e) w fine h = by_comma (bytes_eq w (code
 fine-next (Front.at_weight k fs) w fine h = (fine.0, fine.1, h)
 fine-next (Front.at_times k [] d) w fine h = elim fine.1 [ ]
 fine-next (Front.at_times k (f ∷ fs) d) w fine h = (fine.0, (fine.1.0, subst (λ o. IsWeight o (Some d)) (sym fine.1.1) fine.2, fine.1.3))
-fine-next (Front.at_algorithm k e) w fine h = record { k = fine.0; expr = fine.1 }
+fine-next (Front.at_algorithm k e) w fine h = named_fine k e w fine h
+fine-next (Front.at_factor k e) w fine h = (fine.0, fine.1, h)
+fine-next (Front.at_over k e p) w fine h = fine
+fine-next (Front.at_under k e p) w fine h = record { k = fine.0; expr = fine.1; algorithm = (fine.2, h) }
+fine-next (Front.at_depth k e) w fine h = record { k = fine.0; expr = fine.1; algorithm = h }
 fine-next (Front.at_options head) w fine h = by_cost (bytes_eq w (codes " cost "))
   where
     by_cost : (b : Bool) → IsFine (cond b (Front.at_sorted head) (Front.at_room head None))
@@ -276,7 +306,7 @@ fine-next (Front.at_sorted head) w fine h = (fine, h)
 fine-next (Front.at_between head d) w fine h = fine
 fine-next (Front.at_random head d) w fine h = (fine.0, fine.1, h)
 fine-next (Front.at_priced head c) w fine h = (fine.0, (fine.1, fine.2))
-fine-next (Front.at_room head c) w fine h = (fine.0.k, fine.0.expr, fine.1, h)
+fine-next (Front.at_room head c) w fine h = (fine.0.k, fine.0.expr, fine.0.algorithm, fine.1, h)
 fine-next (Front.at_end s) w fine h = absurd (false≢true h)
 
 -- the syntax tree of a front that is a whole text
@@ -293,9 +323,13 @@ whole_at (Front.at_behind k fs e) s fine h = absurd cc
 whole_at (Front.at_weight k fs) s fine h = absurd cc
 whole_at (Front.at_times k fs d) s fine h = absurd cc
 whole_at (Front.at_algorithm k e) s fine h = absurd cc
+whole_at (Front.at_factor k e) s fine h = absurd cc
+whole_at (Front.at_over k e p) s fine h = absurd cc
+whole_at (Front.at_under k e p) s fine h = absurd cc
+whole_at (Front.at_depth k e) s fine h = absurd cc
 whole_at (Front.at_options head) s fine h =
     subst (IsWhole (Front.at_options head)) (same_Some _ _ h) (record {
-      sound = record { k = fine.k; expr = fine.expr; cost = tt; room = tt };
+      sound = record { k = fine.k; expr = fine.expr; algorithm = fine.algorithm; cost = tt; room = tt };
       same = ap (λ z. front_pieces head.k ++ (expr_pieces head.expr ++ z)) (append-nil (algorithm_pieces head.algorithm));
     })
 whole_at (Front.at_sorted head) s fine h = absurd cc
@@ -303,7 +337,7 @@ whole_at (Front.at_between head d) s fine h = absurd cc
 whole_at (Front.at_random head d) s fine h = absurd cc
 whole_at (Front.at_priced head c) s fine h =
     subst (IsWhole (Front.at_priced head c)) (same_Some _ _ h) (record {
-      sound = record { k = fine.0.k; expr = fine.0.expr; cost = (fine.1, fine.2); room = tt };
+      sound = record { k = fine.0.k; expr = fine.0.expr; algorithm = fine.0.algorithm; cost = (fine.1, fine.2); room = tt };
       same = regroup_cost (front_pieces head.k) (expr_pieces head.expr) (algorithm_pieces head.algorithm) (cost_pieces (Some c));
     })
   where
@@ -312,7 +346,7 @@ whole_at (Front.at_priced head c) s fine h =
 whole_at (Front.at_room head c) s fine h = absurd cc
 whole_at (Front.at_end t) s fine h =
     subst (IsWhole (Front.at_end t)) (same_Some _ _ h) (record {
-      sound = record { k = fine.0; expr = fine.1; cost = cost_fine t.cost fine.2; room = room_fine t.room fine.3 };
+      sound = record { k = fine.0; expr = fine.1; algorithm = fine.2; cost = cost_fine t.cost fine.3; room = room_fine t.room fine.4 };
       same = refl;
     })
   where

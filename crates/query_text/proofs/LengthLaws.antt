@@ -15,11 +15,11 @@ use Rattle.monotone_fn.specs.Limits.{IsExpr}
 use Rattle.monotone_fn.specs.declared.costs.Costs.{Costs}
 use Rattle.query_text.specs.Written.{Written, Arguments}
 use Rattle.query_text.specs.Pieces.{Piece, piece_text, text_of}
-use Rattle.query_text.specs.Shape.{weight_pieces, expr_pieces, argument_pieces, further_pieces, front_pieces, algorithm_word, algorithm_pieces, cost_pieces, room_pieces}
-use Rattle.query_text.specs.Query.{name_of, written, arguments, weighted, cost_digits, printed, IsPlain, ArePlain, AreWeighed, IsCount, IsLawful}
+use Rattle.query_text.specs.Shape.{weight_pieces, expr_pieces, argument_pieces, further_pieces, front_pieces, algorithm_pieces, cost_pieces, room_pieces}
+use Rattle.query_text.specs.Query.{name_of, written, arguments, weighted, named_as, cost_digits, printed, IsPlain, ArePlain, AreWeighed, IsCount, IsRated, IsLawful}
 use Rattle.query_text.specs.declared.query.Query.{Query}
 use Rattle.query_text.specs.declared.algorithm.Algorithm.{Algorithm}
-use Rattle.query_text.specs.declared.algorithm.Algorithm.TheVariants.{Ta, Nra, Ca, Fa}
+use Rattle.query_text.specs.declared.algorithm.Algorithm.TheVariants.{Ta, Nra, Ca, Fa, Theta, Early, Taz}
 use Rattle.limits.specs.declared.TheConstants.{MAX_LINE, MAX_WEIGHT}
 
 -- how long the text of pieces is
@@ -103,14 +103,15 @@ mutual
       let all = further_size (Some (decimal w)) (written names t) (weighted names us) (length (nodes_of t)) (length (nodes_under us)) (weight_size w plain.0) one more in
       omega (arith, all, length-append (nodes_of t) (nodes_under us))
 
-word_short : (algorithm : Algorithm) → length (algorithm_word algorithm) ≤ 8
-word_short Ta = omega arith
-word_short Nra = omega arith
-word_short Ca = omega arith
-word_short Fa = omega arith
-
-algorithm_size : (algorithm : Algorithm) → size (algorithm_pieces algorithm) ≤ 15
-algorithm_size algorithm = omega (arith, length-append (algorithm_word algorithm) [], word_short algorithm)
+algorithm_size : (algorithm : Algorithm) → IsRated algorithm → size (algorithm_pieces (named_as algorithm)) ≤ 28
+algorithm_size Ta rated = omega arith
+algorithm_size Nra rated = omega arith
+algorithm_size Ca rated = omega arith
+algorithm_size Fa rated = omega arith
+algorithm_size (Theta p q) rated =
+    omega (arith, length-append (decimal p) (codes "/" ++ (decimal q ++ [])), length-append (decimal q) [], count_short p rated.p, count_short q rated.q)
+algorithm_size (Early depth) rated = omega (arith, length-append (decimal depth) [], count_short depth rated)
+algorithm_size Taz rated = omega arith
 
 front_size : (k : ℕ) → IsCount k → size (front_pieces (decimal k)) ≤ 15
 front_size k is = omega (arith, length-append (decimal k) (codes " by "), count_short k is)
@@ -132,11 +133,11 @@ parts_size a b c d e =
 printed_size : (query : Query)
     → length (printed query)
     ≡ size (front_pieces (decimal query.k))
-    + (size (expr_pieces (written query.names query.expr)) + (size (algorithm_pieces query.algorithm) + (size (cost_pieces (option_map cost_digits query.cost)) + size (room_pieces (option_map decimal query.room)))))
+    + (size (expr_pieces (written query.names query.expr)) + (size (algorithm_pieces (named_as query.algorithm)) + (size (cost_pieces (option_map cost_digits query.cost)) + size (room_pieces (option_map decimal query.room)))))
 unfolding printed
 printed_size query =
-    parts_size (front_pieces (decimal query.k)) (expr_pieces (written query.names query.expr)) (algorithm_pieces query.algorithm) (cost_pieces (option_map cost_digits query.cost)) (room_pieces (option_map decimal query.room))
+    parts_size (front_pieces (decimal query.k)) (expr_pieces (written query.names query.expr)) (algorithm_pieces (named_as query.algorithm)) (cost_pieces (option_map cost_digits query.cost)) (room_pieces (option_map decimal query.room))
 
 pub length-printed : (query : Query) → IsLawful query → IsExpr query.expr → length (printed query) ≤ MAX_LINE
 length-printed query lawful expr =
-    omega (arith, printed_size query, front_size query.k lawful.k, tree_size query.names lawful.names query.expr lawful.weights, algorithm_size query.algorithm, cost_size query.cost lawful.cost, room_size query.room lawful.room, expr.few_nodes)
+    omega (arith, printed_size query, front_size query.k lawful.k, tree_size query.names lawful.names query.expr lawful.weights, algorithm_size query.algorithm lawful.algorithm, cost_size query.cost lawful.cost, room_size query.room lawful.room, expr.few_nodes)

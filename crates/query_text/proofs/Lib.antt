@@ -17,3 +17,4 @@ pub mod FinalLaws
 pub mod NumberingLaws
 pub mod AnswerLaws
 pub mod BackLaws
+pub mod RatedLaws

@@ -1,9 +1,9 @@
 -- Names that are there, names that come last, and lists with each member once.
-use Rattle.std.proofs.Common.{◌≡◌, ℕ, suc, ◌+◌, ◌<◌, ◌≤◌, Bool, true, false, cond, not, ◌||◌, nat_lt, List, [], ◌∷◌, ◌++◌, length, Some, None, refl, sym, ap, ◌∙◌, arith, ◌≢◌, zero, get_or, append_assoc}
+use Rattle.std.proofs.Common.{◌≡◌, ℕ, suc, ◌+◌, ◌<◌, ◌≤◌, Bool, true, false, cond, not, ◌||◌, nat_lt, List, [], ◌∷◌, ◌++◌, length, Some, None, refl, sym, ap, subst, ⊎_elim, ◌∙◌, arith, ◌≢◌, zero, get_or, append_assoc}
 use Rattle.std.specs.List.{list_any, position, prefix_len, AllPairs}
 use Rattle.std.specs.Global.{Vec}
 use Rattle.std.specs.Str.{bytes_eq}
-use Rattle.std.proofs.lemmas.Bool.{cond-true, cond-false, false≢true, or_left, or_right, or_from, ltb-true, ltb-false, false_from_ne_true, or_parts}
+use Rattle.std.proofs.lemmas.Bool.{cond-true, cond-false, false≢true, or_cases, or_left, or_right, or_from, ltb-true, ltb-false, false_from_ne_true, or_parts}
 use Rattle.std.proofs.lemmas.List.{length-append, append-nil}
 use Rattle.std.proofs.lemmas.List.Quantifiers.{all_pairs_push}
 use Rattle.std.proofs.lemmas.Slice.Eq.{bytes_eq-Decides}
@@ -16,6 +16,17 @@ same_bytes xs ys h = (bytes_eq-Decides xs ys).0 h
 
 pub bytes_same : (xs ys : List ℕ) → xs ≡ ys → bytes_eq xs ys ≡ true
 bytes_same xs ys h = (bytes_eq-Decides xs ys).1 h
+
+-- what holds of each member
+abbrev pub Each : {A : Type 0} → (A → Type 0) → List A → Type 0
+Each P [] = Unit {0}
+Each P (x ∷ xs) = P x × Each P xs
+
+-- what holds of each word of a table holds of a word that is in it
+pub any_same : (P : List ℕ → Type 0) (w : List ℕ) (ws : List (List ℕ)) → Each P ws → list_any (bytes_eq w) ws ≡ true → P w
+any_same P w [] each h = absurd (false≢true h)
+any_same P w (v ∷ ws) each h =
+    ⊎_elim (λ e. subst P (sym (same_bytes w v e)) each.0) (λ e. any_same P w ws each.1 e) (or_cases (bytes_eq w v) (list_any (bytes_eq w) ws) h)
 
 pub names_in-append : (ps qs : List Piece) → names_in (ps ++ qs) ≡ names_in ps ++ names_in qs
 names_in-append [] qs = refl

@@ -1,5 +1,5 @@
 -- What a word stands for: the name that came last, a number below its range, and an operator.
-use Rattle.std.proofs.Common.{◌≡◌, ℕ, ◌<◌, Bool, true, false, nat_le, List, [], ◌∷◌, ◌++◌, length, codes, Option, Some, None, refl, ap, subst, ◌∙◌, arith}
+use Rattle.std.proofs.Common.{◌≡◌, ℕ, ◌<◌, Bool, true, false, nat_le, List, [], ◌∷◌, ◌++◌, length, codes, Option, Some, None, refl, sym, ap, subst, ◌∙◌, arith}
 use Rattle.std.specs.Prelude.{find, if◌then◌else◌}
 use Rattle.std.specs.Global.{Vec}
 use Rattle.std.specs.Option.{option_and_then}
@@ -9,12 +9,16 @@ use Rattle.line_text.specs.Numbers.{is_number, number_up_to}
 use Rattle.query_text.specs.Bytes.{bytes_of}
 use Rattle.query_text.specs.Pieces.{Piece, IsInRange}
 use Rattle.query_text.specs.Query.{name_of}
-use Rattle.query_text.specs.Shape.{opening}
+use Rattle.query_text.specs.Shape.{algorithm_word, algorithms, opening}
 use Rattle.query_text.specs.declared.fault.QueryFault.{QueryFault}
 use Rattle.query_text.specs.declared.fault.QueryFault.TheVariants as faults
+use Rattle.query_text.specs.Course.{algorithm_stage}
+use Rattle.query_text.specs.declared.algorithm.Algorithm.TheVariants.{Taz}
+use Rattle.query_text.specs.declared.stage.Stage.TheVariants as stages
 use Rattle.query_text.specs.declared.operator.Operator.{Operator}
 use Rattle.query_text.specs.declared.operator.Operator.TheVariants.{Min, Max, Sum, Median, Wsum}
 use Rattle.query_text.specs.Words.{opened_by}
+use Rattle.query_text.proofs.ListLaws.{same_bytes}
 use Rattle.limits.specs.declared.TheConstants.{MAX_NUMBER}
 
 -- the name that was put last stands at the place of the count before
@@ -51,3 +55,11 @@ opens_max word no_min is =
     let rest : Option Operator = find (λ operator. bytes_eq word (opening operator)) (Sum ∷ Median ∷ Wsum ∷ []) in
     ap (λ t. if t then Some Min else (if bytes_eq word (codes "max(") then Some Max else rest)) no_min
     ∙ ap (λ t. if t then Some Max else rest) is
+
+-- the algorithm of a word that another one begins
+pub names_taz : (word : List ℕ) → bytes_eq word (codes "taz") ≡ true → find (λ algorithm. bytes_eq word (algorithm_word algorithm)) algorithms ≡ Some Taz
+names_taz word is = subst (λ w. find (λ algorithm. bytes_eq w (algorithm_word algorithm)) algorithms ≡ Some Taz) (sym (same_bytes word (codes "taz") is)) refl
+
+-- a depth comes behind its word
+pub depth_next : (word : List ℕ) → bytes_eq word (codes "early ") ≡ true → algorithm_stage word ≡ stages.Depth
+depth_next word is = subst (λ w. algorithm_stage w ≡ stages.Depth) (sym (same_bytes word (codes "early ") is)) refl

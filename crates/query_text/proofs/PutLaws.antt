@@ -12,11 +12,11 @@ use Rattle.monotone_fn.specs.Shape.{depth, depth_in, depth_under}
 use Rattle.tk_io.specs.Pieces.{Puts, Written as At}
 use Rattle.query_text.specs.Written.{Written, Arguments, Argument, arguments_from}
 use Rattle.query_text.specs.Pieces.{Piece, piece_text, text_of}
-use Rattle.query_text.specs.Shape.{opening, weight_pieces, expr_pieces, argument_pieces, further_pieces, algorithm_word, algorithm_pieces, cost_pieces, room_pieces}
-use Rattle.query_text.specs.Query.{written, name_of, cost_digits, printed, arguments, weighted, plain_argument, weighted_argument}
+use Rattle.query_text.specs.Shape.{opening, weight_pieces, expr_pieces, argument_pieces, further_pieces, named_pieces, algorithm_pieces, cost_pieces, room_pieces}
+use Rattle.query_text.specs.Query.{written, name_of, named_as, cost_digits, printed, arguments, weighted, plain_argument, weighted_argument}
 use Rattle.query_text.specs.declared.operator.Operator.{Operator}
 use Rattle.query_text.specs.declared.query.Query.{Query}
-use Rattle.query_text.specs.Printing.{nodes_text, terms_text, comma_text, cost_text, room_text}
+use Rattle.query_text.specs.Printing.{nodes_text, terms_text, comma_text, algorithm_text, cost_text, room_text}
 
 -- the arguments of trees and of terms, as lists
 pub arguments_plain : (names : List (List ℕ)) (ts : List Tree) → arguments names (trees ts) ≡ arguments_from (map (plain_argument names) ts)
@@ -143,11 +143,13 @@ terms_end names us i h =
 
 -- the pieces of a query one after another
 pub query_text : (q : Query)
-    → codes "top " ++ (decimal q.k ++ (codes " by " ++ (text_of (expr_pieces (written q.names q.expr)) ++ (codes " using " ++ (algorithm_word q.algorithm ++ (cost_text q.cost ++ room_text q.room)))))) ≡ printed q
+    → codes "top " ++ (decimal q.k ++ (codes " by " ++ (text_of (expr_pieces (written q.names q.expr)) ++ (codes " using " ++ (algorithm_text q.algorithm ++ (cost_text q.cost ++ room_text q.room)))))) ≡ printed q
 unfolding printed
 query_text q =
     let options = cost_pieces (option_map cost_digits q.cost) ++ room_pieces (option_map decimal q.room) in
+    let named = named_pieces (named_as q.algorithm) in
     ap (λ z. codes "top " ++ (decimal q.k ++ (codes " by " ++ z)))
-    (ap (λ z. text_of (expr_pieces (written q.names q.expr)) ++ (codes " using " ++ (algorithm_word q.algorithm ++ z)))
-    (sym (flat_map-append piece_text (cost_pieces (option_map cost_digits q.cost)) (room_pieces (option_map decimal q.room))))
-    ∙ sym (flat_map-append piece_text (expr_pieces (written q.names q.expr)) (algorithm_pieces q.algorithm ++ options)))
+    (ap (λ z. text_of (expr_pieces (written q.names q.expr)) ++ (codes " using " ++ z))
+    (ap (λ z. text_of named ++ z) (sym (flat_map-append piece_text (cost_pieces (option_map cost_digits q.cost)) (room_pieces (option_map decimal q.room))))
+    ∙ sym (flat_map-append piece_text named options))
+    ∙ sym (flat_map-append piece_text (expr_pieces (written q.names q.expr)) (algorithm_pieces (named_as q.algorithm) ++ options)))

@@ -4,9 +4,9 @@ use Rattle.std.specs.Str.{bytes_eq}
 use Rattle.std.proofs.lemmas.Bool.{false≢true}
 use Rattle.std.proofs.lemmas.List.{append-nil, length-append, take-append-drop, length-take, length-drop}
 use Rattle.query_text.specs.Pieces.{Piece, text_of, IsNumberFault, IsNameFault}
-use Rattle.query_text.specs.Shape.{SyntaxTree, IsSyntaxFault}
+use Rattle.query_text.specs.Shape.{SyntaxTree, Named, IsSyntaxFault}
 use Rattle.query_text.specs.Words.{Class, opened_by, begins, is_whole, class_at, IsLongest}
-use Rattle.query_text.specs.Front.{Front, Frame, stage_of, frames_of, is_inside, class_of, next, shape_at, pieces_before, is_weighted, operand_read, argument_read, begun, opened, all_done, IsFine}
+use Rattle.query_text.specs.Front.{Front, Frame, head_of, stage_of, frames_of, is_inside, class_of, next, shape_at, pieces_before, is_weighted, operand_read, argument_read, begun, opened, all_done, IsFine}
 use Rattle.query_text.specs.Course.{course_view, standing_of, is_open, at, argument_stage, behind_word, behind_operand, standing_next, may_end}
 use Rattle.query_text.specs.Draft.{names_of, unopened, IsDraftPlain}
 use Rattle.query_text.specs.Reached.{front_text, Follows, Drafts, IsState, Reached, IsDraftOf, IsPieceFault, StepTakes, WordsRead}
@@ -51,7 +51,18 @@ standing-next (Front.at_behind k (f ∷ fs) e) w = by_comma (bytes_eq w (codes "
 standing-next (Front.at_weight k fs) w = refl
 standing-next (Front.at_times k [] d) w = refl
 standing-next (Front.at_times k (f ∷ fs) d) w = refl
-standing-next (Front.at_algorithm k e) w = refl
+standing-next (Front.at_algorithm k e) w = by_word (bytes_eq w (codes "theta ")) (bytes_eq w (codes "early "))
+  where
+    by_word : (theta early : Bool)
+        → standing_of (cond theta (Front.at_factor k e) (cond early (Front.at_depth k e) (Front.at_options (head_of k e (Named.word w)))))
+        ≡ at (cond theta stages.Factor (cond early stages.Depth stages.Options)) []
+    by_word true early = refl
+    by_word false true = refl
+    by_word false false = refl
+standing-next (Front.at_factor k e) w = refl
+standing-next (Front.at_over k e p) w = refl
+standing-next (Front.at_under k e p) w = refl
+standing-next (Front.at_depth k e) w = refl
 standing-next (Front.at_options head) w = by_cost (bytes_eq w (codes " cost "))
   where
     by_cost : (b : Bool) → standing_of (cond b (Front.at_sorted head) (Front.at_room head None)) ≡ at (cond b stages.Sorted stages.Room) []
@@ -251,6 +262,7 @@ reach_fault line place course draft fault r over may = by_fault fault r.state
     by_fault (faults.Syntax a) h = absurd h
     by_fault (faults.Number a) h = piece_fault (λ ps. IsNumberFault ps a) h
     by_fault (faults.TooManyLists a) h = piece_fault (λ ps. IsNameFault ps a) h
+    by_fault (faults.BadTheta p q) h = h
     by_fault (faults.TooManyNodes m) h = h
     by_fault (faults.TooDeep m) h = h
     by_fault (faults.TooBig m) h = h

@@ -74,6 +74,7 @@ fault-next d new f w (faults.LongLine l) fine whole h = h
 fault-next d new f w (faults.Syntax a) fine whole h = h
 fault-next d new f w (faults.Number a) fine whole h = subst (λ ps. IsNumberFault ps a) (sym (pieces-next f w fine whole)) (number_fault-push (pieces_before f) (next_piece f w) a h)
 fault-next d new f w (faults.TooManyLists a) fine whole h = subst (λ ps. IsNameFault ps a) (sym (pieces-next f w fine whole)) (name_fault-push (pieces_before f) (next_piece f w) a h)
+fault-next d new f w (faults.BadTheta p q) fine whole h = h
 fault-next d new f w (faults.TooManyNodes n) fine whole h = h
 fault-next d new f w (faults.TooDeep n) fine whole h = h
 fault-next d new f w (faults.TooBig n) fine whole h = h
@@ -100,6 +101,10 @@ outside_piece (Front.at_behind k fs e) w whole h = absurd h
 outside_piece (Front.at_weight k fs) w whole h = record { least = _; most = _; digits = w; same = refl; outside = h whole }
 outside_piece (Front.at_times k fs d) w whole h = absurd h
 outside_piece (Front.at_algorithm k e) w whole h = absurd h
+outside_piece (Front.at_factor k e) w whole h = record { least = _; most = _; digits = w; same = refl; outside = h whole }
+outside_piece (Front.at_over k e p) w whole h = absurd h
+outside_piece (Front.at_under k e p) w whole h = record { least = _; most = _; digits = w; same = refl; outside = h whole }
+outside_piece (Front.at_depth k e) w whole h = record { least = _; most = _; digits = w; same = refl; outside = h whole }
 outside_piece (Front.at_options head) w whole h = absurd h
 outside_piece (Front.at_sorted head) w whole h = record { least = _; most = _; digits = w; same = refl; outside = h whole }
 outside_piece (Front.at_between head d) w whole h = absurd h
@@ -139,6 +144,7 @@ fault-new d new f w at (faults.TooManyLists a) fine whole place drafts h ne =
     subst (λ ps. IsNameFault ps a) (sym (pieces-next f w fine whole))
     (name_fault-new (pieces_before f) (next_piece f w) a drafts.fine (h.0 ∙ place)
     (subst (λ z. MAX_LISTS < length z) (ap (λ z. each_once_after bytes_eq z (names_in (next_piece f w ∷ []))) drafts.names ∙ sym (lists_in-push (pieces_before f) (next_piece f w))) h.1))
+fault-new d new f w at (faults.BadTheta p q) fine whole place drafts h ne = absurd h
 fault-new d new f w at (faults.TooManyNodes n) fine whole place drafts h ne = absurd h
 fault-new d new f w at (faults.TooDeep n) fine whole place drafts h ne = absurd h
 fault-new d new f w at (faults.TooBig n) fine whole place drafts h ne = absurd h

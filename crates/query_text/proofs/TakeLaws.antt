@@ -1,5 +1,6 @@
 -- A draft takes a word of each stage.
-use Rattle.std.proofs.Common.{◌≡◌, ℕ, ◌<◌, ◌≤◌, ◌^◌, Bool, true, false, cond, List, [], ◌∷◌, ◌++◌, length, map, reverse, Option, Some, None, option_map, refl, sym, ap, ◌∙◌, subst, arith, codes}
+use Rattle.std.proofs.Common.{◌≡◌, ℕ, ◌<◌, ◌≤◌, ◌^◌, Bool, true, false, cond, List, [], ◌∷◌, ◌++◌, length, map, reverse, Option, Some, None, option_map, unwrap_or, refl, sym, ap, ◌∙◌, subst, arith, codes}
+use Rattle.std.specs.List.{find}
 use Rattle.std.specs.Str.{bytes_eq}
 use Rattle.std.specs.Str.Parse.{digits_value}
 use Rattle.std.specs.Fmt.{decimal}
@@ -13,18 +14,21 @@ use Rattle.query_text.specs.Bytes.{bytes_of}
 use Rattle.query_text.specs.Written.{Written}
 use Rattle.query_text.specs.Pieces.{Piece, IsInRange, names_in, with_member, each_once_after}
 use Rattle.query_text.specs.Query.{written, name_of, cost_digits, IsPlain}
-use Rattle.query_text.specs.Words.{opened_by}
-use Rattle.query_text.specs.Front.{Front, stage_of, next, shape_from, is_weighted, piece_at, operand_piece, operand_read, argument_read, begun, opened, all_done, algorithm_of, IsFine}
+use Rattle.query_text.specs.Shape.{Named, algorithm_word, algorithms}
+use Rattle.query_text.specs.Words.{opened_by, using_words}
+use Rattle.query_text.specs.Front.{Front, stage_of, next, shape_from, is_weighted, piece_at, operand_piece, operand_read, argument_read, begun, opened, all_done, head_of, named_read, IsFine}
 use Rattle.query_text.specs.Front as front
-use Rattle.query_text.specs.Draft.{frame_of, IsFramePlain, AreFramesPlain, AddsArgument, Closes, names_of, frames_in, expr_in, head_in, unset, unopened, priced, front_of, Takes, Misses, IsOutside}
+use Rattle.query_text.specs.Draft.{frame_of, IsFramePlain, AreFramesPlain, AddsArgument, Closes, names_of, frames_in, expr_in, head_in, unset, unopened, priced, front_of, GoesOn, Takes, Misses, IsOutside}
 use Rattle.query_text.specs.declared.frame.Frame.{Frame}
 use Rattle.query_text.specs.declared.draft.Draft.{Draft}
 use Rattle.query_text.specs.declared.algorithm.Algorithm.{Algorithm}
+use Rattle.query_text.specs.declared.algorithm.Algorithm.TheVariants.{Ta, Theta, Early}
 use Rattle.query_text.specs.declared.operator.Operator.{Operator}
 use Rattle.query_text.specs.declared.stage.Stage.{Stage}
 use Rattle.query_text.specs.declared.stage.Stage.TheVariants as stages
 use Rattle.query_text.specs.declared.fault.QueryFault.{QueryFault}
 use Rattle.query_text.specs.declared.fault.QueryFault.TheVariants as faults
+use Rattle.query_text.proofs.ListLaws.{any_same}
 use Rattle.limits.specs.declared.TheConstants.{MAX_LISTS, MAX_NUMBER, MAX_WEIGHT}
 
 -- a word that spells a number within its range
@@ -120,14 +124,57 @@ takes_room d n w h few = record {
   shows = λ more st fine whole. ap (λ z. Front.at_end (shape_from (head_in (names_of d ++ more) d) (option_map cost_digits d.cost) (Some z))) (decimal_is w 1 MAX_NUMBER n (omega arith) h);
 }
 
-pub takes_algorithm : (d : Draft) (a : Algorithm) (w : List ℕ) → a ≡ algorithm_of w → length (names_of d) ≤ MAX_LISTS
+-- the algorithm that a word without numbers names
+abbrev pub algorithm_found : List ℕ → Algorithm
+algorithm_found word = unwrap_or (find (λ algorithm. bytes_eq word (algorithm_word algorithm)) algorithms) Ta
+
+pub takes_algorithm : (d : Draft) (a : Algorithm) (w : List ℕ) → a ≡ algorithm_found w → length (names_of d) ≤ MAX_LISTS
     → Takes stages.Algorithm d (record d { algorithm = a; cost = None; room = None }) w
 takes_algorithm d a w e few = record {
   names = refl;
   few = few;
   range = tt;
   plain = λ p. record { operand = p.operand; weight = p.weight; frames = p.frames };
-  shows = λ more st fine whole. ap (λ z. Front.at_options (record { k = decimal d.k; expr = expr_in (names_of d ++ more) d; algorithm = z })) e;
+  shows = λ more st fine whole.
+      subst (λ z. GoesOn (front_of (names_of d ++ more) stages.Algorithm d) stages.Algorithm w (names_of d ++ more) (record d { algorithm = z; cost = None; room = None })) (sym e)
+      (λ st fine whole. any_same (λ v. front_of (names_of d ++ more) (stage_of (named_read (decimal d.k) (expr_in (names_of d ++ more) d) v))
+      (record d { algorithm = algorithm_found v; cost = None; room = None }) ≡ named_read (decimal d.k) (expr_in (names_of d ++ more) d) v) w using_words
+      (refl, (refl, (refl, (refl, (refl, (refl, (refl, tt))))))) whole) st fine whole;
+}
+
+pub takes_factor : (d : Draft) (n : ℕ) (w : List ℕ) → Spelled w 1 MAX_NUMBER n → length (names_of d) ≤ MAX_LISTS
+    → Takes stages.Factor d (record d { over = n }) w
+takes_factor d n w h few = record {
+  names = refl;
+  few = few;
+  range = range_is w 1 MAX_NUMBER n h;
+  plain = λ p. record { operand = p.operand; weight = p.weight; frames = p.frames };
+  shows = λ more st fine whole. ap (Front.at_over (decimal d.k) (expr_in (names_of d ++ more) d)) (decimal_is w 1 MAX_NUMBER n (omega arith) h);
+}
+
+pub takes_over : (d : Draft) (w : List ℕ) → length (names_of d) ≤ MAX_LISTS → Takes stages.Over d d w
+takes_over d w few = record { names = refl; few = few; range = tt; plain = λ p. p; shows = λ more st fine whole. refl }
+
+pub takes_under : (d : Draft) (n : ℕ) (w : List ℕ) → Spelled w 1 MAX_NUMBER n → length (names_of d) ≤ MAX_LISTS
+    → Takes stages.Under d (record d { algorithm = Theta d.over n; cost = None; room = None }) w
+takes_under d n w h few = record {
+  names = refl;
+  few = few;
+  range = range_is w 1 MAX_NUMBER n h;
+  plain = λ p. record { operand = p.operand; weight = p.weight; frames = p.frames };
+  shows = λ more st fine whole.
+      ap (λ z. Front.at_options (head_of (decimal d.k) (expr_in (names_of d ++ more) d) (Named.factor (decimal d.over) z))) (decimal_is w 1 MAX_NUMBER n (omega arith) h);
+}
+
+pub takes_depth : (d : Draft) (n : ℕ) (w : List ℕ) → Spelled w 1 MAX_NUMBER n → length (names_of d) ≤ MAX_LISTS
+    → Takes stages.Depth d (record d { algorithm = Early n; cost = None; room = None }) w
+takes_depth d n w h few = record {
+  names = refl;
+  few = few;
+  range = range_is w 1 MAX_NUMBER n h;
+  plain = λ p. record { operand = p.operand; weight = p.weight; frames = p.frames };
+  shows = λ more st fine whole.
+      ap (λ z. Front.at_options (head_of (decimal d.k) (expr_in (names_of d ++ more) d) (Named.depth z))) (decimal_is w 1 MAX_NUMBER n (omega arith) h);
 }
 
 -- the open operators with one more

@@ -49,6 +49,18 @@ viable_sorted h fine = by (Front.at_sorted h) (codes "1") fine refl (viable_betw
 viable_room : (h : Head) (c : Option (List ℕ × List ℕ)) → IsFine (Front.at_room h c) → BeginsQuery (text_of (pieces_before (Front.at_room h c)))
 viable_room h c fine = by (Front.at_room h c) (codes "1") fine refl (ended (next (Front.at_room h c) (codes "1")) _ refl)
 
+viable_under : (k : List ℕ) (e : Written) (p : List ℕ) → IsFine (Front.at_under k e p) → BeginsQuery (text_of (pieces_before (Front.at_under k e p)))
+viable_under k e p fine = by (Front.at_under k e p) (codes "1") fine refl (ended (next (Front.at_under k e p) (codes "1")) _ refl)
+
+viable_over : (k : List ℕ) (e : Written) (p : List ℕ) → IsFine (Front.at_over k e p) → BeginsQuery (text_of (pieces_before (Front.at_over k e p)))
+viable_over k e p fine = by (Front.at_over k e p) (codes "/") fine refl (viable_under k e p)
+
+viable_factor : (k : List ℕ) (e : Written) → IsFine (Front.at_factor k e) → BeginsQuery (text_of (pieces_before (Front.at_factor k e)))
+viable_factor k e fine = by (Front.at_factor k e) (codes "1") fine refl (viable_over k e (codes "1"))
+
+viable_depth : (k : List ℕ) (e : Written) → IsFine (Front.at_depth k e) → BeginsQuery (text_of (pieces_before (Front.at_depth k e)))
+viable_depth k e fine = by (Front.at_depth k e) (codes "1") fine refl (ended (next (Front.at_depth k e) (codes "1")) _ refl)
+
 viable_algorithm : (k : List ℕ) (e : Written) → IsFine (Front.at_algorithm k e) → BeginsQuery (text_of (pieces_before (Front.at_algorithm k e)))
 viable_algorithm k e fine = by (Front.at_algorithm k e) (codes "ta") fine refl (ended (next (Front.at_algorithm k e) (codes "ta")) _ refl)
 
@@ -83,6 +95,10 @@ viable (Front.at_behind k fs e) fine = viable_behind fs k e fine
 viable (Front.at_weight k fs) fine = viable_weight k fs fine
 viable (Front.at_times k fs d) fine = viable_times k fs d fine
 viable (Front.at_algorithm k e) fine = viable_algorithm k e fine
+viable (Front.at_factor k e) fine = viable_factor k e fine
+viable (Front.at_over k e p) fine = viable_over k e p fine
+viable (Front.at_under k e p) fine = viable_under k e p fine
+viable (Front.at_depth k e) fine = viable_depth k e fine
 viable (Front.at_options h) fine = ended (Front.at_options h) _ refl fine
 viable (Front.at_sorted h) fine = viable_sorted h fine
 viable (Front.at_between h d) fine = viable_between h d fine

@@ -1,5 +1,5 @@
 -- A front of what begins a word begins one too, and a word is read whole.
-use Rattle.std.proofs.Common.{◌≡◌, ℕ, ◌<◌, Bool, true, false, cond, ◌&&◌, ◌||◌, eqb, List, [], ◌∷◌, ◌++◌, length, map, get_or, drop, Some, None, is_some, refl, sym, ap, ◌∙◌, subst, ⊎_elim, arith, eq-eqb, append_assoc}
+use Rattle.std.proofs.Common.{◌≡◌, ℕ, ◌<◌, Bool, true, false, cond, ◌&&◌, ◌||◌, eqb, List, [], ◌∷◌, ◌++◌, length, map, get_or, drop, codes, Option, Some, None, is_some, refl, sym, ap, ◌∙◌, subst, ⊎_elim, arith, eq-eqb, append_assoc}
 use Rattle.std.specs.List.{list_any, list_all, find}
 use Rattle.std.specs.Str.{bytes_eq, all_ascii_digits}
 use Rattle.std.specs.Char.{is_ascii_digit, is_ascii_alphabetic}
@@ -8,8 +8,8 @@ use Rattle.std.proofs.lemmas.List.{append-nil, length-append}
 use Rattle.line_text.specs.Numbers.{is_empty, is_number}
 use Rattle.line_text.specs.Names.{is_name, is_name_byte}
 use Rattle.query_text.proofs.ListLaws.{same_bytes}
-use Rattle.query_text.specs.Shape.{algorithm_word, opening}
-use Rattle.query_text.specs.Words.{Class, operators, opened_by, is_front, begins, is_whole, class_at}
+use Rattle.query_text.specs.Shape.{algorithm_word, algorithms, opening}
+use Rattle.query_text.specs.Words.{Class, operators, using_words, opened_by, is_front, begins, is_whole, class_at}
 use Rattle.query_text.specs.Front.{Front, class_of, next, reads, stage_of, frames_of, is_inside}
 use Rattle.query_text.specs.declared.algorithm.Algorithm.{Algorithm}
 use Rattle.query_text.specs.declared.operator.Operator.{Operator}
@@ -17,16 +17,31 @@ use Rattle.query_text.specs.declared.operator.Operator.TheVariants.{Min, Max, Su
 use Rattle.query_text.specs.declared.stage.Stage.{Stage}
 use Rattle.query_text.specs.declared.stage.Stage.TheVariants as stages
 
--- a word is in the table where it is that of an algorithm
-pub algorithm_found : (w : List ℕ) (xs : List Algorithm)
-    → is_some (find (λ a. bytes_eq w (algorithm_word a)) xs) ≡ list_any (bytes_eq w) (map algorithm_word xs)
-algorithm_found w [] = refl
-algorithm_found w (a ∷ xs) = by_test (bytes_eq w (algorithm_word a)) (algorithm_found w xs)
+-- a word is in the table where it is that of an algorithm, or one of those behind
+pub algorithm_found : (w : List ℕ) (xs : List Algorithm) (ws : List (List ℕ))
+    → (is_some (find (λ a. bytes_eq w (algorithm_word a)) xs) || list_any (bytes_eq w) ws) ≡ list_any (bytes_eq w) (map algorithm_word xs ++ ws)
+algorithm_found w [] ws = refl
+algorithm_found w (a ∷ xs) ws = by_test (bytes_eq w (algorithm_word a)) (algorithm_found w xs ws)
   where
-    by_test : (b : Bool) → is_some (find (λ x. bytes_eq w (algorithm_word x)) xs) ≡ list_any (bytes_eq w) (map algorithm_word xs)
-        → is_some (cond b (Some a) (find (λ x. bytes_eq w (algorithm_word x)) xs)) ≡ (b || list_any (bytes_eq w) (map algorithm_word xs))
+    by_test : (b : Bool) → (is_some (find (λ x. bytes_eq w (algorithm_word x)) xs) || list_any (bytes_eq w) ws) ≡ list_any (bytes_eq w) (map algorithm_word xs ++ ws)
+        → (is_some (cond b (Some a) (find (λ x. bytes_eq w (algorithm_word x)) xs)) || list_any (bytes_eq w) ws) ≡ (b || list_any (bytes_eq w) (map algorithm_word xs ++ ws))
     by_test true h = refl
     by_test false h = h
+
+-- the tests of a whole word of an algorithm
+pub using_whole : (found theta early : Bool) (o : Option Algorithm) (w : List ℕ) → found ≡ is_some o → o ≡ find (λ a. bytes_eq w (algorithm_word a)) algorithms
+    → theta ≡ bytes_eq w (codes "theta ") → early ≡ bytes_eq w (codes "early ")
+    → ((found || theta) || early) ≡ list_any (bytes_eq w) using_words
+using_whole found theta early o w f s t e =
+    (λ i. ((f ∙ ap is_some s) i || t i) || e i)
+    ∙ (or_assoc (is_some (find (λ a. bytes_eq w (algorithm_word a)) algorithms)) (bytes_eq w (codes "theta ")) (bytes_eq w (codes "early "))
+    ∙ algorithm_found w algorithms (codes "theta " ∷ codes "early " ∷ []))
+  where
+    or_assoc : (a b c : Bool) → ((a || b) || c) ≡ (a || (b || (c || false)))
+    or_assoc true b c = refl
+    or_assoc false true c = refl
+    or_assoc false false true = refl
+    or_assoc false false false = refl
 
 any_more : {A : Type 0} (f g : A → Bool) → ((x : A) → f x ≡ true → g x ≡ true) → (xs : List A) → list_any f xs ≡ true → list_any g xs ≡ true
 any_more f g more [] h = h
@@ -131,6 +146,10 @@ empty_not_whole stages.Behind false = refl
 empty_not_whole stages.Weight inside = refl
 empty_not_whole stages.Times inside = refl
 empty_not_whole stages.Algorithm inside = refl
+empty_not_whole stages.Factor inside = refl
+empty_not_whole stages.Over inside = refl
+empty_not_whole stages.Under inside = refl
+empty_not_whole stages.Depth inside = refl
 empty_not_whole stages.Options inside = refl
 empty_not_whole stages.Sorted inside = refl
 empty_not_whole stages.Between inside = refl

@@ -40,6 +40,10 @@ may_end _ = false
 abbrev pub argument_stage : Operator → Stage
 argument_stage operator = if is_weighted operator then stages.Weight else stages.Operand
 
+-- behind the word of an algorithm
+abbrev pub algorithm_stage : List ℕ → Stage
+algorithm_stage word = if bytes_eq word (codes "theta ") then stages.Factor else (if bytes_eq word (codes "early ") then stages.Depth else stages.Options)
+
 -- behind the word of an operand
 abbrev pub behind_word : List Operator → Option Operator → Standing
 behind_word operators None = at stages.Behind operators
@@ -61,6 +65,10 @@ plain_next stages.Behind = stages.Options
 plain_next stages.Weight = stages.Times
 plain_next stages.Times = stages.Operand
 plain_next stages.Algorithm = stages.Options
+plain_next stages.Factor = stages.Over
+plain_next stages.Over = stages.Under
+plain_next stages.Under = stages.Options
+plain_next stages.Depth = stages.Options
 plain_next stages.Options = stages.Room
 plain_next stages.Sorted = stages.Between
 plain_next stages.Between = stages.Random
@@ -79,7 +87,11 @@ standing_next stages.Count operators word = at stages.By operators
 standing_next stages.By operators word = at stages.Operand operators
 standing_next stages.Weight operators word = at stages.Times operators
 standing_next stages.Times operators word = at stages.Operand operators
-standing_next stages.Algorithm operators word = at stages.Options operators
+standing_next stages.Algorithm operators word = at (algorithm_stage word) operators
+standing_next stages.Factor operators word = at stages.Over operators
+standing_next stages.Over operators word = at stages.Under operators
+standing_next stages.Under operators word = at stages.Options operators
+standing_next stages.Depth operators word = at stages.Options operators
 standing_next stages.Sorted operators word = at stages.Between operators
 standing_next stages.Between operators word = at stages.Random operators
 standing_next stages.Random operators word = at stages.Priced operators

@@ -9,7 +9,7 @@ use Rattle.monotone_fn.specs.declared.costs.Costs.{Costs}
 use Rattle.query_text.specs.Bytes.{bytes_of}
 use Rattle.query_text.specs.Written.{Written, IsWeight, Argument, arguments_from}
 use Rattle.query_text.specs.Pieces.{Piece, IsInRange, names_in, each_once_after}
-use Rattle.query_text.specs.Query.{written, cost_digits, IsPlain, ArePlain, AreWeighed, plain_argument, weighted_argument}
+use Rattle.query_text.specs.Query.{written, named_as, cost_digits, IsPlain, ArePlain, AreWeighed, plain_argument, weighted_argument}
 use Rattle.query_text.specs.Words.{is_whole}
 use Rattle.query_text.specs.Front.{Front, Head, stage_of, class_of, next, shape_from, is_weighted, piece_at, IsFine}
 use Rattle.query_text.specs.Front as front
@@ -73,7 +73,7 @@ abbrev pub expr_in : List (List ℕ) → Draft → Written
 expr_in names draft = written names (tree_of draft.operand)
 
 abbrev pub head_in : List (List ℕ) → Draft → Head
-head_in names draft = record { k = decimal draft.k; expr = expr_in names draft; algorithm = draft.algorithm }
+head_in names draft = record { k = decimal draft.k; expr = expr_in names draft; algorithm = named_as draft.algorithm }
 
 -- a front with an option that isn't read yet
 abbrev pub unset : {A : Type 0} → Option A → Front → Front
@@ -100,6 +100,10 @@ front_of names stages.Behind draft = Front.at_behind (decimal draft.k) (frames_i
 front_of names stages.Weight draft = Front.at_weight (decimal draft.k) (frames_in names draft)
 front_of names stages.Times draft = Front.at_times (decimal draft.k) (frames_in names draft) (decimal draft.weight)
 front_of names stages.Algorithm draft = Front.at_algorithm (decimal draft.k) (expr_in names draft)
+front_of names stages.Factor draft = Front.at_factor (decimal draft.k) (expr_in names draft)
+front_of names stages.Over draft = Front.at_over (decimal draft.k) (expr_in names draft) (decimal draft.over)
+front_of names stages.Under draft = Front.at_under (decimal draft.k) (expr_in names draft) (decimal draft.over)
+front_of names stages.Depth draft = Front.at_depth (decimal draft.k) (expr_in names draft)
 front_of names stages.Options draft = unset draft.cost (unset draft.room (Front.at_options (head_in names draft)))
 front_of names stages.Sorted draft = unset draft.room (Front.at_sorted (head_in names draft))
 front_of names stages.Between draft = unset draft.room (Front.at_between (head_in names draft) (decimal draft.sorted))

@@ -1,14 +1,12 @@
 -- The front of a query text up to the end of a piece, and how it goes on.
-use Rattle.std.specs.Prelude.{◌≡◌, ℕ, Bool, true, false, List, [], ◌∷◌, ◌++◌, codes, Option, Some, None, find, unwrap_or, if◌then◌else◌}
+use Rattle.std.specs.Prelude.{◌≡◌, ℕ, Bool, true, false, List, [], ◌∷◌, ◌++◌, codes, Option, Some, None, if◌then◌else◌}
 use Rattle.std.specs.List.{flat_map}
 use Rattle.std.specs.Str.{bytes_eq}
 use Rattle.line_text.specs.Numbers.{is_empty}
 use Rattle.query_text.specs.Written.{Written, Argument, arguments_from, IsNumber, IsWeight, IsWritten}
 use Rattle.query_text.specs.Pieces.{Piece}
-use Rattle.query_text.specs.Shape.{SyntaxTree, algorithm_word, algorithms, opening, count_piece, weight_pieces, expr_pieces, front_pieces, algorithm_pieces, cost_pieces, pieces_of}
+use Rattle.query_text.specs.Shape.{SyntaxTree, Named, IsNamed, opening, count_piece, weight_pieces, expr_pieces, front_pieces, algorithm_pieces, cost_pieces, pieces_of}
 use Rattle.query_text.specs.Words.{Class, opened_by, begins, is_whole, class_at}
-use Rattle.query_text.specs.declared.algorithm.Algorithm.{Algorithm}
-use Rattle.query_text.specs.declared.algorithm.Algorithm.TheVariants.{Ta}
 use Rattle.query_text.specs.declared.operator.Operator.{Operator}
 use Rattle.query_text.specs.declared.operator.Operator.TheVariants.{Wsum}
 use Rattle.query_text.specs.declared.stage.Stage.{Stage}
@@ -25,7 +23,10 @@ pub record Frame : Type 0 where
 pub record Head : Type 0 where
   pub k : List ℕ
   pub expr : Written
-  pub algorithm : Algorithm
+  pub algorithm : Named
+
+abbrev pub head_of : List ℕ → Written → Named → Head
+head_of k expr algorithm = record { k = k; expr = expr; algorithm = algorithm }
 
 -- the front of a query text, by what was read: the innermost open operator comes first
 pub data Front : Type 0 where
@@ -37,6 +38,10 @@ pub data Front : Type 0 where
   at_weight : List ℕ → List Frame → Front
   at_times : List ℕ → List Frame → List ℕ → Front
   at_algorithm : List ℕ → Written → Front
+  at_factor : List ℕ → Written → Front
+  at_over : List ℕ → Written → List ℕ → Front
+  at_under : List ℕ → Written → List ℕ → Front
+  at_depth : List ℕ → Written → Front
   at_options : Head → Front
   at_sorted : Head → Front
   at_between : Head → List ℕ → Front
@@ -59,6 +64,10 @@ stage_of (Front.at_behind k frames expr) = stages.Behind
 stage_of (Front.at_weight k frames) = stages.Weight
 stage_of (Front.at_times k frames weight) = stages.Times
 stage_of (Front.at_algorithm k expr) = stages.Algorithm
+stage_of (Front.at_factor k expr) = stages.Factor
+stage_of (Front.at_over k expr over) = stages.Over
+stage_of (Front.at_under k expr over) = stages.Under
+stage_of (Front.at_depth k expr) = stages.Depth
 stage_of (Front.at_options head) = stages.Options
 stage_of (Front.at_sorted head) = stages.Sorted
 stage_of (Front.at_between head sorted) = stages.Between
@@ -98,6 +107,10 @@ open_pieces (frame ∷ frames) = open_pieces frames ++ frame_pieces frame
 abbrev pub head_pieces : Head → List Piece
 head_pieces head = front_pieces head.k ++ (expr_pieces head.expr ++ algorithm_pieces head.algorithm)
 
+-- what stands before a piece of the algorithm
+abbrev pub using_pieces : List ℕ → Written → List Piece → List Piece
+using_pieces k expr pieces = front_pieces k ++ (expr_pieces expr ++ Piece.fixed (codes " using ") ∷ pieces)
+
 -- the pieces of a front
 abbrev pub pieces_before : Front → List Piece
 pieces_before Front.at_top = []
@@ -107,7 +120,11 @@ pieces_before (Front.at_operand k frames) = front_pieces k ++ open_pieces frames
 pieces_before (Front.at_behind k frames expr) = front_pieces k ++ (open_pieces frames ++ expr_pieces expr)
 pieces_before (Front.at_weight k frames) = front_pieces k ++ open_pieces frames
 pieces_before (Front.at_times k frames weight) = front_pieces k ++ (open_pieces frames ++ Piece.number 0 MAX_WEIGHT weight ∷ [])
-pieces_before (Front.at_algorithm k expr) = front_pieces k ++ (expr_pieces expr ++ Piece.fixed (codes " using ") ∷ [])
+pieces_before (Front.at_algorithm k expr) = using_pieces k expr []
+pieces_before (Front.at_factor k expr) = using_pieces k expr (Piece.fixed (codes "theta ") ∷ [])
+pieces_before (Front.at_over k expr over) = using_pieces k expr (Piece.fixed (codes "theta ") ∷ count_piece over ∷ [])
+pieces_before (Front.at_under k expr over) = using_pieces k expr (Piece.fixed (codes "theta ") ∷ count_piece over ∷ Piece.fixed (codes "/") ∷ [])
+pieces_before (Front.at_depth k expr) = using_pieces k expr (Piece.fixed (codes "early ") ∷ [])
 pieces_before (Front.at_options head) = head_pieces head
 pieces_before (Front.at_sorted head) = head_pieces head ++ Piece.fixed (codes " cost ") ∷ []
 pieces_before (Front.at_between head sorted) = head_pieces head ++ Piece.fixed (codes " cost ") ∷ count_piece sorted ∷ []
@@ -126,6 +143,9 @@ abbrev pub piece_at : Stage → List ℕ → Piece
 piece_at stages.Count word = Piece.number 1 MAX_NUMBER word
 piece_at stages.Operand word = operand_piece word (opened_by word)
 piece_at stages.Weight word = Piece.number 0 MAX_WEIGHT word
+piece_at stages.Factor word = Piece.number 1 MAX_NUMBER word
+piece_at stages.Under word = Piece.number 1 MAX_NUMBER word
+piece_at stages.Depth word = Piece.number 1 MAX_NUMBER word
 piece_at stages.Sorted word = Piece.number 1 MAX_NUMBER word
 piece_at stages.Random word = Piece.number 1 MAX_NUMBER word
 piece_at stages.Room word = Piece.number 1 MAX_NUMBER word
@@ -158,9 +178,11 @@ abbrev pub argument_read : List ℕ → Frame → List Frame → Written → Boo
 argument_read k frame frames expr true = begun k (record frame { done = all_done frame expr; weight = None }) frames
 argument_read k frame frames expr false = Front.at_behind k frames (Written.call frame.operator (arguments_from (all_done frame expr)))
 
--- the algorithm of a word
-abbrev pub algorithm_of : List ℕ → Algorithm
-algorithm_of word = unwrap_or (find (λ algorithm. bytes_eq word (algorithm_word algorithm)) algorithms) Ta
+-- behind the word of an algorithm come its numbers, if it has any
+abbrev pub named_read : List ℕ → Written → List ℕ → Front
+named_read k expr word =
+    if bytes_eq word (codes "theta ") then Front.at_factor k expr
+    else (if bytes_eq word (codes "early ") then Front.at_depth k expr else Front.at_options (head_of k expr (Named.word word)))
 
 -- the front with one more word
 abbrev pub next : Front → List ℕ → Front
@@ -173,7 +195,11 @@ next (Front.at_behind k (frame ∷ frames) expr) word = argument_read k frame fr
 next (Front.at_weight k frames) word = Front.at_times k frames word
 next (Front.at_times k [] weight) word = Front.at_operand k []
 next (Front.at_times k (frame ∷ frames) weight) word = Front.at_operand k (record frame { weight = Some weight } ∷ frames)
-next (Front.at_algorithm k expr) word = Front.at_options (record { k = k; expr = expr; algorithm = algorithm_of word })
+next (Front.at_algorithm k expr) word = named_read k expr word
+next (Front.at_factor k expr) word = Front.at_over k expr word
+next (Front.at_over k expr over) word = Front.at_under k expr over
+next (Front.at_under k expr over) word = Front.at_options (head_of k expr (Named.factor over word))
+next (Front.at_depth k expr) word = Front.at_options (head_of k expr (Named.depth word))
 next (Front.at_options head) word = if bytes_eq word (codes " cost ") then Front.at_sorted head else Front.at_room head None
 next (Front.at_sorted head) word = Front.at_between head word
 next (Front.at_between head sorted) word = Front.at_random head sorted
@@ -215,6 +241,7 @@ AreWeighing (frame ∷ frames) = AreDone frame.operator frame.done × (frame.ope
 pub record IsHead (head : Head) : Type 0 where
   pub k : IsNumber head.k
   pub expr : IsWritten head.expr
+  pub algorithm : IsNamed head.algorithm
 
 abbrev pub IsCost : Option (List ℕ × List ℕ) → Type 0
 IsCost None = Unit {0}
@@ -234,10 +261,14 @@ IsFine (Front.at_behind k frames expr) = IsNumber k × AreOpen frames × IsWritt
 IsFine (Front.at_weight k frames) = IsNumber k × AreWeighing frames
 IsFine (Front.at_times k frames weight) = IsNumber k × AreWeighing frames × IsNumber weight
 IsFine (Front.at_algorithm k expr) = IsNumber k × IsWritten expr
+IsFine (Front.at_factor k expr) = IsNumber k × IsWritten expr
+IsFine (Front.at_over k expr over) = IsNumber k × IsWritten expr × IsNumber over
+IsFine (Front.at_under k expr over) = IsNumber k × IsWritten expr × IsNumber over
+IsFine (Front.at_depth k expr) = IsNumber k × IsWritten expr
 IsFine (Front.at_options head) = IsHead head
 IsFine (Front.at_sorted head) = IsHead head
 IsFine (Front.at_between head sorted) = IsHead head × IsNumber sorted
 IsFine (Front.at_random head sorted) = IsHead head × IsNumber sorted
 IsFine (Front.at_priced head cost) = IsHead head × IsNumber cost.0 × IsNumber cost.1
 IsFine (Front.at_room head cost) = IsHead head × IsCost cost
-IsFine (Front.at_end shape) = IsNumber shape.k × IsWritten shape.expr × IsCost shape.cost × IsRoom shape.room
+IsFine (Front.at_end shape) = IsNumber shape.k × IsWritten shape.expr × IsNamed shape.algorithm × IsCost shape.cost × IsRoom shape.room

@@ -3,8 +3,9 @@ use Rattle.std.specs.Prelude.{ℕ, List, [], ◌++◌, codes, Option, option_map
 use Rattle.monotone_fn.specs.Tree.{Trees, Terms}
 use Rattle.monotone_fn.specs.declared.costs.Costs.{Costs}
 use Rattle.query_text.specs.Pieces.{text_of}
-use Rattle.query_text.specs.Shape.{argument_pieces, cost_pieces, room_pieces}
-use Rattle.query_text.specs.Query.{arguments, weighted, cost_digits}
+use Rattle.query_text.specs.Shape.{argument_pieces, named_pieces, cost_pieces, room_pieces}
+use Rattle.query_text.specs.Query.{arguments, weighted, named_as, cost_digits}
+use Rattle.query_text.specs.declared.algorithm.Algorithm.{Algorithm}
 
 -- an operator over expressions, and a weighted sum
 abbrev pub nodes_text : List (List ℕ) → List ℕ → Trees → List ℕ
@@ -12,6 +13,10 @@ nodes_text names opening nodes = opening ++ (text_of (argument_pieces (arguments
 
 abbrev pub terms_text : List (List ℕ) → Terms → List ℕ
 terms_text names terms = codes "wsum(" ++ (text_of (argument_pieces (weighted names terms)) ++ codes ")")
+
+-- an algorithm
+abbrev pub algorithm_text : Algorithm → List ℕ
+algorithm_text algorithm = text_of (named_pieces (named_as algorithm))
 
 -- the options
 abbrev pub cost_text : Option Costs → List ℕ

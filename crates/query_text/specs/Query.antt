@@ -7,8 +7,10 @@ use Rattle.monotone_fn.specs.Tree.{Tree, Trees, Terms}
 use Rattle.monotone_fn.specs.declared.costs.Costs.{Costs}
 use Rattle.query_text.specs.Written.{Written, Arguments, Argument}
 use Rattle.query_text.specs.Pieces.{each_once}
-use Rattle.query_text.specs.Shape.{SyntaxTree, spelled}
+use Rattle.query_text.specs.Shape.{SyntaxTree, Named, algorithm_word, spelled}
 use Rattle.query_text.specs.declared.query.Query.{Query}
+use Rattle.query_text.specs.declared.algorithm.Algorithm.{Algorithm}
+use Rattle.query_text.specs.declared.algorithm.Algorithm.TheVariants.{Theta, Early}
 use Rattle.query_text.specs.declared.operator.Operator.TheVariants.{Min, Max, Sum, Median, Wsum}
 use Rattle.limits.specs.declared.TheConstants.{MAX_LISTS, MAX_NUMBER, MAX_WEIGHT}
 
@@ -45,12 +47,18 @@ weighted_argument names term = (Some (decimal term.0), written names term.1)
 abbrev pub cost_digits : Costs → List ℕ × List ℕ
 cost_digits costs = (decimal costs.sorted, decimal costs.random)
 
+-- an algorithm as a text has it
+abbrev pub named_as : Algorithm → Named
+named_as (Theta p q) = Named.factor (decimal p) (decimal q)
+named_as (Early depth) = Named.depth (decimal depth)
+named_as algorithm = Named.word (algorithm_word algorithm)
+
 -- the syntax tree of a query
 abbrev pub shape_of : Query → SyntaxTree
 shape_of query = record {
   k = decimal query.k;
   expr = written query.names query.expr;
-  algorithm = query.algorithm;
+  algorithm = named_as query.algorithm;
   cost = option_map cost_digits query.cost;
   room = option_map decimal query.room;
 }
@@ -108,6 +116,18 @@ abbrev mutual
 abbrev pub IsCount : ℕ → Type 0
 IsCount n = (1 ≤ n) × (n ≤ MAX_NUMBER)
 
+-- the two parts of a factor are within their range, and it isn't below 1
+pub record IsFactor (over under : ℕ) : Type 0 where
+  pub p : IsCount over
+  pub q : IsCount under
+  pub fair : under ≤ over
+
+-- the numbers of an algorithm are within their ranges
+abbrev pub IsRated : Algorithm → Type 0
+IsRated (Theta p q) = IsFactor p q
+IsRated (Early depth) = IsCount depth
+IsRated _ = Unit {0}
+
 -- the names that an expression gives its lists, in the order of its text, as often as they stand there
 abbrev pub names_given : List (List ℕ) → Tree → List (List ℕ)
 names_given names tree = map (name_of names) (lists_of tree)
@@ -122,5 +142,6 @@ pub record IsLawful (query : Query) : Type 0 where
   pub listed : All (λ list. list < length query.names) (lists_of query.expr)
   pub numbered : each_once bytes_eq (names_given query.names query.expr) ≡ query.names
   pub weights : IsPlain query.expr
+  pub algorithm : IsRated query.algorithm
   pub cost : IfSome query.cost (λ cost. IsCount cost.sorted × IsCount cost.random)
   pub room : IfSome query.room IsCount

@@ -1,23 +1,31 @@
 -- The shape of query text: a syntax tree and its spelling.
-use Rattle.std.specs.Prelude.{◌≡◌, ◌+◌, ◌<◌, ◌≤◌, ℕ, List, [], ◌∷◌, ◌++◌, length, take, codes, Option, Some, None, IfSome}
+use Rattle.std.specs.Prelude.{◌≡◌, ◌+◌, ◌<◌, ◌≤◌, ℕ, List, [], ◌∷◌, ◌++◌, length, take, codes, map, IsTrue, Option, Some, None, IfSome}
+use Rattle.std.specs.List.{list_any}
+use Rattle.std.specs.Str.{bytes_eq}
 use Rattle.query_text.specs.Written.{Written, Arguments, IsNumber, IsWritten}
 use Rattle.query_text.specs.Pieces.{Piece, text_of}
 use Rattle.query_text.specs.declared.algorithm.Algorithm.{Algorithm}
-use Rattle.query_text.specs.declared.algorithm.Algorithm.TheVariants.{Ta, Nra, Ca, Fa}
+use Rattle.query_text.specs.declared.algorithm.Algorithm.TheVariants.{Ta, Nra, Ca, Fa, Theta, Early, Taz}
 use Rattle.query_text.specs.declared.operator.Operator.{Operator}
 use Rattle.query_text.specs.declared.operator.Operator.TheVariants.{Min, Max, Sum, Median, Wsum}
 use Rattle.limits.specs.declared.TheConstants.{MAX_NUMBER, MAX_WEIGHT}
 
--- the word of an algorithm
+-- the word of an algorithm, with the blank before its numbers, if it has any
 abbrev pub algorithm_word : Algorithm → List ℕ
 algorithm_word Ta = codes "ta"
 algorithm_word Nra = codes "nra"
 algorithm_word Ca = codes "ca"
 algorithm_word Fa = codes "fa"
+algorithm_word (Theta p q) = codes "theta "
+algorithm_word (Early depth) = codes "early "
+algorithm_word Taz = codes "taz"
 
--- the algorithms that a query may name
+-- the algorithms that have no numbers, and their words
 abbrev pub algorithms : List Algorithm
-algorithms = Ta ∷ Nra ∷ Ca ∷ Fa ∷ []
+algorithms = Ta ∷ Nra ∷ Ca ∷ Fa ∷ Taz ∷ []
+
+abbrev pub algorithm_words : List (List ℕ)
+algorithm_words = map algorithm_word algorithms
 
 -- the word of an operator
 abbrev pub operator_word : Operator → List ℕ
@@ -31,7 +39,7 @@ operator_word Wsum = codes "wsum"
 abbrev pub opening : Operator → List ℕ
 opening operator = operator_word operator ++ codes "("
 
--- k, a cost or the room, by its digits
+-- k, a cost, the room, a depth or a part of a factor, by its digits
 abbrev pub count_piece : List ℕ → Piece
 count_piece digits = Piece.number 1 MAX_NUMBER digits
 
@@ -54,11 +62,29 @@ abbrev mutual
   further_pieces Arguments.no_argument = []
   further_pieces (Arguments.argument_then weight next rest) = Piece.fixed (codes ",") ∷ (weight_pieces weight ++ (expr_pieces next ++ further_pieces rest))
 
+-- an algorithm as a text has it: by its word alone, or with its factor or its depth, by their digits
+pub data Named : Type 0 where
+  word : List ℕ → Named
+  factor : List ℕ → List ℕ → Named
+  depth : List ℕ → Named
+
+-- its pieces
+abbrev pub named_pieces : Named → List Piece
+named_pieces (Named.word text) = Piece.fixed text ∷ []
+named_pieces (Named.factor p q) = Piece.fixed (codes "theta ") ∷ count_piece p ∷ Piece.fixed (codes "/") ∷ count_piece q ∷ []
+named_pieces (Named.depth digits) = Piece.fixed (codes "early ") ∷ count_piece digits ∷ []
+
+-- its word is that of an algorithm without numbers, and its numbers are numbers
+abbrev pub IsNamed : Named → Type 0
+IsNamed (Named.word text) = IsTrue (list_any (bytes_eq text) algorithm_words)
+IsNamed (Named.factor p q) = IsNumber p × IsNumber q
+IsNamed (Named.depth digits) = IsNumber digits
+
 -- a query text as a syntax tree: numbers by their digits
 pub record SyntaxTree : Type 0 where
   pub k : List ℕ
   pub expr : Written
-  pub algorithm : Algorithm
+  pub algorithm : Named
   pub cost : Option (List ℕ × List ℕ)
   pub room : Option (List ℕ)
 
@@ -75,8 +101,8 @@ room_pieces (Some room) = Piece.fixed (codes " room ") ∷ count_piece room ∷ 
 abbrev pub front_pieces : List ℕ → List Piece
 front_pieces k = Piece.fixed (codes "top ") ∷ count_piece k ∷ Piece.fixed (codes " by ") ∷ []
 
-abbrev pub algorithm_pieces : Algorithm → List Piece
-algorithm_pieces algorithm = Piece.fixed (codes " using ") ∷ Piece.fixed (algorithm_word algorithm) ∷ []
+abbrev pub algorithm_pieces : Named → List Piece
+algorithm_pieces named = Piece.fixed (codes " using ") ∷ named_pieces named
 
 -- the pieces of a query text
 abbrev pub pieces_of : SyntaxTree → List Piece
@@ -86,10 +112,11 @@ pieces_of shape = front_pieces shape.k ++ (expr_pieces shape.expr ++ (algorithm_
 abbrev pub spelled : SyntaxTree → List ℕ
 spelled shape = text_of (pieces_of shape)
 
--- the syntax tree is one: its numbers are numbers, of any length, and its expression is well formed
+-- the syntax tree is one: its numbers are numbers, of any length, its expression is well formed, and so is its algorithm
 pub record IsShape (shape : SyntaxTree) : Type 0 where
   pub k : IsNumber shape.k
   pub expr : IsWritten shape.expr
+  pub algorithm : IsNamed shape.algorithm
   pub cost : IfSome shape.cost (λ cost. IsNumber cost.0 × IsNumber cost.1)
   pub room : IfSome shape.room IsNumber
 

@@ -1,10 +1,10 @@
 -- Which words may stand at a place of a query text.
-use Rattle.std.specs.Prelude.{◌≡◌, ◌==◌, ◌&&◌, ◌||◌, ◌+◌, ◌<◌, ◌≤◌, ℕ, Bool, true, false, List, [], ◌∷◌, length, take, codes, map, find, is_some, Option}
+use Rattle.std.specs.Prelude.{◌≡◌, ◌==◌, ◌&&◌, ◌||◌, ◌+◌, ◌<◌, ◌≤◌, ℕ, Bool, true, false, List, [], ◌∷◌, ◌++◌, length, take, codes, find, is_some, Option}
 use Rattle.std.specs.List.{list_any}
 use Rattle.std.specs.Str.{bytes_eq}
 use Rattle.line_text.specs.Numbers.{is_empty, is_number}
 use Rattle.line_text.specs.Names.{is_name}
-use Rattle.query_text.specs.Shape.{algorithm_word, algorithms, opening}
+use Rattle.query_text.specs.Shape.{algorithm_words, opening}
 use Rattle.query_text.specs.declared.operator.Operator.{Operator}
 use Rattle.query_text.specs.declared.operator.Operator.TheVariants.{Min, Max, Sum, Median, Wsum}
 use Rattle.query_text.specs.declared.stage.Stage.{Stage}
@@ -23,6 +23,10 @@ operators = Min ∷ Max ∷ Sum ∷ Median ∷ Wsum ∷ []
 -- the operator that a word opens, if it opens one
 abbrev pub opened_by : List ℕ → Option Operator
 opened_by word = find (λ operator. bytes_eq word (opening operator)) operators
+
+-- the words of all algorithms
+abbrev pub using_words : List (List ℕ)
+using_words = algorithm_words ++ codes "theta " ∷ codes "early " ∷ []
 
 -- whether a word begins with another
 abbrev pub is_front : List ℕ → List ℕ → Bool
@@ -52,7 +56,11 @@ class_at stages.Behind true = Class.words (codes "," ∷ codes ")" ∷ [])
 class_at stages.Behind false = Class.words (codes " using " ∷ [])
 class_at stages.Weight inside = Class.digits
 class_at stages.Times inside = Class.words (codes "*" ∷ [])
-class_at stages.Algorithm inside = Class.words (map algorithm_word algorithms)
+class_at stages.Algorithm inside = Class.words using_words
+class_at stages.Factor inside = Class.digits
+class_at stages.Over inside = Class.words (codes "/" ∷ [])
+class_at stages.Under inside = Class.digits
+class_at stages.Depth inside = Class.digits
 class_at stages.Options inside = Class.words (codes " cost " ∷ codes " room " ∷ [])
 class_at stages.Sorted inside = Class.digits
 class_at stages.Between inside = Class.words (codes " " ∷ [])

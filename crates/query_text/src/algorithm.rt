@@ -14,10 +14,17 @@ pub enum Algorithm {
     Ca,
     /// Fagin's algorithm, `fa`.
     Fa,
+    /// The threshold algorithm that stops within the factor p / q, `theta p/q`. In a lawful query
+    /// both numbers are 1 to 1,000,000, and p is at least q.
+    Theta { p: u32, q: u32 },
+    /// The threshold algorithm that stops at a depth at the latest, `early depth`: 1 to 1,000,000.
+    Early { depth: u32 },
+    /// The threshold algorithm that reads the lists with sorted access alone in order, `taz`.
+    Taz,
 }
 
 impl Algorithm {
-    /// The word that names it in a query.
+    /// The word that names it in a query, with the blank before its numbers, if it has any.
     pub fn word(self) -> &'static [u8]
         ensures { result.now ≡ algorithm_word self }
     {
@@ -26,6 +33,9 @@ impl Algorithm {
             Algorithm::Nra => b"nra",
             Algorithm::Ca => b"ca",
             Algorithm::Fa => b"fa",
+            Algorithm::Theta { .. } => b"theta ",
+            Algorithm::Early { .. } => b"early ",
+            Algorithm::Taz => b"taz",
         }
     }
 }

@@ -1,7 +1,7 @@
 //! The syntax of a query line, word by word.
 
 ghost use Rattle.std.specs.Prelude.{◌≡◌, [], OnOk, IfErr, if◌then◌else◌};
-ghost use Rattle.query_text.specs.Course.{course_view, standing_next, is_open, at, argument_stage, behind_word, behind_operand, plain_next};
+ghost use Rattle.query_text.specs.Course.{course_view, standing_next, is_open, at, argument_stage, algorithm_stage, behind_word, behind_operand, plain_next};
 ghost use Rattle.query_text.specs.Words.{opened_by};
 ghost use Rattle.query_text.specs.Front.{is_weighted};
 
@@ -38,6 +38,19 @@ fn argument_stage(operator: Operator) -> Stage
     }
 }
 
+/// What comes next behind the word of an algorithm.
+fn algorithm_stage(word: &[u8]) -> Stage
+    ensures { result ≡ algorithm_stage word.now }
+{
+    if is_text(word, b"theta ") {
+        return Stage::Factor;
+    }
+    if is_text(word, b"early ") {
+        return Stage::Depth;
+    }
+    Stage::Options
+}
+
 /// What comes next behind the first word of the options.
 fn option_stage(is_cost: bool) -> Stage
     ensures { result ≡ (if is_cost then Stage.Sorted else Stage.Room) }
@@ -53,8 +66,10 @@ fn plain_next(stage: Stage) -> Stage
         Stage::Top => Stage::Count,
         Stage::Count => Stage::By,
         Stage::By | Stage::Times | Stage::Operand => Stage::Operand,
-        Stage::Behind | Stage::Algorithm => Stage::Options,
+        Stage::Behind | Stage::Algorithm | Stage::Under | Stage::Depth => Stage::Options,
         Stage::Weight => Stage::Times,
+        Stage::Factor => Stage::Over,
+        Stage::Over => Stage::Under,
         Stage::Options | Stage::Priced => Stage::Room,
         Stage::Sorted => Stage::Between,
         Stage::Between => Stage::Random,
@@ -92,6 +107,10 @@ impl Course {
             Stage::Operand => self.leave_word(word),
             Stage::Behind => {
                 self.leave_operand(is_text(word, b","));
+                Ok(())
+            }
+            Stage::Algorithm => {
+                self.stage = algorithm_stage(word);
                 Ok(())
             }
             Stage::Options => {

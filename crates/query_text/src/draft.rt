@@ -26,6 +26,8 @@ pub(crate) struct Draft {
     pub(crate) operand: Node,
     /// The weight that was read last.
     pub(crate) weight: u64,
+    /// The first number of a factor, before the second is read.
+    pub(crate) over: u32,
     pub(crate) algorithm: Algorithm,
     /// The cost of a sorted access, before that of a random one is read.
     pub(crate) sorted: u32,
@@ -46,6 +48,7 @@ impl Draft {
             frames: Vec::new(alloc),
             operand: Node::List(0),
             weight: 0,
+            over: 0,
             algorithm: Algorithm::Ta,
             sorted: 0,
             cost: None,
@@ -76,11 +79,15 @@ impl Draft {
                 Ok(())
             }
             Stage::Algorithm => self.take_algorithm(word),
+            Stage::Factor => self.take_factor(word, at),
+            Stage::Under => self.take_under(word, at),
+            Stage::Depth => self.take_depth(word, at),
             Stage::Sorted => self.take_sorted(word, at),
             Stage::Random => self.take_random(word, at),
             Stage::Room => self.take_room(word, at),
             Stage::Top
             | Stage::By
+            | Stage::Over
             | Stage::Options
             | Stage::Between
             | Stage::Priced
@@ -136,12 +143,49 @@ impl Draft {
         Ok(())
     }
 
+    /// Takes the word of an algorithm. One whose numbers are still to come stands as `ta` until then.
     fn take_algorithm(&mut self, word: &[u8]) -> Result<(), QueryFault>
         requires { length (names_of self.old) ≤ MAX_LISTS }
         ensures taken { OnOk result (Takes Stage.Algorithm self.old self.new word.now) }
         ensures missed { IfErr result (λ fault. fault ≡ QueryFault.Memory) }
     {
         self.algorithm = algorithm_of(word).unwrap_or(Algorithm::Ta);
+        self.cost = None;
+        self.room = None;
+        Ok(())
+    }
+
+    fn take_factor(&mut self, word: &[u8], at: u32) -> Result<(), QueryFault>
+        requires { length (names_of self.old) ≤ MAX_LISTS }
+        ensures taken { OnOk result (Takes Stage.Factor self.old self.new word.now) }
+        ensures missed { IfErr result (Misses Stage.Factor self.old word.now at) }
+    {
+        self.over = count_within(word, at)?;
+        Ok(())
+    }
+
+    fn take_under(&mut self, word: &[u8], at: u32) -> Result<(), QueryFault>
+        requires { length (names_of self.old) ≤ MAX_LISTS }
+        ensures taken { OnOk result (Takes Stage.Under self.old self.new word.now) }
+        ensures missed { IfErr result (Misses Stage.Under self.old word.now at) }
+    {
+        self.algorithm = Algorithm::Theta {
+            p: self.over,
+            q: count_within(word, at)?,
+        };
+        self.cost = None;
+        self.room = None;
+        Ok(())
+    }
+
+    fn take_depth(&mut self, word: &[u8], at: u32) -> Result<(), QueryFault>
+        requires { length (names_of self.old) ≤ MAX_LISTS }
+        ensures taken { OnOk result (Takes Stage.Depth self.old self.new word.now) }
+        ensures missed { IfErr result (Misses Stage.Depth self.old word.now at) }
+    {
+        self.algorithm = Algorithm::Early {
+            depth: count_within(word, at)?,
+        };
         self.cost = None;
         self.room = None;
         Ok(())

@@ -13,6 +13,8 @@ pub enum QueryFault {
     Number { at: u32 },
     /// The ninth list is named at this place, from 0.
     TooManyLists { at: u32 },
+    /// The factor p / q of the algorithm is below 1: p is less than q.
+    BadTheta { p: u32, q: u32 },
     /// The expression has this many nodes, which are more than 64. The last `u64` also stands for
     /// all counts above it.
     TooManyNodes { nodes: u64 },

@@ -4,7 +4,7 @@
 //! query     = "top " number " by " expr " using " algorithm [ " cost " number " " number ] [ " room " number ]
 //! expr      = name | operator "(" expr { "," expr } ")" | "wsum(" term { "," term } ")"
 //! term      = number "*" expr
-//! algorithm = "ta" | "nra" | "ca" | "fa"
+//! algorithm = "ta" | "nra" | "ca" | "fa" | "taz" | "theta " number "/" number | "early " number
 //! ```
 //!
 //! A number is `0`, or a digit 1 to 9 followed by digits. A name is 1 to 32 bytes: an ASCII letter,

@@ -24,7 +24,7 @@ pub fn is_text(word: &[u8], text: &[u8]) -> bool
     word == text
 }
 
-/// The algorithm of a word, if it is the word of one.
+/// The algorithm of a word, if it is the word of one that has no numbers.
 pub fn algorithm_of(word: &[u8]) -> Option<Algorithm>
     ensures { result ≡ find (λ algorithm. bytes_eq word.now (algorithm_word algorithm)) algorithms }
 {
@@ -39,6 +39,9 @@ pub fn algorithm_of(word: &[u8]) -> Option<Algorithm>
     }
     if is_text(word, b"fa") {
         return Some(Algorithm::Fa);
+    }
+    if is_text(word, b"taz") {
+        return Some(Algorithm::Taz);
     }
     None
 }
@@ -80,7 +83,7 @@ pub fn number_within(word: &[u8], least: u64, most: u64, at: u32) -> Result<u64,
     Ok(number)
 }
 
-/// The k, cost or room that a word spells, if it is within its range.
+/// The k, cost, room, depth or part of a factor that a word spells, if it is within its range.
 pub fn count_within(word: &[u8], at: u32) -> Result<u32, QueryFault>
     ensures ok { IfOk result (λ n. (number_of word.now ≡ Some n) × (1 ≤ n) × (n ≤ MAX_NUMBER)) }
     ensures err { IfErr result (λ fault. (fault ≡ QueryFault.Number at)

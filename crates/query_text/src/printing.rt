@@ -7,9 +7,10 @@ ghost use Rattle.monotone_fn.specs.Shown.{tree_of};
 ghost use Rattle.query_text.specs.Pieces.{text_of};
 ghost use Rattle.query_text.specs.Shape.{expr_pieces};
 ghost use Rattle.query_text.specs.Query.{printed, written, name_of};
-ghost use Rattle.query_text.specs.Printing.{nodes_text, terms_text, cost_text, room_text, comma_text};
+ghost use Rattle.query_text.specs.Printing.{nodes_text, terms_text, algorithm_text, cost_text, room_text, comma_text};
 
 use super::Memory;
+use super::algorithm::Algorithm;
 use super::names::Names;
 use super::query::Query;
 use super::text::Text;
@@ -39,7 +40,7 @@ pub fn put_query<P: Put>(out: &mut P, query: &Query)
     out.put(b" by ");
     put_expr(out, &query.names, query.expr.root());
     out.put(b" using ");
-    out.put(query.algorithm.word());
+    put_algorithm(out, query.algorithm);
     put_cost(out, query.cost);
     put_room(out, query.room);
 }
@@ -105,6 +106,22 @@ fn put_terms<P: Put>(out: &mut P, names: &Names, weighted: &Terms)
         put_expr(out, names, &term.node);
     }
     out.put(b")");
+}
+
+/// Puts an algorithm behind the bytes that wait.
+fn put_algorithm<P: Put>(out: &mut P, algorithm: Algorithm)
+    ensures { Puts (P.at out.old) (P.at out.new) (algorithm_text algorithm) }
+{
+    out.put(algorithm.word());
+    match algorithm {
+        Algorithm::Theta { p, q } => {
+            out.put_number(u64::from(p));
+            out.put(b"/");
+            out.put_number(u64::from(q));
+        }
+        Algorithm::Early { depth } => out.put_number(u64::from(depth)),
+        Algorithm::Ta | Algorithm::Nra | Algorithm::Ca | Algorithm::Fa | Algorithm::Taz => {}
+    }
 }
 
 /// Puts the costs, if there are any, behind the bytes that wait.

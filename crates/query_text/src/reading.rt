@@ -6,12 +6,13 @@ ghost use Rattle.query_text.specs.Course.{course_view, is_open};
 ghost use Rattle.query_text.specs.Words.{class_at, is_whole};
 ghost use Rattle.query_text.specs.Draft.{names_of};
 ghost use Rattle.query_text.specs.Reached.{Reached, StepTakes, WordFound, IsDraftOf, WordsRead};
-ghost use Rattle.query_text.specs.Finish.{Finishes, IsSmall};
+ghost use Rattle.query_text.specs.Finish.{Finishes, IsFair, TestsFactor, IsSmall};
 ghost use Rattle.monotone_fn.specs.Shown.{tree_of};
 ghost use Rattle.monotone_fn.specs.Shape.{NumbersLists};
 ghost use Rattle.monotone_fn.specs.Limits.{Makes};
 ghost use Rattle.query_text.specs.declared.draft.Draft.{Draft};
 
+use super::algorithm::Algorithm;
 use super::course::Course;
 use super::draft::Draft;
 use super::fault::QueryFault;
@@ -49,6 +50,9 @@ fn finish(alloc: Global, draft: Draft) -> Result<Query, QueryFault>
     ensures made { Finishes draft result }
     ensures small { IsSmall draft }
 {
+    if let Some(fault) = factor_fault(draft.algorithm) {
+        return Err(fault);
+    }
     let Draft {
         k,
         names,
@@ -71,9 +75,20 @@ fn finish(alloc: Global, draft: Draft) -> Result<Query, QueryFault>
     }
 }
 
+/// Why a line is refused whose algorithm has a factor below 1.
+fn factor_fault(algorithm: Algorithm) -> Option<QueryFault>
+    ensures { TestsFactor algorithm result }
+{
+    match algorithm {
+        Algorithm::Theta { p, q } if p < q => Some(QueryFault::BadTheta { p, q }),
+        _ => None,
+    }
+}
+
 /// Why a line is refused whose expression is refused.
 fn refusal_of(fault: ExprFault) -> QueryFault
-    ensures { (draft : Draft) → Makes (tree_of draft.operand) (Err fault) → Finishes draft (Err result) }
+    ensures { (draft : Draft) → IsFair draft.algorithm → Makes (tree_of draft.operand) (Err fault)
+        → Finishes draft (Err result) }
 {
     match fault {
         ExprFault::TooManyNodes { nodes } => QueryFault::TooManyNodes { nodes },

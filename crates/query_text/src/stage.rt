@@ -22,6 +22,14 @@ pub enum Stage {
     Times,
     /// The word of an algorithm.
     Algorithm,
+    /// The first number of a factor.
+    Factor,
+    /// `/`
+    Over,
+    /// The second number of a factor.
+    Under,
+    /// A depth.
+    Depth,
     /// ` cost `, ` room ` or the end.
     Options,
     /// The cost of a sorted access.

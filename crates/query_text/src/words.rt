@@ -86,13 +86,19 @@ pub fn longest(stage: Stage, inside: bool, text: &[u8]) -> usize
         Stage::Operand => operand_len(text),
         Stage::Behind => behind_len(inside, text),
         Stage::Times => common(b"*", text),
+        Stage::Over => common(b"/", text),
         Stage::Algorithm => algorithm_len(text),
         Stage::Options => common(b" cost ", text).max(common(b" room ", text)),
         Stage::Between => common(b" ", text),
         Stage::Priced => common(b" room ", text),
-        Stage::Count | Stage::Weight | Stage::Sorted | Stage::Random | Stage::Room => {
-            number_len(text)
-        }
+        Stage::Count
+        | Stage::Weight
+        | Stage::Factor
+        | Stage::Under
+        | Stage::Depth
+        | Stage::Sorted
+        | Stage::Random
+        | Stage::Room => number_len(text),
         Stage::Done => 0,
     }
 }
@@ -105,7 +111,9 @@ fn algorithm_len(text: &[u8]) -> usize
     let without_random = common(Algorithm::Nra.word(), text);
     let combined = common(Algorithm::Ca.word(), text);
     let fagin = common(Algorithm::Fa.word(), text);
-    threshold.max(without_random.max(combined.max(fagin)))
+    let ordered = common(Algorithm::Taz.word(), text);
+    let rated = common(b"theta ", text).max(common(b"early ", text));
+    threshold.max(without_random.max(combined.max(fagin.max(ordered.max(rated)))))
 }
 
 /// How many bytes of a text begin what may stand behind an operand.
@@ -129,18 +137,29 @@ pub fn is_whole(stage: Stage, inside: bool, word: &[u8]) -> bool
         Stage::By => is_text(word, b" by "),
         Stage::Behind => is_whole_behind(inside, word),
         Stage::Times => is_text(word, b"*"),
-        Stage::Algorithm => algorithm_of(word).is_some(),
+        Stage::Over => is_text(word, b"/"),
+        Stage::Algorithm => is_whole_algorithm(word),
         Stage::Options => is_text(word, b" cost ") || is_text(word, b" room "),
         Stage::Between => is_text(word, b" "),
         Stage::Priced => is_text(word, b" room "),
         Stage::Operand
         | Stage::Count
         | Stage::Weight
+        | Stage::Factor
+        | Stage::Under
+        | Stage::Depth
         | Stage::Sorted
         | Stage::Random
         | Stage::Room => !word.is_empty(),
         Stage::Done => false,
     }
+}
+
+/// Whether it is the whole word of an algorithm.
+fn is_whole_algorithm(word: &[u8]) -> bool
+    ensures { result ≡ is_whole (class_at Stage.Algorithm false) word.now }
+{
+    algorithm_of(word).is_some() || is_text(word, b"theta ") || is_text(word, b"early ")
 }
 
 /// Whether what begins a word that may stand behind an operand is the whole word.

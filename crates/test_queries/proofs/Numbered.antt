@@ -1,5 +1,5 @@
 -- An expression over one list numbers it.
-use Rattle.std.proofs.Common.{◌≡◌, ℕ, ◌<◌, List, [], ◌∷◌, ◌++◌, map, Contains, refl, sym, ap, ◌∙◌, subst, arith}
+use Rattle.std.proofs.Common.{◌≡◌, ℕ, List, [], ◌∷◌, ◌++◌, map, Contains, refl, sym, ap, ◌∙◌, subst, arith}
 use Rattle.monotone_fn.specs.declared.node.Term.{Term}
 use Rattle.monotone_fn.specs.Tree.{Tree, terms}
 use Rattle.monotone_fn.specs.Shape.{nodes_of, NumbersLists}

@@ -2,7 +2,7 @@
 
 use super::none_is_wrong;
 use query_text::QueryFault::{
-    LongLine, Number, Syntax, TooBig, TooDeep, TooManyLists, TooManyNodes,
+    BadTheta, LongLine, Number, Syntax, TooBig, TooDeep, TooManyLists, TooManyNodes,
 };
 use query_text::{Query, QueryFault, print, read};
 use std::alloc::{AllocError, Global};
@@ -78,6 +78,33 @@ const SHAPES: &[Row] = &[
     ),
 ];
 
+/// Lines that aren't of the shape behind `using`.
+const ALGORITHMS: &[Row] = &[
+    (b"top 1 by A using t", Syntax { at: 18 }),
+    (b"top 1 by A using tac", Syntax { at: 19 }),
+    (b"top 1 by A using tazz", Syntax { at: 20 }),
+    (b"top 1 by A using thet", Syntax { at: 21 }),
+    (b"top 1 by A using theta", Syntax { at: 22 }),
+    (b"top 1 by A using theta/8", Syntax { at: 22 }),
+    (b"top 1 by A using theta ", Syntax { at: 23 }),
+    (b"top 1 by A using theta  8/7", Syntax { at: 23 }),
+    (b"top 1 by A using theta /7", Syntax { at: 23 }),
+    (b"top 1 by A using theta 8", Syntax { at: 24 }),
+    (b"top 1 by A using theta 8 /7", Syntax { at: 24 }),
+    (b"top 1 by A using theta 08/7", Syntax { at: 24 }),
+    (b"top 1 by A using theta 8/", Syntax { at: 25 }),
+    (b"top 1 by A using theta 8/ 7", Syntax { at: 25 }),
+    (b"top 1 by A using theta 8/07", Syntax { at: 26 }),
+    (b"top 1 by A using theta 8/7 ", Syntax { at: 27 }),
+    (b"top 1 by A using theta 8/7/6", Syntax { at: 26 }),
+    (b"top 1 by A using ex", Syntax { at: 18 }),
+    (b"top 1 by A using earl 1", Syntax { at: 21 }),
+    (b"top 1 by A using early", Syntax { at: 22 }),
+    (b"top 1 by A using early ", Syntax { at: 23 }),
+    (b"top 1 by A using early 01", Syntax { at: 24 }),
+    (b"top 1 by A using early 8/7", Syntax { at: 24 }),
+];
+
 /// Lines with a number out of its range, or with a ninth list.
 const RANGES: &[Row] = &[
     (b"top 0 by A using ta", Number { at: 4 }),
@@ -108,12 +135,48 @@ const RANGES: &[Row] = &[
         b"top 1 by sum(A,B,C,D,E,F,G,H,I) using ta room 0",
         TooManyLists { at: 29 },
     ),
+    (b"top 1 by A using theta 0/1", Number { at: 23 }),
+    (b"top 1 by A using theta 1/0", Number { at: 25 }),
+    (b"top 1 by A using theta 0/0", Number { at: 23 }),
+    (b"top 1 by A using theta 1000001/1", Number { at: 23 }),
+    (b"top 1 by A using theta 1/1000001", Number { at: 25 }),
+    (b"top 1 by A using early 0", Number { at: 23 }),
+    (b"top 1 by A using early 1000001", Number { at: 23 }),
+    (
+        b"top 1 by sum(A,B,C,D,E,F,G,H,I) using theta 0/1",
+        TooManyLists { at: 29 },
+    ),
+];
+
+/// Lines with a factor below 1, and what is looked at before that.
+const FACTORS: &[Row] = &[
+    (b"top 1 by A using theta 7/8", BadTheta { p: 7, q: 8 }),
+    (
+        b"top 1 by A using theta 999999/1000000 cost 1 1 room 1",
+        BadTheta {
+            p: 999_999,
+            q: 1_000_000,
+        },
+    ),
+    (b"top 0 by A using theta 7/8", Number { at: 4 }),
+    (b"top 1 by A using theta 7/8 room 0", Number { at: 32 }),
+    (
+        b"top 1 by sum(A,B,C,D,E,F,G,H,I) using theta 7/8",
+        TooManyLists { at: 29 },
+    ),
+    (b"top 1 by A using theta 7/8 ", Syntax { at: 27 }),
+    (
+        b"top 1 by sum(A,wsum(9223372036854775807*B)) using theta 1/2",
+        BadTheta { p: 1, q: 2 },
+    ),
 ];
 
 #[test]
 fn refuses_lines(rt: HostRuntime) {
     none_is_wrong(&rt, first_wrong(rt.alloc(), SHAPES));
+    none_is_wrong(&rt, first_wrong(rt.alloc(), ALGORITHMS));
     none_is_wrong(&rt, first_wrong(rt.alloc(), RANGES));
+    none_is_wrong(&rt, first_wrong(rt.alloc(), FACTORS));
 }
 
 /// Lines that are read.
@@ -129,6 +192,14 @@ const READ: &[&[u8]] = &[
     b"top 9 by min(max(a),sum(b,wsum(1*c)),median(d)) using ta cost 10 200",
     b"top 1 by aaaaaaaaaaaaaaaaaaaaaaaaaaaaaaaa using ta",
     b"top 12 by sum(zeta,A,zeta) using ta cost 7 80 room 900",
+    b"top 1 by A using taz",
+    b"top 1 by A using taz cost 1 2 room 5",
+    b"top 1 by A using theta 8/7",
+    b"top 1 by A using theta 1/1 room 9",
+    b"top 1 by A using theta 1000000/1 cost 3 4",
+    b"top 1 by A using theta 1000000/1000000 cost 1 1 room 1",
+    b"top 1 by A using early 1",
+    b"top 1 by A using early 1000000 cost 10 1 room 7",
 ];
 
 /// The number of the first line that isn't read, or is printed otherwise.
@@ -197,6 +268,27 @@ const LONG: &[Long] = &[
         b" by A using ta",
         Some(LongLine { limit: 4096 }),
     ),
+    (
+        b"top 1 by A using theta ",
+        FORTY,
+        1,
+        b"/1",
+        Some(Number { at: 23 }),
+    ),
+    (
+        b"top 1 by A using theta 1/",
+        FORTY,
+        1,
+        b"",
+        Some(Number { at: 25 }),
+    ),
+    (
+        b"top 1 by A using early ",
+        FORTY,
+        1,
+        b" room 1",
+        Some(Number { at: 23 }),
+    ),
     (b"top 1 by sum(", b"A,", 62, b"A) using ta", None),
     (
         b"top 1 by sum(A,",
@@ -212,6 +304,20 @@ const LONG: &[Long] = &[
         7,
         b"A)))))))) using ta",
         Some(TooDeep { depth: 9 }),
+    ),
+    (
+        b"top 1 by sum(A,",
+        b"A,",
+        62,
+        b"A) using theta 1/2",
+        Some(BadTheta { p: 1, q: 2 }),
+    ),
+    (
+        b"top 1 by max(",
+        b"min(",
+        7,
+        b"A)))))))) using theta 7/8",
+        Some(BadTheta { p: 7, q: 8 }),
     ),
     (
         b"top 1 by sum(A,",
@@ -251,12 +357,23 @@ fn first_wrong_of_long(alloc: Global, rows: &[Long]) -> Option<usize> {
     None
 }
 
+/// Lines, and the lengths of their fronts that are whole queries.
+const FRONTS: &[(&[u8], &[usize])] = &[
+    (
+        b"top 12 by wsum(3*Alpha,40*max(b_1,Alpha)) using ta cost 7 80 room 900",
+        &[50, 59, 60, 67, 68, 69],
+    ),
+    (b"top 1 by A using taz", &[19, 20]),
+    (b"top 1 by A using theta 12/7 room 20", &[27, 34, 35]),
+    (b"top 1 by A using early 30 cost 1 20", &[24, 25, 34, 35]),
+];
+
 /// The length of the first front of a line that doesn't end at its end, where it is no whole query.
-fn first_wrong_front(alloc: Global) -> Option<usize> {
-    let line = b"top 12 by wsum(3*Alpha,40*max(b_1,Alpha)) using ta cost 7 80 room 900";
-    let whole = [50, 59, 60, 67, 68, 69];
+fn first_wrong_front(alloc: Global, line: &[u8], whole: &[usize]) -> Option<usize> {
     for count in 0..=line.len() {
-        let at = count as u32;
+        let Ok(at) = u32::try_from(count) else {
+            return Some(count);
+        };
         let expected = if whole.contains(&count) {
             None
         } else {
@@ -269,9 +386,19 @@ fn first_wrong_front(alloc: Global) -> Option<usize> {
     None
 }
 
+/// The number of the first line with such a front.
+fn first_wrong_fronts(alloc: Global, rows: &[(&[u8], &[usize])]) -> Option<usize> {
+    for (number, (line, whole)) in rows.iter().enumerate() {
+        if first_wrong_front(alloc, line, whole).is_some() {
+            return Some(number);
+        }
+    }
+    None
+}
+
 #[test]
 fn reads_and_prints(rt: HostRuntime) {
     none_is_wrong(&rt, first_unread(rt.alloc(), READ));
     none_is_wrong(&rt, first_wrong_of_long(rt.alloc(), LONG));
-    none_is_wrong(&rt, first_wrong_front(rt.alloc()));
+    none_is_wrong(&rt, first_wrong_fronts(rt.alloc(), FRONTS));
 }

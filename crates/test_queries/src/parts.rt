@@ -20,6 +20,20 @@ const ALGORITHMS: &[(&[u8], Algorithm)] = &[
     (b"top 1 by A using nra", Algorithm::Nra),
     (b"top 1 by A using ca", Algorithm::Ca),
     (b"top 1 by A using fa", Algorithm::Fa),
+    (b"top 1 by A using taz", Algorithm::Taz),
+    (
+        b"top 1 by A using theta 8/7",
+        Algorithm::Theta { p: 8, q: 7 },
+    ),
+    (
+        b"top 1 by A using theta 1000000/1 cost 3 4 room 5",
+        Algorithm::Theta { p: 1_000_000, q: 1 },
+    ),
+    (b"top 1 by A using early 5", Algorithm::Early { depth: 5 }),
+    (
+        b"top 1 by A using early 1000000 room 6",
+        Algorithm::Early { depth: 1_000_000 },
+    ),
 ];
 
 /// The number of the first line whose query asks for another algorithm.
