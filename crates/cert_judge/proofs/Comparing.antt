@@ -1,5 +1,5 @@
 -- The figures of a certificate against those that its accesses give, line by line.
-use Rattle.std.proofs.Common.{◌≡◌, ◌≢◌, ℕ, ◌≤◌, ◌<◌, ◌+◌, ◌-◌, ◌^◌, ◌==◌, ◌&&◌, suc, Bool, true, false, cond, not, List, [], ◌∷◌, ◌++◌, length, map, filter, take, Some, slice_get, refl, sym, ap, ap₂, ◌∙◌, subst, arith, eqb-true, eq-eqb, length-append}
+use Rattle.std.proofs.Common.{◌≡◌, ◌≢◌, ℕ, ◌≤◌, ◌<◌, ◌+◌, ◌-◌, ◌^◌, ◌==◌, ◌&&◌, suc, Bool, true, false, cond, not, List, [], ◌∷◌, ◌++◌, length, map, filter, take, Option, None, Some, is_some, option_map, ◌↔◌, slice_get, refl, sym, ap, ap₂, ◌∙◌, subst, arith, eqb-true, eq-eqb, length-append, append_assoc}
 use Rattle.std.proofs.lemmas.Bool.{and_parts, and_from, true≢false}
 use Rattle.std.proofs.lemmas.List.{take_more, take_all, take-append-le, length-map}
 use Rattle.ranked_list.specs.declared.item.Item.{Item}
@@ -8,8 +8,14 @@ use Rattle.topk_theory.specs.Threshold.{item_objects}
 use Rattle.topk_theory.specs.declared.access.Access.{Access}
 use Rattle.topk_theory.proofs.AgreementLists.{slice_get_behind, slice_get_in_range, slice_get_reads, get_front}
 use Rattle.cert_text.specs.declared.certificate.Certificate.{Certificate}
-use Rattle.cert_text.specs.Certificate.{version_lines, IsCertificate}
-use Rattle.cert_judge.specs.Figures.{item_figures, stop_figures, has_line, figures_from, figures_of, refigured, IsFirstDifference, HasItsFigures, IsFirstFigure}
+use Rattle.monotone_fn.specs.Value.{value}
+use Rattle.monotone_fn.specs.Shape.{list_count}
+use Rattle.theta_theory.specs.Within.{Factor}
+use Rattle.guarantee.specs.declared.factor.Guarantee.{Guarantee}
+use Rattle.guarantee.specs.Guarantee.{factor_of, guarantee_of}
+use Rattle.guarantee.proofs.Factors.{there_by, factor_again}
+use Rattle.cert_text.specs.Certificate.{version_lines, guaranteed, IsCertificate}
+use Rattle.cert_judge.specs.Figures.{item_figures, guarantee_figures, given_factor, stop_figures, has_line, figures_from, figures_of, refigured, IsFirstDifference, HasItsFigures, IsFirstFigure}
 use Rattle.cert_judge.proofs.Putting.{get_mapped}
 
 -- the figures that the accesses give the objects of items
@@ -104,44 +110,90 @@ lines_small c is =
     omega (arith, lines_few c.versions, is.versioned, few)
 
 -- a difference among the items is one of the certificate
-pub among_items : (c : Certificate) (xs ys : List (List ℕ)) (place line : ℕ) → figures_of c ≡ xs ++ stop_figures c ∷ []
-    → figures_of (refigured c) ≡ ys ++ stop_figures (refigured c) ∷ []
+pub among_items : (c : Certificate) (xs ys us vs : List (List ℕ)) (place line : ℕ) → figures_of c ≡ xs ++ us → figures_of (refigured c) ≡ ys ++ vs
     → length xs ≡ length ys → IsFirstDifference xs ys place → line ≡ figures_from c + place → IsFirstFigure c line
-among_items c xs ys place line e f long d is =
+among_items c xs ys us vs place line e f long d is =
     let within : place < length xs = d.within in
-    let back : place ≡ line - figures_from c = omega arith in
-    let s = stop_figures c in
-    let t = stop_figures (refigured c) in (
+    let back : place ≡ line - figures_from c = omega arith in (
       omega arith,
       subst (IsFirstDifference (figures_of c) (figures_of (refigured c))) back (record {
-        within = subst (λ zs. place < length zs) (sym e) (omega (arith, length-append xs (s ∷ [])));
-        before = ap (take place) e ∙ take-append-le place xs (s ∷ []) (omega arith) ∙ d.before ∙ sym (ap (take place) f ∙ take-append-le place ys (t ∷ []) (omega arith));
-        here = λ equal. d.here (sym (ap (λ zs. slice_get zs place) e ∙ get_front xs (s ∷ []) place within) ∙ equal ∙ (ap (λ zs. slice_get zs place) f ∙ get_front ys (t ∷ []) place (omega arith)));
+        within = subst (λ zs. place < length zs) (sym e) (omega (arith, length-append xs us));
+        before = ap (take place) e ∙ take-append-le place xs us (omega arith) ∙ d.before ∙ sym (ap (take place) f ∙ take-append-le place ys vs (omega arith));
+        here = λ equal. d.here (sym (ap (λ zs. slice_get zs place) e ∙ get_front xs us place within) ∙ equal ∙ (ap (λ zs. slice_get zs place) f ∙ get_front ys vs place (omega arith)));
       }),
     )
 
--- the items' figures are the given ones, and those of the stop line differ
-pub at_stop : (c : Certificate) (xs ys : List (List ℕ)) (place line : ℕ) → figures_of c ≡ xs ++ stop_figures c ∷ []
-    → figures_of (refigured c) ≡ ys ++ stop_figures (refigured c) ∷ []
-    → xs ≡ ys → (stop_figures c ≢ stop_figures (refigured c)) → place ≡ length xs → line ≡ figures_from c + place → IsFirstFigure c line
-at_stop c xs ys place line e f same differ at is =
-    let s = stop_figures c in
-    let t = stop_figures (refigured c) in
+-- the figures above a line are the given ones, and those of it differ
+pub at_line : (c : Certificate) (xs ys : List (List ℕ)) (s t : List ℕ) (us vs : List (List ℕ)) (place line : ℕ) → figures_of c ≡ xs ++ s ∷ us
+    → figures_of (refigured c) ≡ ys ++ t ∷ vs
+    → xs ≡ ys → s ≢ t → place ≡ length xs → line ≡ figures_from c + place → IsFirstFigure c line
+at_line c xs ys s t us vs place line e f same differ at is =
     let back : length xs ≡ line - figures_from c = omega arith in (
       omega arith,
       subst (IsFirstDifference (figures_of c) (figures_of (refigured c))) back (record {
-        within = subst (λ zs. length xs < length zs) (sym e) (omega (arith, length-append xs (s ∷ [])));
-        before = ap (take (length xs)) e ∙ take-append-le (length xs) xs (s ∷ []) (omega arith) ∙ ap (take (length xs)) same ∙ sym (ap (take (length xs)) f ∙ take-append-le (length xs) ys (t ∷ []) (omega (arith, ap length same)));
+        within = subst (λ zs. length xs < length zs) (sym e) (omega (arith, length-append xs (s ∷ us)));
+        before = ap (take (length xs)) e ∙ take-append-le (length xs) xs (s ∷ us) (omega arith) ∙ ap (take (length xs)) same ∙ sym (ap (take (length xs)) f ∙ take-append-le (length xs) ys (t ∷ vs) (omega (arith, ap length same)));
         here = λ equal.
-            let a : slice_get (figures_of c) (length xs) ≡ Some s = ap (λ zs. slice_get zs (length xs)) e ∙ slice_get_behind xs s [] in
-            let b : slice_get (figures_of (refigured c)) (length xs) ≡ Some t = ap (λ zs. slice_get zs (length xs)) f ∙ ap (slice_get (ys ++ t ∷ [])) (ap length same) ∙ slice_get_behind ys t [] in
+            let a : slice_get (figures_of c) (length xs) ≡ Some s = ap (λ zs. slice_get zs (length xs)) e ∙ slice_get_behind xs s us in
+            let b : slice_get (figures_of (refigured c)) (length xs) ≡ Some t = ap (λ zs. slice_get zs (length xs)) f ∙ ap (slice_get (ys ++ t ∷ vs)) (ap length same) ∙ slice_get_behind ys t vs in
             let one : s ≡ t = cc in
             differ one;
       }),
     )
 
+-- a factor by its figures
+factor_is : (f g : Factor) → f.p ∷ f.q ∷ [] ≡ g.p ∷ g.q ∷ [] → f ≡ g
+factor_is f g e =
+    let both = head_is [] [] f.p f.q g.p g.q e in
+    let made : ℕ → ℕ → Factor = λ p q. record { p = p; q = q } in
+    ap₂ made both.0 both.1
+
+-- the figures of the items are the given ones, and those of the guarantee differ
+pub at_guarantee : (c : Certificate) (xs ys us vs : List (List ℕ)) (its given : Option Factor) (place line : ℕ) → figures_of c ≡ xs ++ (guarantee_figures its ++ us)
+    → figures_of (refigured c) ≡ ys ++ (guarantee_figures given ++ vs) → is_some its ≡ is_some given → its ≢ given
+    → xs ≡ ys → place ≡ length xs → line ≡ figures_from c + place → IsFirstFigure c line
+at_guarantee c xs ys us vs None None place line e f there differ same at is = absurd (differ refl)
+at_guarantee c xs ys us vs None (Some given) place line e f there differ same at is = absurd (true≢false (sym there))
+at_guarantee c xs ys us vs (Some its) None place line e f there differ same at is = absurd (true≢false there)
+at_guarantee c xs ys us vs (Some its) (Some given) place line e f there differ same at is =
+    at_line c xs ys (its.p ∷ its.q ∷ []) (given.p ∷ given.q ∷ []) us vs place line e f same (λ figures. differ (ap Some (factor_is its given figures))) at is
+
+-- those of the guarantee are the given ones too, and those of the stop line differ
+pub at_stop : (c : Certificate) (xs ys gs hs : List (List ℕ)) (place line : ℕ) → figures_of c ≡ xs ++ (gs ++ stop_figures c ∷ [])
+    → figures_of (refigured c) ≡ ys ++ (hs ++ stop_figures (refigured c) ∷ [])
+    → xs ≡ ys → gs ≡ hs → stop_figures c ≢ stop_figures (refigured c) → place ≡ length xs + length gs → line ≡ figures_from c + place → IsFirstFigure c line
+at_stop c xs ys gs hs place line e f same factor differ at is =
+    let s = stop_figures c in
+    let t = stop_figures (refigured c) in
+    at_line c (xs ++ gs) (ys ++ hs) s t [] [] place line (e ∙ sym (append_assoc xs gs (s ∷ []))) (f ∙ sym (append_assoc ys hs (t ∷ [])))
+    (ap₂ (λ (a b : List (List ℕ)). a ++ b) same factor) differ (at ∙ sym (length-append xs gs)) is
+
 -- all figures are the given ones
-pub as_given : (c : Certificate) (xs ys : List (List ℕ)) → figures_of c ≡ xs ++ stop_figures c ∷ []
-    → figures_of (refigured c) ≡ ys ++ stop_figures (refigured c) ∷ []
-    → xs ≡ ys → stop_figures c ≡ stop_figures (refigured c) → HasItsFigures c
-as_given c xs ys e f same stop = e ∙ ap₂ (λ zs s. zs ++ s ∷ []) same stop ∙ sym f
+pub as_given : (c : Certificate) (xs ys gs hs : List (List ℕ)) → figures_of c ≡ xs ++ (gs ++ stop_figures c ∷ [])
+    → figures_of (refigured c) ≡ ys ++ (hs ++ stop_figures (refigured c) ∷ [])
+    → xs ≡ ys → gs ≡ hs → stop_figures c ≡ stop_figures (refigured c) → HasItsFigures c
+as_given c xs ys gs hs e f same factor stop =
+    let all : List (List ℕ) → List (List ℕ) → List ℕ → List (List ℕ) = λ zs fs s. zs ++ (fs ++ s ∷ []) in
+    e ∙ ap (λ zs. all zs gs (stop_figures c)) same ∙ ap₂ (all ys) factor stop ∙ sym f
+
+-- a certificate says a factor exactly where its accesses give one
+pub factors_there : (c : Certificate) → IsCertificate c → is_some (guaranteed c) ≡ is_some (guaranteed (refigured c))
+factors_there c is =
+    seen_there c.guarantee ∙ is.guaranteed
+    ∙ sym (ap is_some (factor_again (given_factor c)) ∙ there_by c.query.algorithm (value c.query.expr) (list_count c.query.expr) c.accesses (item_objects c.items))
+  where
+    seen_there : (o : Option Guarantee) → is_some (option_map factor_of o) ≡ is_some o
+    seen_there None = refl
+    seen_there (Some g) = refl
+
+-- what a guarantee is as a factor, and back
+factor_back : (o : Option Guarantee) → option_map guarantee_of (option_map factor_of o) ≡ o
+factor_back None = refl
+factor_back (Some g) = refl
+
+pub factors_same : (c : Certificate) (given : Option Guarantee) → option_map factor_of given ≡ given_factor c
+    → c.guarantee ≡ given ↔ guaranteed c ≡ guaranteed (refigured c)
+factors_same c given is = (
+  λ e. ap (option_map factor_of) e ∙ is ∙ sym (factor_again (given_factor c)),
+  λ e. sym (factor_back c.guarantee) ∙ ap (option_map guarantee_of) (e ∙ factor_again (given_factor c) ∙ sym is) ∙ factor_back given,
+)

@@ -1,5 +1,5 @@
 -- What is told of a certificate, from what its parts give.
-use Rattle.std.proofs.Common.{◌≡◌, ℕ, ◌+◌, ◌<◌, ◌≤◌, ◌==◌, ◌&&◌, Bool, true, false, cond, List, [], ◌∷◌, ◌++◌, length, map, take, Contains, Some, slice_get, Result, Ok, Err, IfOk, sym, ap, subst, ◌∙◌, arith, length-append, codes}
+use Rattle.std.proofs.Common.{◌≡◌, ℕ, ◌+◌, ◌<◌, ◌≤◌, ◌==◌, ◌&&◌, Bool, true, false, cond, List, [], ◌∷◌, ◌++◌, length, map, take, Contains, Option, None, Some, slice_get, Result, Ok, Err, IfOk, sym, ap, subst, ◌∙◌, arith, length-append, codes}
 use Rattle.std.specs.List.{onto_first}
 use Rattle.std.specs.Global.{Vec}
 use Rattle.std.proofs.lemmas.List.{map-append, length-map}
@@ -13,19 +13,20 @@ use Rattle.topk_theory.proofs.AgreementLists.{front_next, member_of_all}
 use Rattle.access_log.specs.Log.{Log, IsConsistent}
 use Rattle.query_text.specs.Bytes.{bytes_of}
 use Rattle.cert_text.specs.declared.certificate.Certificate.{Certificate}
-use Rattle.cert_text.specs.Certificate.{version_lines, answer_line, access_line, access_lines, stop_line}
+use Rattle.theta_theory.specs.Within.{Factor}
+use Rattle.cert_text.specs.Certificate.{version_lines, answer_line, guarantee_lines, guaranteed, access_line, access_lines, stop_line}
 use Rattle.cert_text.specs.Reading.{Spells, IsReadAs, IsCause}
 use Rattle.cert_text.specs.declared.fault.CertFault.{CertFault}
 use Rattle.cert_text.specs.declared.fault.CertFault.TheVariants as cert_fault
 use Rattle.judge_core.specs.declared.verdict.Verdict.{Verdict}
 use Rattle.judge_core.specs.declared.verdict.Verdict.TheVariants as verdict
 use Rattle.judge_core.specs.declared.verdict.JudgeFault.{JudgeFault}
-use Rattle.judge_core.specs.Judging.{Judges}
+use Rattle.judge_core.specs.Judging.{IsFair}
 use Rattle.memory.specs.declared.Memory.{Memory}
 use Rattle.cert_judge.specs.declared.judgement.Judgement.{Judgement}
 use Rattle.cert_judge.specs.declared.judgement.Judgement.TheVariants.{BadLine, Inconsistent, WildGuess, WrongSize, UnseenAnswer, Figure, Fixes, Beaten}
 use Rattle.cert_judge.specs.Transcripts.{log_of}
-use Rattle.cert_judge.specs.Judging.{IsJudged, TellsOfCertificate, TellsOfIts, Tells}
+use Rattle.cert_judge.specs.Judging.{JudgesBy, IsJudged, TellsOfCertificate, TellsOfIts, Tells}
 
 -- one name more
 pub copied_more : (copied after : List (Vec ℕ)) (bytes : Vec ℕ) (names : List (List ℕ)) (i : ℕ) (name : List ℕ) → bytes_of copied ≡ take i names
@@ -47,16 +48,34 @@ objects_few items objects most e few = omega (arith, ap length e, length-map ite
 
 -- what the judge says of a certificate's transcript and answer
 pub judged_as : (c : Certificate) (log : Log) (Y : List ℕ) (r : Result Verdict JudgeFault) → log ≡ log_of c → Y ≡ item_objects c.items → IsConsistent log
-    → Judges (value c.query.expr) c.query.k log Y r → IsJudged c r
+    → JudgesBy (guaranteed c) (value c.query.expr) c.query.k log Y r → IsJudged c r
 judged_as c log Y r made objects some h = record {
   consistent = subst IsConsistent made some;
-  judged = subst (λ ys. Judges (value c.query.expr) c.query.k (log_of c) ys r) objects (subst (λ l. Judges (value c.query.expr) c.query.k l Y r) made h);
+  judged = subst (λ ys. JudgesBy (guaranteed c) (value c.query.expr) c.query.k (log_of c) ys r) objects (subst (λ l. JudgesBy (guaranteed c) (value c.query.expr) c.query.k l Y r) made h);
 }
+
+-- a question with a verdict is fair
+fair_by : (o : Option Factor) (V : List ℕ → ℕ) (k : ℕ) (log : Log) (Y : List ℕ) (v : Verdict) → JudgesBy o V k log Y (Ok v) → IsFair k log.accesses Y
+fair_by None V k log Y verdict.Fixes h = h.0
+fair_by None V k log Y (verdict.Beaten inside outside low high) h = h.0
+fair_by (Some factor) V k log Y verdict.Fixes h = h.0
+fair_by (Some factor) V k log Y (verdict.Beaten inside outside low high) h = h.0
+
+pub fair_of : (c : Certificate) (v : Verdict) → IsJudged c (Ok v) → IsFair c.query.k c.accesses (item_objects c.items)
+fair_of c v h = fair_by (guaranteed c) (value c.query.expr) c.query.k (log_of c) (item_objects c.items) v h.judged
+
+-- the object inside is in the answer
+inside_by : (o : Option Factor) (V : List ℕ → ℕ) (k : ℕ) (log : Log) (Y : List ℕ) (inside outside low high : ℕ)
+    → JudgesBy o V k log Y (Ok (verdict.Beaten inside outside low high)) → Contains Y inside
+inside_by None V k log Y inside outside low high h = h.1.least.is_one
+inside_by (Some factor) V k log Y inside outside low high h = h.1.least.is_one
 
 -- the object inside is seen
 pub seen_inside : (c : Certificate) (inside outside low high : ℕ) → IsJudged c (Ok (verdict.Beaten inside outside low high))
     → Contains (seen_objects c.accesses) inside
-seen_inside c inside outside low high h = member_of_all (Contains (seen_objects c.accesses)) (item_objects c.items) inside h.judged.0.seen h.judged.1.least.is_one
+seen_inside c inside outside low high h =
+    member_of_all (Contains (seen_objects c.accesses)) (item_objects c.items) inside (fair_of c (verdict.Beaten inside outside low high) h).seen
+    (inside_by (guaranteed c) (value c.query.expr) c.query.k (log_of c) (item_objects c.items) inside outside low high h.judged)
 
 -- a text has no more lines than bytes
 onto_short : (byte : ℕ) (ls : List (List ℕ)) → length (onto_first byte ls) ≤ length ls + 1
@@ -82,10 +101,13 @@ few_accesses bytes c spells =
     let stop = stop_line c.depth c.sorted c.random c.cost in
     let accesses : length (access_lines c.query.names c.accesses) ≡ length c.accesses + 1 =
     length-append (map (access_line c.query.names) c.accesses) (codes "end" ∷ []) ∙ ap (λ n. n + 1) (length-map c.accesses (access_line c.query.names)) in
-    let answer = map answer_line c.items ++ stop ∷ access_lines c.query.names c.accesses in
+    let stopped = stop ∷ access_lines c.query.names c.accesses in
+    let ending = guarantee_lines (guaranteed c) ++ stopped in
+    let answer = map answer_line c.items ++ ending in
     let versions = length-append (version_lines c.query.names c.versions) answer in
-    let rest = length-append (map answer_line c.items) (stop ∷ access_lines c.query.names c.accesses) in
-    omega (arith, lines_short bytes, ap length spells.spelled, versions, rest, accesses)
+    let rest = length-append (map answer_line c.items) ending in
+    let behind = length-append (guarantee_lines (guaranteed c)) stopped in
+    omega (arith, lines_short bytes, ap length spells.spelled, versions, rest, behind, accesses)
 
 -- what is told of the certificate that the lines spell is told of the lines
 tells_from : (ls : List (List ℕ)) (c : Certificate) (told : Judgement) → Spells ls c → ((d : Certificate) → Spells ls d → d ≡ c) → TellsOfCertificate c told

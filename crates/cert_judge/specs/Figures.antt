@@ -1,18 +1,24 @@
 -- The figures of a certificate, and those that its accesses give.
-use Rattle.std.specs.Prelude.{◌≡◌, ◌≢◌, ◌≤◌, ◌<◌, ◌+◌, ◌-◌, ◌==◌, ℕ, Bool, not, List, [], ◌∷◌, ◌++◌, length, map, take, slice_get, Option, Some, None}
+use Rattle.std.specs.Prelude.{◌≡◌, ◌≢◌, ◌≤◌, ◌<◌, ◌+◌, ◌-◌, ◌==◌, ℕ, Bool, not, List, [], ◌∷◌, ◌++◌, length, map, take, slice_get, Option, Some, None, option_map}
 use Rattle.ranked_list.specs.declared.item.Item.{Item}
 use Rattle.monotone_fn.specs.Shape.{list_count}
 use Rattle.monotone_fn.specs.Value.{value}
 use Rattle.topk_theory.specs.Bounds.{bounded}
 use Rattle.topk_theory.specs.Threshold.{item_objects}
 use Rattle.topk_theory.specs.Transcript.{depth, sorted_count, random_count, cost}
+use Rattle.theta_theory.specs.Within.{Factor}
+use Rattle.guarantee.specs.Guarantee.{guarantee_of, guarantee_by}
 use Rattle.cert_text.specs.declared.certificate.Certificate.{Certificate}
-use Rattle.cert_text.specs.Certificate.{version_lines}
+use Rattle.cert_text.specs.Certificate.{version_lines, guaranteed}
 use Rattle.query_text.specs.Costs.{costs_in_force}
 
--- the figures of the line of an object of the answer, and those of the stop line
+-- the figures of the line of an object of the answer, those of the line of a guarantee that may be there, and those of the stop line
 abbrev pub item_figures : Item → List ℕ
 item_figures item = item.low ∷ item.high ∷ []
+
+abbrev pub guarantee_figures : Option Factor → List (List ℕ)
+guarantee_figures None = []
+guarantee_figures (Some factor) = (factor.p ∷ factor.q ∷ []) ∷ []
 
 abbrev pub stop_figures : Certificate → List ℕ
 stop_figures c = c.depth ∷ c.sorted ∷ c.random ∷ c.cost ∷ []
@@ -27,12 +33,17 @@ figures_from c = 4 + length (version_lines c.query.names c.versions)
 
 -- the figures on the lines of a certificate from there on
 abbrev pub figures_of : Certificate → List (List ℕ)
-figures_of c = map item_figures c.items ++ stop_figures c ∷ []
+figures_of c = map item_figures c.items ++ (guarantee_figures (guaranteed c) ++ stop_figures c ∷ [])
+
+-- the factor that its accesses give
+abbrev pub given_factor : Certificate → Option Factor
+given_factor c = guarantee_by c.query.algorithm (value c.query.expr) (list_count c.query.expr) c.accesses (item_objects c.items)
 
 -- the certificate with the figures that its accesses give
 abbrev pub refigured : Certificate → Certificate
 refigured c = record c {
   items = map (bounded (value c.query.expr) (list_count c.query.expr) c.accesses) (item_objects c.items);
+  guarantee = option_map guarantee_of (given_factor c);
   depth = depth (list_count c.query.expr) c.accesses;
   sorted = sorted_count c.accesses;
   random = random_count c.accesses;

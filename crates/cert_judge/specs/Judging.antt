@@ -1,29 +1,37 @@
 -- What is told of a text that may be a certificate.
-use Rattle.std.specs.Prelude.{◌≡◌, ℕ, List, Result, Ok, Err}
+use Rattle.std.specs.Prelude.{◌≡◌, ℕ, List, Option, None, Some, Result, Ok, Err}
 use Rattle.bundle_text.specs.declared.bundle.Bundle.{Bundle}
 use Rattle.bundle_text.specs.Bundle.{content}
 use Rattle.monotone_fn.specs.Value.{value}
 use Rattle.monotone_fn.specs.Shape.{list_count}
 use Rattle.topk_theory.specs.Adversary.{counter_table}
 use Rattle.topk_theory.specs.Threshold.{item_objects}
-use Rattle.access_log.specs.Log.{IsConsistent}
+use Rattle.theta_theory.specs.Within.{Factor}
+use Rattle.access_log.specs.Log.{Log, IsConsistent}
 use Rattle.query_text.specs.Query.{printed}
 use Rattle.cert_text.specs.declared.certificate.Certificate.{Certificate}
+use Rattle.cert_text.specs.Certificate.{guaranteed}
 use Rattle.cert_text.specs.Reading.{Spells, IsFirstFault}
 use Rattle.judge_core.specs.declared.verdict.Verdict.{Verdict}
 use Rattle.judge_core.specs.declared.verdict.Verdict.TheVariants as verdict
 use Rattle.judge_core.specs.declared.verdict.JudgeFault.{JudgeFault}
 use Rattle.judge_core.specs.declared.verdict.JudgeFault.TheVariants as fault
 use Rattle.judge_core.specs.Judging.{Judges, IsFair}
+use Rattle.judge_core.specs.JudgingWithin.{JudgesWithin}
 use Rattle.cert_judge.specs.declared.judgement.Judgement.{Judgement}
 use Rattle.cert_judge.specs.declared.judgement.Judgement.TheVariants.{BadLine, Inconsistent, WildGuess, WrongSize, UnseenAnswer, Figure, Fixes, Beaten}
 use Rattle.cert_judge.specs.Transcripts.{log_of, IsFirstInconsistent}
 use Rattle.cert_judge.specs.Figures.{HasItsFigures, IsFirstFigure}
 
--- some table agrees with the certificate's accesses, and this is the judge's word on its answer
+-- the judge's word on the answer Y: whether it is fixed, or fixed to be within a factor, where there is one
+abbrev pub JudgesBy : Option Factor → (List ℕ → ℕ) → ℕ → Log → List ℕ → Result Verdict JudgeFault → Type 0
+JudgesBy None V k log Y result = Judges V k log Y result
+JudgesBy (Some factor) V k log Y result = JudgesWithin V k factor log Y result
+
+-- some table agrees with the certificate's accesses, and this is the judge's word on its answer, within the factor that it says
 pub record IsJudged (c : Certificate) (result : Result Verdict JudgeFault) : Type 0 where
   pub consistent : IsConsistent (log_of c)
-  pub judged : Judges (value c.query.expr) c.query.k (log_of c) (item_objects c.items) result
+  pub judged : JudgesBy (guaranteed c) (value c.query.expr) c.query.k (log_of c) (item_objects c.items) result
 
 -- the bundle is the table against the object inside, under the query's names and with its text
 pub record IsCounterOf (c : Certificate) (inside : ℕ) (counter : Bundle) : Type 0 where

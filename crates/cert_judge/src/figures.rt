@@ -1,16 +1,18 @@
 //! The figures of a certificate, against those that its accesses give.
 
-ghost use Rattle.std.specs.Prelude.{◌≡◌, ◌<◌, ◌≤◌, ◌^◌, ◌==◌, ◌&&◌, ◌↔◌, length, map, filter, MatchOption, IsTrue};
+ghost use Rattle.std.specs.Prelude.{◌≡◌, ◌<◌, ◌≤◌, ◌^◌, ◌==◌, ◌&&◌, ◌↔◌, length, map, filter, MatchOption, IsTrue, Option};
+ghost use Rattle.guarantee.specs.declared.factor.Guarantee.{Guarantee};
 ghost use Rattle.monotone_fn.specs.Shape.{list_count};
 ghost use Rattle.monotone_fn.specs.Value.{value};
 ghost use Rattle.topk_theory.specs.Bounds.{low, high, bounded};
 ghost use Rattle.topk_theory.specs.Threshold.{item_objects};
-ghost use Rattle.cert_text.specs.Certificate.{IsCertificate};
+ghost use Rattle.cert_text.specs.Certificate.{IsCertificate, guaranteed};
 ghost use Rattle.cert_judge.specs.Transcripts.{log_of};
-ghost use Rattle.cert_judge.specs.Figures.{item_figures, stop_figures, figures_from, has_line, refigured, FirstOf, HasItsFigures, IsFirstFigure};
+ghost use Rattle.cert_judge.specs.Figures.{item_figures, guarantee_figures, stop_figures, figures_from, has_line, refigured, FirstOf, HasItsFigures, IsFirstFigure};
 
 use access_log::{Item, Transcript};
 use cert_text::{Certificate, depth_of};
+use guarantee::{Guarantee, guarantee};
 use monotone_fn::Expr;
 use ranked_list::Items;
 
@@ -58,6 +60,35 @@ fn first_item(transcript: &Transcript, expr: &Expr, items: &Items) -> Option<u32
     None
 }
 
+/// Whether one factor that may be there is another.
+fn is_same(own: Option<Guarantee>, given: Option<Guarantee>) -> bool
+    ensures { IsTrue result ↔ ◌≡◌ {A = Option Guarantee} own given }
+{
+    own == given
+}
+
+/// Whether the guarantee is the one that the accesses give.
+fn guarantees_so(certificate: &Certificate, transcript: &Transcript) -> bool
+    requires made { transcript.now ≡ log_of certificate.now }
+    ensures { IsTrue result ↔ (guaranteed certificate.now ≡ guaranteed (refigured certificate.now)) }
+{
+    let query = &certificate.query;
+    let items = certificate.items.iter().as_slice();
+    let given = guarantee(query.algorithm, transcript, &query.expr, items);
+    is_same(certificate.guarantee, given)
+}
+
+/// How many lines a certificate has of its guarantee: 0 or 1.
+fn lines_of_guarantee(certificate: &Certificate) -> u64
+    ensures lines { result ≡ length (guarantee_figures (guaranteed certificate.now)) }
+    ensures few { result ≤ 1 }
+{
+    match certificate.guarantee {
+        Some(_) => 1,
+        None => 0,
+    }
+}
+
 /// Whether the figures of the stop line are those that the accesses give.
 fn stops_so(certificate: &Certificate, transcript: &Transcript) -> bool
     requires certificate { IsCertificate certificate.now }
@@ -84,8 +115,12 @@ pub(crate) fn first_figure(certificate: &Certificate, transcript: &Transcript) -
     if let Some(place) = first_item(transcript, &certificate.query.expr, items) {
         return Some(first + u64::from(place));
     }
+    let behind = first + u64::from(items.len());
+    if !guarantees_so(certificate, transcript) {
+        return Some(behind);
+    }
     if stops_so(certificate, transcript) {
         return None;
     }
-    Some(first + u64::from(items.len()))
+    Some(behind + lines_of_guarantee(certificate))
 }

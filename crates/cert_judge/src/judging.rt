@@ -4,9 +4,11 @@ ghost use Rattle.std.specs.Prelude.{◌≡◌, ◌<◌, ◌^◌, length, IfOk, O
 ghost use Rattle.line_text.specs.Lines.{lines};
 ghost use Rattle.topk_theory.specs.Threshold.{item_objects};
 ghost use Rattle.access_log.specs.Log.{IsConsistent};
-ghost use Rattle.cert_text.specs.Certificate.{IsCertificate};
+ghost use Rattle.monotone_fn.specs.Shape.{list_count};
+ghost use Rattle.monotone_fn.specs.Value.{value};
+ghost use Rattle.cert_text.specs.Certificate.{IsCertificate, guaranteed};
 ghost use Rattle.cert_judge.specs.Transcripts.{log_of};
-ghost use Rattle.cert_judge.specs.Judging.{IsJudged, TellsOfCertificate, Tells};
+ghost use Rattle.cert_judge.specs.Judging.{JudgesBy, IsJudged, TellsOfCertificate, Tells};
 
 use super::Memory;
 use super::counter::counter_of;
@@ -15,7 +17,7 @@ use super::judgement::Judgement;
 use super::transcript::transcript_of;
 use access_log::{PushFault, Transcript};
 use cert_text::{CertFault, Certificate, read_certificate};
-use judge_core::{JudgeFault, Verdict, judge};
+use judge_core::{JudgeFault, Verdict, judge, judge_within};
 use ranked_list::Items;
 use std::alloc::Global;
 
@@ -69,6 +71,25 @@ fn told_fair(
     }
 }
 
+/// The judge's word on an answer, within the factor that the certificate says, where it says one.
+fn verdict_on(
+    alloc: Global,
+    certificate: &Certificate,
+    transcript: &Transcript,
+    answer: &[u32],
+) -> Result<Verdict, JudgeFault>
+    requires lists { list_count certificate.now.query.expr ≡ transcript.now.lists }
+    requires size { length answer.now < 2 ^ 32 }
+    ensures { JudgesBy (guaranteed certificate.now) (value certificate.now.query.expr) certificate.now.query.k
+        transcript.now answer.now result }
+{
+    let (expr, k) = (&certificate.query.expr, certificate.query.k);
+    match certificate.guarantee {
+        Some(factor) => judge_within(alloc, transcript, expr, k, answer, factor.p, factor.q),
+        None => judge(alloc, transcript, expr, k, answer),
+    }
+}
+
 /// What is told of a certificate with which some table agrees.
 fn told_over(
     alloc: Global,
@@ -84,8 +105,7 @@ fn told_over(
     let Ok(answer) = objects_of(alloc, &certificate.items) else {
         return Err(Memory);
     };
-    let query = &certificate.query;
-    match judge(alloc, transcript, &query.expr, query.k, &answer) {
+    match verdict_on(alloc, certificate, transcript, &answer) {
         Ok(verdict) => told_fair(alloc, certificate, transcript, verdict),
         Err(JudgeFault::WildGuess { at }) => Ok(Judgement::WildGuess { at }),
         Err(JudgeFault::WrongSize { given, k }) => Ok(Judgement::WrongSize { given, k }),

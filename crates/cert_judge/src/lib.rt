@@ -1,4 +1,5 @@
-//! Certificates, judged: what is told of the text of one, and the text of that.
+//! Certificates, judged: what is told of the text of one, and the text of that. One that says within which factor of the
+//! best its answer is is judged within that.
 //!
 //! ```text
 //! fixes

@@ -1,5 +1,5 @@
 -- There is a query, and so there is a certificate.
-use Rattle.std.proofs.Common.{◌≡◌, ℕ, ◌<◌, ◌≤◌, List, [], ◌∷◌, length, codes, None, Ok, refl, sym, subst, arith}
+use Rattle.std.proofs.Common.{◌≡◌, ℕ, ◌<◌, ◌≤◌, List, [], ◌∷◌, length, codes, None, Ok, false, refl, sym, subst, arith}
 use Rattle.std.specs.List.{Contains}
 use Rattle.std.proofs.lemmas.List.Elements.{All-nil, All-cons}
 use Rattle.line_text.specs.Names.{IsName}
@@ -10,12 +10,12 @@ use Rattle.query_text.specs.Query.{printed, IsLawful}
 use Rattle.query_text.specs.Reading.{Reads}
 use Rattle.query_text.specs.declared.query.Query.{Query}
 use Rattle.query_text.specs.declared.algorithm.Algorithm.TheVariants.{Ta}
-use Rattle.cert_text.specs.Certificate.{number_line, query_line, count_line, stop_line}
+use Rattle.cert_text.specs.Certificate.{number_line, query_line, count_line}
 use Rattle.cert_text.specs.Judging.{Leads, Found, SpellsQueried}
 use Rattle.cert_text.specs.Reading.{Spells}
 use Rattle.cert_text.proofs.LineLaws.{number_in-line}
 use Rattle.query_text.proofs.LengthLaws.{length-printed}
-use Rattle.cert_text.proofs.SpellLaws.{nothing, unversioned, whole, counted_spelled, steps_number}
+use Rattle.cert_text.proofs.SpellLaws.{nothing, nothing_lines, unversioned, whole, counted_spelled, steps_number}
 use Rattle.limits.specs.declared.TheConstants.{MAX_VALUE}
 
 -- the best object of one list
@@ -31,6 +31,7 @@ example_lawful = record {
   listed = All-cons (λ list. list < length (codes "A" ∷ [])) 0 [] (omega arith) (All-nil (λ list. list < length (codes "A" ∷ [])));
   numbered = refl;
   weights = tt;
+  algorithm = tt;
   cost = tt;
   room = tt;
 }
@@ -51,17 +52,17 @@ example_reads : Reads (printed example) (Ok example)
 example_reads = (record { short = length-printed example example_lawful example_expr; lawful = example_lawful; text = refl }, example_expr)
 
 example_lines : List (List ℕ)
-example_lines = query_line example ∷ count_line 1 ∷ stop_line 0 0 0 0 ∷ codes "end" ∷ []
+example_lines = query_line example ∷ count_line 1 ∷ nothing_lines false
 
-example_spelled : SpellsQueried example_lines (example, 1, unversioned example.names, nothing)
+example_spelled : SpellsQueried example_lines (example, 1, unversioned example.names, nothing false)
 unfolding example_lines
-example_spelled = record { rest = count_line 1 ∷ stop_line 0 0 0 0 ∷ codes "end" ∷ []; first = refl; query = example_reads; counted = counted_spelled (codes "A" ∷ []) }
+example_spelled = record { rest = count_line 1 ∷ nothing_lines false; first = refl; query = example_reads; counted = counted_spelled false (codes "A" ∷ []) }
 
 pub queried_some : Leads SpellsQueried []
-queried_some = (example_lines, ((example, 1, unversioned example.names, nothing), example_spelled))
+queried_some = (example_lines, ((example, 1, unversioned example.names, nothing false), example_spelled))
 
 pub spells_some : Leads Spells []
 spells_some =
     let steps = steps_number (number_line 1) 1 (number_in-line 1 (omega arith) (omega arith)) in
-    let queried : Query × ℕ × List ℕ × Found = (example, 1, unversioned example.names, nothing) in
+    let queried : Query × ℕ × List ℕ × Found = (example, 1, unversioned example.names, nothing false) in
     (number_line 1 ∷ example_lines, (whole 1 queried, steps.adds example_lines queried example_spelled))

@@ -11,10 +11,13 @@ use Rattle.ranked_list.specs.declared.item.Item.{Item}
 use Rattle.topk_theory.specs.declared.access.Access.{Access}
 use Rattle.topk_theory.specs.declared.access.Access.TheVariants.{Sorted, Random}
 use Rattle.query_text.specs.Query.{name_of}
+use Rattle.theta_theory.specs.Within.{Factor}
+use Rattle.guarantee.specs.declared.factor.Guarantee.{Guarantee}
+use Rattle.guarantee.specs.Guarantee.{factor_of}
 use Rattle.cert_text.specs.declared.parts.Figures.{Figures}
-use Rattle.cert_text.specs.Certificate.{number_line, count_line, version_line, answer_line, stop_line, access_line, IsItem, IsAccess}
+use Rattle.cert_text.specs.Certificate.{number_line, count_line, version_line, answer_line, guarantee_line, stop_line, access_line, IsItem, IsGuarantee, IsAccess}
 use Rattle.cert_text.specs.Judging.{AreNames, AreFigures}
-use Rattle.cert_text.specs.Parts.{◌>>=◌, number_within, number_before, number_in, count_in, version_in, item_in, figures_in, list_named, row_in, access_or, access_in, top_32, top_64}
+use Rattle.cert_text.specs.Parts.{◌>>=◌, number_within, number_before, number_in, count_in, version_in, item_in, guarantee_in, figures_in, list_named, row_in, access_or, access_in, top_32, top_64}
 use Rattle.cert_text.proofs.PartLaws.{NoSpace, bind_some, within-decimal, within-some, before-decimal, before-some, list_named-name_of, list_named-some, name_of_spaceless}
 
 pub number_in-line : (n : ℕ) → 1 ≤ n → n < 2 ^ 63 → number_in (number_line n) ≡ Some n
@@ -156,6 +159,48 @@ item_in-some line item h =
           ∙ ap (λ t. codes "answer " ++ t) (first.text_is ∙ ap (λ t. decimal object.0.0 ++ 32 ∷ t) (second.text_is ∙ ap (λ t. decimal low.0.0 ++ 32 ∷ t) (decimal-up_to top_64 high.0 low.0.1 (omega arith) high.1)));
       fits = record { object = omega (arith, first.high); low = omega (arith, second.high); high = omega (arith, third.1) };
     }
+
+pub guarantee_in-line : (g : Guarantee) → IsGuarantee g → guarantee_in (guarantee_line (factor_of g)) ≡ Some g
+unfolding guarantee_in
+guarantee_in-line g is =
+    rw (
+      before-decimal top_64 g.p (decimal g.q) (omega (arith, is.p)) (omega arith),
+      up_to-decimal top_64 g.q (omega (arith, is.q)) (omega arith),
+    ) refl
+
+pub record IsGuaranteeLine (line : List ℕ) (g : Guarantee) : Type 0 where
+  pub line_is : line ≡ guarantee_line (factor_of g)
+  pub fits : IsGuarantee g
+
+pub guarantee_in-some : (line : List ℕ) (g : Guarantee) → guarantee_in line ≡ Some g → IsGuaranteeLine line g
+unfolding guarantee_in
+guarantee_in-some line g h =
+    let word = bind_some (rest_after (codes "guarantee ") line) (λ text. do
+      p ← number_before top_64 text
+      q ← number_up_to top_64 p.1
+      Some (record { p = p.0; q = q })) g h in
+    let p = bind_some (number_before top_64 word.0) (λ p. do
+      q ← number_up_to top_64 p.1
+      Some (record { p = p.0; q = q })) g word.2 in
+    let q = bind_some (number_up_to top_64 p.0.1) (λ q. Some (record { p = p.0.0; q = q })) g p.2 in
+    let read : Guarantee = record { p = p.0.0; q = q.0 } in
+    let is : read ≡ g = same_Some read g q.2 in
+    let first = before-some top_64 word.0 p.0 (omega arith) p.1 in
+    let second = up_to-some top_64 q.0 p.0.1 q.1 in
+    subst (IsGuaranteeLine line) is record {
+      line_is = rest_after-some (codes "guarantee ") line word.0 word.1
+          ∙ ap (λ t. codes "guarantee " ++ t) (first.text_is ∙ ap (λ t. decimal p.0.0 ++ 32 ∷ t) (decimal-up_to top_64 q.0 p.0.1 (omega arith) q.1));
+      fits = record { p = omega (arith, first.high); q = omega (arith, second.1) };
+    }
+
+-- the line of a guarantee gives no version, and is no object of the answer
+pub version_in-guarantee : (name : List ℕ) (factor : Factor) → version_in name (guarantee_line factor) ≡ None
+unfolding version_in
+version_in-guarantee name factor = refl
+
+pub item_in-guarantee : (factor : Factor) → item_in (guarantee_line factor) ≡ None
+unfolding item_in
+item_in-guarantee factor = refl
 
 pub figures_in-line : (f : Figures) → AreFigures f → figures_in (stop_line f.depth f.sorted f.random f.cost) ≡ Some f
 unfolding figures_in
@@ -381,8 +426,3 @@ access_in-end names = refl
 pub item_in-stop : (depth sorted random cost : ℕ) → item_in (stop_line depth sorted random cost) ≡ None
 unfolding item_in
 item_in-stop depth sorted random cost = refl
-
--- and the line of an object of the answer is no line of figures
-pub figures_in-answer : (item : Item) → figures_in (answer_line item) ≡ None
-unfolding figures_in
-figures_in-answer item = refl

@@ -1,19 +1,23 @@
 -- Each line of a certificate, judged before the lines that follow it.
-use Rattle.std.proofs.Common.{◌≡◌, ◌≢◌, ◌<◌, ◌^◌, ℕ, List, [], ◌∷◌, ◌++◌, length, map, codes, All, Some, None, refl, sym, ap, subst, ◌∙◌, arith, ◌+◌, append-nil, append_assoc}
+use Rattle.std.proofs.Common.{◌≡◌, ◌≢◌, ◌<◌, ◌^◌, ℕ, Bool, true, false, Option, option_map, List, [], ◌∷◌, ◌++◌, length, map, take, codes, All, Some, None, refl, sym, ap, subst, ◌∙◌, arith, ◌+◌, append-nil, append_assoc}
+use Rattle.std.proofs.lemmas.Bool.{true≢false}
 use Rattle.std.proofs.lemmas.Option.{same_Some}
 use Rattle.std.proofs.lemmas.List.{length-map}
 use Rattle.std.proofs.lemmas.List.Elements.{All-nil, All-cons, All-head, All-tail, All-weaker}
 use Rattle.ranked_list.specs.declared.item.Item.{Item}
 use Rattle.topk_theory.specs.declared.access.Access.{Access}
 use Rattle.query_text.specs.declared.query.Query.{Query}
+use Rattle.guarantee.specs.declared.factor.Guarantee.{Guarantee}
+use Rattle.guarantee.specs.Guarantee.{factor_of, has_guarantee}
+use Rattle.theta_theory.specs.Within.{Factor}
 use Rattle.cert_text.specs.declared.certificate.Certificate.{Certificate}
 use Rattle.cert_text.specs.declared.parts.Figures.{Figures}
-use Rattle.cert_text.specs.Certificate.{number_line, query_line, count_line, version_lines, answer_line, stop_line, access_line, access_lines, IsItem, IsAccess}
-use Rattle.cert_text.specs.Parts.{number_in, count_in, item_in, figures_in, access_in}
-use Rattle.cert_text.specs.Judging.{Leads, AreNames, Found, FindsQuery, SpellsNone, SpellsAccesses, SpellsFound, SpellsVersioned, SpellsCounted, SpellsQueried}
+use Rattle.cert_text.specs.Certificate.{number_line, query_line, count_line, version_lines, answer_line, guarantee_line, guarantee_lines, guaranteed, stop_line, access_line, access_lines, IsItem, IsAccess}
+use Rattle.cert_text.specs.Parts.{number_in, count_in, item_in, guarantee_in, figures_in, access_in}
+use Rattle.cert_text.specs.Judging.{Leads, AreNames, Found, FindsQuery, SpellsNone, SpellsAccesses, SpellsStopped, SpellsEnding, SpellsFound, SpellsVersioned, SpellsCounted, SpellsQueried}
 use Rattle.cert_text.specs.Reading.{Spells}
-use Rattle.cert_text.proofs.LineLaws.{number_in-line, number_in-some, count_in-line, count_in-some, item_in-line, item_in-some, figures_in-line, figures_in-some, access_in-line, access_in-some, access_in-end, item_in-stop, figures_in-answer}
-use Rattle.cert_text.proofs.JudgingLaws.{Steps, Carries, carries_none, carries_more}
+use Rattle.cert_text.proofs.LineLaws.{number_in-line, number_in-some, count_in-line, count_in-some, item_in-line, item_in-some, guarantee_in-line, guarantee_in-some, figures_in-line, figures_in-some, access_in-line, access_in-some, access_in-end, item_in-guarantee, item_in-stop}
+use Rattle.cert_text.proofs.JudgingLaws.{Steps, Aside, Carries, carries_none, carries_more, carries_aside}
 use Rattle.cert_text.proofs.VersionLines.{lines_unversioned}
 
 -- a line that begins the same lines
@@ -87,114 +91,241 @@ accesses_here names line are none other rest (b ∷ bs) spelled =
     let same : access_in names line ≡ access_in names (access_line names b) = ap (access_in names) is in
     absurd cc
 
--- an object of the answer
-
-item_drops : (names : List (List ℕ)) (line : List ℕ) (item : Item) (ls : List (List ℕ)) (items : List Item) (figures : Figures) (accesses : List Access)
-    → item_in line ≡ Some item → SpellsFound names (line ∷ ls) (record { items = items; figures = figures; accesses = accesses })
-    → (x : Found) × SpellsFound names ls x × (record { items = items; figures = figures; accesses = accesses } ≡ record x { items = item ∷ x.items })
-item_drops names line item ls [] figures accesses read spelled =
-    let is : line ≡ stop_line figures.depth figures.sorted figures.random figures.cost = same_line _ _ _ _ spelled.spelled in
-    let none : item_in (stop_line figures.depth figures.sorted figures.random figures.cost) ≡ None = item_in-stop figures.depth figures.sorted figures.random figures.cost in
-    let same : item_in line ≡ item_in (stop_line figures.depth figures.sorted figures.random figures.cost) = ap item_in is in
-    absurd cc
-item_drops names line item ls (b ∷ bs) figures accesses read spelled =
-    let is : line ≡ answer_line b = same_line _ _ _ _ spelled.spelled in
-    let same : b ≡ item = same_Some b item (sym (item_in-line b (All-head IsItem b bs spelled.items)) ∙ ap item_in (sym is) ∙ read) in
-    let with_item : Item → Found = λ i. record { items = i ∷ bs; figures = figures; accesses = accesses } in (
-      record { items = bs; figures = figures; accesses = accesses },
-      record {
-        items = All-tail IsItem b bs spelled.items;
-        figures = spelled.figures;
-        accesses = spelled.accesses;
-        spelled = same_rest _ _ _ _ spelled.spelled;
-      },
-      ap with_item same,
-    )
-
-pub steps_item : (names : List (List ℕ)) (line : List ℕ) (item : Item) → item_in line ≡ Some item
-    → Steps (SpellsFound names) (SpellsFound names) line (λ f. record f { items = item ∷ f.items })
-steps_item names line item read = record {
-  adds = λ ls x spelled.
-      let says = item_in-some line item read in
-      record {
-        items = All-cons IsItem item x.items says.fits spelled.items;
-        figures = spelled.figures;
-        accesses = spelled.accesses;
-        spelled = ap (λ t. t ∷ ls) says.line_is ∙ ap (λ t. answer_line item ∷ t) spelled.spelled;
-      };
-  drops = λ ls y spelled. item_drops names line item ls y.items y.figures y.accesses read spelled;
-}
-
 -- the figures
 
-stop_drops : (names : List (List ℕ)) (line : List ℕ) (f : Figures) (ls : List (List ℕ)) (items : List Item) (figures : Figures) (accesses : List Access)
-    → figures_in line ≡ Some f → SpellsFound names (line ∷ ls) (record { items = items; figures = figures; accesses = accesses })
-    → (x : List Access) × SpellsAccesses names ls x × ◌≡◌ {A = Found} (record { items = items; figures = figures; accesses = accesses }) (record { items = []; figures = f; accesses = x })
-stop_drops names line f ls [] figures accesses read spelled =
+stop_drops : (names : List (List ℕ)) (line : List ℕ) (f : Figures) (ls : List (List ℕ)) (figures : Figures) (accesses : List Access)
+    → figures_in line ≡ Some f → SpellsStopped names (line ∷ ls) (figures, accesses)
+    → (x : List Access) × SpellsAccesses names ls x × ◌≡◌ {A = Figures × List Access} (figures, accesses) (f, x)
+stop_drops names line f ls figures accesses read spelled =
     let is : line ≡ stop_line figures.depth figures.sorted figures.random figures.cost = same_line _ _ _ _ spelled.spelled in
     let same : figures ≡ f = same_Some figures f (sym (figures_in-line figures spelled.figures) ∙ ap figures_in (sym is) ∙ read) in
-    let with_figures : Figures → Found = λ g. record { items = []; figures = g; accesses = accesses } in
+    let with_figures : Figures → Figures × List Access = λ g. (g, accesses) in
     (accesses, (spelled.accesses, same_rest _ _ _ _ spelled.spelled), ap with_figures same)
-stop_drops names line f ls (b ∷ bs) figures accesses read spelled =
-    let is : line ≡ answer_line b = same_line _ _ _ _ spelled.spelled in
-    let none : figures_in (answer_line b) ≡ None = figures_in-answer b in
-    let same : figures_in line ≡ figures_in (answer_line b) = ap figures_in is in
-    absurd cc
 
 pub steps_stop : (names : List (List ℕ)) (line : List ℕ) (f : Figures) → figures_in line ≡ Some f
-    → Steps (SpellsAccesses names) (SpellsFound names) line (λ more. record { items = []; figures = f; accesses = more })
+    → Steps (SpellsAccesses names) (SpellsStopped names) line (λ more. (f, more))
 steps_stop names line f read = record {
   adds = λ ls x spelled.
       let says = figures_in-some line f read in
       record {
-        items = All-nil IsItem;
         figures = says.figures;
         accesses = spelled.0;
         spelled = ap (λ t. t ∷ ls) says.line_is ∙ ap (λ t. stop_line f.depth f.sorted f.random f.cost ∷ t) spelled.1;
       };
-  drops = λ ls y spelled. stop_drops names line f ls y.items y.figures y.accesses read spelled;
+  drops = λ ls y spelled. stop_drops names line f ls y.0 y.1 read spelled;
 }
 
--- an answer of no object, no access and figures of 0
-pub nothing : Found
-nothing = record { items = []; figures = record { depth = 0; sorted = 0; random = 0; cost = 0 }; accesses = [] }
+-- figures of 0, and no access
+abbrev pub no_figures : Figures
+no_figures = record { depth = 0; sorted = 0; random = 0; cost = 0 }
 
-pub nothing_spelled : (names : List (List ℕ)) → SpellsFound names (stop_line 0 0 0 0 ∷ codes "end" ∷ []) nothing
-unfolding nothing
-nothing_spelled names = record {
-  items = All-nil IsItem;
+stopped_nothing : (names : List (List ℕ)) → SpellsStopped names (stop_line 0 0 0 0 ∷ codes "end" ∷ []) (no_figures, [])
+stopped_nothing names = record {
   figures = record { depth = omega arith; sorted = omega arith; random = omega arith; cost = omega arith };
   accesses = All-nil (IsAccess (length names));
   spelled = refl;
 }
 
-pub found_some : (names : List (List ℕ)) → Leads (SpellsFound names) []
-found_some names = (stop_line 0 0 0 0 ∷ codes "end" ∷ [], (nothing, nothing_spelled names))
+pub stopped_some : (names : List (List ℕ)) → Leads (SpellsStopped names) []
+stopped_some names = (stop_line 0 0 0 0 ∷ codes "end" ∷ [], ((no_figures, []), stopped_nothing names))
 
-found_end_by : (names : List (List ℕ)) (items : List Item) (figures : Figures) (accesses : List Access)
-    → [] ≡ map answer_line items ++ stop_line figures.depth figures.sorted figures.random figures.cost ∷ access_lines names accesses → ⊥
-found_end_by names [] figures accesses e = cc
-found_end_by names (b ∷ bs) figures accesses e = cc
+pub stopped_end : (names : List (List ℕ)) (x : Figures × List Access) → SpellsStopped names [] x → ⊥
+stopped_end names x spelled = let e = spelled.spelled in cc
 
-pub found_end : (names : List (List ℕ)) (x : Found) → SpellsFound names [] x → ⊥
-found_end names x spelled = found_end_by names x.items x.figures x.accesses spelled.spelled
-
-found_here_by : (names : List (List ℕ)) (line : List ℕ) (rest : List (List ℕ)) (items : List Item) (figures : Figures) (accesses : List Access)
-    → item_in line ≡ None → figures_in line ≡ None → SpellsFound names (line ∷ rest) (record { items = items; figures = figures; accesses = accesses }) → ⊥
-found_here_by names line rest [] figures accesses no_item no_figures spelled =
-    let is : line ≡ stop_line figures.depth figures.sorted figures.random figures.cost = same_line _ _ _ _ spelled.spelled in
-    let read : figures_in (stop_line figures.depth figures.sorted figures.random figures.cost) ≡ Some figures = figures_in-line figures spelled.figures in
-    let same : figures_in line ≡ figures_in (stop_line figures.depth figures.sorted figures.random figures.cost) = ap figures_in is in
+pub stopped_here : (names : List (List ℕ)) (line : List ℕ) → figures_in line ≡ None
+    → (rest : List (List ℕ)) (x : Figures × List Access) → SpellsStopped names (line ∷ rest) x → ⊥
+stopped_here names line none rest x spelled =
+    let is : line ≡ stop_line x.0.depth x.0.sorted x.0.random x.0.cost = same_line _ _ _ _ spelled.spelled in
+    let read : figures_in (stop_line x.0.depth x.0.sorted x.0.random x.0.cost) ≡ Some x.0 = figures_in-line x.0 spelled.figures in
+    let same : figures_in line ≡ figures_in (stop_line x.0.depth x.0.sorted x.0.random x.0.cost) = ap figures_in is in
     absurd cc
-found_here_by names line rest (b ∷ bs) figures accesses no_item no_figures spelled =
-    let is : line ≡ answer_line b = same_line _ _ _ _ spelled.spelled in
+
+-- the guarantee
+
+guarantee_drops : (names : List (List ℕ)) (line : List ℕ) (g : Guarantee) (ls : List (List ℕ)) (its : Option Guarantee) (figures : Figures) (accesses : List Access)
+    → guarantee_in line ≡ Some g → SpellsEnding true names (line ∷ ls) (its, figures, accesses)
+    → (x : Figures × List Access) × SpellsStopped names ls x × ◌≡◌ {A = Option Guarantee × Figures × List Access} (its, figures, accesses) (Some g, x.0, x.1)
+guarantee_drops names line g ls None figures accesses read spelled = absurd (true≢false (sym spelled.there))
+guarantee_drops names line g ls (Some its) figures accesses read spelled =
+    let is : line ≡ guarantee_line (factor_of its) = same_line _ _ _ _ spelled.first in
+    let rest : ls ≡ spelled.rest = same_rest _ _ _ _ spelled.first in
+    let same : its ≡ g = same_Some its g (sym (guarantee_in-line its spelled.small) ∙ ap guarantee_in (sym is) ∙ read) in
+    let with_guarantee : Guarantee → Option Guarantee × Figures × List Access = λ i. (Some i, figures, accesses) in
+    ((figures, accesses), subst (λ xs. SpellsStopped names xs (figures, accesses)) (sym rest) spelled.stopped, ap with_guarantee same)
+
+pub steps_guarantee : (names : List (List ℕ)) (line : List ℕ) (g : Guarantee) → guarantee_in line ≡ Some g
+    → Steps (SpellsStopped names) (SpellsEnding true names) line (λ stopped. (Some g, stopped.0, stopped.1))
+steps_guarantee names line g read = record {
+  adds = λ ls x spelled.
+      let says = guarantee_in-some line g read in
+      record { rest = ls; first = ap (λ t. t ∷ ls) says.line_is; there = refl; small = says.fits; stopped = spelled };
+  drops = λ ls y spelled. guarantee_drops names line g ls y.0 y.1 y.2 read spelled;
+}
+
+-- where none is wanted there is none
+none_only : (names ls : List (List ℕ)) (its : Option Guarantee) (figures : Figures) (accesses : List Access) → SpellsEnding false names ls (its, figures, accesses)
+    → (x : Figures × List Access) × SpellsStopped names ls x × ◌≡◌ {A = Option Guarantee × Figures × List Access} (its, figures, accesses) (None, x.0, x.1)
+none_only names ls None figures accesses spelled =
+    ((figures, accesses), subst (λ xs. SpellsStopped names xs (figures, accesses)) (sym spelled.first) spelled.stopped, refl)
+none_only names ls (Some its) figures accesses spelled = absurd (true≢false spelled.there)
+
+aside_stopped : (names ls : List (List ℕ)) → Aside (SpellsStopped names) (SpellsEnding false names) ls (λ stopped. (None, stopped.0, stopped.1))
+aside_stopped names ls = record {
+  adds = λ xs x spelled. record { rest = xs; first = refl; there = refl; small = tt; stopped = spelled };
+  drops = λ xs y first spelled. none_only names xs y.0 y.1 y.2 spelled;
+}
+
+-- what is found of the figures is found of what stands behind the objects
+pub carries_stopped : (names ls : List (List ℕ)) → Carries (SpellsStopped names) ls (λ stopped. (None, stopped.0, stopped.1)) 0 (SpellsEnding false names) ls
+carries_stopped names ls =
+    carries_aside (SpellsStopped names) (SpellsEnding false names) (SpellsEnding false names) ls ls (λ stopped. (None, stopped.0, stopped.1)) (λ e. e)
+    (λ stopped. (None, stopped.0, stopped.1)) 0 (aside_stopped names ls) (λ _. refl) (carries_none (SpellsEnding false names) ls)
+
+-- some guarantee, where one is wanted
+abbrev pub nominal : Bool → Option Guarantee
+nominal false = None
+nominal true = Some (record { p = 1; q = 1 })
+
+-- an answer of no object, no access and figures of 0
+abbrev pub nothing : Bool → Found
+nothing wanted = record { items = []; guarantee = nominal wanted; figures = no_figures; accesses = [] }
+
+abbrev pub nothing_lines : Bool → List (List ℕ)
+nothing_lines wanted = guarantee_lines (option_map factor_of (nominal wanted)) ++ stop_line 0 0 0 0 ∷ codes "end" ∷ []
+
+ending_nothing : (wanted : Bool) (names : List (List ℕ)) → SpellsEnding wanted names (nothing_lines wanted) (nominal wanted, no_figures, [])
+ending_nothing false names = record { rest = stop_line 0 0 0 0 ∷ codes "end" ∷ []; first = refl; there = refl; small = tt; stopped = stopped_nothing names }
+ending_nothing true names = record {
+  rest = stop_line 0 0 0 0 ∷ codes "end" ∷ [];
+  first = refl;
+  there = refl;
+  small = record { p = omega arith; q = omega arith };
+  stopped = stopped_nothing names;
+}
+
+pub ending_some : (wanted : Bool) (names : List (List ℕ)) → Leads (SpellsEnding wanted names) []
+ending_some wanted names = (nothing_lines wanted, ((nominal wanted, no_figures, []), ending_nothing wanted names))
+
+ending_end_by : (wanted : Bool) (names : List (List ℕ)) (its : Option Guarantee) (figures : Figures) (accesses : List Access)
+    → SpellsEnding wanted names [] (its, figures, accesses) → ⊥
+ending_end_by wanted names None figures accesses spelled =
+    stopped_end names (figures, accesses) (subst (λ xs. SpellsStopped names xs (figures, accesses)) (sym spelled.first) spelled.stopped)
+ending_end_by wanted names (Some its) figures accesses spelled = let e = spelled.first in cc
+
+pub ending_end : (wanted : Bool) (names : List (List ℕ)) (x : Option Guarantee × Figures × List Access) → SpellsEnding wanted names [] x → ⊥
+ending_end wanted names x spelled = ending_end_by wanted names x.0 x.1 x.2 spelled
+
+ending_here_by : (names : List (List ℕ)) (line : List ℕ) (rest : List (List ℕ)) (its : Option Guarantee) (figures : Figures) (accesses : List Access)
+    → guarantee_in line ≡ None → SpellsEnding true names (line ∷ rest) (its, figures, accesses) → ⊥
+ending_here_by names line rest None figures accesses none spelled = true≢false (sym spelled.there)
+ending_here_by names line rest (Some its) figures accesses none spelled =
+    let is : line ≡ guarantee_line (factor_of its) = same_line _ _ _ _ spelled.first in
+    let read : guarantee_in (guarantee_line (factor_of its)) ≡ Some its = guarantee_in-line its spelled.small in
+    let same : guarantee_in line ≡ guarantee_in (guarantee_line (factor_of its)) = ap guarantee_in is in
+    absurd cc
+
+pub ending_here : (names : List (List ℕ)) (line : List ℕ) → guarantee_in line ≡ None
+    → (rest : List (List ℕ)) (x : Option Guarantee × Figures × List Access) → SpellsEnding true names (line ∷ rest) x → ⊥
+ending_here names line none rest x spelled = ending_here_by names line rest x.0 x.1 x.2 none spelled
+
+-- what holds of each line of a guarantee and of figures holds of the first line behind the objects
+pub ending_first : (P : List ℕ → Type 0) (wanted : Bool) (names : List (List ℕ)) (line : List ℕ) (ls : List (List ℕ)) (its : Option Guarantee)
+    (figures : Figures) (accesses : List Access) → ((factor : Factor) → P (guarantee_line factor))
+    → ((depth sorted random cost : ℕ) → P (stop_line depth sorted random cost)) → SpellsEnding wanted names (line ∷ ls) (its, figures, accesses) → P line
+ending_first P wanted names line ls None figures accesses guarantees stops spelled =
+    let stopped = subst (λ xs. SpellsStopped names xs (figures, accesses)) (sym spelled.first) spelled.stopped in
+    let is : line ≡ stop_line figures.depth figures.sorted figures.random figures.cost = same_line _ _ _ _ stopped.spelled in
+    subst P (sym is) (stops figures.depth figures.sorted figures.random figures.cost)
+ending_first P wanted names line ls (Some its) figures accesses guarantees stops spelled =
+    let is : line ≡ guarantee_line (factor_of its) = same_line _ _ _ _ spelled.first in
+    subst P (sym is) (guarantees (factor_of its))
+
+-- an object of the answer
+
+no_item_first : (wanted : Bool) (names : List (List ℕ)) (line : List ℕ) (ls : List (List ℕ)) (its : Option Guarantee) (figures : Figures)
+    (accesses : List Access) → SpellsEnding wanted names (line ∷ ls) (its, figures, accesses) → item_in line ≡ None
+no_item_first wanted names line ls its figures accesses spelled =
+    ending_first (λ l. item_in l ≡ None) wanted names line ls its figures accesses item_in-guarantee item_in-stop spelled
+
+item_drops : (wanted : Bool) (names : List (List ℕ)) (line : List ℕ) (item : Item) (ls : List (List ℕ)) (items : List Item) (its : Option Guarantee)
+    (figures : Figures) (accesses : List Access)
+    → item_in line ≡ Some item → SpellsFound wanted names (line ∷ ls) (record { items = items; guarantee = its; figures = figures; accesses = accesses })
+    → (x : Found) × SpellsFound wanted names ls x
+    × (record { items = items; guarantee = its; figures = figures; accesses = accesses } ≡ record x { items = item ∷ x.items })
+item_drops wanted names line item ls [] its figures accesses read spelled =
+    let ending = subst (λ xs. SpellsEnding wanted names xs (its, figures, accesses)) (sym spelled.first) spelled.ending in
+    let none : item_in line ≡ None = no_item_first wanted names line ls its figures accesses ending in
+    absurd cc
+item_drops wanted names line item ls (b ∷ bs) its figures accesses read spelled =
+    let is : line ≡ answer_line b = same_line _ _ _ _ spelled.first in
+    let same : b ≡ item = same_Some b item (sym (item_in-line b (All-head IsItem b bs spelled.items)) ∙ ap item_in (sym is) ∙ read) in
+    let with_item : Item → Found = λ i. record { items = i ∷ bs; guarantee = its; figures = figures; accesses = accesses } in (
+      record { items = bs; guarantee = its; figures = figures; accesses = accesses },
+      record {
+        rest = spelled.rest;
+        first = same_rest _ _ _ _ spelled.first;
+        items = All-tail IsItem b bs spelled.items;
+        ending = spelled.ending;
+      },
+      ap with_item same,
+    )
+
+pub steps_item : (wanted : Bool) (names : List (List ℕ)) (line : List ℕ) (item : Item) → item_in line ≡ Some item
+    → Steps (SpellsFound wanted names) (SpellsFound wanted names) line (λ f. record f { items = item ∷ f.items })
+steps_item wanted names line item read = record {
+  adds = λ ls x spelled.
+      let says = item_in-some line item read in
+      record {
+        rest = spelled.rest;
+        first = ap (λ t. t ∷ ls) says.line_is ∙ ap (λ t. answer_line item ∷ t) spelled.first;
+        items = All-cons IsItem item x.items says.fits spelled.items;
+        ending = spelled.ending;
+      };
+  drops = λ ls y spelled. item_drops wanted names line item ls y.items y.guarantee y.figures y.accesses read spelled;
+}
+
+-- no object more
+
+-- an answer of no object, by what stands behind its objects
+abbrev pub ended : List Item → Option Guarantee × Figures × List Access → Found
+ended items ending = record { items = items; guarantee = ending.0; figures = ending.1; accesses = ending.2 }
+
+ending_only : (wanted : Bool) (names : List (List ℕ)) (line : List ℕ) (xs : List (List ℕ)) (items : List Item) (its : Option Guarantee)
+    (figures : Figures) (accesses : List Access)
+    → item_in line ≡ None → take 1 xs ≡ line ∷ [] → SpellsFound wanted names xs (record { items = items; guarantee = its; figures = figures; accesses = accesses })
+    → (x : Option Guarantee × Figures × List Access) × SpellsEnding wanted names xs x
+    × (record { items = items; guarantee = its; figures = figures; accesses = accesses } ≡ ended [] x)
+ending_only wanted names line xs [] its figures accesses none front spelled =
+    ((its, figures, accesses), subst (λ zs. SpellsEnding wanted names zs (its, figures, accesses)) (sym spelled.first) spelled.ending, refl)
+ending_only wanted names line xs (b ∷ bs) its figures accesses none front spelled =
+    let first : answer_line b ∷ [] ≡ line ∷ [] = sym (ap (take 1) spelled.first) ∙ front in
+    let is : answer_line b ≡ line = same_line _ _ _ _ first in
     let read : item_in (answer_line b) ≡ Some b = item_in-line b (All-head IsItem b bs spelled.items) in
-    let same : item_in line ≡ item_in (answer_line b) = ap item_in is in
+    let same : item_in (answer_line b) ≡ item_in line = ap item_in is in
     absurd cc
 
-pub found_here : (names : List (List ℕ)) (line : List ℕ) → item_in line ≡ None → figures_in line ≡ None
-    → (rest : List (List ℕ)) (x : Found) → SpellsFound names (line ∷ rest) x → ⊥
-found_here names line no_item no_figures rest x spelled = found_here_by names line rest x.items x.figures x.accesses no_item no_figures spelled
+aside_ending : (wanted : Bool) (names : List (List ℕ)) (line : List ℕ) (ls now : List (List ℕ)) → now ≡ line ∷ ls → item_in line ≡ None
+    → Aside (SpellsEnding wanted names) (SpellsFound wanted names) now (ended [])
+aside_ending wanted names line ls now is none = record {
+  adds = λ xs x spelled. record { rest = xs; first = refl; items = All-nil IsItem; ending = spelled };
+  drops = λ xs y first spelled.
+      ending_only wanted names line xs y.items y.guarantee y.figures y.accesses none (first ∙ ap (take 1) is) spelled;
+}
+
+nothing_spelled : (wanted : Bool) (names : List (List ℕ)) → SpellsFound wanted names (nothing_lines wanted) (nothing wanted)
+nothing_spelled wanted names = record { rest = nothing_lines wanted; first = refl; items = All-nil IsItem; ending = ending_nothing wanted names }
+
+pub found_some : (wanted : Bool) (names : List (List ℕ)) → Leads (SpellsFound wanted names) []
+found_some wanted names = (nothing_lines wanted, (nothing wanted, nothing_spelled wanted names))
+
+found_end_by : (wanted : Bool) (names : List (List ℕ)) (items : List Item) (its : Option Guarantee) (figures : Figures) (accesses : List Access)
+    → SpellsFound wanted names [] (record { items = items; guarantee = its; figures = figures; accesses = accesses }) → ⊥
+found_end_by wanted names [] its figures accesses spelled =
+    ending_end wanted names (its, figures, accesses) (subst (λ xs. SpellsEnding wanted names xs (its, figures, accesses)) (sym spelled.first) spelled.ending)
+found_end_by wanted names (b ∷ bs) its figures accesses spelled = let e = spelled.first in cc
+
+pub found_end : (wanted : Bool) (names : List (List ℕ)) (x : Found) → SpellsFound wanted names [] x → ⊥
+found_end wanted names x spelled = found_end_by wanted names x.items x.guarantee x.figures x.accesses spelled
 
 -- lists that are all at version 0
 abbrev pub unversioned : List (List ℕ) → List ℕ
@@ -204,20 +335,20 @@ all_unversioned : (names : List (List ℕ)) → All (λ version. version ≡ 0) 
 all_unversioned [] = All-nil (λ version. version ≡ 0)
 all_unversioned (name ∷ names) = All-cons (λ version. version ≡ 0) 0 (unversioned names) refl (all_unversioned names)
 
-versioned_spelled : (names : List (List ℕ)) → SpellsVersioned names names (stop_line 0 0 0 0 ∷ codes "end" ∷ []) (unversioned names, nothing)
-versioned_spelled names = record {
-  rest = stop_line 0 0 0 0 ∷ codes "end" ∷ [];
-  first = ap (λ t. t ++ stop_line 0 0 0 0 ∷ codes "end" ∷ []) (sym (lines_unversioned names (unversioned names) (all_unversioned names)));
+versioned_spelled : (wanted : Bool) (names : List (List ℕ)) → SpellsVersioned wanted names names (nothing_lines wanted) (unversioned names, nothing wanted)
+versioned_spelled wanted names = record {
+  rest = nothing_lines wanted;
+  first = ap (λ t. t ++ nothing_lines wanted) (sym (lines_unversioned names (unversioned names) (all_unversioned names)));
   sized = length-map names (λ _. 0);
   small = All-weaker (λ version. version ≡ 0) (λ version. version < 2 ^ 64) (λ version none. omega (arith, none)) (unversioned names) (all_unversioned names);
-  found = nothing_spelled names;
+  found = nothing_spelled wanted names;
 }
 
 -- the number of objects of each list
 
-pub steps_count : (names : List (List ℕ)) (line : List ℕ) (n : ℕ) → count_in line ≡ Some n
-    → Steps (SpellsVersioned names names) (SpellsCounted names) line (λ versioned. (n, versioned.0, versioned.1))
-steps_count names line n read = record {
+pub steps_count : (wanted : Bool) (names : List (List ℕ)) (line : List ℕ) (n : ℕ) → count_in line ≡ Some n
+    → Steps (SpellsVersioned wanted names names) (SpellsCounted wanted names) line (λ versioned. (n, versioned.0, versioned.1))
+steps_count wanted names line n read = record {
   adds = λ ls x spelled.
       let says = count_in-some line n read in
       record { rest = ls; first = ap (λ t. t ∷ ls) says.line_is; low = says.low; high = says.high; versioned = spelled };
@@ -225,27 +356,27 @@ steps_count names line n read = record {
       let is : line ≡ count_line y.0 = same_line _ _ _ _ spelled.first in
       let same : y.0 ≡ n = same_Some y.0 n (sym (count_in-line y.0 spelled.low spelled.high) ∙ ap count_in (sym is) ∙ read) in
       let rest : ls ≡ spelled.rest = same_rest _ _ _ _ spelled.first in
-      ((y.1, y.2), subst (λ xs. SpellsVersioned names names xs (y.1, y.2)) (sym rest) spelled.versioned, ap (λ m. (m, y.1, y.2)) same);
+      ((y.1, y.2), subst (λ xs. SpellsVersioned wanted names names xs (y.1, y.2)) (sym rest) spelled.versioned, ap (λ m. (m, y.1, y.2)) same);
 }
 
-pub counted_spelled : (names : List (List ℕ)) → SpellsCounted names (count_line 1 ∷ stop_line 0 0 0 0 ∷ codes "end" ∷ []) (1, unversioned names, nothing)
-counted_spelled names = record {
-  rest = stop_line 0 0 0 0 ∷ codes "end" ∷ [];
+pub counted_spelled : (wanted : Bool) (names : List (List ℕ)) → SpellsCounted wanted names (count_line 1 ∷ nothing_lines wanted) (1, unversioned names, nothing wanted)
+counted_spelled wanted names = record {
+  rest = nothing_lines wanted;
   first = refl;
   low = omega arith;
   high = omega arith;
-  versioned = versioned_spelled names;
+  versioned = versioned_spelled wanted names;
 }
 
-pub counted_some : (names : List (List ℕ)) → Leads (SpellsCounted names) []
-counted_some names = (count_line 1 ∷ stop_line 0 0 0 0 ∷ codes "end" ∷ [], ((1, unversioned names, nothing), counted_spelled names))
+pub counted_some : (wanted : Bool) (names : List (List ℕ)) → Leads (SpellsCounted wanted names) []
+counted_some wanted names = (count_line 1 ∷ nothing_lines wanted, ((1, unversioned names, nothing wanted), counted_spelled wanted names))
 
-pub counted_end : (names : List (List ℕ)) (x : ℕ × List ℕ × Found) → SpellsCounted names [] x → ⊥
-counted_end names x spelled = let e = spelled.first in cc
+pub counted_end : (wanted : Bool) (names : List (List ℕ)) (x : ℕ × List ℕ × Found) → SpellsCounted wanted names [] x → ⊥
+counted_end wanted names x spelled = let e = spelled.first in cc
 
-pub counted_here : (names : List (List ℕ)) (line : List ℕ) → count_in line ≡ None → (rest : List (List ℕ)) (x : ℕ × List ℕ × Found)
-    → SpellsCounted names (line ∷ rest) x → ⊥
-counted_here names line none rest x spelled =
+pub counted_here : (wanted : Bool) (names : List (List ℕ)) (line : List ℕ) → count_in line ≡ None → (rest : List (List ℕ)) (x : ℕ × List ℕ × Found)
+    → SpellsCounted wanted names (line ∷ rest) x → ⊥
+counted_here wanted names line none rest x spelled =
     let is : line ≡ count_line x.0 = same_line _ _ _ _ spelled.first in
     let read : count_in (count_line x.0) ≡ Some x.0 = count_in-line x.0 spelled.low spelled.high in
     let same : count_in line ≡ count_in (count_line x.0) = ap count_in is in
@@ -254,14 +385,15 @@ counted_here names line none rest x spelled =
 -- the query
 
 pub steps_query : (line : List ℕ) (query : Query) → FindsQuery line (Some query)
-    → Steps (SpellsCounted query.names) SpellsQueried line (λ counted. (query, counted.0, counted.1, counted.2))
+    → Steps (SpellsCounted (has_guarantee query.algorithm) query.names) SpellsQueried line (λ counted. (query, counted.0, counted.1, counted.2))
 steps_query line query found = record {
   adds = λ ls x spelled. record { rest = ls; first = ap (λ t. t ∷ ls) found.0; query = found.1; counted = spelled };
   drops = λ ls y spelled.
       let same : y.0 ≡ query = found.2 y.0 (same_line _ _ _ _ spelled.first) spelled.query in
       let rest : ls ≡ spelled.rest = same_rest _ _ _ _ spelled.first in (
         (y.1, y.2, y.3),
-        subst (λ (q : Query). SpellsCounted q.names ls (y.1, y.2, y.3)) same (subst (λ xs. SpellsCounted y.0.names xs (y.1, y.2, y.3)) (sym rest) spelled.counted),
+        subst (λ (q : Query). SpellsCounted (has_guarantee q.algorithm) q.names ls (y.1, y.2, y.3)) same
+            (subst (λ xs. SpellsCounted (has_guarantee y.0.algorithm) y.0.names xs (y.1, y.2, y.3)) (sym rest) spelled.counted),
         ap (λ q. (q, y.1, y.2, y.3)) same,
       );
 }
@@ -282,6 +414,7 @@ whole n queried = record {
   count = queried.1;
   versions = queried.2;
   items = queried.3.items;
+  guarantee = queried.3.guarantee;
   depth = queried.3.figures.depth;
   sorted = queried.3.figures.sorted;
   random = queried.3.figures.random;
@@ -296,8 +429,10 @@ number_drops line n ls c read spelled =
     let fits = spelled.certificate in
     let same : c.line ≡ n = same_Some c.line n (sym (number_in-line c.line fits.line_from fits.line_to) ∙ ap number_in (sym is) ∙ read) in
     let figures : Figures = record { depth = c.depth; sorted = c.sorted; random = c.random; cost = c.cost } in
-    let found : Found = record { items = c.items; figures = figures; accesses = c.accesses } in
-    let answer : List (List ℕ) = map answer_line c.items ++ stop_line c.depth c.sorted c.random c.cost ∷ access_lines c.query.names c.accesses in
+    let found : Found = record { items = c.items; guarantee = c.guarantee; figures = figures; accesses = c.accesses } in
+    let stopped : List (List ℕ) = stop_line c.depth c.sorted c.random c.cost ∷ access_lines c.query.names c.accesses in
+    let ending : List (List ℕ) = guarantee_lines (guaranteed c) ++ stopped in
+    let answer : List (List ℕ) = map answer_line c.items ++ ending in
     let lines : List (List ℕ) = version_lines c.query.names c.versions ++ answer in (
       (c.query, c.count, c.versions, found),
       record {
@@ -315,10 +450,20 @@ number_drops line n ls c read spelled =
             sized = fits.versioned;
             small = fits.versions;
             found = record {
+              rest = ending;
+              first = refl;
               items = fits.items;
-              figures = record { depth = fits.depth; sorted = fits.sorted; random = fits.random; cost = fits.cost };
-              accesses = fits.accesses;
-              spelled = refl;
+              ending = record {
+                rest = stopped;
+                first = refl;
+                there = fits.guaranteed;
+                small = fits.guarantee;
+                stopped = record {
+                  figures = record { depth = fits.depth; sorted = fits.sorted; random = fits.random; cost = fits.cost };
+                  accesses = fits.accesses;
+                  spelled = refl;
+                };
+              };
             };
           };
         };
@@ -333,6 +478,8 @@ steps_number line n read = record {
       let counted = spelled.counted in
       let versioned = counted.versioned in
       let found = versioned.found in
+      let ending = found.ending in
+      let stopped = ending.stopped in
       record {
         certificate = record {
           line_from = says.low;
@@ -343,17 +490,21 @@ steps_number line n read = record {
           versioned = versioned.sized;
           versions = versioned.small;
           items = found.items;
-          depth = found.figures.depth;
-          sorted = found.figures.sorted;
-          random = found.figures.random;
-          cost = found.figures.cost;
-          accesses = found.accesses;
+          guaranteed = ending.there;
+          guarantee = ending.small;
+          depth = stopped.figures.depth;
+          sorted = stopped.figures.sorted;
+          random = stopped.figures.random;
+          cost = stopped.figures.cost;
+          accesses = stopped.accesses;
         };
         spelled = ap (λ t. t ∷ ls) says.line_is
             ∙ ap (λ t. number_line n ∷ t) (spelled.first
             ∙ ap (λ t. query_line x.0 ∷ t) (counted.first
             ∙ ap (λ t. count_line x.1 ∷ t) (versioned.first
-            ∙ ap (λ t. version_lines x.0.names x.2 ++ t) found.spelled)));
+            ∙ ap (λ t. version_lines x.0.names x.2 ++ t) (found.first
+            ∙ ap (λ t. map answer_line x.3.items ++ t) (ending.first
+            ∙ ap (λ t. guarantee_lines (option_map factor_of x.3.guarantee) ++ t) stopped.spelled)))));
       };
   drops = λ ls y spelled. number_drops line n ls y read spelled;
 }
@@ -394,29 +545,30 @@ accesses_ended names line ls now all front k are last is carries =
     (is ∙ ap (λ t. t ∷ ls) last) (steps_end names front are) (λ _. sym (append-nil front)) carries
 
 -- no object was read yet
-pub found_none : (names : List (List ℕ)) (ls : List (List ℕ)) (front : List Item) → front ≡ []
-    → Carries (SpellsFound names) ls (λ f. record f { items = front ++ f.items }) 0 (SpellsFound names) ls
-found_none names ls front empty =
-    subst (λ (start : List Item). Carries (SpellsFound names) ls (λ f. record f { items = start ++ f.items }) 0 (SpellsFound names) ls) (sym empty) (carries_none (SpellsFound names) ls)
+pub found_none : (wanted : Bool) (names : List (List ℕ)) (ls : List (List ℕ)) (front : List Item) → front ≡ []
+    → Carries (SpellsFound wanted names) ls (λ f. record f { items = front ++ f.items }) 0 (SpellsFound wanted names) ls
+found_none wanted names ls front empty =
+    subst (λ (start : List Item). Carries (SpellsFound wanted names) ls (λ f. record f { items = start ++ f.items }) 0 (SpellsFound wanted names) ls) (sym empty)
+    (carries_none (SpellsFound wanted names) ls)
 
 -- one object more was read
-pub found_more : (names : List (List ℕ)) (line : List ℕ) (item : Item) (ls now all : List (List ℕ)) (front next : List Item) (k : ℕ)
+pub found_more : (wanted : Bool) (names : List (List ℕ)) (line : List ℕ) (item : Item) (ls now all : List (List ℕ)) (front next : List Item) (k : ℕ)
     → item_in line ≡ Some item → now ≡ line ∷ ls → next ≡ front ++ item ∷ []
-    → Carries (SpellsFound names) now (λ f. record f { items = front ++ f.items }) k (SpellsFound names) all
-    → Carries (SpellsFound names) ls (λ f. record f { items = next ++ f.items }) (k + 1) (SpellsFound names) all
-found_more names line item ls now all front next k read is pushed carries =
-    carries_more (SpellsFound names) (SpellsFound names) (SpellsFound names) line ls now all
+    → Carries (SpellsFound wanted names) now (λ f. record f { items = front ++ f.items }) k (SpellsFound wanted names) all
+    → Carries (SpellsFound wanted names) ls (λ f. record f { items = next ++ f.items }) (k + 1) (SpellsFound wanted names) all
+found_more wanted names line item ls now all front next k read is pushed carries =
+    carries_more (SpellsFound wanted names) (SpellsFound wanted names) (SpellsFound wanted names) line ls now all
     (λ f. record f { items = item ∷ f.items }) (λ f. record f { items = front ++ f.items }) (λ f. record f { items = next ++ f.items }) k is
-    (steps_item names line item read)
+    (steps_item wanted names line item read)
     (λ f. let with_items : List Item → Found = λ i. record f { items = i } in ap with_items (ap (λ t. t ++ f.items) pushed ∙ append_assoc front (item ∷ []) f.items)) carries
 
--- the figures were read
-pub found_figures : (names : List (List ℕ)) (line : List ℕ) (figures : Figures) (ls now all : List (List ℕ)) (front : List Item) (k : ℕ)
-    → figures_in line ≡ Some figures → now ≡ line ∷ ls
-    → Carries (SpellsFound names) now (λ f. record f { items = front ++ f.items }) k (SpellsFound names) all
-    → Carries (SpellsAccesses names) ls (λ more. record { items = front; figures = figures; accesses = more }) (k + 1) (SpellsFound names) all
-found_figures names line figures ls now all front k read is carries =
-    carries_more (SpellsAccesses names) (SpellsFound names) (SpellsFound names) line ls now all
-    (λ more. record { items = []; figures = figures; accesses = more }) (λ f. record f { items = front ++ f.items }) (λ more. record { items = front; figures = figures; accesses = more }) k is
-    (steps_stop names line figures read)
-    (λ more. let with_items : List Item → Found = λ i. record { items = i; figures = figures; accesses = more } in ap with_items (sym (append-nil front))) carries
+-- no object is left
+pub found_ending : (wanted : Bool) (names : List (List ℕ)) (line : List ℕ) (ls now all : List (List ℕ)) (front : List Item) (k : ℕ)
+    → item_in line ≡ None → now ≡ line ∷ ls
+    → Carries (SpellsFound wanted names) now (λ f. record f { items = front ++ f.items }) k (SpellsFound wanted names) all
+    → Carries (SpellsEnding wanted names) now (ended front) k (SpellsFound wanted names) all
+found_ending wanted names line ls now all front k none is carries =
+    carries_aside (SpellsEnding wanted names) (SpellsFound wanted names) (SpellsFound wanted names) now all
+    (ended []) (λ f. record f { items = front ++ f.items }) (ended front) k
+    (aside_ending wanted names line ls now is none)
+    (λ e. let with_items : List Item → Found = λ i. ended i e in ap with_items (sym (append-nil front))) carries

@@ -20,12 +20,14 @@ use Rattle.monotone_fn.specs.declared.costs.Costs.{Costs}
 use Rattle.query_text.specs.Written.{Written, Arguments}
 use Rattle.query_text.specs.Pieces.{Piece, piece_text, text_of}
 use Rattle.query_text.specs.Shape.{weight_pieces, expr_pieces, argument_pieces, further_pieces, front_pieces, algorithm_pieces, cost_pieces, room_pieces}
-use Rattle.query_text.specs.Query.{name_of, written, arguments, weighted, cost_digits, printed, IsPlain, ArePlain, AreWeighed, IsCount, IsLawful}
+use Rattle.query_text.specs.Query.{name_of, named_as, written, arguments, weighted, cost_digits, printed, IsPlain, ArePlain, AreWeighed, IsCount, IsRated, IsLawful}
 use Rattle.query_text.specs.declared.query.Query.{Query}
 use Rattle.query_text.specs.declared.algorithm.Algorithm.{Algorithm}
-use Rattle.query_text.specs.declared.algorithm.Algorithm.TheVariants.{Ta, Nra, Ca, Fa}
+use Rattle.query_text.specs.declared.algorithm.Algorithm.TheVariants.{Ta, Nra, Ca, Fa, Theta, Early, Taz}
+use Rattle.guarantee.specs.declared.factor.Guarantee.{Guarantee}
+use Rattle.guarantee.specs.Guarantee.{factor_of}
 use Rattle.cert_text.specs.declared.certificate.Certificate.{Certificate}
-use Rattle.cert_text.specs.Certificate.{number_line, query_line, count_line, version_lines, answer_line, stop_line, access_line, access_lines, certificate_lines, IsItem, IsAccess, IsCertificate}
+use Rattle.cert_text.specs.Certificate.{number_line, query_line, count_line, version_lines, answer_line, guarantee_line, guarantee_lines, guaranteed, stop_line, access_line, access_lines, certificate_lines, IsItem, IsGuarantee, IsAccess, IsCertificate}
 use Rattle.cert_text.proofs.LineLaws.{version_text, version_line_some}
 
 -- no byte of the text is a control byte
@@ -129,14 +131,18 @@ mutual
   terms_clean names are (Terms.term_then w t us) plain =
       further_clean (Some (decimal w)) (written names t) (weighted names us) (weight_clean w (omega (arith, plain.0))) (tree_clean names are t plain.1) (terms_clean names are us plain.2)
 
-algorithm_clean : (algorithm : Algorithm) → AreClean (algorithm_pieces algorithm)
-algorithm_clean Ta = refl
-algorithm_clean Nra = refl
-algorithm_clean Ca = refl
-algorithm_clean Fa = refl
-
 count_clean : (n : ℕ) → IsCount n → IsClean (decimal n)
 count_clean n is = clean_decimal n (omega (arith, is.1))
+
+algorithm_clean : (algorithm : Algorithm) → IsRated algorithm → AreClean (algorithm_pieces (named_as algorithm))
+algorithm_clean Ta rated = refl
+algorithm_clean Nra rated = refl
+algorithm_clean Ca rated = refl
+algorithm_clean Fa rated = refl
+algorithm_clean (Theta p q) rated =
+    clean-append (decimal p) (codes "/" ++ (decimal q ++ [])) (count_clean p rated.p) (clean-append (decimal q) [] (count_clean q rated.q) refl)
+algorithm_clean (Early depth) rated = clean-append (decimal depth) [] (count_clean depth rated) refl
+algorithm_clean Taz rated = refl
 
 cost_clean : (cost : Option Costs) → IfSome cost (λ c. IsCount c.sorted × IsCount c.random) → AreClean (cost_pieces (option_map cost_digits cost))
 cost_clean None are = refl
@@ -152,12 +158,12 @@ unfolding printed
 printed_clean query lawful =
     let front = front_pieces (decimal query.k) in
     let tree = expr_pieces (written query.names query.expr) in
-    let word = algorithm_pieces query.algorithm in
+    let word = algorithm_pieces (named_as query.algorithm) in
     let cost = cost_pieces (option_map cost_digits query.cost) in
     let room = room_pieces (option_map decimal query.room) in
     pieces-append front (tree ++ (word ++ (cost ++ room))) (clean-append (decimal query.k) (codes " by ") (count_clean query.k lawful.k) refl)
     (pieces-append tree (word ++ (cost ++ room)) (tree_clean query.names lawful.names query.expr lawful.weights)
-    (pieces-append word (cost ++ room) (algorithm_clean query.algorithm)
+    (pieces-append word (cost ++ room) (algorithm_clean query.algorithm lawful.algorithm)
     (pieces-append cost room (cost_clean query.cost lawful.cost) (room_clean query.room lawful.room))))
 
 -- the lines of a certificate
@@ -184,6 +190,13 @@ answer_clean item is =
     clean-append (decimal item.object) (32 ∷ (decimal item.low ++ 32 ∷ decimal item.high)) (clean_decimal item.object (omega (arith, is.object)))
     (clean-append (decimal item.low) (32 ∷ decimal item.high) (clean_decimal item.low is.low) (clean_decimal item.high is.high))
 
+guarantee_clean : (g : Guarantee) → IsGuarantee g → IsClean (guarantee_line (factor_of g))
+guarantee_clean g is = clean-append (decimal g.p) (32 ∷ decimal g.q) (clean_decimal g.p is.p) (clean_decimal g.q is.q)
+
+guarantee_plain : (its : Option Guarantee) → IfSome its IsGuarantee → All IsPlainLine (guarantee_lines (option_map factor_of its))
+guarantee_plain None is = All-nil IsPlainLine
+guarantee_plain (Some g) is = All-cons IsPlainLine (guarantee_line (factor_of g)) [] (plain_from_clean (guarantee_line (factor_of g)) (guarantee_clean g is)) (All-nil IsPlainLine)
+
 stop_clean : (depth sorted random cost : ℕ) → depth < 2 ^ 64 → sorted < 2 ^ 64 → random < 2 ^ 64 → cost < 2 ^ 64 → IsClean (stop_line depth sorted random cost)
 stop_clean depth sorted random cost d s r c =
     clean-append (decimal depth) (codes " sorted " ++ (decimal sorted ++ (codes " random " ++ (decimal random ++ (codes " cost " ++ decimal cost))))) (clean_decimal depth d)
@@ -206,15 +219,18 @@ lines_plain c is =
     let spells = reads.0 in
     let names = c.query.names in
     let stop = stop_line c.depth c.sorted c.random c.cost in
-    let found = map answer_line c.items ++ stop ∷ access_lines names c.accesses in
+    let stopped = stop ∷ access_lines names c.accesses in
+    let ending = guarantee_lines (guaranteed c) ++ stopped in
+    let found = map answer_line c.items ++ ending in
     let ends = All-append IsPlainLine (map (access_line names) c.accesses) (codes "end" ∷ [])
     (All-map IsPlainLine (access_line names) c.accesses
     (All-weaker (IsAccess (length names)) (λ a. IsPlainLine (access_line names a)) (λ a fits. plain_from_clean (access_line names a) (access_clean names spells.lawful.names (length names) a fits)) c.accesses is.accesses))
     (All-cons IsPlainLine (codes "end") [] (plain_from_clean (codes "end") refl) (All-nil IsPlainLine)) in
-    let rest = All-append IsPlainLine (map answer_line c.items) (stop_line c.depth c.sorted c.random c.cost ∷ access_lines names c.accesses)
+    let rest = All-append IsPlainLine (map answer_line c.items) ending
     (All-map IsPlainLine answer_line c.items
     (All-weaker IsItem (λ i. IsPlainLine (answer_line i)) (λ i fits. plain_from_clean (answer_line i) (answer_clean i fits)) c.items is.items))
-    (All-cons IsPlainLine _ (access_lines names c.accesses) (plain_from_clean _ (stop_clean c.depth c.sorted c.random c.cost is.depth is.sorted is.random is.cost)) ends) in
+    (All-append IsPlainLine (guarantee_lines (guaranteed c)) stopped (guarantee_plain c.guarantee is.guarantee)
+    (All-cons IsPlainLine stop (access_lines names c.accesses) (plain_from_clean stop (stop_clean c.depth c.sorted c.random c.cost is.depth is.sorted is.random is.cost)) ends)) in
     let versioned = version_lines names c.versions ++ found in
     All-cons IsPlainLine (number_line c.line) (query_line c.query ∷ count_line c.count ∷ versioned) (plain_from_clean (number_line c.line) (clean_decimal c.line (omega (arith, is.line_to))))
     (All-cons IsPlainLine (query_line c.query) (count_line c.count ∷ versioned) (plain_from_clean (query_line c.query) (printed_clean c.query spells.lawful))

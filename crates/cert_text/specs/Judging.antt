@@ -1,5 +1,5 @@
 -- What reading lines finds out, for any way to spell values by lines. What it means for certificates is said in `Reading`.
-use Rattle.std.specs.Prelude.{◌≡◌, ◌≢◌, ◌⊎◌, ◌<◌, ◌≤◌, ◌+◌, ◌^◌, ℕ, suc, List, [], ◌∷◌, ◌++◌, length, map, take, All, AllPairs}
+use Rattle.std.specs.Prelude.{◌≡◌, ◌≢◌, ◌⊎◌, ◌<◌, ◌≤◌, ◌+◌, ◌^◌, ℕ, suc, Bool, is_some, IfSome, option_map, List, [], ◌∷◌, ◌++◌, length, map, take, All, AllPairs}
 use Rattle.std.specs.declared.result.Result.{Result}
 use Rattle.std.specs.declared.result.Result.TheVariants.{Ok, Err}
 use Rattle.std.specs.declared.option.Option.{Option}
@@ -13,11 +13,14 @@ use Rattle.line_text.specs.Lines.{lines}
 use Rattle.line_text.specs.Names.{IsName}
 use Rattle.cert_text.specs.declared.fault.CertFault.{CertFault}
 use Rattle.cert_text.specs.declared.fault.CertFault.TheVariants.{BadLine, Memory}
+use Rattle.guarantee.specs.declared.factor.Guarantee.{Guarantee}
+use Rattle.guarantee.specs.Guarantee.{factor_of, has_guarantee}
 use Rattle.cert_text.specs.declared.parts.Figures.{Figures}
 use Rattle.cert_text.specs.declared.reader.Counted.{Counted}
+use Rattle.cert_text.specs.declared.reader.Ending.{Ending}
 use Rattle.cert_text.specs.declared.reader.Results.{Results}
 use Rattle.cert_text.specs.declared.reader.Stated.{Stated}
-use Rattle.cert_text.specs.Certificate.{query_line, count_line, version_lines, answer_line, stop_line, access_lines, IsItem, IsAccess}
+use Rattle.cert_text.specs.Certificate.{query_line, count_line, version_lines, answer_line, guarantee_lines, stop_line, access_lines, IsItem, IsGuarantee, IsAccess}
 use Rattle.cert_text.specs.Parts.{version_in}
 use Rattle.limits.specs.declared.TheConstants.{MAX_LISTS, MAX_OBJECTS}
 
@@ -60,15 +63,25 @@ pub record AreNames (names : List (List ℕ)) : Type 0 where
   pub each : All IsName names
   pub different : AllPairs ◌≢◌ names
 
--- what a certificate says of an answer: its objects, the figures and the accesses
+-- what a certificate says of an answer: its objects, what is guaranteed, the figures and the accesses
 pub record Found : Type 0 where
   pub items : List Item
+  pub guarantee : Option Guarantee
   pub figures : Figures
   pub accesses : List Access
 
 -- what was read of an answer
 abbrev pub found_of : Results → Found
-found_of results = record { items = results.items.items; figures = results.figures; accesses = results.accesses.items }
+found_of results = record {
+  items = results.items.items;
+  guarantee = results.ending.guarantee;
+  figures = results.ending.figures;
+  accesses = results.ending.accesses.items;
+}
+
+-- what was read behind the objects of an answer
+abbrev pub ending_of : Ending → Option Guarantee × Figures × List Access
+ending_of ending = (ending.guarantee, ending.figures, ending.accesses.items)
 
 -- figures of 64 bits
 pub record AreFigures (f : Figures) : Type 0 where
@@ -77,36 +90,49 @@ pub record AreFigures (f : Figures) : Type 0 where
   pub random : f.random < 2 ^ 64
   pub cost : f.cost < 2 ^ 64
 
--- the lines spell this answer
-pub record SpellsFound (names : List (List ℕ)) (ls : List (List ℕ)) (found : Found) : Type 0 where
+-- the lines spell these figures, and under them these accesses
+pub record SpellsStopped (names : List (List ℕ)) (ls : List (List ℕ)) (stopped : Figures × List Access) : Type 0 where
+  pub figures : AreFigures stopped.0
+  pub accesses : All (IsAccess (length names)) stopped.1
+  pub spelled : ls ≡ stop_line stopped.0.depth stopped.0.sorted stopped.0.random stopped.0.cost ∷ access_lines names stopped.1
+
+-- the lines spell a guarantee, exactly where one is wanted, and under it these figures and accesses
+pub record SpellsEnding (wanted : Bool) (names : List (List ℕ)) (ls : List (List ℕ)) (ending : Option Guarantee × Figures × List Access) : Type 0 where
+  pub rest : List (List ℕ)
+  pub first : ls ≡ guarantee_lines (option_map factor_of ending.0) ++ rest
+  pub there : is_some ending.0 ≡ wanted
+  pub small : IfSome ending.0 IsGuarantee
+  pub stopped : SpellsStopped names rest (ending.1, ending.2)
+
+-- the lines spell this answer, with a guarantee exactly where one is wanted
+pub record SpellsFound (wanted : Bool) (names : List (List ℕ)) (ls : List (List ℕ)) (found : Found) : Type 0 where
+  pub rest : List (List ℕ)
+  pub first : ls ≡ map answer_line found.items ++ rest
   pub items : All IsItem found.items
-  pub figures : AreFigures found.figures
-  pub accesses : All (IsAccess (length names)) found.accesses
-  pub spelled : ls ≡ map answer_line found.items
-      ++ stop_line found.figures.depth found.figures.sorted found.figures.random found.figures.cost ∷ access_lines names found.accesses
+  pub ending : SpellsEnding wanted names rest (found.guarantee, found.figures, found.accesses)
 
 -- the lines spell versions of the lists with these names, and under them this answer, over all lists
-pub record SpellsVersioned (all names : List (List ℕ)) (ls : List (List ℕ)) (versioned : List ℕ × Found) : Type 0 where
+pub record SpellsVersioned (wanted : Bool) (all names : List (List ℕ)) (ls : List (List ℕ)) (versioned : List ℕ × Found) : Type 0 where
   pub rest : List (List ℕ)
   pub first : ls ≡ version_lines names versioned.0 ++ rest
   pub sized : length versioned.0 ≡ length names
   pub small : All (λ version. version < 2 ^ 64) versioned.0
-  pub found : SpellsFound all rest versioned.1
+  pub found : SpellsFound wanted all rest versioned.1
 
 -- the lines spell this answer and the versions of its lists under the number of objects of each list
-pub record SpellsCounted (names : List (List ℕ)) (ls : List (List ℕ)) (counted : ℕ × List ℕ × Found) : Type 0 where
+pub record SpellsCounted (wanted : Bool) (names : List (List ℕ)) (ls : List (List ℕ)) (counted : ℕ × List ℕ × Found) : Type 0 where
   pub rest : List (List ℕ)
   pub first : ls ≡ count_line counted.0 ∷ rest
   pub low : 1 ≤ counted.0
   pub high : counted.0 ≤ MAX_OBJECTS
-  pub versioned : SpellsVersioned names names rest (counted.1, counted.2)
+  pub versioned : SpellsVersioned wanted names names rest (counted.1, counted.2)
 
 -- the lines spell this answer under its query
 pub record SpellsQueried (ls : List (List ℕ)) (queried : Query × ℕ × List ℕ × Found) : Type 0 where
   pub rest : List (List ℕ)
   pub first : ls ≡ query_line queried.0 ∷ rest
   pub query : Reads (printed queried.0) (Ok queried.0)
-  pub counted : SpellsCounted queried.0.names rest (queried.1, queried.2, queried.3)
+  pub counted : SpellsCounted (has_guarantee queried.0.algorithm) queried.0.names rest (queried.1, queried.2, queried.3)
 
 -- what was read under the line of a query
 abbrev pub counted_of : Counted → ℕ × List ℕ × Found

@@ -1,15 +1,19 @@
 -- The text of what became of a query line.
-use Rattle.std.specs.Prelude.{◌≡◌, ◌≤◌, ◌<◌, ◌^◌, ℕ, List, [], ◌∷◌, length, map, codes, All, Option, Some, None, unwrap_or, option_map}
+use Rattle.std.specs.Prelude.{◌≡◌, ◌≤◌, ◌<◌, ◌^◌, ℕ, true, List, [], ◌∷◌, length, map, codes, All, Option, Some, None, unwrap_or, option_map}
 use Rattle.std.specs.Fmt.{decimal}
 use Rattle.line_text.specs.Lines.{unlines}
 use Rattle.monotone_fn.specs.Shape.{list_count}
+use Rattle.monotone_fn.specs.Value.{value}
 use Rattle.monotone_fn.specs.Limits.{IsExpr}
 use Rattle.topk_theory.specs.Transcript.{depth, sorted_count, random_count, cost}
-use Rattle.access_log.specs.Log.{Log, IsWithinLimits}
+use Rattle.topk_theory.specs.Threshold.{item_objects}
+use Rattle.theta_theory.specs.Within.{Factor}
+use Rattle.access_log.specs.Log.{Log, IsConsistent, IsWithinLimits}
 use Rattle.machine_base.specs.declared.answer.Answer.{Answer}
 use Rattle.query_text.specs.declared.query.Query.{Query}
 use Rattle.query_text.specs.Costs.{costs_in_force}
 use Rattle.query_text.specs.Query.{IsLawful}
+use Rattle.guarantee.specs.Guarantee.{guarantee_of, has_guarantee, guarantee_by}
 use Rattle.cert_text.specs.declared.certificate.Certificate.{Certificate}
 use Rattle.cert_text.specs.declared.outcome.Outcome.{Outcome}
 use Rattle.cert_text.specs.declared.outcome.Outcome.TheVariants.{Answered, Refused}
@@ -22,7 +26,12 @@ use Rattle.limits.specs.declared.TheConstants.{MAX_NUMBER}
 abbrev pub names_of : Option Query → List (List ℕ)
 names_of query = unwrap_or (option_map (λ q. q.names) query) []
 
--- what is certified of an answer over lists of these versions: its items, its accesses, and the figures of these
+-- the factor of an answer to a query, by its transcript
+abbrev pub factor_for : Query → Answer → Option Factor
+factor_for query answer =
+    guarantee_by query.algorithm (value query.expr) answer.transcript.lists answer.transcript.accesses (item_objects answer.items)
+
+-- what is certified of an answer over lists of these versions: its items, what is guaranteed of them, its accesses, and the figures of these
 abbrev pub certificate_of : ℕ → Query → ℕ → List ℕ → Answer → Certificate
 certificate_of line query count versions answer = record {
   line = line;
@@ -30,6 +39,7 @@ certificate_of line query count versions answer = record {
   count = count;
   versions = versions;
   items = answer.items;
+  guarantee = option_map guarantee_of (factor_for query answer);
   depth = depth answer.transcript.lists answer.transcript.accesses;
   sorted = sorted_count answer.transcript.accesses;
   random = random_count answer.transcript.accesses;
@@ -67,14 +77,17 @@ pub record HasCost (query : Query) (log : Log) : Type 0 where
   pub random : (costs_in_force query).random ≤ MAX_NUMBER
   pub accesses : length log.accesses < 2 ^ 40
 
--- an answer comes with its query and a version for each list of that, and the lists that a refusal names are lists of its query
+-- an answer comes with its query, which is over the transcript's lists, and a version for each of these; it has an object where its algorithm
+-- guarantees a factor; and the lists that a refusal names are lists of its query
 abbrev pub IsOutcome : Option Query → List ℕ → Outcome → Type 0
 IsOutcome None versions (Answered answer) = ⊥
-IsOutcome (Some query) versions (Answered answer) = (length versions ≡ length query.names) × HasCost query answer.transcript
+IsOutcome (Some query) versions (Answered answer) =
+    (length versions ≡ length query.names) × HasCost query answer.transcript × (list_count query.expr ≡ answer.transcript.lists)
+    × (has_guarantee query.algorithm ≡ true → 0 < length answer.items)
 IsOutcome query versions (Refused refusal) = All (λ list. list < length (names_of query)) (refused_lists refusal)
 
--- an answer of a query line as it is certified: a lawful query over the transcript's lists, with the transcript's count, a version for each list, and
--- numbers that their types hold
+-- an answer of a query line as it is certified: a lawful query over the transcript's lists, with the transcript's count, a version for each list, a
+-- table that agrees with the transcript, and numbers that their types hold
 pub record IsCertified (line : ℕ) (query : Query) (count : ℕ) (versions : List ℕ) (answer : Answer) : Type 0 where
   pub line_from : 1 ≤ line
   pub line_to : line < 2 ^ 63
@@ -85,6 +98,7 @@ pub record IsCertified (line : ℕ) (query : Query) (count : ℕ) (versions : Li
   pub versioned : length versions ≡ length query.names
   pub small : All (λ version. version < 2 ^ 64) versions
   pub cost : HasCost query answer.transcript
+  pub consistent : IsConsistent answer.transcript
   pub limits : IsWithinLimits answer.transcript.lists answer.transcript.count
   pub items : All IsItem answer.items
   pub accesses : All (IsAccess answer.transcript.lists) answer.transcript.accesses

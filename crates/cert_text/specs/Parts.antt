@@ -6,6 +6,7 @@ use Rattle.line_text.specs.Numbers.{number_up_to}
 use Rattle.ranked_list.specs.declared.item.Item.{Item}
 use Rattle.topk_theory.specs.declared.access.Access.{Access}
 use Rattle.topk_theory.specs.declared.access.Access.TheVariants.{Sorted, Random}
+use Rattle.guarantee.specs.declared.factor.Guarantee.{Guarantee}
 use Rattle.cert_text.specs.declared.parts.Figures.{Figures}
 use Rattle.limits.specs.declared.TheConstants.{MAX_OBJECTS}
 
@@ -59,6 +60,14 @@ item_in line = do
   low ← number_before top_64 object.1
   high ← number_up_to top_64 low.1
   Some (record { object = object.0; low = low.0; high = high })
+
+-- the guarantee of a line
+unfoldable pub guarantee_in : List ℕ → Option Guarantee
+guarantee_in line = do
+  text ← rest_after (codes "guarantee ") line
+  p ← number_before top_64 text
+  q ← number_up_to top_64 p.1
+  Some (record { p = p.0; q = q })
 
 -- the figures, from what follows their depth and their number of sorted accesses
 abbrev pub figures_after : ℕ → ℕ → List ℕ → Option Figures

@@ -4,7 +4,7 @@ use Rattle.std.specs.List.{flat_map}
 use Rattle.std.specs.Fmt.{decimal}
 use Rattle.query_text.specs.Query.{name_of}
 use Rattle.cert_text.specs.declared.refusal.Refusal.{Refusal}
-use Rattle.cert_text.specs.declared.refusal.Refusal.TheVariants.{ManyQueries, LongLine, Syntax, Number, TooManyLists, TooManyNodes, TooDeep, TooBig, UnknownList, NotOpened, TooLarge, CountsDiffer, KAboveCount, NoRandom, Strangers, RoomFull}
+use Rattle.cert_text.specs.declared.refusal.Refusal.TheVariants.{ManyQueries, LongLine, Syntax, Number, TooManyLists, BadTheta, TooManyNodes, TooDeep, TooBig, UnknownList, NotOpened, TooLarge, CountsDiffer, KAboveCount, NoRandom, NoSorted, Strangers, RoomFull}
 use Rattle.cert_text.specs.declared.refusal.Refusal.TheVariants.{OutOfOrder, TooHigh, Repeated, Clash, Above, Missing, ShortList, AsksFull, Failed, Garbled, Moved}
 
 -- a field of a refusal: a number, or a list by its number in the query
@@ -19,6 +19,7 @@ refusal_row (LongLine limit) = (codes "LongLine", Field.number limit ∷ [])
 refusal_row (Syntax at) = (codes "Syntax", Field.number at ∷ [])
 refusal_row (Number at) = (codes "Number", Field.number at ∷ [])
 refusal_row (TooManyLists at) = (codes "TooManyLists", Field.number at ∷ [])
+refusal_row (BadTheta p q) = (codes "BadTheta", Field.number p ∷ Field.number q ∷ [])
 refusal_row (TooManyNodes nodes) = (codes "TooManyNodes", Field.number nodes ∷ [])
 refusal_row (TooDeep depth) = (codes "TooDeep", Field.number depth ∷ [])
 refusal_row (TooBig node) = (codes "TooBig", Field.number node ∷ [])
@@ -28,6 +29,7 @@ refusal_row (TooLarge l count) = (codes "TooLarge", Field.list l ∷ Field.numbe
 refusal_row (CountsDiffer l n other m) = (codes "CountsDiffer", Field.list l ∷ Field.number n ∷ Field.list other ∷ Field.number m ∷ [])
 refusal_row (KAboveCount k n) = (codes "KAboveCount", Field.number k ∷ Field.number n ∷ [])
 refusal_row (NoRandom l) = (codes "NoRandom", Field.list l ∷ [])
+refusal_row (NoSorted l) = (codes "NoSorted", Field.list l ∷ [])
 refusal_row (Strangers object count) = (codes "Strangers", Field.number object ∷ Field.number count ∷ [])
 refusal_row (RoomFull room) = (codes "RoomFull", Field.number room ∷ [])
 refusal_row (OutOfOrder l place before after) = (codes "OutOfOrder", Field.list l ∷ Field.number place ∷ Field.number before ∷ Field.number after ∷ [])

@@ -3,6 +3,7 @@
 use super::accesses::Accesses;
 use super::versions::Versions;
 use access_log::Items;
+use guarantee::Guarantee;
 use query_text::Query;
 
 /// An answer to a query, with the accesses that it was found by.
@@ -18,6 +19,8 @@ pub struct Certificate {
     pub versions: Versions,
     /// The objects of the answer with their bounds, in its order.
     pub items: Items,
+    /// Within which factor of the best the answer is, where the query's algorithm guarantees one.
+    pub guarantee: Option<Guarantee>,
     /// How many rows the deepest list was read.
     pub depth: u64,
     /// How many accesses were sorted.

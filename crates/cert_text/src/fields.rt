@@ -56,11 +56,13 @@ pub(crate) fn fields_of(refusal: Refusal) -> Fields
         Refusal::TooManyNodes { nodes: n } | Refusal::TooDeep { depth: n } => {
             Fields::One([Wide(n)])
         }
+        Refusal::BadTheta { p, q } => Fields::Two([Number(p), Number(q)]),
         Refusal::KAboveCount { k, n } => Fields::Two([Number(k), Number(n)]),
         Refusal::Strangers { object, count } => Fields::Two([Number(object), Number(count)]),
         Refusal::UnknownList { list }
         | Refusal::NotOpened { list }
         | Refusal::NoRandom { list }
+        | Refusal::NoSorted { list }
         | Refusal::Failed { list }
         | Refusal::Garbled { list } => Fields::One([List(list)]),
         Refusal::TooLarge { list, count } => Fields::Two([List(list), Wide(count)]),

@@ -6,6 +6,7 @@
 //! count COUNT
 //! version NAME VERSION          one line for each list whose version isn't 0, in the query's order
 //! answer OBJECT LOW HIGH        one line for each object of the answer, in its order
+//! guarantee P Q                  where the query's algorithm guarantees a factor, and nowhere else
 //! stop depth DEPTH sorted SORTED random RANDOM cost COST
 //! s NAME OBJECT GRADE           a sorted access
 //! r NAME OBJECT GRADE           a random access

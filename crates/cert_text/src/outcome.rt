@@ -53,8 +53,9 @@ pub fn put_outcome<P: Put>(
 /// versions: the certificate of an answer, or the line of a refusal. It goes out in pieces of
 /// `tk_io::PIECE` bytes. After a failure a front of it was written. Takes no memory.
 ///
-/// An answer comes with its query, and `versions` has one member for each list of that, in its order;
-/// the query's costs are at most 1,000,000 each and the accesses fewer than 2^40. A refusal that names a list comes with the query that names it.
+/// An answer comes with its query, which is over the transcript's lists, and `versions` has one member for each of these, in
+/// their order; the query's costs are at most 1,000,000 each and the accesses fewer than 2^40. An answer of an algorithm that
+/// guarantees a factor has an item. A refusal that names a list comes with the query that names it.
 pub fn write_outcome<K: Sink>(
     out: &mut K,
     line: u64,

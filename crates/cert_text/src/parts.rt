@@ -3,9 +3,10 @@
 ghost use Rattle.std.specs.Prelude.{◌≡◌, ◌≤◌, length, IfSome};
 ghost use Rattle.std.specs.Option.{option_map};
 ghost use Rattle.limits.specs.declared.TheConstants.{MAX_LISTS};
-ghost use Rattle.cert_text.specs.Parts.{number_within, number_before, number_in, count_in, version_in, item_in, figures_after, figures_in, list_named, row_in, access_in};
+ghost use Rattle.cert_text.specs.Parts.{number_within, number_before, number_in, count_in, version_in, item_in, guarantee_in, figures_after, figures_in, list_named, row_in, access_in};
 
 use access_log::{Access, Item};
+use guarantee::Guarantee;
 use limits::MAX_OBJECTS;
 use line_text::{cut_at, number_up_to, rest_after};
 use query_text::Names;
@@ -82,6 +83,16 @@ pub(crate) fn item_of(line: &[u8]) -> Option<Item>
         low,
         high,
     })
+}
+
+/// The guarantee that a line gives.
+#[tactic(auto, unfolding(crate::specs::Parts::guarantee_in))]
+pub(crate) fn guarantee_of(line: &[u8]) -> Option<Guarantee>
+    ensures { result ≡ guarantee_in line.now }
+{
+    let (p, rest) = number_before(rest_after(b"guarantee ", line)?, u64::MAX)?;
+    let q = number_up_to(rest, u64::MAX)?;
+    Some(Guarantee { p, q })
 }
 
 /// The figures, from what follows their depth and their number of sorted accesses.

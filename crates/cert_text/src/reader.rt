@@ -1,22 +1,31 @@
 //! The lines of a certificate, read one after another.
 
-ghost use Rattle.std.specs.Prelude.{◌≡◌, ◌↔◌, ◌+◌, ◌<◌, ◌≤◌, ◌^◌, length, codes, IsTrue, IfOk};
+ghost use Rattle.std.specs.Prelude.{◌≡◌, ◌↔◌, ◌+◌, ◌<◌, ◌≤◌, ◌^◌, length, codes, true, false, IsTrue, IfOk};
 ghost use Rattle.line_text.specs.Lines.{lines};
-ghost use Rattle.cert_text.specs.Judging.{AreNames, Finds, SpellsNone, FindsQuery, SpellsAccesses, SpellsFound, SpellsVersioned, SpellsCounted, SpellsQueried, States, found_of, counted_of, queried_of};
+ghost use Rattle.guarantee.specs.Guarantee.{has_guarantee};
+ghost use Rattle.cert_text.specs.Judging.{AreNames, Finds, SpellsNone, FindsQuery, SpellsAccesses, SpellsStopped, SpellsEnding, SpellsFound, SpellsVersioned, SpellsCounted, SpellsQueried, States, ending_of, found_of, counted_of, queried_of};
 
 use super::fault::CertFault;
-use super::parts::{Figures, access_of, count_of, figures_of, item_of, version_of};
+use super::parts::{Figures, access_of, count_of, figures_of, guarantee_of, item_of, version_of};
 use access_log::{Access, Item};
+use guarantee::{Guarantee, has_guarantee};
 use line_text::{first_line, rest_after};
 use query_text::{Memory, Names, Query, QueryFault, read};
 use std::alloc::Global;
+
+/// What a certificate says behind the objects of an answer.
+#[derive(Drop)]
+pub(crate) struct Ending {
+    pub(crate) guarantee: Option<Guarantee>,
+    pub(crate) figures: Figures,
+    pub(crate) accesses: Vec<Access>,
+}
 
 /// What a certificate says of an answer.
 #[derive(Drop)]
 pub(crate) struct Results {
     pub(crate) items: Vec<Item>,
-    pub(crate) figures: Figures,
-    pub(crate) accesses: Vec<Access>,
+    pub(crate) ending: Ending,
 }
 
 /// What a certificate says under its query: how many objects each list has, the versions of the lists, and the answer.
@@ -85,26 +94,109 @@ fn read_accesses(
     Err(CertFault::BadLine { line: number })
 }
 
-/// The answer that the lines from this number on spell.
-fn read_found(alloc: Global, names: &Names, first: u64, text: &[u8]) -> Result<Results, CertFault>
+/// The figures and the accesses that the lines from this number on spell.
+fn read_stopped(
+    alloc: Global,
+    names: &Names,
+    first: u64,
+    text: &[u8],
+) -> Result<(Figures, Vec<Access>), CertFault>
     requires names { AreNames names.now }
     requires numbers { first + length text.now < 2 ^ 64 }
-    ensures { Finds (SpellsFound names.now) found_of first (lines text.now) result }
+    ensures { Finds (SpellsStopped names.now) (λ stopped. (stopped.0, stopped.1.items))
+        first (lines text.now) result }
+{
+    let Some((line, rest)) = first_line(text) else {
+        return Err(CertFault::BadLine { line: first });
+    };
+    let Some(figures) = figures_of(line) else {
+        return Err(CertFault::BadLine { line: first });
+    };
+    let accesses = read_accesses(alloc, names, first + 1, rest)?;
+    Ok((figures, accesses))
+}
+
+/// The guarantee, the figures and the accesses that the lines from this number on spell.
+fn read_guaranteed(
+    alloc: Global,
+    names: &Names,
+    first: u64,
+    text: &[u8],
+) -> Result<Ending, CertFault>
+    requires names { AreNames names.now }
+    requires numbers { first + length text.now < 2 ^ 64 }
+    ensures { Finds (SpellsEnding true names.now) ending_of first (lines text.now) result }
+{
+    let Some((line, rest)) = first_line(text) else {
+        return Err(CertFault::BadLine { line: first });
+    };
+    let Some(guarantee) = guarantee_of(line) else {
+        return Err(CertFault::BadLine { line: first });
+    };
+    let (figures, accesses) = read_stopped(alloc, names, first + 1, rest)?;
+    Ok(Ending {
+        guarantee: Some(guarantee),
+        figures,
+        accesses,
+    })
+}
+
+/// The same where no guarantee is wanted.
+fn read_unguaranteed(
+    alloc: Global,
+    names: &Names,
+    first: u64,
+    text: &[u8],
+) -> Result<Ending, CertFault>
+    requires names { AreNames names.now }
+    requires numbers { first + length text.now < 2 ^ 64 }
+    ensures { Finds (SpellsEnding false names.now) ending_of first (lines text.now) result }
+{
+    let (figures, accesses) = read_stopped(alloc, names, first, text)?;
+    Ok(Ending {
+        guarantee: None,
+        figures,
+        accesses,
+    })
+}
+
+/// What stands behind the objects of an answer, from the line with this number on.
+fn read_ending(
+    alloc: Global,
+    wanted: bool,
+    names: &Names,
+    first: u64,
+    text: &[u8],
+) -> Result<Ending, CertFault>
+    requires names { AreNames names.now }
+    requires numbers { first + length text.now < 2 ^ 64 }
+    ensures { Finds (SpellsEnding wanted names.now) ending_of first (lines text.now) result }
+{
+    if wanted {
+        return read_guaranteed(alloc, names, first, text);
+    }
+    read_unguaranteed(alloc, names, first, text)
+}
+
+/// The answer that the lines from this number on spell, with a guarantee where one is wanted.
+fn read_found(
+    alloc: Global,
+    wanted: bool,
+    names: &Names,
+    first: u64,
+    text: &[u8],
+) -> Result<Results, CertFault>
+    requires names { AreNames names.now }
+    requires numbers { first + length text.now < 2 ^ 64 }
+    ensures { Finds (SpellsFound wanted names.now) found_of first (lines text.now) result }
 {
     let mut items = Vec::new(alloc);
     let mut number = first;
     let mut rest = text;
     while let Some((line, more)) = first_line(rest) {
         let Some(item) = item_of(line) else {
-            let Some(figures) = figures_of(line) else {
-                return Err(CertFault::BadLine { line: number });
-            };
-            let accesses = read_accesses(alloc, names, number + 1, more)?;
-            return Ok(Results {
-                items,
-                figures,
-                accesses,
-            });
+            let ending = read_ending(alloc, wanted, names, number, rest)?;
+            return Ok(Results { items, ending });
         };
         let Ok(()) = items.push(item) else {
             return Err(CertFault::Memory);
@@ -142,13 +234,14 @@ fn read_version<'t>(name: &[u8], number: u64, text: &'t [u8]) -> Stated<'t>
 /// The answer that the lines from this number on spell, and the versions of its lists.
 fn read_versioned(
     alloc: Global,
+    wanted: bool,
     names: &Names,
     first: u64,
     text: &[u8],
 ) -> Result<(Vec<u64>, Results), CertFault>
     requires names { AreNames names.now }
     requires numbers { first + length text.now < 2 ^ 64 }
-    ensures { Finds (SpellsVersioned names.now names.now) (λ versioned. (versioned.0.items, found_of versioned.1))
+    ensures { Finds (SpellsVersioned wanted names.now names.now) (λ versioned. (versioned.0.items, found_of versioned.1))
         first (lines text.now) result }
 {
     let mut versions = Vec::new(alloc);
@@ -162,15 +255,21 @@ fn read_versioned(
         number = stated.next;
         rest = stated.rest;
     }
-    let results = read_found(alloc, names, number, rest)?;
+    let results = read_found(alloc, wanted, names, number, rest)?;
     Ok((versions, results))
 }
 
 /// The answer that the lines from this number on spell, the versions of its lists, and how many objects each list has.
-fn read_counted(alloc: Global, names: &Names, first: u64, text: &[u8]) -> Result<Counted, CertFault>
+fn read_counted(
+    alloc: Global,
+    wanted: bool,
+    names: &Names,
+    first: u64,
+    text: &[u8],
+) -> Result<Counted, CertFault>
     requires names { AreNames names.now }
     requires numbers { first + length text.now < 2 ^ 64 }
-    ensures { Finds (SpellsCounted names.now) counted_of first (lines text.now) result }
+    ensures { Finds (SpellsCounted wanted names.now) counted_of first (lines text.now) result }
 {
     let Some((line, rest)) = first_line(text) else {
         return Err(CertFault::BadLine { line: first });
@@ -178,7 +277,7 @@ fn read_counted(alloc: Global, names: &Names, first: u64, text: &[u8]) -> Result
     let Some(count) = count_of(line) else {
         return Err(CertFault::BadLine { line: first });
     };
-    let (versions, results) = read_versioned(alloc, names, first + 1, rest)?;
+    let (versions, results) = read_versioned(alloc, wanted, names, first + 1, rest)?;
     Ok(Counted {
         count,
         versions,
@@ -217,7 +316,8 @@ pub(crate) fn read_queried(
         Ok(None) => return Err(CertFault::BadLine { line: first }),
         Err(_) => return Err(CertFault::Memory),
     };
-    match read_counted(alloc, &query.names, first + 1, rest) {
+    let wanted = has_guarantee(query.algorithm);
+    match read_counted(alloc, wanted, &query.names, first + 1, rest) {
         Ok(counted) => Ok((query, counted)),
         Err(fault) => {
             query.let_go();

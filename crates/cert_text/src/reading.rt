@@ -13,7 +13,7 @@ use super::accesses::Accesses;
 use super::certificate::Certificate;
 use super::fault::CertFault;
 use super::parts::number_of;
-use super::reader::{Counted, Results, read_queried};
+use super::reader::{Counted, Ending, Results, read_queried};
 use super::versions::Versions;
 use access_log::Items;
 use line_text::first_line;
@@ -35,11 +35,12 @@ fn read_lines(alloc: Global, bytes: &[u8]) -> Result<Certificate, CertFault>
         versions,
         results,
     } = counted;
-    let Results {
-        items,
+    let Results { items, ending } = results;
+    let Ending {
+        guarantee,
         figures,
         accesses,
-    } = results;
+    } = ending;
     if items.len() > u32::MAX as usize {
         query.let_go();
         drop(versions);
@@ -53,6 +54,7 @@ fn read_lines(alloc: Global, bytes: &[u8]) -> Result<Certificate, CertFault>
         count,
         versions: Versions::from_vec(versions),
         items: Items::from_vec(items),
+        guarantee,
         depth: figures.depth,
         sorted: figures.sorted,
         random: figures.random,
@@ -63,7 +65,8 @@ fn read_lines(alloc: Global, bytes: &[u8]) -> Result<Certificate, CertFault>
 
 /// Reads a certificate. Its numbers are in their ranges and its names are the query's, but nothing
 /// else is checked of them: neither that the figures are those of the accesses nor that the answer
-/// is right. A list without a line of its version has version 0.
+/// is right. A list without a line of its version has version 0. There is a guarantee exactly where
+/// the query's algorithm has one.
 pub fn read_certificate(alloc: Global, bytes: &[u8]) -> Result<Certificate, CertFault>
     // What is read is spelled so.
     ensures found { IfOk result (Spells (lines bytes.now)) }

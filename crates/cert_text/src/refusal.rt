@@ -37,6 +37,11 @@ pub enum Refusal {
     TooManyLists {
         at: u32,
     },
+    /// The factor `p / q` that is asked for is less than 1.
+    BadTheta {
+        p: u32,
+        q: u32,
+    },
     /// The expression has this many nodes, which are too many.
     TooManyNodes {
         nodes: u64,
@@ -76,6 +81,11 @@ pub enum Refusal {
     },
     /// The algorithm makes random accesses, and this list, by its number in the query, offers none.
     NoRandom {
+        list: u8,
+    },
+    /// The algorithm reads this list, by its number in the query, in order, and that can't be done. For `taz`, which reads
+    /// those that can be, it is the first list where there is none such.
+    NoSorted {
         list: u8,
     },
     /// This object is one more than the `count` objects that the lists have.
@@ -166,6 +176,7 @@ fn refusal_name(refusal: Refusal) -> &'static [u8]
         Refusal::Syntax { .. } => b"Syntax",
         Refusal::Number { .. } => b"Number",
         Refusal::TooManyLists { .. } => b"TooManyLists",
+        Refusal::BadTheta { .. } => b"BadTheta",
         Refusal::TooManyNodes { .. } => b"TooManyNodes",
         Refusal::TooDeep { .. } => b"TooDeep",
         Refusal::TooBig { .. } => b"TooBig",
@@ -175,6 +186,7 @@ fn refusal_name(refusal: Refusal) -> &'static [u8]
         Refusal::CountsDiffer { .. } => b"CountsDiffer",
         Refusal::KAboveCount { .. } => b"KAboveCount",
         Refusal::NoRandom { .. } => b"NoRandom",
+        Refusal::NoSorted { .. } => b"NoSorted",
         Refusal::Strangers { .. } => b"Strangers",
         Refusal::RoomFull { .. } => b"RoomFull",
         Refusal::OutOfOrder { .. } => b"OutOfOrder",

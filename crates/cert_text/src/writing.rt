@@ -1,16 +1,19 @@
 //! Certificates, written.
 
-ghost use Rattle.std.specs.Prelude.{◌≡◌, ◌++◌, ◌∷◌, [], length, map};
+ghost use Rattle.std.specs.Prelude.{◌≡◌, ◌++◌, ◌∷◌, [], length, map, option_map};
 ghost use Rattle.std.specs.Fmt.{decimal};
 ghost use Rattle.tk_io.specs.Pieces.{Puts};
 ghost use Rattle.line_text.specs.Lines.{unlines};
 ghost use Rattle.topk_theory.specs.Transcript.{depth};
 ghost use Rattle.query_text.specs.Query.{name_of};
-ghost use Rattle.cert_text.specs.Certificate.{spaced, version_line, version_lines, answer_line, access_line, certificate_lines};
-ghost use Rattle.cert_text.specs.Outcome.{HasCost, certificate_of, figures_line};
+ghost use Rattle.monotone_fn.specs.Shape.{list_count};
+ghost use Rattle.guarantee.specs.Guarantee.{factor_of};
+ghost use Rattle.cert_text.specs.Certificate.{spaced, version_line, version_lines, answer_line, guarantee_lines, access_line, certificate_lines};
+ghost use Rattle.cert_text.specs.Outcome.{HasCost, factor_for, certificate_of, figures_line};
 
 use super::words::{Word, put_line};
 use access_log::{Access, Items, Transcript};
+use guarantee::{Guarantee, guarantee};
 use machine_base::Answer;
 use query_text::{Names, Query, put_query};
 use tk_io::Put;
@@ -74,6 +77,27 @@ fn put_items<P: Put>(out: &mut P, items: &Items)
         let bounds = [object, Word::Number(item.low), Word::Number(item.high)];
         put_line(out, b"answer", &bounds);
     }
+}
+
+/// Within which factor of the best an answer to a query is, where its algorithm guarantees one.
+fn guarantee_for(query: &Query, answer: &Answer) -> Option<Guarantee>
+    requires { list_count query.now.expr ≡ answer.now.transcript.lists }
+    ensures { option_map factor_of result ≡ factor_for query.now answer.now }
+{
+    let items = answer.items.iter().as_slice();
+    guarantee(query.algorithm, &answer.transcript, &query.expr, items)
+}
+
+/// Puts the line of a guarantee behind the bytes that wait, or nothing where there is none.
+fn put_guarantee<P: Put>(out: &mut P, guarantee: Option<Guarantee>)
+    ensures { Puts (P.at out.old) (P.at out.new)
+        (unlines (guarantee_lines (option_map factor_of guarantee))) }
+{
+    let Some(factor) = guarantee else {
+        return;
+    };
+    let numbers = [Word::Number(factor.p), Word::Number(factor.q)];
+    put_line(out, b"guarantee", &numbers);
 }
 
 /// Puts the line of the figures of the accesses behind the bytes that wait.
@@ -148,6 +172,7 @@ pub(crate) fn put_certificate<P: Put>(
 )
     requires versioned { length versions.now ≡ length query.now.names }
     requires cost { HasCost query.now answer.now.transcript }
+    requires lists { list_count query.now.expr ≡ answer.now.transcript.lists }
     ensures { Puts (P.at out.old) (P.at out.new)
         (unlines (certificate_lines (certificate_of line query.now count versions.now answer.now))) }
 {
@@ -158,6 +183,7 @@ pub(crate) fn put_certificate<P: Put>(
     put_line(out, b"count", &[Word::Number(u64::from(count))]);
     put_versions(out, &query.names, versions);
     put_items(out, &answer.items);
+    put_guarantee(out, guarantee_for(query, answer));
     put_figures(out, query, &answer.transcript);
     put_accesses(out, &query.names, &answer.transcript);
     out.put(b"end\n");

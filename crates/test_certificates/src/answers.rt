@@ -38,7 +38,7 @@ fn answer_of(alloc: Global, lists: u8, example: &Example<'_>) -> Option<Answer> 
 }
 
 /// Whether the answer of an example is written, whose query this is. None where the query has costs, or the answer is longer than
-/// any here, or a list has no version.
+/// any here or has no item, or a list has no version.
 fn is_written_of<K: Sink>(
     alloc: Global,
     query: &Query,
@@ -49,8 +49,9 @@ fn is_written_of<K: Sink>(
     let is_taken = takes_all(&mut answer.transcript, example.3);
     let is_short = query.cost.is_none() && answer.transcript.len() < 4000;
     let is_versioned = example.4.len() == query.names.len() as usize;
+    let is_over = query.expr.lists() == answer.transcript.lists() && answer.items.len() > 0;
     let outcome = Outcome::Answered(answer);
-    let is_ok = if is_taken && is_short && is_versioned {
+    let is_ok = if is_taken && is_short && is_versioned && is_over {
         Some(write_outcome(out, 1, Some(query), example.1, example.4, &outcome).is_ok())
     } else {
         None
@@ -149,6 +150,62 @@ fn first_wrong(alloc: Global, rows: &[Versioned]) -> Option<usize> {
 #[test]
 fn writes_the_versions_of_lists(rt: HostRuntime) {
     none_is_wrong(&rt, first_wrong(rt.alloc(), VERSIONED));
+}
+
+/// A query, how many of the first example's accesses it made, and the text of its answer.
+type Guaranteed = (&'static [u8], usize, &'static str);
+
+/// At depth 1 the threshold is 1600, at depth 2 it is 1400.
+const GUARANTEED: &[Guaranteed] = &[
+    (
+        b"top 1 by sum(A,B) using theta 8/7",
+        4,
+        "certificate 1\nquery top 1 by sum(A,B) using theta 8/7\ncount 3\nanswer 2 1500 1500\nguarantee 8 7\nstop depth 1 sorted 2 random 2 cost 4\ns A 1 900\ns B 2 700\nr B 1 500\nr A 2 800\nend\n",
+    ),
+    (
+        b"top 1 by sum(A,B) using early 1",
+        4,
+        "certificate 1\nquery top 1 by sum(A,B) using early 1\ncount 3\nanswer 2 1500 1500\nguarantee 1600 1500\nstop depth 1 sorted 2 random 2 cost 4\ns A 1 900\ns B 2 700\nr B 1 500\nr A 2 800\nend\n",
+    ),
+    (
+        b"top 1 by sum(A,B) using early 5",
+        7,
+        "certificate 1\nquery top 1 by sum(A,B) using early 5\ncount 3\nanswer 2 1500 1500\nguarantee 1 1\nstop depth 2 sorted 4 random 3 cost 7\ns A 1 900\ns B 2 700\nr B 1 500\nr A 2 800\ns A 2 800\ns B 3 600\nr A 3 100\nend\n",
+    ),
+    (
+        b"top 1 by sum(A,B) using taz",
+        7,
+        "certificate 1\nquery top 1 by sum(A,B) using taz\ncount 3\nanswer 2 1500 1500\nstop depth 2 sorted 4 random 3 cost 7\ns A 1 900\ns B 2 700\nr B 1 500\nr A 2 800\ns A 2 800\ns B 3 600\nr A 3 100\nend\n",
+    ),
+];
+
+/// Whether the first example is written so for a query that made so many of its accesses.
+fn is_guaranteed_so(alloc: Global, row: &Guaranteed) -> bool {
+    let (query, made, text) = *row;
+    let Ok(mut out) = MemSink::make(alloc, 400, &[]) else {
+        return false;
+    };
+    let accesses = FIRST_ACCESSES.get(..made).unwrap_or(&[]);
+    let example = (query, 3, FIRST_ITEM, accesses, [0, 0].as_slice());
+    let is_ok = is_written(alloc, &example, &mut out) == Some(true);
+    let is_so = is_ok && out.taken() == text.as_bytes();
+    drop(out);
+    is_so
+}
+
+/// The number of the first row that is written otherwise.
+fn first_wrong_guarantee(alloc: Global, rows: &[Guaranteed]) -> Option<usize> {
+    for (number, row) in rows.iter().enumerate() {
+        if !is_guaranteed_so(alloc, row) {
+            return Some(number);
+        }
+    }
+    None
+}
+
+#[test]
+fn writes_what_is_guaranteed(rt: HostRuntime) {
+    none_is_wrong(&rt, first_wrong_guarantee(rt.alloc(), GUARANTEED));
 }
 
 /// Adds 3,000 tied objects, as far as there is memory, and tells whether it added all.

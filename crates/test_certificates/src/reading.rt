@@ -3,6 +3,7 @@
 use super::{holds, none_is_wrong};
 use access_log::Items;
 use cert_text::{Accesses, CertFault, Certificate, read_certificate};
+use guarantee::Guarantee;
 use query_text::{Query, print};
 use std::alloc::Global;
 use test_support::{FIRST_ACCESSES, FIRST_ITEM, FIRST_QUERY, FIRST_TEXT};
@@ -206,6 +207,85 @@ const ROWS: &[Row] = &[
     ("s A 1 900\n", "", None),
     ("end\n", "end", None),
 ];
+
+/// What stands from the first example's algorithm to its answer.
+const ABOVE: &str = "ta\ncount 3\nanswer 2 1500 1500\n";
+
+/// A guarantee stands behind the answer, exactly where the algorithm has one.
+const GUARANTEES: &[Row] = &[
+    ("using ta", "using theta 8/7", Some(5)),
+    ("using ta", "using early 1", Some(5)),
+    ("using ta", "using theta 7/8", Some(2)),
+    ("stop", "guarantee 1 1\nstop", Some(5)),
+    (
+        ABOVE,
+        "taz\ncount 3\nanswer 2 1500 1500\nguarantee 1 1\n",
+        Some(5),
+    ),
+    (
+        ABOVE,
+        "theta 8/7\ncount 3\nguarantee 8 7\nanswer 2 1500 1500\n",
+        Some(5),
+    ),
+    (
+        ABOVE,
+        "theta 8/7\ncount 3\nanswer 2 1500 1500\nguarantee 8\n",
+        Some(5),
+    ),
+    (
+        ABOVE,
+        "theta 8/7\ncount 3\nanswer 2 1500 1500\nguarantee 8/7\n",
+        Some(5),
+    ),
+    (
+        ABOVE,
+        "theta 8/7\ncount 3\nanswer 2 1500 1500\nguarantee 08 7\n",
+        Some(5),
+    ),
+    (
+        ABOVE,
+        "early 1\ncount 3\nanswer 2 1500 1500\nguarantee 18446744073709551616 1\n",
+        Some(5),
+    ),
+    (
+        ABOVE,
+        "early 1\ncount 3\nanswer 2 1500 1500\nguarantee 1 1\nguarantee 1 1\n",
+        Some(6),
+    ),
+    (
+        ABOVE,
+        "early 1\ncount 3\nanswer 2 1500 1500\nguarantee 18446744073709551615 18446744073709551615\n",
+        None,
+    ),
+    (
+        ABOVE,
+        "theta 8/7\ncount 3\nversion A 7\nguarantee 0 0\n",
+        None,
+    ),
+    ("using ta", "using taz", None),
+];
+
+#[test]
+fn reads_guarantees_where_they_are_wanted(rt: HostRuntime) {
+    none_is_wrong(&rt, first_wrong(rt.alloc(), GUARANTEES));
+}
+
+/// The guarantee that a text is read with. None where it isn't read, or there is none.
+fn guarantee_read(alloc: Global, text: &[u8]) -> Option<Guarantee> {
+    let certificate = read_certificate(alloc, text).ok()?;
+    let guarantee = certificate.guarantee;
+    certificate.let_go();
+    guarantee
+}
+
+/// The first number is the factor's upper one.
+#[test]
+fn reads_both_numbers(rt: HostRuntime) {
+    let text =
+        b"certificate 1\nquery top 1 by A using early 1\ncount 1\nanswer 2 3 3\nguarantee 4 3\nstop depth 1 sorted 1 random 0 cost 1\ns A 2 3\nend\n";
+    let read = guarantee_read(rt.alloc(), text);
+    holds(&rt, read == Some(Guarantee { p: 4, q: 3 }));
+}
 
 /// How many bytes of the first example stand before each of its lines.
 const STARTS: &[usize] = &[0, 14, 47, 55, 74, 112, 122, 132, 142, 152, 162, 172, 182];

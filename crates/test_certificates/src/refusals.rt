@@ -41,6 +41,7 @@ const ROWS: &[Row] = &[
         "refused 9 CountsDiffer A 3 B 2\n",
     ),
     (Refusal::NoRandom { list: 1 }, "refused 9 NoRandom B\n"),
+    (Refusal::NoSorted { list: 1 }, "refused 9 NoSorted B\n"),
     (
         Refusal::LongLine { limit: 4096 },
         "refused 9 LongLine 4096\n",
@@ -51,6 +52,7 @@ const ROWS: &[Row] = &[
         Refusal::TooManyLists { at: 30 },
         "refused 9 TooManyLists 30\n",
     ),
+    (Refusal::BadTheta { p: 7, q: 8 }, "refused 9 BadTheta 7 8\n"),
     (
         Refusal::TooManyNodes { nodes: 65 },
         "refused 9 TooManyNodes 65\n",
@@ -157,6 +159,7 @@ fn is_of_query(query: &Query, refusal: Refusal) -> bool
         | Refusal::NotOpened { list }
         | Refusal::TooLarge { list, .. }
         | Refusal::NoRandom { list }
+        | Refusal::NoSorted { list }
         | Refusal::OutOfOrder { list, .. }
         | Refusal::TooHigh { list, .. }
         | Refusal::Repeated { list, .. }

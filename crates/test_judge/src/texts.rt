@@ -190,6 +190,85 @@ fn judges_texts_with_versions(rt: HostRuntime) {
     none_is_wrong(&rt, first_wrong(rt.alloc(), &VERSIONED));
 }
 
+/// The head of the same stopped at depth 1, and that without an answer; and within two factors.
+const EARLY: &str =
+    "certificate 1\nquery top 1 by sum(A,B) using early 1\ncount 3\nanswer 2 1500 1500\n";
+
+const NOTHING: &str = "certificate 1\nquery top 1 by sum(A,B) using early 1\ncount 3\n";
+
+const NEAR: &str =
+    "certificate 1\nquery top 1 by sum(A,B) using theta 16/15\ncount 3\nanswer 2 1500 1500\n";
+
+const NEARER: &str =
+    "certificate 1\nquery top 1 by sum(A,B) using theta 17/16\ncount 3\nanswer 2 1500 1500\n";
+
+const GIVEN: &str = "guarantee 1600 1500\n";
+
+const AT_ONE: &str = "stop depth 1 sorted 2 random 2 cost 4\n";
+
+/// Certificates with a guarantee: 15 times the threshold of 1600 is 16 times the aggregate of 1500.
+static WITHIN: [Row; 11] = [
+    (&[EARLY, GIVEN, AT_ONE, FIRST, "end\n"], "fixes\n"),
+    (
+        &[EARLY, "guarantee 1 1\n", AT_ONE, FIRST, "end\n"],
+        "refused Figure 5\n",
+    ),
+    (
+        &[EARLY, "guarantee 1500 1600\n", AT_ONE, FIRST, "end\n"],
+        "refused Figure 5\n",
+    ),
+    (
+        &[
+            EARLY,
+            "guarantee 18446744073709551615 18446744073709551615\n",
+            AT_ONE,
+            FIRST,
+            "end\n",
+        ],
+        "refused Figure 5\n",
+    ),
+    (
+        &[
+            EARLY,
+            GIVEN,
+            "stop depth 1 sorted 2 random 2 cost 5\n",
+            FIRST,
+            "end\n",
+        ],
+        "refused Figure 6\n",
+    ),
+    (&[EARLY, AT_ONE, FIRST, "end\n"], "refused BadLine 5\n"),
+    (
+        &[HEAD, "guarantee 1 1\n", STOP, FIRST, SECOND, "end\n"],
+        "refused BadLine 5\n",
+    ),
+    (
+        &[NOTHING, "guarantee 9 9\n", AT_ONE, FIRST, "end\n"],
+        "refused WrongSize 0 1\n",
+    ),
+    (
+        &[NEAR, "guarantee 16 15\n", AT_ONE, FIRST, "end\n"],
+        "fixes\n",
+    ),
+    (
+        &[NEARER, "guarantee 17 16\n", AT_ONE, FIRST, "end\n"],
+        "beaten inside 2 low 1500 outside 0 high 1600\nlist A\n1,900\n0,900\n2,800\nlist B\n2,700\n0,700\n1,500\nquery top 1 by sum(A,B) using theta 17/16\n",
+    ),
+    (
+        &[
+            "certificate 1\nquery top 1 by min(A,B) using early 1\ncount 3\nanswer 1 0 0\nguarantee 1 0\n",
+            AT_ONE,
+            "s A 1 5\ns B 2 5\nr B 1 0\nr A 2 0\nend\n",
+        ],
+        "fixes\n",
+    ),
+];
+
+#[test]
+fn judges_within_what_is_guaranteed(rt: HostRuntime) {
+    none_is_wrong(&rt, first_wrong(rt.alloc(), &WITHIN));
+}
+
 /// Answers and figures of each kind that are wrong, beside right ones.
 static FIGURES: [Row; 12] = [
     (&[SHORT, NINE, ONE_ROW], "fixes\n"),

@@ -4,13 +4,14 @@ ghost use Rattle.std.specs.Prelude.{◌≡◌};
 ghost use Rattle.monotone_fn.specs.Shape.{list_count};
 
 use access_log::Transcript;
+use guarantee::{Guarantee, guarantee};
 use machine_base::Answer;
 use monotone_fn::Expr;
-use ranked_list::Item;
+use query_text::Algorithm;
+use ranked_list::{Item, Items};
 use std::alloc::Global;
 use test_machine_driver::asked;
 use test_support::{Lists, item_row};
-use theta_core::{Guarantee, early_guarantee};
 
 /// A query's text and its lists, with what is wanted: the answer, and the greatest depth, the sorted accesses and the random ones.
 #[derive(Clone, Copy)]
@@ -58,24 +59,29 @@ pub fn is_as(answer: &Answer, case: &Case) -> bool {
     answer.items.iter().as_slice() == case.items && figures == case.figures
 }
 
-/// What a transcript guarantees of an answer by an expression of as many lists.
-fn guaranteed_over(transcript: &Transcript, expr: &Expr, answer: &[u32]) -> Option<Guarantee> {
+/// What an algorithm guarantees of items by a transcript and an expression of as many lists.
+fn guaranteed_over(
+    algorithm: Algorithm,
+    transcript: &Transcript,
+    expr: &Expr,
+    items: &Items,
+) -> Option<Guarantee> {
     if expr.lists() == transcript.lists() {
-        Some(early_guarantee(transcript, expr, answer))
+        guarantee(algorithm, transcript, expr, items.iter().as_slice())
     } else {
         None
     }
 }
 
-/// What an answer's transcript guarantees of an object of it, by the expression of a query. None without memory.
+/// What an algorithm guarantees of an answer, by the expression of a query. None without memory too.
 pub fn guaranteed(
     alloc: Global,
     answer: &Answer,
     case: &Case,
-    objects: &[u32],
+    algorithm: Algorithm,
 ) -> Option<Guarantee> {
     let (expr, _) = asked(alloc, case.text, case.lists)?;
-    let guarantee = guaranteed_over(&answer.transcript, &expr, objects);
+    let guarantee = guaranteed_over(algorithm, &answer.transcript, &expr, &answer.items);
     expr.let_go();
     guarantee
 }

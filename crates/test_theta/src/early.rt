@@ -2,14 +2,16 @@
 
 use super::cases::{APART, BEST, BY_LESSER, BY_SUM, Case, NOUGHT, THREE, guaranteed, is_as};
 use super::none_is_wrong;
+use guarantee::{Guarantee, has_guarantee};
 use machine_base::Answer;
+use query_text::Algorithm;
 use std::alloc::Global;
 use test_machine_driver::{asked, drive, let_go};
 use test_support::item_row;
-use theta_core::{Early, Guarantee};
+use theta_core::Early;
 
-/// A depth, what is wanted of a query that may stop from there on, the objects of its answer, and the guarantee `p / q`.
-type Row = (u32, Case, &'static [u32], (u64, u64));
+/// A depth, what is wanted of a query that may stop from there on, and the guarantee `p / q`.
+type Row = (u32, Case, (u64, u64));
 
 /// The best by sum over three objects, by these figures.
 macro_rules! best {
@@ -26,9 +28,9 @@ macro_rules! best {
 /// From depth 2 on it is the threshold algorithm's stop, whose threshold of 1400 is reached. Two objects are there at depth 1, the
 /// lesser with 1400, and three at depth 2. Where the aggregate is 0 nothing is guaranteed.
 static ROWS: [Row; 6] = [
-    (1, best!([1, 2, 2]), &[2], (1600, 1500)),
-    (2, best!([2, 4, 3]), &[2], (1, 1)),
-    (1_000_000, best!([2, 4, 3]), &[2], (1, 1)),
+    (1, best!([1, 2, 2]), (1600, 1500)),
+    (2, best!([2, 4, 3]), (1, 1)),
+    (1_000_000, best!([2, 4, 3]), (1, 1)),
     (
         1,
         Case {
@@ -37,7 +39,6 @@ static ROWS: [Row; 6] = [
             items: &[item_row!(2, 1500, 1500), item_row!(1, 1400, 1400)],
             figures: [1, 2, 2],
         },
-        &[2, 1],
         (1600, 1400),
     ),
     (
@@ -52,7 +53,6 @@ static ROWS: [Row; 6] = [
             ],
             figures: [2, 4, 3],
         },
-        &[2, 1, 3],
         (1400, 700),
     ),
     (
@@ -63,7 +63,6 @@ static ROWS: [Row; 6] = [
             items: NOUGHT,
             figures: [1, 2, 2],
         },
-        &[1],
         (1, 0),
     ),
 ];
@@ -82,10 +81,10 @@ fn answer_of(alloc: Global, row: &Row) -> Option<Answer> {
 
 /// Whether the answer and its guarantee are as they are wanted.
 fn is_answered(alloc: Global, row: &Row) -> bool {
-    let (_, case, objects, (p, q)) = *row;
+    let (depth, case, (p, q)) = *row;
     match answer_of(alloc, row) {
         Some(answer) => {
-            let guarantee = guaranteed(alloc, &answer, &case, objects);
+            let guarantee = guaranteed(alloc, &answer, &case, Algorithm::Early { depth });
             let is_so = is_as(&answer, &case) && guarantee == Some(Guarantee { p, q });
             let_go(answer);
             is_so
@@ -107,4 +106,23 @@ fn first_wrong(alloc: Global) -> Option<usize> {
 #[test]
 fn stops_early(rt: HostRuntime) {
     none_is_wrong(&rt, first_wrong(rt.alloc()));
+}
+
+/// The algorithms whose answers come with no factor.
+static WITHOUT: [Algorithm; 5] = [
+    Algorithm::Ta,
+    Algorithm::Nra,
+    Algorithm::Ca,
+    Algorithm::Fa,
+    Algorithm::Taz,
+];
+
+#[test]
+fn has_a_guarantee(rt: HostRuntime) {
+    let with = has_guarantee(Algorithm::Theta { p: 8, q: 7 })
+        && has_guarantee(Algorithm::Early { depth: 1 });
+    let first_with = WITHOUT
+        .iter()
+        .position(|algorithm| has_guarantee(*algorithm));
+    none_is_wrong(&rt, if with { first_with } else { Some(5) });
 }

@@ -1,8 +1,10 @@
 //! Stops within a factor, worked out by hand.
 
-use super::cases::{APART, BEST, BY_LESSER, BY_SUM, Case, NOUGHT, THREE, is_as};
+use super::cases::{APART, BEST, BY_LESSER, BY_SUM, Case, NOUGHT, THREE, guaranteed, is_as};
 use super::none_is_wrong;
+use guarantee::Guarantee;
 use machine_base::Answer;
+use query_text::Algorithm;
 use std::alloc::Global;
 use test_machine_driver::{asked, drive, let_go};
 use theta_core::Theta;
@@ -55,11 +57,14 @@ fn answer_of(alloc: Global, row: &Row) -> Option<Answer> {
     }
 }
 
-/// Whether the answer is as it is wanted.
+/// Whether the answer and its guarantee, the factor, are as they are wanted.
 fn is_answered(alloc: Global, row: &Row) -> bool {
     match answer_of(alloc, row) {
         Some(answer) => {
-            let is_so = is_as(&answer, &row.2);
+            let (p, q, case) = *row;
+            let factor = guaranteed(alloc, &answer, &case, Algorithm::Theta { p, q });
+            let (p, q) = (u64::from(p), u64::from(q));
+            let is_so = is_as(&answer, &case) && factor == Some(Guarantee { p, q });
             let_go(answer);
             is_so
         }

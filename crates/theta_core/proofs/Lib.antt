@@ -1,4 +1,3 @@
 -- The rules of the threshold machine as those of the two algorithms, and their answers.
 pub mod Rules
 pub mod Answers
-pub mod LeastLows

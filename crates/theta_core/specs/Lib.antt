@@ -1,3 +1,2 @@
--- What the machines that stop within a factor and early make and answer, and what their transcripts guarantee.
+-- What the machines that stop within a factor and early make and answer.
 pub mod Machine
-pub mod Lows

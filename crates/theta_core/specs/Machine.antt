@@ -11,7 +11,6 @@ use Rattle.theta_theory.specs.Nearby.{within_run, within_answer, early_stopped_r
 use Rattle.theta_theory.specs.Guarantee.{early_guarantee}
 use Rattle.access_log.specs.Log.{AgreesWith}
 use Rattle.machine_base.specs.Machine.{MachineState, MakesRun, AreExact}
-use Rattle.theta_core.specs.declared.guarantee.Guarantee.{Guarantee}
 
 -- what contracts see of a machine that stops within a factor, and of one that stops early: the state, and the factor or the depth
 pub record ThetaState : Type 0 where
@@ -54,7 +53,3 @@ IsThetaAnswer t items = IsAnswerWithin (within_answer t.factor) t.factor t.state
 
 abbrev pub IsEarlyAnswer : EarlyState → List Item → Type 0
 IsEarlyAnswer t items = IsAnswerWithin (early_stopped_answer t.depth) (guarantee_of t.state items) t.state items
-
--- a guarantee as a factor
-abbrev pub factor_of : Guarantee → Factor
-factor_of g = record { p = g.p; q = g.q }

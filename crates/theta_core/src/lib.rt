@@ -5,10 +5,8 @@
 
 mod driven;
 mod early;
-mod guarantee;
 mod theta;
 
 pub use early::Early;
-pub use guarantee::{Guarantee, early_guarantee};
 pub use machine_base::{CoreFault, Memory, Need};
 pub use theta::Theta;

@@ -1,17 +1,15 @@
-use Rattle.std.specs.Global.{Vec}
-use Rattle.topk_theory.specs.declared.access.Access.{Access}
 use Rattle.std.proofs.Common.{◌≡◌, ◌+◌, [], ◌∷◌, ◌++◌, Ok, sym, arith}
 use Rattle.std.proofs.lemmas.Result.{err_from_is_err_and}
 use Rattle.line_text.specs.Lines.{lines}
-use Rattle.cert_text.specs.Judging.{SpellsAccesses, SpellsFound, found_of}
-use Rattle.cert_text.proofs.JudgingLaws.{finds_fault, finds_here, judged_here, judged_end}
-use Rattle.cert_text.proofs.SpellLaws.{found_none, found_more, found_figures, found_some, found_end, found_here}
+use Rattle.cert_text.specs.Judging.{SpellsEnding, SpellsFound, ending_of, found_of}
+use Rattle.cert_text.proofs.JudgingLaws.{finds_fault, finds_here, judged_end}
+use Rattle.cert_text.proofs.SpellLaws.{ended, found_none, found_more, found_ending, found_some, found_end}
 use Rattle.cert_text.proofs.reader.read_found.Goals as goal
 
 pub loop-line-init : goal.loop-line-init
 loop-line-init c = record {
   few = omega arith;
-  read = (0, omega arith, found_none c.args.names.now (lines c.args.text.now) _ c.new-items.ensures.items);
+  read = (0, omega arith, found_none c.args.wanted c.args.names.now (lines c.args.text.now) _ c.new-items.ensures.items);
 }
 
 pub loop-line-preserved : goal.loop-line-preserved
@@ -20,40 +18,31 @@ loop-line-preserved c =
     let pushed : c.push.new.self.items ≡ c.loop-line.items.items ++ c.in-Some-item_of.item ∷ [] = grind arith in
     record {
       few = let shorter = c.in-Some.ensures.1 in let few = c.loop-line.invariant.few in omega arith;
-      read = (read.0 + 1, omega (arith, read.1), found_more c.args.names.now c.in-Some.line.now c.in-Some-item_of.item (lines c.in-Some.more.now) (lines c.loop-line.rest.now) (lines c.args.text.now) c.loop-line.items.items _ read.0 (sym c.in-Some-item_of.ensures) c.in-Some.ensures.0 pushed read.2);
+      read = (read.0 + 1, omega (arith, read.1), found_more c.args.wanted c.args.names.now c.in-Some.line.now c.in-Some-item_of.item (lines c.in-Some.more.now) (lines c.loop-line.rest.now) (lines c.args.text.now) c.loop-line.items.items _ read.0 (sym c.in-Some-item_of.ensures) c.in-Some.ensures.0 pushed read.2);
     }
 
-pub returns-in_default-figures_of : goal.returns-in_default-figures_of
-returns-in_default-figures_of c =
-    let read = c.loop-line.invariant.read in
-    let names = c.args.names.now in
-    finds_here (SpellsFound names) (SpellsFound names) (lines c.loop-line.rest.now) (lines c.args.text.now) _ read.0 c.args.first c.loop-line.number read.2 read.1
-    (judged_here (SpellsFound names) c.in-Some.line.now (lines c.in-Some.more.now) (lines c.loop-line.rest.now) c.in-Some.ensures.0 (found_some names)
-    (found_here names c.in-Some.line.now (sym c.in_default-item_of.ensures) (sym c.in_default-figures_of.ensures)))
-
-pub returns-in_err-accesses : goal.returns-in_err-accesses
-returns-in_err-accesses c =
+pub returns-in_err-ending : goal.returns-in_err-ending
+returns-in_err-ending c =
     let read = c.loop-line.invariant.read in
     let names = c.args.names.now in
     let front = c.loop-line.items.items in
-    let figures = c.in-Some-figures_of.figures in
     let p = err_from_is_err_and c.from_residual.result c.from_residual.ensures.1 in
-    rw (p.1, p.2) (finds_fault (SpellsAccesses names) (SpellsFound names) (lines c.in-Some.more.now) (lines c.args.text.now) (λ more. record { items = front; figures = figures; accesses = more }) (read.0 + 1) c.args.first (c.loop-line.number + 1) (λ (v : Vec Access). v.items) found_of c.in_err-accesses.field-0.0
-    (found_figures names c.in-Some.line.now figures (lines c.in-Some.more.now) (lines c.loop-line.rest.now) (lines c.args.text.now) front read.0 (sym c.in-Some-figures_of.ensures) c.in-Some.ensures.0 read.2)
-    (omega (arith, read.1)) c.in_err-accesses.ensures)
+    rw (p.1, p.2) (finds_fault (SpellsEnding c.args.wanted names) (SpellsFound c.args.wanted names) (lines c.loop-line.rest.now) (lines c.args.text.now) (ended front) read.0 c.args.first c.loop-line.number ending_of found_of c.in_err-ending.field-0.0
+    (found_ending c.args.wanted names c.in-Some.line.now (lines c.in-Some.more.now) (lines c.loop-line.rest.now) (lines c.args.text.now) front read.0 (sym c.in_default-item_of.ensures) c.in-Some.ensures.0 read.2)
+    read.1 c.in_err-ending.ensures)
 
 pub returns-in_default-item_of : goal.returns-in_default-item_of
 returns-in_default-item_of c =
     let read = c.loop-line.invariant.read in
     let names = c.args.names.now in
     let front = c.loop-line.items.items in
-    let figures = c.in-Some-figures_of.figures in
-    found_figures names c.in-Some.line.now figures (lines c.in-Some.more.now) (lines c.loop-line.rest.now) (lines c.args.text.now) front read.0 (sym c.in-Some-figures_of.ensures) c.in-Some.ensures.0 read.2
-    (Ok c.in_ok-accesses.accesses.items) c.in_ok-accesses.ensures
+    found_ending c.args.wanted names c.in-Some.line.now (lines c.in-Some.more.now) (lines c.loop-line.rest.now) (lines c.args.text.now) front read.0 (sym c.in_default-item_of.ensures) c.in-Some.ensures.0 read.2
+    (Ok (ending_of c.in_ok-ending.ending)) c.in_ok-ending.ensures
 
 pub returns : goal.returns
 returns c =
     let read = c.loop-line.invariant.read in
     let names = c.args.names.now in
-    finds_here (SpellsFound names) (SpellsFound names) (lines c.loop-line.rest.now) (lines c.args.text.now) _ read.0 c.args.first c.loop-line.number read.2 read.1
-    (judged_end (SpellsFound names) c.loop-line.rest.now c.in_default.ensures (found_some names) (found_end names))
+    let wanted = c.args.wanted in
+    finds_here (SpellsFound wanted names) (SpellsFound wanted names) (lines c.loop-line.rest.now) (lines c.args.text.now) _ read.0 c.args.first c.loop-line.number read.2 read.1
+    (judged_end (SpellsFound wanted names) c.loop-line.rest.now c.in_default.ensures (found_some wanted names) (found_end wanted names))

@@ -8,7 +8,7 @@ abbrev pub invariant-loop-line : goal.invariant-loop-line
 invariant-loop-line l = record {
   few : l.number + length l.rest ≤ l.fn.first + length l.fn.text;
   read : (k : ℕ) × (l.number ≡ l.fn.first + k)
-      × Carries (SpellsFound l.names) (lines l.rest) (λ f. record f { items = l.items.items ++ f.items }) k (SpellsFound l.names) (lines l.fn.text);
+      × Carries (SpellsFound l.wanted l.names) (lines l.rest) (λ f. record f { items = l.items.items ++ f.items }) k (SpellsFound l.wanted l.names) (lines l.fn.text);
 }
 
 abbrev pub decreases-loop-line : goal.decreases-loop-line

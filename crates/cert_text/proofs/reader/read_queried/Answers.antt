@@ -1,6 +1,7 @@
-use Rattle.std.proofs.Common.{◌+◌, Ok, refl}
+use Rattle.std.proofs.Common.{◌+◌, Ok, Err, refl, subst}
 use Rattle.line_text.specs.Lines.{lines}
-use Rattle.cert_text.specs.Judging.{SpellsCounted, SpellsQueried, counted_of, queried_of}
+use Rattle.guarantee.specs.Guarantee.{has_guarantee}
+use Rattle.cert_text.specs.Judging.{Finds, SpellsCounted, SpellsQueried, counted_of, queried_of}
 use Rattle.cert_text.proofs.JudgingLaws.{finds_first, finds_fault, judged_here, judged_end, carries_line}
 use Rattle.cert_text.proofs.SpellLaws.{steps_query, queried_end, queried_here}
 use Rattle.cert_text.proofs.QueryLaws.{names_of_found}
@@ -24,13 +25,14 @@ pub returns-in-Err-read_counted : goal.returns-in-Err-read_counted
 returns-in-Err-read_counted c =
     let query = c.in-Ok-Some.query in
     let found = rw c.in-Ok-Some.field-0-is at c.in-Ok-Some.ensures in
-    finds_fault (SpellsCounted query.names) SpellsQueried (lines c.in-Some.rest.now) (lines c.args.text.now) (λ counted. (query, counted.0, counted.1, counted.2)) 1 c.args.first (c.args.first + 1) counted_of queried_of c.in-Err-read_counted.fault
-    (carries_line (SpellsCounted query.names) SpellsQueried c.in-Some.line.now (lines c.in-Some.rest.now) (lines c.args.text.now) (λ counted. (query, counted.0, counted.1, counted.2)) c.in-Some.ensures.0 (steps_query c.in-Some.line.now query found))
-    refl c.in-Err-read_counted.ensures
+    finds_fault (SpellsCounted (has_guarantee query.algorithm) query.names) SpellsQueried (lines c.in-Some.rest.now) (lines c.args.text.now) (λ counted. (query, counted.0, counted.1, counted.2)) 1 c.args.first (c.args.first + 1) counted_of queried_of c.in-Err-read_counted.fault
+    (carries_line (SpellsCounted (has_guarantee query.algorithm) query.names) SpellsQueried c.in-Some.line.now (lines c.in-Some.rest.now) (lines c.args.text.now) (λ counted. (query, counted.0, counted.1, counted.2)) c.in-Some.ensures.0 (steps_query c.in-Some.line.now query found))
+    refl (subst (λ wanted. Finds (SpellsCounted wanted query.names) counted_of (c.args.first + 1) (lines c.in-Some.rest.now) (Err c.in-Err-read_counted.fault))
+    c.has_guarantee-wanted.ensures c.in-Err-read_counted.ensures)
 
 pub returns-in-Ok : goal.returns-in-Ok
 returns-in-Ok c =
     let query = c.in-Ok-Some.query in
     let found = rw c.in-Ok-Some.field-0-is at c.in-Ok-Some.ensures in
-    carries_line (SpellsCounted query.names) SpellsQueried c.in-Some.line.now (lines c.in-Some.rest.now) (lines c.args.text.now) (λ counted. (query, counted.0, counted.1, counted.2)) c.in-Some.ensures.0 (steps_query c.in-Some.line.now query found)
-    (Ok (counted_of c.in-Ok.counted)) c.in-Ok.ensures
+    carries_line (SpellsCounted (has_guarantee query.algorithm) query.names) SpellsQueried c.in-Some.line.now (lines c.in-Some.rest.now) (lines c.args.text.now) (λ counted. (query, counted.0, counted.1, counted.2)) c.in-Some.ensures.0 (steps_query c.in-Some.line.now query found)
+    (Ok (counted_of c.in-Ok.counted)) (rw c.has_guarantee-wanted.ensures at c.in-Ok.ensures)

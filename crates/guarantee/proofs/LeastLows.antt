@@ -4,7 +4,7 @@ use Rattle.std.proofs.lemmas.List.{length-map}
 use Rattle.std.proofs.lemmas.List.FromFn.{length-range_with_len}
 use Rattle.monotone_fn.specs.Value.{least}
 use Rattle.topk_theory.specs.Transcript.{list_numbers}
-use Rattle.theta_core.specs.Lows.{least_so_far, lesser}
+use Rattle.guarantee.specs.Lows.{least_so_far, lesser}
 
 least_more : (n : ℕ) (ns : List ℕ) (number : ℕ) → least (n ∷ (ns ++ number ∷ [])) ≡ min (least (n ∷ ns)) number
 least_more n [] number = refl

@@ -1,7 +1,7 @@
 use Rattle.std.proofs.Common.{length, sym, ap, ◌∙◌}
 use Rattle.topk_theory.specs.Transcript.{bottom_of}
-use Rattle.theta_core.proofs.LeastLows.{one_for_each}
-use Rattle.theta_core.proofs.guarantee.threshold.Goals as goal
+use Rattle.guarantee.proofs.LeastLows.{one_for_each}
+use Rattle.guarantee.proofs.early.threshold.Goals as goal
 
 pub eval-requires-clause-lists : goal.eval-requires-clause-lists
 eval-requires-clause-lists c =

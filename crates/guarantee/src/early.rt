@@ -4,19 +4,15 @@ ghost use Rattle.std.specs.Prelude.{◌≡◌};
 ghost use Rattle.monotone_fn.specs.Shape.{list_count};
 ghost use Rattle.monotone_fn.specs.Value.{value};
 ghost use Rattle.topk_theory.specs.Bounds.{threshold};
+ghost use Rattle.topk_theory.specs.Threshold.{item_objects};
 ghost use Rattle.theta_theory.specs.Guarantee.{factor_over, least_low, early_guarantee};
-ghost use Rattle.theta_core.specs.Machine.{factor_of};
-ghost use Rattle.theta_core.specs.Lows.{lesser};
+ghost use Rattle.guarantee.specs.Guarantee.{factor_of};
+ghost use Rattle.guarantee.specs.Lows.{lesser};
 
+use super::factor::Guarantee;
 use access_log::Transcript;
 use monotone_fn::Expr;
-
-/// A factor `p / q`: no aggregate outside an answer is more than it times one inside. Where `q` is 0 it says nothing.
-#[derive(Clone, Copy, Debug, PartialEq, Eq)]
-pub struct Guarantee {
-    pub p: u64,
-    pub q: u64,
-}
+use ranked_list::Item;
 
 /// The lesser of a number and the least so far, if there is one.
 fn lesser(least: Option<u64>, number: u64) -> u64
@@ -28,15 +24,14 @@ fn lesser(least: Option<u64>, number: u64) -> u64
     }
 }
 
-/// The least low of the objects, 0 where there are none.
-fn least_low(transcript: &Transcript, expr: &Expr, objects: &[u32]) -> u64
+/// The least low of the objects of items, 0 where there are none.
+fn least_low(transcript: &Transcript, expr: &Expr, items: &[Item]) -> u64
     requires { list_count expr.now ≡ transcript.now.lists }
-    ensures { result ≡ least_low (value expr.now) transcript.now.lists transcript.now.accesses objects.now }
+    ensures { result ≡ least_low (value expr.now) transcript.now.lists transcript.now.accesses (item_objects items.now) }
 {
     let mut least = None;
-    for member in objects {
-        let object = *member;
-        let number = transcript.low(expr, object);
+    for item in items {
+        let number = transcript.low(expr, item.object);
         least = Some(lesser(least, number));
     }
     least.unwrap_or(0)
@@ -63,15 +58,16 @@ fn factor_over(bound: u64, least: u64) -> Guarantee
     Guarantee { p: bound, q: least }
 }
 
-/// What the transcript of an early stop guarantees of its answer, which has at least one object: the value at the bottoms
-/// over the least low of the answer. Where that low is 0 nothing is guaranteed; else it is at least 1.
+/// What the transcript of an early stop guarantees of its answer, which has at least one item: the value at the bottoms
+/// over the least low of the items' objects. Where that low is 0 nothing is guaranteed; else it is at least 1.
 ///
-/// *Cost*: an evaluation of the expression, and a look-up and an evaluation for each object of the answer.
-pub fn early_guarantee(transcript: &Transcript, expr: &Expr, answer: &[u32]) -> Guarantee
+/// *Cost*: an evaluation of the expression, and a look-up and an evaluation for each item.
+pub fn early_guarantee(transcript: &Transcript, expr: &Expr, items: &[Item]) -> Guarantee
     requires { list_count expr.now ≡ transcript.now.lists }
-    ensures { factor_of result ≡ early_guarantee (value expr.now) transcript.now.lists transcript.now.accesses answer.now }
+    ensures { factor_of result
+        ≡ early_guarantee (value expr.now) transcript.now.lists transcript.now.accesses (item_objects items.now) }
 {
     let bound = threshold(transcript, expr);
-    let least = least_low(transcript, expr, answer);
+    let least = least_low(transcript, expr, items);
     factor_over(bound, least)
 }

@@ -1,0 +1,3 @@
+-- What algorithms guarantee of their answers.
+pub mod Guarantee
+pub mod Lows
