@@ -38,7 +38,7 @@ position_map entries name =
 -- ---- a name that is there, and one that isn't
 
 no_source : Listed
-no_source = record { name = []; place = []; random = false }
+no_source = record { name = []; place = []; random = false; sorted = false }
 
 has_name : (sources : List Listed) (name : List ℕ) (o : Option ℕ) → o ≡ position (is_named name) sources → is_some o ≡ true
     → Contains (map (λ (s : Listed). s.name) sources) name

@@ -1,14 +1,15 @@
 -- The first record at fault of a text that is no catalog.
-use Rattle.std.specs.Prelude.{◌≡◌, ◌⊎◌, ◌+◌, ◌<◌, ℕ, List, [], ◌∷◌, ◌++◌, Result, Ok, Err, length, map, Contains}
+use Rattle.std.specs.Prelude.{◌≡◌, ◌⊎◌, ◌+◌, ◌<◌, ℕ, Bool, List, [], ◌∷◌, ◌++◌, Result, Ok, Err, length, map, Contains}
 use Rattle.catalog_text.specs.declared.catalog.CatalogFault.{CatalogFault}
 use Rattle.catalog_text.specs.declared.catalog.CatalogFault.TheVariants.{CatalogLine, SameName, Memory}
 use Rattle.catalog_text.specs.Catalog.{Listed, header, spelled, IsListed, IsCatalog}
 use Rattle.limits.specs.declared.TheConstants.{MAX_SOURCES}
 
--- the record has the form that is asked for after these: the header at the beginning, and then at most 64 sources
+-- the record has the form that is asked for after these: a header at the beginning, and then at most 64 sources, each with as many fields as the header
 abbrev pub HasForm : List (List (List ℕ)) → List (List ℕ) → Type 0
-HasForm [] fields = fields ≡ header
-HasForm (first ∷ sources) fields = (length sources < MAX_SOURCES) × (source : Listed) × IsListed source × (fields ≡ spelled source)
+HasForm [] fields = (wide : Bool) × (fields ≡ header wide)
+HasForm (first ∷ sources) fields =
+    (length sources < MAX_SOURCES) × (wide : Bool) × (first ≡ header wide) × (source : Listed) × IsListed wide source × (fields ≡ spelled wide source)
 
 -- the first field of a record
 abbrev pub name_in : List (List ℕ) → List ℕ

@@ -3,7 +3,7 @@ use Rattle.std.specs.Prelude.{◌≡◌, ◌<◌, ◌≤◌, ◌+◌, ℕ, Bool,
 use Rattle.catalog_text.specs.declared.catalog.CatalogFault.{CatalogFault}
 use Rattle.catalog_text.specs.declared.catalog.CatalogFault.TheVariants.{CatalogLine, SameName, Memory}
 use Rattle.catalog_text.specs.declared.reading.Reading.{Reading}
-use Rattle.catalog_text.specs.Catalog.{Listed, IsCatalog}
+use Rattle.catalog_text.specs.Catalog.{Listed, IsCatalogOf}
 use Rattle.catalog_text.specs.Judging.{IsBroken, IsRepeated}
 use Rattle.limits.specs.declared.TheConstants.{MAX_SOURCES}
 
@@ -13,18 +13,18 @@ IsFault records (CatalogLine line) = IsBroken records line
 IsFault records (SameName line) = IsRepeated records line
 IsFault records Memory = ⊥
 
--- what was read of the records without a fault: nothing, or a catalog
-abbrev pub IsFront : Bool → List Listed → List (List (List ℕ)) → Type 0
-IsFront false sources records = (records ≡ []) × (sources ≡ [])
-IsFront true sources records = IsCatalog records sources
+-- what was read of the records without a fault: nothing, or a catalog with a fourth field in its records, or without
+abbrev pub IsFront : Bool → Bool → List Listed → List (List (List ℕ)) → Type 0
+IsFront false wide sources records = (records ≡ []) × (sources ≡ [])
+IsFront true wide sources records = IsCatalogOf wide records sources
 
-abbrev pub IsTakenBy : Bool → List Listed → Option CatalogFault → List (List (List ℕ)) → Type 0
-IsTakenBy started sources None records = IsFront started sources records
-IsTakenBy started sources (Some fault) records = IsFault records fault
+abbrev pub IsTakenBy : Bool → Bool → List Listed → Option CatalogFault → List (List (List ℕ)) → Type 0
+IsTakenBy started wide sources None records = IsFront started wide sources records
+IsTakenBy started wide sources (Some fault) records = IsFault records fault
 
 -- these records have been taken in
 abbrev pub IsTaken : Reading → List (List (List ℕ)) → Type 0
-IsTaken r records = IsTakenBy r.started r.catalog r.fault records
+IsTaken r records = IsTakenBy r.started r.wide r.catalog r.fault records
 
 -- the names of sources
 abbrev pub names : List Listed → List (List ℕ)

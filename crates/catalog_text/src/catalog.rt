@@ -24,6 +24,8 @@ pub struct Entry {
     pub place: String,
     /// Whether it allows random access.
     pub random: bool,
+    /// Whether it allows sorted access.
+    pub sorted: bool,
 }
 
 /// Why a text is no catalog.
@@ -136,6 +138,7 @@ fn entry_of(alloc: Global, parts: &Parts<'_>) -> Result<Entry, CatalogFault>
         name,
         place,
         random: parts.random,
+        sorted: parts.sorted,
     })
 }
 

@@ -1,9 +1,9 @@
 //! The fields of a catalog's records.
 
-ghost use Rattle.std.specs.Prelude.{◌≡◌, option_map, MatchOption, IsTrue, ◌↔◌};
+ghost use Rattle.std.specs.Prelude.{◌≡◌, ◌||◌, option_map, MatchOption};
 ghost use Rattle.csv.specs.Records.{fields_of};
-ghost use Rattle.catalog_text.specs.Catalog.{IsPlace, header, three_in};
-ghost use Rattle.catalog_text.specs.Listed.{ReadsRandom, ReadsSource, three_now};
+ghost use Rattle.catalog_text.specs.Catalog.{IsPlace, fields_in};
+ghost use Rattle.catalog_text.specs.Listed.{ReadsAccess, ReadsHeader, ReadsSorted, ReadsSource, fields_now};
 
 use csv::ByteRecord;
 use line_text::is_name;
@@ -16,14 +16,15 @@ pub(crate) struct Parts<'a> {
     pub(crate) name: &'a [u8],
     pub(crate) place: &'a str,
     pub(crate) random: bool,
+    pub(crate) sorted: bool,
 }
 
-/// The three fields of a record that has exactly three.
-type Three<'a> = (&'a [u8], &'a [u8], &'a [u8]);
+/// The first three fields of a record that has three or four, and the fourth if there is one.
+type Fields<'a> = (&'a [u8], &'a [u8], &'a [u8], Option<&'a [u8]>);
 
-/// The three fields of a record that has exactly three.
-fn three_of(row: &ByteRecord) -> Option<Three<'_>>
-    ensures { option_map three_now result ≡ three_in (fields_of row.now) }
+/// The fields of a record that has three or four.
+fn fields_in(row: &ByteRecord) -> Option<Fields<'_>>
+    ensures { option_map fields_now result ≡ fields_in (fields_of row.now) }
 {
     let Some(first) = row.get(0) else {
         return None;
@@ -34,30 +35,39 @@ fn three_of(row: &ByteRecord) -> Option<Three<'_>>
     let Some(third) = row.get(2) else {
         return None;
     };
-    if row.get(3).is_some() {
+    if row.get(4).is_some() {
         return None;
     }
-    Some((first, second, third))
+    Some((first, second, third, row.get(3)))
 }
 
-/// Whether a record is the header.
-pub(crate) fn is_header(row: &ByteRecord) -> bool
-    ensures { IsTrue result ↔ (fields_of row.now ≡ header) }
+/// Whether records have a fourth field, by the first record, where that is a header.
+pub(crate) fn header_in(row: &ByteRecord) -> Option<bool>
+    ensures { ReadsHeader (fields_of row.now) result }
 {
-    let Some((first, second, third)) = three_of(row) else {
-        return false;
+    let Some((first, second, third, fourth)) = fields_in(row) else {
+        return None;
     };
     if first != b"name".as_slice() || second != b"place".as_slice() {
-        return false;
+        return None;
     }
-    third == b"random".as_slice()
+    if third != b"random".as_slice() {
+        return None;
+    }
+    let Some(fourth) = fourth else {
+        return Some(false);
+    };
+    if fourth != b"sorted".as_slice() {
+        return None;
+    }
+    Some(true)
 }
 
-/// What a record says, where it is that of a source.
-pub(crate) fn source_in(row: &ByteRecord) -> Option<Parts<'_>>
-    ensures { ReadsSource (fields_of row.now) result }
+/// What a record says, where it is that of a source and has a fourth field as is asked.
+pub(crate) fn source_in(row: &ByteRecord, wide: bool) -> Option<Parts<'_>>
+    ensures { ReadsSource wide (fields_of row.now) result }
 {
-    let Some((name, place, random)) = three_of(row) else {
+    let Some((name, place, random, fourth)) = fields_in(row) else {
         return None;
     };
     if !is_name(name) {
@@ -66,14 +76,28 @@ pub(crate) fn source_in(row: &ByteRecord) -> Option<Parts<'_>>
     let Some(place) = place_in(place) else {
         return None;
     };
-    let Some(random) = random_in(random) else {
+    let Some(random) = access_in(random) else {
         return None;
     };
+    let Some(sorted) = sorted_in(wide, fourth) else {
+        return None;
+    };
+    if !has_access(random, sorted) {
+        return None;
+    }
     Some(Parts {
         name,
         place,
         random,
+        sorted,
     })
+}
+
+/// Whether a source allows an access at all.
+fn has_access(random: bool, sorted: bool) -> bool
+    ensures { result ≡ (random || sorted) }
+{
+    random || sorted
 }
 
 /// The place that a field is.
@@ -93,9 +117,9 @@ fn place_in(field: &[u8]) -> Option<&str>
     }
 }
 
-/// Whether a source allows random access, by its field.
-fn random_in(field: &[u8]) -> Option<bool>
-    ensures { ReadsRandom field.now result }
+/// Whether a source allows an access, by its field.
+fn access_in(field: &[u8]) -> Option<bool>
+    ensures { ReadsAccess field.now result }
 {
     if field == b"yes".as_slice() {
         return Some(true);
@@ -104,4 +128,20 @@ fn random_in(field: &[u8]) -> Option<bool>
         return Some(false);
     }
     None
+}
+
+/// Whether a source allows sorted access, by its fourth field where one is asked for. Without one it does.
+fn sorted_in(wide: bool, fourth: Option<&[u8]>) -> Option<bool>
+    ensures { ReadsSorted wide (option_map (λ field. field.now) fourth.entry) result }
+{
+    let Some(field) = fourth else {
+        if wide {
+            return None;
+        }
+        return Some(true);
+    };
+    if !wide {
+        return None;
+    }
+    access_in(field)
 }

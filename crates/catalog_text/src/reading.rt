@@ -8,15 +8,17 @@ ghost use Rattle.catalog_text.specs.Listed.{listed_parts};
 ghost use Rattle.catalog_text.specs.Taking.{IsTaken, FindsFault};
 
 use super::catalog::{Catalog, CatalogFault};
-use super::fields::{Parts, is_header, source_in};
+use super::fields::{Parts, header_in, source_in};
 use csv::ByteRecord;
 use csv_records::{Memory, TakesRecords, read_records};
 use limits::MAX_SOURCES;
 use std::alloc::Global;
 
 /// Reads a catalog: values separated by commas. The first record has the fields `name`, `place` and
-/// `random`. Each further record is a source, of which there are at most 64: the name of its list, a
-/// place of 1 to 255 bytes, and `yes` or `no` for random access. A place is a file's path or the address
+/// `random`, and maybe a fourth, `sorted`. Each further record is a source, of which there are at most 64: the name of its list, a
+/// place of 1 to 255 bytes, `yes` or `no` for random access, and, exactly where the first record has a fourth field,
+/// `yes` or `no` for sorted access. Without that field each source allows sorted access; none may be without both.
+/// A place is a file's path or the address
 /// `http://HOST:PORT/PATH` of a server's list, as `place_text` reads them. No two sources have one name. The fault names the first
 /// record that is wrong, or the first record where there is none.
 ///
@@ -26,6 +28,7 @@ pub fn read_catalog(alloc: Global, bytes: &[u8]) -> Result<Catalog, CatalogFault
 {
     let mut reading = Reading {
         started: false,
+        wide: false,
         catalog: Catalog::make(alloc),
         fault: None,
     };
@@ -40,6 +43,8 @@ pub fn read_catalog(alloc: Global, bytes: &[u8]) -> Result<Catalog, CatalogFault
 struct Reading {
     /// Whether the header was read.
     started: bool,
+    /// Whether the header has a fourth field, and each further record has to have one.
+    wide: bool,
     catalog: Catalog,
     /// The fault of the first record at fault.
     fault: Option<CatalogFault>,
@@ -52,6 +57,7 @@ impl Reading {
     {
         let Reading {
             started,
+            wide: _,
             catalog,
             fault,
         } = self;
@@ -75,14 +81,15 @@ impl TakesRecords for Reading {
             return Ok(());
         }
         if !self.started {
-            if is_header(row) {
-                self.started = true;
-            } else {
+            let Some(wide) = header_in(row) else {
                 self.fault = Some(CatalogFault::CatalogLine { line: 1 });
-            }
+                return Ok(());
+            };
+            self.started = true;
+            self.wide = wide;
             return Ok(());
         }
-        let source = source_in(row);
+        let source = source_in(row, self.wide);
         let found = fault_of(&self.catalog, &source);
         if found.is_some() {
             self.fault = found;

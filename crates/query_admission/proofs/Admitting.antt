@@ -1,5 +1,6 @@
 -- What a query line comes to, from what its query comes to over its lists.
-use Rattle.std.proofs.Common.{◌≡◌, ℕ, zero, suc, ◌<◌, ◌≤◌, inl, inr, true, false, is_none, List, [], ◌∷◌, ◌++◌, append_assoc, length, map, All, Contains, Some, None, Result, Ok, Err, IfOk, IfSome, slice_index_or, refl, sym, ap, ◌∙◌, subst, arith}
+use Rattle.std.proofs.Common.{◌≡◌, ℕ, zero, suc, ◌<◌, ◌≤◌, inl, inr, Bool, true, false, is_none, List, [], ◌∷◌, ◌++◌, append_assoc, length, map, All, Contains, Option, Some, None, Result, Ok, Err, IfOk, IfSome, slice_index_or, refl, sym, ap, ◌∙◌, subst, arith}
+use Rattle.std.specs.Prelude.{is_some, if◌then◌else◌}
 use Rattle.std.specs.List.{position}
 use Rattle.std.proofs.lemmas.Bool.{cases_lt}
 use Rattle.std.proofs.lemmas.List.{length-map}
@@ -7,23 +8,26 @@ use Rattle.std.proofs.lemmas.List.Elements.{All-from_recursion, Contains-append_
 use Rattle.std.proofs.lemmas.List.Quantifiers.{position-Some}
 use Rattle.topk_theory.proofs.AgreementLists.{contains_here, contains_cases, all_from_members, member_of_all}
 use Rattle.query_text.specs.declared.query.Query.{Query}
+use Rattle.query_text.specs.declared.algorithm.Algorithm.{Algorithm}
+use Rattle.query_text.specs.declared.algorithm.Algorithm.TheVariants.{Ta, Nra, Ca, Fa, Theta, Early, Taz}
 use Rattle.query_text.specs.declared.fault.QueryFault.{QueryFault}
-use Rattle.query_text.specs.declared.fault.QueryFault.TheVariants.{LongLine, Syntax, Number, TooManyLists, TooManyNodes, TooDeep, TooBig, Memory}
+use Rattle.query_text.specs.declared.fault.QueryFault.TheVariants.{LongLine, Syntax, Number, TooManyLists, BadTheta, TooManyNodes, TooDeep, TooBig, Memory}
 use Rattle.query_text.specs.Reading.{Reads}
 use Rattle.query_text.proofs.BackLaws.{read_back}
 use Rattle.cert_text.specs.declared.refusal.Refusal.{Refusal}
-use Rattle.cert_text.specs.declared.refusal.Refusal.TheVariants.{ManyQueries, UnknownList, KAboveCount}
+use Rattle.cert_text.specs.declared.refusal.Refusal.TheVariants.{ManyQueries, UnknownList, KAboveCount, NoSorted}
 use Rattle.cert_text.specs.Refusal.{refused_lists}
 use Rattle.query_core.specs.declared.ready.Ready.{Ready}
+use Rattle.query_core.specs.Ready.{HasToRead}
 use Rattle.query_core.proofs.ListCount.{lists_counted}
-use Rattle.query_admission.specs.View.{View, AreListed, versions_at}
+use Rattle.query_admission.specs.View.{View, AreListed, versions_at, sorted_at, offers_sorted, unread_list}
 use Rattle.query_admission.specs.Causes.{most_queries, QueryLine, Cause, text_causes, admission_causes, text_refusal, Over, ListsGive, RefusesFor, NoneOf}
 use Rattle.query_admission.specs.Admission.{RefusesLine, IsAdmitted, Admits}
 use Rattle.query_admission.specs.Screening.{list_causes, Screens, FitsOver, Weighs, admitted_as}
 use Rattle.query_admission.specs.declared.admission.Weighed.{Weighed}
 use Rattle.query_admission.specs.declared.admission.Weighed.TheVariants.{Ready as Fits, Refused as NotReady}
 use Rattle.query_admission.specs.declared.lists.Listed.{Listed}
-use Rattle.query_admission.proofs.Positions.{small_size, size_there}
+use Rattle.query_admission.proofs.Positions.{nothing, found_within, found_passes, small_size, size_there}
 
 -- a line is read as one query, and where it's read as one it has no fault
 pub read_once : (bytes : List ℕ) (p q : Query) → Reads bytes (Ok p) → Reads bytes (Ok q) → p ≡ q
@@ -73,10 +77,11 @@ IsOfLists Cause.too_large = Unit {0}
 IsOfLists Cause.counts_differ = Unit {0}
 IsOfLists Cause.k_above_count = Unit {0}
 IsOfLists Cause.no_random = Unit {0}
+IsOfLists Cause.no_sorted = Unit {0}
 IsOfLists cause = ⊥
 
 of_lists : (cause : Cause) → Contains list_causes cause → IsOfLists cause
-of_lists cause h = member_of_all IsOfLists list_causes cause (All-from_recursion IsOfLists list_causes (tt, (tt, (tt, (tt, (tt, tt)))))) h
+of_lists cause h = member_of_all IsOfLists list_causes cause (All-from_recursion IsOfLists list_causes (tt, (tt, (tt, (tt, (tt, (tt, tt))))))) h
 
 gives_here : (x : QueryLine) (q : Query) (lists : List Listed) (cause : Cause) (refusal : Refusal) → IsHere x q lists → ListsGive q lists cause refusal
     → RefusesFor x cause refusal
@@ -89,6 +94,7 @@ gives_here x q lists Cause.too_large refusal here h = record { query = q; lists 
 gives_here x q lists Cause.counts_differ refusal here h = record { query = q; lists = lists; reads = here.reads; listed = here.listed; holds = h }
 gives_here x q lists Cause.k_above_count refusal here h = record { query = q; lists = lists; reads = here.reads; listed = here.listed; holds = h }
 gives_here x q lists Cause.no_random refusal here h = record { query = q; lists = lists; reads = here.reads; listed = here.listed; holds = h }
+gives_here x q lists Cause.no_sorted refusal here h = record { query = q; lists = lists; reads = here.reads; listed = here.listed; holds = h }
 
 gives_back : (x : QueryLine) (q : Query) (lists : List Listed) (cause : Cause) (refusal : Refusal) → IsHere x q lists → IsOfLists cause → RefusesFor x cause refusal
     → ListsGive q lists cause refusal
@@ -101,6 +107,7 @@ gives_back x q lists Cause.too_large refusal here of h = over_here x q lists (λ
 gives_back x q lists Cause.counts_differ refusal here of h = over_here x q lists (λ p ls. ListsGive p ls Cause.counts_differ refusal) here h
 gives_back x q lists Cause.k_above_count refusal here of h = over_here x q lists (λ p ls. ListsGive p ls Cause.k_above_count refusal) here h
 gives_back x q lists Cause.no_random refusal here of h = over_here x q lists (λ p ls. ListsGive p ls Cause.no_random refusal) here h
+gives_back x q lists Cause.no_sorted refusal here of h = over_here x q lists (λ p ls. ListsGive p ls Cause.no_sorted refusal) here h
 
 -- the causes before those of the lists don't hold
 abbrev Never : QueryLine → Cause → Type 0
@@ -163,6 +170,7 @@ faults_name_none (LongLine limit) = refl
 faults_name_none (Syntax at) = refl
 faults_name_none (Number at) = refl
 faults_name_none (TooManyLists at) = refl
+faults_name_none (BadTheta p q) = refl
 faults_name_none (TooManyNodes nodes) = refl
 faults_name_none (TooDeep depth) = refl
 faults_name_none (TooBig node) = refl
@@ -246,10 +254,34 @@ refused_lists_why x q lists refusal here why =
       named = subst (λ n. All (λ list. list < n) (refused_lists refusal)) (sym (listed_many x.view q lists here.listed)) why.1;
     }
 
+-- an algorithm that isn't refused for it has what it reads
+sorted_there : (lists : List Listed) (place : ℕ) (d : Listed) → place < length lists → offers_sorted (slice_index_or lists place d) ≡ true
+    → Contains (sorted_at lists) true
+sorted_there [] place d within is = absurd (omega arith)
+sorted_there (list ∷ lists) zero d within is = (0, omega arith, is)
+sorted_there (list ∷ lists) (suc place) d within is = let later = sorted_there lists place d (omega arith) is in (suc later.0, omega (arith, later.1), later.2)
+
+has_some : (lists : List Listed) (found : Option ℕ) → position offers_sorted lists ≡ found
+    → (◌≡◌ {A = Option ℕ} (if is_some found then None else Some 0) (Some 0) → ⊥)
+    → Contains (sorted_at lists) true
+has_some lists None e none = absurd (none refl)
+has_some lists (Some place) e none = sorted_there lists place nothing (found_within offers_sorted lists place e) (found_passes offers_sorted lists place e)
+
+has_to_read : (algorithm : Algorithm) (lists : List Listed) (sorted : List Bool) → sorted_at lists ≡ sorted
+    → ((list : ℕ) → unread_list algorithm lists ≡ Some list → ⊥) → HasToRead algorithm sorted
+has_to_read Ta lists sorted is none = tt
+has_to_read Nra lists sorted is none = tt
+has_to_read Ca lists sorted is none = tt
+has_to_read Fa lists sorted is none = tt
+has_to_read (Theta p q) lists sorted is none = tt
+has_to_read (Early depth) lists sorted is none = tt
+has_to_read Taz lists sorted is none = subst (λ s. Contains s true) is (has_some lists (position offers_sorted lists) refl (none 0))
+
 -- a query is ready
 pub ready_admitted : (x : QueryLine) (ready : Ready) (lists : List Listed) → IsHere x ready.query lists → Screens ready.query lists (Ok ready.count)
-    → map (λ list. list.source) lists ≡ ready.sources.items → versions_at lists ≡ ready.versions.items → IsAdmitted x ready
-ready_admitted x ready lists here screens sources versions =
+    → map (λ list. list.source) lists ≡ ready.sources.items → versions_at lists ≡ ready.versions.items → sorted_at lists ≡ ready.sorted.items
+    → IsAdmitted x ready
+ready_admitted x ready lists here screens sources versions sorted =
     let many = listed_many x.view ready.query lists here.listed in
     let some : 0 < length lists = omega (arith, many, lists_counted ready.query here.reads.0.lawful, here.reads.1.lists.some) in
     record {
@@ -264,6 +296,9 @@ ready_admitted x ready lists here screens sources versions =
         counted = small_size lists 0 ready.count screens.2 some (sym (size_there lists 0 some) ∙ screens.1);
         sources = ap length (sym sources) ∙ length-map lists (λ (list : Listed). list.source) ∙ sym many;
         versions = ap length (sym versions) ∙ length-map lists (λ (list : Listed). list.version) ∙ sym many;
+        sorted = ap length (sym sorted) ∙ length-map lists (λ (list : Listed). list.sorted) ∙ sym many;
+        readable = has_to_read ready.query.algorithm lists ready.sorted.items sorted (λ list e.
+            member_of_all (λ c. (any : Refusal) → ¬ ListsGive ready.query lists c any) list_causes Cause.no_sorted screens.0 (5, omega arith, refl) (NoSorted list) (list, refl, e));
       };
       reads = here.reads;
       lists = lists;
@@ -271,21 +306,22 @@ ready_admitted x ready lists here screens sources versions =
       count = screens.1;
       sources = sources;
       versions = versions;
+      sorted = sorted;
     }
 
 -- a query that fits its lists
 pub fits_weighed : {E : Type 0} (view : View) (q : Query) (lists : List Listed) (n : ℕ) (weighed : Result Weighed E) → AreListed view q lists
     → Screens q lists (Ok n) → IfOk weighed (FitsOver lists n) → IfOk weighed (Weighs view q)
-fits_weighed view q lists n (Ok (Fits count sources versions)) listed screens is =
-    (lists, listed, subst (λ m. Screens q lists (Ok m)) (sym is.0) screens, is.1, is.2)
+fits_weighed view q lists n (Ok (Fits count sources versions sorted)) listed screens is =
+    (lists, listed, subst (λ m. Screens q lists (Ok m)) (sym is.0) screens, is.1, is.2, is.3)
 fits_weighed view q lists n (Ok (NotReady refusal)) listed screens is = absurd is
 fits_weighed view q lists n (Err e) listed screens is = tt
 
 -- a query that was weighed over the lists of the line's view
 pub ready_weighed : (x : QueryLine) (ready : Ready) → x.number ≤ most_queries → Reads x.bytes (Ok ready.query)
-    → Weighs x.view ready.query (Fits ready.count ready.sources ready.versions) → IsAdmitted x ready
+    → Weighs x.view ready.query (Fits ready.count ready.sources ready.versions ready.sorted) → IsAdmitted x ready
 ready_weighed x ready few reads weighed =
-    ready_admitted x ready weighed.0 (record { few = few; reads = reads; listed = weighed.1 }) weighed.2 weighed.3 weighed.4
+    ready_admitted x ready weighed.0 (record { few = few; reads = reads; listed = weighed.1 }) weighed.2 weighed.3 weighed.4 weighed.5
 
 pub query_weighed : (x : QueryLine) (q : Query) (refusal : Refusal) → x.number ≤ most_queries → Reads x.bytes (Ok q) → Weighs x.view q (NotReady refusal)
     → RefusesLine admission_causes x refusal (Some q)
@@ -297,7 +333,7 @@ query_weighed x q refusal few reads weighed =
 
 pub weighed_admits : {E : Type 0} (x : QueryLine) (q : Query) (weighed : Result Weighed E) → x.number ≤ most_queries → Reads x.bytes (Ok q)
     → IfOk weighed (Weighs x.view q) → IfOk (admitted_as q weighed) (Admits x)
-weighed_admits x q (Ok (Fits count sources versions)) few reads is =
-    ready_weighed x (record { query = q; count = count; sources = sources; versions = versions }) few reads is
+weighed_admits x q (Ok (Fits count sources versions sorted)) few reads is =
+    ready_weighed x (record { query = q; count = count; sources = sources; versions = versions; sorted = sorted }) few reads is
 weighed_admits x q (Ok (NotReady refusal)) few reads is = query_weighed x q refusal few reads is
 weighed_admits x q (Err memory) few reads is = tt

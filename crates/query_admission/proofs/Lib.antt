@@ -5,3 +5,4 @@ pub mod Seeking
 pub mod Admitting
 pub mod Becoming
 pub mod ReadyLists
+pub mod AllSorted

@@ -9,7 +9,7 @@ use Rattle.query_admission.specs.declared.lists.Listed.{Listed}
 
 -- a list of which nothing is known
 abbrev pub nothing : Listed
-nothing = record { size = None; random = false; source = 0; version = 0 }
+nothing = record { size = None; random = false; sorted = false; source = 0; version = 0 }
 
 -- a place that is found is within the lists, and what stands there passes
 pub found_within : (test : Listed → Bool) (lists : List Listed) (place : ℕ) → position test lists ≡ Some place → place < length lists

@@ -4,10 +4,10 @@ use Rattle.std.specs.List.{position}
 use Rattle.std.proofs.lemmas.Bool.{not-false, eqb-true}
 use Rattle.topk_theory.proofs.AgreementLists.{member_of_all}
 use Rattle.cert_text.specs.declared.refusal.Refusal.{Refusal}
-use Rattle.cert_text.specs.declared.refusal.Refusal.TheVariants.{NotOpened, CountsDiffer, NoRandom}
+use Rattle.cert_text.specs.declared.refusal.Refusal.TheVariants.{NotOpened, CountsDiffer, NoRandom, NoSorted}
 use Rattle.query_core.specs.declared.ready.Ready.{Ready}
 use Rattle.query_core.specs.Algorithms.{asks_grades}
-use Rattle.query_admission.specs.View.{size_passes, is_closed, differs, lacks_random, size_stated}
+use Rattle.query_admission.specs.View.{size_passes, is_closed, differs, lacks_random, lacks_sorted, unread_list, size_stated}
 use Rattle.query_admission.specs.Causes.{QueryLine, Cause, admission_causes, RefusesFor}
 use Rattle.query_admission.specs.Admission.{IsAdmitted}
 use Rattle.query_admission.proofs.Positions.{nothing, none_at, found_within, size_there}
@@ -62,3 +62,12 @@ admitted_offers x ready admitted asks place within =
     never x ready Cause.no_random 7 (NoRandom at) admitted (omega arith) refl
     (record { query = ready.query; lists = admitted.lists; reads = admitted.reads; listed = admitted.listed; holds = (at, refl, asks, e) })) in
     not-false (slice_index_or admitted.lists place nothing).random (none_at lacks_random admitted.lists place offered within)
+
+-- where the algorithm reads all lists in order each offers sorted access
+pub admitted_sorts : (x : QueryLine) (ready : Ready) (admitted : IsAdmitted x ready) → unread_list ready.query.algorithm admitted.lists ≡ position lacks_sorted admitted.lists
+    → (place : ℕ) → place < length admitted.lists → (slice_index_or admitted.lists place nothing).sorted ≡ true
+admitted_sorts x ready admitted all place within =
+    let offered : position lacks_sorted admitted.lists ≡ None = no_place (position lacks_sorted admitted.lists) (λ at e.
+    never x ready Cause.no_sorted 8 (NoSorted at) admitted (omega arith) refl
+    (record { query = ready.query; lists = admitted.lists; reads = admitted.reads; listed = admitted.listed; holds = (at, refl, all ∙ e) })) in
+    not-false (slice_index_or admitted.lists place nothing).sorted (none_at lacks_sorted admitted.lists place offered within)

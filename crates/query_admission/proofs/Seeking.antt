@@ -56,7 +56,7 @@ known_more known_by (first ∷ names) (other ∷ known) (suc place) name list so
     ap (λ o. o ∷ map known_by (take (suc place) names)) here ∙ ap (λ os. Some other ∷ os) later
 
 -- what one list more says of itself
-pub gathered_more : (field : Listed → ℕ) (lists : List Listed) (place : ℕ) (gathered now : List ℕ) (d : Listed) → place < length lists
+pub gathered_more : {X : Type 0} (field : Listed → X) (lists : List Listed) (place : ℕ) (gathered now : List X) (d : Listed) → place < length lists
     → gathered ≡ map field (take place lists) → now ≡ gathered ++ field (get_or lists place d) ∷ [] → now ≡ map field (take (place + 1) lists)
 gathered_more field lists place gathered now d within so_far push =
     push

@@ -7,7 +7,7 @@ use Rattle.cert_text.specs.Refusal.{refused_lists}
 use Rattle.cert_text.specs.Outcome.{names_of}
 use Rattle.query_core.specs.declared.ready.Ready.{Ready}
 use Rattle.query_core.specs.Ready.{IsReady}
-use Rattle.query_admission.specs.View.{View, AreListed, versions_at, count_of}
+use Rattle.query_admission.specs.View.{View, AreListed, versions_at, sorted_at, count_of}
 use Rattle.query_admission.specs.Causes.{most_queries, QueryLine, Cause, text_causes, admission_causes, RefusesFor, NoneOf, IsFirstOf}
 use Rattle.query_admission.specs.declared.lists.Listed.{Listed}
 use Rattle.query_admission.specs.declared.reading.ReadLine.{ReadLine}
@@ -27,7 +27,8 @@ abbrev pub IsReadAs : ℕ → List ℕ → ReadLine → Type 0
 IsReadAs number bytes (NotRead refusal) = (view : View) → RefusesLine text_causes (record { view = view; number = number; bytes = bytes }) refusal None
 IsReadAs number bytes (IsQuery query) = (number ≤ most_queries) × Reads bytes (Ok query)
 
--- nothing refuses the line before it runs; it is ready with its query, with the count of that, and with the sources and the versions of its lists
+-- nothing refuses the line before it runs; it is ready with its query, with the count of that, and with the sources, the versions and the
+-- sorted accesses of its lists
 pub record IsAdmitted (x : QueryLine) (ready : Ready) : Type 0 where
   pub unrefused : NoneOf (RefusesFor x) admission_causes
   pub sound : IsReady ready
@@ -37,6 +38,7 @@ pub record IsAdmitted (x : QueryLine) (ready : Ready) : Type 0 where
   pub count : count_of lists ≡ Some ready.count
   pub sources : map (λ list. list.source) lists ≡ ready.sources.items
   pub versions : versions_at lists ≡ ready.versions.items
+  pub sorted : sorted_at lists ≡ ready.sorted.items
 
 -- what admission answers
 abbrev pub Admits : QueryLine → Admitted → Type 0

@@ -7,8 +7,8 @@ use Rattle.query_text.specs.declared.query.Query.{Query}
 use Rattle.query_text.specs.Reading.{Reads}
 use Rattle.cert_text.specs.declared.outcome.Outcome.{Outcome}
 use Rattle.cert_text.specs.declared.outcome.Outcome.TheVariants.{Answered, Refused}
-use Rattle.query_core.specs.OneAnswer.{IsAnswered}
-use Rattle.query_admission.specs.View.{AreListed, AreTold, versions_at, count_of}
+use Rattle.query_core.specs.OneAnswer.{IsAnsweredWith}
+use Rattle.query_admission.specs.View.{AreListed, AreTold, versions_at, method_over, count_of}
 use Rattle.query_admission.specs.Causes.{QueryLine, line_causes, RefusesFor, NoneOf}
 use Rattle.query_admission.specs.Admission.{RefusesLine}
 use Rattle.query_admission.specs.declared.lists.Listed.{Listed}
@@ -22,7 +22,7 @@ pub record AnswersLine (x : QueryLine) (q : Query) (count : ℕ) (versions : Lis
   pub listed : AreListed x.view q lists
   pub counted : count_of lists ≡ Some count
   pub opened : versions_at lists ≡ versions
-  pub right : IsAnswered q count answer
+  pub right : IsAnsweredWith (method_over q lists) q count answer
   pub agrees : (D : List (List Row)) → AreTold x.view q D → AgreesWith D answer.transcript
 
 -- what becomes of a line: the query that it spells, where it was read; the count and the versions of its lists, where it's answered; and the outcome

@@ -5,14 +5,14 @@ use Rattle.ranked_list.specs.declared.row.Row.{Row}
 use Rattle.query_text.specs.declared.query.Query.{Query}
 use Rattle.query_text.specs.declared.fault.QueryFault.{QueryFault}
 use Rattle.query_text.specs.declared.fault.QueryFault.TheVariants.{LongLine as Long, Syntax as BadSyntax, Number as BadNumber, Memory}
-use Rattle.query_text.specs.declared.fault.QueryFault.TheVariants.{TooManyLists as ManyLists, TooManyNodes as ManyNodes, TooDeep as Deep, TooBig as Big}
+use Rattle.query_text.specs.declared.fault.QueryFault.TheVariants.{TooManyLists as ManyLists, BadTheta as BadFactor, TooManyNodes as ManyNodes, TooDeep as Deep, TooBig as Big}
 use Rattle.query_text.specs.Reading.{Reads}
 use Rattle.cert_text.specs.declared.refusal.Refusal.{Refusal}
-use Rattle.cert_text.specs.declared.refusal.Refusal.TheVariants.{ManyQueries, LongLine, Syntax, Number, TooManyLists, TooManyNodes, TooDeep, TooBig}
-use Rattle.cert_text.specs.declared.refusal.Refusal.TheVariants.{UnknownList, NotOpened, TooLarge, CountsDiffer, KAboveCount, NoRandom, RoomFull}
+use Rattle.cert_text.specs.declared.refusal.Refusal.TheVariants.{ManyQueries, LongLine, Syntax, Number, TooManyLists, BadTheta, TooManyNodes, TooDeep, TooBig}
+use Rattle.cert_text.specs.declared.refusal.Refusal.TheVariants.{UnknownList, NotOpened, TooLarge, CountsDiffer, KAboveCount, NoRandom, NoSorted, RoomFull}
 use Rattle.query_core.specs.Algorithms.{asks_grades}
-use Rattle.query_core.specs.OneAnswer.{IsOverRoom}
-use Rattle.query_admission.specs.View.{View, AreListed, AreTold, is_closed, is_large, differs, lacks_random, size_stated, count_of}
+use Rattle.query_core.specs.OneAnswer.{IsOverRoomWith}
+use Rattle.query_admission.specs.View.{View, AreListed, AreTold, is_closed, is_large, differs, lacks_random, unread_list, method_over, size_stated, count_of}
 use Rattle.query_admission.specs.declared.lists.Listed.{Listed}
 use Rattle.limits.specs.declared.TheConstants.{MAX_QUERIES}
 
@@ -36,6 +36,7 @@ pub data Cause : Type 0 where
   counts_differ : Cause
   k_above_count : Cause
   no_random : Cause
+  no_sorted : Cause
   room_full : Cause
 
 -- the causes that lie in a line alone, whatever lists there are; those that are tried before a query runs, in their order; all causes
@@ -44,7 +45,8 @@ text_causes = Cause.many_queries ∷ Cause.text ∷ []
 
 abbrev pub admission_causes : List Cause
 admission_causes =
-    Cause.many_queries ∷ Cause.text ∷ Cause.unknown_list ∷ Cause.not_opened ∷ Cause.too_large ∷ Cause.counts_differ ∷ Cause.k_above_count ∷ Cause.no_random ∷ []
+    Cause.many_queries ∷ Cause.text ∷ Cause.unknown_list ∷ Cause.not_opened ∷ Cause.too_large ∷ Cause.counts_differ ∷ Cause.k_above_count ∷ Cause.no_random
+    ∷ Cause.no_sorted ∷ []
 
 abbrev pub line_causes : List Cause
 line_causes = admission_causes ++ Cause.room_full ∷ []
@@ -55,6 +57,7 @@ text_refusal (Long limit) = Some (LongLine limit)
 text_refusal (BadSyntax at) = Some (Syntax at)
 text_refusal (BadNumber at) = Some (Number at)
 text_refusal (ManyLists at) = Some (TooManyLists at)
+text_refusal (BadFactor p q) = Some (BadTheta p q)
 text_refusal (ManyNodes nodes) = Some (TooManyNodes nodes)
 text_refusal (Deep depth) = Some (TooDeep depth)
 text_refusal (Big node) = Some (TooBig node)
@@ -84,6 +87,7 @@ ListsGive q lists Cause.counts_differ refusal =
 ListsGive q lists Cause.k_above_count refusal = (n : ℕ) × (refusal ≡ KAboveCount q.k n) × (count_of lists ≡ Some n) × (n < q.k)
 ListsGive q lists Cause.no_random refusal =
     (list : ℕ) × (refusal ≡ NoRandom list) × IsTrue (asks_grades q.algorithm) × (position lacks_random lists ≡ Some list)
+ListsGive q lists Cause.no_sorted refusal = (list : ℕ) × (refusal ≡ NoSorted list) × (unread_list q.algorithm lists ≡ Some list)
 ListsGive q lists other refusal = ⊥
 
 -- the cause holds of the line, and gives this refusal
@@ -93,7 +97,7 @@ RefusesFor x Cause.text refusal = (fault : QueryFault) × (text_refusal fault �
 RefusesFor x Cause.unknown_list refusal = Spelled x (λ q. (list : ℕ) × (refusal ≡ UnknownList list) × (position is_none (map x.view.listed q.names) ≡ Some list))
 RefusesFor x Cause.room_full refusal =
     Over x (λ q lists. (D : List (List Row)) × (n room : ℕ) × (refusal ≡ RoomFull room) × AreTold x.view q D × (count_of lists ≡ Some n)
-    × IsOverRoom q n D room)
+    × IsOverRoomWith (method_over q lists) q n D room)
 RefusesFor x cause refusal = Over x (λ q lists. ListsGive q lists cause refusal)
 
 -- none of the causes holds

@@ -1,7 +1,11 @@
 -- Lists by their names, as far as they are known.
-use Rattle.std.specs.Prelude.{◌≡◌, ◌==◌, ℕ, Bool, false, not, nat_lt, is_none, List, map, Option, None, Some, slice_get, option_and_then}
+use Rattle.std.specs.Prelude.{◌≡◌, ◌==◌, ℕ, Bool, false, not, nat_lt, is_none, is_some, List, map, Option, None, Some, slice_get, option_and_then, if◌then◌else◌}
+use Rattle.std.specs.List.{position}
 use Rattle.ranked_list.specs.declared.row.Row.{Row}
 use Rattle.query_text.specs.declared.query.Query.{Query}
+use Rattle.query_text.specs.declared.algorithm.Algorithm.{Algorithm}
+use Rattle.query_text.specs.declared.algorithm.Algorithm.TheVariants.{Taz}
+use Rattle.query_core.specs.Methods.{Method, method_with}
 use Rattle.query_admission.specs.declared.lists.Listed.{Listed}
 use Rattle.limits.specs.declared.TheConstants.{MAX_OBJECTS}
 
@@ -26,7 +30,8 @@ abbrev pub size_passes : (ℕ → Bool) → Option ℕ → Bool
 size_passes test None = false
 size_passes test (Some size) = test size
 
--- the list wasn't opened; it states more objects than a list may have; it states another size than this; it offers no random access
+-- the list wasn't opened; it states more objects than a list may have; it states another size than this; it offers no random access; it offers
+-- sorted access; it offers none
 abbrev pub is_closed : Listed → Bool
 is_closed list = is_none list.size
 
@@ -38,6 +43,25 @@ differs n list = size_passes (λ size. not (size == n)) list.size
 
 abbrev pub lacks_random : Listed → Bool
 lacks_random list = not list.random
+
+abbrev pub offers_sorted : Listed → Bool
+offers_sorted list = list.sorted
+
+abbrev pub lacks_sorted : Listed → Bool
+lacks_sorted list = not list.sorted
+
+-- the number of the list for which an algorithm can't read the lists in order, if there is one: the first list without sorted access; but where the
+-- algorithm reads those lists that have it, the first of all lists where none has it
+abbrev pub unread_list : Algorithm → List Listed → Option ℕ
+unread_list Taz lists = if is_some (position offers_sorted lists) then None else Some 0
+unread_list algorithm lists = position lacks_sorted lists
+
+-- of each list, whether it offers sorted access; by what a query runs over lists
+abbrev pub sorted_at : List Listed → List Bool
+sorted_at lists = map (λ list. list.sorted) lists
+
+abbrev pub method_over : Query → List Listed → Method
+method_over q lists = method_with q.algorithm (sorted_at lists)
 
 -- the versions that lists had when they were opened
 abbrev pub versions_at : List Listed → List ℕ

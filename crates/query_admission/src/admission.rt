@@ -5,7 +5,7 @@ ghost use Rattle.query_text.specs.Reading.{Reads};
 ghost use Rattle.query_admission.specs.Causes.{most_queries};
 ghost use Rattle.query_admission.specs.Admission.{Admits, IsReadAs};
 ghost use Rattle.query_admission.specs.Screening.{Weighs, FitsOver, admitted_as};
-ghost use Rattle.query_admission.specs.View.{View, AreListed, versions_at};
+ghost use Rattle.query_admission.specs.View.{View, AreListed, versions_at, sorted_at};
 
 use super::Memory;
 use super::admitted::Admitted;
@@ -19,13 +19,15 @@ use query_core::Ready;
 use query_text::Query;
 use std::alloc::Global;
 
-/// What a query comes to over lists: ready with its count, the numbers of its sources and the versions of its lists, or refused.
+/// What a query comes to over lists: ready with its count, the numbers of its sources, the versions of its lists and
+/// whether each offers sorted access, or refused.
 #[derive(Drop)]
 pub(crate) enum Weighed {
     Ready {
         count: u32,
         sources: Vec<u32>,
         versions: Vec<u64>,
+        sorted: Vec<bool>,
     },
     Refused(Refusal),
 }
@@ -36,8 +38,9 @@ pub(crate) enum Weighed {
 /// The refusals come in this order: a line too many, the faults of the text, and then over the
 /// lists that the query names, in its order, each by the first list that shows it: a name that no
 /// list has, a list that wasn't opened, one of more than 200,000 objects, one that states another
-/// size than the first, a `k` above that size, and a list without random access where the algorithm
-/// asks for grades.
+/// size than the first, a `k` above that size, a list without random access where the algorithm
+/// asks for grades, and a list without sorted access; `taz` reads those that have it, and is refused
+/// with the first list where none has it.
 ///
 /// *Cost*: `read_line` and `admit_read`.
 pub fn admit<L: Lists>(
@@ -91,12 +94,14 @@ fn admitted_as(query: Query, weighed: Result<Weighed, Memory>) -> Result<Admitte
                 count,
                 sources,
                 versions,
+                sorted,
             },
         ) => Ok(Admitted::Ready(Ready {
             query,
             count,
             sources,
             versions,
+            sorted,
         })),
         Ok(Weighed::Refused(refusal)) => Ok(Admitted::Refused {
             refusal,
@@ -141,10 +146,14 @@ fn fits(alloc: Global, known: &[Listed], count: u32) -> Result<Weighed, Memory>
     let Ok(versions) = versions_of(alloc, known) else {
         return Err(Memory);
     };
+    let Ok(sorted) = sorted_of(alloc, known) else {
+        return Err(Memory);
+    };
     Ok(Weighed::Ready {
         count,
         sources,
         versions,
+        sorted,
     })
 }
 
@@ -172,4 +181,17 @@ fn versions_of(alloc: Global, lists: &[Listed]) -> Result<Vec<u64>, Memory>
         };
     }
     Ok(versions)
+}
+
+/// Whether each of these lists offers sorted access.
+fn sorted_of(alloc: Global, lists: &[Listed]) -> Result<Vec<bool>, Memory>
+    ensures { IfOk result (λ sorted. sorted.items ≡ sorted_at lists.now) }
+{
+    let mut sorted = Vec::new(alloc);
+    for list in lists {
+        let Ok(()) = sorted.push(list.sorted) else {
+            return Err(Memory);
+        };
+    }
+    Ok(sorted)
 }

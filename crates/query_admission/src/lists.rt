@@ -10,6 +10,8 @@ pub struct Listed {
     pub size: Option<u64>,
     /// Whether the list offers random access.
     pub random: bool,
+    /// Whether the list offers sorted access.
+    pub sorted: bool,
     /// The number of the list's source. It has no meaning where the list wasn't opened.
     pub source: u32,
     /// The version that the list had when it was opened. It has no meaning where the list wasn't opened.

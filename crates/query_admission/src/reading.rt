@@ -48,6 +48,7 @@ fn refusal_of(fault: QueryFault) -> Option<Refusal>
         QueryFault::Syntax { at } => Some(Refusal::Syntax { at }),
         QueryFault::Number { at } => Some(Refusal::Number { at }),
         QueryFault::TooManyLists { at } => Some(Refusal::TooManyLists { at }),
+        QueryFault::BadTheta { p, q } => Some(Refusal::BadTheta { p, q }),
         QueryFault::TooManyNodes { nodes } => Some(Refusal::TooManyNodes { nodes }),
         QueryFault::TooDeep { depth } => Some(Refusal::TooDeep { depth }),
         QueryFault::TooBig { node } => Some(Refusal::TooBig { node }),

@@ -3,7 +3,8 @@
 ghost use Rattle.std.specs.Prelude.{◌≡◌, ◌≤◌, ◌<◌, length, IfNone};
 ghost use Rattle.std.specs.List.{position};
 ghost use Rattle.query_text.specs.declared.query.Query.{Query as AnyQuery};
-ghost use Rattle.query_admission.specs.View.{is_closed, is_large, differs, lacks_random, count_of};
+ghost use Rattle.query_text.specs.declared.algorithm.Algorithm.TheVariants.{Taz};
+ghost use Rattle.query_admission.specs.View.{is_closed, is_large, differs, lacks_random, lacks_sorted, offers_sorted, unread_list, count_of};
 ghost use Rattle.query_admission.specs.Causes.{Cause, ListsGive};
 ghost use Rattle.query_admission.specs.Screening.{Decides, Screens};
 
@@ -11,7 +12,7 @@ use super::lists::Listed;
 use cert_text::Refusal;
 use limits::{MAX_LISTS, MAX_OBJECTS};
 use query_core::asks_grades;
-use query_text::Query;
+use query_text::{Algorithm, Query};
 
 /// Whether a list states more objects than a list may have.
 fn is_large(list: &Listed) -> bool
@@ -59,6 +60,45 @@ fn first_lacking(lists: &[Listed]) -> Option<usize>
     ensures { result ≡ position lacks_random lists.now }
 {
     lists.iter().position(|list| !list.random)
+}
+
+/// The number of the first list without sorted access.
+fn first_unsorted(lists: &[Listed]) -> Option<usize>
+    ensures { result ≡ position lacks_sorted lists.now }
+{
+    lists.iter().position(|list| !list.sorted)
+}
+
+/// The number of the first list with sorted access.
+fn first_sorted(lists: &[Listed]) -> Option<usize>
+    ensures { result ≡ position offers_sorted lists.now }
+{
+    lists.iter().position(|list| list.sorted)
+}
+
+/// The number of the first list, unless a list has sorted access.
+fn none_sorted(lists: &[Listed]) -> Option<usize>
+    ensures { result ≡ unread_list Taz lists.now }
+{
+    if first_sorted(lists).is_some() {
+        return None;
+    }
+    Some(0)
+}
+
+/// The number of the list for which an algorithm can't read the lists in order, if there is one.
+fn unread_list(algorithm: Algorithm, lists: &[Listed]) -> Option<usize>
+    ensures { result ≡ unread_list algorithm lists.now }
+{
+    match algorithm {
+        Algorithm::Ta => first_unsorted(lists),
+        Algorithm::Nra => first_unsorted(lists),
+        Algorithm::Ca => first_unsorted(lists),
+        Algorithm::Fa => first_unsorted(lists),
+        Algorithm::Theta { p: _, q: _ } => first_unsorted(lists),
+        Algorithm::Early { depth: _ } => first_unsorted(lists),
+        Algorithm::Taz => none_sorted(lists),
+    }
 }
 
 /// The first list that wasn't opened, if there is one.
@@ -150,6 +190,18 @@ fn no_random(query: &Query, lists: &[Listed]) -> Option<Refusal>
     Some(Refusal::NoRandom { list: list as u8 })
 }
 
+/// The first list without sorted access, where the query's algorithm reads all lists in order; where it reads those that have it, the
+/// first list of all where none has it.
+fn no_sorted(query: &Query, lists: &[Listed]) -> Option<Refusal>
+    requires { length lists.now ≤ MAX_LISTS }
+    ensures { Decides (ListsGive query.now lists.now Cause.no_sorted) result }
+{
+    let Some(list) = unread_list(query.algorithm, lists) else {
+        return None;
+    };
+    Some(Refusal::NoSorted { list: list as u8 })
+}
+
 /// The first cause for which a query isn't admitted over its lists, or the count of the query.
 pub(crate) fn screen(query: &Query, lists: &[Listed]) -> Result<u32, Refusal>
     requires some { 0 < length lists.now }
@@ -169,6 +221,9 @@ pub(crate) fn screen(query: &Query, lists: &[Listed]) -> Result<u32, Refusal>
         return Err(refusal);
     }
     if let Some(refusal) = no_random(query, lists) {
+        return Err(refusal);
+    }
+    if let Some(refusal) = no_sorted(query, lists) {
         return Err(refusal);
     }
     let Some(count) = count_of(lists) else {

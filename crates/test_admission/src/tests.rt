@@ -38,21 +38,25 @@ enum Under {
     Closed,
     /// A list of this many objects without random access.
     SortedOnly(u64),
-    /// A list of this many objects with random access.
+    /// A list of this many objects with random access alone.
+    RandomOnly(u64),
+    /// A list of this many objects with both accesses.
     Both(u64),
 }
 
 /// What is found under a name.
 fn listed(under: Under) -> Option<Listed> {
-    let (size, random, source, version) = match under {
+    let (size, random, sorted, source, version) = match under {
         Under::Nothing => return None,
-        Under::Closed => (None, false, 0, 0),
-        Under::SortedOnly(size) => (Some(size), false, 9, 3),
-        Under::Both(size) => (Some(size), true, 7, u64::MAX),
+        Under::Closed => (None, false, false, 0, 0),
+        Under::SortedOnly(size) => (Some(size), false, true, 9, 3),
+        Under::RandomOnly(size) => (Some(size), true, false, 8, 5),
+        Under::Both(size) => (Some(size), true, true, 7, u64::MAX),
     };
     Some(Listed {
         size,
         random,
+        sorted,
         source,
         version,
     })
@@ -131,6 +135,57 @@ const ROWS: &[Row] = &[
         b"top 4 by sum(A,BB) using fa",
         ("NoRandom", [1, 0, 0, 0]),
     ),
+    // The algorithms that read all lists in order, and the one that reads those that can be read.
+    (
+        Under::RandomOnly(4),
+        Under::SortedOnly(4),
+        1,
+        QUERY,
+        ("NoRandom", [1, 0, 0, 0]),
+    ),
+    (
+        Under::Both(4),
+        Under::RandomOnly(4),
+        1,
+        QUERY,
+        ("NoSorted", [1, 0, 0, 0]),
+    ),
+    (
+        Under::RandomOnly(4),
+        Under::SortedOnly(4),
+        1,
+        b"top 4 by sum(BB,A) using nra",
+        ("NoSorted", [1, 0, 0, 0]),
+    ),
+    (
+        Under::RandomOnly(4),
+        Under::RandomOnly(4),
+        1,
+        b"top 4 by sum(A,BB) using taz",
+        ("NoSorted", [0, 0, 0, 0]),
+    ),
+    (
+        Under::RandomOnly(4),
+        Under::SortedOnly(4),
+        1,
+        b"top 4 by sum(A,BB) using taz",
+        ("NoRandom", [1, 0, 0, 0]),
+    ),
+    (
+        Under::RandomOnly(3),
+        Under::RandomOnly(3),
+        1,
+        b"top 4 by sum(A,BB) using taz",
+        ("KAboveCount", [4, 3, 0, 0]),
+    ),
+    // A factor of less than one comes before the lists are looked at.
+    (
+        Under::Nothing,
+        Under::Nothing,
+        1,
+        b"top 4 by sum(A,BB) using theta 7/8",
+        ("BadTheta", [7, 8, 0, 0]),
+    ),
 ];
 
 /// The name and the fields of a refusal of these rows.
@@ -152,6 +207,8 @@ fn told(refusal: Refusal) -> Told {
         }
         Refusal::KAboveCount { k, n } => ("KAboveCount", [u64::from(k), u64::from(n), 0, 0]),
         Refusal::NoRandom { list } => ("NoRandom", [u64::from(list), 0, 0, 0]),
+        Refusal::NoSorted { list } => ("NoSorted", [u64::from(list), 0, 0, 0]),
+        Refusal::BadTheta { p, q } => ("BadTheta", [u64::from(p), u64::from(q), 0, 0]),
         _ => ("another one", [0; 4]),
     }
 }
@@ -203,6 +260,36 @@ fn is_ready(admitted: &Admitted, count: u32, sources: &[u32], versions: &[u64]) 
         }
         Admitted::Refused { .. } => false,
     }
+}
+
+/// Whether a line is ready over lists of which the first and the second are read in order as told.
+fn is_ready_so(admitted: &Admitted, first: bool, second: bool) -> bool {
+    match admitted {
+        Admitted::Ready(ready) => {
+            let sorted = ready.sorted.as_slice();
+            sorted.len() == 2 && sorted[0] == first && sorted[1] == second
+        }
+        Admitted::Refused { .. } => false,
+    }
+}
+
+/// Whether a line that reads in order those lists that can be read so is ready.
+fn is_admitted_so(alloc: Global) -> bool {
+    let lists = Two {
+        short: listed(Under::Both(4)),
+        long: listed(Under::RandomOnly(4)),
+    };
+    let Ok(admitted) = admit(alloc, &lists, 1, b"top 4 by sum(BB,A) using taz") else {
+        return false;
+    };
+    let is_so = is_ready_so(&admitted, false, true);
+    drop(admitted);
+    is_so
+}
+
+#[test]
+fn admits_where_one_list_is_read(rt: HostRuntime) {
+    assert!(rt; is_admitted_so(rt.alloc()));
 }
 
 /// Whether a line over the most objects is ready.

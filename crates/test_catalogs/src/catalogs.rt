@@ -54,6 +54,41 @@ const TEXTS: &[(&[u8], Wrong)] = &[
         b"name,place,random\nA,\"a\n\",yes\nA,b,yes\n",
         Wrong::Name(3),
     ),
+    // A fourth field, which all records have or none has.
+    (b"name,place,random,sorted\n", Wrong::Nothing),
+    (b"name,place,random,Sorted\n", Wrong::Form(1)),
+    (b"name,place,random,\n", Wrong::Form(1)),
+    (b"name,place,sorted,random\n", Wrong::Form(1)),
+    (b"name,place,random,sorted,more\n", Wrong::Form(1)),
+    (
+        b"name,place,random,sorted\nA,a,yes,yes\nB,b,yes,no\nC,c,no,yes\n",
+        Wrong::Nothing,
+    ),
+    (
+        b"name,place,random,sorted\nA,a,yes,no\nB,b,no,no\n",
+        Wrong::Form(3),
+    ),
+    (b"name,place,random,sorted\nA,a,no,no\n", Wrong::Form(2)),
+    (
+        b"name,place,random,sorted\nA,a,yes,yes\nB,b,yes\n",
+        Wrong::Form(3),
+    ),
+    (b"name,place,random,sorted\nA,a,yes\n", Wrong::Form(2)),
+    (b"name,place,random\nA,a,yes\nB,b,yes,yes\n", Wrong::Form(3)),
+    (b"name,place,random,sorted\nA,a,yes,maybe\n", Wrong::Form(2)),
+    (b"name,place,random,sorted\nA,a,yes,\n", Wrong::Form(2)),
+    (
+        b"name,place,random,sorted\nA,a,yes,yes,yes\n",
+        Wrong::Form(2),
+    ),
+    (
+        b"name,place,random,sorted\nA,a,yes,no\nA,b,yes,no\n",
+        Wrong::Name(3),
+    ),
+    (
+        b"name,place,random,sorted\nA,a,yes,no\nA,b,no,no\n",
+        Wrong::Form(3),
+    ),
 ];
 
 /// What is at fault with a text.
@@ -85,7 +120,7 @@ fn names_the_first_record_at_fault(rt: HostRuntime) {
 const TWO: &[u8] =
     b"\xEF\xBB\xBFname,place,random\r\n\r\nA,lists/a.csv,yes\r\n\"B_2\",\"b,\"\"c\",no";
 
-/// Whether the catalog has at a place, and finds there, a source with this name and place that allows random access as told.
+/// Whether the catalog has at a place, and finds there, a source with this name and place that allows sorted access and, as told, random access.
 fn has(catalog: &Catalog, at: u32, name: &[u8], place: &str, random: bool) -> bool {
     let Some(entry) = catalog.get(at) else {
         return false;
@@ -93,7 +128,7 @@ fn has(catalog: &Catalog, at: u32, name: &[u8], place: &str, random: bool) -> bo
     if entry.name.as_slice() != name || entry.place.as_str() != place {
         return false;
     }
-    entry.random == random && catalog.find(name) == Some(at)
+    entry.random == random && entry.sorted && catalog.find(name) == Some(at)
 }
 
 /// Whether the catalog has exactly the two sources.
@@ -117,6 +152,33 @@ fn is_read(alloc: Global) -> bool {
 #[test]
 fn reads_a_catalog(rt: HostRuntime) {
     assert!(rt; is_read(rt.alloc()));
+}
+
+/// A catalog whose records tell of both accesses.
+const FOUR: &[u8] = b"name,place,random,sorted\nA,a,yes,yes\nB,b,yes,no\nC,c,no,yes\n";
+
+/// Whether the source at a place allows random and sorted access as told.
+fn allows(catalog: &Catalog, at: u32, random: bool, sorted: bool) -> bool {
+    match catalog.get(at) {
+        Some(entry) => entry.random == random && entry.sorted == sorted,
+        None => false,
+    }
+}
+
+/// Whether the accesses of its three sources are read.
+fn reads_accesses(alloc: Global) -> bool {
+    let Ok(catalog) = read_catalog(alloc, FOUR) else {
+        return false;
+    };
+    let first = allows(&catalog, 0, true, true);
+    let others = allows(&catalog, 1, true, false) && allows(&catalog, 2, false, true);
+    drop(catalog);
+    first && others
+}
+
+#[test]
+fn reads_both_accesses(rt: HostRuntime) {
+    assert!(rt; reads_accesses(rt.alloc()));
 }
 
 /// A catalog of so many sources.
