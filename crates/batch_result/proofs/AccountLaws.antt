@@ -1,23 +1,33 @@
 -- No more was used of a source than the queries of a batch read of it.
-use Rattle.std.proofs.Common.{◌≡◌, ◌≤◌, ◌<◌, ◌+◌, inl, inr, ℕ, Some, List, [], ◌∷◌, ◌++◌, append-nil, length, map, take, drop, All, Contains, refl, sym, ap, subst, ◌∙◌, arith}
-use Rattle.std.specs.List.{AllZip}
+use Rattle.std.proofs.Common.{◌≡◌, ◌≤◌, ◌<◌, ◌+◌, ◌==◌, inl, inr, ℕ, Bool, max, Some, List, [], ◌∷◌, ◌++◌, append-nil, length, map, take, drop, All, Contains, slice_index_or, eqb-true, refl, sym, ap, subst, ◌∙◌, arith}
+use Rattle.std.specs.List.{AllZip, fold}
 use Rattle.std.proofs.lemmas.List.{length-append}
 use Rattle.std.proofs.lemmas.List.Elements.{All-tail}
 use Rattle.std.proofs.lemmas.List.Sums.{sum_by-cons}
 use Rattle.ranked_list.specs.declared.row.Row.{Row}
 use Rattle.ranked_list.specs.Table.{IsTable}
-use Rattle.topk_theory.specs.Transcript.{list_at}
-use Rattle.topk_theory.proofs.AgreementLists.{begins_splits, contains_at, contains_cases, contains_here, contains_map, contains_nil, contains_there, member_of_all}
+use Rattle.monotone_fn.specs.Shape.{list_count}
+use Rattle.topk_theory.specs.Asked.{Asked}
+use Rattle.topk_theory.specs.Threshold.{IsAsked}
+use Rattle.topk_theory.specs.Transcript.{list_at, depth_of, list_numbers}
+use Rattle.topk_theory.proofs.AgreementLists.{all_from_members, begins_splits, contains_at, contains_cases, contains_here, contains_map, contains_map_from, contains_nil, contains_there, member_of_all}
+use Rattle.topk_theory.proofs.ListNumbers.{number_below}
+use Rattle.topk_theory.proofs.ThresholdLists.{contains_from_filter}
+use Rattle.zlist_core.specs.Lists.{reads}
 use Rattle.access_log.specs.Log.{AgreesWith}
 use Rattle.machine_base.specs.Machine.{asked_of}
 use Rattle.source_log.specs.Log.{rows_in, fault_in}
 use Rattle.source_state.specs.State.{State, state_at}
 use Rattle.source_state.specs.Looking.{reach_of}
 use Rattle.query_core.specs.declared.ready.Ready.{Ready}
-use Rattle.query_core.specs.Algorithms.{run_by}
-use Rattle.query_core.specs.Machines.{algorithm_of, state_of}
-use Rattle.query_core.specs.OneAnswer.{one_run}
+use Rattle.query_text.specs.declared.algorithm.Algorithm.{Algorithm}
+use Rattle.query_text.specs.declared.algorithm.Algorithm.TheVariants.{Ta, Nra, Ca, Fa, Theta, Early, Taz}
+use Rattle.query_core.specs.Methods.{method_with, run_with}
+use Rattle.query_core.specs.Ready.{method_of_ready}
+use Rattle.query_core.specs.Machines.{method_of, state_of}
+use Rattle.query_core.specs.OneAnswer.{one_run_with}
 use Rattle.query_core.proofs.Answering.{asked_same}
+use Rattle.query_core.proofs.RestrictedFacts.{restricted_reads}
 use Rattle.query_turns.specs.declared.ended.Ended.{Ended}
 use Rattle.query_turns.specs.declared.ended.Ended.TheVariants as ended
 use Rattle.query_turns.specs.declared.inquiry.Inquiry.{Inquiry}
@@ -27,7 +37,7 @@ use Rattle.query_turns.specs.Kept.{IsServed}
 use Rattle.query_turns.specs.Made.{IsOf}
 use Rattle.query_run.specs.Asking.{access_of, accesses_asked, grades_asked}
 use Rattle.fetcher.specs.Causes.{HasGiven}
-use Rattle.batch_result.specs.Account.{Reading, IsAnsweredOf, IsWithin, KeepsEach, deepest, depth_in, one_reading, one_readings, printed_reading, printed_readings, random_accesses, random_in}
+use Rattle.batch_result.specs.Account.{Reading, AsksGradesAlone, IsAnsweredOf, IsReadByGrades, IsWithin, KeepsEach, deepest, depth_in, greatest, lists_of_source, one_reading, one_readings, printed_reading, printed_readings, random_accesses, random_in}
 use Rattle.batch_result.specs.Batches.{BatchRun, BatchState, IsBatch, size_at, use_at}
 use Rattle.batch_result.specs.Tables.{lists_for}
 use Rattle.batch_result.specs.Using.{IsWantedBy, all_grades_asked}
@@ -75,16 +85,16 @@ random_within source (q ∷ queries) (r ∷ readings) h =
 -- ---- one query
 -- what a query asked for goes no further than its one run
 no_further : (lists : List (List Row)) (states : List State) (ready : Ready) (q : Inquiry) → (of : IsOf ready q) → (served : IsServed states q)
-    → AgreesWith (lists_of lists q) (state_of q.machine).log → GoesNoFurther (accesses_asked q) (one_run ready.query (lists_for lists ready))
+    → AgreesWith (lists_of lists q) (state_of q.machine).log → GoesNoFurther (accesses_asked q) (one_run_with (method_of_ready ready) ready.query (lists_for lists ready))
 no_further lists states ready q of served agrees =
     let t = state_of q.machine in
     let D = lists_of lists q in
-    let same : run_by (algorithm_of q.machine) (asked_of t) D ≡ one_run ready.query (lists_for lists ready)
-    = ap (λ a. run_by a (asked_of t) D) of.algorithm
-    ∙ (ap (λ x. run_by ready.query.algorithm x D) (asked_same ready.query ready.count _ of.first t of.begun of.goes)
-    ∙ ap (one_run ready.query) (sym (same_lists lists ready q of))) in
+    let same : run_with (method_of q.machine) (asked_of t) D ≡ one_run_with (method_of_ready ready) ready.query (lists_for lists ready)
+    = ap (λ method. run_with method (asked_of t) D) of.method
+    ∙ (ap (λ x. run_with (method_of_ready ready) x D) (asked_same ready.query ready.count _ of.first t of.begun of.goes)
+    ∙ ap (one_run_with (method_of_ready ready) ready.query) (sym (same_lists lists ready q of))) in
     subst (GoesNoFurther (accesses_asked q)) same
-    (asked_of_run (run_by (algorithm_of q.machine) (asked_of t) D) t.log.accesses t.need (served.run.on_run D agrees))
+    (asked_of_run (run_with (method_of q.machine) (asked_of t) D) t.log.accesses t.need (served.run.on_run D agrees))
 
 -- and no further than its transcript, where it was answered
 printed_within : (states : List State) (source : ℕ) (ready : Ready) (q : Inquiry) (end : Ended) → IsServed states q → (of : IsOf ready q) → EndsAs q end
@@ -110,6 +120,77 @@ all_printed states source (ready ∷ readies) (q ∷ queries) (end ∷ endings) 
   printed_within states source ready q end (member_of_all (IsServed states) (q ∷ queries) q served (contains_here q queries)) of.0 ends.0 answered.0,
   all_printed states source readies queries endings (All-tail (IsServed states) q queries served) of.1 ends.1 answered.1,
 )
+
+-- ---- sources that are read by grades alone
+-- the greatest of numbers each of which is 0
+greatest_none : (xs : List ℕ) → All (λ x. x ≡ 0) xs → greatest xs ≡ 0
+greatest_none [] none = refl
+greatest_none (x ∷ xs) none =
+    let first : x ≡ 0 = member_of_all (λ y. y ≡ 0) (x ∷ xs) x none (contains_here x xs) in
+    ap (λ y. fold max (max 0 y) xs) first ∙ greatest_none xs (All-tail (λ y. y ≡ 0) x xs none)
+
+-- a reading that doesn't go down a list of the source goes down the source to 0
+flat_reading : (source : ℕ) (r : Reading) → ((list : ℕ) → list < length r.sources → slice_index_or r.sources list 0 ≡ source → depth_of list r.accesses ≡ 0)
+    → depth_in source r ≡ 0
+flat_reading source r flat =
+    let lists = lists_of_source source r.sources in
+    greatest_none (map (λ list. depth_of list r.accesses) lists) (all_from_members (λ x. x ≡ 0) (map (λ list. depth_of list r.accesses) lists) (λ x c.
+    let from = contains_map_from (λ list. depth_of list r.accesses) lists x c in
+    let kept = contains_from_filter (λ list. slice_index_or r.sources list 0 == source) (list_numbers (length r.sources)) from.0 from.1 in
+    sym from.2 ∙ flat from.0 (number_below (length r.sources) from.0 kept.0) (eqb-true (slice_index_or r.sources from.0 0) source kept.1)))
+
+-- the run of a method doesn't go down a list that it asks for grades alone
+flat_method : (a : Algorithm) (sorted : List Bool) (asked : Asked) (n : ℕ) (D : List (List Row)) (list : ℕ) → IsAsked asked.k n D → AsksGradesAlone a sorted list
+    → depth_of list (run_with (method_with a sorted) asked D) ≡ 0
+flat_method Taz sorted asked n D list is alone = ap (length {A = Row}) (restricted_reads (reads sorted) asked n D is list alone)
+flat_method Ta sorted asked n D list is alone = absurd alone
+flat_method Nra sorted asked n D list is alone = absurd alone
+flat_method Ca sorted asked n D list is alone = absurd alone
+flat_method Fa sorted asked n D list is alone = absurd alone
+flat_method (Theta p q) sorted asked n D list is alone = absurd alone
+flat_method (Early depth) sorted asked n D list is alone = absurd alone
+
+-- the run of a query on some table that agrees with its transcript
+abbrev own_reading : (states : List State) (q : Inquiry) → IsServed states q → Reading
+own_reading states q served =
+    record { sources = q.sources.items; accesses = run_with (method_of q.machine) (asked_of (state_of q.machine)) served.run.consistent.0 }
+
+own_within : (states : List State) (source : ℕ) (q : Inquiry) (served : IsServed states q) → AsksWithin source q (own_reading states q served)
+own_within states source q served =
+    let t = state_of q.machine in
+    within_reading source q (own_reading states q served) refl
+    (asked_of_run (run_with (method_of q.machine) (asked_of t) served.run.consistent.0) t.log.accesses t.need (served.run.on_run served.run.consistent.0 served.run.consistent.1))
+
+own_flat : (states : List State) (source : ℕ) (ready : Ready) (q : Inquiry) (served : IsServed states q) → IsOf ready q → IsReadByGrades source ready
+    → depth_in source (own_reading states q served) ≡ 0
+own_flat states source ready q served of by_grades =
+    let t = state_of q.machine in
+    let D = served.run.consistent.0 in
+    let agrees : AgreesWith D t.log = served.run.consistent.1 in
+    let lists : t.log.lists ≡ list_count ready.query.expr = of.goes.lists ∙ of.begun.lists in
+    let some = of.is.expr.lists.some in
+    let asked : IsAsked t.k t.log.count D = record {
+      table = agrees.table;
+      lists = omega (arith, agrees.lists, lists, some);
+      positive = served.run.posed.positive;
+      fits = served.run.posed.fits;
+    } in
+    flat_reading source (own_reading states q served) (λ list listed at.
+    let own : slice_index_or ready.sources.items list 0 ≡ source = ap (λ xs. slice_index_or xs list 0) (sym of.sources) ∙ at in
+    let here : list < length ready.sources.items = subst (λ (xs : List ℕ). list < length xs) of.sources listed in
+    ap (λ method. depth_of list (run_with method (asked_of t) D)) of.method
+    ∙ flat_method ready.query.algorithm ready.sorted.items (asked_of t) t.log.count D list asked (by_grades list here own))
+
+all_own : (states : List State) (source : ℕ) (readies : List Ready) (queries : List Inquiry) → All (IsServed states) queries → AllZip IsOf readies queries
+    → All (IsReadByGrades source) readies → (readings : List Reading) × AllZip (AsksWithin source) queries readings × (deepest source readings ≡ 0)
+all_own states source [] [] served of by_grades = ([], tt, refl)
+all_own states source [] (q ∷ queries) served of by_grades = absurd of
+all_own states source (ready ∷ readies) [] served of by_grades = absurd of
+all_own states source (ready ∷ readies) (q ∷ queries) served of by_grades =
+    let here : IsServed states q = member_of_all (IsServed states) (q ∷ queries) q served (contains_here q queries) in
+    let rest = all_own states source readies queries (All-tail (IsServed states) q queries served) of.1 (All-tail (IsReadByGrades source) ready readies by_grades) in
+    let flat = own_flat states source ready q here of.0 (member_of_all (IsReadByGrades source) (ready ∷ readies) ready by_grades (contains_here ready readies)) in
+    (own_reading states q here ∷ rest.0, (own_within states source q here, rest.1), ap (λ d. fold max (max 0 d) (map (depth_in source) rest.0)) flat ∙ rest.2)
 
 -- ---- a batch
 -- a source that gave no row keeps none
@@ -149,14 +230,25 @@ module _ (run : BatchRun) (batch : BatchState) (ran : IsBatch run batch) where
       within (printed_readings run.readies batch.endings) source l
       (all_printed ran.states source run.readies ran.queries batch.endings ran.served ran.of ran.ends answered)
 
+  -- where no query reads the source in order
+  pub out_of_order : (source : ℕ) → source < length run.sizes → All (IsReadByGrades source) run.readies
+      → ((use_at batch.uses source).want ≡ 0) × ((use_at batch.uses source).rows ≡ 0)
+  out_of_order source l by_grades =
+      let used = ran.used source l in
+      let readings = all_own ran.states source run.readies ran.queries ran.served ran.of by_grades in
+      let deep = deep_within source (use_at batch.uses source).want ran.queries readings.0 readings.1 used.wanted in
+      let none : (use_at batch.uses source).want ≡ 0 = omega (arith, deep, readings.2) in
+      let few : (use_at batch.uses source).rows ≤ 0 = reach_none (use_at batch.uses source).want run.settings.page run.settings.ahead (state_at ran.states source).count (use_at batch.uses source).rows none used.reach in
+      (none, omega (arith, few))
+
   -- where the sources tell tables
   module _ (lists : List (List Row)) (told : run.told ≡ map Some lists)
       (tables : All (λ ready. IsTable ready.count (lists_for lists ready)) run.readies) where
     own : All (HasTable lists) ran.queries
     own = all_tables lists run.readies ran.queries ran.of tables
 
-    reads : (source : ℕ) (ready : Ready) (q : Inquiry) → Contains ran.queries q → IsOf ready q → AsksWithin source q (one_reading lists ready)
-    reads source ready q c of =
+    asks_so : (source : ℕ) (ready : Ready) (q : Inquiry) → Contains ran.queries q → IsOf ready q → AsksWithin source q (one_reading lists ready)
+    asks_so source ready q c of =
         within_reading source q (one_reading lists ready) (sym of.sources)
         (no_further lists ran.states ready q of (member_of_all (IsServed ran.states) ran.queries q ran.served c)
         (agrees run batch ran lists told own q c))
@@ -167,7 +259,7 @@ module _ (run : BatchRun) (batch : BatchState) (ran : IsBatch run batch) where
     all_reads source [] (q ∷ queries) among of = absurd of
     all_reads source (ready ∷ readies) [] among of = absurd of
     all_reads source (ready ∷ readies) (q ∷ queries) among of =
-        (reads source ready q (among q (contains_here q queries)) of.0, all_reads source readies queries (λ p c. among p (contains_there q queries p c)) of.1)
+        (asks_so source ready q (among q (contains_here q queries)) of.0, all_reads source readies queries (λ p c. among p (contains_there q queries p c)) of.1)
 
     pub told_account : (source : ℕ) → source < length run.sizes
         → IsWithin run.settings (size_at run.sizes source) source (one_readings lists run.readies) (use_at batch.uses source)

@@ -1,5 +1,5 @@
 -- How a query ends that is on its run over its own lists.
-use Rattle.std.proofs.Common.{◌≡◌, ℕ, List, length, Result, Ok, Err, Some, refl, subst, ◌∙◌}
+use Rattle.std.proofs.Common.{◌≡◌, ℕ, List, length, Result, Ok, Err, Some, subst, ◌∙◌}
 use Rattle.ranked_list.specs.declared.row.Row.{Row}
 use Rattle.ranked_list.specs.Table.{IsTable}
 use Rattle.monotone_fn.specs.Shape.{list_count}
@@ -14,9 +14,10 @@ use Rattle.source_state.specs.State.{State, state_at}
 use Rattle.query_core.specs.declared.drive_fault.DriveFault.{DriveFault}
 use Rattle.query_core.specs.declared.drive_fault.DriveFault.TheVariants.{RoomFull}
 use Rattle.query_core.specs.declared.ready.Ready.{Ready}
-use Rattle.query_core.specs.Driving.{AnswersOver, Drives, IsFedFrom, RunsOver}
+use Rattle.query_core.specs.Driving.{AnswersOver, DrivesWith, IsFedFrom, RunsOver}
 use Rattle.query_core.specs.Machines.{state_of}
-use Rattle.query_core.specs.OneAnswer.{IsOverRoom}
+use Rattle.query_core.specs.OneAnswer.{IsOverRoomWith}
+use Rattle.query_core.specs.Ready.{method_of_ready}
 use Rattle.query_core.proofs.Answering.{drives_begun, finishes_begun, stops_begun}
 use Rattle.query_turns.specs.declared.ended.Ended.{Ended}
 use Rattle.query_turns.specs.declared.ended.Ended.TheVariants as ended
@@ -43,19 +44,19 @@ module _ (lists : List (List Row)) (states : List State) (ready : Ready) (q : In
   many_lists : length D ≡ list_count ready.query.expr
   many_lists = agrees.lists ∙ of.goes.lists ∙ of.begun.lists
 
-  comes : (result : Result Answer DriveFault) → Drives ready.query.algorithm D of.first result → RunsOver ready D result
-  comes result drives = drives_begun ready D ready.query.algorithm of.first result of.is table many_lists of.is.expr.lists.some refl of.begun drives
+  comes : (result : Result Answer DriveFault) → DrivesWith (method_of_ready ready) D of.first result → RunsOver ready D result
+  comes result drives = drives_begun (method_of_ready ready) ready D of.first result of.is table many_lists of.is.expr.lists.some of.begun drives
 
   pub answers_over : (answer : Answer) → EndsAs q (ended.Answered answer) → AnswersOver ready D answer
   answers_over answer ends =
-      comes (Ok answer) (finishes_begun D ready.query.algorithm of.first q.machine (Ok answer) of.algorithm of.goes fed ends.done (served.run, ends.items, ends.log))
+      comes (Ok answer) (finishes_begun D (method_of_ready ready) of.first q.machine (Ok answer) of.method of.goes fed ends.done (served.run, ends.items, ends.log))
 
   pub is_over : (room : ℕ) → MayRefuse D q (Some (refusal.Core (core.RoomFull room))) → q.refusal ≡ Some (refusal.Core (core.RoomFull room))
-      → IsOverRoom ready.query ready.count D room
+      → IsOverRoomWith (method_of_ready ready) ready.query ready.count D room
   is_over room may e =
       let cause : IsCause (state_at states (source_needed q)) (state_of q.machine) q.waiting.noted (Some (refusal.Core (core.RoomFull room))) =
       subst (IsCause (state_at states (source_needed q)) (state_of q.machine) q.waiting.noted) e served.cause in
-      comes (Err (RoomFull room)) (stops_begun D ready.query.algorithm of.first q.machine (RoomFull room) of.algorithm of.goes (cause.2, may.0, may.1))
+      comes (Err (RoomFull room)) (stops_begun D (method_of_ready ready) of.first q.machine (RoomFull room) of.method of.goes (cause.2, may.0, may.1))
 
   -- whatever happened outside, the query ends over its lists, or is refused for that
   pub ends_or_fails : ((fault : CoreFault) → q.refusal ≡ Some (refusal.Core fault) → MayRefuse D q (Some (refusal.Core fault)))

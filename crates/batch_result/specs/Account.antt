@@ -1,5 +1,5 @@
 -- The account of a batch: how far its queries read each source, and that no more was used of it.
-use Rattle.std.specs.Prelude.{◌≡◌, ◌≤◌, ◌==◌, ◌&&◌, ℕ, max, Bool, not, List, [], ◌∷◌, Contains, length, map, take, filter, fold, count_by}
+use Rattle.std.specs.Prelude.{◌≡◌, ◌<◌, ◌≤◌, ◌==◌, ◌&&◌, ℕ, max, Bool, false, not, List, [], ◌∷◌, Contains, length, map, take, filter, fold, count_by}
 use Rattle.std.specs.List.{sum_by, slice_index_or}
 use Rattle.ranked_list.specs.declared.row.Row.{Row}
 use Rattle.topk_theory.specs.declared.access.Access.{Access}
@@ -8,7 +8,11 @@ use Rattle.source_log.specs.Log.{rows_in}
 use Rattle.source_state.specs.State.{State}
 use Rattle.source_state.specs.Looking.{reach_of}
 use Rattle.query_core.specs.declared.ready.Ready.{Ready}
-use Rattle.query_core.specs.OneAnswer.{one_run}
+use Rattle.zlist_core.specs.Lists.{reads}
+use Rattle.query_text.specs.declared.algorithm.Algorithm.{Algorithm}
+use Rattle.query_text.specs.declared.algorithm.Algorithm.TheVariants.{Taz}
+use Rattle.query_core.specs.Ready.{method_of_ready}
+use Rattle.query_core.specs.OneAnswer.{one_run_with}
 use Rattle.query_turns.specs.declared.ended.Ended.{Ended}
 use Rattle.query_turns.specs.declared.ended.Ended.TheVariants as ended
 use Rattle.limits.specs.declared.settings.Settings.{Settings}
@@ -22,7 +26,7 @@ pub record Reading : Type 0 where
 
 -- the one run of a ready query over its lists; the transcript of an answered query, and no access of a refused one
 abbrev pub one_reading : List (List Row) → Ready → Reading
-one_reading lists ready = record { sources = ready.sources.items; accesses = one_run ready.query (lists_for lists ready) }
+one_reading lists ready = record { sources = ready.sources.items; accesses = one_run_with (method_of_ready ready) ready.query (lists_for lists ready) }
 
 abbrev pub printed_accesses : Ended → List Access
 printed_accesses (ended.Answered answer) = answer.transcript.accesses
@@ -86,3 +90,13 @@ IsAnAnswer (ended.Look list fault) = ⊥
 -- where a query reads this source, it was answered
 abbrev pub IsAnsweredOf : ℕ → Ready → Ended → Type 0
 IsAnsweredOf source ready end = Contains ready.sources.items source → IsAnAnswer end
+
+-- an algorithm asks a list for grades alone: it reads in order what can be read so, and this list can't
+abbrev pub AsksGradesAlone : Algorithm → List Bool → ℕ → Type 0
+AsksGradesAlone Taz sorted list = reads sorted list ≡ false
+AsksGradesAlone _ sorted list = ⊥
+
+-- a query asks each of its lists that is of this source for grades alone
+abbrev pub IsReadByGrades : ℕ → Ready → Type 0
+IsReadByGrades source ready = (list : ℕ) → list < length ready.sources.items → slice_index_or ready.sources.items list 0 ≡ source
+    → AsksGradesAlone ready.query.algorithm ready.sorted.items list

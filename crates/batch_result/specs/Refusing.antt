@@ -1,5 +1,5 @@
 -- What a query's own turns show of why it is refused.
-use Rattle.std.specs.Prelude.{◌≡◌, ◌<◌, List, length}
+use Rattle.std.specs.Prelude.{◌<◌, List, length}
 use Rattle.turn_lock.specs.Facts.{AtMost, IsFrontOf}
 use Rattle.source_pool.specs.declared.hold.Hold.{Hold}
 use Rattle.source_pool.specs.Passes.{hold_at}

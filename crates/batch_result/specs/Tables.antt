@@ -11,7 +11,8 @@ use Rattle.source_state.specs.declared.look.LookFault.{LookFault}
 use Rattle.source_state.specs.declared.look.LookFault.TheVariants as why
 use Rattle.query_core.specs.declared.ready.Ready.{Ready}
 use Rattle.query_core.specs.Driving.{AnswersOver}
-use Rattle.query_core.specs.OneAnswer.{IsOverRoom}
+use Rattle.query_core.specs.Ready.{method_of_ready}
+use Rattle.query_core.specs.OneAnswer.{IsOverRoomWith}
 use Rattle.query_turns.specs.declared.ended.Ended.{Ended}
 use Rattle.query_turns.specs.declared.ended.Ended.TheVariants as ended
 use Rattle.batch_result.specs.Numbered.{counts_at}
@@ -40,7 +41,7 @@ pub record TellsTables (run : BatchRun) (lists : List (List Row)) : Type 0 where
 -- how a query ends over its lists D: with the one answer, or refused for a room that it states and its one run passes
 abbrev pub EndsOver : List (List Row) → Ready → Ended → Type 0
 EndsOver D ready (ended.Answered answer) = AnswersOver ready D answer
-EndsOver D ready (ended.Core (RoomFull room)) = IsOverRoom ready.query ready.count D room
+EndsOver D ready (ended.Core (RoomFull room)) = IsOverRoomWith (method_of_ready ready) ready.query ready.count D room
 EndsOver _ _ _ = ⊥
 
 -- a look fails for what happened outside: a call failed or was answered by garbled data, or the list was replaced by one of another version
@@ -53,6 +54,6 @@ IsOutside _ = ⊥
 -- how a query ends over its lists D whatever happened outside: as it does alone, or refused for that
 abbrev pub EndsOrFails : List (List Row) → Ready → Ended → Type 0
 EndsOrFails D ready (ended.Answered answer) = AnswersOver ready D answer
-EndsOrFails D ready (ended.Core (RoomFull room)) = IsOverRoom ready.query ready.count D room
+EndsOrFails D ready (ended.Core (RoomFull room)) = IsOverRoomWith (method_of_ready ready) ready.query ready.count D room
 EndsOrFails D ready (ended.Look list fault) = IsOutside fault
 EndsOrFails _ _ _ = ⊥

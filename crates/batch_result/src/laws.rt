@@ -7,7 +7,7 @@ ghost use Rattle.query_turns.specs.Honest.{HasTable, IsOnItsRun};
 ghost use Rattle.ranked_list.specs.Table.{IsTable};
 ghost use Rattle.topk_theory.specs.Transcript.{list_at};
 ghost use Rattle.source_state.specs.State.{state_at};
-ghost use Rattle.batch_result.specs.Account.{IsAnsweredOf, IsWithin, KeepsEach, one_readings, printed_readings};
+ghost use Rattle.batch_result.specs.Account.{IsAnsweredOf, IsReadByGrades, IsWithin, KeepsEach, one_readings, printed_readings};
 ghost use Rattle.batch_result.specs.Batches.{BatchState, BatchRun, IsBatch, size_at, use_at};
 ghost use Rattle.batch_result.specs.Tables.{TellsTables, NoneMoved, EndsOver, EndsOrFails, lists_for};
 ghost use Rattle.batch_result.specs.ToldFaults.{HasToldCause};
@@ -43,6 +43,12 @@ pub fn answers_bound_the_uses()
     ensures { (run : BatchRun) (batch : BatchState) → IsBatch run batch → (source : ℕ) → source < length run.sizes
         → AllZip (IsAnsweredOf source) run.readies batch.endings
         → IsWithin run.settings (size_at run.sizes source) source (printed_readings run.readies batch.endings) (use_at batch.uses source) }
+{}
+
+/// A source that each query asks for grades alone, since its list can't be read in order, gives no row, whatever it tells, and none is wanted of it.
+pub fn lists_out_of_order_give_no_row()
+    ensures { (run : BatchRun) (batch : BatchState) → IsBatch run batch → (source : ℕ) → source < length run.sizes
+        → All (IsReadByGrades source) run.readies → ((use_at batch.uses source).want ≡ 0) × ((use_at batch.uses source).rows ≡ 0) }
 {}
 
 /// Where the sources tell lists that form a table for each query, no query is refused for what was read of a list: whatever failed or was replaced,

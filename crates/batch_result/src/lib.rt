@@ -7,8 +7,9 @@ mod laws;
 
 pub use batch::{Batch, Use};
 pub use laws::{
-    answers_bound_the_uses, queries_are_on_their_runs, told_lists_have_their_faults,
-    told_tables_bound_the_uses, told_tables_end_or_fail, told_tables_give_the_one_ending,
+    answers_bound_the_uses, lists_out_of_order_give_no_row, queries_are_on_their_runs,
+    told_lists_have_their_faults, told_tables_bound_the_uses, told_tables_end_or_fail,
+    told_tables_give_the_one_ending,
 };
 pub use limits::Settings;
 pub use query_run::Ended;

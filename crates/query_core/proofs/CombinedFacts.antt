@@ -1,5 +1,5 @@
 -- What is known of the combined algorithm.
-use Rattle.std.proofs.Common.{◌≡◌, ℕ, List, length, map, All, Contains, subst, ◌∙◌}
+use Rattle.std.proofs.Common.{◌≡◌, ℕ, Bool, List, length, map, All, Contains, subst, ◌∙◌}
 use Rattle.ranked_list.specs.declared.row.Row.{Row}
 use Rattle.ranked_list.specs.declared.item.Item.{Item}
 use Rattle.topk_theory.specs.Order.{first_k}
@@ -14,7 +14,6 @@ use Rattle.topk_theory.proofs.CombinedLaws.{run_agrees, run_tame}
 use Rattle.topk_theory.proofs.ThresholdRun.{seen_more}
 use Rattle.topk_theory.proofs.ThresholdTop.{objects_from_distinct, scored_distinct, scored_member}
 use Rattle.query_text.specs.declared.algorithm.Algorithm.TheVariants.{Ca}
-use Rattle.query_core.specs.Methods.{with_algorithm}
 use Rattle.query_core.proofs.Facts.{AreFacts}
 use Rattle.query_core.proofs.Lengths.{ca_short}
 use Rattle.query_core.proofs.TrueBounds.{scored_bounds}
@@ -44,8 +43,8 @@ combined_seen V k phase D =
     let seen : Contains (seen_objects A) o = subst (Contains (seen_objects A)) (named.2 ∙ from.2) (of_seen V k (length D) A named.0 named.1).0 in
     seen_more A (finish V k D A) o seen)
 
-pub combined_facts : AreFacts (with_algorithm Ca)
-combined_facts = record {
+pub combined_facts : (sorted : List Bool) → AreFacts (record { algorithm = Ca; sorted = sorted })
+combined_facts sorted = record {
   agrees = λ asked n D monotone is. run_agrees asked.value asked.k (phase_length asked.costs.sorted asked.costs.random) n D monotone is;
   short = λ asked n D monotone is few counted. ca_short asked.value asked.k (phase_length asked.costs.sorted asked.costs.random) n D monotone is few counted;
   tame = λ asked n D monotone is. run_tame asked.value asked.k (phase_length asked.costs.sorted asked.costs.random) D;

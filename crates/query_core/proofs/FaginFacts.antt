@@ -1,5 +1,5 @@
 -- What is known of Fagin's algorithm.
-use Rattle.std.proofs.Common.{◌≡◌, ℕ, List, map, Contains, subst}
+use Rattle.std.proofs.Common.{◌≡◌, ℕ, Bool, List, map, Contains, subst}
 use Rattle.ranked_list.specs.declared.row.Row.{Row}
 use Rattle.ranked_list.specs.declared.item.Item.{Item}
 use Rattle.topk_theory.specs.Threshold.{scored}
@@ -9,7 +9,6 @@ use Rattle.fa_theory.specs.Fagin.{fa_seen, fa_answer}
 use Rattle.fa_theory.proofs.Runs.{fa_run_agrees, fa_run_tame, always_no_shallower}
 use Rattle.fa_theory.proofs.Top.{fa_first, fa_sees_answer}
 use Rattle.query_text.specs.declared.algorithm.Algorithm.TheVariants.{Fa}
-use Rattle.query_core.specs.Methods.{with_algorithm}
 use Rattle.query_core.proofs.Facts.{AreFacts}
 use Rattle.query_core.proofs.Lengths.{fa_short}
 use Rattle.query_core.proofs.TrueBounds.{scored_bounds}
@@ -19,8 +18,8 @@ fagin_scored : (V : List ℕ → ℕ) (k : ℕ) (D : List (List Row)) (item : It
 fagin_scored V k D item c =
     (scored_member V D (fa_seen k D) item (member_of_all (Contains (map (scored V D) (fa_seen k D))) (fa_answer V k D) item (fa_first V k D).held c)).1
 
-pub fagin_facts : AreFacts (with_algorithm Fa)
-fagin_facts = record {
+pub fagin_facts : (sorted : List Bool) → AreFacts (record { algorithm = Fa; sorted = sorted })
+fagin_facts sorted = record {
   agrees = λ asked n D monotone is. fa_run_agrees asked.k n D is;
   short = λ asked n D monotone is few counted. fa_short asked.k n D is few counted;
   tame = λ asked n D monotone is. fa_run_tame asked.k D;

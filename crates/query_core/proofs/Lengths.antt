@@ -68,15 +68,18 @@ run_to_long D (suc depth) =
     let here : length (ta_block D (suc depth)) ≤ length D + length D * length D = block_long D (suc depth) in
     omega (arith, length-append (ta_run_to D depth) (ta_block D (suc depth)))
 
-pub ta_short : (V : List ℕ → ℕ) (k n : ℕ) (D : List (List Row)) → IsMonotone V → IsAsked k n D → length D ≤ 8 → n ≤ 200000 → length (ta_run V k D) < 2 ^ 24
-ta_short V k n D monotone asked few counted =
-    let deep : ta_depth V k D ≤ n = (least_depth V k n D monotone asked).within in
+-- down to a depth that the lists have
+pub deep_short : (deep n : ℕ) (D : List (List Row)) → deep ≤ n → length D ≤ 8 → n ≤ 200000 → length (ta_run_to D deep) < 2 ^ 24
+deep_short deep n D within few counted =
     let m = length D in
-    let long : length (ta_run V k D) ≤ ta_depth V k D * (m + m * m) = run_to_long D (ta_depth V k D) in
+    let long : length (ta_run_to D deep) ≤ deep * (m + m * m) = run_to_long D deep in
     let square : m * m ≤ m * 8 = mul-le-mul_left m few in
     let block : m + m * m ≤ 72 = omega arith in
-    let most : ta_depth V k D * (m + m * m) ≤ ta_depth V k D * 72 = mul-le-mul_left (ta_depth V k D) block in
+    let most : deep * (m + m * m) ≤ deep * 72 = mul-le-mul_left deep block in
     omega arith
+
+pub ta_short : (V : List ℕ → ℕ) (k n : ℕ) (D : List (List Row)) → IsMonotone V → IsAsked k n D → length D ≤ 8 → n ≤ 200000 → length (ta_run V k D) < 2 ^ 24
+ta_short V k n D monotone asked few counted = deep_short (ta_depth V k D) n D (least_depth V k n D monotone asked).within few counted
 
 rows_long : (D : List (List Row)) (depth : ℕ) → length (nra_run_to D depth) ≤ depth * length D
 rows_long D zero = omega arith

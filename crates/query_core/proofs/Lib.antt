@@ -8,8 +8,11 @@ pub mod ThresholdFacts
 pub mod NoRandomFacts
 pub mod CombinedFacts
 pub mod FaginFacts
+pub mod StoppedFacts
+pub mod RestrictedFacts
 pub mod AllFacts
 pub mod RunLength
 pub mod Feeding
 pub mod Answering
+pub mod Endings
 mod Making

@@ -1,5 +1,5 @@
 -- What is known of the algorithm without random access.
-use Rattle.std.proofs.Common.{◌≡◌, ◌==◌, ℕ, List, length, Contains, Some, None, refl, sym, ap₂, subst, ◌∙◌, eq-eqb}
+use Rattle.std.proofs.Common.{◌≡◌, ◌==◌, ℕ, Bool, List, length, Contains, Some, None, refl, sym, ap₂, subst, ◌∙◌, eq-eqb}
 use Rattle.std.proofs.lemmas.Bool.{cond-true}
 use Rattle.ranked_list.specs.declared.row.Row.{Row}
 use Rattle.ranked_list.specs.declared.item.Item.{Item}
@@ -18,7 +18,6 @@ use Rattle.topk_theory.proofs.NoRandomTop.{object_of_seen}
 use Rattle.topk_theory.proofs.ThresholdRun.{contains_filter_map}
 use Rattle.optimal_law.proofs.Runs.{nra_near_shallowest}
 use Rattle.query_text.specs.declared.algorithm.Algorithm.TheVariants.{Nra}
-use Rattle.query_core.specs.Methods.{with_algorithm}
 use Rattle.query_core.proofs.Facts.{AreFacts}
 use Rattle.query_core.proofs.Lengths.{nra_short}
 use Rattle.query_core.proofs.TrueBounds.{given_bounds}
@@ -37,8 +36,8 @@ pub of_seen : (V : List ℕ → ℕ) (k m : ℕ) (A : List Access) (item : Item)
     → Contains (seen_objects A) item.object × (item ≡ bounded V m A item.object)
 of_seen V k m A item c = object_of_seen V m A item (member_of_all (Contains (seen_items V m A)) (first_seen V k m A) item (first_k-is k (seen_items V m A) (items_distinct V m A)).held c)
 
-pub no_random_facts : AreFacts (with_algorithm Nra)
-no_random_facts = record {
+pub no_random_facts : (sorted : List Bool) → AreFacts (record { algorithm = Nra; sorted = sorted })
+no_random_facts sorted = record {
   agrees = λ asked n D monotone is. run_agrees n (nra_depth asked.value asked.k D) D is.table (nra_depth_is_least asked.value asked.k n D monotone is).within;
   short = λ asked n D monotone is few counted. nra_short asked.value asked.k n D monotone is few counted;
   tame = λ asked n D monotone is. nra_tame (nra_depth asked.value asked.k D) D;

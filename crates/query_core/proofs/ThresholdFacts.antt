@@ -1,5 +1,5 @@
 -- What is known of the threshold algorithm.
-use Rattle.std.proofs.Common.{◌≡◌, ℕ, List, map, Contains, subst}
+use Rattle.std.proofs.Common.{◌≡◌, ℕ, Bool, List, map, Contains, subst}
 use Rattle.ranked_list.specs.declared.row.Row.{Row}
 use Rattle.ranked_list.specs.declared.item.Item.{Item}
 use Rattle.topk_theory.specs.Asked.{Asked}
@@ -9,7 +9,6 @@ use Rattle.topk_theory.proofs.ThresholdLaws.{agreeing_run, tame_run, seen_answer
 use Rattle.topk_theory.proofs.ThresholdTop.{answer_is_first, scored_member}
 use Rattle.optimal_law.proofs.Runs.{ta_near_best}
 use Rattle.query_text.specs.declared.algorithm.Algorithm.TheVariants.{Ta}
-use Rattle.query_core.specs.Methods.{with_algorithm}
 use Rattle.query_core.proofs.Facts.{AreFacts}
 use Rattle.query_core.proofs.Lengths.{ta_short}
 use Rattle.query_core.proofs.TrueBounds.{scored_bounds}
@@ -21,8 +20,8 @@ ta_scored asked n D item is c =
     let os = objects_to D (ta_depth asked.value asked.k D) in
     (scored_member asked.value D os item (member_of_all (Contains (map (scored asked.value D) os)) (ta_answer asked.value asked.k D) item (answer_is_first asked.value asked.k n D is.table).held c)).1
 
-pub threshold_facts : AreFacts (with_algorithm Ta)
-threshold_facts = record {
+pub threshold_facts : (sorted : List Bool) → AreFacts (record { algorithm = Ta; sorted = sorted })
+threshold_facts sorted = record {
   agrees = λ asked n D monotone is. agreeing_run asked.value asked.k n D monotone is;
   short = λ asked n D monotone is few counted. ta_short asked.value asked.k n D monotone is few counted;
   tame = λ asked n D monotone is. tame_run asked.value asked.k n D monotone is;

@@ -4,8 +4,11 @@ use Rattle.topk_theory.specs.declared.access.Access.{Access}
 use Rattle.topk_theory.specs.Asked.{Asked, Run, Answering, threshold_run, threshold_answer, no_random_run, no_random_answer, combined_run, combined_answer}
 use Rattle.optimal_law.specs.Optimal.{IsNearBest, IsNearShallowest}
 use Rattle.fa_theory.specs.Fagin.{fagin_run, fagin_answer, IsNoShallower}
+use Rattle.theta_theory.specs.Nearby.{within_run, within_answer, early_stopped_run, early_stopped_answer}
+use Rattle.zlist_theory.specs.Restricted.{restricted_run, restricted_answer, IsNearBestIn}
+use Rattle.zlist_core.specs.Lists.{reads}
 use Rattle.query_text.specs.declared.algorithm.Algorithm.{Algorithm}
-use Rattle.query_text.specs.declared.algorithm.Algorithm.TheVariants.{Ta, Nra, Ca, Fa}
+use Rattle.query_text.specs.declared.algorithm.Algorithm.TheVariants.{Ta, Nra, Ca, Fa, Theta, Early, Taz}
 
 -- the algorithm makes random accesses
 abbrev pub asks_grades : Algorithm → Bool
@@ -13,26 +16,40 @@ asks_grades Ta = true
 asks_grades Nra = false
 asks_grades Ca = true
 asks_grades Fa = true
+asks_grades (Theta p q) = true
+asks_grades (Early depth) = true
+asks_grades Taz = true
 
--- the accesses that an algorithm makes of what it is asked and a table, and the items that it answers
-abbrev pub run_by : Algorithm → Run
-run_by Ta = threshold_run
-run_by Nra = no_random_run
-run_by Ca = combined_run
-run_by Fa = fagin_run
+-- the accesses that an algorithm makes of what it is asked and a table, and the items that it answers; only the threshold algorithm over
+-- restricted lists looks at which lists can be read in order, the others read all
+abbrev pub run_by : Algorithm → List Bool → Run
+run_by Ta sorted = threshold_run
+run_by Nra sorted = no_random_run
+run_by Ca sorted = combined_run
+run_by Fa sorted = fagin_run
+run_by (Theta p q) sorted = within_run (record { p = p; q = q })
+run_by (Early depth) sorted = early_stopped_run depth
+run_by Taz sorted = restricted_run (reads sorted)
 
-abbrev pub items_by : Algorithm → Answering
-items_by Ta = threshold_answer
-items_by Nra = no_random_answer
-items_by Ca = combined_answer
-items_by Fa = fagin_answer
+abbrev pub items_by : Algorithm → List Bool → Answering
+items_by Ta sorted = threshold_answer
+items_by Nra sorted = no_random_answer
+items_by Ca sorted = combined_answer
+items_by Fa sorted = fagin_answer
+items_by (Theta p q) sorted = within_answer (record { p = p; q = q })
+items_by (Early depth) sorted = early_stopped_answer depth
+items_by Taz sorted = restricted_answer (reads sorted)
 
 -- how near the best an algorithm's transcript is, over m lists of n objects, on every table that agrees with it: of the threshold algorithm
--- its depth is at most the objects that a tame transcript which fixes an answer there sees, and k more, and its cost within a factor; without
--- random access its depth is at most that of each transcript which does so, or k; of Fagin's algorithm the threshold algorithm stops no
--- deeper; of the combined algorithm nothing is said
-abbrev pub IsNearBy : Algorithm → Asked → ℕ → ℕ → List Access → Type 0
-IsNearBy Ta asked m n A = IsNearBest asked.value asked.k m n asked.costs.sorted asked.costs.random A
-IsNearBy Nra asked m n A = IsNearShallowest asked.value asked.k m n A
-IsNearBy Ca asked m n A = Unit {0}
-IsNearBy Fa asked m n A = IsNoShallower asked.value asked.k m n A
+-- its depth is at most the objects that a tame transcript which fixes an answer there sees, and k more, and its cost within a factor; over
+-- restricted lists its depth is at most that, where the other one reads no other lists in order either; without random access its depth is
+-- at most that of each transcript which does so, or k; of Fagin's algorithm the threshold algorithm stops no deeper; of the combined
+-- algorithm, and of one that stops within a factor or early, nothing is said
+abbrev pub IsNearBy : Algorithm → List Bool → Asked → ℕ → ℕ → List Access → Type 0
+IsNearBy Ta sorted asked m n A = IsNearBest asked.value asked.k m n asked.costs.sorted asked.costs.random A
+IsNearBy Nra sorted asked m n A = IsNearShallowest asked.value asked.k m n A
+IsNearBy Ca sorted asked m n A = Unit {0}
+IsNearBy Fa sorted asked m n A = IsNoShallower asked.value asked.k m n A
+IsNearBy (Theta p q) sorted asked m n A = Unit {0}
+IsNearBy (Early depth) sorted asked m n A = Unit {0}
+IsNearBy Taz sorted asked m n A = IsNearBestIn asked.value asked.k m n (reads sorted) A

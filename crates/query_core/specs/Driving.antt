@@ -7,21 +7,18 @@ use Rattle.topk_theory.specs.Threshold.{IsAsked}
 use Rattle.access_log.specs.Log.{AgreesWith}
 use Rattle.machine_base.specs.declared.answer.Answer.{Answer}
 use Rattle.machine_base.specs.Machine.{MachineState, asked_of, IsSameLog, MakesRun}
-use Rattle.query_text.specs.declared.algorithm.Algorithm.{Algorithm}
 use Rattle.query_core.specs.declared.drive_fault.DriveFault.{DriveFault}
 use Rattle.query_core.specs.declared.drive_fault.DriveFault.TheVariants.{RoomFull, Memory}
 use Rattle.query_core.specs.declared.machine.Machine.{Machine}
 use Rattle.query_core.specs.declared.ready.Ready.{Ready}
-use Rattle.query_core.specs.Methods.{Method, with_algorithm, run_with, AnswersWith}
-use Rattle.query_core.specs.OneAnswer.{IsOverRoom, IsAnswered}
-use Rattle.query_core.specs.Machines.{method_of, algorithm_of, state_of, MakesItsRun}
+use Rattle.query_core.specs.Methods.{Method, run_with, AnswersWith}
+use Rattle.query_core.specs.Ready.{method_of_ready}
+use Rattle.query_core.specs.OneAnswer.{IsOverRoomWith, IsAnsweredWith}
+use Rattle.query_core.specs.Machines.{method_of, state_of, MakesItsRun}
 
 -- the objects that a machine's run by a method sees on a table
 abbrev pub sees_with : Method → List (List Row) → MachineState → List ℕ
 sees_with method D t = seen_objects (run_with method (asked_of t) D)
-
-abbrev pub run_sees : Algorithm → List (List Row) → MachineState → List ℕ
-run_sees algorithm D t = sees_with (with_algorithm algorithm) D t
 
 -- the machine is the first one some accesses on: what never changes is as it was
 pub record Continues (first now : MachineState) : Type 0 where
@@ -53,24 +50,21 @@ pub record IsEndWith (method : Method) (T : Told) (first : MachineState) (answer
   pub items : AnswersWith method last answer.items
   pub log : IsSameLog answer.transcript last.log
 
-abbrev pub IsEnd : Algorithm → Told → MachineState → Answer → Type 0
-IsEnd algorithm T first answer = IsEndWith (with_algorithm algorithm) T first answer
-
 -- a machine can be driven over lists that are told whole: they are a table that is asked, and agree with its accesses so far
 pub record CanDrive (D : List (List Row)) (t : MachineState) : Type 0 where
   pub asked : IsAsked t.k t.log.count D
   pub agrees : AgreesWith D t.log
   pub roomy : length (seen_objects t.log.accesses) ≤ t.room
 
--- the machine is of the same algorithm and took one more access of the lists, which its run has there
+-- the machine runs by the same method and took one more access of the lists, which its run has there
 pub record Steps (D : List (List Row)) (before after : Machine) : Type 0 where
-  pub algorithm : algorithm_of after ≡ algorithm_of before
+  pub method : method_of after ≡ method_of before
   pub took : TookOne (whole D) (state_of before) (state_of after)
   pub within : length (state_of before).log.accesses < length (run_with (method_of before) (asked_of (state_of before)) D)
 
 -- the machine is the first one some accesses of the lists on, and needs nothing more
 pub record IsDriven (D : List (List Row)) (first last : Machine) : Type 0 where
-  pub algorithm : algorithm_of last ≡ algorithm_of first
+  pub method : method_of last ≡ method_of first
   pub goes : Continues (state_of first) (state_of last)
   pub can : CanDrive D (state_of last)
   pub done : (state_of last).need ≡ Done
@@ -87,25 +81,25 @@ abbrev pub StopsWith : Method → List (List Row) → MachineState → DriveFaul
 StopsWith method D t (RoomFull room) = (room ≡ t.room) × (room < t.log.count) × (room < length (sees_with method D t))
 StopsWith method D t Memory = Unit {0}
 
-abbrev pub StopsDriving : Algorithm → List (List Row) → MachineState → DriveFault → Type 0
-StopsDriving algorithm D t fault = StopsWith (with_algorithm algorithm) D t fault
-
 -- what comes of driving a machine by a method over a table
 abbrev pub DrivesWith : Method → List (List Row) → MachineState → Result Answer DriveFault → Type 0
 DrivesWith method D t (Ok answer) = IsEndWith method (whole D) t answer
 DrivesWith method D t (Err fault) = StopsWith method D t fault
 
-abbrev pub Drives : Algorithm → List (List Row) → MachineState → Result Answer DriveFault → Type 0
-Drives algorithm D t result = DrivesWith (with_algorithm algorithm) D t result
-
--- a query is answered over its lists D: the answer is right, D agrees with its transcript, and its room wasn't passed
-pub record AnswersOver (ready : Ready) (D : List (List Row)) (answer : Answer) : Type 0 where
-  pub answered : IsAnswered ready.query ready.count answer
+-- a query is answered over its lists D by a method: the answer is right, D agrees with its transcript, and its room wasn't passed
+pub record AnswersOverWith (method : Method) (ready : Ready) (D : List (List Row)) (answer : Answer) : Type 0 where
+  pub answered : IsAnsweredWith method ready.query ready.count answer
   pub agrees : AgreesWith D answer.transcript
-  pub roomy : (room : ℕ) → ¬ IsOverRoom ready.query ready.count D room
+  pub roomy : (room : ℕ) → ¬ IsOverRoomWith method ready.query ready.count D room
 
--- what comes of running a query over its lists D: it is answered, or refused for its room, or memory was refused
+abbrev pub AnswersOver : Ready → List (List Row) → Answer → Type 0
+AnswersOver ready D answer = AnswersOverWith (method_of_ready ready) ready D answer
+
+-- what comes of running a query over its lists D by a method: it is answered, or refused for its room, or memory was refused
+abbrev pub RunsOverWith : Method → Ready → List (List Row) → Result Answer DriveFault → Type 0
+RunsOverWith method ready D (Ok answer) = AnswersOverWith method ready D answer
+RunsOverWith method ready D (Err (RoomFull room)) = IsOverRoomWith method ready.query ready.count D room
+RunsOverWith method ready D (Err Memory) = Unit {0}
+
 abbrev pub RunsOver : Ready → List (List Row) → Result Answer DriveFault → Type 0
-RunsOver ready D (Ok answer) = AnswersOver ready D answer
-RunsOver ready D (Err (RoomFull room)) = IsOverRoom ready.query ready.count D room
-RunsOver ready D (Err Memory) = Unit {0}
+RunsOver ready D result = RunsOverWith (method_of_ready ready) ready D result

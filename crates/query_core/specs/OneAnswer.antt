@@ -1,5 +1,5 @@
 -- The one run and the one answer of a query over its lists, and when an answer is right.
-use Rattle.std.specs.Prelude.{◌≡◌, ◌<◌, ◌≤◌, ℕ, List, All, length, Some}
+use Rattle.std.specs.Prelude.{◌≡◌, ◌<◌, ◌≤◌, ℕ, true, List, All, length, replicate, Some}
 use Rattle.ranked_list.specs.declared.row.Row.{Row}
 use Rattle.ranked_list.specs.declared.item.Item.{Item}
 use Rattle.monotone_fn.specs.Shape.{list_count}
@@ -13,15 +13,15 @@ use Rattle.machine_base.specs.declared.answer.Answer.{Answer}
 use Rattle.access_log.specs.Log.{AgreesWith, IsConsistent}
 use Rattle.query_text.specs.declared.query.Query.{Query}
 use Rattle.query_text.specs.Costs.{costs_in_force}
-use Rattle.query_core.specs.Methods.{Method, with_algorithm, run_with, items_with, IsGoodWith, FixesWith, IsNearWith}
+use Rattle.query_core.specs.Methods.{Method, method_with, run_with, items_with, IsGoodWith, FixesWith, IsNearWith}
 
 -- what a query asks of its algorithm
 abbrev pub asked_by : Query → Asked
 asked_by q = record { value = value q.expr; k = q.k; costs = costs_in_force q }
 
--- by what a machine of a query runs
+-- by what a machine of a query runs, all of whose lists can be read in order
 abbrev pub method_for : Query → Method
-method_for q = with_algorithm q.algorithm
+method_for q = method_with q.algorithm (replicate (length q.names) true)
 
 -- the one run of a query by a method on its lists, and the items of its one answer
 abbrev pub one_run_with : Method → Query → List (List Row) → List Access
@@ -62,7 +62,7 @@ pub record IsAnsweredWith (method : Method) (q : Query) (n : ℕ) (answer : Answ
   pub fixed : FixesWith method (asked_by q) answer.transcript.lists answer.transcript.count answer.transcript.accesses (item_objects answer.items)
   pub near : IsNearWith method (asked_by q) answer.transcript.lists answer.transcript.count answer.transcript.accesses
 
--- the same by the query's own method
+-- the same of a query all of whose lists can be read in order
 abbrev pub one_run : Query → List (List Row) → List Access
 one_run q D = one_run_with (method_for q) q D
 

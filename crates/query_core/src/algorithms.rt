@@ -14,5 +14,8 @@ pub fn asks_grades(algorithm: Algorithm) -> bool
         Algorithm::Nra => false,
         Algorithm::Ca => true,
         Algorithm::Fa => true,
+        Algorithm::Theta { p: _, q: _ } => true,
+        Algorithm::Early { depth: _ } => true,
+        Algorithm::Taz => true,
     }
 }

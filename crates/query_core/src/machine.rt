@@ -3,11 +3,12 @@
 ghost use Rattle.std.specs.Prelude.{◌≡◌, false, IfOk};
 ghost use Rattle.ranked_list.specs.declared.need.Need.{Need};
 ghost use Rattle.monotone_fn.specs.Value.{value};
-ghost use Rattle.machine_base.specs.Machine.{asked_of, MayBeNextRow, MayBeNextGrade, RowFed, GradeFed, IsInRange, IsNoGrade, IsAnswerBy, IsSameLog};
-ghost use Rattle.query_core.specs.Algorithms.{asks_grades, items_by, IsNearBy};
+ghost use Rattle.machine_base.specs.Machine.{asked_of, MayBeNextRow, MayBeNextGrade, RowFed, GradeFed, IsInRange, IsNoGrade, IsSameLog};
+ghost use Rattle.query_core.specs.Algorithms.{asks_grades};
+ghost use Rattle.query_core.specs.Methods.{AnswersWith, IsNearWith};
 ghost use Rattle.query_core.specs.OneAnswer.{HasTrueItems};
 ghost use Rattle.query_core.specs.Ready.{IsReady};
-ghost use Rattle.query_core.specs.Machines.{algorithm_of, state_of, MakesItsRun, IsMachineFor};
+ghost use Rattle.query_core.specs.Machines.{method_of, algorithm_of, state_of, MakesItsRun, IsMachineFor};
 
 use super::Memory;
 use super::ready::Ready;
@@ -20,6 +21,8 @@ use query_text::Algorithm;
 use ranked_list::{Need, Row};
 use std::alloc::Global;
 use ta_core::Ta;
+use theta_core::{Early, Theta};
+use zlist_core::Taz;
 
 /// A machine of the algorithm that a query names. It says which access it needs next, and is fed what
 /// that access gave.
@@ -33,6 +36,12 @@ pub enum Machine {
     Ca(Ca),
     /// Of Fagin's algorithm.
     Fa(Fa),
+    /// Of the threshold algorithm within a factor.
+    Theta(Theta),
+    /// Of the threshold algorithm stopped early.
+    Early(Early),
+    /// Of the threshold algorithm over the lists that can be read in order.
+    Taz(Taz),
 }
 
 impl Machine {
@@ -68,6 +77,19 @@ impl Machine {
                 let machine = Fa::make(alloc, expr, query.k, count, room, costs)?;
                 Ok(Machine::Fa(machine))
             }
+            Algorithm::Theta { p, q } => {
+                let machine = Theta::make(alloc, expr, query.k, count, room, costs, p, q)?;
+                Ok(Machine::Theta(machine))
+            }
+            Algorithm::Early { depth } => {
+                let machine = Early::make(alloc, expr, query.k, count, room, costs, depth)?;
+                Ok(Machine::Early(machine))
+            }
+            Algorithm::Taz => {
+                let sorted = ready.sorted.as_slice();
+                let machine = Taz::make(alloc, expr, query.k, count, room, costs, sorted)?;
+                Ok(Machine::Taz(machine))
+            }
         }
     }
 
@@ -83,13 +105,16 @@ impl Machine {
             Machine::Nra(machine) => machine.need(),
             Machine::Ca(machine) => machine.need(),
             Machine::Fa(machine) => machine.need(),
+            Machine::Theta(machine) => machine.need(),
+            Machine::Early(machine) => machine.need(),
+            Machine::Taz(machine) => machine.need(),
         }
     }
 
     /// Tells the row that is needed. Where it is refused nothing has changed. Takes no memory.
     pub fn feed_row(&mut self, row: Row) -> Result<(), CoreFault>
         requires { MayBeNextRow (state_of self.old).log (state_of self.old).need row }
-        ensures same { algorithm_of self.new ≡ algorithm_of self.old }
+        ensures same { method_of self.new ≡ method_of self.old }
         ensures fed { RowFed row (state_of self.old) (state_of self.new) result }
         ensures run { MakesItsRun self.new }
     {
@@ -98,13 +123,16 @@ impl Machine {
             Machine::Nra(machine) => machine.feed_row(row),
             Machine::Ca(machine) => machine.feed_row(row),
             Machine::Fa(machine) => machine.feed_row(row),
+            Machine::Theta(machine) => machine.feed_row(row),
+            Machine::Early(machine) => machine.feed_row(row),
+            Machine::Taz(machine) => machine.feed_row(row),
         }
     }
 
     /// Tells the grade that is needed. Takes no memory.
     pub fn feed_grade(&mut self, grade: u32)
         requires { MayBeNextGrade (state_of self.old).log (state_of self.old).need grade }
-        ensures same { algorithm_of self.new ≡ algorithm_of self.old }
+        ensures same { method_of self.new ≡ method_of self.old }
         ensures fed { GradeFed grade (state_of self.old) (state_of self.new) }
         ensures run { MakesItsRun self.new }
     {
@@ -117,6 +145,9 @@ impl Machine {
             }
             Machine::Ca(machine) => machine.feed_grade(grade),
             Machine::Fa(machine) => machine.feed_grade(grade),
+            Machine::Theta(machine) => machine.feed_grade(grade),
+            Machine::Early(machine) => machine.feed_grade(grade),
+            Machine::Taz(machine) => machine.feed_grade(grade),
         }
     }
 
@@ -130,17 +161,21 @@ impl Machine {
             Machine::Nra(machine) => machine.transcript(),
             Machine::Ca(machine) => machine.transcript(),
             Machine::Fa(machine) => machine.transcript(),
+            Machine::Theta(machine) => machine.transcript(),
+            Machine::Early(machine) => machine.transcript(),
+            Machine::Taz(machine) => machine.transcript(),
         }
     }
 
-    /// The answer, once nothing is needed, with the transcript, which is as near the best as its algorithm promises. Its bounds
-    /// are true on every table that agrees with the transcript.
+    /// The answer, once nothing is needed, with the transcript: it is as good as the method guarantees, a top k or within a
+    /// factor, and the transcript is as near the best as the method promises. Its bounds are true on every table that agrees
+    /// with the transcript.
     pub fn answer(self) -> Result<Answer, Memory>
         requires { (state_of self).need ≡ Need.Done }
         ensures run { MakesItsRun self }
-        ensures items { IfOk result (λ answer. IsAnswerBy (items_by (algorithm_of self)) (state_of self) answer.items) }
+        ensures items { IfOk result (λ answer. AnswersWith (method_of self) (state_of self) answer.items) }
         ensures transcript { IfOk result (λ answer. IsSameLog answer.transcript (state_of self).log) }
-        ensures near { IfOk result (λ answer. IsNearBy (algorithm_of self) (asked_of (state_of self))
+        ensures near { IfOk result (λ answer. IsNearWith (method_of self) (asked_of (state_of self))
             answer.transcript.lists answer.transcript.count answer.transcript.accesses) }
         ensures bounds { IfOk result (HasTrueItems (value (state_of self).expr)) }
     {
@@ -149,6 +184,9 @@ impl Machine {
             Machine::Nra(machine) => machine.answer(),
             Machine::Ca(machine) => machine.answer(),
             Machine::Fa(machine) => machine.answer(),
+            Machine::Theta(machine) => machine.answer(),
+            Machine::Early(machine) => machine.answer(),
+            Machine::Taz(machine) => machine.answer(),
         }
     }
 
@@ -159,6 +197,9 @@ impl Machine {
             Machine::Nra(machine) => machine.let_go(),
             Machine::Ca(machine) => machine.let_go(),
             Machine::Fa(machine) => machine.let_go(),
+            Machine::Theta(machine) => machine.let_go(),
+            Machine::Early(machine) => machine.let_go(),
+            Machine::Taz(machine) => machine.let_go(),
         }
     }
 }

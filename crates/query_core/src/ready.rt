@@ -3,8 +3,8 @@
 use query_text::Query;
 
 /// A query that is admitted over lists: contracts that take one ask for `IsReady`, which says that
-/// `k` is at most `count`, that `count` is at most 200,000, and that each list has its source and its
-/// version.
+/// `k` is at most `count`, that `count` is at most 200,000, that each list has its source and its
+/// version, that of each it is told whether it can be read in order, and that `taz` has one that can.
 #[derive(Drop)]
 pub struct Ready {
     /// The query.
@@ -15,4 +15,7 @@ pub struct Ready {
     pub sources: Vec<u32>,
     /// The versions that its lists had when they were opened, in the order of the lists.
     pub versions: Vec<u64>,
+    /// Whether its lists can be read in order, in the order of the lists. Only `taz` goes by this: of every
+    /// other algorithm the sources have to answer whatever it asks.
+    pub sorted: Vec<bool>,
 }

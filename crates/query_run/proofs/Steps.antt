@@ -17,8 +17,8 @@ use Rattle.source_log.proofs.Lists.{none_not_some}
 use Rattle.source_pool.specs.declared.hold.Hold.{Hold}
 use Rattle.source_pool.specs.Passes.{hold_at, OthersStay}
 use Rattle.source_pool.specs.Looks.{MayLookFor, shown_by, IsTurn, IsWithin, TookTurn, Waits}
-use Rattle.query_core.specs.Algorithms.{run_by}
-use Rattle.query_core.specs.Machines.{algorithm_of, state_of, MakesItsRun}
+use Rattle.query_core.specs.Methods.{run_with}
+use Rattle.query_core.specs.Machines.{method_of, state_of, MakesItsRun}
 use Rattle.query_turns.specs.declared.inquiry.Inquiry.{Inquiry}
 use Rattle.query_turns.specs.Inquiries.{needed, list_needed, source_needed, is_done, is_ended}
 use Rattle.query_turns.specs.Kept.{IsServed}
@@ -65,7 +65,7 @@ place_of holds q h going =
     let served = served_by holds q h.states h h.feeds parts.0 in
     let within = listed h.states q served.sources h.run parts.1 in
     let is = h.each (list_needed (needed q)) 0 within in
-    let range = in_range (run_by (algorithm_of q.machine)) (state_of q.machine) h.run in
+    let range = in_range (run_with (method_of q.machine)) (state_of q.machine) h.run in
     record {
       listed = within;
       there = is.0;
@@ -184,7 +184,7 @@ pub looked_may : (before after : List Hold) (q : Inquiry) (answer : Look) → Is
 looked_may before after q answer h going long looked = look_may before after q answer h going (sees_on (source_needed q) before after long looked.others looked.took) looked.turn
 
 pub looks_once : (before after : List Hold) (q r : Inquiry) (answer : Look) → LookedAt (needed q) (source_needed q) before after answer → Answers q r answer
-    → MakesItsRun r.machine → algorithm_of r.machine ≡ algorithm_of q.machine → r.sources.items ≡ q.sources.items → r.waiting ≡ q.waiting
+    → MakesItsRun r.machine → method_of r.machine ≡ method_of q.machine → r.sources.items ≡ q.sources.items → r.waiting ≡ q.waiting
     → LooksOnce before after q r
 looks_once before after q r answer looked answers run same sources waiting = record {
   answer = answer;
@@ -196,7 +196,7 @@ looks_once before after q r answer looked answers run same sources waiting = rec
   within = looked.within;
   others = looked.others;
   sources = sources;
-  algorithm = same;
+  method = same;
   waiting = waiting;
   run = run;
   answers = answers;

@@ -286,7 +286,7 @@ looked_on before now after first q r long h ending l =
       };
       advances = advances_on first.sources.items before now after q r among long l h.advances;
       sources = l.sources ∙ h.sources;
-      algorithm = l.algorithm ∙ h.algorithm;
+      method = l.method ∙ h.method;
       goes = continues_on (state_of first.machine) (state_of q.machine) (state_of r.machine) h.goes step.goes;
       stands = step.stands;
     }
@@ -297,7 +297,7 @@ looked_none before q rests reading unrefused = record {
   reading = reading;
   advances = advances_same q.sources.items before;
   sources = refl;
-  algorithm = refl;
+  method = refl;
   goes = continues_same (state_of q.machine);
   stands = subst (Stands before before q) (sym unrefused) (record {
     waits = λ source n e. absurd (none_not_some (sym (rests.rests source) ∙ e));
@@ -376,7 +376,7 @@ ran before after ready first q end is looked stop spared ends = record {
     first = state_of first.machine;
     begun = is.machine.begun;
     goes = looked.goes;
-    algorithm = looked.algorithm ∙ is.machine.algorithm;
+    method = looked.method ∙ is.machine.method;
     sources = looked.sources ∙ is.sources;
   };
   ends = ends_with stop.last q end ends;

@@ -12,7 +12,7 @@ use Rattle.source_pool.specs.Passes.{hold_at, OthersStay}
 use Rattle.source_pool.specs.Looks.{Answers as LookAnswers}
 use Rattle.source_pool.specs.Looks.{shown_by, IsTurn, IsWithin, TookTurn, Waits}
 use Rattle.query_core.specs.Driving.{Continues, IsFedFrom}
-use Rattle.query_core.specs.Machines.{algorithm_of, state_of, MakesItsRun}
+use Rattle.query_core.specs.Machines.{method_of, state_of, MakesItsRun}
 use Rattle.query_turns.specs.declared.ended.Refusal.{Refusal}
 use Rattle.query_turns.specs.declared.ended.Refusal.TheVariants.{Core, Look as LookedFor}
 use Rattle.query_turns.specs.declared.inquiry.Inquiry.{Inquiry}
@@ -53,7 +53,7 @@ pub record LooksOnce (before after : List Hold) (q r : Inquiry) : Type 0 where
   pub within : IsWithin (hold_at before (source_needed q)) → IsWithin (hold_at after (source_needed q))
   pub others : OthersStay (source_needed q) before after
   pub sources : r.sources.items ≡ q.sources.items
-  pub algorithm : algorithm_of r.machine ≡ algorithm_of q.machine
+  pub method : method_of r.machine ≡ method_of q.machine
   pub waiting : r.waiting ≡ q.waiting
   pub run : MakesItsRun r.machine
   pub answers : Answers q r answer
@@ -105,7 +105,7 @@ pub record HasLooked (before now : List Hold) (q r : Inquiry) : Type 0 where
   pub reading : IsReading now r
   pub advances : Advances q.sources.items before now
   pub sources : r.sources.items ≡ q.sources.items
-  pub algorithm : algorithm_of r.machine ≡ algorithm_of q.machine
+  pub method : method_of r.machine ≡ method_of q.machine
   pub goes : Continues (state_of q.machine) (state_of r.machine)
   pub stands : Stands before now r r.refusal
 

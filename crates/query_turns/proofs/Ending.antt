@@ -1,13 +1,14 @@
 -- What a query ends with is right.
-use Rattle.std.proofs.Common.{◌≡◌, true, Option, Some, None, ◌||◌, is_some, List, refl, sym, ap, ◌∙◌}
+use Rattle.std.proofs.Common.{◌≡◌, true, Option, Some, None, ◌||◌, is_some, List, refl, sym, ap, subst, ◌∙◌}
 use Rattle.ranked_list.specs.declared.need.Need.{Need}
 use Rattle.ranked_list.specs.declared.need.Need.TheVariants as need
 use Rattle.source_log.proofs.Lists.{none_not_some}
 use Rattle.source_state.specs.State.{State}
 use Rattle.machine_base.specs.declared.answer.Answer.{Answer}
 use Rattle.query_core.specs.declared.ready.Ready.{Ready}
-use Rattle.query_core.specs.OneAnswer.{IsAnswered}
-use Rattle.query_core.specs.Machines.{algorithm_of, state_of}
+use Rattle.query_core.specs.OneAnswer.{IsAnsweredWith}
+use Rattle.query_core.specs.Ready.{method_of_ready}
+use Rattle.query_core.specs.Machines.{method_of, state_of}
 use Rattle.query_core.proofs.Answering.{end_answered}
 use Rattle.query_turns.specs.declared.ended.Ended.{Ended}
 use Rattle.query_turns.specs.declared.ended.Ended.TheVariants as ended
@@ -20,10 +21,11 @@ use Rattle.query_turns.specs.Endings.{IsAnswerOf, IsRefusedEnding, EndsAs, IsRig
 
 -- the answer of a query is right
 answered : (states : List State) (ready : Ready) (q : Inquiry) (answer : Answer) → IsServed states q → IsOf ready q → IsAnswerOf q answer
-    → IsAnswered ready.query ready.count answer
+    → IsAnsweredWith (method_of_ready ready) ready.query ready.count answer
 answered states ready q answer h is ends =
-    end_answered (algorithm_of q.machine) ready.query ready.count _ (told_to states q) is.first answer is.algorithm is.is.expr.lists.some is.begun
-    (record { last = state_of q.machine; goes = is.goes; fed = h.drawn; run = h.run; done = ends.done; items = ends.items; log = ends.log })
+    subst (λ method. IsAnsweredWith method ready.query ready.count answer) is.method
+    (end_answered (method_of q.machine) ready.query ready.count _ (told_to states q) is.first answer is.is.expr.lists.some is.begun
+    (record { last = state_of q.machine; goes = is.goes; fed = h.drawn; run = h.run; done = ends.done; items = ends.items; log = ends.log }))
 
 -- what a query ends with is right
 pub right : (states : List State) (ready : Ready) (q : Inquiry) (e : Ended) → IsServed states q → IsOf ready q → EndsAs q e → IsRight ready e

@@ -28,7 +28,7 @@ use Rattle.source_state.specs.State.{State, opened, IsSound, state_at}
 use Rattle.source_log.proofs.Lists.{none_not_some}
 use Rattle.source_log.proofs.LogLaws.{graded_settling}
 use Rattle.query_core.specs.Driving.{CanDrive}
-use Rattle.query_core.specs.Machines.{algorithm_of, state_of}
+use Rattle.query_core.specs.Machines.{method_of, state_of}
 use Rattle.query_core.proofs.Feeding.{no_stranger, room_stops}
 use Rattle.query_turns.specs.declared.ended.Refusal.{Refusal}
 use Rattle.query_turns.specs.declared.ended.Refusal.TheVariants as refusal
@@ -186,10 +186,10 @@ pub may_lack : (lists : List (List Row)) (states : List State) (q : Inquiry) (fa
     → LacksRoom (state_at states (source_needed q)) (state_of q.machine) fault → MayRefuse (lists_of lists q) q (Some (refusal.Core fault))
 may_lack lists states q (Strangers object count) h reads cause =
     let on = lacks_on lists states q object h reads cause.0 in
-    no_stranger (algorithm_of q.machine) (lists_of lists q) (state_of q.machine) on.list on.depth on.row on.can h.run on.needs on.found on.full cause.1
+    no_stranger (method_of q.machine) (lists_of lists q) (state_of q.machine) on.list on.depth on.row on.can h.run on.needs on.found on.full cause.1
 may_lack lists states q (RoomFull room) h reads cause =
     let on = lacks_on lists states q cause.0.0 h reads cause.0.1 in
-    let stops = room_stops (algorithm_of q.machine) (lists_of lists q) (state_of q.machine) on.list on.depth on.row room on.can h.run on.needs on.found on.full cause.1 cause.2 in
+    let stops = room_stops (method_of q.machine) (lists_of lists q) (state_of q.machine) on.list on.depth on.row room on.can h.run on.needs on.found on.full cause.1 cause.2 in
     (stops.1, stops.2)
 
 -- what is settled of a list is neither bad nor missed

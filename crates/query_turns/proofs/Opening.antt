@@ -80,4 +80,4 @@ fresh_served counts ready q for fresh =
     }
 
 pub fresh_of : (ready : Ready) (q : Inquiry) → IsFresh ready q → IsOf ready q
-fresh_of ready q fresh = record { is = fresh.is; first = state_of q.machine; begun = fresh.machine.begun; goes = continues_same (state_of q.machine); algorithm = fresh.machine.algorithm; sources = fresh.sources }
+fresh_of ready q fresh = record { is = fresh.is; first = state_of q.machine; begun = fresh.machine.begun; goes = continues_same (state_of q.machine); method = fresh.machine.method; sources = fresh.sources }

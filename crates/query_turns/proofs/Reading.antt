@@ -13,7 +13,7 @@ use Rattle.source_state.specs.declared.look.Look.{Look}
 use Rattle.source_state.specs.declared.look.Look.TheVariants as look
 use Rattle.source_state.specs.State.{State}
 use Rattle.query_core.specs.Driving.{Continues}
-use Rattle.query_core.specs.Machines.{algorithm_of, state_of}
+use Rattle.query_core.specs.Machines.{method_of, state_of}
 use Rattle.query_core.proofs.Feeding.{continues_same, continues_on}
 use Rattle.query_turns.specs.declared.ended.Refusal.{Refusal}
 use Rattle.query_turns.specs.declared.ended.Refusal.TheVariants as refusal
@@ -52,11 +52,11 @@ answer_read q r look.NotYet h = read_same (state_of q.machine) (state_of r.machi
 answer_read q r (look.Fault fault) h = read_same (state_of q.machine) (state_of r.machine) (ap state_of h.1)
 
 -- a turn of a query that hasn't ended
-pub turn_reads : (q r : Inquiry) (answer : Look) → is_ended q ≡ false → r.sources.items ≡ q.sources.items → algorithm_of r.machine ≡ algorithm_of q.machine
+pub turn_reads : (q r : Inquiry) (answer : Look) → is_ended q ≡ false → r.sources.items ≡ q.sources.items → method_of r.machine ≡ method_of q.machine
     → Continues (state_of q.machine) (state_of r.machine) → Answers q r answer → ReadsOn q r
 turn_reads q r answer going sources same goes answers = record {
   sources = sources;
-  algorithm = same;
+  method = same;
   goes = goes;
   read = answer_read q r answer answers;
   ended = λ e. let bad : true ≡ false = sym e ∙ going in absurd (cc);
@@ -64,12 +64,12 @@ turn_reads q r answer going sources same goes answers = record {
 
 -- no step, and one step after another
 reads_same : (q : Inquiry) → ReadsOn q q
-reads_same q = record { sources = refl; algorithm = refl; goes = continues_same (state_of q.machine); read = begins_same (accesses (state_of q.machine)); ended = λ e. refl }
+reads_same q = record { sources = refl; method = refl; goes = continues_same (state_of q.machine); read = begins_same (accesses (state_of q.machine)); ended = λ e. refl }
 
 pub reads_on : (p q r : Inquiry) → ReadsOn p q → ReadsOn q r → ReadsOn p r
 reads_on p q r one other = record {
   sources = other.sources ∙ one.sources;
-  algorithm = other.algorithm ∙ one.algorithm;
+  method = other.method ∙ one.method;
   goes = continues_on (state_of p.machine) (state_of q.machine) (state_of r.machine) one.goes other.goes;
   read = begins_trans (accesses (state_of p.machine)) (accesses (state_of q.machine)) (accesses (state_of r.machine)) one.read other.read;
   ended = λ e. let same : q ≡ p = one.ended e in other.ended (ap is_ended same ∙ e) ∙ same;

@@ -28,8 +28,8 @@ use Rattle.source_state.specs.Drawing.{told_by, IsSomeSound}
 use Rattle.source_state.specs.Looking.{Ends, Looks, Refuses, MayLook}
 use Rattle.source_state.proofs.Drawing.{next_consistent}
 use Rattle.source_log.proofs.Lists.{none_not_some}
-use Rattle.query_core.specs.Algorithms.{run_by}
-use Rattle.query_core.specs.Machines.{algorithm_of, state_of, MakesItsRun}
+use Rattle.query_core.specs.Methods.{run_with}
+use Rattle.query_core.specs.Machines.{method_of, state_of, MakesItsRun}
 use Rattle.query_core.specs.Driving.{Continues, IsFedFrom}
 use Rattle.query_core.proofs.Feeding.{continues_same, row_took, grade_took}
 use Rattle.query_turns.specs.declared.ended.Refusal.{Refusal}
@@ -118,7 +118,7 @@ list_in_range t need.Done range going = absurd (cc)
 pub listed : (states : List State) (q : Inquiry) → HasSources states q → MakesItsRun q.machine → is_done (needed q) ≡ false
     → list_needed (needed q) < length q.sources.items
 listed states q sources run going =
-    let range = list_in_range (state_of q.machine) (needed q) (in_range (run_by (algorithm_of q.machine)) (state_of q.machine) run) going in
+    let range = list_in_range (state_of q.machine) (needed q) (in_range (run_with (method_of q.machine)) (state_of q.machine) run) going in
     omega (arith, range, sources.many)
 
 pub source_there : (states : List State) (q : Inquiry) → HasSources states q → MakesItsRun q.machine → is_done (needed q) ≡ false
@@ -196,7 +196,7 @@ may_look_for t need.Done s range going count = absurd (cc)
 
 pub may_look : (states : List State) (q : Inquiry) → IsServed states q → is_done (needed q) ≡ false → MayLook (state_at states (source_needed q)) (needed q)
 may_look states q h going =
-    may_look_for (state_of q.machine) (needed q) (state_at states (source_needed q)) (in_range (run_by (algorithm_of q.machine)) (state_of q.machine) h.run) going (source_there states q h.sources h.run going).1
+    may_look_for (state_of q.machine) (needed q) (state_at states (source_needed q)) (in_range (run_with (method_of q.machine)) (state_of q.machine) h.run) going (source_there states q h.sources h.run going).1
 
 -- the logs of a query's sources are sound
 pub logs_sound : (states : List State) (q : Inquiry) → All IsSound states → HasSources states q → All IsSomeSound (logs_of states q.sources.items)
@@ -234,7 +234,7 @@ row_may : (states : List State) (q : Inquiry) (row : Row) → All IsSound states
     → MayBeNextRow (state_of q.machine).log (needed q) row
 row_may states q row sound h is =
     let t = state_of q.machine in
-    let range : IsNextRow t.log is.list is.depth = subst (IsInRange t.log) is.is (in_range (run_by (algorithm_of q.machine)) t h.run) in
+    let range : IsNextRow t.log is.list is.depth = subst (IsInRange t.log) is.is (in_range (run_with (method_of q.machine)) t h.run) in
     let place : is.depth - 1 ≡ depth_of is.list t.log.accesses = let next = range.next in omega (arith, next) in
     let there = row_there states q row h.sources h.run is in
     let gives : Gives (told_to states q) t.log.accesses (Sorted is.list row.object row.grade) = ap (slice_get (list_at (told_to states q).rows is.list)) (sym place) ∙ there in
@@ -245,7 +245,7 @@ grade_may : (states : List State) (q : Inquiry) (grade : ℕ) → All IsSound st
     → IsGradeAt (state_at states (source_needed q)) (needed q) grade → MayBeNextGrade (state_of q.machine).log (needed q) grade
 grade_may states q grade sound h is =
     let t = state_of q.machine in
-    let range : is.list < t.log.lists = subst (IsInRange t.log) is.is (in_range (run_by (algorithm_of q.machine)) t h.run) in
+    let range : is.list < t.log.lists = subst (IsInRange t.log) is.is (in_range (run_with (method_of q.machine)) t h.run) in
     let seen : Contains (seen_objects t.log.accesses) is.object = subst (IsOfSeen t.log) is.is h.run.tame in
     let named = seen_is_named t.log.accesses is.object seen in
     let known = grade_there states q grade h.sources h.run is in
@@ -301,7 +301,7 @@ row_went : (states : List State) (q r : Inquiry) (u : State) (row : Row) (refuse
     → RowTaken row q r refused → Went states q r
 row_went states q r u row None h ends is e taken =
     let t = state_of q.machine in
-    let took = row_took (algorithm_of q.machine) (told_to states q) t (state_of r.machine) is.list is.depth row h.drawn h.run is.is (row_there states q row h.sources h.run is) taken.0 taken.1 in
+    let took = row_took (method_of q.machine) (told_to states q) t (state_of r.machine) is.list is.depth row h.drawn h.run is.is (row_there states q row h.sources h.run is) taken.0 taken.1 in
     record { goes = took.goes; fed = took.fed; waits = λ n w. over_waits (state_at states (source_needed q)) u q r n ends w; cause = inl e }
 row_went states q r u row (Some (refusal.Core (Strangers object count))) h ends is e taken =
     refused_row states q r u (Strangers object count) h ends e taken.4 (lacks_room states q row object is (sym taken.2) taken.0, taken.1, taken.3)
@@ -315,7 +315,7 @@ grade_went : (states : List State) (q r : Inquiry) (u : State) (grade : ℕ) →
     → Takes (grade_access (needed q) grade) (state_of q.machine) (state_of r.machine) → Went states q r
 grade_went states q r u grade h ends is e takes =
     let t = state_of q.machine in
-    let took = grade_took (algorithm_of q.machine) (told_to states q) t (state_of r.machine) is.list is.object grade h.drawn h.run is.is (grade_there states q grade h.sources h.run is) takes in
+    let took = grade_took (method_of q.machine) (told_to states q) t (state_of r.machine) is.list is.object grade h.drawn h.run is.is (grade_there states q grade h.sources h.run is) takes in
     record { goes = took.goes; fed = took.fed; waits = λ n w. over_waits (state_at states (source_needed q)) u q r n ends w; cause = inl e }
 
 -- a machine that stays

@@ -10,7 +10,7 @@ use Rattle.source_state.specs.declared.look.Look.TheVariants as look
 use Rattle.source_state.specs.State.{State, opened, IsSound, state_at}
 use Rattle.source_state.specs.Looking.{Looks}
 use Rattle.query_core.specs.declared.machine.Machine.{Machine}
-use Rattle.query_core.specs.Machines.{algorithm_of, state_of, MakesItsRun}
+use Rattle.query_core.specs.Machines.{method_of, state_of, MakesItsRun}
 use Rattle.query_turns.specs.declared.ended.Refusal.{Refusal}
 use Rattle.query_turns.specs.declared.ended.Refusal.TheVariants as refusal
 use Rattle.query_turns.specs.declared.inquiry.Inquiry.{Inquiry}
@@ -66,7 +66,7 @@ answers_same p q r (look.Fault fault) same h = (h.0 ∙ ap (λ (m : Machine). So
 pub turn_made : (states : List State) (q r : Inquiry) (u : State) (left : Waiting) (answer : Look) (n : Need) (place source : ℕ) (s : State) (p : Inquiry)
     → IsServed states q → is_ended q ≡ false → n ≡ needed q → place ≡ list_needed n
     → source ≡ slice_index_or q.sources.items place source → s ≡ slice_index_or states source s → Looks n s u q.waiting left answer
-    → p.machine ≡ q.machine → Answers p r answer → MakesItsRun r.machine → algorithm_of r.machine ≡ algorithm_of q.machine → r.sources.items ≡ q.sources.items → r.waiting ≡ left → Turns states (slice_set states source u) q r
+    → p.machine ≡ q.machine → Answers p r answer → MakesItsRun r.machine → method_of r.machine ≡ method_of q.machine → r.sources.items ≡ q.sources.items → r.waiting ≡ left → Turns states (slice_set states source u) q r
 turn_made states q r u left answer n place source s p h going need list read at looks same answers run algorithm sources waiting =
     let is = looked states q u left answer n place source s h going need list read at looks in
     record {

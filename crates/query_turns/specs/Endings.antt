@@ -2,11 +2,12 @@
 use Rattle.std.specs.Prelude.{◌≡◌, Some, None}
 use Rattle.ranked_list.specs.declared.need.Need.TheVariants.{Done}
 use Rattle.machine_base.specs.declared.answer.Answer.{Answer}
-use Rattle.machine_base.specs.Machine.{IsSameLog, IsAnswerBy}
+use Rattle.machine_base.specs.Machine.{IsSameLog}
 use Rattle.query_core.specs.declared.ready.Ready.{Ready}
-use Rattle.query_core.specs.Algorithms.{items_by}
-use Rattle.query_core.specs.OneAnswer.{IsAnswered}
-use Rattle.query_core.specs.Machines.{algorithm_of, state_of}
+use Rattle.query_core.specs.Methods.{AnswersWith}
+use Rattle.query_core.specs.OneAnswer.{IsAnsweredWith}
+use Rattle.query_core.specs.Ready.{method_of_ready}
+use Rattle.query_core.specs.Machines.{method_of, state_of}
 use Rattle.query_turns.specs.declared.ended.Ended.{Ended}
 use Rattle.query_turns.specs.declared.ended.Ended.TheVariants as ended
 use Rattle.query_turns.specs.declared.ended.Refusal.{Refusal}
@@ -24,7 +25,7 @@ IsRefusedEnding refused (ended.Look list fault) = refused ≡ refusal.Look list 
 pub record IsAnswerOf (q : Inquiry) (answer : Answer) : Type 0 where
   pub unrefused : q.refusal ≡ None
   pub done : needed q ≡ Done
-  pub items : IsAnswerBy (items_by (algorithm_of q.machine)) (state_of q.machine) answer.items
+  pub items : AnswersWith (method_of q.machine) (state_of q.machine) answer.items
   pub log : IsSameLog answer.transcript (state_of q.machine).log
 
 abbrev pub EndsAs : Inquiry → Ended → Type 0
@@ -34,6 +35,6 @@ EndsAs q (ended.Look list fault) = q.refusal ≡ Some (refusal.Look list fault)
 
 -- an answer is a right one of its query
 abbrev pub IsRight : Ready → Ended → Type 0
-IsRight ready (ended.Answered answer) = IsAnswered ready.query ready.count answer
+IsRight ready (ended.Answered answer) = IsAnsweredWith (method_of_ready ready) ready.query ready.count answer
 IsRight ready (ended.Core fault) = Unit {0}
 IsRight ready (ended.Look list fault) = Unit {0}

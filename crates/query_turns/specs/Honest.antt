@@ -11,9 +11,9 @@ use Rattle.source_log.specs.declared.entry.Settling.TheVariants.{Graded}
 use Rattle.source_state.specs.declared.look.LookFault.TheVariants as why
 use Rattle.source_log.specs.Log.{rows_in, settling_in, fault_in}
 use Rattle.source_state.specs.State.{State, state_at}
-use Rattle.query_core.specs.Algorithms.{run_by}
-use Rattle.query_core.specs.Driving.{run_sees}
-use Rattle.query_core.specs.Machines.{algorithm_of, state_of}
+use Rattle.query_core.specs.Methods.{run_with}
+use Rattle.query_core.specs.Driving.{sees_with}
+use Rattle.query_core.specs.Machines.{method_of, state_of}
 use Rattle.query_turns.specs.declared.ended.Refusal.{Refusal}
 use Rattle.query_turns.specs.declared.ended.Refusal.TheVariants.{Core, Look}
 use Rattle.query_turns.specs.declared.inquiry.Inquiry.{Inquiry}
@@ -51,7 +51,7 @@ pub record IsTrueFor (lists : List (List Row)) (states : List State) (q : Inquir
 abbrev pub MayRefuse : List (List Row) → Inquiry → Option Refusal → Type 0
 MayRefuse D q None = Unit {0}
 MayRefuse D q (Some (Core (RoomFull room))) =
-    (room < (state_of q.machine).log.count) × (room < length (run_sees (algorithm_of q.machine) D (state_of q.machine)))
+    (room < (state_of q.machine).log.count) × (room < length (sees_with (method_of q.machine) D (state_of q.machine)))
 MayRefuse D q (Some (Look list why.Failed)) = Unit {0}
 MayRefuse D q (Some (Look list why.Garbled)) = Unit {0}
 MayRefuse D q (Some (Look list why.Memory)) = Unit {0}
@@ -61,5 +61,5 @@ MayRefuse _ _ _ = ⊥
 -- fail alone
 pub record IsOnItsRun (lists : List (List Row)) (q : Inquiry) : Type 0 where
   pub agrees : AgreesWith (lists_of lists q) (state_of q.machine).log
-  pub begins : Begins (state_of q.machine).log.accesses (run_by (algorithm_of q.machine) (asked_of (state_of q.machine)) (lists_of lists q))
+  pub begins : Begins (state_of q.machine).log.accesses (run_with (method_of q.machine) (asked_of (state_of q.machine)) (lists_of lists q))
   pub refused : MayRefuse (lists_of lists q) q q.refusal

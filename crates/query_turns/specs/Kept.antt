@@ -4,7 +4,7 @@ use Rattle.ranked_list.specs.declared.need.Need.{Need}
 use Rattle.topk_theory.specs.Transcript.{Begins}
 use Rattle.source_state.specs.State.{State, state_at}
 use Rattle.query_core.specs.Driving.{Continues, IsFedFrom}
-use Rattle.query_core.specs.Machines.{algorithm_of, state_of, MakesItsRun}
+use Rattle.query_core.specs.Machines.{method_of, state_of, MakesItsRun}
 use Rattle.query_turns.specs.declared.inquiry.Inquiry.{Inquiry}
 use Rattle.query_turns.specs.Inquiries.{told_to, needed, is_ended}
 use Rattle.query_turns.specs.Causes.{IsRefusedForCause}
@@ -29,7 +29,7 @@ pub record IsServed (states : List State) (q : Inquiry) : Type 0 where
 -- a query later on: it asks the same of the same sources by the same algorithm, its transcript goes on, and once it has ended it stays
 pub record ReadsOn (before after : Inquiry) : Type 0 where
   pub sources : after.sources.items ≡ before.sources.items
-  pub algorithm : algorithm_of after.machine ≡ algorithm_of before.machine
+  pub method : method_of after.machine ≡ method_of before.machine
   pub goes : Continues (state_of before.machine) (state_of after.machine)
   pub read : Begins (state_of before.machine).log.accesses (state_of after.machine).log.accesses
   pub ended : is_ended before ≡ true → after ≡ before

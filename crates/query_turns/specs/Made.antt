@@ -4,10 +4,10 @@ use Rattle.std.specs.List.{slice_index_or}
 use Rattle.machine_base.specs.Machine.{MachineState, IsBegun}
 use Rattle.source_state.specs.State.{State, opened}
 use Rattle.query_core.specs.declared.ready.Ready.{Ready}
-use Rattle.query_core.specs.Ready.{IsReady}
+use Rattle.query_core.specs.Ready.{IsReady, method_of_ready}
 use Rattle.query_text.specs.Costs.{costs_in_force}
 use Rattle.query_core.specs.Driving.{Continues}
-use Rattle.query_core.specs.Machines.{algorithm_of, state_of, MakesItsRun, IsMachineFor}
+use Rattle.query_core.specs.Machines.{method_of, state_of, MakesItsRun, IsMachineFor}
 use Rattle.query_turns.specs.declared.inquiry.Inquiry.{Inquiry}
 
 -- the query is ready, and its lists are sources that have as many objects as it counts
@@ -26,7 +26,7 @@ pub record IsOf (ready : Ready) (q : Inquiry) : Type 0 where
   pub first : MachineState
   pub begun : IsBegun ready.query.expr ready.query.k ready.count (unwrap_or ready.query.room ready.count) (costs_in_force ready.query) first
   pub goes : Continues first (state_of q.machine)
-  pub algorithm : algorithm_of q.machine ≡ ready.query.algorithm
+  pub method : method_of q.machine ≡ method_of_ready ready
   pub sources : q.sources.items ≡ ready.sources.items
 
 -- the query is one that is ready, before any access; it waits for nothing and isn't refused

@@ -7,7 +7,7 @@ use Rattle.source_state.specs.declared.look.Look.{Look}
 use Rattle.source_state.specs.declared.look.Look.TheVariants as look
 use Rattle.source_state.specs.State.{State, state_at}
 use Rattle.source_state.specs.Looking.{Looks}
-use Rattle.query_core.specs.Machines.{algorithm_of, state_of, MakesItsRun}
+use Rattle.query_core.specs.Machines.{method_of, state_of, MakesItsRun}
 use Rattle.query_turns.specs.declared.ended.Refusal.{Refusal}
 use Rattle.query_turns.specs.declared.ended.Refusal.TheVariants as refusal
 use Rattle.query_turns.specs.declared.inquiry.Inquiry.{Inquiry}
@@ -40,6 +40,6 @@ pub record Turns (states after : List State) (q r : Inquiry) : Type 0 where
   pub looks : Looks (needed q) (state_at states (source_needed q)) state q.waiting r.waiting answer
   pub others : after ≡ slice_set states (source_needed q) state
   pub sources : r.sources.items ≡ q.sources.items
-  pub same : algorithm_of r.machine ≡ algorithm_of q.machine
+  pub same : method_of r.machine ≡ method_of q.machine
   pub run : MakesItsRun r.machine
   pub answers : Answers q r answer

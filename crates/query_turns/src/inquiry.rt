@@ -2,7 +2,7 @@
 
 ghost use Rattle.std.specs.Prelude.{◌≡◌, true, false, None, All, IfOk};
 ghost use Rattle.source_state.specs.State.{IsSound};
-ghost use Rattle.query_core.specs.Machines.{algorithm_of, state_of, MakesItsRun};
+ghost use Rattle.query_core.specs.Machines.{method_of, state_of, MakesItsRun};
 ghost use Rattle.query_core.specs.Ready.{IsReady};
 ghost use Rattle.query_turns.specs.Inquiries.{needed, list_needed, is_done, is_ended};
 ghost use Rattle.query_turns.specs.Turns.{MayFeed, Answers, Turns};
@@ -124,7 +124,7 @@ impl Inquiry {
         requires going { self.old.refusal ≡ None }
         ensures answers { Answers self.old self.new look }
         ensures run { MakesItsRun self.new.machine }
-        ensures same { algorithm_of self.new.machine ≡ algorithm_of self.old.machine }
+        ensures same { method_of self.new.machine ≡ method_of self.old.machine }
         ensures sources { self.new.sources.items ≡ self.old.sources.items }
         ensures waiting { self.new.waiting ≡ self.old.waiting }
     {

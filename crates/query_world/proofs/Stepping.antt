@@ -10,7 +10,7 @@ use Rattle.source_state.specs.State.{State, IsSound, state_at}
 use Rattle.source_state.specs.Events.{after}
 use Rattle.query_core.specs.declared.ready.Ready.{Ready}
 use Rattle.query_core.specs.Driving.{Continues}
-use Rattle.query_core.specs.Machines.{algorithm_of, state_of}
+use Rattle.query_core.specs.Machines.{method_of, state_of}
 use Rattle.query_core.proofs.Feeding.{continues_on}
 use Rattle.query_turns.specs.declared.inquiry.Inquiry.{Inquiry}
 use Rattle.query_world.specs.declared.step.Step.{Step}
@@ -88,13 +88,13 @@ turn_steps query w after h going t =
     }
   where
     of_on : (ready : Ready) (q r : Inquiry) → IsOf ready q → Continues (state_of q.machine) (state_of r.machine) → r.sources.items ≡ q.sources.items
-        → algorithm_of r.machine ≡ algorithm_of q.machine → IsOf ready r
+        → method_of r.machine ≡ method_of q.machine → IsOf ready r
     of_on ready q r is goes sources same = record {
       is = is.is;
       first = is.first;
       begun = is.begun;
       goes = continues_on is.first (state_of q.machine) (state_of r.machine) is.goes goes;
-      algorithm = same ∙ is.algorithm;
+      method = same ∙ is.method;
       sources = sources ∙ is.sources;
     }
 

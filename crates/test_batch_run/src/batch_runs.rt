@@ -16,7 +16,7 @@ use std::test::Fail;
 use std::thread::Threads;
 use test_mem_source::MemSource;
 use test_query_support::{
-    Asked, Expected, are_small, is_ended_so, let_endings_go, let_go, readies_of,
+    Asked, Expected, are_small, is_ended_so, let_endings_go, let_go, readies_beside,
 };
 use test_source_support::{Held, source_of};
 
@@ -159,20 +159,28 @@ fn run_ready<R: Threads + Wait + Sync, S: Source>(
     }
 }
 
-/// How queries run over sources that have so many objects each: whether they end so, and so much is used of the first sources.
+/// Queries over sources that have so many objects each, of which some answer grades alone, by these settings.
+#[derive(Clone, Copy)]
+pub struct Batching<'a> {
+    pub counts: &'a [u32],
+    pub asked: &'a [Asked],
+    pub by_grades: &'a [u32],
+    pub settings: Settings,
+}
+
+/// How queries run: whether they end so, and so much is used of the first sources.
 pub fn run_ends_so<R: Threads + Wait + Sync, S: Source>(
     rt: &R,
     alloc: Global,
     slots: &mut Vec<Slot<S>>,
-    counts: &[u32],
-    asked: &[Asked],
-    settings: Settings,
+    batching: Batching<'_>,
     expected: (&[Expected], &[Used]),
 ) -> Result<Ran, Fail>
     requires { All (λ slot. slot.feeder ≡ None) slots.old.items }
     ensures { All (λ slot. slot.feeder ≡ None) slots.new.items }
 {
-    let Some(readies) = readies_of(alloc, counts, asked) else {
+    let (counts, settings) = (batching.counts, batching.settings);
+    let Some(readies) = readies_beside(alloc, counts, batching.asked, batching.by_grades) else {
         return Ok(Ran::Otherwise);
     };
     let ran = run_ready(rt, alloc, slots, counts, &readies, settings, expected);

@@ -2,7 +2,7 @@
 
 ghost use Rattle.std.specs.Prelude.{◌≡◌, None, All};
 
-use super::batch_runs::{Ran, Used, add_slots, run_ends_so};
+use super::batch_runs::{Batching, Ran, Used, add_slots, run_ends_so};
 use batch_run::Settings;
 use fetcher::Slot;
 use std::alloc::Global;
@@ -13,12 +13,14 @@ use test_mem_source::MemSource;
 use test_query_support::{Asked, Expected};
 use test_source_support::{Held, Kind};
 
-/// A batch: sources, how many objects each is to have, queries, settings, how the queries end, and what is used of the first sources.
+/// A batch: sources, how many objects each is to have, queries, which sources answer grades alone, settings, how the queries end, and
+/// what is used of the first sources.
 #[derive(Clone, Copy)]
 pub struct Case {
     pub held: &'static [Held],
     pub counts: &'static [u32],
     pub asked: &'static [Asked],
+    pub by_grades: &'static [u32],
     pub settings: Settings,
     pub ends: &'static [Expected],
     pub used: &'static [Used],
@@ -58,15 +60,13 @@ fn is_run_so<R: Threads + Wait + Sync>(
 ) -> Result<bool, Fail>
     requires { All (λ slot. slot.feeder ≡ None) slots.old.items }
 {
-    let ran = run_ends_so(
-        rt,
-        alloc,
-        slots,
-        case.counts,
-        case.asked,
-        case.settings,
-        (case.ends, case.used),
-    )?;
+    let batching = Batching {
+        counts: case.counts,
+        asked: case.asked,
+        by_grades: case.by_grades,
+        settings: case.settings,
+    };
+    let ran = run_ends_so(rt, alloc, slots, batching, (case.ends, case.used))?;
     Ok(ran == Ran::So)
 }
 

@@ -51,6 +51,7 @@ pub static ROWS: [Case; 5] = [
         held: &[RISING, FALLING],
         counts: &[2, 2],
         asked: &[FIRST, BOTH],
+        by_grades: &[],
         settings: PLAIN,
         ends: RISING_ENDS,
         used: &[(2, 0, 2, 0), (1, 0, 1, 0)],
@@ -60,6 +61,7 @@ pub static ROWS: [Case; 5] = [
         held: &[RISING, FALLING],
         counts: &[2, 2],
         asked: &[FIRST, BOTH],
+        by_grades: &[],
         settings: Settings {
             workers: 2,
             page: 2,
@@ -77,6 +79,7 @@ pub static ROWS: [Case; 5] = [
         }],
         counts: &[3],
         asked: &[("top 3 by A using nra", &[0])],
+        by_grades: &[],
         settings: Settings { page: 2, ..PLAIN },
         ends: &[Expected::Look(
             0,
@@ -92,6 +95,7 @@ pub static ROWS: [Case; 5] = [
         held: &[A],
         counts: &[5],
         asked: &[("top 5 by A using nra", &[0])],
+        by_grades: &[],
         settings: PLAIN,
         ends: &[Expected::Look(
             0,
@@ -115,6 +119,7 @@ pub static ROWS: [Case; 5] = [
         ],
         counts: &[2, 2],
         asked: &[BOTH],
+        by_grades: &[],
         settings: PLAIN,
         ends: &[Expected::Core(CoreFault::Strangers {
             object: 3,
@@ -137,6 +142,7 @@ pub static CALLS: [Case; 2] = [
         ],
         counts: &[3, 3],
         asked: &[FIRST, FIRST],
+        by_grades: &[],
         settings: PLAIN,
         ends: &[Expected::Look(0, LookFault::Failed), FIRST_ENDS],
         used: &[(2, 2, 2, 2), (2, 1, 2, 1)],
@@ -152,6 +158,7 @@ pub static CALLS: [Case; 2] = [
         ],
         counts: &[3, 3],
         asked: &[FIRST, FIRST, FIRST],
+        by_grades: &[],
         settings: PLAIN,
         ends: &[Expected::Look(1, LookFault::Failed), FIRST_ENDS, FIRST_ENDS],
         used: &[(2, 2, 2, 2), (2, 1, 2, 1)],

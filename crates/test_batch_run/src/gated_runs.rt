@@ -2,7 +2,7 @@
 
 ghost use Rattle.std.specs.Prelude.{◌≡◌, None, All, OnSome};
 
-use super::batch_runs::{Ran, Used, run_ends_so};
+use super::batch_runs::{Batching, Ran, Used, run_ends_so};
 use super::waiting::{Call, Gate, Gated};
 use batch_run::Settings;
 use fetcher::Slot;
@@ -94,15 +94,13 @@ fn runs_as<R: Threads + Wait + Sync>(
     ensures { All (λ slot. slot.feeder ≡ None) slots.new.items }
 {
     let used: &[Used] = &[];
-    let ran = run_ends_so(
-        rt,
-        alloc,
-        slots,
-        case.counts,
-        case.asked,
-        case.settings,
-        (case.ends, used),
-    )?;
+    let batching = Batching {
+        counts: case.counts,
+        asked: case.asked,
+        by_grades: &[],
+        settings: case.settings,
+    };
+    let ran = run_ends_so(rt, alloc, slots, batching, (case.ends, used))?;
     Ok(ran == expected)
 }
 

@@ -32,6 +32,7 @@ pub static CASES: [Case; 3] = [
         ],
         counts: &[3, 3],
         asked: &[FIRST],
+        by_grades: &[],
         settings: PLAIN,
         ends: &[Expected::Look(
             0,
@@ -55,6 +56,7 @@ pub static CASES: [Case; 3] = [
         ],
         counts: &[3, 3],
         asked: &[FIRST],
+        by_grades: &[],
         settings: PLAIN,
         ends: &[Expected::Look(
             0,
@@ -86,6 +88,7 @@ pub static CASES: [Case; 3] = [
             ("top 1 by sum(A,B) using ta", &[0, 2]),
             ("top 1 by sum(A,B) using ta", &[0, 3]),
         ],
+        by_grades: &[],
         settings: PLAIN,
         ends: &[
             Expected::Look(0, LookFault::Missing { object: 3 }),

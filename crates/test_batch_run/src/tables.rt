@@ -1,10 +1,13 @@
-//! Batches over lists that are a table. Two of the queries are asked by the threshold algorithm, and one each by the others.
+//! Batches over lists that are a table: queries by each of the algorithms.
 
 use super::batch_runs::Used;
 use super::cases::{A, B, Case, PLAIN};
 use batch_run::Settings;
 use machine_base::CoreFault;
-use test_query_support::{Asked, Expected, FIRST, FIRST_ENDS, Figures, SORTED, SORTED_ENDS};
+use test_query_support::{
+    Asked, EARLY, EARLY_ENDS, Expected, FIRST, FIRST_ENDS, Figures, NEAR, NEAR_ENDS, RESTRICTED,
+    RESTRICTED_ENDS, SORTED, SORTED_ENDS,
+};
 
 /// Two rows of each list, the grades of both other objects of the first, and of one of the second.
 const FIRST_USES: &[Used] = &[(2, 2, 2, 2), (2, 1, 2, 1)];
@@ -40,13 +43,27 @@ const COMBINED_ENDS: Expected = Expected::Answered(
     },
 );
 
+/// The second list counts nothing, and is asked for one grade.
+const LEADING: Asked = ("top 1 by wsum(1*A,0*B) using taz", &[0, 1]);
+
+const LEADING_ENDS: Expected = Expected::Answered(
+    &[(1, 900, 900)],
+    Figures {
+        depth: 1,
+        sorted: 1,
+        random: 1,
+        cost: 2,
+    },
+);
+
 /// Batches over lists that are a table.
-pub static CASES: [Case; 6] = [
+pub static CASES: [Case; 10] = [
     // a row of each list for each depth, and a call for each grade that is needed above its row
     Case {
         held: &[A, B],
         counts: &[3, 3],
         asked: &[FIRST],
+        by_grades: &[],
         settings: PLAIN,
         ends: &[FIRST_ENDS],
         used: FIRST_USES,
@@ -56,6 +73,7 @@ pub static CASES: [Case; 6] = [
         held: &[A, B],
         counts: &[3, 3],
         asked: &[FIRST, FIRST, FIRST],
+        by_grades: &[],
         settings: PLAIN,
         ends: &[FIRST_ENDS, FIRST_ENDS, FIRST_ENDS],
         used: FIRST_USES,
@@ -65,6 +83,7 @@ pub static CASES: [Case; 6] = [
         held: &[A, B],
         counts: &[3, 3],
         asked: &[FIRST, FIRST, FIRST, FIRST],
+        by_grades: &[],
         settings: Settings {
             workers: 8,
             page: 1,
@@ -78,6 +97,7 @@ pub static CASES: [Case; 6] = [
         held: &[A, B],
         counts: &[3, 3],
         asked: &[FIRST, SORTED, ALL, SMALL, COMBINED],
+        by_grades: &[],
         settings: Settings {
             workers: 2,
             page: 1,
@@ -91,6 +111,7 @@ pub static CASES: [Case; 6] = [
         held: &[A, B],
         counts: &[3, 3],
         asked: &[COMBINED, SMALL, ALL, SORTED, FIRST],
+        by_grades: &[],
         settings: Settings {
             workers: 3,
             page: 10_000,
@@ -99,11 +120,60 @@ pub static CASES: [Case; 6] = [
         ends: &[COMBINED_ENDS, SMALL_ENDS, ALL_ENDS, SORTED_ENDS, FIRST_ENDS],
         used: &[],
     },
+    // a row of each list, and the grade of each of both objects in the other one
+    Case {
+        held: &[A, B],
+        counts: &[3, 3],
+        asked: &[NEAR, EARLY],
+        by_grades: &[],
+        settings: Settings {
+            workers: 2,
+            page: 1,
+            ahead: 0,
+        },
+        ends: &[NEAR_ENDS, EARLY_ENDS],
+        used: &[(1, 1, 1, 1), (1, 1, 1, 1)],
+    },
+    // the first list can be read in order: a page has all that is wanted later, too; the second gives no row, whatever is read ahead
+    Case {
+        held: &[A, B],
+        counts: &[3, 3],
+        asked: &[RESTRICTED, LEADING],
+        by_grades: &[1],
+        settings: Settings {
+            workers: 2,
+            page: 10_000,
+            ahead: 100,
+        },
+        ends: &[RESTRICTED_ENDS, LEADING_ENDS],
+        used: &[(3, 0, 1, 0), (0, 3, 0, 3)],
+    },
+    // the same a row a page
+    Case {
+        held: &[A, B],
+        counts: &[3, 3],
+        asked: &[RESTRICTED],
+        by_grades: &[1],
+        settings: PLAIN,
+        ends: &[RESTRICTED_ENDS],
+        used: &[(3, 0, 3, 0), (0, 3, 0, 3)],
+    },
+    // where all can be read in order, it reads them all
+    Case {
+        held: &[A, B],
+        counts: &[3, 3],
+        asked: &[RESTRICTED],
+        by_grades: &[],
+        settings: PLAIN,
+        ends: &[FIRST_ENDS],
+        used: FIRST_USES,
+    },
     // no queries, and sources that nobody reads
     Case {
         held: &[A, B],
         counts: &[3, 3],
         asked: &[],
+        by_grades: &[],
         settings: Settings {
             workers: 1,
             page: 1,

@@ -5,7 +5,10 @@ use machine_base::CoreFault;
 use source_state::{LookFault, SourceFault};
 use std::process::Abort;
 use std::test::Fail;
-use test_query_support::{Expected, FIRST, FIRST_ENDS, Figures, SORTED, SORTED_ENDS};
+use test_query_support::{
+    EARLY, EARLY_ENDS, Expected, FIRST, FIRST_ENDS, Figures, NEAR, NEAR_ENDS, RESTRICTED, SORTED,
+    SORTED_ENDS,
+};
 use test_source_support::{Held, Kind};
 
 /// Two lists of three objects.
@@ -60,6 +63,25 @@ const ANSWERED: &[Case] = &[
         held: (&A, &B),
         count: 3,
         ends: SORTED_ENDS,
+    },
+    Case {
+        asked: NEAR,
+        held: (&A, &B),
+        count: 3,
+        ends: NEAR_ENDS,
+    },
+    Case {
+        asked: EARLY,
+        held: (&A, &B),
+        count: 3,
+        ends: EARLY_ENDS,
+    },
+    // both lists can be read in order
+    Case {
+        asked: RESTRICTED,
+        held: (&A, &B),
+        count: 3,
+        ends: FIRST_ENDS,
     },
     // the row out of order isn't reached
     Case {

@@ -28,10 +28,29 @@ fn is_over(counts: &[u32], ready: &Ready) -> bool
         .all(|source| is_source(counts, *source, ready.count))
 }
 
-/// The query of a text whose lists are these sources, each of so many objects. None where it is no query over such lists.
-fn ready_of(alloc: Global, text: &str, count: u32, sources: &[u32]) -> Option<Ready>
+/// Of each source, whether it can be read in order: those that are named here answer grades alone. None without memory.
+fn in_order(alloc: Global, sources: &[u32], by_grades: &[u32]) -> Option<Vec<bool>> {
+    let mut sorted = Vec::new(alloc);
+    for source in sources {
+        let readable = !by_grades.contains(source);
+        sorted.push(readable).ok()?;
+    }
+    Some(sorted)
+}
+
+/// The query of a text whose lists are these sources, each of so many objects, of which some answer grades alone. None where it is
+/// no query over such lists, or none of them can be read in order.
+#[tactic(auto, using(crate::proofs::Readable::has_to_read))]
+fn ready_of(
+    alloc: Global,
+    text: &str,
+    count: u32,
+    sources: &[u32],
+    by_grades: &[u32],
+) -> Option<Ready>
     ensures { IfSome result IsReady }
 {
+    let sorted = in_order(alloc, sources, by_grades)?;
     let Ok(sources) = sources.to_vec(alloc) else {
         return None;
     };
@@ -49,11 +68,14 @@ fn ready_of(alloc: Global, text: &str, count: u32, sources: &[u32]) -> Option<Re
         count,
         sources,
         versions,
+        sorted,
     };
     if ready.query.k > count
         || count > 200_000
         || ready.query.names.len() as usize != ready.sources.len()
         || ready.versions.len() != ready.sources.len()
+        || ready.sorted.len() != ready.sources.len()
+        || !ready.sorted.contains(&true)
     {
         drop(ready);
         return None;
@@ -62,12 +84,18 @@ fn ready_of(alloc: Global, text: &str, count: u32, sources: &[u32]) -> Option<Re
 }
 
 /// The same, over sources with these counts. None too where the sources aren't of one size.
-fn ready_over(alloc: Global, counts: &[u32], text: &str, sources: &[u32]) -> Option<Ready>
+fn ready_over(
+    alloc: Global,
+    counts: &[u32],
+    text: &str,
+    sources: &[u32],
+    by_grades: &[u32],
+) -> Option<Ready>
     ensures { IfSome result (IsReadyFor counts.now) }
 {
     let first = sources.first().copied().unwrap_or(0);
     let count = counts.get(first as usize).copied().unwrap_or(0);
-    let Some(ready) = ready_of(alloc, text, count, sources) else {
+    let Some(ready) = ready_of(alloc, text, count, sources, by_grades) else {
         return None;
     };
     if !is_over(counts, &ready) {
@@ -82,13 +110,13 @@ fn add_ready(
     alloc: Global,
     readies: &mut Vec<Ready>,
     counts: &[u32],
-    text: &str,
-    sources: &[u32],
+    asked: &Asked,
+    by_grades: &[u32],
 ) -> bool
     requires { All (IsReadyFor counts.now) readies.old.items }
     ensures { result ≡ true → All (IsReadyFor counts.now) readies.new.items }
 {
-    let Some(ready) = ready_over(alloc, counts, text, sources) else {
+    let Some(ready) = ready_over(alloc, counts, asked.0, asked.1, by_grades) else {
         return false;
     };
     match readies.push(ready) {
@@ -104,9 +132,21 @@ fn add_ready(
 pub fn readies_of(alloc: Global, counts: &[u32], asked: &[Asked]) -> Option<Vec<Ready>>
     ensures { IfSome result (λ readies. All (IsReadyFor counts.now) readies.items) }
 {
+    readies_beside(alloc, counts, asked, &[])
+}
+
+/// The same where some sources answer grades alone.
+pub fn readies_beside(
+    alloc: Global,
+    counts: &[u32],
+    asked: &[Asked],
+    by_grades: &[u32],
+) -> Option<Vec<Ready>>
+    ensures { IfSome result (λ readies. All (IsReadyFor counts.now) readies.items) }
+{
     let mut readies = Vec::new(alloc);
     for one in asked {
-        if !add_ready(alloc, &mut readies, counts, one.0, one.1) {
+        if !add_ready(alloc, &mut readies, counts, one, by_grades) {
             let_go(readies);
             return None;
         }

@@ -1,46 +1,88 @@
-use Rattle.std.proofs.Common.{ap}
-use Rattle.query_text.specs.declared.algorithm.Algorithm.TheVariants.{Ta, Nra, Ca, Fa}
-use Rattle.query_core.specs.declared.machine.Machine.TheVariants.{Ta as TaMachine, Nra as NraMachine, Ca as CaMachine, Fa as FaMachine}
-use Rattle.query_core.specs.Machines.{algorithm_of, state_of}
-use Rattle.query_core.proofs.Answering.{ends_near, ends_true, ends_items}
+use Rattle.std.proofs.Common.{refl}
+use Rattle.query_core.specs.declared.machine.Machine.TheVariants as machines
+use Rattle.query_core.proofs.Endings.{plain_ends, theta_ends, early_ends, restricted_ends}
 use Rattle.query_core.proofs.machine.Machine.answer.Goals as goal
 
 pub returns-in-Ta-clause-items : goal.returns-in-Ta-clause-items
-returns-in-Ta-clause-items c = ends_items c.args.self (TaMachine c.in-Ta.machine) c.answer.result c.in-Ta.is c.answer.ensures.items
+returns-in-Ta-clause-items c =
+    (plain_ends c.args.self (machines.Ta c.in-Ta.machine) c.answer.result (λ V m A Y. refl) c.in-Ta.is c.requires c.answer.ensures.run c.answer.ensures.items c.answer.ensures.transcript).items
 
 pub returns-in-Ta-clause-near : goal.returns-in-Ta-clause-near
 returns-in-Ta-clause-near c =
-    ends_near c.args.self Ta c.in-Ta.machine c.answer.result (ap algorithm_of c.in-Ta.is) (ap state_of c.in-Ta.is) c.answer.ensures.run c.requires c.answer.ensures.items c.answer.ensures.transcript
+    (plain_ends c.args.self (machines.Ta c.in-Ta.machine) c.answer.result (λ V m A Y. refl) c.in-Ta.is c.requires c.answer.ensures.run c.answer.ensures.items c.answer.ensures.transcript).near
 
 pub returns-in-Ta-clause-bounds : goal.returns-in-Ta-clause-bounds
-returns-in-Ta-clause-bounds c = ends_true c.args.self Ta c.in-Ta.machine c.answer.result (ap state_of c.in-Ta.is) c.answer.ensures.run c.answer.ensures.items c.answer.ensures.transcript
+returns-in-Ta-clause-bounds c =
+    (plain_ends c.args.self (machines.Ta c.in-Ta.machine) c.answer.result (λ V m A Y. refl) c.in-Ta.is c.requires c.answer.ensures.run c.answer.ensures.items c.answer.ensures.transcript).bounds
 
 pub returns-in-Nra-clause-items : goal.returns-in-Nra-clause-items
-returns-in-Nra-clause-items c = ends_items c.args.self (NraMachine c.in-Nra.machine) c.answer-in-Nra.result c.in-Nra.is c.answer-in-Nra.ensures.items
+returns-in-Nra-clause-items c =
+    (plain_ends c.args.self (machines.Nra c.in-Nra.machine) c.answer-in-Nra.result (λ V m A Y. refl) c.in-Nra.is c.requires c.answer-in-Nra.ensures.run c.answer-in-Nra.ensures.items c.answer-in-Nra.ensures.transcript).items
 
 pub returns-in-Nra-clause-near : goal.returns-in-Nra-clause-near
 returns-in-Nra-clause-near c =
-    ends_near c.args.self Nra c.in-Nra.machine c.answer-in-Nra.result (ap algorithm_of c.in-Nra.is) (ap state_of c.in-Nra.is) c.answer-in-Nra.ensures.run c.requires c.answer-in-Nra.ensures.items c.answer-in-Nra.ensures.transcript
+    (plain_ends c.args.self (machines.Nra c.in-Nra.machine) c.answer-in-Nra.result (λ V m A Y. refl) c.in-Nra.is c.requires c.answer-in-Nra.ensures.run c.answer-in-Nra.ensures.items c.answer-in-Nra.ensures.transcript).near
 
 pub returns-in-Nra-clause-bounds : goal.returns-in-Nra-clause-bounds
-returns-in-Nra-clause-bounds c = ends_true c.args.self Nra c.in-Nra.machine c.answer-in-Nra.result (ap state_of c.in-Nra.is) c.answer-in-Nra.ensures.run c.answer-in-Nra.ensures.items c.answer-in-Nra.ensures.transcript
+returns-in-Nra-clause-bounds c =
+    (plain_ends c.args.self (machines.Nra c.in-Nra.machine) c.answer-in-Nra.result (λ V m A Y. refl) c.in-Nra.is c.requires c.answer-in-Nra.ensures.run c.answer-in-Nra.ensures.items c.answer-in-Nra.ensures.transcript).bounds
 
 pub returns-in-Ca-clause-items : goal.returns-in-Ca-clause-items
-returns-in-Ca-clause-items c = ends_items c.args.self (CaMachine c.in-Ca.machine) c.answer-in-Ca.result c.in-Ca.is c.answer-in-Ca.ensures.items
+returns-in-Ca-clause-items c =
+    (plain_ends c.args.self (machines.Ca c.in-Ca.machine) c.answer-in-Ca.result (λ V m A Y. refl) c.in-Ca.is c.requires c.answer-in-Ca.ensures.run c.answer-in-Ca.ensures.items c.answer-in-Ca.ensures.transcript).items
 
 pub returns-in-Ca-clause-near : goal.returns-in-Ca-clause-near
 returns-in-Ca-clause-near c =
-    ends_near c.args.self Ca c.in-Ca.machine c.answer-in-Ca.result (ap algorithm_of c.in-Ca.is) (ap state_of c.in-Ca.is) c.answer-in-Ca.ensures.run c.requires c.answer-in-Ca.ensures.items c.answer-in-Ca.ensures.transcript
+    (plain_ends c.args.self (machines.Ca c.in-Ca.machine) c.answer-in-Ca.result (λ V m A Y. refl) c.in-Ca.is c.requires c.answer-in-Ca.ensures.run c.answer-in-Ca.ensures.items c.answer-in-Ca.ensures.transcript).near
 
 pub returns-in-Ca-clause-bounds : goal.returns-in-Ca-clause-bounds
-returns-in-Ca-clause-bounds c = ends_true c.args.self Ca c.in-Ca.machine c.answer-in-Ca.result (ap state_of c.in-Ca.is) c.answer-in-Ca.ensures.run c.answer-in-Ca.ensures.items c.answer-in-Ca.ensures.transcript
+returns-in-Ca-clause-bounds c =
+    (plain_ends c.args.self (machines.Ca c.in-Ca.machine) c.answer-in-Ca.result (λ V m A Y. refl) c.in-Ca.is c.requires c.answer-in-Ca.ensures.run c.answer-in-Ca.ensures.items c.answer-in-Ca.ensures.transcript).bounds
 
 pub returns-in-Fa-clause-items : goal.returns-in-Fa-clause-items
-returns-in-Fa-clause-items c = ends_items c.args.self (FaMachine c.in-Fa.machine) c.answer-in-Fa.result c.in-Fa.is c.answer-in-Fa.ensures.items
+returns-in-Fa-clause-items c =
+    (plain_ends c.args.self (machines.Fa c.in-Fa.machine) c.answer-in-Fa.result (λ V m A Y. refl) c.in-Fa.is c.requires c.answer-in-Fa.ensures.run c.answer-in-Fa.ensures.items c.answer-in-Fa.ensures.transcript).items
 
 pub returns-in-Fa-clause-near : goal.returns-in-Fa-clause-near
 returns-in-Fa-clause-near c =
-    ends_near c.args.self Fa c.in-Fa.machine c.answer-in-Fa.result (ap algorithm_of c.in-Fa.is) (ap state_of c.in-Fa.is) c.answer-in-Fa.ensures.run c.requires c.answer-in-Fa.ensures.items c.answer-in-Fa.ensures.transcript
+    (plain_ends c.args.self (machines.Fa c.in-Fa.machine) c.answer-in-Fa.result (λ V m A Y. refl) c.in-Fa.is c.requires c.answer-in-Fa.ensures.run c.answer-in-Fa.ensures.items c.answer-in-Fa.ensures.transcript).near
 
 pub returns-in-Fa-clause-bounds : goal.returns-in-Fa-clause-bounds
-returns-in-Fa-clause-bounds c = ends_true c.args.self Fa c.in-Fa.machine c.answer-in-Fa.result (ap state_of c.in-Fa.is) c.answer-in-Fa.ensures.run c.answer-in-Fa.ensures.items c.answer-in-Fa.ensures.transcript
+returns-in-Fa-clause-bounds c =
+    (plain_ends c.args.self (machines.Fa c.in-Fa.machine) c.answer-in-Fa.result (λ V m A Y. refl) c.in-Fa.is c.requires c.answer-in-Fa.ensures.run c.answer-in-Fa.ensures.items c.answer-in-Fa.ensures.transcript).bounds
+
+pub returns-in-Theta-clause-items : goal.returns-in-Theta-clause-items
+returns-in-Theta-clause-items c =
+    (theta_ends c.args.self c.in-Theta.machine c.answer-in-Theta.result c.in-Theta.is c.requires c.answer-in-Theta.ensures.run c.answer-in-Theta.ensures.items c.answer-in-Theta.ensures.transcript).items
+
+pub returns-in-Theta-clause-near : goal.returns-in-Theta-clause-near
+returns-in-Theta-clause-near c =
+    (theta_ends c.args.self c.in-Theta.machine c.answer-in-Theta.result c.in-Theta.is c.requires c.answer-in-Theta.ensures.run c.answer-in-Theta.ensures.items c.answer-in-Theta.ensures.transcript).near
+
+pub returns-in-Theta-clause-bounds : goal.returns-in-Theta-clause-bounds
+returns-in-Theta-clause-bounds c =
+    (theta_ends c.args.self c.in-Theta.machine c.answer-in-Theta.result c.in-Theta.is c.requires c.answer-in-Theta.ensures.run c.answer-in-Theta.ensures.items c.answer-in-Theta.ensures.transcript).bounds
+
+pub returns-in-Early-clause-items : goal.returns-in-Early-clause-items
+returns-in-Early-clause-items c =
+    (early_ends c.args.self c.in-Early.machine c.answer-in-Early.result c.in-Early.is c.requires c.answer-in-Early.ensures.run c.answer-in-Early.ensures.items c.answer-in-Early.ensures.transcript).items
+
+pub returns-in-Early-clause-near : goal.returns-in-Early-clause-near
+returns-in-Early-clause-near c =
+    (early_ends c.args.self c.in-Early.machine c.answer-in-Early.result c.in-Early.is c.requires c.answer-in-Early.ensures.run c.answer-in-Early.ensures.items c.answer-in-Early.ensures.transcript).near
+
+pub returns-in-Early-clause-bounds : goal.returns-in-Early-clause-bounds
+returns-in-Early-clause-bounds c =
+    (early_ends c.args.self c.in-Early.machine c.answer-in-Early.result c.in-Early.is c.requires c.answer-in-Early.ensures.run c.answer-in-Early.ensures.items c.answer-in-Early.ensures.transcript).bounds
+
+pub returns-in-Taz-clause-items : goal.returns-in-Taz-clause-items
+returns-in-Taz-clause-items c =
+    (restricted_ends c.args.self c.in-Taz.machine c.answer-in-Taz.result c.in-Taz.is c.requires c.answer-in-Taz.ensures.run c.answer-in-Taz.ensures.items c.answer-in-Taz.ensures.transcript).items
+
+pub returns-in-Taz-clause-near : goal.returns-in-Taz-clause-near
+returns-in-Taz-clause-near c =
+    (restricted_ends c.args.self c.in-Taz.machine c.answer-in-Taz.result c.in-Taz.is c.requires c.answer-in-Taz.ensures.run c.answer-in-Taz.ensures.items c.answer-in-Taz.ensures.transcript).near
+
+pub returns-in-Taz-clause-bounds : goal.returns-in-Taz-clause-bounds
+returns-in-Taz-clause-bounds c =
+    (restricted_ends c.args.self c.in-Taz.machine c.answer-in-Taz.result c.in-Taz.is c.requires c.answer-in-Taz.ensures.run c.answer-in-Taz.ensures.items c.answer-in-Taz.ensures.transcript).bounds

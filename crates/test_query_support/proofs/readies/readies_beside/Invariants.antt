@@ -1,6 +1,6 @@
 use Rattle.std.proofs.Common.{All}
 use Rattle.query_turns.specs.Made.{IsReadyFor}
-use Rattle.test_query_support.proofs.readies.readies_of.Given as goal
+use Rattle.test_query_support.proofs.readies.readies_beside.Given as goal
 
 -- the queries so far are ready
 abbrev pub invariant-loop-one : goal.invariant-loop-one

@@ -1,0 +1,2 @@
+-- Lemmas on queries of tests.
+pub mod Readable
