@@ -1,5 +1,5 @@
 -- How great the figures of one made query are at most.
-use Rattle.std.proofs.Common.{◌≡◌, ◌≤◌, ◌<◌, ◌+◌, ◌^◌, ℕ, suc, min, true, false, cond, ◌==◌, List, [], ◌∷◌, length, All, refl, sym, subst, ◌∙◌, arith}
+use Rattle.std.proofs.Common.{◌≡◌, ◌≤◌, ◌<◌, ◌+◌, ◌^◌, ℕ, suc, min, true, false, cond, ◌==◌, List, [], ◌∷◌, length, All, Option, None, Some, refl, sym, subst, ◌∙◌, arith}
 use Rattle.std.specs.List.{AllZip, range_with_len, sum_by}
 use Rattle.std.specs.Prelude.{◌%◌, nat_le}
 use Rattle.std.proofs.Math.Nat.{mod-lt}
@@ -15,11 +15,16 @@ use Rattle.monotone_fn.specs.Limits.{AreGrades, top_value}
 use Rattle.monotone_fn.proofs.Laws.{value-monotone, value-le-top_value}
 use Rattle.topk_theory.specs.declared.access.Access.{Access}
 use Rattle.topk_theory.specs.Aggregate.{aggregate, grades_of}
+use Rattle.topk_theory.specs.Asked.{Asked}
+use Rattle.topk_theory.specs.Threshold.{item_objects}
 use Rattle.topk_theory.proofs.AgreementLists.{all_from_members, member_of_all, contains_map_from}
 use Rattle.optimal_law.proofs.Depths.{depth_seen, seen_sorted}
 use Rattle.access_log.proofs.Readers.{counts}
 use Rattle.machine_base.specs.declared.answer.Answer.{Answer}
-use Rattle.query_core.specs.OneAnswer.{IsOneAnswer, HasTrueBounds, asked_by, one_run}
+use Rattle.theta_theory.specs.Within.{Factor}
+use Rattle.guarantee.specs.Guarantee.{guarantee_by}
+use Rattle.query_core.specs.Methods.{IsGoodBy}
+use Rattle.query_core.specs.OneAnswer.{IsOneAnswer, HasTrueBounds, asked_by, method_for, one_run}
 use Rattle.query_core.proofs.RunLength.{run_short}
 use Rattle.made_inputs.specs.MadeQueries.{list_trees, list_terms, made_tree}
 use Rattle.made_inputs.proofs.Trees.{each_tree, each_count}
@@ -110,11 +115,17 @@ aggregate_low input number object within =
     let most = made_low number input.lists within.some_lists few in
     omega (arith, top, most)
 
+-- good objects are as many as were asked for
+good_sized : (guarantee : Option Factor) (asked : Asked) (D : List (List Row)) (Y : List ℕ) → IsGoodBy guarantee asked D Y → length Y ≡ asked.k
+good_sized None asked D Y good = good.sized
+good_sized (Some factor) asked D Y good = good.sized
+
 -- the lower bounds of an answer, in a sum
 answer_low : (input : BulkInput) (number : ℕ) (answer : Answer) → IsInput input → IsOneAnswer (query_of input number) (table_of input) answer
     → sum_by (λ (item : Item). item.low) answer.items ≤ 2 ^ 32
 answer_low input number answer within one =
     let V = value (query_of input number).expr in
+    let Y = item_objects answer.items in
     let low : All (λ (item : Item). item.low ≤ most_value) answer.items =
     all_from_members (λ (item : Item). item.low ≤ most_value) answer.items (λ item c.
     let bound = member_of_all (HasTrueBounds V (table_of input)) answer.items item one.bounds c in
@@ -122,7 +133,8 @@ answer_low input number answer within one =
     omega (arith, bound.0, most)) in
     let some = within.some_objects in
     let turn : number % min input.count 10 < min input.count 10 = mod-lt number (omega (arith, some)) in
-    let k : length answer.items ≡ 1 + number % min input.count 10 = sym (length-map answer.items (λ (item : Item). item.object)) ∙ one.top.sized in
+    let k : length answer.items ≡ 1 + number % min input.count 10 = sym (length-map answer.items (λ (item : Item). item.object))
+    ∙ good_sized (guarantee_by (query_of input number).algorithm V (length (table_of input)) answer.transcript.accesses Y) (asked_by (query_of input number)) (table_of input) Y one.top in
     let few : length answer.items ≤ 10 = omega (arith, k, turn) in
     let sum = sum_by-le (λ (item : Item). item.low) most_value answer.items low in
     omega (arith, sum, few)
@@ -136,7 +148,7 @@ run_few input number within =
     let lists = within.some_lists in
     let few = within.few_lists in
     let turn : number % min input.count 10 < min input.count 10 = mod-lt number (omega (arith, some)) in
-    run_short q.algorithm (asked_by q) input.count (table_of input) (value-monotone q.expr)
+    run_short (method_for q) (asked_by q) input.count (table_of input) (value-monotone q.expr)
     (record { table = is_table input.start input.count input.lists; lists = omega (arith, long, lists); positive = omega arith; fits = omega (arith, turn) })
     (omega (arith, long, few)) within.few_objects
 

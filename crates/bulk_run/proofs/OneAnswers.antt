@@ -1,5 +1,5 @@
 -- Each made query ends with its one answer.
-use Rattle.std.proofs.Common.{◌≡◌, ℕ, zero, suc, Some, None, List, [], ◌∷◌, map, Option, refl, sym, ap, subst, ◌∙◌, arith}
+use Rattle.std.proofs.Common.{◌≡◌, ℕ, zero, suc, Bool, Some, None, List, [], ◌∷◌, map, Option, refl, sym, ap, subst, ◌∙◌, arith}
 use Rattle.std.specs.List.{AllZip, range_with_len}
 use Rattle.tk_io.specs.Faults.{Rose}
 use Rattle.ranked_list.specs.declared.row.Row.{Row}
@@ -7,7 +7,8 @@ use Rattle.access_log.specs.Log.{AgreesWith}
 use Rattle.machine_base.specs.declared.core_fault.CoreFault.TheVariants.{Strangers, RoomFull}
 use Rattle.query_text.specs.declared.query.Query.{Query}
 use Rattle.query_core.specs.declared.ready.Ready.{Ready}
-use Rattle.query_core.specs.OneAnswer.{IsOneAnswer}
+use Rattle.query_core.specs.Methods.{method_with}
+use Rattle.query_core.specs.OneAnswer.{IsOneAnswer, IsOneAnswerWith}
 use Rattle.query_turns.specs.declared.ended.Ended.{Ended}
 use Rattle.query_turns.specs.declared.ended.Ended.TheVariants.{Answered, Core, Look}
 use Rattle.fetcher.specs.declared.slot.Slot.{Slot}
@@ -69,7 +70,10 @@ ends_in_one : (input : BulkInput) (number : ℕ) (ready : Ready) (e : Ended) →
 ends_in_one input number ready (Answered answer) made h =
     let agrees : AgreesWith (table_of input) answer.transcript =
     subst (λ (D : List (List Row)). AgreesWith D answer.transcript) (made_lists input ready.sources.items made.sources) h.agrees in
-    (subst (λ (query : Query). IsOneAnswer query (table_of input) answer) made.query (h.answered.every (table_of input) agrees), agrees)
+    let one : IsOneAnswer ready.query (table_of input) answer =
+    subst (λ (bs : List Bool). IsOneAnswerWith (method_with ready.query.algorithm bs) ready.query (table_of input) answer) made.sorted
+    (h.answered.every (table_of input) agrees) in
+    (subst (λ (query : Query). IsOneAnswer query (table_of input) answer) made.query one, agrees)
 ends_in_one input number ready (Core (RoomFull room)) made h = never_full ready.query room (ap (λ (query : Query). query.room) made.query) h.stated
 ends_in_one input number ready (Core (Strangers object count)) made h = h
 ends_in_one input number ready (Look list fault) made h = h

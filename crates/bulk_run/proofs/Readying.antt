@@ -1,6 +1,6 @@
 -- Made queries are ready to run over the made table.
-use Rattle.std.proofs.Common.{◌≡◌, ◌≤◌, ◌<◌, ◌+◌, ℕ, min, List, [], ◌∷◌, ◌++◌, length, map, replicate, All, refl, sym, ap, subst, ◌∙◌, arith}
-use Rattle.std.specs.Prelude.{◌%◌}
+use Rattle.std.proofs.Common.{◌≡◌, ◌≤◌, ◌<◌, ◌+◌, ℕ, true, min, List, [], ◌∷◌, ◌++◌, length, map, replicate, All, refl, sym, ap, subst, ◌∙◌, arith}
+use Rattle.std.specs.Prelude.{◌%◌, ◌==◌, Bool, false, cond}
 use Rattle.std.specs.List.{AllZip, range_with_len, slice_index_or}
 use Rattle.std.proofs.Math.Nat.{mod-lt}
 use Rattle.std.proofs.lemmas.List.{get_or-replicate, length-replicate}
@@ -13,11 +13,14 @@ use Rattle.ranked_list.specs.Table.{IsTable}
 use Rattle.topk_theory.specs.Transcript.{list_at, list_numbers}
 use Rattle.topk_theory.proofs.AgreementLists.{all_from_members}
 use Rattle.topk_theory.proofs.ListNumbers.{number_below, range_more}
+use Rattle.made_inputs.specs.MadeQueries.{made_algorithm}
 use Rattle.made_inputs.proofs.Making.{is_table}
 use Rattle.bundle_text.specs.Numbered.{list_name}
+use Rattle.query_text.specs.declared.algorithm.Algorithm.TheVariants.{Ta, Nra, Ca}
 use Rattle.query_text.specs.declared.query.Query.{Query}
 use Rattle.query_text.specs.Query.{IsLawful}
 use Rattle.query_core.specs.declared.ready.Ready.{Ready}
+use Rattle.query_core.specs.Ready.{HasToRead}
 use Rattle.query_turns.specs.Made.{IsReadyFor}
 use Rattle.query_turns.proofs.Lists.{zip_member}
 use Rattle.batch_result.specs.Tables.{lists_for}
@@ -32,10 +35,20 @@ in_order D = sym (fill_by_all (list_at D) D (length D) [] refl (λ k l. refl))
 
 -- ---- the queries
 
+-- no made query asks for lists that can be read in order
+made_readable : (number : ℕ) (sorted : List Bool) → HasToRead (made_algorithm number) sorted
+made_readable number sorted = go (number % 3 == 0) (number % 3 == 1)
+  where
+    go : (first second : Bool) → HasToRead (cond first Ta (cond second Nra Ca)) sorted
+    go true second = tt
+    go false true = tt
+    go false false = tt
+
 pub ready_made : (input : BulkInput) (number : ℕ) (ready : Ready) → IsInput input → ready.query ≡ query_of input number → ready.count ≡ input.count
-    → ready.sources.items ≡ list_numbers input.lists → ready.versions.items ≡ replicate input.lists 0 → IsLawful ready.query → IsExpr ready.query.expr
+    → ready.sources.items ≡ list_numbers input.lists → ready.versions.items ≡ replicate input.lists 0 → ready.sorted.items ≡ replicate input.lists true
+    → IsLawful ready.query → IsExpr ready.query.expr
     → IsMadeReady input number ready
-ready_made input number ready within query count sources versions lawful expr =
+ready_made input number ready within query count sources versions sorted lawful expr =
     let some = within.some_objects in
     let few = within.few_objects in
     let k : ready.query.k ≡ 1 + number % min input.count 10 = ap (λ (q : Query). q.k) query in
@@ -50,10 +63,13 @@ ready_made input number ready within query count sources versions lawful expr =
         counted = omega (arith, count, few);
         sources = many ∙ sym names;
         versions = ap length versions ∙ (length-replicate input.lists 0 ∙ sym names);
+        sorted = ap length sorted ∙ (length-replicate input.lists true ∙ sym names);
+        readable = subst (λ (q : Query). HasToRead q.algorithm ready.sorted.items) (sym query) (made_readable number ready.sorted.items);
       };
       query = query;
       count = count;
       sources = sources;
+      sorted = sorted ∙ ap (λ n. replicate n true) (sym names);
     }
 
 -- one ready query more

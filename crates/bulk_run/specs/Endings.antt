@@ -1,5 +1,5 @@
 -- What the endings of queries come to.
-use Rattle.std.specs.Prelude.{◌≡◌, ◌<◌, ◌≤◌, ◌^◌, ◌+◌, ◌*◌, ℕ, Bool, true, false, List, length, count_by}
+use Rattle.std.specs.Prelude.{◌≡◌, ◌<◌, ◌≤◌, ◌^◌, ◌+◌, ◌*◌, ℕ, Bool, true, false, List, length, replicate, count_by}
 use Rattle.std.specs.List.{sum_by, range_with_len, AllZip}
 use Rattle.ranked_list.specs.declared.row.Row.{Row}
 use Rattle.topk_theory.specs.Transcript.{list_numbers, depth, sorted_count, random_count}
@@ -16,12 +16,13 @@ use Rattle.bulk_run.specs.declared.sums.BulkSums.{BulkSums}
 use Rattle.bulk_run.specs.Sums.{table_of, query_of}
 use Rattle.limits.specs.declared.TheConstants.{MAX_QUERIES}
 
--- the query with a number is ready to run over the lists of the table, in their order
+-- the query with a number is ready to run over the lists of the table, in their order, all of which can be read in order
 pub record IsMadeReady (input : BulkInput) (number : ℕ) (ready : Ready) : Type 0 where
   pub is : IsReady ready
   pub query : ready.query ≡ query_of input number
   pub count : ready.count ≡ input.count
   pub sources : ready.sources.items ≡ list_numbers input.lists
+  pub sorted : ready.sorted.items ≡ replicate (length ready.query.names) true
 
 -- the queries are ready, in the order of their numbers
 abbrev pub AreMadeReady : BulkInput → List Ready → Type 0

@@ -1,6 +1,6 @@
 //! Made queries, ready to run.
 
-ghost use Rattle.std.specs.Prelude.{◌≡◌, ◌<◌, IfOk, replicate};
+ghost use Rattle.std.specs.Prelude.{◌≡◌, ◌<◌, IfOk, replicate, true};
 ghost use Rattle.topk_theory.specs.Transcript.{list_numbers};
 ghost use Rattle.bulk_run.specs.Sums.{IsInput};
 ghost use Rattle.bulk_run.specs.Endings.{IsMadeReady, AreMadeReady};
@@ -31,6 +31,15 @@ fn first_versions(alloc: Global, lists: u8) -> Result<Vec<u64>, Memory>
     Ok(versions)
 }
 
+/// That each of so many made lists can be read in order.
+fn all_sorted(alloc: Global, lists: u8) -> Result<Vec<bool>, Memory>
+    ensures { IfOk result (λ sorted. sorted.items ≡ replicate lists true) }
+{
+    let mut sorted = Vec::new(alloc);
+    sorted.resize(usize::from(lists), true)?;
+    Ok(sorted)
+}
+
 /// The query with a number, ready to run over the lists of the table.
 fn made_ready(alloc: Global, number: u32, input: BulkInput) -> Result<Ready, Memory>
     requires { IsInput input }
@@ -49,11 +58,18 @@ fn made_ready(alloc: Global, number: u32, input: BulkInput) -> Result<Ready, Mem
         drop(sources);
         return Err(Memory);
     };
+    let Ok(sorted) = all_sorted(alloc, lists) else {
+        drop(query);
+        drop(sources);
+        drop(versions);
+        return Err(Memory);
+    };
     Ok(Ready {
         query,
         count: input.count,
         sources,
         versions,
+        sorted,
     })
 }
 

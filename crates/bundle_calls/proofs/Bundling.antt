@@ -1,5 +1,5 @@
 -- The lists of a bundle by name.
-use Rattle.std.proofs.Common.{◌≡◌, ℕ, ◌+◌, ◌<◌, ◌≤◌, ◌^◌, true, not, nat_lt, cond, List, [], ◌∷◌, length, map, All, Contains, Option, Some, None, option_map, slice_index_or, refl, sym, ap, ◌∙◌, subst, arith}
+use Rattle.std.proofs.Common.{◌≡◌, ℕ, ◌+◌, ◌<◌, ◌≤◌, ◌^◌, true, not, nat_lt, cond, List, [], ◌∷◌, length, map, replicate, All, Contains, Option, Some, None, option_map, slice_index_or, refl, sym, ap, ◌∙◌, subst, arith}
 use Rattle.std.specs.List.{AllByRecursion, position, position_or_len}
 use Rattle.std.specs.Global.{Vec}
 use Rattle.std.specs.Str.{bytes_eq}
@@ -15,8 +15,9 @@ use Rattle.topk_theory.specs.Transcript.{list_at}
 use Rattle.topk_theory.proofs.AgreementLists.{contains_at, contains_map_from, all_from_members, member_of_all}
 use Rattle.topk_theory.proofs.AgreementRows.{list_at_length}
 use Rattle.query_core.specs.declared.ready.Ready.{Ready}
+use Rattle.query_core.specs.Ready.{method_of_ready}
 use Rattle.query_core.proofs.ListCount.{lists_counted}
-use Rattle.query_admission.specs.View.{AreListed, AreTold, versions_at, count_of}
+use Rattle.query_admission.specs.View.{AreListed, AreTold, versions_at, sorted_at, count_of}
 use Rattle.query_admission.specs.Admission.{IsAdmitted, RefusesLine}
 use Rattle.query_admission.specs.declared.lists.Listed.{Listed}
 use Rattle.machine_base.specs.declared.answer.Answer.{Answer}
@@ -24,7 +25,7 @@ use Rattle.query_text.specs.declared.query.Query.{Query}
 use Rattle.cert_text.specs.declared.refusal.Refusal.{Refusal}
 use Rattle.cert_text.specs.declared.refusal.Refusal.TheVariants.{RoomFull}
 use Rattle.cert_text.specs.declared.outcome.Outcome.TheVariants.{Answered, Refused}
-use Rattle.query_core.specs.OneAnswer.{IsOverRoom}
+use Rattle.query_core.specs.OneAnswer.{IsOverRoomWith}
 use Rattle.query_core.specs.Driving.{AnswersOver}
 use Rattle.query_admission.specs.Causes.{admission_causes}
 use Rattle.query_admission.proofs.Becoming.{answered_line, full_line, refused_line, answered_writable, refused_writable}
@@ -122,6 +123,28 @@ versions_first c q lists versions listed opened = (
   subst (All (λ version. version ≡ 0)) opened (All-from_recursion (λ version. version ≡ 0) (versions_at lists) (all_at_first c q.names lists listed)),
 )
 
+-- the lists of a bundle can all be read in order
+read_in_order : (c : Content) (p : Option ℕ) (list : Listed) → option_map (bundle_listed c) p ≡ Some list → list.sorted ≡ true
+read_in_order c None list e = absurd cc
+read_in_order c (Some place) list e = let same : bundle_listed c place ≡ list = cc in sym (ap (λ (l : Listed). l.sorted) same)
+
+all_in_order : (c : Content) (names : List (List ℕ)) (lists : List Listed) → map (bundle_view c).listed names ≡ map Some lists
+    → sorted_at lists ≡ replicate (length names) true
+all_in_order c [] [] e = refl
+all_in_order c [] (list ∷ lists) e = absurd cc
+all_in_order c (name ∷ names) [] e = absurd cc
+all_in_order c (name ∷ names) (list ∷ lists) e =
+    let here : (bundle_view c).listed name ≡ Some list = cc in
+    let rest : map (bundle_view c).listed names ≡ map Some lists = cc in
+    ap (λ b. b ∷ sorted_at lists) (read_in_order c (bundle_place c name) list here) ∙ ap (λ bs. true ∷ bs) (all_in_order c names lists rest)
+
+-- so can those of a query over it, and of one that is ready
+pub listed_in_order : (c : Content) (q : Query) (lists : List Listed) → AreListed (bundle_view c) q lists → sorted_at lists ≡ replicate (length q.names) true
+listed_in_order c q lists listed = all_in_order c q.names lists listed
+
+pub ready_in_order : (c : Content) (ready : Ready) → IsAdmitted (bundle_line c) ready → ready.sorted.items ≡ replicate (length ready.query.names) true
+ready_in_order c ready admitted = sym admitted.sorted ∙ listed_in_order c ready.query admitted.lists admitted.listed
+
 -- the count of lists that each state n is n
 count_same : (lists : List Listed) (n count : ℕ) → AllByRecursion (λ list. list.size ≡ Some n) lists → count_of lists ≡ Some count → count ≡ n
 count_same [] n count each e = absurd cc
@@ -170,13 +193,13 @@ found_at bundle name names p same e = looked_up bundle.names.items name ∙ (ap 
 
 pub listed_here : (c : Content) (name : List ℕ) (place size : ℕ) (rows : List Row) → IsBundle c → bundle_place c name ≡ Some place
     → rows ≡ slice_index_or c.lists place rows → size ≡ length rows
-    → Some (record { size = Some size; random = true; source = place; version = 0 }) ≡ (bundle_view c).listed name
+    → Some (record { size = Some size; random = true; sorted = true; source = place; version = 0 }) ≡ (bundle_view c).listed name
 listed_here c name place size rows bundle found read long =
     let named : place < length c.names = (position-Some (λ other. bytes_eq other name) c.names place [] found).0 in
     let within : place < length c.lists = omega (arith, named, bundle.each_named) in
     let same : rows ≡ list_at c.lists place = get_or_read c.lists place rows within read [] in
     let stated : size ≡ length (list_at c.lists place) = long ∙ ap length same in
-    ap (λ n. Some (record { size = Some n; random = true; source = place; version = 0 })) stated ∙ ap (option_map (bundle_listed c)) (sym found)
+    ap (λ n. Some (record { size = Some n; random = true; sorted = true; source = place; version = 0 })) stated ∙ ap (option_map (bundle_listed c)) (sym found)
 
 -- what becomes of a query that is ready, over the lists at its places
 pub becomes_answered : (c : Content) (ready : Ready) (D : List (List Row)) (answer : Answer) → IsAdmitted (bundle_line c) ready
@@ -187,7 +210,7 @@ becomes_answered c ready D answer admitted same over = record {
 }
 
 pub becomes_full : (c : Content) (ready : Ready) (D : List (List Row)) (room : ℕ) → IsAdmitted (bundle_line c) ready → D ≡ lists_at c ready.sources.items
-    → IsOverRoom ready.query ready.count D room → BecomesOf c ready (Refused (RoomFull room))
+    → IsOverRoomWith (method_of_ready ready) ready.query ready.count D room → BecomesOf c ready (Refused (RoomFull room))
 becomes_full c ready D room admitted same over = record {
   becomes = full_line (bundle_line c) ready D room ready.count ready.versions.items admitted (subst (AreTold (bundle_view c) ready.query) (sym same) (lists_told c ready admitted)) over;
   writable = All-from_recursion (λ list. list < length ready.query.names) [] tt;

@@ -13,11 +13,11 @@ use Rattle.query_admission.specs.declared.lists.Listed.{Listed}
 abbrev pub bundle_place : Content → List ℕ → Option ℕ
 bundle_place c name = position (λ other. bytes_eq other name) c.names
 
--- what the list at a place says of itself: the number of its rows, that it offers random access, and version 0
+-- what the list at a place says of itself: the number of its rows, that it offers random access and can be read in order, and version 0
 abbrev pub bundle_listed : Content → ℕ → Listed
-bundle_listed c place = record { size = Some (length (list_at c.lists place)); random = true; source = place; version = 0 }
+bundle_listed c place = record { size = Some (length (list_at c.lists place)); random = true; sorted = true; source = place; version = 0 }
 
--- the lists of a bundle by name: all are told, and all offer random access
+-- the lists of a bundle by name: all are told, all offer random access, and all can be read in order
 abbrev pub bundle_view : Content → View
 bundle_view c = record {
   listed = λ name. option_map (bundle_listed c) (bundle_place c name);

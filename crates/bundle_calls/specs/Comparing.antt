@@ -1,5 +1,5 @@
 -- Comparisons as the code keeps them.
-use Rattle.std.specs.Prelude.{◌≡◌, ℕ, List, [], ◌∷◌, ◌++◌, length, codes}
+use Rattle.std.specs.Prelude.{◌≡◌, ℕ, true, List, [], ◌∷◌, ◌++◌, length, replicate, codes}
 use Rattle.std.specs.List.{concat}
 use Rattle.std.specs.Fmt.{decimal}
 use Rattle.ranked_list.specs.declared.row.Row.{Row}
@@ -25,11 +25,12 @@ use Rattle.bundle_calls.specs.declared.comparing.Comparison.TheVariants.{Refused
 use Rattle.bundle_calls.specs.Outcomes.{reply_text, reply_status, IsWritable}
 use Rattle.bundle_calls.specs.Compare.{read_by}
 
--- a query that is ready, and its lists, which are a table of its count
+-- a query that is ready, and its lists, which are a table of its count and can all be read in order
 pub record IsOver (r : Ready) (D : List (List Row)) : Type 0 where
   pub ready : IsReady r
   pub table : IsTable r.count D
   pub lists : length D ≡ list_count r.query.expr
+  pub in_order : r.sorted.items ≡ replicate (length r.query.names) true
 
 -- the figures of accesses to m lists at these costs
 abbrev pub figures_from : Costs → ℕ → List Access → Figures

@@ -12,7 +12,7 @@ use query_admission::{Listed, Lists};
 use std::alloc::Global;
 use std::marker::Model;
 
-/// The lists of a bundle by name: all are told, all offer random access, and all are at version 0. The
+/// The lists of a bundle by name: all are told, all offer random access and can be read in order, and all are at version 0. The
 /// number of a list's source is its place in the bundle. Contracts see the bundle's content.
 #[derive(Drop)]
 pub(crate) struct Bundled<'a> {
@@ -51,6 +51,7 @@ impl<'a> Lists for Bundled<'a> {
         Some(Listed {
             size: Some(u64::from(self.bundle.lists[place].len())),
             random: true,
+            sorted: true,
             source: place as u32,
             version: 0,
         })

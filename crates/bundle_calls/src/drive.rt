@@ -4,8 +4,8 @@ ghost use Rattle.std.specs.Prelude.{◌≡◌, ◌≤◌, length, OnOk, IfErr};
 ghost use Rattle.ranked_list.specs.Table.{IsTable};
 ghost use Rattle.monotone_fn.specs.Shape.{list_count};
 ghost use Rattle.query_core.specs.Ready.{IsReady};
-ghost use Rattle.query_core.specs.Machines.{algorithm_of, state_of, MakesItsRun};
-ghost use Rattle.query_core.specs.Driving.{CanDrive, Steps, IsDriven, StopsDriving, Finishes, Drives, RunsOver};
+ghost use Rattle.query_core.specs.Machines.{method_of, state_of, MakesItsRun};
+ghost use Rattle.query_core.specs.Driving.{CanDrive, Steps, IsDriven, StopsWith, Finishes, DrivesWith, RunsOver};
 
 use super::told::ToldList;
 use machine_base::{Answer, CoreFault};
@@ -38,7 +38,7 @@ pub fn answer_over(
 /// Feeds a machine from the lists until it needs nothing more, and has its answer.
 fn drive(alloc: Global, machine: Machine, lists: &mut [ToldList]) -> Result<Answer, DriveFault>
     requires { CanDrive lists.old (state_of machine) }
-    ensures drives { Drives (algorithm_of machine) lists.old (state_of machine) result }
+    ensures drives { DrivesWith (method_of machine) lists.old (state_of machine) result }
     ensures same { lists.new ≡ lists.old }
 {
     let mut machine = machine;
@@ -56,7 +56,7 @@ fn feed_all(alloc: Global, machine: &mut Machine, lists: &mut [ToldList]) -> Res
     requires { CanDrive lists.old (state_of machine.old) }
     ensures same { lists.new ≡ lists.old }
     ensures ok { OnOk result (IsDriven lists.old machine.old machine.new) }
-    ensures err { IfErr result (StopsDriving (algorithm_of machine.old) lists.old (state_of machine.old)) }
+    ensures err { IfErr result (StopsWith (method_of machine.old) lists.old (state_of machine.old)) }
 {
     loop {
         match machine.need() {
@@ -89,7 +89,7 @@ fn feed_row(
     requires run { MakesItsRun machine.old }
     requires need { (state_of machine.old).need ≡ Need.Row list depth }
     ensures ok { OnOk result (Steps lists.now machine.old machine.new) }
-    ensures err { IfErr result (StopsDriving (algorithm_of machine.old) lists.now (state_of machine.old)) }
+    ensures err { IfErr result (StopsWith (method_of machine.old) lists.now (state_of machine.old)) }
 {
     let Some(row) = lists[usize::from(list)].row(depth) else {
         unreachable!();
@@ -114,7 +114,7 @@ fn feed_grade(
     requires need { (state_of machine.old).need ≡ Need.Grade list object }
     ensures same { lists.new ≡ lists.old }
     ensures ok { OnOk result (Steps lists.old machine.old machine.new) }
-    ensures err { IfErr result (StopsDriving (algorithm_of machine.old) lists.old (state_of machine.old)) }
+    ensures err { IfErr result (StopsWith (method_of machine.old) lists.old (state_of machine.old)) }
 {
     let told = &mut lists[usize::from(list)];
     let Ok(found) = told.grade(alloc, object) else {

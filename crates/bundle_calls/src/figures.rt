@@ -1,6 +1,7 @@
 //! What each algorithm reads for a query over lists that are told.
 
 ghost use Rattle.std.specs.Prelude.{◌≡◌, IfOk};
+ghost use Rattle.query_text.specs.Query.{IsRated};
 ghost use Rattle.cert_text.specs.Outcome.{HasCost};
 ghost use Rattle.bundle_calls.specs.Compare.{query_by};
 ghost use Rattle.bundle_calls.specs.Comparing.{IsOver, figures_of, figures_by, compared_by};
@@ -62,7 +63,8 @@ fn figures_by(
     lists: &mut [ToldList],
     algorithm: Algorithm,
 ) -> Result<Figures, Memory>
-    requires { IsOver ready.old lists.old }
+    requires rated { IsRated algorithm }
+    requires over { IsOver ready.old lists.old }
     ensures over { IsOver ready.new lists.new }
     ensures query { ready.new.query ≡ query_by algorithm ready.old.query }
     ensures same { lists.new ≡ lists.old }

@@ -44,7 +44,7 @@ places_within catalog names places e = All-from_recursion (λ place. place < len
     go (n ∷ ns) (p ∷ ps) e =
         let here : entry_named catalog n ≡ Some p = cc in
         let rest : map (entry_named catalog) ns ≡ map Some ps = cc in
-        ((position-Some (λ (entry : Entry). bytes_eq entry.name n) catalog p (record { name = []; place = []; random = false }) here).0, go ns ps rest)
+        ((position-Some (λ (entry : Entry). bytes_eq entry.name n) catalog p (record { name = []; place = []; random = false; sorted = false }) here).0, go ns ps rest)
 
 -- a name without a place
 pub unknown_among : (catalog : List Entry) (names : List (List ℕ)) (list : ℕ) (name : List ℕ) → slice_get names list ≡ Some name → entry_named catalog name ≡ None

@@ -6,7 +6,7 @@ use Rattle.catalog_open.specs.declared.opened.Opening.TheVariants.{Closed}
 
 -- an entry that is nowhere
 abbrev pub no_entry : Entry
-no_entry = record { name = []; place = []; random = false }
+no_entry = record { name = []; place = []; random = false; sorted = false }
 
 -- the entry of the catalog at a place, and what became of the source there
 abbrev pub entry_at : List Entry → ℕ → Entry

@@ -1,5 +1,5 @@
 -- The lists of a catalog by name.
-use Rattle.std.specs.Prelude.{ℕ, Bool, List, Option, None, Some, option_map}
+use Rattle.std.specs.Prelude.{ℕ, List, Option, None, Some, option_map}
 use Rattle.std.specs.List.{position}
 use Rattle.std.specs.Option.{option_and_then}
 use Rattle.std.specs.Str.{bytes_eq}
@@ -16,13 +16,15 @@ use Rattle.catalog_open.specs.declared.opened.Opening.TheVariants.{Closed, Open}
 abbrev pub entry_named : List Entry → List ℕ → Option ℕ
 entry_named catalog name = position (λ entry. bytes_eq entry.name name) catalog
 
--- what a list says of itself, by whether it offers random access and by what became of its source; an open one is at the version that its size stated
-abbrev pub said_of : Bool → Opening → Listed
-said_of random Closed = record { size = None; random = random; source = 0; version = 0 }
-said_of random (Open size source version) = record { size = Some size; random = random; source = source; version = version }
+-- what a list says of itself, by its entry, which has the accesses that it offers, and by what became of its source; an open one is at the version that
+-- its size stated
+abbrev pub said_of : Entry → Opening → Listed
+said_of entry Closed = record { size = None; random = entry.random; sorted = entry.sorted; source = 0; version = 0 }
+said_of entry (Open size source version) =
+    record { size = Some size; random = entry.random; sorted = entry.sorted; source = source; version = version }
 
 abbrev pub listed_at : List Entry → List Opening → ℕ → Listed
-listed_at catalog openings place = said_of (entry_at catalog place).random (opening_at openings place)
+listed_at catalog openings place = said_of (entry_at catalog place) (opening_at openings place)
 
 -- no list is told
 abbrev pub nothing_told : List ℕ → Option (List Row)

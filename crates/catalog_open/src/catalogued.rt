@@ -1,11 +1,12 @@
 //! The lists of a catalog by name.
 
 ghost use Rattle.std.specs.Prelude.{◌≡◌, slice_index_or};
+ghost use Rattle.catalog_text.specs.Listed.{listed};
 ghost use Rattle.catalog_open.specs.Views.{said_of};
 ghost use Rattle.catalog_open.specs.declared.opened.Opening.TheVariants as Opening;
 
 use super::opened::Opening;
-use catalog_text::Catalog;
+use catalog_text::{Catalog, Entry};
 use query_admission::{Listed, Lists};
 
 /// The lists of a catalog by name, with what became of its sources. A source that the openings have no place for isn't open.
@@ -25,14 +26,15 @@ fn opening_at(openings: &[Opening], place: u32) -> Opening
     }
 }
 
-/// What a list says of itself that offers random access or doesn't, and whose source became this.
-fn said_of(random: bool, opening: Opening) -> Listed
-    ensures { result ≡ said_of random opening }
+/// What the list of an entry says of itself whose source became this. One that isn't open states no size.
+pub fn said_of(entry: &Entry, opening: Opening) -> Listed
+    ensures { result ≡ said_of (listed entry.now) opening }
 {
     match opening {
         Opening::Closed => Listed {
             size: None,
-            random,
+            random: entry.random,
+            sorted: entry.sorted,
             source: 0,
             version: 0,
         },
@@ -42,7 +44,8 @@ fn said_of(random: bool, opening: Opening) -> Listed
             version,
         } => Listed {
             size: Some(size),
-            random,
+            random: entry.random,
+            sorted: entry.sorted,
             source,
             version,
         },
@@ -57,6 +60,6 @@ impl<'a> Lists for Catalogued<'a> {
     fn find(&self, name: &[u8]) -> Option<Listed> {
         let place = self.catalog.find(name)?;
         let entry = self.catalog.get(place)?;
-        Some(said_of(entry.random, opening_at(self.openings, place)))
+        Some(said_of(entry, opening_at(self.openings, place)))
     }
 }

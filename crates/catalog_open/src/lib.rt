@@ -12,7 +12,7 @@ mod reading;
 mod wanted;
 
 pub use admissions::{Admissions, Stage, admit_all};
-pub use catalogued::Catalogued;
+pub use catalogued::{Catalogued, said_of};
 pub use closing::put_back_all;
 pub use memory::Memory;
 pub use opened::{Opened, Opening};

@@ -48,7 +48,7 @@ pub right_fit : (view : View) (number : ℕ) (lines : List (List ℕ)) (stages :
     → AllZip IsRight readies endings → Fit stages readies endings
 right_fit view number lines stages readies endings are right = admitted_fit view number lines stages readies endings are (zip_long readies endings right)
 
-refused_here : (view : View) (number : ℕ) (bytes : List ℕ) (o : LineOutcome) (refusal : Refusal) (query : Option Query)
+pub refused_here : (view : View) (number : ℕ) (bytes : List ℕ) (o : LineOutcome) (refusal : Refusal) (query : Option Query)
     → RefusesLine admission_causes (line_over view number bytes) refusal query
     → o ≡ record { query = query; count = 0; versions = []; outcome = IsRefusedNow refusal } → IsLineRefused view number bytes o
 refused_here view number bytes o refusal query is e = record {

@@ -42,7 +42,7 @@ module _ (lists told : List ℕ → Option (List Row)) (versions : List ℕ → 
   IsThere n l = HasCount s.counts n l.source × (version_at s.versions l.source ≡ l.version)
 
   -- a list that states a size is that of an open source, and at the version at hand
-  open_source : (n place : ℕ) (o : Opening) (l : Listed) → n ≤ MAX_OBJECTS → opening_at openings place ≡ o → said_of (entry_at catalog place).random o ≡ l
+  open_source : (n place : ℕ) (o : Opening) (l : Listed) → n ≤ MAX_OBJECTS → opening_at openings place ≡ o → said_of (entry_at catalog place) o ≡ l
       → l.size ≡ Some n → IsThere n l
   open_source n place Closed l small is said size = absurd (none_some (ap (λ (k : Listed). k.size) said ∙ size))
     where
@@ -180,7 +180,7 @@ pub admitted_few : (view : View) (number : ℕ) (bytes : List ℕ) → NoneOf (R
 admitted_few view number bytes none =
     elim (cases_lt most_queries number) [
       | inl late ↦ absurd (member_of_all (λ (c : Cause). (r : Refusal) → ¬ RefusesFor (line_over view number bytes) c r) admission_causes Cause.many_queries none
-          (contains_here Cause.many_queries (Cause.text ∷ Cause.unknown_list ∷ Cause.not_opened ∷ Cause.too_large ∷ Cause.counts_differ ∷ Cause.k_above_count ∷ Cause.no_random ∷ []))
+          (contains_here Cause.many_queries (Cause.text ∷ Cause.unknown_list ∷ Cause.not_opened ∷ Cause.too_large ∷ Cause.counts_differ ∷ Cause.k_above_count ∷ Cause.no_random ∷ Cause.no_sorted ∷ []))
           (ManyQueries most_queries) (refl, late))
       | inr few ↦ few
     ]

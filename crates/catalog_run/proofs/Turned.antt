@@ -1,5 +1,5 @@
 -- Lists in the opposite order.
-use Rattle.std.proofs.Common.{◌≡◌, List, [], ◌∷◌, ◌++◌, Contains, reverse, append_assoc, inl, inr, sym, ap, ◌∙◌, subst}
+use Rattle.std.proofs.Common.{List, [], ◌∷◌, Contains, reverse, inl, inr, sym, subst}
 use Rattle.std.proofs.lemmas.List.{reverse-append}
 use Rattle.std.proofs.lemmas.List.Elements.{Contains-append_left, Contains-append_right}
 use Rattle.topk_theory.proofs.AgreementLists.{contains_nil, contains_here, contains_cases}

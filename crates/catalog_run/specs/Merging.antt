@@ -1,12 +1,18 @@
 -- The outcomes of lines, in order, from what refused them before they ran and from how the queries of the others ended.
-use Rattle.std.specs.Prelude.{◌≡◌, List, [], ◌∷◌, ◌++◌, Some}
+use Rattle.std.specs.Prelude.{◌≡◌, List, [], ◌∷◌, ◌++◌, Option, Some}
+use Rattle.query_text.specs.declared.query.Query.{Query}
 use Rattle.cert_text.specs.declared.outcome.Outcome.TheVariants.{Refused as RefusedAs}
+use Rattle.cert_text.specs.declared.refusal.Refusal.{Refusal}
 use Rattle.query_core.specs.declared.ready.Ready.{Ready as ReadyQuery}
 use Rattle.query_turns.specs.declared.ended.Ended.{Ended}
 use Rattle.catalog_open.specs.declared.admissions.Stage.{Stage}
 use Rattle.catalog_open.specs.declared.admissions.Stage.TheVariants.{Refused, Ready}
 use Rattle.query_admission.specs.declared.line_outcome.LineOutcome.{LineOutcome}
 use Rattle.catalog_run.specs.Outcomes.{ended_outcome}
+
+-- the outcome of a line that is refused before it runs, beside its query where that was read
+abbrev pub line_refused : Refusal → Option Query → LineOutcome
+line_refused refusal query = record { query = query; count = 0; versions = []; outcome = RefusedAs refusal }
 
 -- the outcome of a line whose query was ready and ended so
 pub record IsEndedAs (ready : ReadyQuery) (ended : Ended) (o : LineOutcome) : Type 0 where
@@ -27,13 +33,13 @@ abbrev pub Merges : List Stage → List ReadyQuery → List Ended → List LineO
 Merges [] [] [] outcomes = outcomes ≡ []
 Merges (stage ∷ stages) readies endings [] = ⊥
 Merges (Refused refusal query ∷ stages) readies endings (o ∷ outcomes) =
-    (o ≡ record { query = query; count = 0; versions = []; outcome = RefusedAs refusal }) × Merges stages readies endings outcomes
+    (o ≡ line_refused refusal query) × Merges stages readies endings outcomes
 Merges (Ready ∷ stages) (ready ∷ readies) (ended ∷ endings) (o ∷ outcomes) = IsEndedAs ready ended o × Merges stages readies endings outcomes
 Merges _ _ _ _ = ⊥
 
 -- the outcome of a line that came to this before it ran; the queries that are ready and the endings stand in the opposite order
 abbrev pub Nexts : Stage → (before after : List ReadyQuery) → (endings others : List Ended) → LineOutcome → Type 0
 Nexts (Refused refusal query) before after endings others o =
-    (o ≡ record { query = query; count = 0; versions = []; outcome = RefusedAs refusal }) × (after ≡ before) × (others ≡ endings)
+    (o ≡ line_refused refusal query) × (after ≡ before) × (others ≡ endings)
 Nexts Ready before after endings others o =
     (ready : ReadyQuery) × (ended : Ended) × (before ≡ after ++ ready ∷ []) × (endings ≡ others ++ ended ∷ []) × IsEndedAs ready ended o

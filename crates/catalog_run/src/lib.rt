@@ -14,5 +14,5 @@ pub use batch::run_queries;
 pub use batch_run::Settings;
 pub use catalog_open::Memory;
 pub use lines::run_lines;
-pub use merging::{let_admissions_go, let_go, merge};
+pub use merging::{let_admissions_go, let_go, line_ended, line_refused, merge};
 pub use query_admission::LineOutcome;

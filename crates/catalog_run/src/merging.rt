@@ -3,14 +3,15 @@
 ghost use Rattle.std.specs.Prelude.{◌≡◌, ◌≤◌, ◌<◌, ◌∷◌, [], List, IfOk, OnOk, length, reverse, vec_len, vec_capacity};
 ghost use Rattle.catalog_open.specs.declared.admissions.Stage.{Stage as AnyStage};
 ghost use Rattle.catalog_open.specs.declared.admissions.Stage.TheVariants as stage;
-ghost use Rattle.catalog_run.specs.Merging.{Fit, Merges, Nexts};
+ghost use Rattle.catalog_run.specs.Merging.{line_refused, IsEndedAs, Fit, Merges, Nexts};
 
 use super::Memory;
 use super::outcome::ended_outcome;
 use catalog_open::{Admissions, Stage};
-use cert_text::{Outcome, Versions};
+use cert_text::{Outcome, Refusal, Versions};
 use query_admission::LineOutcome;
 use query_core::Ready;
+use query_text::Query;
 use query_turns::Ended;
 use std::alloc::Global;
 
@@ -102,12 +103,7 @@ fn next_outcome(
     ensures { IfOk result (Nexts stage readies.old.items readies.new.items endings.old.items endings.new.items) }
 {
     match stage {
-        Stage::Refused { refusal, query } => Ok(LineOutcome {
-            query,
-            count: 0,
-            versions: Versions::from_vec(Vec::new(alloc)),
-            outcome: Outcome::Refused(refusal),
-        }),
+        Stage::Refused { refusal, query } => Ok(line_refused(alloc, refusal, query)),
         Stage::Ready => next_ended(readies, endings),
     }
 }
@@ -121,11 +117,31 @@ fn next_ended(readies: &mut Vec<Ready>, endings: &mut Vec<Ended>) -> Result<Line
     let Some(ended) = endings.pop() else {
         unreachable!();
     };
-    let Some(outcome) = ended_outcome(ended) else {
-        return Err(Memory);
-    };
     let Some(ready) = readies.pop() else {
         unreachable!();
+    };
+    line_ended(ready, ended)
+}
+
+/// The outcome of a line that is refused before it runs, beside its query where that was read. Takes no memory.
+pub fn line_refused(alloc: Global, refusal: Refusal, query: Option<Query>) -> LineOutcome
+    ensures { result ≡ line_refused refusal query }
+{
+    LineOutcome {
+        query,
+        count: 0,
+        versions: Versions::from_vec(Vec::new(alloc)),
+        outcome: Outcome::Refused(refusal),
+    }
+}
+
+/// The outcome of a line whose query was ready and ended so, or a want of memory where it ended for that. Takes no memory.
+pub fn line_ended(ready: Ready, ended: Ended) -> Result<LineOutcome, Memory>
+    ensures { IfOk result (IsEndedAs ready ended) }
+{
+    let Some(outcome) = ended_outcome(ended) else {
+        drop(ready);
+        return Err(Memory);
     };
     Ok(LineOutcome {
         query: Some(ready.query),

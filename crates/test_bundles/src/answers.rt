@@ -102,9 +102,25 @@ const BY_FAGIN: &[Answer] = &[
     ),
 ];
 
+/// By the threshold algorithm over the lists that can be read in order, which are all of a bundle's.
+const BY_RESTRICTED: &[Answer] = &[
+    (
+        LISTS,
+        "top 1 by sum(A,B) using taz",
+        "count 3\nanswer 2 1500 1500\nstop depth 2 sorted 4 random 3 cost 7\ns A 1 900\ns B 2 700\nr B 1 500\nr A 2 800\ns A 2 800\ns B 3 600\nr A 3 100\nend\n",
+    ),
+    // all are seen at the second depth, where the threshold algorithm goes on
+    (
+        LISTS,
+        "top 3 by sum(A,B) using taz",
+        "count 3\nanswer 2 1500 1500\nanswer 1 1400 1400\nanswer 3 700 700\nstop depth 2 sorted 4 random 3 cost 7\ns A 1 900\ns B 2 700\nr B 1 500\nr A 2 800\ns A 2 800\ns B 3 600\nr A 3 100\nend\n",
+    ),
+];
+
 #[test]
 fn answers_queries(rt: HostRuntime) {
     none_is_wrong(&rt, first_wrong(rt.alloc(), BY_THRESHOLD));
     none_is_wrong(&rt, first_wrong(rt.alloc(), BY_SORTED));
     none_is_wrong(&rt, first_wrong(rt.alloc(), BY_FAGIN));
+    none_is_wrong(&rt, first_wrong(rt.alloc(), BY_RESTRICTED));
 }

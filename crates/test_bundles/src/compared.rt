@@ -53,6 +53,22 @@ const ROWS: &[Row] = &[
         UNEVEN,
     ),
     (
+        "query top 1 by sum(A,B) using theta 8/7",
+        Status::Done,
+        EVEN,
+    ),
+    (
+        "query top 1 by sum(A,B) using early 1 cost 1 2",
+        Status::Done,
+        UNEVEN,
+    ),
+    ("query top 1 by sum(A,B) using taz", Status::Done, EVEN),
+    (
+        "query top 1 by sum(A,B) using theta 7/8",
+        Status::Partial,
+        "refused 1 BadTheta 7 8\n",
+    ),
+    (
         "query top 1 by sum(A,C) using fa",
         Status::Partial,
         "refused 1 UnknownList C\n",

@@ -10,6 +10,8 @@ mod compared;
 #[cfg(test)]
 mod faults;
 #[cfg(test)]
+mod guarantees;
+#[cfg(test)]
 mod make;
 #[cfg(test)]
 mod refusals;

@@ -82,6 +82,31 @@ const BEHIND: &[Row] = &[
         Status::Partial,
         "refused 1 Number 4\n",
     ),
+    (
+        "query top 1 by sum(A,B) using theta 7/8",
+        Status::Partial,
+        "refused 1 BadTheta 7 8\n",
+    ),
+    (
+        "query top 1 by sum(A,C) using theta 7/8",
+        Status::Partial,
+        "refused 1 BadTheta 7 8\n",
+    ),
+    (
+        "query top 1 by sum(A,B) using theta 8/7 room 1",
+        Status::Partial,
+        "refused 1 RoomFull 1\n",
+    ),
+    (
+        "query top 1 by sum(A,B) using early 1 room 1",
+        Status::Partial,
+        "refused 1 RoomFull 1\n",
+    ),
+    (
+        "query top 1 by sum(A,B) using taz room 2",
+        Status::Partial,
+        "refused 1 RoomFull 2\n",
+    ),
     ("query top 1 by", Status::Partial, "refused 1 Syntax 8\n"),
     (
         "query top 1 by foo(A) using ta",

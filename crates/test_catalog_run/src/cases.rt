@@ -46,8 +46,8 @@ fn writes_so<W: Threads + Wait + Sync>(
         && is_text(out.taken(), case.text)
 }
 
-/// The same, where a call for a source may fail.
-fn runs_over<W: Threads + Wait + Sync>(
+/// Whether a run over a shelf writes what it is to write, where a call for a source may fail.
+pub fn runs_over<W: Threads + Wait + Sync>(
     rt: &W,
     alloc: Global,
     shelf: &mut MemShelf,

@@ -11,6 +11,8 @@ mod figures;
 #[cfg(test)]
 mod made_runs;
 #[cfg(test)]
+mod restricted;
+#[cfg(test)]
 mod rows;
 #[cfg(test)]
 mod runs;

@@ -92,7 +92,7 @@ fn by_fa(alloc: Global, table: &[MemList], query: &Query) -> Option<Found>
     })
 }
 
-/// What a query finds on a table. None where that is no table of its lists, or there is no memory.
+/// What a query finds on a table. None where that is no table of its lists, the algorithm's machine is tried elsewhere, or there is no memory.
 fn found_in(alloc: Global, table: &[MemList], query: &Query) -> Option<Found> {
     let costs = query.costs_in_force();
     if !is_posed(alloc, table, &query.expr) || costs.sorted < 1 {
@@ -103,6 +103,7 @@ fn found_in(alloc: Global, table: &[MemList], query: &Query) -> Option<Found> {
         Algorithm::Nra => by_nra(alloc, table, query),
         Algorithm::Ca => by_ca(alloc, table, query, costs),
         Algorithm::Fa => by_fa(alloc, table, query),
+        Algorithm::Theta { .. } | Algorithm::Early { .. } | Algorithm::Taz => None,
     }
 }
 

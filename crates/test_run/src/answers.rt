@@ -80,7 +80,7 @@ const RISING_LINES: &str = "top 1 by sum(A,B) using ta\ntop 2 by sum(A,B) using 
 const RISING_TEXT: &str =
     "certificate 1\nquery top 1 by sum(A,B) using ta\ncount 2\nanswer 1 900 900\nstop depth 1 sorted 2 random 0 cost 2\ns A 1 500\ns B 1 400\nend\nrefused 2 OutOfOrder A 2 500 600\n";
 
-static ANSWERED: [Row; 7] = [
+static ANSWERED: [Row; 8] = [
     Row {
         case: Case {
             words: RUN,
@@ -150,6 +150,16 @@ static ANSWERED: [Row; 7] = [
         },
         status: Status::Done,
         text: "certificate 1\nquery top 1 by sum(A,C) using nra\ncount 3\nanswer 1 1800 1800\nstop depth 1 sorted 2 random 0 cost 2\ns A 1 900\ns C 1 900\nend\n",
+    },
+    Row {
+        case: Case {
+            words: RUN,
+            catalog: "name,place,random,sorted\nA,lists/a.csv,yes,yes\nB,lists/b.csv,yes,no\n",
+            sources: SHELF,
+            lines: "top 1 by sum(A,B) using taz\ntop 1 by wsum(1*A,0*B) using taz\ntop 1 by sum(A,B) using nra\ntop 1 by B using taz\n",
+        },
+        status: Status::Partial,
+        text: "certificate 1\nquery top 1 by sum(A,B) using taz\ncount 3\nanswer 2 1500 1500\nstop depth 3 sorted 3 random 3 cost 6\ns A 1 900\nr B 1 500\ns A 2 800\nr B 2 700\ns A 3 100\nr B 3 600\nend\ncertificate 2\nquery top 1 by wsum(1*A,0*B) using taz\ncount 3\nanswer 1 900 900\nstop depth 1 sorted 1 random 1 cost 2\ns A 1 900\nr B 1 500\nend\nrefused 3 NoSorted B\nrefused 4 NoSorted B\n",
     },
 ];
 

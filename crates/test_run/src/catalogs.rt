@@ -6,7 +6,7 @@ use call_ends::Status;
 
 const LINES: &str = "top 1 by A using ta\n";
 
-static NO_CATALOGS: [Row; 5] = [
+static NO_CATALOGS: [Row; 7] = [
     Row {
         case: Case {
             words: RUN,
@@ -51,6 +51,26 @@ static NO_CATALOGS: [Row; 5] = [
         case: Case {
             words: RUN,
             catalog: "name,place,random\nA,http://host/,yes\n",
+            sources: &[],
+            lines: LINES,
+        },
+        status: Status::BadCatalog,
+        text: "refused catalog CatalogLine 2\n",
+    },
+    Row {
+        case: Case {
+            words: RUN,
+            catalog: "name,place,random,sorted\nA,a,yes,no\nB,b,no,no\n",
+            sources: &[],
+            lines: LINES,
+        },
+        status: Status::BadCatalog,
+        text: "refused catalog CatalogLine 3\n",
+    },
+    Row {
+        case: Case {
+            words: RUN,
+            catalog: "name,place,random,sorted\nA,a,yes\n",
             sources: &[],
             lines: LINES,
         },

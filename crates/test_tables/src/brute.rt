@@ -106,11 +106,14 @@ fn first_wrong(alloc: Global, count: u32, algorithm: &str) -> Option<(usize, usi
     None
 }
 
-/// By each algorithm; the combined one with a random phase at each third depth, at each, and at each fortieth.
+/// By each algorithm whose answers are the best, which those within the factor 1 are; the combined one with a random phase at each third depth,
+/// at each, and at each fortieth.
 #[test]
 fn answers_as_all_aggregates_say(rt: HostRuntime) {
     none_is_wrong(&rt, first_wrong(rt.alloc(), 2_000, "ta"));
     none_is_wrong(&rt, first_wrong(rt.alloc(), 2_000, "nra"));
+    none_is_wrong(&rt, first_wrong(rt.alloc(), 2_000, "taz"));
+    none_is_wrong(&rt, first_wrong(rt.alloc(), 2_000, "theta 1/1"));
     none_is_wrong(&rt, first_wrong(rt.alloc(), 500, "ca cost 2 7"));
     none_is_wrong(&rt, first_wrong(rt.alloc(), 500, "ca cost 10 3"));
     none_is_wrong(&rt, first_wrong(rt.alloc(), 500, "ca cost 1 40"));

@@ -15,7 +15,7 @@ use test_plain_nra::{nra_answer, nra_run};
 use test_plain_ta::{ta_answer, ta_run};
 use topk_theory::Access;
 
-/// What the plain program answers to a query.
+/// What the plain program answers to a query. None for an algorithm that it doesn't have.
 fn plain_items(alloc: Global, lists: &[MemList], query: &Query, costs: Costs) -> Option<Vec<Item>>
     requires posed { IsPosed lists.now query.now.expr }
     requires costs { 1 ≤ costs.sorted }
@@ -26,6 +26,7 @@ fn plain_items(alloc: Global, lists: &[MemList], query: &Query, costs: Costs) ->
         Algorithm::Nra => nra_answer(alloc, lists, expr, query.k).ok(),
         Algorithm::Ca => ca_answer(alloc, lists, expr, query.k, costs).ok(),
         Algorithm::Fa => fa_answer(alloc, lists, expr, query.k).ok(),
+        Algorithm::Theta { .. } | Algorithm::Early { .. } | Algorithm::Taz => None,
     }
 }
 
@@ -45,6 +46,7 @@ fn plain_accesses(
         Algorithm::Nra => nra_run(alloc, lists, expr, query.k).ok(),
         Algorithm::Ca => ca_run(alloc, lists, expr, query.k, costs).ok(),
         Algorithm::Fa => fa_run(alloc, lists, query.k).ok(),
+        Algorithm::Theta { .. } | Algorithm::Early { .. } | Algorithm::Taz => None,
     }
 }
 

@@ -1,19 +1,22 @@
 -- Lines over lists that say the same of themselves come to the same.
-use Rattle.std.proofs.Common.{◌≡◌, ℕ, zero, suc, ◌+◌, ◌<◌, Bool, not, nat_lt, cond, List, [], ◌∷◌, ◌++◌, Contains, map, length, Option, None, Some, is_none, refl, sym, ap, ◌∙◌, subst, arith}
+use Rattle.std.proofs.Common.{◌≡◌, ℕ, zero, suc, ◌+◌, ◌<◌, Bool, not, nat_lt, cond, is_some, List, [], ◌∷◌, ◌++◌, Contains, map, length, Option, None, Some, is_none, refl, sym, ap, ◌∙◌, subst, arith}
 use Rattle.std.specs.List.{position, position_or_len}
 use Rattle.std.specs.Prelude.{Ok}
 use Rattle.std.proofs.lemmas.List.{length-map}
 use Rattle.std.proofs.lemmas.List.Elements.{All-from_recursion, Contains-append_left}
 use Rattle.topk_theory.proofs.AgreementLists.{contains_here, contains_nil, all_from_members, member_of_all}
 use Rattle.ranked_list.specs.declared.row.Row.{Row}
+use Rattle.query_text.specs.declared.algorithm.Algorithm.{Algorithm}
+use Rattle.query_text.specs.declared.algorithm.Algorithm.TheVariants.{Ta, Nra, Ca, Fa, Theta, Early, Taz}
 use Rattle.query_text.specs.declared.query.Query.{Query}
 use Rattle.query_text.specs.Reading.{Reads}
 use Rattle.cert_text.specs.declared.refusal.Refusal.{Refusal}
 use Rattle.cert_text.specs.declared.refusal.Refusal.TheVariants.{ManyQueries, RoomFull}
 use Rattle.cert_text.specs.declared.outcome.Outcome.{Outcome}
 use Rattle.cert_text.specs.declared.outcome.Outcome.TheVariants.{Answered, Refused}
-use Rattle.query_core.specs.OneAnswer.{IsOverRoom}
-use Rattle.query_admission.specs.View.{View, AreTold, is_closed, is_large, differs, lacks_random, versions_at, size_stated, count_of}
+use Rattle.query_core.specs.Methods.{method_with}
+use Rattle.query_core.specs.OneAnswer.{IsOverRoomWith, IsAnsweredWith}
+use Rattle.query_admission.specs.View.{View, AreTold, is_closed, is_large, differs, lacks_random, lacks_sorted, offers_sorted, unread_list, sorted_at, method_over, versions_at, size_stated, count_of}
 use Rattle.query_admission.specs.Causes.{most_queries, Cause, admission_causes, Over, ListsGive, RefusesFor, NoneOf, IsFirstOf}
 use Rattle.query_admission.specs.Admission.{RefusesLine}
 use Rattle.query_admission.specs.Becomes.{Becomes}
@@ -64,6 +67,22 @@ versions_plain (x ∷ xs) = ap (λ vs. x.version ∷ vs) (versions_plain xs)
 versions_same : (xs ys : List Listed) → map plain xs ≡ map plain ys → versions_at xs ≡ versions_at ys
 versions_same xs ys e = sym (versions_plain xs) ∙ ap versions_at e ∙ versions_plain ys
 
+sorted_plain : (xs : List Listed) → sorted_at (map plain xs) ≡ sorted_at xs
+sorted_plain [] = refl
+sorted_plain (x ∷ xs) = ap (λ bs. x.sorted ∷ bs) (sorted_plain xs)
+
+method_same : (q : Query) (xs ys : List Listed) → map plain xs ≡ map plain ys → method_over q xs ≡ method_over q ys
+method_same q xs ys e = ap (method_with q.algorithm) (sym (sorted_plain xs) ∙ ap sorted_at e ∙ sorted_plain ys)
+
+unread_same : (a : Algorithm) (xs ys : List Listed) → map plain xs ≡ map plain ys → unread_list a xs ≡ unread_list a ys
+unread_same Ta xs ys e = tested_same lacks_sorted xs ys (λ l. refl) e
+unread_same Nra xs ys e = tested_same lacks_sorted xs ys (λ l. refl) e
+unread_same Ca xs ys e = tested_same lacks_sorted xs ys (λ l. refl) e
+unread_same Fa xs ys e = tested_same lacks_sorted xs ys (λ l. refl) e
+unread_same (Theta p q) xs ys e = tested_same lacks_sorted xs ys (λ l. refl) e
+unread_same (Early depth) xs ys e = tested_same lacks_sorted xs ys (λ l. refl) e
+unread_same Taz xs ys e = ap (λ (o : Option ℕ). cond {A = Option ℕ} (is_some o) None (Some 0)) (tested_same offers_sorted xs ys (λ l. refl) e)
+
 -- what lists give that say the same
 lists_give : (q : Query) (xs ys : List Listed) → map plain xs ≡ map plain ys → (c : Cause) (refusal : Refusal) → ListsGive q xs c refusal
     → ListsGive q ys c refusal
@@ -76,6 +95,7 @@ lists_give q xs ys e Cause.counts_differ refusal g =
     (g.0, g.1, g.2, g.3, sym (size_same xs ys 0 e) ∙ g.4, sym (tested_same (differs g.0) xs ys (λ l. refl) e) ∙ g.5, sym (size_same xs ys g.1 e) ∙ g.6)
 lists_give q xs ys e Cause.k_above_count refusal g = (g.0, g.1, sym (size_same xs ys 0 e) ∙ g.2, g.3)
 lists_give q xs ys e Cause.no_random refusal g = (g.0, g.1, g.2, sym (tested_same lacks_random xs ys (λ l. refl) e) ∙ g.3)
+lists_give q xs ys e Cause.no_sorted refusal g = (g.0, g.1, sym (unread_same q.algorithm xs ys e) ∙ g.2)
 lists_give q xs ys e Cause.room_full refusal g = g
 
 -- lists that are known elsewhere, and say the same
@@ -125,11 +145,24 @@ gives_alike V W number bytes alike Cause.k_above_count told refusal g =
 gives_alike V W number bytes alike Cause.no_random told refusal g =
     over_alike V W number bytes alike (λ q xs. ListsGive q xs Cause.no_random refusal) (λ q xs. ListsGive q xs Cause.no_random refusal)
     (λ q xs ys e h. lists_give q xs ys e Cause.no_random refusal h) g
+gives_alike V W number bytes alike Cause.no_sorted told refusal g =
+    over_alike V W number bytes alike (λ q xs. ListsGive q xs Cause.no_sorted refusal) (λ q xs. ListsGive q xs Cause.no_sorted refusal)
+    (λ q xs ys e h. lists_give q xs ys e Cause.no_sorted refusal h) g
 gives_alike V W number bytes alike Cause.room_full told refusal g =
     over_alike V W number bytes alike
-    (λ q xs. (D : List (List Row)) × (n room : ℕ) × (refusal ≡ RoomFull room) × AreTold V q D × (count_of xs ≡ Some n) × IsOverRoom q n D room)
-    (λ q xs. (D : List (List Row)) × (n room : ℕ) × (refusal ≡ RoomFull room) × AreTold W q D × (count_of xs ≡ Some n) × IsOverRoom q n D room)
-    (λ q xs ys e h. (h.0, h.1, h.2, h.3, subst (λ t. map t q.names ≡ map Some h.0) told h.4, sym (size_same xs ys 0 e) ∙ h.5, h.6)) g
+    (λ q xs. (D : List (List Row)) × (n room : ℕ) × (refusal ≡ RoomFull room) × AreTold V q D × (count_of xs ≡ Some n)
+    × IsOverRoomWith (method_over q xs) q n D room)
+    (λ q xs. (D : List (List Row)) × (n room : ℕ) × (refusal ≡ RoomFull room) × AreTold W q D × (count_of xs ≡ Some n)
+    × IsOverRoomWith (method_over q xs) q n D room)
+    (λ q xs ys e h. (
+      h.0,
+      h.1,
+      h.2,
+      h.3,
+      subst (λ t. map t q.names ≡ map Some h.0) told h.4,
+      sym (size_same xs ys 0 e) ∙ h.5,
+      subst (λ method. IsOverRoomWith method q h.1 h.0 h.2) (method_same q xs ys e) h.6,
+    )) g
 
 -- where none of some causes holds here none holds there
 pub none_alike : (V W : View) (number : ℕ) (bytes : List ℕ) → Alike bytes W.listed V.listed → (causes : List Cause)
@@ -143,7 +176,7 @@ none_alike V W number bytes alike causes told none =
 pub unseen_rows : (V W : View) (c : Cause) → Contains admission_causes c → SameTold V W c
 unseen_rows V W c m =
     member_of_all (SameTold V W) admission_causes c
-    (All-from_recursion (SameTold V W) admission_causes (tt, (tt, (tt, (tt, (tt, (tt, (tt, (tt, tt))))))))) m
+    (All-from_recursion (SameTold V W) admission_causes (tt, (tt, (tt, (tt, (tt, (tt, (tt, (tt, (tt, tt)))))))))) m
 
 -- the first cause
 pub refused_alike : (V W : View) (number : ℕ) (bytes : List ℕ) → Alike bytes V.listed W.listed → Alike bytes W.listed V.listed → (causes : List Cause)
@@ -194,7 +227,8 @@ late_refused V W number bytes refusal query late refused =
       first = record {
         cause = Cause.many_queries;
         earlier = [];
-        later = Cause.text ∷ Cause.unknown_list ∷ Cause.not_opened ∷ Cause.too_large ∷ Cause.counts_differ ∷ Cause.k_above_count ∷ Cause.no_random ∷ [];
+        later = Cause.text ∷ Cause.unknown_list ∷ Cause.not_opened ∷ Cause.too_large ∷ Cause.counts_differ ∷ Cause.k_above_count ∷ Cause.no_random
+            ∷ Cause.no_sorted ∷ [];
         order = refl;
         gives = many;
         first = all_from_members (λ c. (r : Refusal) → ¬ RefusesFor (line_over W number bytes) c r) [] (λ c m. absurd (contains_nil c m));
@@ -219,6 +253,6 @@ becomes_alike V W number bytes to from told back (Some q) count versions (Answer
       listed = l.there;
       counted = sym (size_same is.lists l.lists 0 l.same) ∙ is.counted;
       opened = sym (versions_same is.lists l.lists l.same) ∙ is.opened;
-      right = is.right;
+      right = subst (λ method. IsAnsweredWith method q count answer) (method_same q is.lists l.lists l.same) is.right;
       agrees = λ D e. is.agrees D (subst (λ t. map t q.names ≡ map Some D) (back Cause.room_full) e);
     }

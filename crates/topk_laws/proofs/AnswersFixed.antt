@@ -4,11 +4,17 @@ use Rattle.line_text.specs.Lines.{lines}
 use Rattle.cert_text.specs.declared.outcome.Outcome.{Outcome}
 use Rattle.cert_text.specs.declared.outcome.Outcome.TheVariants.{Answered, Refused}
 use Rattle.cert_text.specs.declared.certificate.Certificate.{Certificate}
+use Rattle.topk_theory.specs.Threshold.{item_objects}
+use Rattle.query_core.specs.OneAnswer.{asked_by}
+use Rattle.cert_judge.specs.Transcripts.{log_of}
+use Rattle.cert_text.specs.Certificate.{guaranteed}
 use Rattle.cert_text.specs.Outcome.{outcome_text, certificate_of}
 use Rattle.cert_text.specs.Reading.{Spells}
 use Rattle.cert_text.proofs.CertifiedLaws.{certified_spelled}
 use Rattle.query_text.specs.declared.query.Query.{Query}
 use Rattle.bundle_text.specs.Bundle.{Content, IsBundle}
+use Rattle.query_core.specs.Methods.{method_with}
+use Rattle.query_admission.specs.View.{sorted_at}
 use Rattle.query_admission.specs.Becomes.{Becomes}
 use Rattle.cert_judge.specs.declared.judgement.Judgement.{Judgement}
 use Rattle.cert_judge.specs.declared.judgement.Judgement.TheVariants.{BadLine, Inconsistent, WildGuess, WrongSize, UnseenAnswer, Figure, Fixes, Beaten}
@@ -22,7 +28,7 @@ use Rattle.bundle_calls.specs.Reply.{outcome_status}
 use Rattle.call_ends.specs.declared.status.Status.TheVariants.{Done}
 use Rattle.topk_laws.proofs.Certifying.{certified}
 use Rattle.topk_laws.proofs.OneCertificate.{spells_one}
-use Rattle.topk_laws.proofs.Fixing.{IsFixedBy, only_fixed, fixed_by, fixed_of}
+use Rattle.topk_laws.proofs.Fixing.{IsFixedBy, only_fixed, judged_fixed, fixed_by, fixed_of}
 
 -- the lines spell a certificate that is fixed: nothing else is told
 told_fixed : (ls : List (List ℕ)) (c : Certificate) (told : Judgement) → Spells ls c → IsFixedBy c → Tells ls told → told ≡ Fixes
@@ -42,8 +48,13 @@ fixes_text = refl
 -- the text of a fixed certificate
 fixed_text : (text : List ℕ) (c : Certificate) → Spells (lines text) c → IsFixedBy c → IsFixedText text
 fixed_text text c spells is =
-    let tells : Tells (lines text) Fixes = told_result (lines text) c (Ok Fixes) spells (λ d again. spells_one (lines text) c d spells again)
-    (record { consistent = is.consistent; judged = (is.fair, is.fixed) }, is.figures) in
+    let tells : Tells (lines text) Fixes = told_result (lines text) c (Ok Fixes) spells (λ d again. spells_one (lines text) c d spells again) (
+      record {
+        consistent = is.consistent;
+        judged = judged_fixed (guaranteed c) (asked_by c.query) (log_of c) (item_objects c.items) is.fair is.fixed;
+      },
+      is.figures,
+    ) in
     record {
       spelled = (c, spells, is.figures);
       fixed = tells;
@@ -61,7 +72,8 @@ of_answer content None count versions (Answered answer) text bundle becomes stat
 of_answer content (Some q) count versions (Answered answer) text bundle becomes status same =
     let is = certified content q count versions answer bundle becomes in
     fixed_text text (certificate_of 1 q count versions answer) (certified_spelled 1 q count versions answer text is.certified same)
-    (fixed_by 1 q count versions answer (fixed_of q count answer is.certified.lawful is.certified.expr is.fits becomes.right) becomes.right)
+    (fixed_by (sorted_at becomes.lists) 1 q count versions answer
+    (fixed_of (method_with q.algorithm (sorted_at becomes.lists)) q count answer is.certified.lawful is.certified.expr is.fits becomes.right) becomes.right)
 
 pub answers_fixed : AnswersAreFixed
 answers_fixed bytes text (inl bundle) = absurd (let e = bundle.status_is in cc)

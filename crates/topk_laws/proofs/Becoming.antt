@@ -196,6 +196,7 @@ module _ (r : CatalogRun) (outcomes : List LineOutcome) (run : IsRun r outcomes)
       count = admitted.count;
       sources = admitted.sources;
       versions = admitted.versions;
+      sorted = admitted.sorted;
     }
       where
         same_lists : Alike bytes T.listed V.listed
@@ -210,6 +211,7 @@ module _ (r : CatalogRun) (outcomes : List LineOutcome) (run : IsRun r outcomes)
     same_rows Cause.counts_differ = tt
     same_rows Cause.k_above_count = tt
     same_rows Cause.no_random = tt
+    same_rows Cause.no_sorted = tt
     same_rows Cause.room_full = refl
 
     rows_same : (c : Cause) → SameTold W T c
@@ -221,6 +223,7 @@ module _ (r : CatalogRun) (outcomes : List LineOutcome) (run : IsRun r outcomes)
     rows_same Cause.counts_differ = tt
     rows_same Cause.k_above_count = tt
     rows_same Cause.no_random = tt
+    rows_same Cause.no_sorted = tt
     rows_same Cause.room_full = refl
 
     -- how a query ended over its lists is what becomes of its line

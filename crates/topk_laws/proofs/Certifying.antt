@@ -27,12 +27,17 @@ use Rattle.machine_base.specs.declared.answer.Answer.{Answer}
 use Rattle.query_text.specs.declared.query.Query.{Query}
 use Rattle.cert_text.specs.Certificate.{IsItem, IsAccess}
 use Rattle.cert_text.specs.Outcome.{IsCertified}
+use Rattle.guarantee.specs.Guarantee.{guarantee_by}
+use Rattle.query_core.specs.Methods.{method_with}
+use Rattle.query_core.specs.OneAnswer.{asked_by}
 use Rattle.query_core.proofs.Answering.{answered_short}
+use Rattle.query_admission.specs.View.{sorted_at}
 use Rattle.query_admission.specs.Becomes.{AnswersLine}
 use Rattle.bundle_calls.specs.Bundled.{bundle_line}
 use Rattle.bundle_calls.proofs.Bundling.{told_table, versions_first}
 use Rattle.query_core.proofs.GivenBounds.{AreReached, bounds_reached}
 use Rattle.topk_laws.proofs.Fixing.{fixed_of}
+use Rattle.topk_laws.proofs.Good.{good_objects}
 use Rattle.query_admission.proofs.Becoming.{cost_small}
 
 -- the aggregate of an object is small
@@ -110,13 +115,15 @@ certified c q count versions answer bundle h =
     let D = told.lists in
     let agrees : Agrees m n D A = h.agrees D told.told in
     let some_lists : 0 < m = omega (arith, right.lists, expr.lists.some) in
-    let top = (right.every D agrees).top in
+    let Y = item_objects answer.items in
+    let method = method_with q.algorithm (sorted_at h.lists) in
+    let top = good_objects (guarantee_by q.algorithm (value q.expr) (length D) A Y) (asked_by q) D Y (right.every D agrees).top in
     let some : SomeAgrees m n A = (D, agrees) in
     let small = told.small in
     let positive : 0 < length D = omega (arith, agrees.lists) in
     let sized : length (objects_of D) ≡ n = objects_of_count n D agrees.table positive in
     let fits : q.k ≤ count = omega (arith, top.sized, sized, right.count, distinct_fits (item_objects answer.items) (objects_of D) top.distinct (λ o d. member_of_all (Contains (objects_of D)) (item_objects answer.items) o top.members d)) in
-    let honest = fixed_of q count answer lawful expr fits right in
+    let honest = fixed_of method q count answer lawful expr fits right in
     let costs = cost_small q.cost lawful.cost in
     let first = versions_first c q h.lists versions h.listed h.opened in
     record {
@@ -127,9 +134,10 @@ certified c q count versions answer bundle h =
         expr = expr;
         lists = right.lists;
         counted = right.count;
+        consistent = some;
         versioned = first.0;
         small = All-weaker (λ version. version ≡ 0) (λ version. version < 2 ^ 64) (λ version is. omega (arith, is)) versions first.1;
-        cost = record { sorted = costs.0; random = costs.1; accesses = answered_short q count answer lawful expr.lists.some fits told.few right };
+        cost = record { sorted = costs.0; random = costs.1; accesses = answered_short method q count answer lawful expr.lists.some fits told.few right };
         limits = record {
           some_lists = some_lists;
           few_lists = omega (arith, right.lists, expr.lists.few);

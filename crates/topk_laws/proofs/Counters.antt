@@ -1,5 +1,5 @@
 -- The table that beats an answer is a bundle, with the names and the text of the query.
-use Rattle.std.proofs.Common.{◌≡◌, ◌≢◌, ℕ, ◌<◌, ◌≤◌, ◌^◌, List, ◌∷◌, ◌++◌, length, map, codes, All, Contains, sym, ap, subst, ◌∙◌, arith}
+use Rattle.std.proofs.Common.{◌≡◌, ◌≢◌, ℕ, ◌<◌, ◌≤◌, ◌^◌, List, ◌∷◌, ◌++◌, length, map, codes, All, Contains, Option, None, Some, Ok, sym, ap, subst, ◌∙◌, arith}
 use Rattle.line_text.specs.Lines.{lines}
 use Rattle.line_text.proofs.LineLaws.{lines_have_no_end}
 use Rattle.ranked_list.specs.declared.row.Row.{Row}
@@ -9,6 +9,14 @@ use Rattle.monotone_fn.specs.Shape.{list_count}
 use Rattle.topk_theory.specs.declared.access.Access.{Access}
 use Rattle.topk_theory.specs.Transcript.{Agrees, object_of, named_objects}
 use Rattle.topk_theory.specs.Fixes.{IsOver}
+use Rattle.topk_theory.specs.Threshold.{item_objects}
+use Rattle.theta_theory.specs.Within.{Factor}
+use Rattle.access_log.specs.Log.{Log, AgreesWith}
+use Rattle.monotone_fn.specs.Value.{value}
+use Rattle.judge_core.specs.Judging.{judged_objects}
+use Rattle.judge_core.specs.declared.verdict.Verdict.TheVariants as verdict
+use Rattle.cert_judge.specs.Transcripts.{log_of}
+use Rattle.cert_judge.specs.Judging.{JudgesBy}
 use Rattle.topk_theory.specs.Adversary.{object_set, counter_table}
 use Rattle.topk_theory.proofs.AgreementLists.{all_from_members, member_of_all, contains_map, contains_map_from, contains_here, contains_there}
 use Rattle.std.proofs.lemmas.List.Elements.{Contains-append_right}
@@ -18,7 +26,7 @@ use Rattle.topk_theory.proofs.Consistent.{object_set_below}
 use Rattle.query_text.specs.Query.{printed}
 use Rattle.query_core.proofs.ListCount.{lists_counted}
 use Rattle.cert_text.specs.declared.certificate.Certificate.{Certificate}
-use Rattle.cert_text.specs.Certificate.{IsAccess, number_line, query_line, count_line, version_lines, answer_line, stop_line, access_lines, certificate_lines}
+use Rattle.cert_text.specs.Certificate.{IsAccess, number_line, query_line, count_line, version_lines, answer_line, guarantee_lines, guaranteed, stop_line, access_lines, certificate_lines}
 use Rattle.cert_text.specs.Reading.{Spells}
 use Rattle.topk_laws.specs.Laws.{CountersAreBundles}
 
@@ -39,7 +47,8 @@ rows_small m n A D all few table over = all_from_members (λ rows. All (λ row. 
 -- the text of a certificate's query is one line
 one_line : (bytes : List ℕ) (c : Certificate) → Spells (lines bytes) c → All (λ byte. byte ≢ 10) (printed c.query)
 one_line bytes c spells = all_from_members (λ byte. byte ≢ 10) (printed c.query) (λ byte h.
-    let rest = count_line c.count ∷ (version_lines c.query.names c.versions ++ (map answer_line c.items ++ stop_line c.depth c.sorted c.random c.cost ∷ access_lines c.query.names c.accesses)) in
+    let rest = count_line c.count ∷ (version_lines c.query.names c.versions ++ (map answer_line c.items
+    ++ (guarantee_lines (guaranteed c) ++ stop_line c.depth c.sorted c.random c.cost ∷ access_lines c.query.names c.accesses))) in
     let line : Contains (certificate_lines c) (query_line c.query) = contains_there (number_line c.line) (query_line c.query ∷ rest) (query_line c.query) (contains_here (query_line c.query) rest) in
     let plain = member_of_all (All (λ byte. byte ≢ 10)) (lines bytes) (query_line c.query) (lines_have_no_end bytes) (subst (λ ls. Contains ls (query_line c.query)) (sym spells.spelled) line) in
     member_of_all (λ byte. byte ≢ 10) (query_line c.query) byte plain (Contains-append_right (codes "query ") (printed c.query) byte h))
@@ -51,17 +60,24 @@ content_is counter names lists query n l q =
     ap (λ (z : List (List ℕ)). record { names = z; lists = counter.lists; query = counter.query }) n
     ∙ (ap (λ (z : List (List Row)). record { names = names; lists = z; query = counter.query }) l ∙ ap (λ (z : List ℕ). record { names = names; lists = lists; query = z }) q)
 
+-- the table that beats an answer, by more than a factor or not, is one of the judged objects
+beats : (o : Option Factor) (V : List ℕ → ℕ) (k : ℕ) (log : Log) (Y : List ℕ) (inside outside lowest highest : ℕ)
+    → JudgesBy o V k log Y (Ok (verdict.Beaten inside outside lowest highest))
+    → AgreesWith (counter_table log.lists log.count log.accesses inside) log × IsOver (judged_objects log) (counter_table log.lists log.count log.accesses inside)
+beats None V k log Y inside outside lowest highest h = (h.1.counter.agrees, h.1.counter.over)
+beats (Some factor) V k log Y inside outside lowest highest h = (h.1.counter.agrees, h.1.counter.over)
+
 pub counters_bundle : CountersAreBundles
 counters_bundle bytes inside outside low high counter tells =
     let c = tells.some.0 in
     let spells = tells.some.1 in
     let told = tells.each c spells in
-    let table = told.0.judged.1.counter in
+    let table = beats (guaranteed c) (value c.query.expr) c.query.k (log_of c) (item_objects c.items) inside outside low high told.0.judged in
     let is = told.2 in
     let cert = spells.certificate in
     let m = list_count c.query.expr in
     let D = counter_table m c.count c.accesses inside in
-    let agrees : Agrees m c.count D c.accesses = table.agrees in
+    let agrees : Agrees m c.count D c.accesses = table.0 in
     let lawful = cert.query.0.lawful in
     let many : m ≡ length c.query.names = lists_counted c.query lawful in
     let some : 0 < m = cert.query.1.lists.some in
@@ -73,7 +89,7 @@ counters_bundle bytes inside outside low high counter tells =
       names = lawful.names;
       apart = lawful.different;
       table = (c.count, cert.count_from, cert.count_to, agrees.table);
-      small = rows_small (length c.query.names) c.count c.accesses D cert.accesses cert.count_to agrees.table table.over;
+      small = rows_small (length c.query.names) c.count c.accesses D cert.accesses cert.count_to agrees.table table.1;
       one_line = one_line bytes c spells;
     } in
     subst IsBundle (sym (content_is (content counter) c.query.names D (printed c.query) is.names is.lists is.query)) whole

@@ -69,19 +69,19 @@ place_there catalog (n ∷ ns) (p ∷ ps) (suc list) e l =
     place_there catalog ns ps list rest (omega (arith, l))
 
 -- what is said of a list by its place
-said_there : (says : ℕ → Listed) (places : List ℕ) (list : ℕ) → list < length places
+pub said_there : (says : ℕ → Listed) (places : List ℕ) (list : ℕ) → list < length places
     → slice_index_or (map says places) list nothing ≡ says (slice_index_or places list 0)
 said_there says [] list l = absurd (omega (arith, l))
 said_there says (p ∷ ps) zero l = refl
 said_there says (p ∷ ps) (suc list) l = said_there says ps list (omega (arith, l))
 
-source_there : (says : ℕ → Listed) (places : List ℕ) (list : ℕ) → list < length places
+pub source_there : (says : ℕ → Listed) (places : List ℕ) (list : ℕ) → list < length places
     → slice_index_or (map (λ (l : Listed). l.source) (map says places)) list 0 ≡ (says (slice_index_or places list 0)).source
 source_there says [] list l = absurd (omega (arith, l))
 source_there says (p ∷ ps) zero l = refl
 source_there says (p ∷ ps) (suc list) l = source_there says ps list (omega (arith, l))
 
-many_places : (catalog : List Entry) (names : List (List ℕ)) (places : List ℕ) → map (entry_named catalog) names ≡ map Some places → length places ≡ length names
+pub many_places : (catalog : List Entry) (names : List (List ℕ)) (places : List ℕ) → map (entry_named catalog) names ≡ map Some places → length places ≡ length names
 many_places catalog names places e = sym (length-map places Some) ∙ ap length (sym e) ∙ length-map names (entry_named catalog)
 
 -- the refusals of a fault of the text
@@ -93,6 +93,7 @@ of_text (text.LongLine limit) refusal e = sym (ap failed_list (same_Some _ refus
 of_text (text.Syntax at) refusal e = sym (ap failed_list (same_Some _ refusal e))
 of_text (text.Number at) refusal e = sym (ap failed_list (same_Some _ refusal e))
 of_text (text.TooManyLists at) refusal e = sym (ap failed_list (same_Some _ refusal e))
+of_text (text.BadTheta p q) refusal e = sym (ap failed_list (same_Some _ refusal e))
 of_text (text.TooManyNodes nodes) refusal e = sym (ap failed_list (same_Some _ refusal e))
 of_text (text.TooDeep depth) refusal e = sym (ap failed_list (same_Some _ refusal e))
 of_text (text.TooBig node) refusal e = sym (ap failed_list (same_Some _ refusal e))
@@ -138,7 +139,7 @@ module _ (r : CatalogRun) (outcomes : List LineOutcome) (run : IsRun r outcomes)
       let all = run.all in
       go (opening_at run.openings place) closed (run.opened.each place (omega (arith, inside, all)))
     where
-      go : (o : Opening) → is_closed (said_of (entry_at r.catalog place).random o) ≡ true
+      go : (o : Opening) → is_closed (said_of (entry_at r.catalog place) o) ≡ true
           → IsOpening r.lists r.versions r.catalog run.sources (IsWanted r.catalog r.lines) r.before run.mid place o
           → TroubleAt (r.before (entry_at r.catalog place).place) (run.mid (entry_at r.catalog place).place)
       go Closed closed opening = opening wanted
@@ -189,6 +190,7 @@ module _ (r : CatalogRun) (outcomes : List LineOutcome) (run : IsRun r outcomes)
   refused_why at bytes o refusal list line is fails Cause.counts_differ c g = absurd (not_listed refusal _ list g.holds.3 refl fails)
   refused_why at bytes o refusal list line is fails Cause.k_above_count c g = absurd (not_listed refusal _ list g.holds.1 refl fails)
   refused_why at bytes o refusal list line is fails Cause.no_random c g = absurd (not_listed refusal _ list g.holds.1 refl fails)
+  refused_why at bytes o refusal list line is fails Cause.no_sorted c g = absurd (not_listed refusal _ list g.holds.1 refl fails)
   refused_why at bytes o refusal list line is fails Cause.room_full c g = absurd (not_listed refusal _ list g.holds.3 refl fails)
   refused_why at bytes o refusal list line is fails Cause.not_opened c g = not_opened at bytes o refusal list line few is g fails
     where
@@ -203,6 +205,23 @@ module _ (r : CatalogRun) (outcomes : List LineOutcome) (run : IsRun r outcomes)
       let same : is.refusal ≡ refusal = refused_once (sym is.outcome ∙ e) in
       let refused = subst (λ x. RefusesLine admission_causes (line_over U (at + 1) bytes) x o.query) same is.refused in
       refused_why at bytes o refusal list line refused fails refused.first.cause refl refused.first.gives
+
+  -- a list that states a size is that of the open source that stands at its place
+  pub stood : (place n : ℕ) → (says place).size ≡ Some n → slice_index_or run.sources.places (says place).source 0 ≡ place
+  stood place n sized = by (opening_at run.openings place) refl sized
+    where
+      by : (o : Opening) → opening_at run.openings place ≡ o → (said_of (entry_at r.catalog place) o).size ≡ Some n
+          → slice_index_or run.sources.places (said_of (entry_at r.catalog place) o).source 0 ≡ place
+      by Closed is sized = absurd cc
+      by (Open size source version) is sized =
+          let within : place < length run.openings = elim (cases_lt place (length run.openings)) [
+            | inl inside ↦ inside
+            | inr past ↦ absurd (closed_open (sym (get_or_past run.openings place Closed past) ∙ is))
+          ] in
+          let opening : IsOpening r.lists r.versions r.catalog run.sources (IsWanted r.catalog r.lines) r.before run.mid place (Open size source version) =
+          subst (IsOpening r.lists r.versions r.catalog run.sources (IsWanted r.catalog r.lines) r.before run.mid place) is (run.opened.each place within) in
+          let source_is : IsSource r.lists r.versions r.catalog run.sources place size source version = opening.1 in
+          source_is.stands
 
   -- the list of a query that ran
   pub ran_at : (at : ℕ) (bytes : List ℕ) (q : Inquiry) (ready : ReadyQuery) (list : ℕ) → IsAdmitted (line_over U (at + 1) bytes) ready → IsOf ready q
@@ -220,25 +239,9 @@ module _ (r : CatalogRun) (outcomes : List LineOutcome) (run : IsRun r outcomes)
       let states : (slice_index_or admitted.lists list nothing).size ≡ Some ready.count = admitted_states (line_over U (at + 1) bytes) ready admitted list (omega (arith, inside, lists_long)) in
       let sized : (says place).size ≡ Some ready.count =
       subst (λ (l : Listed). l.size ≡ Some ready.count) (ap (λ (ls : List Listed). slice_index_or ls list nothing) places.said ∙ said_there says places.places list inside) states in
-      let stands : slice_index_or run.sources.places (says place).source 0 ≡ place = stood place sized in
+      let stands : slice_index_or run.sources.places (says place).source 0 ≡ place = stood place ready.count sized in
       ap (option_map (λ entry. (entry_at r.catalog entry).place)) (place_there r.catalog names places.places list places.known l)
       ∙ ap (λ p. Some (entry_at r.catalog p).place) (sym (ap (λ source. slice_index_or run.sources.places source 0) source_is ∙ stands))
-    where
-      stood : (place : ℕ) → (says place).size ≡ Some ready.count → slice_index_or run.sources.places (says place).source 0 ≡ place
-      stood place sized = by (opening_at run.openings place) refl sized
-        where
-          by : (o : Opening) → opening_at run.openings place ≡ o → (said_of (entry_at r.catalog place).random o).size ≡ Some ready.count
-              → slice_index_or run.sources.places (said_of (entry_at r.catalog place).random o).source 0 ≡ place
-          by Closed is sized = absurd cc
-          by (Open size source version) is sized =
-              let within : place < length run.openings = elim (cases_lt place (length run.openings)) [
-                | inl inside ↦ inside
-                | inr past ↦ absurd (closed_open (sym (get_or_past run.openings place Closed past) ∙ is))
-              ] in
-              let opening : IsOpening r.lists r.versions r.catalog run.sources (IsWanted r.catalog r.lines) r.before run.mid place (Open size source version) =
-              subst (IsOpening r.lists r.versions r.catalog run.sources (IsWanted r.catalog r.lines) r.before run.mid place) is (run.opened.each place within) in
-              let source_is : IsSource r.lists r.versions r.catalog run.sources place size source version = opening.1 in
-              source_is.stands
 
   pub ran_list : (q : Inquiry) (ready : ReadyQuery) (list : ℕ) (f : LookFault) → IsServed run.ran.ran.states q → IsOf ready q
       → q.refusal ≡ Some (refusal.Look list f) → list < length ready.query.names

@@ -91,6 +91,7 @@ early catalog says what is place query x Cause.too_large refused g = unnamed cat
 early catalog says what is place query x Cause.counts_differ refused g = unnamed catalog says place query refused (ap failed_list g.holds.3)
 early catalog says what is place query x Cause.k_above_count refused g = unnamed catalog says place query refused (ap failed_list g.holds.1)
 early catalog says what is place query x Cause.no_random refused g = unnamed catalog says place query refused (ap failed_list g.holds.1)
+early catalog says what is place query x Cause.no_sorted refused g = unnamed catalog says place query refused (ap failed_list g.holds.1)
 early catalog says what is place query x Cause.room_full refused g = unnamed catalog says place query refused (ap failed_list g.holds.3)
 early catalog says what is place query x Cause.not_opened refused g =
     let l = g.holds.0 in

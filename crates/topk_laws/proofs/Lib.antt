@@ -5,7 +5,10 @@ pub mod Becoming
 pub mod Failures
 pub mod FewLines
 pub mod Given
+pub mod Unread
 pub mod ReadGiven
+pub mod InOrder
+pub mod Good
 pub mod Right
 pub mod OneOver
 -- Lemmas on what calls write.

@@ -1,5 +1,5 @@
 -- A line becomes one text over lists whose rows are told.
-use Rattle.std.proofs.Common.{◌≡◌, ℕ, ◌+◌, ◌<◌, List, [], ◌∷◌, ◌++◌, map, length, All, Option, Some, None, IfSome, is_none, Ok, inl, inr, refl, sym, ap, ◌∙◌, subst, arith}
+use Rattle.std.proofs.Common.{◌≡◌, ℕ, ◌<◌, List, [], ◌∷◌, ◌++◌, map, length, All, Option, Some, None, option_map, IfSome, is_none, Ok, inl, inr, refl, sym, ap, ◌∙◌, subst, arith}
 use Rattle.std.specs.Prelude.{◌⊎◌}
 use Rattle.std.specs.List.{flat_map, position}
 use Rattle.std.specs.Fmt.{decimal}
@@ -9,8 +9,10 @@ use Rattle.line_text.specs.Lines.{unlines}
 use Rattle.ranked_list.specs.declared.row.Row.{Row}
 use Rattle.ranked_list.specs.declared.item.Item.{Item}
 use Rattle.monotone_fn.specs.Shape.{list_count}
+use Rattle.monotone_fn.specs.Value.{value}
 use Rattle.topk_theory.specs.declared.access.Access.{Access}
 use Rattle.topk_theory.specs.Transcript.{depth, sorted_count, random_count, cost}
+use Rattle.topk_theory.specs.Threshold.{item_objects}
 use Rattle.topk_theory.proofs.Agreement.{contains_middle}
 use Rattle.topk_theory.proofs.AgreementLists.{member_of_all}
 use Rattle.machine_base.specs.declared.answer.Answer.{Answer}
@@ -20,16 +22,17 @@ use Rattle.query_text.specs.declared.fault.QueryFault.TheVariants.{Memory}
 use Rattle.query_text.specs.Costs.{costs_in_force}
 use Rattle.query_text.specs.Query.{name_of}
 use Rattle.query_text.specs.Reading.{Reads}
+use Rattle.guarantee.specs.Guarantee.{guarantee_of, guarantee_by}
 use Rattle.cert_text.specs.declared.outcome.Outcome.{Outcome}
 use Rattle.cert_text.specs.declared.outcome.Outcome.TheVariants.{Answered, Refused}
 use Rattle.cert_text.specs.declared.refusal.Refusal.{Refusal}
-use Rattle.cert_text.specs.declared.refusal.Refusal.TheVariants.{UnknownList, NotOpened, TooLarge, CountsDiffer, KAboveCount, NoRandom, RoomFull}
+use Rattle.cert_text.specs.declared.refusal.Refusal.TheVariants.{UnknownList, NotOpened, TooLarge, CountsDiffer, KAboveCount, NoRandom, NoSorted, RoomFull}
 use Rattle.cert_text.specs.declared.certificate.Certificate.{Certificate}
 use Rattle.cert_text.specs.Certificate.{certificate_lines}
 use Rattle.cert_text.specs.Refusal.{Field, refusal_row, field_word, lists_in, refused_lists}
 use Rattle.cert_text.specs.Outcome.{names_of, refused_words, refused_line, outcome_text}
-use Rattle.query_core.specs.OneAnswer.{IsOneAnswer, one_run, one_items}
-use Rattle.query_admission.specs.View.{AreListed, AreTold, differs, versions_at, size_stated, count_of}
+use Rattle.query_core.specs.OneAnswer.{IsOneAnswerWith, one_run_with, one_items_with}
+use Rattle.query_admission.specs.View.{AreListed, AreTold, differs, versions_at, method_over, size_stated, count_of}
 use Rattle.query_admission.specs.Causes.{QueryLine, Cause, line_causes, text_refusal, Over, ListsGive, RefusesFor, NoneOf, IsFirstOf}
 use Rattle.query_admission.specs.Admission.{RefusesLine}
 use Rattle.query_admission.specs.Becomes.{AnswersLine, Becomes}
@@ -60,6 +63,7 @@ lists_give_once q lists Cause.counts_differ r s (n, l, m, is, count, at, size) (
 lists_give_once q lists Cause.k_above_count r s (n, is, count, above) (m, same, other, more) =
     is ∙ ap (λ c. KAboveCount q.k c) (same_Some n m (sym count ∙ other)) ∙ sym same
 lists_give_once q lists Cause.no_random r s (l, is, asks, at) (m, same, wants, place) = is ∙ ap (λ n. NoRandom n) (same_Some l m (sym at ∙ place)) ∙ sym same
+lists_give_once q lists Cause.no_sorted r s (l, is, at) (m, same, place) = is ∙ ap (λ n. NoSorted n) (same_Some l m (sym at ∙ place)) ∙ sym same
 lists_give_once q lists Cause.many_queries r s h k = absurd h
 lists_give_once q lists Cause.text r s h k = absurd h
 lists_give_once q lists Cause.unknown_list r s h k = absurd h
@@ -88,6 +92,8 @@ gives_once x Cause.k_above_count r s h k =
     lists_give_once h.query h.lists Cause.k_above_count r s h.holds (over_both x _ (λ q lists. ListsGive q lists Cause.k_above_count s) h k)
 gives_once x Cause.no_random r s h k =
     lists_give_once h.query h.lists Cause.no_random r s h.holds (over_both x _ (λ q lists. ListsGive q lists Cause.no_random s) h k)
+gives_once x Cause.no_sorted r s h k =
+    lists_give_once h.query h.lists Cause.no_sorted r s h.holds (over_both x _ (λ q lists. ListsGive q lists Cause.no_sorted s) h k)
 gives_once x Cause.room_full r s h k =
     let same : k.query ≡ h.query = read_once x.bytes k.query h.query k.reads h.reads in
     let one = h.holds in
@@ -153,6 +159,7 @@ certified line query count versions items lists accesses = record {
   count = count;
   versions = versions;
   items = items;
+  guarantee = option_map guarantee_of (guarantee_by query.algorithm (value query.expr) lists accesses (item_objects items));
   depth = depth lists accesses;
   sorted = sorted_count accesses;
   random = random_count accesses;
@@ -179,10 +186,11 @@ answered_once x number p q c d v w a b has one two =
     let count : c ≡ d = same_Some c d (sym one.counted ∙ ap count_of (lists_once one.lists two.lists listed) ∙ two.counted) in
     let versions : v ≡ w = sym one.opened ∙ ap versions_at (lists_once one.lists two.lists listed) ∙ two.opened in
     let told = has.rows p one.lists one.unrefused one.reads one.listed in
-    let here : IsOneAnswer p told.0 a = one.right.every told.0 (one.agrees told.0 told.1) in
-    let there : IsOneAnswer q told.0 b = two.right.every told.0 (two.agrees told.0 (subst (λ z. AreTold x.view z told.0) query told.1)) in
-    let items : a.items ≡ b.items = here.items ∙ ap (λ z. one_items z told.0) query ∙ sym there.items in
-    let accesses : a.transcript.accesses ≡ b.transcript.accesses = here.run ∙ ap (λ z. one_run z told.0) query ∙ sym there.run in
+    let places : one.lists ≡ two.lists = lists_once one.lists two.lists listed in
+    let here : IsOneAnswerWith (method_over p one.lists) p told.0 a = one.right.every told.0 (one.agrees told.0 told.1) in
+    let there : IsOneAnswerWith (method_over q two.lists) q told.0 b = two.right.every told.0 (two.agrees told.0 (subst (λ z. AreTold x.view z told.0) query told.1)) in
+    let items : a.items ≡ b.items = here.items ∙ (λ i. one_items_with (method_over (query i) (places i)) (query i) told.0) ∙ sym there.items in
+    let accesses : a.transcript.accesses ≡ b.transcript.accesses = here.run ∙ (λ i. one_run_with (method_over (query i) (places i)) (query i) told.0) ∙ sym there.run in
     let lists : a.transcript.lists ≡ b.transcript.lists = one.right.lists ∙ ap (λ (z : Query). list_count z.expr) query ∙ sym two.right.lists in
     answered_text number p c v a
     ∙ (λ i. unlines (certificate_lines (certified number (query i) (count i) (versions i) (items i) (lists i) (accesses i)))) ∙ sym (answered_text number q d w b)

@@ -1,5 +1,6 @@
 -- Lines spell one certificate at most.
-use Rattle.std.proofs.Common.{◌≡◌, ℕ, List, [], ◌∷◌, ◌++◌, length, map, All, codes, Some, Ok, refl, sym, ap, subst, ◌∙◌}
+use Rattle.std.proofs.Common.{◌≡◌, ℕ, List, [], ◌∷◌, ◌++◌, Bool, length, map, codes, Option, Some, None, Ok, refl, sym, ap, subst, ◌∙◌}
+use Rattle.std.proofs.lemmas.Bool.{true≢false}
 use Rattle.std.proofs.lemmas.Option.{same_Some}
 use Rattle.std.proofs.lemmas.List.Elements.{All-head, All-tail}
 use Rattle.line_text.specs.Cuts.{rest_after}
@@ -9,14 +10,17 @@ use Rattle.query_text.specs.declared.query.Query.{Query}
 use Rattle.query_text.specs.Query.{printed}
 use Rattle.query_text.specs.Reading.{Reads}
 use Rattle.query_text.proofs.BackLaws.{printed_same}
+use Rattle.guarantee.specs.declared.factor.Guarantee.{Guarantee}
+use Rattle.guarantee.specs.Guarantee.{factor_of, has_guarantee}
 use Rattle.cert_text.specs.declared.certificate.Certificate.{Certificate}
-use Rattle.cert_text.specs.Certificate.{number_line, query_line, count_line, version_lines, answer_line, stop_line, access_line, access_lines, IsItem, IsAccess}
-use Rattle.cert_text.specs.Judging.{AreNames, Found, FindsQuery, SpellsAccesses, SpellsFound, SpellsVersioned, SpellsCounted, SpellsQueried}
+use Rattle.cert_text.specs.Certificate.{number_line, query_line, count_line, version_lines, answer_line, guarantee_line, guarantee_lines, guaranteed, stop_line, access_line, access_lines, IsItem, IsAccess}
+use Rattle.cert_text.specs.Parts.{item_in, guarantee_in}
+use Rattle.cert_text.specs.Judging.{AreNames, Found, FindsQuery, SpellsAccesses, SpellsStopped, SpellsEnding, SpellsFound, SpellsVersioned, SpellsCounted, SpellsQueried}
 use Rattle.cert_text.specs.Reading.{Spells}
-use Rattle.cert_text.proofs.LineLaws.{number_in-line, count_in-line, item_in-line, figures_in-line, access_in-line}
+use Rattle.cert_text.proofs.LineLaws.{number_in-line, count_in-line, item_in-line, item_in-guarantee, item_in-stop, guarantee_in-line, figures_in-line, access_in-line}
 use Rattle.cert_text.proofs.QueryLaws.{names_of_lawful}
 use Rattle.cert_text.proofs.VersionLaws.{all_left, versions_one}
-use Rattle.cert_text.proofs.SpellLaws.{steps_end, steps_access, steps_item, steps_stop, steps_count, steps_query, steps_number, whole}
+use Rattle.cert_text.proofs.SpellLaws.{same_line, same_rest, steps_end, steps_access, steps_stop, steps_count, steps_query, steps_number, whole}
 
 accesses_one : (names : List (List ℕ)) (ls : List (List ℕ)) (xs ys : List Access) → AreNames names → SpellsAccesses names ls xs → SpellsAccesses names ls ys
     → ys ≡ xs
@@ -29,44 +33,92 @@ accesses_one names ls (a ∷ xs) ys are one other =
     let back = steps.drops (access_lines names xs) ys (subst (λ l. SpellsAccesses names l ys) one.1 other) in
     back.2 ∙ ap (λ more. a ∷ more) (accesses_one names (access_lines names xs) xs back.0 are (All-tail (IsAccess (length names)) a xs one.0, refl) back.1)
 
--- the lines of an answer with these objects in place of its own
-abbrev found_lines : List (List ℕ) → Found → List Item → List (List ℕ)
-found_lines names x items = map answer_line items ++ stop_line x.figures.depth x.figures.sorted x.figures.random x.figures.cost ∷ access_lines names x.accesses
+-- an answer without its objects, and with this guarantee; with these accesses; with these objects
+abbrev guaranteeing : Found → Option Guarantee → Found
+guaranteeing x guarantee = record x { items = []; guarantee = guarantee }
+
+abbrev with_accesses : Found → List Access → Found
+with_accesses x accesses = record x { items = []; guarantee = None; accesses = accesses }
 
 abbrev with_items : Found → List Item → Found
 with_items x items = record x { items = items }
 
-found_one_by : (names : List (List ℕ)) (ls : List (List ℕ)) (items : List Item) (x y : Found) → x.items ≡ items → AreNames names → SpellsFound names ls x
-    → SpellsFound names ls y → y ≡ x
-found_one_by names ls [] x y is are one other =
-    let steps = steps_stop names (stop_line x.figures.depth x.figures.sorted x.figures.random x.figures.cost) x.figures (figures_in-line x.figures one.figures) in
-    let back = steps.drops (access_lines names x.accesses) y (subst (λ l. SpellsFound names l y) (one.spelled ∙ ap (found_lines names x) is) other) in
-    let with_accesses : List Access → Found = λ more. record x { items = []; accesses = more } in
-    back.2 ∙ ap with_accesses (accesses_one names (access_lines names x.accesses) x.accesses back.0 are (one.accesses, refl) back.1)
-    ∙ ap (with_items x) (sym is)
-found_one_by names ls (item ∷ items) x y is are one other =
-    let each : All IsItem (item ∷ items) = subst (All IsItem) is one.items in
-    let steps = steps_item names (answer_line item) item (item_in-line item (All-head IsItem item items each)) in
-    let back = steps.drops (found_lines names x items) y (subst (λ l. SpellsFound names l y) (one.spelled ∙ ap (found_lines names x) is) other) in
-    let with_item : Found → Found = λ f. record f { items = item ∷ f.items } in
-    back.2 ∙ ap with_item (found_one_by names (found_lines names x items) items (with_items x items) back.0 refl are
-    (record { items = All-tail IsItem item items each; figures = one.figures; accesses = one.accesses; spelled = refl }) back.1)
-    ∙ ap (with_items x) (sym is)
+-- the figures and the accesses are one
+stopped_one : (names ls : List (List ℕ)) (x y : Found) → AreNames names → SpellsStopped names ls (x.figures, x.accesses)
+    → SpellsStopped names ls (y.figures, y.accesses) → guaranteeing y None ≡ guaranteeing x None
+stopped_one names ls x y are one other =
+    let f = x.figures in
+    let steps = steps_stop names (stop_line f.depth f.sorted f.random f.cost) f (figures_in-line f one.figures) in
+    let back = steps.drops (access_lines names x.accesses) (y.figures, y.accesses) (subst (λ l. SpellsStopped names l (y.figures, y.accesses)) one.spelled other) in
+    let both = back.2 in
+    (λ i. record { items = []; guarantee = None; figures = (both i).0; accesses = (both i).1 })
+    ∙ ap (with_accesses x) (accesses_one names (access_lines names x.accesses) x.accesses back.0 are (one.accesses, refl) back.1)
 
-found_one : (names : List (List ℕ)) (ls : List (List ℕ)) (x y : Found) → AreNames names → SpellsFound names ls x → SpellsFound names ls y → y ≡ x
-found_one names ls x y are one other = found_one_by names ls x.items x y refl are one other
+-- and what is guaranteed before them
+ending_one : (wanted : Bool) (names ls : List (List ℕ)) (its others : Option Guarantee) (x y : Found) → AreNames names
+    → SpellsEnding wanted names ls (its, x.figures, x.accesses) → SpellsEnding wanted names ls (others, y.figures, y.accesses)
+    → guaranteeing y others ≡ guaranteeing x its
+ending_one wanted names ls None None x y are one other =
+    stopped_one names one.rest x y are one.stopped (subst (λ l. SpellsStopped names l (y.figures, y.accesses)) (sym other.first ∙ one.first) other.stopped)
+ending_one wanted names ls None (Some h) x y are one other = absurd (true≢false (other.there ∙ sym one.there))
+ending_one wanted names ls (Some g) None x y are one other = absurd (true≢false (one.there ∙ sym other.there))
+ending_one wanted names ls (Some g) (Some h) x y are one other =
+    let lines = sym other.first ∙ one.first in
+    let line : guarantee_line (factor_of h) ≡ guarantee_line (factor_of g) = same_line _ _ _ _ lines in
+    let rest : other.rest ≡ one.rest = same_rest _ _ _ _ lines in
+    let guarantee : h ≡ g = same_Some h g (sym (guarantee_in-line h other.small) ∙ ap guarantee_in line ∙ guarantee_in-line g one.small) in
+    let same = stopped_one names one.rest x y are one.stopped (subst (λ l. SpellsStopped names l (y.figures, y.accesses)) rest other.stopped) in
+    λ i. guaranteeing (same i) (Some (guarantee i))
 
-versioned_one : (names : List (List ℕ)) (ls : List (List ℕ)) (x y : List ℕ × Found) → AreNames names → SpellsVersioned names names ls x
-    → SpellsVersioned names names ls y → y ≡ x
-versioned_one names ls x y are one other =
-    versions_one names names ls x.0 x.1 y (all_left names are.each are.different) (λ rest f g this that. found_one names rest f g are this that) one other
+-- it begins with no object of the answer
+no_item : (item : Item) → Some item ≡ None → ⊥
+no_item item e = absurd cc
 
-counted_one : (names : List (List ℕ)) (ls : List (List ℕ)) (x y : ℕ × List ℕ × Found) → AreNames names → SpellsCounted names ls x → SpellsCounted names ls y → y ≡ x
-counted_one names ls x y are one other =
-    let steps = steps_count names (count_line x.0) x.0 (count_in-line x.0 one.low one.high) in
-    let back = steps.drops one.rest y (subst (λ l. SpellsCounted names l y) one.first other) in
+no_object : (wanted : Bool) (names rest ls : List (List ℕ)) (item : Item) (its : Option Guarantee) (x : Found) → IsItem item
+    → rest ≡ answer_line item ∷ ls → SpellsEnding wanted names rest (its, x.figures, x.accesses) → ⊥
+no_object wanted names rest ls item None x fits is ending =
+    let f = x.figures in
+    let line : answer_line item ≡ stop_line f.depth f.sorted f.random f.cost = same_line _ _ _ _ (sym is ∙ ending.first ∙ ending.stopped.spelled) in
+    no_item item (sym (item_in-line item fits) ∙ ap item_in line ∙ item_in-stop f.depth f.sorted f.random f.cost)
+no_object wanted names rest ls item (Some g) x fits is ending =
+    let line : answer_line item ≡ guarantee_line (factor_of g) = same_line _ _ _ _ (sym is ∙ ending.first) in
+    no_item item (sym (item_in-line item fits) ∙ ap item_in line ∙ item_in-guarantee (factor_of g))
+
+-- the objects are one, and what stands behind them
+found_one_by : (wanted : Bool) (names ls : List (List ℕ)) (us vs : List Item) (x y : Found) → AreNames names
+    → SpellsFound wanted names ls (with_items x us) → SpellsFound wanted names ls (with_items y vs) → with_items y vs ≡ with_items x us
+found_one_by wanted names ls [] [] x y are one other =
+    ending_one wanted names one.rest x.guarantee y.guarantee x y are one.ending
+    (subst (λ l. SpellsEnding wanted names l (y.guarantee, y.figures, y.accesses)) (sym other.first ∙ one.first) other.ending)
+found_one_by wanted names ls [] (v ∷ vs) x y are one other =
+    absurd (no_object wanted names one.rest (map answer_line vs ++ other.rest) v x.guarantee x (All-head IsItem v vs other.items) (sym one.first ∙ other.first) one.ending)
+found_one_by wanted names ls (u ∷ us) [] x y are one other =
+    absurd (no_object wanted names other.rest (map answer_line us ++ one.rest) u y.guarantee y (All-head IsItem u us one.items) (sym other.first ∙ one.first) other.ending)
+found_one_by wanted names ls (u ∷ us) (v ∷ vs) x y are one other =
+    let lines = sym other.first ∙ one.first in
+    let line : answer_line v ≡ answer_line u = same_line _ _ _ _ lines in
+    let rest : map answer_line vs ++ other.rest ≡ map answer_line us ++ one.rest = same_rest _ _ _ _ lines in
+    let item : v ≡ u = same_Some v u (sym (item_in-line v (All-head IsItem v vs other.items)) ∙ ap item_in line ∙ item_in-line u (All-head IsItem u us one.items)) in
+    let later = found_one_by wanted names (map answer_line us ++ one.rest) us vs x y are
+    (record { rest = one.rest; first = refl; items = All-tail IsItem u us one.items; ending = one.ending })
+    (record { rest = other.rest; first = sym rest; items = All-tail IsItem v vs other.items; ending = other.ending }) in
+    λ i. with_items (later i) (item i ∷ (later i).items)
+
+found_one : (wanted : Bool) (names ls : List (List ℕ)) (x y : Found) → AreNames names → SpellsFound wanted names ls x → SpellsFound wanted names ls y → y ≡ x
+found_one wanted names ls x y are one other = found_one_by wanted names ls x.items y.items x y are one other
+
+versioned_one : (wanted : Bool) (names : List (List ℕ)) (ls : List (List ℕ)) (x y : List ℕ × Found) → AreNames names → SpellsVersioned wanted names names ls x
+    → SpellsVersioned wanted names names ls y → y ≡ x
+versioned_one wanted names ls x y are one other =
+    versions_one wanted names names ls x.0 x.1 y (all_left names are.each are.different) (λ rest f g this that. found_one wanted names rest f g are this that) one other
+
+counted_one : (wanted : Bool) (names : List (List ℕ)) (ls : List (List ℕ)) (x y : ℕ × List ℕ × Found) → AreNames names → SpellsCounted wanted names ls x
+    → SpellsCounted wanted names ls y → y ≡ x
+counted_one wanted names ls x y are one other =
+    let steps = steps_count wanted names (count_line x.0) x.0 (count_in-line x.0 one.low one.high) in
+    let back = steps.drops one.rest y (subst (λ l. SpellsCounted wanted names l y) one.first other) in
     let with_count : List ℕ × Found → ℕ × List ℕ × Found = λ versioned. (x.0, versioned.0, versioned.1) in
-    back.2 ∙ ap with_count (versioned_one names one.rest (x.1, x.2) back.0 are one.versioned back.1)
+    back.2 ∙ ap with_count (versioned_one wanted names one.rest (x.1, x.2) back.0 are one.versioned back.1)
 
 -- the line of a query is that of no other
 query_found : (query : Query) → Reads (printed query) (Ok query) → FindsQuery (query_line query) (Some query)
@@ -87,13 +139,14 @@ queried_one ls x y one other =
     let steps = steps_query (query_line x.0) x.0 (query_found x.0 reads) in
     let back = steps.drops one.rest y (subst (λ l. SpellsQueried l y) one.first other) in
     let with_query : ℕ × List ℕ × Found → Query × ℕ × List ℕ × Found = λ counted. (x.0, counted.0, counted.1, counted.2) in
-    back.2 ∙ ap with_query (counted_one x.0.names one.rest (x.1, x.2, x.3) back.0 (names_of_lawful x.0 own.lawful) one.counted back.1)
+    back.2 ∙ ap with_query (counted_one (has_guarantee x.0.algorithm) x.0.names one.rest (x.1, x.2, x.3) back.0 (names_of_lawful x.0 own.lawful) one.counted back.1)
 
 -- the certificate that lines spell is the only one
 pub spells_one : (ls : List (List ℕ)) (c d : Certificate) → Spells ls c → Spells ls d → d ≡ c
 spells_one ls c d one other =
     let fits = one.certificate in
-    let answer : List (List ℕ) = map answer_line c.items ++ stop_line c.depth c.sorted c.random c.cost ∷ access_lines c.query.names c.accesses in
+    let answer : List (List ℕ) = map answer_line c.items
+    ++ (guarantee_lines (guaranteed c) ++ stop_line c.depth c.sorted c.random c.cost ∷ access_lines c.query.names c.accesses) in
     let rest : List (List ℕ) = query_line c.query ∷ count_line c.count ∷ (version_lines c.query.names c.versions ++ answer) in
     let steps = steps_number (number_line c.line) c.line (number_in-line c.line fits.line_from fits.line_to) in
     let mine = steps.drops rest c (subst (λ l. Spells l c) one.spelled one) in

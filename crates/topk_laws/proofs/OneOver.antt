@@ -17,7 +17,8 @@ use Rattle.cert_text.specs.declared.outcome.Outcome.TheVariants.{Answered}
 use Rattle.source_state.specs.State.{state_at}
 use Rattle.query_core.specs.declared.ready.Ready.{Ready as ReadyQuery}
 use Rattle.query_core.specs.Machines.{state_of}
-use Rattle.query_core.specs.OneAnswer.{IsOneAnswer}
+use Rattle.query_core.specs.Ready.{method_of_ready}
+use Rattle.query_core.specs.OneAnswer.{IsOneAnswerWith}
 use Rattle.query_core.proofs.Answering.{agrees_same}
 use Rattle.query_admission.specs.View.{View, AreTold}
 use Rattle.query_admission.specs.Admission.{IsAdmitted}
@@ -41,7 +42,8 @@ use Rattle.catalog_open.specs.Entries.{entry_at, opening_at, entry_told}
 use Rattle.catalog_open.specs.Wanted.{IsWanted}
 use Rattle.catalog_open.specs.Openings.{IsOpening, IsSource, IsToldAs}
 use Rattle.query_admission.specs.declared.line_outcome.LineOutcome.{LineOutcome}
-use Rattle.topk_laws.specs.Answers.{IsOneOverTold}
+use Rattle.topk_laws.specs.Answers.{method_in, IsOneOverTold}
+use Rattle.topk_laws.proofs.InOrder.{ready_method}
 use Rattle.catalog_run.specs.Outcomes.{ended_outcome, look_refusal}
 use Rattle.catalog_run.specs.Runs.{CatalogRun, IsRun, IsLineRefused, IsLineRun, AreOutcomes}
 use Rattle.catalog_run.specs.OpenSources.{batch_over}
@@ -90,8 +92,8 @@ module _ (r : CatalogRun) (outcomes : List LineOutcome) (run : IsRun r outcomes)
       → slice_index_or run.sources.told (said place).source None ≡ Some rows
   tells_rows place n rows told sized = by (opening_at run.openings place) refl sized
     where
-      by : (o : Opening) → opening_at run.openings place ≡ o → (said_of (entry_at r.catalog place).random o).size ≡ Some n
-          → slice_index_or run.sources.told (said_of (entry_at r.catalog place).random o).source None ≡ Some rows
+      by : (o : Opening) → opening_at run.openings place ≡ o → (said_of (entry_at r.catalog place) o).size ≡ Some n
+          → slice_index_or run.sources.told (said_of (entry_at r.catalog place) o).source None ≡ Some rows
       by Closed is sized = absurd cc
       by (Open size source version) is sized =
           let within : place < length run.openings = elim (cases_lt place (length run.openings)) [
@@ -128,10 +130,10 @@ module _ (r : CatalogRun) (outcomes : List LineOutcome) (run : IsRun r outcomes)
 
   -- an answer of a query whose lists agree with its transcript
   ended_one : (q : Inquiry) (ready : ReadyQuery) (e : Ended) (D : List (List Row)) (answer : Answer) → EndsAs q e → IsRight ready e
-      → ended_outcome e ≡ Some (Answered answer) → AgreesWith D (state_of q.machine).log → IsOneAnswer ready.query D answer
+      → ended_outcome e ≡ Some (Answered answer) → AgreesWith D (state_of q.machine).log → IsOneAnswerWith (method_of_ready ready) ready.query D answer
   ended_one q ready (ended.Answered other) D answer ends right is agrees =
       let log = ends.log in
-      subst (IsOneAnswer ready.query D) (same_answer (same_Some (Answered other) (Answered answer) is))
+      subst (IsOneAnswerWith (method_of_ready ready) ready.query D) (same_answer (same_Some (Answered other) (Answered answer) is))
       (right.every D (agrees_same D (state_of q.machine).log other.transcript (record { lists = sym log.lists; count = sym log.count; accesses = sym log.accesses }) agrees))
   ended_one q ready (ended.Core fault) D answer ends right is agrees = absurd (refused_answered _ answer (same_Some _ (Answered answer) is))
   ended_one q ready (ended.Look list fault) D answer ends right is agrees = absurd (never_answered (look_refusal list fault) answer is)
@@ -173,7 +175,9 @@ module _ (r : CatalogRun) (outcomes : List LineOutcome) (run : IsRun r outcomes)
       let same : ready.query ≡ query = same_Some ready.query query (sym line.outcome.query ∙ query_is) in
       let agrees = lists_agree number bytes q ready D line.admitted line.of c (subst (λ x. AreTold (view_told r.catalog r.lists r.versions) x D) (sym same) told)
       (subst (λ n. IsTable n D) line.outcome.count table) in
-      subst (λ x. IsOneAnswer x D answer) same (ended_one q ready line.ended D answer line.ends line.right (line.outcome.outcome ∙ ap Some is) agrees)
+      let one = subst (λ method. IsOneAnswerWith method ready.query D answer) (ready_method r.catalog run.openings number bytes ready line.admitted)
+      (ended_one q ready line.ended D answer line.ends line.right (line.outcome.outcome ∙ ap Some is) agrees) in
+      subst (λ x. IsOneAnswerWith (method_in r.catalog x) x D answer) same one
 
   line_refused : (number : ℕ) (bytes : List ℕ) (o : LineOutcome) → IsLineRefused Y number bytes o → IsOneOverTold r o
   line_refused number bytes o line = λ query answer D query_is is told table. absurd (refused_answered line.refusal answer (sym line.outcome ∙ is))

@@ -2,6 +2,7 @@
 use Rattle.std.proofs.Common.{◌≡◌, ℕ, ◌+◌, ◌<◌, ◌≤◌, List, [], ◌∷◌, ◌++◌, length, take, drop, Err, inl, inr, refl, sym, ap, ◌∙◌, subst, arith, append_assoc, length-append}
 use Rattle.std.specs.Prelude.{◌⊎◌}
 use Rattle.std.specs.Str.{bytes_eq}
+use Rattle.std.specs.Str.Parse.{digits_value}
 use Rattle.std.proofs.lemmas.Bool.{cases_lt}
 use Rattle.std.proofs.lemmas.List.{take-append-drop, take-take}
 use Rattle.std.proofs.lemmas.Option.{same_Some}
@@ -9,14 +10,15 @@ use Rattle.monotone_fn.specs.Tree.{Tree}
 use Rattle.monotone_fn.specs.Limits.{Makes}
 use Rattle.monotone_fn.specs.declared.fault.ExprFault.TheVariants as trees
 use Rattle.query_text.specs.Pieces.{Piece, IsInRange, AreInRange, AreFine, names_in, each_once, lists_in, text_of, IsNumberFault, IsNameFault}
-use Rattle.query_text.specs.Shape.{SyntaxTree, IsShape, IsText, BeginsQuery, IsSyntaxFault, pieces_of, spelled}
-use Rattle.query_text.specs.Query.{printed, shape_of}
+use Rattle.query_text.specs.Shape.{SyntaxTree, Named, IsShape, IsText, BeginsQuery, IsSyntaxFault, pieces_of, spelled}
+use Rattle.query_text.specs.Query.{printed, shape_of, IsLawful}
 use Rattle.query_text.specs.Reading.{Reads, Spells}
 use Rattle.query_text.specs.declared.query.Query.{Query}
 use Rattle.query_text.specs.declared.fault.QueryFault.{QueryFault}
 use Rattle.query_text.specs.declared.fault.QueryFault.TheVariants as faults
 use Rattle.query_text.proofs.ListLaws.{names_in-append, once-append, once-extends}
 use Rattle.query_text.proofs.CompleteLaws.{one_shape}
+use Rattle.query_text.proofs.RatedLaws.{never_below}
 use Rattle.query_text.proofs.BackLaws.{printed_same, lawful_shape, no_number_fault, no_name_fault}
 use Rattle.limits.specs.declared.TheConstants.{MAX_LINE}
 
@@ -118,13 +120,49 @@ name_breaks pieces at f = record {
   broken = λ fine. let more = f.more in let few = fine.few in absurd (omega (arith, more, few));
 }
 
--- the pieces of a line have a fault
+fine_unbroken : (pieces before : List Piece) (p : Piece) → Breaks pieces before p → AreFine pieces → ⊥
+fine_unbroken pieces before p breaks fine =
+    breaks.broken (fine_front (before ++ p ∷ []) breaks.after (subst AreFine (breaks.parts ∙ sym (append_assoc before (p ∷ []) breaks.after)) fine))
+
+-- the pieces are fine, but the factor of the algorithm is below 1
+record IsUnfair (shape : SyntaxTree) (fault : QueryFault) : Type 0 where
+  p : ℕ
+  q : ℕ
+  over : List ℕ
+  under : List ℕ
+  fine : AreFine (pieces_of shape)
+  factor : shape.algorithm ≡ Named.factor over under
+  is_over : digits_value 10 over ≡ p
+  is_under : digits_value 10 under ≡ q
+  less : p < q
+  is : fault ≡ faults.BadTheta p q
+
+unfair_once : (shape other : SyntaxTree) (f g : QueryFault) → other ≡ shape → IsUnfair shape f → IsUnfair other g → f ≡ g
+unfair_once shape other f g same one two =
+    let both : Named.factor one.over one.under ≡ Named.factor two.over two.under = sym one.factor ∙ ap (λ (s : SyntaxTree). s.algorithm) (sym same) ∙ two.factor in
+    let over : one.over ≡ two.over = cc in
+    let under : one.under ≡ two.under = cc in
+    let p : one.p ≡ two.p = sym one.is_over ∙ ap (digits_value 10) over ∙ two.is_over in
+    let q : one.q ≡ two.q = sym one.is_under ∙ ap (digits_value 10) under ∙ two.is_under in
+    one.is ∙ (λ i. faults.BadTheta (p i) (q i)) ∙ sym two.is
+
+never_unfair : (shape : SyntaxTree) (fault : QueryFault) (query : Query) → shape ≡ shape_of query → IsLawful query → IsUnfair shape fault → ⊥
+never_unfair shape fault query same lawful unfair =
+    never_below query.algorithm unfair.over unfair.under unfair.p unfair.q lawful.algorithm (ap (λ (s : SyntaxTree). s.algorithm) (sym same) ∙ unfair.factor)
+    unfair.is_over unfair.is_under unfair.less
+
+abbrev WhyBroken : SyntaxTree → QueryFault → Type 0
+WhyBroken shape fault =
+    ((at : ℕ) × IsNumberFault (pieces_of shape) at × (fault ≡ faults.Number at))
+    ⊎ (((at : ℕ) × IsNameFault (pieces_of shape) at × (fault ≡ faults.TooManyLists at)) ⊎ IsUnfair shape fault)
+
+-- the pieces of a line have a fault, or its factor
 record IsBroken (line : List ℕ) (fault : QueryFault) : Type 0 where
   short : length line ≤ MAX_LINE
   shape : SyntaxTree
   sound : IsShape shape
   text : spelled shape ≡ line
-  why : ((at : ℕ) × IsNumberFault (pieces_of shape) at × (fault ≡ faults.Number at)) ⊎ ((at : ℕ) × IsNameFault (pieces_of shape) at × (fault ≡ faults.TooManyLists at))
+  why : WhyBroken shape fault
 
 -- a tree has too many nodes, is too deep, or its value may be too big
 abbrev TreeFault : Tree → QueryFault → Type 0
@@ -175,7 +213,25 @@ faulty line (faults.TooManyLists at) reads = inr (inr (inr (inl (record {
   shape = reads.shape;
   sound = reads.sound;
   text = reads.text;
-  why = inr (at, reads.fault, refl);
+  why = inr (inl (at, reads.fault, refl));
+}))))
+faulty line (faults.BadTheta p q) reads = inr (inr (inr (inl (record {
+  short = reads.short;
+  shape = reads.shape;
+  sound = reads.sound;
+  text = reads.text;
+  why = inr (inr (record {
+    p = p;
+    q = q;
+    over = reads.over;
+    under = reads.under;
+    fine = reads.fine;
+    factor = reads.factor;
+    is_over = reads.is_over;
+    is_under = reads.is_under;
+    less = reads.less;
+    is = refl;
+  }));
 }))))
 faulty line (faults.TooManyNodes nodes) reads = inr (inr (inr (inr (record { query = reads.query; spells = reads.spells; refused = inl (nodes, reads.refused, refl) }))))
 faulty line (faults.TooDeep depth) reads = inr (inr (inr (inr (record { query = reads.query; spells = reads.spells; refused = inr (inl (depth, reads.refused, refl)) }))))
@@ -203,25 +259,28 @@ pieces_once line f g one two = go one.why two.why
     same : two.shape ≡ one.shape
     same = one_shape two.shape one.shape two.sound one.sound (two.text ∙ sym one.text)
 
-    go : ((at : ℕ) × IsNumberFault (pieces_of one.shape) at × (f ≡ faults.Number at)) ⊎ ((at : ℕ) × IsNameFault (pieces_of one.shape) at × (f ≡ faults.TooManyLists at))
-        → ((at : ℕ) × IsNumberFault (pieces_of two.shape) at × (g ≡ faults.Number at)) ⊎ ((at : ℕ) × IsNameFault (pieces_of two.shape) at × (g ≡ faults.TooManyLists at))
-        → f ≡ g
+    go : WhyBroken one.shape f → WhyBroken two.shape g → f ≡ g
     go (inl (n, a, is)) (inl (m, b, equal)) =
         let c : IsNumberFault (pieces_of one.shape) m = subst (λ s. IsNumberFault (pieces_of s) m) same b in
         let at : n ≡ m = a.place ∙ ap (λ ps. length (text_of ps)) (breaks_once _ a.before c.before _ _ (number_breaks _ n a) (number_breaks _ m c)).0 ∙ sym c.place in
         is ∙ ap (λ k. faults.Number k) at ∙ sym equal
-    go (inl (n, a, is)) (inr (m, b, equal)) =
+    go (inl (n, a, is)) (inr (inl (m, b, equal))) =
         let c : IsNameFault (pieces_of one.shape) m = subst (λ s. IsNameFault (pieces_of s) m) same b in
         let piece : Piece.number a.least a.most a.digits ≡ Piece.name c.text = (breaks_once _ a.before c.before _ _ (number_breaks _ n a) (name_breaks _ m c)).1 in
         absurd cc
-    go (inr (n, a, is)) (inl (m, b, equal)) =
+    go (inr (inl (n, a, is))) (inl (m, b, equal)) =
         let c : IsNumberFault (pieces_of one.shape) m = subst (λ s. IsNumberFault (pieces_of s) m) same b in
         let piece : Piece.name a.text ≡ Piece.number c.least c.most c.digits = (breaks_once _ a.before c.before _ _ (name_breaks _ n a) (number_breaks _ m c)).1 in
         absurd cc
-    go (inr (n, a, is)) (inr (m, b, equal)) =
+    go (inr (inl (n, a, is))) (inr (inl (m, b, equal))) =
         let c : IsNameFault (pieces_of one.shape) m = subst (λ s. IsNameFault (pieces_of s) m) same b in
         let at : n ≡ m = a.place ∙ ap (λ ps. length (text_of ps)) (breaks_once _ a.before c.before _ _ (name_breaks _ n a) (name_breaks _ m c)).0 ∙ sym c.place in
         is ∙ ap (λ k. faults.TooManyLists k) at ∙ sym equal
+    go (inl (n, a, is)) (inr (inr b)) = absurd (fine_unbroken _ a.before _ (number_breaks _ n a) (subst (λ s. AreFine (pieces_of s)) same b.fine))
+    go (inr (inl (n, a, is))) (inr (inr b)) = absurd (fine_unbroken _ a.before _ (name_breaks _ n a) (subst (λ s. AreFine (pieces_of s)) same b.fine))
+    go (inr (inr a)) (inl (m, b, equal)) = absurd (fine_unbroken _ b.before _ (number_breaks _ m b) (subst (λ s. AreFine (pieces_of s)) (sym same) a.fine))
+    go (inr (inr a)) (inr (inl (m, b, equal))) = absurd (fine_unbroken _ b.before _ (name_breaks _ m b) (subst (λ s. AreFine (pieces_of s)) (sym same) a.fine))
+    go (inr (inr a)) (inr (inr b)) = unfair_once one.shape two.shape f g same a b
 
 not_both : (line : List ℕ) (f g : QueryFault) → IsBroken line f → IsNoTree line g → ⊥
 not_both line f g broken tree = go broken.why
@@ -231,10 +290,10 @@ not_both line f g broken tree = go broken.why
         one_shape broken.shape (shape_of tree.query) broken.sound (lawful_shape tree.query tree.spells.lawful)
         (broken.text ∙ sym (tree_text line tree.query tree.spells))
 
-    go : ((at : ℕ) × IsNumberFault (pieces_of broken.shape) at × (f ≡ faults.Number at))
-        ⊎ ((at : ℕ) × IsNameFault (pieces_of broken.shape) at × (f ≡ faults.TooManyLists at)) → ⊥
+    go : WhyBroken broken.shape f → ⊥
     go (inl (at, fault, is)) = no_number_fault tree.query at tree.spells.lawful (subst (λ s. IsNumberFault (pieces_of s) at) same fault)
-    go (inr (at, fault, is)) = no_name_fault tree.query at tree.spells.lawful (subst (λ s. IsNameFault (pieces_of s) at) same fault)
+    go (inr (inl (at, fault, is))) = no_name_fault tree.query at tree.spells.lawful (subst (λ s. IsNameFault (pieces_of s) at) same fault)
+    go (inr (inr unfair)) = never_unfair broken.shape f tree.query same tree.spells.lawful unfair
 
 trees_once : (line : List ℕ) (f g : QueryFault) → IsNoTree line f → IsNoTree line g → f ≡ g
 trees_once line f g one two =

@@ -12,10 +12,9 @@ use Rattle.source_api.specs.declared.counts.Counts.{Counts}
 use Rattle.source_api.specs.Counting.{no_counts}
 use Rattle.query_core.specs.declared.ready.Ready.{Ready as ReadyQuery}
 use Rattle.query_turns.specs.declared.inquiry.Inquiry.{Inquiry}
-use Rattle.fetcher.specs.Metering.{WentUp}
 use Rattle.fetcher.proofs.ReachLaws.{reach_more, reach_within}
 use Rattle.limits.specs.declared.settings.Settings.{Settings}
-use Rattle.batch_result.specs.Account.{IsAnsweredOf, IsWithin, Reading, deepest, one_readings, printed_readings, random_accesses}
+use Rattle.batch_result.specs.Account.{IsAnsweredOf, IsWithin, Reading, deepest, one_readings, printed_readings}
 use Rattle.batch_result.specs.Batches.{BatchRun, BatchState, IsBatch, size_at, use_at}
 use Rattle.batch_result.specs.Numbered.{counts_at}
 use Rattle.batch_result.specs.Tables.{lists_for}
@@ -30,6 +29,7 @@ use Rattle.topk_laws.specs.Giving.{GaveSparingly, GaveWhatIsRead, LinesHaveTable
 use Rattle.topk_laws.specs.Told.{ShelfTellsTables}
 use Rattle.topk_laws.proofs.ToldLists.{are_told, has_lists, lists_told}
 use Rattle.topk_laws.proofs.Given.{gave_what_is_asked, given_from_none}
+use Rattle.topk_laws.proofs.Unread.{GradesAloneGiveNoRow, gives_no_row}
 
 -- the laws of batches, as these lemmas take them
 abbrev pub OneRunsBound : Type 0
@@ -97,13 +97,14 @@ gave_within r outcomes run readings source within bound =
     gave_read r.settings b.queries source (size_at run.sources.counts source) readings (state_at b.states source) (counts_at run.begun source)
     (counts_at run.now source) (use_at run.ran.batch.uses source) (run.unread source no_counts there) closing.count closing.sound (b.used source sized) (bound sized)
 
-pub gave_sparingly : OneRunsBound → AnswersBound → (r : CatalogRun) (outcomes : List LineOutcome) (run : IsRun r outcomes) (source : ℕ)
+pub gave_sparingly : OneRunsBound → AnswersBound → GradesAloneGiveNoRow → (r : CatalogRun) (outcomes : List LineOutcome) (run : IsRun r outcomes) (source : ℕ)
     → source < length run.sources.places
     → GaveSparingly r outcomes run source (size_at run.sources.counts source) (counts_at run.now source)
-gave_sparingly one_runs answers r outcomes run source within =
+gave_sparingly one_runs answers no_row r outcomes run source within =
     let over : BatchRun = batch_over r.settings run.sources run.begun run.now run.ran.readies in
     record {
       asked = gave_what_is_asked r outcomes run source within;
+      unread = λ none. gives_no_row r outcomes run no_row source within none;
       read = λ lists has.
           gave_within r outcomes run (one_readings lists run.ran.readies) source within
           (λ sized. one_runs over run.ran.batch run.ran.ran lists has.told has.tables source sized);

@@ -1,6 +1,6 @@
 -- The lists that the sources of a run tell, and that they form the tables of the queries.
 use Rattle.std.proofs.Common.{◌≡◌, ℕ, zero, suc, ◌+◌, ◌<◌, ◌≤◌, List, [], ◌∷◌, All, Contains, map, length, Option, None, Some, is_none, option_map, unwrap_or, slice_get, slice_index_or, refl, sym, ap, ◌∙◌, subst, arith}
-use Rattle.std.specs.Prelude.{Ok, Bool, IfSome}
+use Rattle.std.specs.Prelude.{Ok, IfSome}
 use Rattle.std.specs.Option.{option_and_then}
 use Rattle.std.proofs.lemmas.List.Elements.{length_all_zip}
 use Rattle.std.proofs.lemmas.Option.{same_Some}
@@ -154,8 +154,8 @@ rows_at_source (o ∷ os) zero rows e = let is : o ≡ Some rows = e in ap rows_
 rows_at_source (o ∷ os) (suc source) rows e = rows_at_source os source rows e
 
 -- what a list says of itself, without the number of its source
-abbrev said_plain : Bool → Option ℕ → ℕ → Listed
-said_plain random size version = record { size = size; random = random; source = 0; version = version }
+abbrev said_plain : Entry → Option ℕ → ℕ → Listed
+said_plain entry size version = record { size = size; random = entry.random; sorted = entry.sorted; source = 0; version = version }
 
 -- a source that tells the rows of a place and is open, at the version that is told
 pub record IsToldOpen (r : CatalogRun) (openings : List Opening) (s : Sources) (place : ℕ) : Type 0 where
@@ -242,11 +242,11 @@ module _ (r : CatalogRun) (outcomes : List LineOutcome) (run : IsRun r outcomes)
       → plain (listed_at r.catalog run.openings place) ≡ plain (told_listed r.lists r.versions r.catalog place)
   says_same place wanted =
       let o = told_open place wanted in
-      let random = (entry_at r.catalog place).random in
-      let here : plain (listed_at r.catalog run.openings place) ≡ said_plain random (Some (length o.rows)) o.version = ap (λ p. plain (said_of random p)) o.opens in
-      let there : plain (told_listed r.lists r.versions r.catalog place) ≡ said_plain random (Some (length o.rows)) o.version =
-      ap (λ (t : Option (List Row)). said_plain random (option_map length t) (unwrap_or (entry_told r.versions r.catalog place) 0)) o.told
-      ∙ ap (λ (v : Option ℕ). said_plain random (Some (length o.rows)) (unwrap_or v 0)) o.stated in
+      let entry = entry_at r.catalog place in
+      let here : plain (listed_at r.catalog run.openings place) ≡ said_plain entry (Some (length o.rows)) o.version = ap (λ p. plain (said_of entry p)) o.opens in
+      let there : plain (told_listed r.lists r.versions r.catalog place) ≡ said_plain entry (Some (length o.rows)) o.version =
+      ap (λ (t : Option (List Row)). said_plain entry (option_map length t) (unwrap_or (entry_told r.versions r.catalog place) 0)) o.told
+      ∙ ap (λ (v : Option ℕ). said_plain entry (Some (length o.rows)) (unwrap_or v 0)) o.stated in
       here ∙ sym there
 
   -- the lists that the sources tell, by their numbers
@@ -292,7 +292,7 @@ module _ (r : CatalogRun) (outcomes : List LineOutcome) (run : IsRun r outcomes)
       (λ c m. unseen_rows (view_told r.catalog r.lists r.versions) V c m) admitted.unrefused in
       let table = tells.tables at bytes line q D none admitted.reads told in
       let sizes : (place : ℕ) → Contains h.places place → (listed_at r.catalog run.openings place).size ≡ Some (length (rows_at r place)) =
-      λ place c. let o = told_open place (wanted place c) in ap (λ p. (said_of (entry_at r.catalog place).random p).size) o.opens ∙ ap (λ (rows : List Row). Some (length rows)) (sym (ap rows_of o.told)) in
+      λ place c. let o = told_open place (wanted place c) in ap (λ p. (said_of (entry_at r.catalog place) p).size) o.opens ∙ ap (λ (rows : List Row). Some (length rows)) (sym (ap rows_of o.told)) in
       let counted = rows_counted (listed_at r.catalog run.openings) (rows_at r) h.places table.0 ready.count sizes (ap count_of (sym h.said) ∙ admitted.count) table.1.sized in
       record {
         D = D;
@@ -300,7 +300,7 @@ module _ (r : CatalogRun) (outcomes : List LineOutcome) (run : IsRun r outcomes)
         is = map_same (rows_at r) (λ place. list_at lists_told (listed_at r.catalog run.openings place).source) h.places
             (λ place c.
             let o = told_open place (wanted place c) in
-            ap rows_of o.told ∙ sym (rows_at_source run.sources.told o.source o.rows o.tells) ∙ ap (list_at lists_told) (sym (ap (λ p. (said_of (entry_at r.catalog place).random p).source) o.opens)))
+            ap rows_of o.told ∙ sym (rows_at_source run.sources.told o.source o.rows o.tells) ∙ ap (list_at lists_told) (sym (ap (λ p. (said_of (entry_at r.catalog place) p).source) o.opens)))
             ∙ sym (map_twice (λ place. (listed_at r.catalog run.openings place).source) (list_at lists_told) h.places)
             ∙ ap (map (list_at lists_told)) (sym (map_twice (listed_at r.catalog run.openings) (λ (l : Listed). l.source) h.places) ∙ ap (map (λ (l : Listed). l.source)) (sym h.said) ∙ admitted.sources);
         table = subst (λ n. IsTable n D) counted table.1;

@@ -9,6 +9,7 @@ use Rattle.source_api.specs.Places.{CountsTexts}
 use Rattle.line_text.specs.Lines.{lines}
 use Rattle.csv_records.specs.Records.{records_of}
 use Rattle.catalog_text.specs.Catalog.{Listed as Entry, IsCatalog}
+use Rattle.catalog_text.proofs.OneCatalog.{one_catalog}
 use Rattle.catalog_open.specs.Openings.{TroubleAt}
 use Rattle.catalog_open.specs.Entries.{entry_at}
 use Rattle.command_words.specs.declared.running.RunOptions.{RunOptions}
@@ -21,11 +22,10 @@ use Rattle.call_ends.specs.Shelves.{Shelf, AsksText, GivesText}
 use Rattle.catalog_calls.specs.Running.{lines_run}
 use Rattle.catalog_calls.specs.RunEnds.{EndsRunning, LinesReplied, from_shelf}
 use Rattle.topk_laws.specs.RunLaws.{TellsAll, ComeTo, WritesTheOne, ToldRunsWriteTheOne, TellTheSame, WroteTheSame, SettingsChangeNothing}
-use Rattle.topk_top.specs.Ends.{CommandEnds}
 use Rattle.call_ends.specs.declared.status.Status.{Status}
 use Rattle.call_ends.specs.declared.status.Status.TheVariants.{Done, Partial, BadWords, BadCatalog, ReadFault, WriteFault, OpenFault, PortFault, Memory, LongInput, BadInput}
 use Rattle.topk_laws.proofs.OneText.{come_to_one}
-use Rattle.topk_laws.proofs.ToldText.{gives_told, refuses_none, one_catalog, gave_told, gave_no_more}
+use Rattle.topk_laws.proofs.ToldText.{gives_told, refuses_none, gave_told, gave_no_more}
 
 -- trouble since a text was asked for is trouble from before that on
 trouble_since : (before mid now : PlaceCounts) → CountsTexts before mid → TroubleAt mid now → TroubleAt before now
@@ -86,7 +86,7 @@ replied : ComeToOne → (o : RunOptions) (c : Call) (status : Status) (catalog :
     → TellsAll o c catalog bytes → GivesText o.catalog c.before.shelf given text → LinesReplied o.settings text (from_shelf given c) status said
     → WroteWhole c said → WritesTheOne c catalog bytes status
 replied one o c status catalog bytes text given said all gives r wrote =
-    let same_text : text ≡ all.text = gives_told o.catalog text all.text c.before.shelf given all.tells.told gives in
+    let same_text : text ≡ all.text = gives_told o.catalog text all.text c.before.shelf given all.tells gives in
     let same_catalog : r.replies.catalog ≡ catalog =
     one_catalog (records_of all.text) r.replies.catalog catalog (subst (λ t. IsCatalog (records_of t) r.replies.catalog) same_text r.replies.is) all.is in
     let same_bytes : r.bytes ≡ bytes = gave_told _ bytes r.bytes c.before.input.left c.after.input.left all.input r.read.given in
@@ -122,7 +122,7 @@ told_run one o c Done catalog bytes all (text, given, gives, (said, r, wrote)) =
 told_run one o c Partial catalog bytes all (text, given, gives, (said, r, wrote)) = inr (replied one o c Partial catalog bytes text given said all gives r (record { held = wrote.held; faults = wrote.faults }))
 told_run one o c BadCatalog catalog bytes all (text, given, gives, (said, refused, wrote)) =
     absurd (refuses_none text said catalog refused.refuses
-    (subst (λ t. IsCatalog (records_of t) catalog) (sym (gives_told o.catalog text all.text c.before.shelf given all.tells.told gives)) all.is))
+    (subst (λ t. IsCatalog (records_of t) catalog) (sym (gives_told o.catalog text all.text c.before.shelf given all.tells gives)) all.is))
 told_run one o c WriteFault catalog bytes all (text, given, gives, (said, cause, wrote)) = absurd (all.writes wrote.faults)
 told_run one o c ReadFault catalog bytes all (text, given, gives, (stands, failed, nothing)) = absurd (all.reads failed.faults)
 told_run one o c LongInput catalog bytes all (text, given, gives, (stands, long, nothing)) =
@@ -134,7 +134,7 @@ told_run one o c PortFault catalog bytes all h = absurd h
 told_run one o c BadInput catalog bytes all h = absurd h
 
 pub told_runs : ComeToOne → ToldRunsWriteTheOne
-told_runs one o c status catalog bytes all ends = told_run one o c status catalog bytes all (subst (λ command. CommandEnds command c status) all.tells.words ends)
+told_runs one o c status catalog bytes all ends = told_run one o c status catalog bytes all ends
 
 -- two runs over the same lists
 wrote_same : (o p : RunOptions) (c d : Call) (status other : Status) (catalog : List Entry) (bytes : List ℕ) → TellTheSame o p c d catalog bytes

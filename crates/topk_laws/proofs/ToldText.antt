@@ -1,9 +1,9 @@
 -- Runs whose catalog's text is told.
-use Rattle.std.proofs.Common.{◌≡◌, ℕ, ◌≤◌, Bool, true, false, List, [], ◌∷◌, ◌++◌, map, length, Option, Some, None, IfSome, inl, inr, refl, sym, ap, ◌∙◌, subst, arith, append-nil, length-append}
+use Rattle.std.proofs.Common.{◌≡◌, ℕ, ◌≤◌, List, ◌++◌, length, Option, Some, None, IfSome, inl, inr, sym, ap, ◌∙◌, subst, arith, append-nil, length-append}
 use Rattle.std.specs.Io.KnownBytes.{Consumes, IsAtEnd}
 use Rattle.tk_io.specs.Whole.{GaveAll, GaveMore}
 use Rattle.csv_records.specs.Records.{records_of}
-use Rattle.catalog_text.specs.Catalog.{Listed as Entry, IsCatalog, spelled, yes_or_no}
+use Rattle.catalog_text.specs.Catalog.{Listed as Entry, IsCatalog}
 use Rattle.catalog_text.proofs.Exclusion.{broken_is_none, repeated_is_none}
 use Rattle.command_words.specs.declared.running.RunOptions.{RunOptions}
 use Rattle.call_ends.specs.Calls.{Call}
@@ -11,7 +11,6 @@ use Rattle.call_ends.specs.Shelves.{Shelf, GivesText}
 use Rattle.catalog_calls.specs.Running.{RefusesCatalog}
 use Rattle.catalog_calls.specs.RunEnds.{EndsRunning}
 use Rattle.topk_laws.specs.RunLaws.{TurnsAway, WrongCatalogsAreRefused}
-use Rattle.topk_top.specs.Ends.{CommandEnds}
 use Rattle.call_ends.specs.declared.status.Status.{Status}
 use Rattle.call_ends.specs.declared.status.Status.TheVariants.{Done, Partial, BadWords, BadCatalog, ReadFault, WriteFault, OpenFault, PortFault, Memory, LongInput, BadInput}
 
@@ -25,43 +24,10 @@ gives_told place text told before given is gives = given_told text told (before.
 -- a text that is refused is no catalog
 pub refuses_none : (text said : List ℕ) (catalog : List Entry) → RefusesCatalog text said → IsCatalog (records_of text) catalog → ⊥
 refuses_none text said catalog (inl form) is = elim form.first [
-  | inl empty ↦ let e = is.whole in let none = empty.0 in absurd cc
+  | inl empty ↦ let e = is.1.whole in let none = empty.0 in absurd cc
   | inr broken ↦ broken_is_none (records_of text) catalog form.number is broken
 ]
 refuses_none text said catalog (inr name) is = repeated_is_none (records_of text) catalog name.number is name.first
-
--- one text is one catalog
-yes_once : (a b : Bool) → yes_or_no a ≡ yes_or_no b → a ≡ b
-yes_once true true e = refl
-yes_once true false e = absurd cc
-yes_once false true e = absurd cc
-yes_once false false e = refl
-
-entry_of : List ℕ → List ℕ → Bool → Entry
-entry_of name place random = record { name = name; place = place; random = random }
-
-spelled_once : (a b : Entry) → spelled a ≡ spelled b → a ≡ b
-unfolding entry_of
-spelled_once a b e =
-    let name : a.name ≡ b.name = cc in
-    let place : a.place ≡ b.place = cc in
-    let word : yes_or_no a.random ≡ yes_or_no b.random = cc in
-    ap (λ n. entry_of n a.place a.random) name ∙ ap (λ p. entry_of b.name p a.random) place ∙ ap (entry_of b.name b.place) (yes_once a.random b.random word)
-
-all_once : (a b : List Entry) → map spelled a ≡ map spelled b → a ≡ b
-all_once [] [] e = refl
-all_once [] (y ∷ b) e = absurd cc
-all_once (x ∷ a) [] e = absurd cc
-all_once (x ∷ a) (y ∷ b) e =
-    let here : spelled x ≡ spelled y = cc in
-    let rest : map spelled a ≡ map spelled b = cc in
-    ap (λ z. z ∷ a) (spelled_once x y here) ∙ ap (λ z. y ∷ z) (all_once a b rest)
-
-pub one_catalog : (records : List (List (List ℕ))) (a b : List Entry) → IsCatalog records a → IsCatalog records b → a ≡ b
-one_catalog records a b first second =
-    let one = first.whole in let other = second.whole in
-    let same : map spelled a ≡ map spelled b = cc in
-    all_once a b same
 
 -- what an input gave that is told
 gave_from : (bytes text : List ℕ) (now : Option (List ℕ)) → Consumes (Some bytes) now text → IsAtEnd now → text ≡ bytes
@@ -100,4 +66,4 @@ turned o c PortFault text told none h = absurd h
 turned o c BadInput text told none h = absurd h
 
 pub wrong_refused : WrongCatalogsAreRefused
-wrong_refused o c status text tells none ends = turned o c status text tells.told none (subst (λ command. CommandEnds command c status) tells.words ends)
+wrong_refused o c status text tells none ends = turned o c status text tells none ends

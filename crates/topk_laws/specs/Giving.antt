@@ -1,5 +1,5 @@
 -- What the open sources of a run gave, by what the lines asked of them.
-use Rattle.std.specs.Prelude.{◌≡◌, ◌≢◌, ◌≤◌, ◌<◌, ℕ, Some, List, All, AllPairs, length, map}
+use Rattle.std.specs.Prelude.{◌≡◌, ◌≢◌, ◌≤◌, ◌<◌, ℕ, false, Some, List, All, AllPairs, length, map, slice_index_or}
 use Rattle.std.specs.List.{AllZip, sum_by}
 use Rattle.ranked_list.specs.declared.row.Row.{Row}
 use Rattle.ranked_list.specs.Table.{IsTable}
@@ -15,6 +15,8 @@ use Rattle.batch_result.specs.Numbered.{counts_at}
 use Rattle.batch_result.specs.Tables.{lists_for}
 use Rattle.batch_result.specs.Using.{IsWantedBy, IsNamedBy}
 use Rattle.query_admission.specs.declared.line_outcome.LineOutcome.{LineOutcome}
+use Rattle.catalog_text.specs.Catalog.{Listed as Entry}
+use Rattle.catalog_open.specs.Entries.{entry_at}
 use Rattle.catalog_open.specs.Openings.{put_back, used_at}
 use Rattle.catalog_run.specs.Runs.{CatalogRun, IsRun}
 
@@ -45,11 +47,16 @@ pub record RoseByGiven (before after : PlaceCounts) (given : List Counts) : Type
   pub rows : WentUp (sum_by (λ (c : Counts). c.rows_given) given) before.sources.rows_given after.sources.rows_given
   pub grades : WentUp (sum_by (λ (c : Counts). c.grades_given) given) before.sources.grades_given after.sources.grades_given
 
--- each open source of a run gave no more than was asked of it, from when it was opened until it was put back: no more than the lines asked; where the sources
--- tell lists that form tables, no more than the one runs of the lines that ran read of it; and where each of these that reads it was answered, no more than
--- the transcripts of the answers
+-- the list of an open source can't be read in order, by its entry of the catalog; the entries stand at these places, by the numbers of the sources
+abbrev pub IsOutOfOrder : List Entry → List ℕ → ℕ → Type 0
+IsOutOfOrder catalog places source = (entry_at catalog (slice_index_or places source 0)).sorted ≡ false
+
+-- each open source of a run gave no more than was asked of it, from when it was opened until it was put back: no more than the lines asked, and no row where
+-- its list can't be read in order; where the sources tell lists that form tables, no more than the one runs of the lines that ran read of it; and where each
+-- of these that reads it was answered, no more than the transcripts of the answers
 pub record GaveSparingly (r : CatalogRun) (outcomes : List LineOutcome) (run : IsRun r outcomes) (source size : ℕ) (now : Counts) : Type 0 where
   pub asked : GaveWhatIsAsked r.settings run.ran.ran.queries source size now
+  pub unread : IsOutOfOrder r.catalog run.sources.places source → now.rows_given ≡ 0
   pub read : (lists : List (List Row)) → LinesHaveTables r outcomes run lists → GaveWhatIsRead r.settings (one_readings lists run.ran.readies) source size now
   pub answered : AllZip (IsAnsweredOf source) run.ran.readies run.ran.batch.endings
       → GaveWhatIsRead r.settings (printed_readings run.ran.readies run.ran.batch.endings) source size now

@@ -6,8 +6,6 @@ use Rattle.ranked_list.specs.declared.row.Row.{Row}
 use Rattle.source_api.specs.Places.{SameAtEach}
 use Rattle.csv_records.specs.Records.{records_of}
 use Rattle.catalog_text.specs.Catalog.{Listed as Entry, IsCatalog}
-use Rattle.command_words.specs.Commands.{command_of}
-use Rattle.command_words.specs.declared.command.Command.TheVariants.{Run}
 use Rattle.command_words.specs.declared.running.RunOptions.{RunOptions}
 use Rattle.limits.specs.declared.settings.Settings.{Settings}
 use Rattle.catalog_run.specs.Runs.{CatalogRun, IsRun}
@@ -18,15 +16,14 @@ use Rattle.topk_laws.specs.Giving.{EachGaveSparingly, EachPlaceRose}
 use Rattle.call_ends.specs.Calls.{Call, WroteWhole, input_limit}
 use Rattle.call_ends.specs.Shelves.{Shelf, TextFailed}
 use Rattle.catalog_calls.specs.Running.{RefusesCatalog, RepliesToLines, outcomes_text, lines_run, run_status}
-use Rattle.topk_top.specs.Ends.{CallEnds}
+use Rattle.catalog_calls.specs.RunEnds.{EndsRunning}
 use Rattle.call_ends.specs.declared.status.Status.{Status}
 use Rattle.call_ends.specs.declared.status.Status.TheVariants.{BadCatalog, Memory}
 use Rattle.call_ends.specs.declared.status.Status.TheVariants.{WriteFault, OpenFault}
 
--- the words are those of this run, and the shelf tells this text of its catalog's place
-pub record TellsCatalog (o : RunOptions) (c : Call) (text : List ℕ) : Type 0 where
-  pub words : command_of c.words ≡ Some (Run o)
-  pub told : c.before.shelf.texts o.catalog ≡ Some text
+-- the shelf tells this text of the catalog's place
+abbrev pub TellsCatalog : RunOptions → Call → List ℕ → Type 0
+TellsCatalog o c text = c.before.shelf.texts o.catalog ≡ Some text
 
 -- a catalog's text is refused: what is written names its first record at fault, or a count rose that the status tells, or memory is wanting
 abbrev pub TurnsAway : List ℕ → RunOptions → Call → Status → Type 0
@@ -36,11 +33,11 @@ TurnsAway text o c WriteFault = Rose c.before.output.faults c.after.output.fault
 TurnsAway text o c Memory = Unit {0}
 TurnsAway _ _ _ _ = ⊥
 
--- a told text that is no catalog is refused
+-- a told text that is no catalog is refused, however a run ends
 abbrev pub WrongCatalogsAreRefused : Type 0
 WrongCatalogsAreRefused =
     (o : RunOptions) (c : Call) (status : Status) (text : List ℕ) → TellsCatalog o c text → ((catalog : List Entry) → ¬ IsCatalog (records_of text) catalog)
-    → CallEnds c status → TurnsAway text o c status
+    → EndsRunning o c status → TurnsAway text o c status
 
 -- all is told that a run reads, and nothing fails: its catalog's text, which is this catalog, the input, which is these bytes, within its limit, and by the
 -- sources that its lines want a table for each line; no count of the catalog's text, of the input or of the output rose
@@ -73,7 +70,7 @@ pub record WritesTheOne (c : Call) (catalog : List Entry) (bytes : List ℕ) (st
 -- where all is told and nothing fails, a run writes the one text, whatever its settings, unless memory is wanting
 abbrev pub ToldRunsWriteTheOne : Type 0
 ToldRunsWriteTheOne =
-    (o : RunOptions) (c : Call) (status : Status) (catalog : List Entry) (bytes : List ℕ) → TellsAll o c catalog bytes → CallEnds c status
+    (o : RunOptions) (c : Call) (status : Status) (catalog : List Entry) (bytes : List ℕ) → TellsAll o c catalog bytes → EndsRunning o c status
     → (status ≡ Memory) ⊎ WritesTheOne c catalog bytes status
 
 -- for two runs the same is told: of the same catalog and the same bytes, by shelves that tell the same lists at the same versions
@@ -94,7 +91,7 @@ pub record WroteTheSame (c d : Call) (status other : Status) : Type 0 where
 abbrev pub SettingsChangeNothing : Type 0
 SettingsChangeNothing =
     (o p : RunOptions) (c d : Call) (status other : Status) (catalog : List Entry) (bytes : List ℕ) → TellTheSame o p c d catalog bytes
-    → CallEnds c status → CallEnds d other → (status ≡ Memory) ⊎ ((other ≡ Memory) ⊎ WroteTheSame c d status other)
+    → EndsRunning o c status → EndsRunning p d other → (status ≡ Memory) ⊎ ((other ≡ Memory) ⊎ WroteTheSame c d status other)
 
 -- a run of lines is sparing: a source gave no more than the lines asked of it, and no more than their one runs read of it; what the shelf counted at a
 -- place rose by that; and the lines that were refused because calls of a place's sources failed, or were answered by garbled data, are no more than the

@@ -23,6 +23,7 @@ abbrev pub told_listed : (List ℕ → Option (List Row)) → (List ℕ → Opti
 told_listed lists versions catalog place = record {
   size = option_map length (entry_told lists catalog place);
   random = (entry_at catalog place).random;
+  sorted = (entry_at catalog place).sorted;
   source = place;
   version = unwrap_or (entry_told versions catalog place) 0;
 }

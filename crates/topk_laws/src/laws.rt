@@ -3,8 +3,8 @@
 ghost use Rattle.topk_laws.specs.Laws.{AnswersAreFixed, CountersAreBundles};
 ghost use Rattle.topk_laws.specs.Limits.{AreStated};
 
-/// Each text that `one` writes of an answered query spells a certificate whose figures are right, and is fixed: `judge`
-/// replies `fixes` to it, and nothing else.
+/// Each text that `one` writes of an answered query spells a certificate whose figures are right, what it guarantees among them, and is fixed:
+/// `judge` replies `fixes` to it, and nothing else.
 pub fn answers_are_fixed()
     ensures { AnswersAreFixed }
 {}

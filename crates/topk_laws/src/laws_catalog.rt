@@ -23,9 +23,10 @@ pub fn told_tables_give_the_one_outcome()
 }
 
 /// Whatever the sources told, each answer is right for its query: some table agrees with its transcript, and on every table that agrees it
-/// is the one answer. Each query that is refused in running has its cause in what was read of its lists, as it stands at the end.
+/// is the one answer of the method of its lists: k objects that none outside beats, or by no more than the guarantee that is printed. Each query
+/// that is refused in running has its cause in what was read of its lists, as it stands at the end.
 pub fn outcomes_are_right()
-    ensures answers { (r : CatalogRun) (outcomes : List AnyOutcome) → IsRun r outcomes → All IsRightLine outcomes }
+    ensures answers { (r : CatalogRun) (outcomes : List AnyOutcome) → IsRun r outcomes → All (IsRightLine r) outcomes }
     ensures refusals { (r : CatalogRun) (outcomes : List AnyOutcome) → (run : IsRun r outcomes) → All (IsRefusedForCause run.ran.ran.states) run.ran.ran.queries }
 {}
 
@@ -48,7 +49,8 @@ pub fn failures_refuse_few_lines()
 {}
 
 /// However many the lines, a source gives no row beyond the reach of the greatest depth to which one of them asked, and no more grades than
-/// there are objects whose grades were asked for, from when it is opened until it is put back. Where the sources tell lists that form tables
+/// there are objects whose grades were asked for, from when it is opened until it is put back; and one whose list can't be read in order, by
+/// its entry of the catalog, gives no row. Where the sources tell lists that form tables
 /// for the lines that ran, the depth is at most the greatest to which the one run of a line reads the source, and the grades are no more than
 /// the random accesses that these runs make to it; where each line that reads the source is answered, the same holds of the transcripts of
 /// the answers. Where the shelf tells tables and nothing fails, the sources do so. What the shelf counts of a place rises by what the open

@@ -1,4 +1,5 @@
-//! Laws of what a run of query lines comes to.
+//! Laws of what a run of query lines comes to. A run ends as `EndsRunning` says, and so does each call of `top` whose words are those of a
+//! run.
 
 ghost use Rattle.topk_laws.specs.RunLaws.{RepliesAreSparing, SettingsChangeNothing, ToldRunsWriteTheOne, WrongCatalogsAreRefused};
 
@@ -14,7 +15,8 @@ pub fn wrong_catalogs_are_refused()
 
 /// Where the catalog's text, the input and the lists of the sources that the lines want are told with their versions, these form a table for
 /// each line, and no call fails, a run writes the one text: that of the first refusal that holds of each line, or of the one
-/// answer of its query. The lines come to no other text over these lists, and to no other status.
+/// answer of its query by the method of its lists, for which the catalog tells which of them can be read in order. The lines come to no other
+/// text over these lists, and to no other status.
 pub fn told_runs_write_the_one_text()
     ensures { ToldRunsWriteTheOne }
 {
@@ -30,10 +32,10 @@ pub fn settings_change_nothing()
 }
 
 /// However many the lines of a run, no source gives a row beyond the reach of the greatest depth to which one of them asked, nor more
-/// grades than there are objects whose grades were asked for; over told tables these are at most the greatest depth to which the one run of
-/// a line reads the source, and the random accesses of all these runs to it. And one failure isn't for ever: the lines that are refused because calls of
-/// a place's sources failed, or were answered by garbled data, are no more than the workers times such calls, unless their count stands at
-/// its last value.
+/// grades than there are objects whose grades were asked for, and none gives a row whose list can't be read in order. Over told tables
+/// these are at most the greatest depth to which the one run of a line reads the source, and the random accesses of all these runs to it.
+/// And one failure isn't for ever: the lines that are refused because calls of a place's sources failed, or were answered by garbled data,
+/// are no more than the workers times such calls, unless their count stands at its last value.
 pub fn replies_are_sparing()
     ensures { RepliesAreSparing }
 {

@@ -1,4 +1,4 @@
-//! Laws of the top call: what follows of its contract alone, for every input, whatever sources it reads.
+//! Laws of the commands: what follows of their contracts alone, by which each top call ends, for every input, whatever sources it reads.
 //!
 //! Those on runs over a catalog say which outcomes lines have where the sources tell tables, what stands behind refusals, and
 //! how much the sources give.

@@ -1,4 +1,4 @@
-use Rattle.std.proofs.Common.{◌≡◌, ℕ, replicate, ap, refl, ◌∙◌}
+use Rattle.std.proofs.Common.{◌≡◌, ℕ, Bool, true, replicate, ap, refl, ◌∙◌}
 use Rattle.monotone_fn.specs.Shape.{list_count}
 use Rattle.topk_theory.specs.Transcript.{list_numbers}
 use Rattle.query_text.specs.declared.query.Query.{Query}
@@ -14,4 +14,5 @@ returns c =
     let many : c.lists-lists.result ≡ input.lists =
     c.lists-lists.ensures.lists ∙ ap list_count tree ∙ (made_fits c.args.number input.lists c.requires.some_lists c.requires.few_lists).names in
     ready_made input c.args.number _ c.requires c.in-Ok.ensures.made refl (c.in-Ok-source_numbers.ensures ∙ ap list_numbers many)
-    (c.in-Ok-first_versions.ensures ∙ ap (λ lists. replicate {A = ℕ} lists 0) many) c.in-Ok.ensures.lawful c.lists-lists.ensures.made
+    (c.in-Ok-first_versions.ensures ∙ ap (λ lists. replicate {A = ℕ} lists 0) many)
+    (c.in-Ok-all_sorted.ensures ∙ ap (λ lists. replicate {A = Bool} lists true) many) c.in-Ok.ensures.lawful c.lists-lists.ensures.made

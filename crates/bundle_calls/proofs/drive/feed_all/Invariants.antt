@@ -1,7 +1,7 @@
 use Rattle.std.proofs.Common.{◌≡◌, ◌-◌, length}
 use Rattle.machine_base.specs.Machine.{asked_of}
-use Rattle.query_core.specs.Algorithms.{run_by}
-use Rattle.query_core.specs.Machines.{algorithm_of, state_of}
+use Rattle.query_core.specs.Methods.{run_with}
+use Rattle.query_core.specs.Machines.{method_of, state_of}
 use Rattle.query_core.specs.Driving.{Continues, CanDrive}
 use Rattle.bundle_calls.proofs.drive.feed_all.Given as goal
 
@@ -9,11 +9,11 @@ use Rattle.bundle_calls.proofs.drive.feed_all.Given as goal
 abbrev pub invariant-loop-list : goal.invariant-loop-list
 invariant-loop-list l = record {
   same : l.lists ≡ l.fn.lists;
-  same_algorithm : algorithm_of l.machine ≡ algorithm_of l.fn.machine;
+  same_method : method_of l.machine ≡ method_of l.fn.machine;
   goes : Continues (state_of l.fn.machine) (state_of l.machine);
   can : CanDrive l.fn.lists (state_of l.machine);
 }
 
 -- what is left of the run
 abbrev pub decreases-loop-list : goal.decreases-loop-list
-decreases-loop-list l = length (run_by (algorithm_of l.machine) (asked_of (state_of l.machine)) l.lists) - length (state_of l.machine).log.accesses
+decreases-loop-list l = length (run_with (method_of l.machine) (asked_of (state_of l.machine)) l.lists) - length (state_of l.machine).log.accesses

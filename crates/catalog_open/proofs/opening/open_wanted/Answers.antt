@@ -1,4 +1,4 @@
-use Rattle.std.proofs.Common.{◌+◌, All, [], false, length, map, ap, refl, sym, subst, ◌∙◌, arith}
+use Rattle.std.proofs.Common.{All, [], false, length, map, ap, refl, sym, subst, ◌∙◌, arith}
 use Rattle.std.proofs.lemmas.List.{get_or_default}
 use Rattle.std.proofs.lemmas.List.Elements.{All-from_recursion}
 use Rattle.catalog_open.specs.Entries.{IsMarked, entry_at}

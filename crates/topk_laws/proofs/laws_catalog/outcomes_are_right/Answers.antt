@@ -1,12 +1,11 @@
 use Rattle.topk_theory.proofs.AgreementLists.{all_from_members, member_of_all}
 use Rattle.query_turns.specs.Causes.{IsRefusedForCause}
 use Rattle.query_turns.specs.Kept.{IsServed}
-use Rattle.catalog_open.specs.Views.{nothing_told, view_over}
 use Rattle.topk_laws.proofs.Right.{lines_right}
 use Rattle.topk_laws.proofs.laws_catalog.outcomes_are_right.Goals as goal
 
 pub returns-clause-answers : goal.returns-clause-answers
-returns-clause-answers c = λ r outcomes run. lines_right (view_over r.catalog run.openings nothing_told) run.ran.ran.queries 1 r.lines outcomes run.ran.outcomes_are
+returns-clause-answers c = λ r outcomes run. lines_right r outcomes run
 
 pub returns-clause-refusals : goal.returns-clause-refusals
 returns-clause-refusals c = λ r outcomes run.

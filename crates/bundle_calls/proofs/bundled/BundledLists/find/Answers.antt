@@ -16,5 +16,5 @@ returns c =
     let bundle = c.self.inside.bundle.now in
     let name = c.args.name.now in
     let at = found_at bundle name c.deref.result.now c.place_of_name.result c.deref.ensures.value c.place_of_name.ensures ∙ c.in-Some.is in
-    subst (λ d. Some (record { size = Some c.from.result; random = true; source = c.in-Some.place; version = 0 }) ≡ (bundle_view d).listed name) c.self.view_is
+    subst (λ d. Some (record { size = Some c.from.result; random = true; sorted = true; source = c.in-Some.place; version = 0 }) ≡ (bundle_view d).listed name) c.self.view_is
     (listed_here (content bundle) name c.in-Some.place c.from.result c.index.result.now c.self.invariant at c.index.ensures (c.from.ensures ∙ c.len.ensures))
