@@ -20,7 +20,7 @@ pub enum Status {
     WriteFault = 5,
     /// The catalog couldn't be read.
     OpenFault = 6,
-    /// A port failed. It doesn't come yet.
+    /// A port failed to listen, or to give a connection.
     PortFault = 7,
     /// No memory was left.
     Memory = 8,

@@ -4,4 +4,4 @@
 mod line_outcomes;
 mod running;
 
-pub use running::run;
+pub use running::{refuse, run};

@@ -97,7 +97,7 @@ fn run_over<W: Threads + Wait + Sync, H: Shelf, R: Intake, K: Sink>(
 fn let_catalog_go(_: Catalog) {}
 
 /// Ends for this fault of a text that should be a catalog: it is written, unless memory was wanting.
-fn refuse<K: Sink>(out: &mut K, fault: CatalogFault) -> Status
+pub fn refuse<K: Sink>(out: &mut K, fault: CatalogFault) -> Status
     ensures counts { K.faults out.old ≤ K.faults out.new }
     ensures says { SaysFault (output_as K.held K.faults out.old) (output_as K.held K.faults out.new) fault result }
 {

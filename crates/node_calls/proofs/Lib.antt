@@ -1,0 +1,2 @@
+-- Lemmas on how a node ends.
+pub mod NodeEnding
