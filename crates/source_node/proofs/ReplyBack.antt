@@ -1,5 +1,8 @@
 -- The reply with an answer reads back.
 use Rattle.std.proofs.Common.{◌≡◌, ℕ, ◌+◌, ◌<◌, ◌≤◌, ◌^◌, Bool, true, false, IsTrue, List, [], ◌∷◌, ◌++◌, codes, length, reverse, Option, Some, Result, Ok, Err, refl, sym, ap, subst, ◌∙◌, append_assoc, length-append, arith, inl, inr, eq-eqb, lt-ltb, le-leb}
+use denote.RawPtr.{null_ptr}
+use Rattle.std.specs.Prelude.{option_map}
+use Rattle.std.specs.Global.{Global, Vec}
 use Rattle.std.specs.Char.{is_ascii_digit}
 use Rattle.std.specs.Fmt.{decimal}
 use Rattle.std.specs.List.{All, list_all}
@@ -238,3 +241,25 @@ answer_back text (Err LinkFault) few answers = tt
 answer_back text (Err Memory) few answers = tt
 answer_back text (Err BadMessage) few answers = absurd (answers (head_of (decimal (length text))) (of_length text) (response text few))
 answer_back text (Err (TooLong limit)) few answers = absurd (none_long text limit few answers)
+
+-- a body in memory, and the whole response that brings it
+body_kept : (heap : Global) (text : List ℕ) → length text ≤ 16777216 → Vec ℕ
+body_kept heap text few = record { ptr = null_ptr; len = length text; cap = length text; alloc = heap; items = text; ok = (refl, omega arith); small = omega (arith, few) }
+
+pub whole_reply : (heap : Global) (text : List ℕ) → length text ≤ 16777216
+    → (reply : Reply) × IsReply (reply_text 200 Json (Some text)) reply × (reply.status ≡ 200) × (option_map (λ body. body.items) reply.body ≡ Some text)
+unfolding body_kept
+whole_reply heap text few =
+    let digits : length (decimal (length text)) ≤ 18 = length-decimal-le 18 (length text) (omega arith) (omega arith) (omega arith) in (
+      record { status = 200; body = Some (body_kept heap text few) },
+      (
+        head_of (decimal (length text)),
+        of_length text,
+        response text few,
+        record { bytes = short (decimal (length text)) digits; lines = omega arith },
+        few,
+        record { status = refl; content = refl },
+      ),
+      refl,
+      refl,
+    )

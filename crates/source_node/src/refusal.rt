@@ -39,7 +39,7 @@ impl Refusal {
     }
 
     /// The body of its reply: the reason and the end of a line. A reply to the method HEAD has none.
-    pub(crate) fn body(self, is_head: bool) -> Option<&'static [u8]>
+    pub fn body(self, is_head: bool) -> Option<&'static [u8]>
         ensures { option_copied result ≡ body_of is_head self }
     {
         if is_head { None } else { Some(self.text()) }

@@ -1,0 +1,2 @@
+-- Lemmas on what is read of a node's answers.
+mod ReadLaws

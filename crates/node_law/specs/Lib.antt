@@ -1,0 +1,2 @@
+-- What is read of a node's answers.
+pub mod ReadBack
