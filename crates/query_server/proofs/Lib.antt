@@ -1,0 +1,6 @@
+-- Lemmas on one connection of a query server.
+mod ListLaws
+mod PassLaws
+mod LineLaws
+mod EndLaws
+mod FailLaws

@@ -1,0 +1,125 @@
+//! What is told of the query line of a request.
+
+ghost use Rattle.std.specs.Prelude.{◌≡◌, IfOk};
+ghost use Rattle.std.specs.Result.{result_map_both};
+ghost use Rattle.source_pool.specs.Passes.{IsPassOf};
+ghost use Rattle.query_core.specs.Ready.{IsReady};
+ghost use Rattle.query_run.specs.Advancing.{WaitsForNothing, HasSourcesIn};
+ghost use Rattle.catalog_run.specs.Runs.{CanBeWritten};
+ghost use Rattle.query_server.specs.Entries.{view_in, MayAnswer};
+ghost use Rattle.batch_sides.specs.Working.{KnowsAll};
+ghost use Rattle.query_server.specs.Becoming.{RunsTo, BecomesHere, is_move, is_moved, shown};
+ghost use Rattle.query_server.specs.Connections.{Tells};
+
+use super::opened::Opened;
+use super::text::line_text;
+use catalog_run::{line_ended, line_refused};
+use cert_text::{Outcome, Refusal};
+use query_admission::{Admitted, LineOutcome, Memory};
+use query_core::Ready;
+use query_run::run_query;
+use source_pool::{Pool, PoolPass};
+use std::alloc::Global;
+use std::sync::Wait;
+
+/// What is told of a query line: its outcome in text, and whether that is the refusal of a query whose source moved.
+#[derive(Drop)]
+pub(crate) struct Told {
+    pub(crate) text: Vec<u8>,
+    pub(crate) moved: bool,
+}
+
+/// Tells what becomes of a query line, or wants memory.
+pub(crate) fn tell_line(
+    rt: &impl Wait,
+    alloc: Global,
+    catalog: &Opened,
+    pool: &Pool,
+    pass: &mut PoolPass,
+    line: &[u8],
+) -> Result<Told, source_node::Refusal>
+    requires fit { MayAnswer catalog.now pool.now pass.old }
+    ensures fit { MayAnswer catalog.now pool.now pass.new }
+    ensures knows { KnowsAll pass.old pass.new }
+    ensures tells { Tells (view_in catalog.now) line.now pass.old pass.new (result_map_both shown (λ why. why) result) }
+{
+    match answer_line(rt, alloc, catalog, pool, pass, line) {
+        Ok(outcome) => {
+            let text = line_text(alloc, &outcome);
+            let moved = is_moved(&outcome.outcome);
+            drop(outcome);
+            match text {
+                Ok(text) => Ok(Told { text, moved }),
+                Err(_) => Err(source_node::Refusal::NoMemory),
+            }
+        }
+        Err(_) => Err(source_node::Refusal::NoMemory),
+    }
+}
+
+/// Whether an outcome is the refusal of a query whose source moved.
+fn is_moved(outcome: &Outcome) -> bool
+    ensures { result ≡ is_moved outcome.now }
+{
+    match outcome {
+        Outcome::Answered(_) => false,
+        Outcome::Refused(refusal) => is_move(*refusal),
+    }
+}
+
+/// Whether a query is refused since a source moved to another version.
+fn is_move(refusal: Refusal) -> bool
+    ensures { result ≡ is_move refusal }
+{
+    match refusal {
+        Refusal::Moved { .. } => true,
+        _ => false,
+    }
+}
+
+/// What becomes of a query line, the first of its input: it is refused before it runs, or its query runs over the pool, and may wait.
+fn answer_line(
+    rt: &impl Wait,
+    alloc: Global,
+    catalog: &Opened,
+    pool: &Pool,
+    pass: &mut PoolPass,
+    line: &[u8],
+) -> Result<LineOutcome, Memory>
+    requires fit { MayAnswer catalog.now pool.now pass.old }
+    ensures fit { MayAnswer catalog.now pool.now pass.new }
+    ensures knows { KnowsAll pass.old pass.new }
+    ensures becomes { IfOk result (BecomesHere (view_in catalog.now) 1 line.now pass.old pass.new) }
+    ensures writable { IfOk result CanBeWritten }
+{
+    match catalog.admit(alloc, 1, line) {
+        Ok(Admitted::Ready(ready)) => run_ready(rt, alloc, pool, pass, ready),
+        Ok(Admitted::Refused { refusal, query }) => Ok(line_refused(alloc, refusal, query)),
+        Err(_) => Err(Memory),
+    }
+}
+
+/// What a query that is ready runs to.
+fn run_ready(
+    rt: &impl Wait,
+    alloc: Global,
+    pool: &Pool,
+    pass: &mut PoolPass,
+    ready: Ready,
+) -> Result<LineOutcome, Memory>
+    requires ready { IsReady ready }
+    requires own { IsPassOf pool.now pass.old }
+    requires rests { WaitsForNothing pass.old }
+    requires sources { HasSourcesIn pass.old ready }
+    ensures own { IsPassOf pool.now pass.new }
+    ensures rests { WaitsForNothing pass.new }
+    ensures knows { KnowsAll pass.old pass.new }
+    ensures runs { IfOk result (RunsTo ready pass.old pass.new) }
+    ensures writable { IfOk result CanBeWritten }
+{
+    let Ok(ended) = run_query(rt, alloc, pool, pass, &ready) else {
+        drop(ready);
+        return Err(Memory);
+    };
+    line_ended(ready, ended)
+}

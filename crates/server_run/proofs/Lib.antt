@@ -1,0 +1,5 @@
+-- Lemmas on the sources of lists, on counts, and on what a generation leaves of the sources.
+pub mod HomeLaws
+pub mod SourceLaws
+pub mod FetchLaws
+pub mod CrewLaws

@@ -1,0 +1,2 @@
+-- Lemmas on the four lists and their pool.
+mod Answering

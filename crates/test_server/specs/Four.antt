@@ -1,0 +1,8 @@
+-- What became of the sources of four lists.
+use Rattle.std.specs.Prelude.{List, [], ◌∷◌}
+use Rattle.query_server.specs.declared.opened.OpenedEntry.{OpenedEntry}
+use Rattle.query_server.specs.declared.opened.OpenedEntry.TheVariants.{Opened, NotOpened, TooLarge}
+
+-- two are open, with three objects, one isn't, and one is too large
+abbrev pub four_entries : List OpenedEntry
+four_entries = Opened 3 0 7 ∷ Opened 3 1 0 ∷ NotOpened ∷ TooLarge 300000 ∷ []

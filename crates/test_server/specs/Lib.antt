@@ -1,0 +1,2 @@
+-- What became of the four lists of the tests.
+pub mod Four

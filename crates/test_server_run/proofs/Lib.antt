@@ -1,0 +1,2 @@
+-- The two lists have sources of their own.
+pub mod HomeLaws

@@ -1,0 +1,2 @@
+-- What became of the two lists of the tests.
+pub mod Two
