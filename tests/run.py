@@ -7,7 +7,7 @@ Without names all tests run. Each folder of cases/ is one: `words` (a word a lin
 (copied to where the program runs), `output` (what it has to write) and `status` (0 where there is none). Tests that need more than a folder, as
 inputs of 128 MB or a full device, stand in special.py, those of the completions for shells in completions.py, of the library beside the program in
 library.py, of the page that draws certificates in view.py, of the nodes over databases in bridges.py, of `run` over lists that hosts serve in
-hosts.py, and those in which each allocation is refused in turn in starving.py. What a machine lacks is skipped by name. Ends with 'N passed, M
+hosts.py, of `node` in nodes.py, of `serve` in servers.py, and those in which each allocation is refused in turn in starving.py. What a machine lacks is skipped by name. Ends with 'N passed, M
 failed', and with the status 0 exactly where none failed. Standard library alone.
 """
 import argparse
@@ -23,6 +23,8 @@ import bridges
 import completions
 import hosts
 import library
+import nodes
+import servers
 import special
 import starving
 import view
@@ -57,7 +59,7 @@ def tests(program):
     """Names with what runs the test: it answers what is wrong, or None, or raises Skipped."""
     for folder in sorted((HERE / "cases").iterdir()):
         yield folder.name, lambda folder=folder: run_case(program, folder)
-    for module in (special, completions, library, view, bridges, hosts, starving):
+    for module in (special, completions, library, view, bridges, hosts, nodes, servers, starving):
         for name, test in module.tests():
             yield name, lambda test=test: test(program)
 

@@ -4,18 +4,20 @@ _topk() {
     local current=${COMP_WORDS[COMP_CWORD]} previous=${COMP_WORDS[COMP_CWORD - 1]} options word
     COMPREPLY=()
     if ((COMP_CWORD == 1)); then
-        mapfile -t COMPREPLY < <(compgen -W 'run one compare judge make bulk' -- "$current")
+        mapfile -t COMPREPLY < <(compgen -W 'run one compare judge make bulk node serve' -- "$current")
         return
     fi
     case ${COMP_WORDS[1]} in
         run) options='--workers --page --ahead' ;;
         make) options='--start --count --lists' ;;
         bulk) options='--start --count --lists --queries --workers --page --ahead' ;;
+        node) options='--at --conns --version' ;;
+        serve) options='--at --conns --workers --page --ahead' ;;
         *) return ;;
     esac
     # Each option takes a number, which is the user's to give.
     [[ $previous == --* || $previous == = ]] && return
-    if [[ ${COMP_WORDS[1]} == run && $current != -* ]]; then
+    if [[ ${COMP_WORDS[1]} == @(run|node|serve) && $current != -* ]]; then
         compopt -o filenames 2> /dev/null
         mapfile -t COMPREPLY < <(compgen -f -- "$current")
         return

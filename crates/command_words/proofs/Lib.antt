@@ -12,3 +12,5 @@ mod CommandLaws
 mod MakingLaws
 mod RunningLaws
 mod BulkingLaws
+mod NodeLaws
+mod ServingLaws

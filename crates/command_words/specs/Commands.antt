@@ -2,10 +2,12 @@
 use Rattle.std.specs.Prelude.{ℕ, Bool, true, false, List, [], ◌∷◌, Option, None, Some, option_map, codes, if◌then◌else◌}
 use Rattle.std.specs.Str.{bytes_eq}
 use Rattle.command_words.specs.declared.command.Command.{Command}
-use Rattle.command_words.specs.declared.command.Command.TheVariants.{One, Judge, Compare, Make, Run, Bulk}
+use Rattle.command_words.specs.declared.command.Command.TheVariants.{One, Judge, Compare, Make, Run, Bulk, Node, Serve}
 use Rattle.command_words.specs.Bulking.{bulk_options, AreBulkOptions}
 use Rattle.command_words.specs.Making.{make_options}
+use Rattle.command_words.specs.Node.{node_options}
 use Rattle.command_words.specs.Running.{run_options}
+use Rattle.command_words.specs.Serving.{serve_options}
 use Rattle.limits.specs.Ranges.{AreSettings}
 
 -- the word that ends the options
@@ -38,15 +40,22 @@ abbrev pub is_named : List ℕ → List (List ℕ) → Bool
 is_named name [] = false
 is_named name (word ∷ rest) = bytes_eq word name
 
+-- the command that the words are, of those that wait for connections and those that take no words
+abbrev pub other_command : List (List ℕ) → Option Command
+other_command words =
+    if is_named (codes "node") words then option_map Node (node_options words)
+    else (if is_named (codes "serve") words then option_map Serve (serve_options words) else bare_command words)
+
 -- the command that the words are: its name is the first, and what follows is what it takes
 abbrev pub command_of : List (List ℕ) → Option Command
 command_of words =
     if is_named (codes "make") words then option_map Make (make_options words)
     else (if is_named (codes "run") words then option_map Run (run_options words)
-    else (if is_named (codes "bulk") words then option_map Bulk (bulk_options words) else bare_command words))
+    else (if is_named (codes "bulk") words then option_map Bulk (bulk_options words) else other_command words))
 
 -- the settings that a command has are within their ranges
 abbrev pub HasSettings : Command → Type 0
 HasSettings (Run options) = AreSettings options.settings
 HasSettings (Bulk options) = AreBulkOptions options
+HasSettings (Serve options) = AreSettings options.settings
 HasSettings _ = Unit {0}

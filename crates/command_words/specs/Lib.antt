@@ -9,3 +9,5 @@ pub mod OptionNumbers
 pub mod Making
 pub mod Running
 pub mod Bulking
+pub mod Node
+pub mod Serving

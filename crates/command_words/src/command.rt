@@ -1,11 +1,13 @@
 //! Commands, read from words.
 
 ghost use Rattle.std.specs.Prelude.{◌≡◌, None, Some, IfOk, IfSome, OnOk, drop, true, false, option_and_then, slice_get};
-ghost use Rattle.command_words.specs.Commands.{command_named, command_of, bare_command, is_named, are_no_words, HasSettings};
+ghost use Rattle.command_words.specs.Commands.{command_named, command_of, other_command, bare_command, is_named, are_no_words, HasSettings};
 
 use super::bulking::{BulkOptions, read_bulk};
 use super::making::{MakeOptions, read_make};
+use super::node::{NodeOptions, read_node};
 use super::running::{RunOptions, read_run};
+use super::serving::{ServeOptions, read_serve};
 use super::{Words, WordsFault, found_in};
 use std::alloc::Global;
 
@@ -24,6 +26,10 @@ pub enum Command {
     Run(RunOptions),
     /// `bulk`: answers made queries over a made table.
     Bulk(BulkOptions),
+    /// `node`: serves a list of a catalog at a port.
+    Node(NodeOptions),
+    /// `serve`: answers query lines over the lists of a catalog at a port.
+    Serve(ServeOptions),
 }
 
 /// The command that the words are.
@@ -47,6 +53,27 @@ pub fn read_command(alloc: Global, words: &Words) -> Result<Command, WordsFault>
     if is_named(words, "bulk") {
         return match read_bulk(alloc, words) {
             Ok(options) => Ok(Command::Bulk(options)),
+            Err(refusal) => Err(refusal),
+        };
+    }
+    read_other(alloc, words)
+}
+
+/// The command that the words are, of those that wait for connections and those that take no words.
+fn read_other(alloc: Global, words: &Words) -> Result<Command, WordsFault>
+    ensures read { IfOk result (λ command. other_command words.now ≡ Some command) }
+    ensures refused { result ≡ Err WordsFault.BadWords → other_command words.now ≡ None }
+    ensures settings { IfOk result HasSettings }
+{
+    if is_named(words, "node") {
+        return match read_node(alloc, words) {
+            Ok(options) => Ok(Command::Node(options)),
+            Err(refusal) => Err(refusal),
+        };
+    }
+    if is_named(words, "serve") {
+        return match read_serve(alloc, words) {
+            Ok(options) => Ok(Command::Serve(options)),
             Err(refusal) => Err(refusal),
         };
     }

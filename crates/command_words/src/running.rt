@@ -7,50 +7,16 @@ ghost use Rattle.command_words.specs.Running.{run_options, run_in, settings_in};
 ghost use Rattle.limits.specs.Ranges.{AreSettings};
 
 use super::making::number_given;
-use super::{Argument, Words, WordsFault, found_in};
+use super::{Argument, Word, Words, WordsFault, found_in};
 use clap::ArgMatches;
 use limits::{MAX_AHEAD, MAX_PAGE, MAX_WORKERS, Settings};
-use std::alloc::{AllocError, Global};
-use std::marker::Model;
-
-/// Where a text stands, which contracts see as the bytes of the place.
-#[derive(Drop)]
-pub struct Place {
-    text: String,
-}
-
-impl Model for Place {
-    ghost use Rattle.std.specs.Prelude.{List, ℕ, string_bytes};
-
-    ghost Value = { List ℕ };
-
-    ghost view = { λ place. string_bytes place.text };
-}
-
-impl Place {
-    ghost use Rattle.std.specs.Prelude.{◌≡◌, IfOk};
-
-    /// The place of this name.
-    pub(crate) fn make(alloc: Global, name: &str) -> Result<Place, AllocError>
-        ensures { IfOk result (λ place. place ≡ name.now) }
-    {
-        let text = String::from_str(alloc, name)?;
-        Ok(Place { text })
-    }
-
-    /// The name of the place.
-    pub fn as_str(&self) -> &str
-        ensures { result.now ≡ self.now }
-    {
-        self.text.as_str()
-    }
-}
+use std::alloc::Global;
 
 /// Which queries are to be run.
 #[derive(Drop)]
 pub struct RunOptions {
     /// The place of the catalog of their lists.
-    pub catalog: Place,
+    pub catalog: Word,
     /// How they are run.
     pub settings: Settings,
 }
@@ -90,7 +56,7 @@ fn options_of(alloc: Global, matches: &ArgMatches) -> Result<RunOptions, WordsFa
     let Some(name) = matches.get_str("catalog") else {
         return Err(WordsFault::BadWords);
     };
-    match Place::make(alloc, name) {
+    match Word::make(alloc, name) {
         Ok(catalog) => Ok(RunOptions { catalog, settings }),
         Err(_) => Err(WordsFault::Memory),
     }
@@ -113,7 +79,13 @@ pub(crate) fn settings_of(matches: &ArgMatches) -> Option<Settings>
 
 /// The number of an option where it was given and its number is within its range, or the one that stands
 /// for it where it wasn't.
-fn number_or(matches: &ArgMatches, name: &str, default: u64, least: u64, most: u64) -> Option<u64>
+pub(crate) fn number_or(
+    matches: &ArgMatches,
+    name: &str,
+    default: u64,
+    least: u64,
+    most: u64,
+) -> Option<u64>
     requires above { least ≤ default }
     requires within { default ≤ most }
     ensures number { result ≡ free_number_in (rows_of (found_of matches.now)) name.now default least most }

@@ -7,7 +7,7 @@ use std::rt::Files;
 use std::sync::Wait;
 use std::thread::Threads;
 use std::{fs, io};
-use tk_io::{MemSink, StdIntake};
+use tk_io::{MemPort, MemSink, StdIntake};
 use topk_top::run_process;
 
 /// The most bytes that an example writes.
@@ -54,24 +54,30 @@ fn write_by<R: Files + AllocGlobal + Threads + Wait + Sync>(
     input: &mut StdIntake<R::File>,
     text: &[u8],
 ) -> io::Result<(u8, bool)> {
-    let Ok(mut out) = MemSink::make(rt.alloc(), ROOM, &[]) else {
+    let Ok(mut port) = MemPort::make(rt.alloc(), Vec::new(rt.alloc()), &[]) else {
         return Err(io::Error::from(ErrorKind::OutOfMemory));
     };
-    let code = code_of(rt, given, input, &mut out);
+    let Ok(mut out) = MemSink::make(rt.alloc(), ROOM, &[]) else {
+        drop(port);
+        return Err(io::Error::from(ErrorKind::OutOfMemory));
+    };
+    let code = code_of(rt, given, input, &mut out, &mut port);
     let is_its_text = out.taken() == text;
     drop(out);
+    drop(port);
     Ok((code, is_its_text))
 }
 
-/// The exit status of a process over an input and the files beside it.
+/// The exit status of a process over an input and the files beside it, at a port to which nobody comes.
 fn code_of<R: Files + AllocGlobal + Threads + Wait + Sync>(
     rt: &R,
     given: Given<'_>,
     input: &mut StdIntake<R::File>,
     out: &mut MemSink,
+    port: &mut MemPort,
 ) -> u8 {
     let mut shelf = FileShelf::make(rt.alloc(), rt);
-    let code = run_process(rt, &given, rt.alloc(), &mut shelf, input, out);
+    let code = run_process(rt, &given, rt.alloc(), &mut shelf, input, out, port);
     drop(shelf);
     code
 }

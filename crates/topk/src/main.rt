@@ -2,8 +2,9 @@
 #![tactic(auto)]
 
 use place_shelf::PlaceShelf;
+use std::net::{IpAddr, Ipv4Addr};
 use std::process::ExitCode;
-use tk_io::{StdIntake, StdSink};
+use tk_io::{NetPort, StdIntake, StdSink};
 use topk_top::run_process;
 
 /// Ends with the status of the top call.
@@ -11,6 +12,15 @@ fn main(rt: HostRuntime) -> ExitCode {
     let mut shelf = PlaceShelf::make(rt.alloc(), &rt, &rt);
     let mut input = StdIntake::make(rt.stdin());
     let mut out = StdSink::make(rt.stdout());
-    let code = run_process(&rt, &rt, rt.alloc(), &mut shelf, &mut input, &mut out);
+    let mut port = NetPort::make(rt, IpAddr::V4(Ipv4Addr::UNSPECIFIED));
+    let code = run_process(
+        &rt,
+        &rt,
+        rt.alloc(),
+        &mut shelf,
+        &mut input,
+        &mut out,
+        &mut port,
+    );
     ExitCode::from(code)
 }

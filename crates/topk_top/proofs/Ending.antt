@@ -2,13 +2,14 @@
 use Rattle.std.proofs.Common.{◌≡◌, Option, Some, None, inl, inr, sym, subst}
 use Rattle.command_words.specs.Commands.{command_of}
 use Rattle.command_words.specs.declared.command.Command.{Command}
-use Rattle.command_words.specs.declared.command.Command.TheVariants.{One, Judge, Compare, Make, Run, Bulk}
+use Rattle.command_words.specs.declared.command.Command.TheVariants.{One, Judge, Compare, Make, Run, Bulk, Node, Serve}
 use Rattle.topk_top.specs.Ends.{words_refused_text, CommandEnds, EndsRefused, CallEnds}
 use Rattle.call_ends.specs.Calls.{Call, KeepsShelf, LeftAlone, WroteNothing}
 use Rattle.call_ends.specs.Ends.{Says}
 use Rattle.call_ends.specs.declared.status.Status.{Status}
 use Rattle.call_ends.specs.declared.status.Status.TheVariants.{BadWords, Memory}
 use Rattle.catalog_calls.proofs.RunEnding.{asks_kept}
+use Rattle.node_calls.specs.Ports.{Ports, KeepsPort}
 use Rattle.call_ends.proofs.Ending.{read_none}
 
 -- what is said where words are refused ends so
@@ -20,15 +21,22 @@ ends_refused c result alone said = elim said [
 ]
 
 -- memory may be wanting before the words are known
-pub ends_without_memory : (command : Option Command) (c : Call) → KeepsShelf c → LeftAlone c → WroteNothing c → CommandEnds command c Memory
-ends_without_memory None c kept alone nothing = (kept, (alone, nothing))
-ends_without_memory (Some One) c kept alone nothing = (kept, (read_none c alone, nothing))
-ends_without_memory (Some Judge) c kept alone nothing = (kept, (read_none c alone, nothing))
-ends_without_memory (Some Compare) c kept alone nothing = (kept, (read_none c alone, nothing))
-ends_without_memory (Some (Make options)) c kept alone nothing = (kept, (alone, nothing))
-ends_without_memory (Some (Bulk options)) c kept alone nothing = (kept, (alone, nothing))
-ends_without_memory (Some (Run options)) c kept alone nothing = inl (asks_kept options.catalog c.before.shelf c.after.shelf kept, alone, nothing)
+pub ends_without_memory : (command : Option Command) (c : Call) (p : Ports) → KeepsPort p → KeepsShelf c → LeftAlone c → WroteNothing c
+    → CommandEnds command c p Memory
+ends_without_memory None c p port kept alone nothing = (port, kept, (alone, nothing))
+ends_without_memory (Some One) c p port kept alone nothing = (port, kept, (read_none c alone, nothing))
+ends_without_memory (Some Judge) c p port kept alone nothing = (port, kept, (read_none c alone, nothing))
+ends_without_memory (Some Compare) c p port kept alone nothing = (port, kept, (read_none c alone, nothing))
+ends_without_memory (Some (Make options)) c p port kept alone nothing = (port, kept, (alone, nothing))
+ends_without_memory (Some (Bulk options)) c p port kept alone nothing = (port, kept, (alone, nothing))
+ends_without_memory (Some (Run options)) c p port kept alone nothing =
+    (port, inl (asks_kept options.catalog c.before.shelf c.after.shelf kept, alone, nothing))
+ends_without_memory (Some (Node options)) c p port kept alone nothing =
+    (alone, inl (asks_kept options.catalog c.before.shelf c.after.shelf kept, port, nothing))
+ends_without_memory (Some (Serve options)) c p port kept alone nothing =
+    (alone, inl (asks_kept options.catalog c.before.shelf c.after.shelf kept, port, nothing))
 
 -- a call ends as its command does
-pub ends_as : (command : Option Command) (c : Call) (status : Status) → command_of c.words ≡ command → CommandEnds command c status → CallEnds c status
-ends_as command c status is ends = subst (λ o. CommandEnds o c status) (sym is) ends
+pub ends_as : (command : Option Command) (c : Call) (p : Ports) (status : Status) → command_of c.words ≡ command → CommandEnds command c p status
+    → CallEnds c p status
+ends_as command c p status is ends = subst (λ o. CommandEnds o c p status) (sym is) ends

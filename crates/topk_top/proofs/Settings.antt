@@ -1,12 +1,13 @@
 -- The settings that a command has.
 use Rattle.std.proofs.Common.{◌≡◌, subst}
 use Rattle.command_words.specs.declared.bulking.BulkOptions.{BulkOptions}
+use Rattle.command_words.specs.declared.serving.ServeOptions.{ServeOptions}
 use Rattle.command_words.specs.declared.running.RunOptions.{RunOptions}
 use Rattle.command_words.specs.Bulking.{AreBulkOptions}
 use Rattle.limits.specs.Ranges.{AreSettings}
 use Rattle.command_words.specs.Commands.{HasSettings}
 use Rattle.command_words.specs.declared.command.Command.{Command}
-use Rattle.command_words.specs.declared.command.Command.TheVariants.{Run, Bulk}
+use Rattle.command_words.specs.declared.command.Command.TheVariants.{Run, Bulk, Serve}
 
 -- the settings of a run that words ask for
 pub run_settings : (command : Command) (options : RunOptions) → command ≡ Run options → HasSettings command → AreSettings options.settings
@@ -15,3 +16,7 @@ run_settings command options is has = subst HasSettings is has
 -- and the numbers of made queries that they ask for
 pub bulk_settings : (command : Command) (options : BulkOptions) → command ≡ Bulk options → HasSettings command → AreBulkOptions options
 bulk_settings command options is has = subst HasSettings is has
+
+-- the settings of a server that they ask for
+pub serve_settings : (command : Command) (options : ServeOptions) → command ≡ Serve options → HasSettings command → AreSettings options.settings
+serve_settings command options is has = subst HasSettings is has

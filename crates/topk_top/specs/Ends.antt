@@ -2,10 +2,13 @@
 use Rattle.std.specs.Prelude.{◌≡◌, ℕ, List, Option, Some, None, codes}
 use Rattle.command_words.specs.Commands.{command_of}
 use Rattle.command_words.specs.declared.command.Command.{Command}
-use Rattle.command_words.specs.declared.command.Command.TheVariants.{One, Judge, Compare, Make, Run, Bulk}
+use Rattle.command_words.specs.declared.command.Command.TheVariants.{One, Judge, Compare, Make, Run, Bulk, Node, Serve}
 use Rattle.call_ends.specs.Calls.{Call, LeftAlone, KeepsShelf, WroteNothing, WroteWhole, WroteFront}
 use Rattle.catalog_calls.specs.RunEnds.{EndsRunning}
 use Rattle.bulk_run.specs.Bulk.{bulk_text}
+use Rattle.node_calls.specs.Ports.{Ports, KeepsPort}
+use Rattle.node_calls.specs.NodeEnds.{EndsNode}
+use Rattle.serve_calls.specs.ServeEnds.{EndsServe}
 use Rattle.call_ends.specs.Codes.{exit_code}
 use Rattle.bundle_calls.specs.Made.{made_text}
 use Rattle.bundle_calls.specs.Reply.{Replies}
@@ -27,20 +30,22 @@ EndsRefused c WriteFault = LeftAlone c × WroteFront c words_refused_text
 EndsRefused c Memory = LeftAlone c × WroteNothing c
 EndsRefused _ _ = ⊥
 
--- how each command ends, and words that are none
-abbrev pub CommandEnds : Option Command → Call → Status → Type 0
-CommandEnds None c status = KeepsShelf c × EndsRefused c status
-CommandEnds (Some One) c status = KeepsShelf c × EndsReading Replies c status
-CommandEnds (Some Judge) c status = KeepsShelf c × EndsReading JudgeReplies c status
-CommandEnds (Some Compare) c status = KeepsShelf c × EndsReading Compares c status
-CommandEnds (Some (Make options)) c status = KeepsShelf c × EndsWriting (made_text options.start options.count options.lists) c status
-CommandEnds (Some (Run options)) c status = EndsRunning options c status
-CommandEnds (Some (Bulk options)) c status = KeepsShelf c × EndsWriting (bulk_text options) c status
+-- how each command ends, and words that are none; only a command that takes connections asks anything of the port
+abbrev pub CommandEnds : Option Command → Call → Ports → Status → Type 0
+CommandEnds None c p status = KeepsPort p × KeepsShelf c × EndsRefused c status
+CommandEnds (Some One) c p status = KeepsPort p × KeepsShelf c × EndsReading Replies c status
+CommandEnds (Some Judge) c p status = KeepsPort p × KeepsShelf c × EndsReading JudgeReplies c status
+CommandEnds (Some Compare) c p status = KeepsPort p × KeepsShelf c × EndsReading Compares c status
+CommandEnds (Some (Make options)) c p status = KeepsPort p × KeepsShelf c × EndsWriting (made_text options.start options.count options.lists) c status
+CommandEnds (Some (Run options)) c p status = KeepsPort p × EndsRunning options c status
+CommandEnds (Some (Bulk options)) c p status = KeepsPort p × KeepsShelf c × EndsWriting (bulk_text options) c status
+CommandEnds (Some (Node options)) c p status = LeftAlone c × EndsNode options c p status
+CommandEnds (Some (Serve options)) c p status = LeftAlone c × EndsServe options c p status
 
 -- how a call ends
-abbrev pub CallEnds : Call → Status → Type 0
-CallEnds c status = CommandEnds (command_of c.words) c status
+abbrev pub CallEnds : Call → Ports → Status → Type 0
+CallEnds c p status = CommandEnds (command_of c.words) c p status
 
 -- the exit status tells how the call ended
-abbrev pub ExitsBy : Call → ℕ → Type 0
-ExitsBy c code = (status : Status) × CallEnds c status × (code ≡ exit_code status)
+abbrev pub ExitsBy : Call → Ports → ℕ → Type 0
+ExitsBy c p code = (status : Status) × CallEnds c p status × (code ≡ exit_code status)

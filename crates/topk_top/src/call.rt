@@ -2,6 +2,7 @@
 
 ghost use Rattle.std.specs.Prelude.{◌≤◌};
 ghost use Rattle.call_ends.specs.Calls.{call_of};
+ghost use Rattle.node_calls.specs.Ports.{ports_of};
 ghost use Rattle.topk_top.specs.Ends.{CallEnds};
 
 use bulk_run::bulk;
@@ -9,11 +10,13 @@ use bundle_calls::{compare, judge, make, one};
 use call_ends::{Status, say};
 use catalog_calls::run;
 use command_words::{Command, Words, WordsFault, read_command};
+use node_calls::node;
+use serve_calls::serve;
 use source_api::Shelf;
 use std::alloc::Global;
 use std::sync::Wait;
 use std::thread::Threads;
-use tk_io::{Intake, Sink};
+use tk_io::{Intake, Port, Sink};
 
 /// What is written where the words are no command.
 const WORDS_REFUSED: &[u8] = b"refused words\n";
@@ -29,25 +32,29 @@ const WORDS_REFUSED: &[u8] = b"refused words\n";
 /// input, answers them over the lists of the catalog that its words name, whose sources are taken of the
 /// shelf, and writes what became of each line, in their order: `refused catalog NAME RECORD` alone where
 /// the catalog's text is none. `bulk` makes a table and queries over it as its options ask for, runs them
-/// all and writes the sums over their answers; it leaves the input as it was. Words that are no command
-/// are answered with `refused words`.
+/// all and writes the sums over their answers; it leaves the input as it was. `node` serves one list of a catalog,
+/// whose source is taken of the shelf, to the links of the port, one after another, and writes how many it
+/// served. `serve` answers queries over the lists of a catalog to the links of the port, and writes how many links it took. Both leave
+/// the input as it was, and no other command asks anything of the port. Words that are no command are answered with `refused words`.
 ///
-/// The queries of `run` and `bulk` are shared out among as many threads as their options say, and each source
-/// has one more thread that reads ahead; where the system makes no thread, this one does all. These two may wait
+/// The queries of `run`, `bulk` and `serve` are shared out among as many threads as their options say, and each source
+/// has one more thread that reads ahead; where the system makes no thread, this one does all. These three and `node` may wait
 /// for ever; the other commands start no thread.
-#[tactic(auto, using(crate::proofs::Settings::run_settings, crate::proofs::Settings::bulk_settings))]
-pub fn top<W: Threads + Wait + Sync, H: Shelf, R: Intake, K: Sink>(
+#[tactic(auto, using(crate::proofs::Settings::run_settings, crate::proofs::Settings::bulk_settings, crate::proofs::Settings::serve_settings))]
+pub fn top<W: Threads + Wait + Sync, H: Shelf, R: Intake, K: Sink, P: Port>(
     rt: &W,
     alloc: Global,
     words: &Words,
     shelf: &mut H,
     input: &mut R,
     out: &mut K,
+    port: &mut P,
 ) -> Status
     ensures reads { R.faults input.old ≤ R.faults input.new }
     ensures writes { K.faults out.old ≤ K.faults out.new }
     ensures ends { CallEnds (call_of R.left R.faults K.held K.faults H.texts H.lists H.versions H.at words.now
-        (input.old, out.old, shelf.old) (input.new, out.new, shelf.new)) result }
+        (input.old, out.old, shelf.old) (input.new, out.new, shelf.new))
+        (ports_of P.links P.closed P.faults (port.old, port.new)) result }
 {
     match read_command(alloc, words) {
         Ok(Command::One) => one(alloc, input, out),
@@ -56,6 +63,8 @@ pub fn top<W: Threads + Wait + Sync, H: Shelf, R: Intake, K: Sink>(
         Ok(Command::Make(options)) => make(alloc, options.start, options.count, options.lists, out),
         Ok(Command::Run(options)) => run(rt, alloc, &options, shelf, input, out),
         Ok(Command::Bulk(options)) => bulk(rt, alloc, options, out),
+        Ok(Command::Node(options)) => node(alloc, &options, shelf, out, port),
+        Ok(Command::Serve(options)) => serve(rt, alloc, &options, shelf, out, port),
         Err(WordsFault::BadWords) => say(out, WORDS_REFUSED, Status::BadWords),
         Err(WordsFault::Memory) => Status::Memory,
     }

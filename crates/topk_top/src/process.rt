@@ -2,6 +2,7 @@
 
 ghost use Rattle.std.specs.Prelude.{List, ℕ};
 ghost use Rattle.call_ends.specs.Calls.{call_of};
+ghost use Rattle.node_calls.specs.Ports.{ports_of};
 ghost use Rattle.topk_top.specs.Ends.{ExitsBy};
 
 use super::call::top;
@@ -12,29 +13,31 @@ use std::alloc::Global;
 use std::env::Env;
 use std::sync::Wait;
 use std::thread::Threads;
-use tk_io::{Intake, Sink};
+use tk_io::{Intake, Port, Sink};
 
 /// Calls `top` with the words of a process, which `env` has, and gives the exit status; `rt` runs its
 /// threads. A word that isn't UTF-8 makes the words no command, as no words are none.
 ///
 /// What the words are is the process's own: the clause says that the call ends as some words do.
-pub fn run_process<W: Threads + Wait + Sync, E: Env, H: Shelf, R: Intake, K: Sink>(
+pub fn run_process<W: Threads + Wait + Sync, E: Env, H: Shelf, R: Intake, K: Sink, P: Port>(
     rt: &W,
     env: &E,
     alloc: Global,
     shelf: &mut H,
     input: &mut R,
     out: &mut K,
+    port: &mut P,
 ) -> u8
     ensures { (words : List (List ℕ)) × ExitsBy (call_of R.left R.faults K.held K.faults H.texts H.lists H.versions H.at words
-        (input.old, out.old, shelf.old) (input.new, out.new, shelf.new)) result }
+        (input.old, out.old, shelf.old) (input.new, out.new, shelf.new))
+        (ports_of P.links P.closed P.faults (port.old, port.new)) result }
 {
     let words = match read_words(env, alloc) {
         Ok(words) => words,
         Err(WordsFault::BadWords) => Words::make(alloc),
         Err(WordsFault::Memory) => return Status::Memory.code(),
     };
-    let status = top(rt, alloc, &words, shelf, input, out);
+    let status = top(rt, alloc, &words, shelf, input, out, port);
     drop(words);
     status.code()
 }

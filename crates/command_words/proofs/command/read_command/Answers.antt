@@ -35,9 +35,9 @@ returns-in-Err-read_bulk-clause-refused c = λ e.
 pub returns-clause-read : goal.returns-clause-read
 returns-clause-read c =
     let is = none_named c.args.words.now (sym c.is_named.ensures ∙ c.if-is_named.false) (sym c.is_named-2.ensures ∙ c.if-is_named-2.false) (sym c.is_named-3.ensures ∙ c.if-is_named-3.false) in
-    answer_read _ _ c.read_bare.result is c.read_bare.ensures.read
+    answer_read _ _ c.read_other.result is c.read_other.ensures.read
 
 pub returns-clause-refused : goal.returns-clause-refused
 returns-clause-refused c = λ e.
     none_named c.args.words.now (sym c.is_named.ensures ∙ c.if-is_named.false) (sym c.is_named-2.ensures ∙ c.if-is_named-2.false) (sym c.is_named-3.ensures ∙ c.if-is_named-3.false)
-    ∙ c.read_bare.ensures.refused e
+    ∙ c.read_other.ensures.refused e
