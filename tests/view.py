@@ -14,6 +14,7 @@ from special import Skipped, run
 ROOT = pathlib.Path(__file__).resolve().parent.parent
 VIEW = ROOT / "examples" / "view"
 BUNDLES = ROOT / "crates" / "examples" / "data"
+CASES = ROOT / "tests" / "cases"
 BROWSERS = ("chromium", "chromium-browser", "google-chrome", "chrome")
 EMPTY = {"area", "base", "br", "col", "hr", "img", "input", "link", "meta", "source", "wbr"}
 SUMS = ("cost", "depth", "rows not read", "grades never known")
@@ -144,6 +145,19 @@ def view_of_an_open_answer(program):
     ])
 
 
+def view_of_a_guarantee(program):
+    """What is guaranteed of an answer within a factor stands beside it; from 1400 on, 7/8 of the threshold, the run may stop."""
+    written = run(program, ["one"], (CASES / "one_within" / "input").read_bytes()).stdout.decode()
+    shown = page(written)
+    return first_difference([
+        ("guarantee", shown.texts("p", data_figure="guarantee"),
+         ["Guaranteed: no object outside is better by more than the factor 8/7 (at most 1.143 times as much)."]),
+        ("enough", shown.texts("span", data_figure="enough"), ["enough from 1,400"]),
+        ("depths where it may stop", len(list(shown.all("tr", class_="met"))), 1),
+        ("lines of the chart", len(list(shown.all("polyline"))), 3),
+    ])
+
+
 def view_of_several(_):
     """Of several outcomes one is picked; a refusal and a text that is no certificate are said to be so."""
     answered = "certificate 2\nquery top 1 by A using ta\ncount 1\nanswer 5 7 7\nstop depth 1 sorted 1 random 0 cost 1\ns A 5 7\nend\n"
@@ -175,5 +189,5 @@ def view_is_labelled(_):
 
 def tests():
     """Each test with its name."""
-    for test in (view_logic, view_of_an_answer, view_of_an_open_answer, view_of_several, view_is_labelled):
+    for test in (view_logic, view_of_an_answer, view_of_an_open_answer, view_of_a_guarantee, view_of_several, view_is_labelled):
         yield test.__name__, test

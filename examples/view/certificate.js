@@ -4,7 +4,8 @@
  * What topk writes, read back: certificates, refusals, and where a text is neither.
  *
  * An outcome is one of
- *   { kind: "certificate", line, query, count, answers, stop, accesses }
+ *   { kind: "certificate", line, query, count, versions, answers, guarantee, stop, accesses }
+ *                                                     `guarantee` is null where the algorithm has none
  *   { kind: "refusal", line, name, fields, text }     `line` is null where no query line was refused
  *   { kind: "fault", at, expected, found }            line `at` of the text, from 1, isn't what was expected
  */
@@ -62,7 +63,9 @@ const TopkCertificate = (() => {
   const HEAD = pattern("certificate N");
   const QUERY = /^query (.*)$/;
   const COUNT = pattern("count N");
+  const VERSION = pattern("version ([A-Za-z][A-Za-z0-9_]*) N");
   const ANSWER = pattern("answer N N N");
+  const GUARANTEE = pattern("guarantee N N");
   const STOP = pattern("stop depth N sorted N random N cost N");
   const ACCESS = pattern("([sr]) ([A-Za-z][A-Za-z0-9_]*) N N");
   const END = /^end$/;
@@ -79,12 +82,37 @@ const TopkCertificate = (() => {
     }
   }
 
+  /** The versions that sources stated of their lists, in the order of the query. */
+  function readVersions(lines, names) {
+    const versions = [];
+    for (let found = lines.find(VERSION); found !== null; found = lines.find(VERSION)) {
+      const list = names.indexOf(found[1]);
+      const isNext = list > (versions.at(-1)?.list ?? -1);
+      if (!isNext || found[2] === "0") throw new Fault(lines.at, "versions from 1 on, at most one of a list, in the order of the query");
+      versions.push({ list, version: BigInt(found[2]) });
+    }
+    return versions;
+  }
+
   function readAnswers(lines) {
     const answers = [];
     for (let found = lines.find(ANSWER); found !== null; found = lines.find(ANSWER)) {
       answers.push({ object: within(lines, found[1], MAX_OBJECT), low: BigInt(found[2]), high: BigInt(found[3]) });
     }
     return answers;
+  }
+
+  /** The guarantee, which stands under some algorithms and no others. */
+  function readGuarantee(lines, { algorithm }) {
+    if (!Query.GUARANTEED.includes(algorithm)) return null;
+    const [, p, q] = lines.take(GUARANTEE, `an \`answer\` line, or \`guarantee P Q\`, which stands under \`${algorithm}\``);
+    return { p: BigInt(p), q: BigInt(q) };
+  }
+
+  function readStop(lines, isGuaranteed) {
+    const wanted = "`stop depth .. sorted .. random .. cost ..`";
+    const [, depth, sorted, random, cost] = lines.take(STOP, isGuaranteed ? wanted : `an \`answer\` line, or ${wanted}`);
+    return { depth: Number(depth), sorted: Number(sorted), random: Number(random), cost: BigInt(cost) };
   }
 
   function readAccesses(lines, names) {
@@ -113,12 +141,13 @@ const TopkCertificate = (() => {
     const [, line] = lines.take(HEAD, "`certificate` and the number of the query line");
     const query = readQuery(lines);
     const [, count] = lines.take(COUNT, "`count` and the number of objects");
+    const versions = readVersions(lines, query.names);
     const answers = readAnswers(lines);
-    const [, depth, sorted, random, cost] = lines.take(STOP, "an `answer` line, or `stop depth .. sorted .. random .. cost ..`");
+    const guarantee = readGuarantee(lines, query);
+    const stop = readStop(lines, guarantee !== null);
     const accesses = readAccesses(lines, query.names);
     lines.take(END, "an access (`s NAME OBJECT GRADE` or `r NAME OBJECT GRADE`), or `end`");
-    const stop = { depth: Number(depth), sorted: Number(sorted), random: Number(random), cost: BigInt(cost) };
-    return { kind: "certificate", line: Number(line), query, count: Number(count), answers, stop, accesses };
+    return { kind: "certificate", line: Number(line), query, count: Number(count), versions, answers, guarantee, stop, accesses };
   }
 
   function readRefusal(lines) {

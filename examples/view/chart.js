@@ -9,12 +9,16 @@ const TopkChart = (() => {
   const MOST_POINTS = 60;
 
   /** The lines of a chart: a class, a name, and what a stage has of it. */
-  function linesOf(k, algorithm) {
+  function linesOf({ k, algorithm, factor }) {
+    const kth = TopkQuery.BY_THRESHOLD.includes(algorithm) ? "aggregate" : "low";
     const lines = [
       { name: "threshold", title: "threshold", of: (stage) => stage.threshold },
-      { name: "kth", title: `k-th ${algorithm === "ta" ? "aggregate" : "low"}, k = ${grouped(k)}`, of: (stage) => stage.kthLow },
+      { name: "kth", title: `k-th ${kth}, k = ${grouped(k)}`, of: (stage) => stage.kthLow },
     ];
-    if (algorithm !== "ta") lines.push({ name: "rival", title: "greatest high of another object", of: (stage) => stage.rival?.high ?? null });
+    const share = factor === null ? "" : `${grouped(factor.q)}/${grouped(factor.p)} of the threshold, which is enough`;
+    if (factor !== null) lines.push({ name: "enough", title: share, of: (stage) => stage.enough });
+    const rival = { name: "rival", title: "greatest high of another object", of: (stage) => stage.rival?.high ?? null };
+    if (TopkQuery.BY_BOUNDS.includes(algorithm)) lines.push(rival);
     return lines;
   }
 
@@ -81,8 +85,8 @@ const TopkChart = (() => {
   }
 
   /** The chart of a run's stages, so many pixels wide. Its numbers stand in the table of the lists too. */
-  function chart({ k, algorithm }, stages, width) {
-    const lines = linesOf(k, algorithm);
+  function chart(query, stages, width) {
+    const lines = linesOf(query);
     const scales = scalesOf(stages, lines, width);
     const ends = lines.map((line) => `${line.title} ${grouped(line.of(stages.at(-1)) ?? "none")}`).join(", ");
     const label = `By depth, from ${grouped(scales.first)} to ${grouped(scales.last)}. At the end: ${ends}.`;

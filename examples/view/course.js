@@ -10,6 +10,8 @@ const TopkCourse = (() => {
   const Certificate = isNode ? require("./certificate.js") : TopkCertificate;
   const TOP = BigInt(Certificate.MAX_GRADE);
 
+  const EXACT = { p: 1n, q: 1n };
+
   const falling = (one, other) => (one > other ? -1 : one < other ? 1 : 0);
 
   /** What is known after the first so many accesses of a certificate. */
@@ -20,6 +22,9 @@ const TopkCourse = (() => {
       this.bottoms = query.names.map(() => TOP);
       this.depths = query.names.map(() => 0);
       this.seen = new Set();
+      /** By object: of how many lists a row has shown it; and how many objects the rows of every list have shown. */
+      this.shown = new Map();
+      this.inEvery = 0;
       /** By object: its known grades, one place for each list. */
       this.grades = new Map();
       this.lows = new Map();
@@ -29,11 +34,17 @@ const TopkCourse = (() => {
       if (!this.grades.has(object)) this.grades.set(object, Array(this.bottoms.length).fill(null));
       this.grades.get(object)[list] = BigInt(grade);
       if (kind === "sorted") {
-        this.seen.add(object);
+        this.show(object);
         this.depths[list] += 1;
         this.bottoms[list] = BigInt(grade);
       }
       this.lows.set(object, this.value(this.known(object).map((known) => known ?? 0n)));
+    }
+
+    show(object) {
+      this.seen.add(object);
+      this.shown.set(object, (this.shown.get(object) ?? 0) + 1);
+      if (this.shown.get(object) === this.depths.length) this.inEvery += 1;
     }
 
     known(object) {
@@ -84,6 +95,43 @@ const TopkCourse = (() => {
     }
   }
 
+  /** Whether the k-th low, times a factor, reaches the threshold. */
+  const isReached = ({ kthLow, threshold }, { p, q }) => p * kthLow >= q * threshold;
+  const isQuiet = ({ kthLow, rival }) => rival === null || kthLow >= rival.high;
+
+  /** Whether a run may stop at the end of a stage at which k objects were seen, by its algorithm. */
+  const STOPS = {
+    ta: (stage) => isReached(stage, EXACT),
+    theta: (stage, { query }) => isReached(stage, query.factor),
+    early: (stage, { query }) => isReached(stage, EXACT) || stage.depth >= query.depth,
+    taz: (stage, { count }) => isReached(stage, EXACT) || stage.seen === count,
+    fa: (stage, { query }) => stage.inEvery >= query.k,
+    nra: isQuiet,
+    ca: isQuiet,
+  };
+
+  const mayStop = (stage, certificate) => stage.kthLow !== null && STOPS[certificate.query.algorithm](stage, certificate);
+
+  /** The least k-th aggregate that `theta` stops at: the threshold over the factor, rounded up. */
+  const enough = (threshold, { p, q }) => (q * threshold + p - 1n) / p;
+
+  /** What stands at the end of a depth; `rival` where the algorithm goes by it, `enough` with `theta`. */
+  function standing(certificate, knowledge, depth) {
+    const { algorithm, factor } = certificate.query;
+    const threshold = knowledge.threshold();
+    const stage = {
+      depth,
+      bottoms: [...knowledge.bottoms],
+      threshold,
+      kthLow: knowledge.kthLow(),
+      rival: Query.BY_BOUNDS.includes(algorithm) ? knowledge.rival(knowledge.firstK()) : null,
+      enough: factor === null ? null : enough(threshold, factor),
+      seen: knowledge.seen.size,
+      inEvery: knowledge.inEvery,
+    };
+    return { ...stage, mayStop: mayStop(stage, certificate) };
+  }
+
   /** The accesses by depth: those before the first row of the next depth belong to a depth. */
   function byDepth({ query, accesses }) {
     const depths = query.names.map(() => 0);
@@ -105,8 +153,8 @@ const TopkCourse = (() => {
 
   /**
    * The course of a run, one stage for each chosen depth: the row of each list there (or null), the random accesses made
-   * there, and at its end the bottoms, the threshold, the k-th low and the rival, the object outside the first k with the
-   * greatest high (null with `ta`, which stops by the threshold alone).
+   * there, and at its end the bottoms, the threshold, the k-th low, how many objects were seen, how many of them in every
+   * list, whether the run may stop, and with `nra` and `ca` the rival: the object outside the first k with the greatest high.
    */
   function course(certificate, most = Infinity) {
     const knowledge = new Knowledge(certificate);
@@ -117,26 +165,32 @@ const TopkCourse = (() => {
     parts.forEach((part, place) => {
       part.forEach((access) => knowledge.take(access));
       if (!chosen.has(place + 1)) return;
-      stages.push({
-        depth: place + 1,
-        rows: rows.map((list) => list[place] ?? null),
-        random: part.filter((access) => access.kind === "random"),
-        bottoms: [...knowledge.bottoms],
-        threshold: knowledge.threshold(),
-        kthLow: knowledge.kthLow(),
-        rival: certificate.query.algorithm === "ta" ? null : knowledge.rival(knowledge.firstK()),
-      });
+      const random = part.filter((access) => access.kind === "random");
+      stages.push({ ...standing(certificate, knowledge, place + 1), rows: rows.map((list) => list[place] ?? null), random });
     });
     return { depth: parts.length, stages };
   }
 
+  /** The guarantee that a certificate's query and accesses come to: the factor that is asked for, or what an early stop shows. */
+  function guaranteeOf({ query, answers }, knowledge) {
+    if (query.algorithm !== "early") return query.factor;
+    const lows = answers.map((answer) => knowledge.low(answer.object)).sort(falling);
+    const [least, threshold] = [lows.at(-1) ?? 0n, knowledge.threshold()];
+    if (least >= threshold) return EXACT;
+    return least === 0n ? { p: 1n, q: 0n } : { p: threshold, q: least };
+  }
+
+  const written = (guarantee) => (guarantee === null ? "none" : `${guarantee.p} ${guarantee.q}`);
+
   /** Where the head of a certificate says something else than its accesses. */
-  function differences({ query, answers, stop }, sums, knowledge) {
+  function differences(certificate, sums, knowledge) {
+    const { query, answers, guarantee, stop } = certificate;
     const said = [];
     const compare = (what, stated, counted) => {
       if (stated !== counted) said.push(`${what}: the certificate says ${stated}, its accesses come to ${counted}`);
     };
     compare("answers", answers.length, query.k);
+    compare("guarantee", written(guarantee), written(guaranteeOf(certificate, knowledge)));
     for (const key of ["depth", "sorted", "random", "cost"]) compare(key, stop[key], sums[key]);
     for (const { object, low, high } of answers) {
       compare(`low of object ${object}`, low, knowledge.low(object));

@@ -46,14 +46,35 @@ const TopkPicture = (() => {
     );
   }
 
+  /** A factor p/q, and in decimals, rounded up, so that what is said of it stays true. */
+  function factorText({ p, q }) {
+    const thousandths = (1000n * p + q - 1n) / q;
+    return `${grouped(p)}/${grouped(q)} (at most ${grouped(thousandths / 1000n)}.${String(thousandths % 1000n).padStart(3, "0")} times as much)`;
+  }
+
+  /** A guarantee in words. */
+  function guaranteeText({ p, q }) {
+    if (q === 0n) return "Nothing is guaranteed: the least low of the answer is 0.";
+    if (p === q) return "Guaranteed: no object outside is better.";
+    return `Guaranteed: no object outside is better by more than the factor ${factorText({ p, q })}.`;
+  }
+
+  /** What is said of the greatest value outside where it is above the least low of the answer. */
+  function aboveText(high, leastLow, guarantee) {
+    if (guarantee === null) return "these accesses don't fix it";
+    if (guarantee.q === 0n) return "it may be better";
+    return guarantee.q * high > guarantee.p * leastLow ? "these accesses don't bear out the guarantee" : "that is within the guarantee";
+  }
+
   /** What may still be above the answer, in a sentence. */
-  function verdict(figures, items) {
+  function verdict(figures, { answers: items, guarantee }) {
     const { rival, leastLow } = figures;
     if (leastLow === null) return "There is no answer line.";
     if (rival === null) return "Each object is in the answer.";
     const who = rival.object === null ? "an object that no access has named" : `object ${rival.object}`;
     const most = `No other object can have more than ${grouped(rival.high)} (${who})`;
-    if (rival.high > leastLow) return `${most}, which is above the least low of the answer, ${grouped(leastLow)}: these accesses don't fix it.`;
+    const above = `which is above the least low of the answer, ${grouped(leastLow)}`;
+    if (rival.high > leastLow) return `${most}, ${above}: ${aboveText(rival.high, leastLow, guarantee)}.`;
     const open = items.some((item) => item.high > item.low) ? " (the hatched part is open)" : "";
     return `${most}, and each answer has at least ${grouped(leastLow)}${open}.`;
   }
@@ -67,7 +88,8 @@ const TopkPicture = (() => {
     return element("tr", {}, element("th", { class: "number", scope: "row" }, object), bounds, number(low), number(high));
   }
 
-  function answers({ answers: items }, figures) {
+  function answers(certificate, figures) {
+    const { answers: items, guarantee } = certificate;
     const scale = [...items.map((item) => item.high), figures.rival?.high ?? 0n].reduce((a, b) => (b > a ? b : a), 0n);
     const column = (title) => element("th", { class: "number", scope: "col" }, title);
     const line = element("td", { "aria-hidden": "true" }, figures.rival === null ? "" : "the upright line: what no other object can pass");
@@ -75,8 +97,9 @@ const TopkPicture = (() => {
     const head = element("tr", {}, column("object"), line, column("least"), column("greatest"));
     const table = element("table", {}, element("thead", {}, head), element("tbody", {}, rows));
     const title = element("h2", {}, `The ${counted(items.length, "answer")}`);
-    const said = element("p", { class: "note" }, verdict(figures, items));
-    return element("section", { id: "answers" }, title, said, scrolling("Answers with their bounds", table));
+    const promise = guarantee === null ? null : element("p", { "data-figure": "guarantee" }, guaranteeText(guarantee));
+    const said = element("p", { class: "note" }, verdict(figures, certificate));
+    return element("section", { id: "answers" }, title, promise, said, scrolling("Answers with their bounds", table));
   }
 
   /** What a list gave at a depth: its row, and the random accesses. */
@@ -90,28 +113,30 @@ const TopkPicture = (() => {
   }
 
   /** What stands at the end of a stage: a class, a text and a value each. */
-  function metersOf(stage, algorithm) {
+  function metersOf(stage, { algorithm }) {
+    const kth = TopkQuery.BY_THRESHOLD.includes(algorithm) ? "k-th" : "k-th low";
     const meters = [
       { name: "threshold", title: "threshold", value: stage.threshold },
-      { name: "kth", title: algorithm === "ta" ? "k-th" : "k-th low", value: stage.kthLow },
+      { name: "kth", title: kth, value: stage.kthLow },
+      { name: "enough", title: "enough from", value: stage.enough },
       { name: "rival", title: "others up to", value: stage.rival?.high ?? null },
     ];
     return meters.filter((meter) => meter.value !== null).map((meter) => ({ ...meter, text: `${meter.title} ${grouped(meter.value)}` }));
   }
 
-  function meterCell(meters, scale) {
+  function meterCell(meters, scale, counts) {
     const drawn = meters.flatMap(({ name, value, text }) => [
       element("div", { class: name, "aria-hidden": "true", style: `width: ${percent(value, scale)}` }),
       element("span", { "data-figure": name }, text),
     ]);
-    return element("td", {}, element("div", { class: "meter" }, drawn));
+    const said = counts === null ? null : element("span", { class: "counts", "data-figure": "counts" }, counts);
+    return element("td", {}, element("div", { class: "meter" }, drawn, said));
   }
 
-  /** Whether a run may stop at the end of a stage: nothing outside the first k can have more than the k-th low. */
-  function isMet(stage, algorithm) {
-    if (stage.kthLow === null) return false;
-    if (algorithm === "ta") return stage.kthLow >= stage.threshold;
-    return stage.rival === null || stage.kthLow >= stage.rival.high;
+  /** How many objects were seen, and how many the rows of every list have shown, where an algorithm goes by that. */
+  function countText({ seen, inEvery }, algorithm) {
+    if (algorithm === "taz") return `${grouped(seen)} seen`;
+    return algorithm === "fa" ? `${grouped(inEvery)} in every list` : null;
   }
 
   function unreadRow({ query, count }, figures) {
@@ -121,16 +146,16 @@ const TopkPicture = (() => {
   }
 
   /** One depth of a run: what each list gave there, and what stands at its end. */
-  function stageRow(stage, { algorithm }, drawing) {
-    const met = isMet(stage, algorithm);
+  function stageRow(stage, query, drawing) {
     const cells = stage.rows.map((row, list) => listCell(row, stage.random.filter((access) => access.list === list), drawing));
-    const depth = element("th", { scope: "row", class: "number" }, grouped(stage.depth), met ? hidden(", may stop") : null);
-    return element("tr", met ? { class: "met" } : {}, depth, cells, meterCell(metersOf(stage, algorithm), drawing.greatest));
+    const depth = element("th", { scope: "row", class: "number" }, grouped(stage.depth), stage.mayStop ? hidden(", may stop") : null);
+    const meters = meterCell(metersOf(stage, query), drawing.greatest, countText(stage, query.algorithm));
+    return element("tr", stage.mayStop ? { class: "met" } : {}, depth, cells, meters);
   }
 
   /** What the bars of a run are drawn against: the greatest grade, the greatest value, the answer. */
   function drawingOf({ answers: items, accesses, query }, stages) {
-    const meters = stages.flatMap((stage) => metersOf(stage, query.algorithm));
+    const meters = stages.flatMap((stage) => metersOf(stage, query));
     return {
       inside: new Set(items.map((item) => item.object)),
       top: accesses.reduce((most, access) => Math.max(most, access.grade), 0),
@@ -143,8 +168,11 @@ const TopkPicture = (() => {
     const { query } = certificate;
     const drawing = drawingOf(certificate, stages);
     const column = (title) => element("th", { scope: "col" }, title);
+    // `taz` reads a row of each list that can be read in order at every depth.
+    const isUnread = (list) => query.algorithm === "taz" && figures.depths[list] === 0;
+    const listColumn = (name, list) => column([name, isUnread(list) ? element("small", {}, " random access alone") : null]);
     const depths = element("th", { scope: "col", class: "number" }, "depth");
-    const head = element("tr", {}, depths, query.names.map(column), column("at the end of the depth"));
+    const head = element("tr", {}, depths, query.names.map(listColumn), column("at the end of the depth"));
     const some = stages.length < depth ? ` Of ${grouped(depth)} depths, ${grouped(stages.length)} are shown.` : "";
     const caption = element("caption", {}, `A row: an object and its grade. ◆ random access. ★ in the answer.${some}`);
     const body = element("tbody", {}, stages.map((stage) => stageRow(stage, query, drawing)), unreadRow(certificate, figures));
@@ -154,14 +182,21 @@ const TopkPicture = (() => {
 
   /** Why a run may stop, by its algorithm. */
   const THRESHOLD = "The threshold is the value at the last grades read: no object that no row has shown can have more.";
+  const MEETS = `${THRESHOLD} The run stops where the k-th aggregate meets it`;
+  const GREATEST = "Of a list that offers random access alone the greatest grade, 1,000,000, is taken for the last one.";
+  const BOUNDS = `${THRESHOLD} The run stops where the k-th low meets the greatest high of all others`;
   const STOPS = {
-    ta: `${THRESHOLD} The run stops where the k-th aggregate meets it.`,
-    nra: `${THRESHOLD} The run stops where the k-th low meets the greatest high of all others, shown or not.`,
-    ca: `${THRESHOLD} The run stops where the k-th low meets the greatest high of all others, and then asks for what is unknown of its answers.`,
+    ta: () => `${MEETS}.`,
+    theta: ({ factor: { p, q } }) => `${THRESHOLD} The run stops where the k-th aggregate, times ${grouped(p)}/${grouped(q)}, reaches it.`,
+    early: ({ depth }) => `${MEETS}, or once it has reached depth ${grouped(depth)} and has seen k objects.`,
+    taz: () => `${MEETS}, or once all objects were seen. ${GREATEST}`,
+    fa: () => "The run stops where the rows of every list have shown the same k objects, and then asks for what is unknown of all that were seen.",
+    nra: () => `${BOUNDS}, shown or not.`,
+    ca: () => `${BOUNDS}, and then asks for what is unknown of its answers.`,
   };
 
   function courseSection(query, stages, width) {
-    const [title, why] = [element("h2", {}, "Why it stopped there"), element("p", { class: "note" }, STOPS[query.algorithm])];
+    const [title, why] = [element("h2", {}, "Why it stopped there"), element("p", { class: "note" }, STOPS[query.algorithm](query))];
     return element("section", { id: "course" }, title, why, TopkChart.chart(query, stages, width));
   }
 
@@ -175,9 +210,10 @@ const TopkPicture = (() => {
     const differences = element("ul", {}, figures.differences.map((said) => element("li", {}, said)));
     const algorithm = TopkQuery.ALGORITHMS[query.algorithm];
     const about = `Line ${grouped(certificate.line)}, answered by ${algorithm} over ${counted(certificate.count, "object")}.`;
+    const versions = certificate.versions.map(({ list, version }) => `${query.names[list]} is at version ${version}`);
     const parts = [
       element("p", { class: "query" }, query.line),
-      element("p", { class: "note" }, about),
+      element("p", { class: "note" }, about, versions.length === 0 ? null : ` ${versions.join(", ")}.`),
       figures.differences.length === 0 ? null : wrong("Its figures are not those of its accesses.", differences),
       answers(certificate, figures),
       element("section", { id: "sums" }, element("h2", {}, "What it took"), sums(certificate, figures)),

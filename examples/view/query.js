@@ -7,7 +7,8 @@
 const TopkQuery = (() => {
   const MAX_DEPTH = 8;
   const MAX_LISTS = 8;
-  const LINE = /^top (0|[1-9][0-9]*) by (\S+) using (ta|nra|ca)(?: cost (0|[1-9][0-9]*) (0|[1-9][0-9]*))?(?: room (0|[1-9][0-9]*))?$/;
+  const N = "(0|[1-9][0-9]*)";
+  const LINE = new RegExp(`^top ${N} by (\\S+) using (ta|nra|ca|fa|taz|theta ${N}/${N}|early ${N})(?: cost ${N} ${N})?(?: room ${N})?$`);
   const NAME = /[A-Za-z][A-Za-z0-9_]{0,31}/y;
   const NUMBER = /0|[1-9][0-9]*/y;
 
@@ -15,7 +16,20 @@ const TopkQuery = (() => {
     ta: "the threshold algorithm",
     nra: "the algorithm without random access",
     ca: "the combined algorithm",
+    fa: "Fagin's algorithm",
+    theta: "the threshold algorithm within a factor",
+    early: "the threshold algorithm stopped early",
+    taz: "the threshold algorithm over the lists that can be read in order",
   };
+
+  /** The algorithms that stop by the threshold, and know all grades of each object that a row has shown. */
+  const BY_THRESHOLD = ["ta", "theta", "early", "taz"];
+
+  /** Those that stop where no other object's high is above the k-th low. */
+  const BY_BOUNDS = ["nra", "ca"];
+
+  /** Those whose certificates state within which factor of the best an answer is. */
+  const GUARANTEED = ["theta", "early"];
 
   const least = (values) => values.reduce((one, other) => (other < one ? other : one));
   const greatest = (values) => values.reduce((one, other) => (other > one ? other : one));
@@ -92,18 +106,22 @@ const TopkQuery = (() => {
     }
   }
 
-  /** The query that a line spells. Throws a `SyntaxError` where it spells none. */
+  /** The query that a line spells: `factor` is that of `theta`, `depth` that of `early`. Throws a `SyntaxError` where it spells none. */
   function read(line) {
     const found = LINE.exec(line);
     if (found === null) throw new SyntaxError("no query");
-    const [, k, expression, algorithm, sorted = "1", random = "1", room] = found;
+    const [, k, expression, algorithm, p, q, depth, sorted = "1", random = "1", room] = found;
     const reader = new ExpressionReader(expression);
+    const factor = p === undefined ? null : { p: BigInt(p), q: BigInt(q) };
+    if (factor !== null && (factor.q === 0n || factor.p < factor.q)) throw new SyntaxError("its factor isn't 1 or more");
     return {
       line,
       k: Number(k),
       expression: reader.whole(),
       names: reader.names,
-      algorithm,
+      algorithm: algorithm.split(" ")[0],
+      factor,
+      depth: depth === undefined ? null : Number(depth),
       costs: { sorted: BigInt(sorted), random: BigInt(random) },
       room: room === undefined ? null : Number(room),
     };
@@ -115,7 +133,7 @@ const TopkQuery = (() => {
     return OPERATORS[node.operator](node.terms.map((term) => term.weight * value(term.node, grades)));
   }
 
-  return { ALGORITHMS, read, value };
+  return { ALGORITHMS, BY_THRESHOLD, BY_BOUNDS, GUARANTEED, read, value };
 })();
 
 if (typeof module === "object") module.exports = TopkQuery;

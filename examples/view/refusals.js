@@ -9,6 +9,7 @@ const TopkRefusals = (() => {
     Syntax: (at) => `The line is no query: it goes wrong behind its first ${at} bytes.`,
     Number: (at) => `The number at byte ${at}, counted from 0, is out of its range.`,
     TooManyLists: (at) => `One list too many is named at byte ${at}, counted from 0.`,
+    BadTheta: (p, q) => `The factor ${p}/${q} is below 1.`,
     TooManyNodes: (nodes) => `The expression has ${nodes} parts, which are too many.`,
     TooDeep: (depth) => `The expression nests ${depth} deep, which is too deep.`,
     TooBig: (node) => `The value of part ${node} of the expression may be too big.`,
@@ -18,6 +19,7 @@ const TopkRefusals = (() => {
     CountsDiffer: (list, n, other, m) => `The list ${list} states ${n} objects, and ${other} states ${m}.`,
     KAboveCount: (k, n) => `${k} objects are asked for, and the lists have ${n}.`,
     NoRandom: (list) => `The algorithm makes random accesses, and the list ${list} offers none.`,
+    NoSorted: (list) => `The algorithm reads lists in order, and the list ${list} offers random access alone.`,
     Strangers: (object, count) => `Object ${object} is one more than the ${count} objects that the lists have.`,
     RoomFull: (room) => `The answer needs more objects at once than the room for ${room} that the query states.`,
     OutOfOrder: (list, place, before, after) =>
@@ -37,6 +39,7 @@ const TopkRefusals = (() => {
     Moved: (list, had, now) => `The list ${list} was replaced: version ${had} was at hand, and a reply stated version ${now}.`,
     bundle: (line) => `The input is no bundle: its line ${line} is the first at fault.`,
     catalog: (name, record) => `The file is no catalog: its record ${record} is the first at fault (${name}).`,
+    node: (name, list) => `The catalog has no list ${list} that a node could serve (${name}).`,
     words: () => "The words on the command line are no command.",
   };
 

@@ -10,7 +10,8 @@ const Certificate = require("./certificate.js");
 const Course = require("./course.js");
 const Refusals = require("./refusals.js");
 
-const CRATES = path.join(__dirname, "..", "..", "crates");
+const ROOT = path.join(__dirname, "..", "..");
+const CRATES = path.join(ROOT, "crates");
 const read = (...parts) => fs.readFileSync(path.join(CRATES, ...parts), "utf8");
 
 /** The only outcome of a text. */
@@ -102,6 +103,106 @@ test("the sums at the end, and what may still be outside", () => {
   assert.deepEqual([two.differences, open.differences], [[], []]);
 });
 
+/** Text of a certificate over the two lists of three objects: A 1:900 2:800 3:100, B 2:700 3:600 1:500. */
+function certificate(query, ...lines) {
+  return `certificate 1\nquery ${query}\ncount 3\n${lines.join("\n")}\nend\n`;
+}
+
+const FIRST_ROWS = ["s A 1 900", "s B 2 700", "r B 1 500", "r A 2 800"];
+const FIRST_STOP = "stop depth 1 sorted 2 random 2 cost 4";
+const WITHIN = certificate("top 1 by sum(A,B) using theta 8/7", "answer 2 1500 1500", "guarantee 8 7", FIRST_STOP, ...FIRST_ROWS);
+const EARLY = certificate("top 1 by sum(A,B) using early 1", "answer 2 1500 1500", "guarantee 1600 1500", FIRST_STOP, ...FIRST_ROWS);
+
+test("an answer within a factor comes with its guarantee", () => {
+  const { query, guarantee, answers } = only(WITHIN);
+  assert.deepEqual([query.algorithm, query.factor, query.depth], ["theta", { p: 8n, q: 7n }, null]);
+  assert.deepEqual([guarantee, answers.length], [{ p: 8n, q: 7n }, 1]);
+  const [stage] = Course.course(only(WITHIN)).stages;
+  // 7 times 1600 is 11200: it stops from 1400 on.
+  assert.deepEqual([stage.threshold, stage.kthLow, stage.enough, stage.mayStop, stage.rival], [1600n, 1500n, 1400n, true, null]);
+  assert.equal(Course.course(only(TWO_LISTS)).stages[0].mayStop, false);
+  assert.deepEqual(Course.figures(only(WITHIN)).differences, []);
+});
+
+test("the factor that is enough is rounded up", () => {
+  const [stage] = Course.course(only(WITHIN.replaceAll("8/7", "16/15").replace("8 7", "16 15"))).stages;
+  assert.deepEqual([stage.enough, stage.mayStop], [1500n, true]);
+  // 10000 times 1500 is 1600 times 9375.
+  const [next] = Course.course(only(WITHIN.replaceAll("8/7", "10000/9376").replace("8 7", "10000 9376"))).stages;
+  assert.deepEqual([next.enough, next.mayStop], [1501n, false]);
+});
+
+test("an early stop guarantees the threshold over the least low", () => {
+  const { query, guarantee } = only(EARLY);
+  assert.deepEqual([query.algorithm, query.factor, query.depth, guarantee], ["early", null, 1, { p: 1600n, q: 1500n }]);
+  assert.deepEqual(Course.course(only(EARLY)).stages.map((stage) => [stage.mayStop, stage.enough]), [[true, null]]);
+  assert.deepEqual(Course.figures(only(EARLY)).differences, []);
+  // Where the threshold is reached the answer is a best one, and a least low of 0 says nothing.
+  const reached = TWO_LISTS.replace("using ta", "using early 5").replace("stop", "guarantee 1 1\nstop");
+  assert.deepEqual(Course.figures(only(reached)).differences, []);
+  assert.deepEqual(Course.course(only(reached)).stages.map((stage) => stage.mayStop), [false, true]);
+  const none = certificate("top 1 by min(A,B) using early 1", "answer 1 0 0", "guarantee 1 0", "stop depth 1 sorted 2 random 2 cost 4",
+    "s A 1 900", "s B 2 700", "r B 1 0", "r A 2 0");
+  assert.deepEqual(Course.figures(only(none)).differences, []);
+});
+
+test("a guarantee that isn't that of the accesses is told", () => {
+  for (const text of [WITHIN.replace("guarantee 8 7", "guarantee 9 7"), EARLY.replace("1600 1500", "1 1"), EARLY.replace("1600 1500", "16 15")]) {
+    assert.deepEqual(Course.figures(only(text)).differences.map((said) => said.split(":")[0]), ["guarantee"]);
+  }
+});
+
+test("a guarantee stands behind the answers, under the algorithms that have one", () => {
+  const line = "guarantee 1 1\n";
+  const rows = [
+    [WITHIN.replace("guarantee 8 7\n", ""), 5, FIRST_STOP],
+    [EARLY.replace("guarantee 1600 1500\n", ""), 5, FIRST_STOP],
+    [TWO_LISTS.replace("stop", `${line}stop`), 5, "guarantee 1 1"],
+    [WITHIN.replace("answer", `${line}answer`), 5, "answer 2 1500 1500"],
+    [WITHIN.replace("s A", `${line}s A`), 7, "guarantee 1 1"],
+    [EARLY.replace("1600 1500", "01 1"), 5, "guarantee 01 1"],
+    [EARLY.replace("stop", `${line}stop`), 6, "guarantee 1 1"],
+  ];
+  for (const [text, at, found] of rows) {
+    const [outcome] = Certificate.readOutcomes(text);
+    assert.deepEqual([outcome.kind, outcome.at, outcome.found], ["fault", at, found], text);
+  }
+});
+
+test("a list that can't be read in order has random accesses alone", () => {
+  const text = certificate("top 1 by sum(A,B) using taz", "answer 2 1500 1500", "stop depth 3 sorted 3 random 3 cost 6",
+    "s A 1 900", "r B 1 500", "s A 2 800", "r B 2 700", "s A 3 100", "r B 3 600");
+  const { depth, stages } = Course.course(only(text));
+  assert.equal(depth, 3);
+  assert.deepEqual(stages.map((stage) => stage.threshold), [1_000_900n, 1_000_800n, 1_000_100n]);
+  assert.deepEqual(stages.map((stage) => [stage.kthLow, stage.seen, stage.mayStop]), [[1400n, 1, false], [1500n, 2, false], [1500n, 3, true]]);
+  const figures = Course.figures(only(text));
+  assert.deepEqual([figures.depths, figures.depth, figures.known, figures.rival], [[3, 0], 3, 6, { object: 1, high: 1400n }]);
+  assert.deepEqual(figures.differences, []);
+  // A weight of 0 makes the other list's grade nothing: the threshold is reached.
+  const one = certificate("top 1 by wsum(1*A,0*B) using taz", "answer 1 900 900", "stop depth 1 sorted 1 random 1 cost 2", "s A 1 900", "r B 1 500");
+  assert.deepEqual(Course.course(only(one)).stages.map((stage) => [stage.threshold, stage.kthLow, stage.mayStop]), [[900n, 900n, true]]);
+  assert.deepEqual(Course.figures(only(one)).differences, []);
+});
+
+test("Fagin's algorithm stops where k objects stand in every list", () => {
+  const text = certificate("top 1 by sum(A,B) using fa", "answer 2 1500 1500", "stop depth 2 sorted 4 random 2 cost 6",
+    "s A 1 900", "s B 2 700", "s A 2 800", "s B 3 600", "r B 1 500", "r A 3 100");
+  const { stages } = Course.course(only(text));
+  assert.deepEqual(stages.map((stage) => [stage.inEvery, stage.mayStop, stage.rival]), [[0, false, null], [1, true, null]]);
+  assert.deepEqual(Course.figures(only(text)).differences, []);
+});
+
+test("versions of lists are read, in the order of the query", () => {
+  const versioned = (...lines) => TWO_LISTS.replace("answer", `${lines.join("\n")}\nanswer`);
+  assert.deepEqual(only(versioned("version A 7", "version B 18446744073709551615")).versions, [
+    { list: 0, version: 7n }, { list: 1, version: 18_446_744_073_709_551_615n }]);
+  assert.deepEqual(only(TWO_LISTS).versions, []);
+  for (const [lines, at] of [[["version A 0"], 4], [["version C 1"], 4], [["version B 1", "version A 1"], 5], [["version A 1", "version A 1"], 5]]) {
+    assert.deepEqual(Certificate.readOutcomes(versioned(...lines)).map((outcome) => [outcome.kind, outcome.at]), [["fault", at]]);
+  }
+});
+
 test("costs are counted", () => {
   const text = TWO_LISTS.replace("using ta", "using ta cost 2 30 room 3").replace("cost 7", "cost 98");
   assert.deepEqual(Course.figures(only(text)).differences, []);
@@ -146,7 +247,9 @@ test("texts that spell no query", () => {
   for (const expression of ["", "min()", "min(A", "min(A))", "A,B", "wsum(A)", "wsum(01*A)", "2*A", "1A", "mean(A)", deep, nineLists]) {
     assert.throws(() => Query.read(`top 1 by ${expression} using ta`), SyntaxError, expression);
   }
-  for (const line of ["top 1 by A", "top 01 by A using ta", "top 1 by A using fa", "top 1 by A using ta room 1 cost 1 1", " top 1 by A using ta"]) {
+  const numbers = ["theta", "theta 8", "theta 8/", "theta 08/7", "theta 7/8", "theta 0/0", "theta  8/7", "early", "early 01", "ta 8/7", "taz 1"];
+  const others = ["top 1 by A", "top 01 by A using ta", "top 1 by A using fb", "top 1 by A using ta room 1 cost 1 1", " top 1 by A using ta"];
+  for (const line of [...numbers.map((words) => `top 1 by A using ${words}`), ...others]) {
     assert.throws(() => Query.read(line), SyntaxError, line);
   }
 });
@@ -158,7 +261,7 @@ test("a text that is no certificate is told by its first wrong line", () => {
     ["hello", 1],
     ["fixes\n", 1],
     [withLine(1, "certificate 01"), 1],
-    [withLine(2, "query top 1 by sum(A,B) using fa"), 2],
+    [withLine(2, "query top 1 by sum(A,B) using fb"), 2],
     [withLine(3, "count three"), 3],
     [withLine(4, "answer 4294967296 1 1"), 4],
     [withLine(5, "stop depth 2"), 5],
@@ -188,6 +291,11 @@ test("refusals", () => {
   assert.deepEqual([only("refused bundle 3").line, only("refused bundle 3").fields], [null, ["3"]]);
   assert.equal(only("refused words").name, "words");
   assert.match(Refusals.meaning("NoRandom", ["quiet"]), /quiet offers none/);
+  assert.match(Refusals.meaning("BadTheta", ["7", "8"]), /factor 7\/8 is below 1/);
+  assert.match(Refusals.meaning("NoSorted", ["B"]), /list B offers random access alone/);
+  const { line: none, name: command, fields: words } = only("refused node UnknownList A\n");
+  assert.deepEqual([none, command], [null, "node"]);
+  assert.match(Refusals.meaning(command, words), /no list A/);
   assert.match(Refusals.meaning("Unheard", []), /no answer/);
 });
 
@@ -198,9 +306,22 @@ test("each refusal of the program has a meaning", () => {
   assert.deepEqual(names.filter((name) => !Refusals.NAMES.includes(name)), []);
 });
 
+test("each algorithm of the program is known", () => {
+  const words = [...read("query_text", "src", "algorithm.rt").matchAll(/Algorithm::\w+[^=]*=> b"(\w+) ?"/g)].map((found) => found[1]);
+  assert.ok(words.length >= 7);
+  assert.deepEqual(words.toSorted(), Object.keys(Query.ALGORITHMS).toSorted());
+});
+
+/** What `run` and `one` write in the cases that are run with the built program. */
+function writtenInCases() {
+  const cases = path.join(ROOT, "tests", "cases");
+  const names = fs.readdirSync(cases).filter((name) => /^(run|one)_/.test(name));
+  return names.map((name) => fs.readFileSync(path.join(cases, name, "output"), "utf8"));
+}
+
 test("the examples of the program are read whole, and their figures are those of their accesses", () => {
   const data = fs.readdirSync(path.join(CRATES, "examples", "data")).filter((name) => name.endsWith(".text"));
-  const written = [read("topk", "stdout"), ...data.map((name) => read("examples", "data", name))];
+  const written = [read("topk", "stdout"), ...data.map((name) => read("examples", "data", name)), ...writtenInCases()];
   const texts = written.filter((text) => /^(certificate|refused) /.test(text));
   assert.ok(texts.length > 10);
   for (const outcome of texts.flatMap((text) => Certificate.readOutcomes(text))) {
@@ -227,7 +348,8 @@ test("texts stand out from their ground", () => {
   for (const [text, ground] of [["ink", "paper"], ["muted", "paper"], ["random", "paper"], ["fault", "paper"], ["ink", "row"]]) {
     assert.ok(contrast(text, ground) >= 4.5, `${text} on ${ground}: ${contrast(text, ground)}`);
   }
-  for (const [bar, ground] of [["low", "track"], ["threshold", "paper"], ["low", "paper"], ["rival", "paper"], ["low", "open"]]) {
+  const bars = [["low", "track"], ["threshold", "paper"], ["low", "paper"], ["rival", "paper"], ["random", "paper"], ["low", "open"]];
+  for (const [bar, ground] of bars) {
     assert.ok(contrast(bar, ground) >= 3, `${bar} on ${ground}: ${contrast(bar, ground)}`);
   }
 });
