@@ -56,6 +56,9 @@ bench: topk
 	bench/bench.py
 	cd crates/bench_http && rt run < stdin
 	bench/http.py
+	bench/nodes.py
+	bench/bridges.py
+	bench/serve.py
 
 # `bulk` with one worker and with more writes the same bytes, over and over, and how long it takes: some minutes.
 threads: topk

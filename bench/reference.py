@@ -56,6 +56,9 @@ class Query:
     def __init__(self, line):
         words = line.split(" ")
         self.line, self.k, self.expression, self.algorithm = line, int(words[1]), Expression(words[3]), words[5]
+        # What stands behind the word of the algorithm: the factor of `theta`, the depth of `early`.
+        self.factor = tuple(map(int, words[6].split("/"))) if self.algorithm == "theta" else (1, 1)
+        self.depth = int(words[6]) if self.algorithm == "early" else None
         self.costs, self.room = (1, 1), None
         if "cost" in words:
             at = words.index("cost")
@@ -65,16 +68,18 @@ class Query:
 
 
 class Run:
-    """One run of a query over its lists, access by access."""
+    """One run of a query over its lists, access by access; `readable` tells of each list whether it can be read in order."""
 
-    def __init__(self, query, lists):
-        self.query, self.lists = query, lists
+    def __init__(self, query, lists, readable):
+        self.query, self.lists, self.readable = query, lists, readable
         self.count = len(lists[0])
         self.bottoms = [TOP_GRADE] * len(lists)
         self.seen, self.known, self.accesses = [], {}, []
 
     def sorted_row(self, depth):
         for place, rows in enumerate(self.lists):
+            if not self.readable[place]:
+                continue
             item, grade = rows[depth - 1]
             self.accesses.append(("s", place, item, grade))
             self.bottoms[place] = grade
@@ -107,11 +112,16 @@ class Run:
     def is_viable(self, item):
         return len(self.seen) < self.query.k or self.high(item) > self.kth_low()
 
-    def may_stop(self):
+    def may_stop(self, depth):
         if len(self.seen) < self.query.k:
             return False
-        if self.query.algorithm == "ta":
-            return sum(self.low(item) >= self.threshold() for item in self.seen) >= self.query.k
+        if self.query.algorithm == "fa":
+            return sum(all(item in dict(rows[:depth]) for rows in self.lists) for item in self.seen) >= self.query.k
+        if self.query.algorithm == "early" and depth >= self.query.depth or self.query.algorithm == "taz" and len(self.seen) == self.count:
+            return True
+        if self.query.algorithm in ("ta", "theta", "early", "taz"):
+            p, q = self.query.factor
+            return sum(p * self.low(item) >= q * self.threshold() for item in self.seen) >= self.query.k
         if len(self.seen) < self.count and self.threshold() > self.kth_low():
             return False
         first = self.first_k()
@@ -121,26 +131,49 @@ class Run:
         step = max(1, self.query.costs[1] // self.query.costs[0])
         for depth in range(1, self.count + 1):
             self.sorted_row(depth)
-            if self.query.algorithm == "ta":
-                for rows in self.lists:
-                    self.look_up_rest(rows[depth - 1][0])
+            if self.query.algorithm in ("ta", "theta", "early", "taz"):
+                for place, rows in enumerate(self.lists):
+                    if self.readable[place]:
+                        self.look_up_rest(rows[depth - 1][0])
             if self.query.algorithm == "ca" and depth % step == 0:
                 open_items = [i for i in self.seen if len(self.known[i]) < len(self.lists) and self.is_viable(i)]
                 if open_items:
                     self.look_up_rest(min(open_items, key=lambda item: (-self.high(item), item)))
-            if self.may_stop():
+            if self.may_stop(depth):
                 break
-        if self.query.algorithm == "ca":
-            for item in self.first_k():
+        if self.query.algorithm == "fa":
+            for item in self.seen:
                 self.look_up_rest(item)
-        return [(item, self.low(item), self.high(item)) for item in self.first_k()]
+        first = self.first_k()
+        if self.query.algorithm == "ca":
+            # The objects that were the first at the stop, whatever the order becomes by what is asked of them.
+            for item in first:
+                self.look_up_rest(item)
+            first.sort(key=lambda item: (-self.low(item), item))
+        return [(item, self.low(item), self.high(item)) for item in first]
+
+    def guarantee(self, items):
+        """The two numbers of the line `guarantee`, where the algorithm has one."""
+        if self.query.algorithm == "theta":
+            return self.query.factor
+        if self.query.algorithm != "early":
+            return None
+        least = min(low for _, low, _ in items)
+        if least >= self.threshold():
+            return (1, 1)
+        return (self.threshold(), least) if least else (1, 0)
 
 
-def outcome(number, line, lists):
-    """The text of a query line that is admitted, over `lists` by name."""
+def outcome(number, line, lists, unordered=()):
+    """The text of a query line that is admitted but for its factor and for `unordered`, the names of lists that can't be read in order."""
     query = Query(line)
+    if query.factor[0] < query.factor[1]:
+        return f"refused {number} BadTheta {query.factor[0]} {query.factor[1]}\n"
     names = query.expression.names
-    run = Run(query, [lists[name] for name in names])
+    lacking = [name for name in names if name in unordered]
+    if len(lacking) == len(names) or lacking and query.algorithm != "taz":
+        return f"refused {number} NoSorted {lacking[0]}\n"
+    run = Run(query, [lists[name] for name in names], [name not in unordered for name in names])
     items = run.go()
     if query.room is not None and query.room < run.count and query.room < len(run.seen):
         return f"refused {number} RoomFull {query.room}\n"
@@ -149,6 +182,7 @@ def outcome(number, line, lists):
     cost = in_order * query.costs[0] + by_object * query.costs[1]
     text = [f"certificate {number}", f"query {line}", f"count {run.count}"]
     text += [f"answer {item} {low} {high}" for item, low, high in items]
-    text += [f"stop depth {in_order // len(names)} sorted {in_order} random {by_object} cost {cost}"]
+    text += [f"guarantee {run.guarantee(items)[0]} {run.guarantee(items)[1]}"] if run.guarantee(items) else []
+    text += [f"stop depth {in_order // (len(names) - len(lacking))} sorted {in_order} random {by_object} cost {cost}"]
     text += [f"{kind} {names[place]} {item} {grade}" for kind, place, item, grade in run.accesses]
     return "\n".join(text + ["end"]) + "\n"

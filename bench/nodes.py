@@ -1,0 +1,109 @@
+#!/usr/bin/env python3
+"""Queries over four nodes on this machine, beside reading the four lists whole over the same wire: rows and grades asked for, and seconds.
+
+Use, from anywhere, with the program at ./topk (`make topk`) or the place given: bench/nodes.py [PROGRAM [ROWS]]
+
+The lists are a made table of 200,000 objects, each served by `topk node` from its list file. A plain client reads them whole in pages of 10,000
+rows, joins them and takes the best; another one makes the random accesses of a certificate again, one connection after another.
+"""
+import contextlib
+import heapq
+import json
+import pathlib
+import socket
+import subprocess
+import sys
+import tempfile
+import time
+
+LISTS = 4
+PAGE = 10_000
+
+
+def free_port():
+    with socket.socket() as port:
+        port.bind(("127.0.0.1", 0))
+        return port.getsockname()[1]
+
+
+def asked(port, target):
+    """The body of a reply, and how many bytes came."""
+    with socket.create_connection(("127.0.0.1", port)) as link:
+        link.sendall(f"GET {target} HTTP/1.1\r\nHost: 127.0.0.1:{port}\r\nConnection: close\r\n\r\n".encode())
+        came = bytearray()
+        while piece := link.recv(1 << 16):
+            came += piece
+    return json.loads(bytes(came).split(b"\r\n\r\n", 1)[1]), len(came)
+
+
+def whole(ports):
+    """Seconds and bytes of reading all lists and adding the grades up, and the ten best."""
+    begun, taken, sums = time.monotonic(), 0, {}
+    for number, port in ports.items():
+        body, size = asked(port, f"/lists/{number}/size")
+        taken += size
+        for start in range(0, body["count"], PAGE):
+            page, size = asked(port, f"/lists/{number}/page?from={start}&count={PAGE}")
+            taken += size
+            for item, grade in page["rows"]:
+                sums[item] = sums.get(item, 0) + grade
+    best = heapq.nsmallest(10, sums.items(), key=lambda pair: (-pair[1], pair[0]))
+    return time.monotonic() - begun, taken, [item for item, _ in best]
+
+
+def again(ports, text):
+    """Seconds of the random accesses of a certificate, made one after another."""
+    lines = [line.split() for line in text.splitlines() if line.startswith("r ")]
+    begun = time.monotonic()
+    for _, name, item, grade in lines:
+        body, _ = asked(ports[name], f"/lists/{name}/grade?object={item}")
+        assert body["grade"] == int(grade)
+    return time.monotonic() - begun, len(lines)
+
+
+def run(program, catalog, line, page):
+    begun = time.monotonic()
+    said = subprocess.run([program, "run", catalog, "--page", str(page), "--workers", "1"], input=line, capture_output=True, text=True)
+    assert said.returncode == 0, (said.returncode, said.stdout[:200])
+    return time.monotonic() - begun, said.stdout
+
+
+def main():
+    program = str(pathlib.Path(sys.argv[1] if len(sys.argv) > 1 else "topk").resolve())
+    rows = int(sys.argv[2]) if len(sys.argv) > 2 else 200_000
+    made = subprocess.run([program, "make", "--start", "7", "--count", str(rows), "--lists", str(LISTS)], capture_output=True, text=True).stdout
+    with tempfile.TemporaryDirectory() as folder, contextlib.ExitStack() as nodes:
+        folder, ports = pathlib.Path(folder), {}
+        for section in made.split("list ")[1:]:
+            name, _, text = section.partition("\n")
+            (folder / f"{name}.csv").write_text(text)
+            ports[name] = free_port()
+        files = folder / "files.csv"
+        files.write_text("name,place,random\n" + "".join(f"{name},{folder}/{name}.csv,yes\n" for name in ports))
+        for name, port in ports.items():
+            node = subprocess.Popen([program, "node", files, name, "--at", str(port)], stdout=subprocess.DEVNULL)
+            nodes.callback(node.wait)
+            nodes.callback(node.kill)
+        catalog = folder / "hosts.csv"
+        catalog.write_text("name,place,random\n" + "".join(f"{name},http://127.0.0.1:{port}/lists/{name},yes\n" for name, port in ports.items()))
+        for port in ports.values():
+            while True:
+                with contextlib.suppress(OSError), socket.create_connection(("127.0.0.1", port)):
+                    break
+                time.sleep(0.05)
+        seconds, taken, best = whole(ports)
+        print(f"whole lists: {LISTS * rows} rows, {taken / 1e6:.1f} MB, {seconds:.2f} s")
+        of_all = f"top 10 by sum({','.join(ports)})"
+        for algorithm, page in (("nra", 1000), ("ca cost 1 100", 1000), ("ta", 1000)):
+            took, text = run(program, catalog, f"{of_all} using {algorithm}\n", page)
+            found = [int(line.split()[1]) for line in text.splitlines() if line.startswith("answer ")]
+            assert sorted(found) == sorted(best), (found, best)
+            print(f"{algorithm}: {next(line for line in text.splitlines() if line.startswith('stop '))}, {took:.2f} s")
+        for line in (f"top 1 by min({','.join(ports)}) using early 90\n", f"{of_all} using ta\n"):
+            took, text = run(program, catalog, line, 100)
+            plain, count = again(ports, text)
+            print(f"{count} random accesses: the query {took:.2f} s, a plain client {plain:.2f} s")
+
+
+if __name__ == "__main__":
+    main()
