@@ -20,7 +20,7 @@ pub use ends::Ends;
 pub use fault::PushFault;
 pub use inconsistency::first_kind;
 pub use kinds::Known;
-pub use memory::Memory;
+pub use limits::Memory;
 pub use objects::Objects;
 pub use ranked_list::{Item, Items};
 pub use record::Record;

@@ -16,7 +16,7 @@ use Rattle.topk_theory.proofs.ThresholdLists.{contains_from_filter}
 use Rattle.zlist_core.specs.Lists.{reads}
 use Rattle.access_log.specs.Log.{AgreesWith}
 use Rattle.machine_base.specs.Machine.{asked_of}
-use Rattle.source_log.specs.Log.{rows_in, fault_in}
+use Rattle.source_state.specs.Log.{rows_in, fault_in}
 use Rattle.source_state.specs.State.{State, state_at}
 use Rattle.source_state.specs.Looking.{reach_of}
 use Rattle.query_core.specs.declared.ready.Ready.{Ready}
@@ -28,13 +28,13 @@ use Rattle.query_core.specs.Machines.{method_of, state_of}
 use Rattle.query_core.specs.OneAnswer.{one_run_with}
 use Rattle.query_core.proofs.Answering.{asked_same}
 use Rattle.query_core.proofs.RestrictedFacts.{restricted_reads}
-use Rattle.query_turns.specs.declared.ended.Ended.{Ended}
-use Rattle.query_turns.specs.declared.ended.Ended.TheVariants as ended
-use Rattle.query_turns.specs.declared.inquiry.Inquiry.{Inquiry}
-use Rattle.query_turns.specs.Endings.{EndsAs}
-use Rattle.query_turns.specs.Honest.{lists_of, HasTable}
-use Rattle.query_turns.specs.Kept.{IsServed}
-use Rattle.query_turns.specs.Made.{IsOf}
+use Rattle.query_run.specs.declared.ended.Ended.{Ended}
+use Rattle.query_run.specs.declared.ended.Ended.TheVariants as ended
+use Rattle.query_run.specs.declared.inquiry.Inquiry.{Inquiry}
+use Rattle.query_run.specs.Endings.{EndsAs}
+use Rattle.query_run.specs.Honest.{lists_of, HasTable}
+use Rattle.query_run.specs.Kept.{IsServed}
+use Rattle.query_run.specs.Made.{IsOf}
 use Rattle.query_run.specs.Asking.{access_of, accesses_asked, grades_asked}
 use Rattle.fetcher.specs.Causes.{HasGiven}
 use Rattle.batch_result.specs.Account.{Reading, AsksGradesAlone, IsAnsweredOf, IsReadByGrades, IsWithin, KeepsEach, deepest, depth_in, greatest, lists_of_source, one_reading, one_readings, printed_reading, printed_readings, random_accesses, random_in}

@@ -17,9 +17,9 @@ use Rattle.topk_theory.proofs.ListNumbers.{number_in}
 use Rattle.topk_theory.proofs.ThresholdLists.{contains_filter}
 use Rattle.source_state.specs.State.{State}
 use Rattle.query_core.specs.Machines.{state_of}
-use Rattle.query_turns.specs.declared.inquiry.Inquiry.{Inquiry}
-use Rattle.query_turns.specs.Inquiries.{needed, source_of}
-use Rattle.query_turns.specs.Kept.{IsServed}
+use Rattle.query_run.specs.declared.inquiry.Inquiry.{Inquiry}
+use Rattle.query_run.specs.Inquiries.{needed, source_of}
+use Rattle.query_run.specs.Kept.{IsServed}
 use Rattle.query_run.specs.Asking.{access_of, accesses_asked, is_grade_of, grades_asked, IsAskedFor}
 use Rattle.query_run.proofs.AskingLaws.{depth_more}
 use Rattle.batch_result.specs.Account.{Reading, depth_in, greatest, is_random_to, lists_of_source, random_in}

@@ -10,23 +10,23 @@ use Rattle.ranked_list.specs.declared.need.Need.TheVariants as need
 use Rattle.ranked_list.specs.Table.{IsTable}
 use Rattle.topk_theory.proofs.AgreementLists.{member_of_all, contains_here, contains_there}
 use Rattle.topk_theory.proofs.Counts.{none_counted}
-use Rattle.source_log.specs.declared.entry.FailKind.{FailKind}
-use Rattle.source_log.specs.declared.entry.FailKind.TheVariants as kind
+use Rattle.source_state.specs.declared.entry.FailKind.{FailKind}
+use Rattle.source_state.specs.declared.entry.FailKind.TheVariants as kind
 use Rattle.source_state.specs.declared.look.LookFault.{LookFault}
 use Rattle.source_state.specs.declared.look.LookFault.TheVariants as why
 use Rattle.source_state.specs.State.{State, state_at}
 use Rattle.query_core.specs.declared.ready.Ready.{Ready}
 use Rattle.query_core.specs.Machines.{state_of}
-use Rattle.query_turns.specs.declared.ended.Ended.{Ended}
-use Rattle.query_turns.specs.declared.ended.Refusal.TheVariants as refusal
-use Rattle.query_turns.specs.declared.inquiry.Inquiry.{Inquiry}
-use Rattle.query_turns.specs.Inquiries.{needed, list_needed, source_of, source_needed}
-use Rattle.query_turns.specs.Causes.{IsOfList, IsCause}
-use Rattle.query_turns.specs.Endings.{EndsAs}
-use Rattle.query_turns.specs.Honest.{lists_of, HasTable, IsOnItsRun}
-use Rattle.query_turns.specs.Kept.{IsServed}
-use Rattle.query_turns.specs.Made.{IsOf}
-use Rattle.query_turns.proofs.Serving.{of_some_list, source_there}
+use Rattle.query_run.specs.declared.ended.Ended.{Ended}
+use Rattle.query_run.specs.declared.ended.Refusal.TheVariants as refusal
+use Rattle.query_run.specs.declared.inquiry.Inquiry.{Inquiry}
+use Rattle.query_run.specs.Inquiries.{needed, list_needed, source_of, source_needed}
+use Rattle.query_run.specs.Causes.{IsOfList, IsCause}
+use Rattle.query_run.specs.Endings.{EndsAs}
+use Rattle.query_run.specs.Honest.{lists_of, HasTable, IsOnItsRun}
+use Rattle.query_run.specs.Kept.{IsServed}
+use Rattle.query_run.specs.Made.{IsOf}
+use Rattle.query_run.proofs.Serving.{of_some_list, source_there}
 use Rattle.batch_result.specs.Using.{is_refused_for, refuses_for, is_fail, IsFewFor}
 use Rattle.batch_result.specs.Batches.{BatchState, BatchRun, IsSpared, IsBatch}
 use Rattle.batch_result.specs.Tables.{lists_for, TellsTables, EndsOver}

@@ -10,26 +10,26 @@ use Rattle.topk_theory.specs.Transcript.{Begins, last_grade}
 use Rattle.topk_theory.proofs.AgreementLists.{begins_splits, contains_cases, contains_here, contains_map, contains_map_from, contains_nil, member_of_all}
 use Rattle.topk_theory.proofs.ConsistentRows.{behind_below_last, ranked_capped}
 use Rattle.source_api.specs.Told.{HasEachOnce}
-use Rattle.source_log.specs.declared.entry.LogEntry.{LogEntry}
-use Rattle.source_log.specs.declared.entry.Settling.TheVariants.{Graded, Bad, Missed}
-use Rattle.source_log.specs.declared.entry.SourceFault.{SourceFault}
-use Rattle.source_log.specs.declared.entry.SourceFault.TheVariants.{OutOfOrder, TooHigh, Repeated, Clash, Above, ShortList, Moved}
-use Rattle.source_log.specs.Log.{rows_in, fault_in}
+use Rattle.source_state.specs.declared.entry.LogEntry.{LogEntry}
+use Rattle.source_state.specs.declared.entry.Settling.TheVariants.{Graded, Bad, Missed}
+use Rattle.source_state.specs.declared.entry.SourceFault.{SourceFault}
+use Rattle.source_state.specs.declared.entry.SourceFault.TheVariants.{OutOfOrder, TooHigh, Repeated, Clash, Above, ShortList, Moved}
+use Rattle.source_state.specs.Log.{rows_in, fault_in}
 use Rattle.source_state.specs.declared.look.LookFault.{LookFault}
 use Rattle.source_state.specs.declared.look.LookFault.TheVariants as why
 use Rattle.source_state.specs.State.{State, state_at}
 use Rattle.query_core.specs.declared.ready.Ready.{Ready}
 use Rattle.query_core.specs.Machines.{state_of}
-use Rattle.query_turns.specs.declared.ended.Ended.{Ended}
-use Rattle.query_turns.specs.declared.ended.Ended.TheVariants as ended
-use Rattle.query_turns.specs.declared.ended.Refusal.TheVariants as refusal
-use Rattle.query_turns.specs.declared.inquiry.Inquiry.{Inquiry}
-use Rattle.query_turns.specs.Inquiries.{needed, source_needed, source_of}
-use Rattle.query_turns.specs.Causes.{CanNotBeHad, IsAtFault, IsCause, IsMissed}
-use Rattle.query_turns.specs.Endings.{EndsAs}
-use Rattle.query_turns.specs.Kept.{IsServed}
-use Rattle.query_turns.specs.Made.{IsOf}
-use Rattle.query_turns.proofs.Serving.{of_some_list, source_there}
+use Rattle.query_run.specs.declared.ended.Ended.{Ended}
+use Rattle.query_run.specs.declared.ended.Ended.TheVariants as ended
+use Rattle.query_run.specs.declared.ended.Refusal.TheVariants as refusal
+use Rattle.query_run.specs.declared.inquiry.Inquiry.{Inquiry}
+use Rattle.query_run.specs.Inquiries.{needed, source_needed, source_of}
+use Rattle.query_run.specs.Causes.{CanNotBeHad, IsAtFault, IsCause, IsMissed}
+use Rattle.query_run.specs.Endings.{EndsAs}
+use Rattle.query_run.specs.Kept.{IsServed}
+use Rattle.query_run.specs.Made.{IsOf}
+use Rattle.query_run.proofs.Serving.{of_some_list, source_there}
 use Rattle.fetcher.specs.Causes.{ComesOf, IsFaultOfRow, IsUnder}
 use Rattle.fetcher.specs.Telling.{IsTrueSettling, TellsOf}
 use Rattle.fetcher.proofs.ToldLaws.{never_clashes, never_repeated}

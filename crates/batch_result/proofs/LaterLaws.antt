@@ -4,14 +4,14 @@ use Rattle.turn_lock.specs.declared.facts.Tally.{Tally}
 use Rattle.turn_lock.specs.declared.known.Known.{Known}
 use Rattle.turn_lock.specs.Facts.{IsFrontOf, AtMost}
 use Rattle.turn_lock.specs.Known.{Follows}
-use Rattle.source_log.specs.declared.entry.LogEntry.{LogEntry}
+use Rattle.source_state.specs.declared.entry.LogEntry.{LogEntry}
 use Rattle.source_state.specs.State.{State, IsSound, state_at}
 use Rattle.source_pool.specs.declared.hold.Hold.{Hold}
 use Rattle.source_pool.specs.Passes.{hold_at}
-use Rattle.query_turns.specs.declared.inquiry.Inquiry.{Inquiry}
-use Rattle.query_turns.specs.Kept.{IsServed}
-use Rattle.query_turns.proofs.Causes.{IsLater}
-use Rattle.query_turns.proofs.Serving.{AreLater, served_stays}
+use Rattle.query_run.specs.declared.inquiry.Inquiry.{Inquiry}
+use Rattle.query_run.specs.Kept.{IsServed}
+use Rattle.query_run.proofs.Causes.{IsLater}
+use Rattle.query_run.proofs.Serving.{AreLater, served_stays}
 use Rattle.source_pool.specs.Seen.{state_seen}
 use Rattle.query_run.specs.Seen.{states_seen}
 use Rattle.query_run.proofs.SeenLaws.{state_is, seen_long}

@@ -9,28 +9,28 @@ use Rattle.topk_theory.specs.Transcript.{list_at}
 use Rattle.topk_theory.proofs.AgreementLists.{contains_at, member_of_all}
 use Rattle.turn_lock.specs.declared.facts.Tally.{Tally}
 use Rattle.machine_base.specs.declared.core_fault.CoreFault.{CoreFault}
-use Rattle.source_log.specs.declared.entry.LogEntry.{LogEntry}
-use Rattle.source_log.specs.declared.entry.Settling.TheVariants.{Bad}
-use Rattle.source_log.specs.declared.entry.SourceFault.{SourceFault}
-use Rattle.source_log.specs.declared.entry.SourceFault.TheVariants.{OutOfOrder, TooHigh, Repeated, Clash, Above, ShortList, Moved}
-use Rattle.source_log.specs.Log.{fault_in}
+use Rattle.source_state.specs.declared.entry.LogEntry.{LogEntry}
+use Rattle.source_state.specs.declared.entry.Settling.TheVariants.{Bad}
+use Rattle.source_state.specs.declared.entry.SourceFault.{SourceFault}
+use Rattle.source_state.specs.declared.entry.SourceFault.TheVariants.{OutOfOrder, TooHigh, Repeated, Clash, Above, ShortList, Moved}
+use Rattle.source_state.specs.Log.{fault_in}
 use Rattle.source_state.specs.declared.look.LookFault.{LookFault}
 use Rattle.source_state.specs.declared.look.LookFault.TheVariants as why
 use Rattle.source_state.specs.State.{State, IsSound, state_at}
 use Rattle.query_core.specs.declared.ready.Ready.{Ready}
 use Rattle.query_core.specs.Machines.{state_of}
-use Rattle.query_turns.specs.declared.ended.Ended.{Ended}
-use Rattle.query_turns.specs.declared.ended.Refusal.TheVariants as refusal
-use Rattle.query_turns.specs.declared.inquiry.Inquiry.{Inquiry}
-use Rattle.query_turns.specs.Inquiries.{is_done, list_needed, needed, source_needed, source_of}
-use Rattle.query_turns.specs.Causes.{CanNotBeHad, IsAtFault, IsCause, IsMissed}
-use Rattle.query_turns.specs.Endings.{EndsAs}
-use Rattle.query_turns.specs.Honest.{lists_of, HasTable, MayRefuse}
-use Rattle.query_turns.specs.Kept.{IsServed}
-use Rattle.query_turns.specs.Made.{IsOf}
-use Rattle.query_turns.proofs.Honest.{ReadsThem, may_lack, needed_stands, none_full}
-use Rattle.query_turns.proofs.Serving.{listed, of_some_list, source_there}
-use Rattle.query_turns.proofs.TrueLists.{IsOfObject}
+use Rattle.query_run.specs.declared.ended.Ended.{Ended}
+use Rattle.query_run.specs.declared.ended.Refusal.TheVariants as refusal
+use Rattle.query_run.specs.declared.inquiry.Inquiry.{Inquiry}
+use Rattle.query_run.specs.Inquiries.{is_done, list_needed, needed, source_needed, source_of}
+use Rattle.query_run.specs.Causes.{CanNotBeHad, IsAtFault, IsCause, IsMissed}
+use Rattle.query_run.specs.Endings.{EndsAs}
+use Rattle.query_run.specs.Honest.{lists_of, HasTable, MayRefuse}
+use Rattle.query_run.specs.Kept.{IsServed}
+use Rattle.query_run.specs.Made.{IsOf}
+use Rattle.query_run.proofs.Honest.{ReadsThem, may_lack, needed_stands, none_full}
+use Rattle.query_run.proofs.Serving.{listed, of_some_list, source_there}
+use Rattle.query_run.proofs.TrueLists.{IsOfObject}
 use Rattle.fetcher.specs.Causes.{ComesOf}
 use Rattle.fetcher.specs.Telling.{IsGradeAtFault, TellsOf}
 use Rattle.batch_result.specs.Batches.{BatchRun, BatchState, IsBatch, IsSpared}

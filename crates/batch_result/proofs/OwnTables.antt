@@ -6,10 +6,10 @@ use Rattle.ranked_list.specs.Table.{IsTable}
 use Rattle.topk_theory.specs.Transcript.{list_at}
 use Rattle.topk_theory.proofs.AgreementLists.{all_from_members, member_of_all}
 use Rattle.query_core.specs.declared.ready.Ready.{Ready}
-use Rattle.query_turns.specs.declared.inquiry.Inquiry.{Inquiry}
-use Rattle.query_turns.specs.Honest.{lists_of, HasTable}
-use Rattle.query_turns.specs.Made.{IsOf}
-use Rattle.query_turns.proofs.Lists.{zip_member}
+use Rattle.query_run.specs.declared.inquiry.Inquiry.{Inquiry}
+use Rattle.query_run.specs.Honest.{lists_of, HasTable}
+use Rattle.query_run.specs.Made.{IsOf}
+use Rattle.query_run.proofs.Lists.{zip_member}
 use Rattle.batch_result.specs.Tables.{lists_for}
 
 -- the lists of a query are those of what it was made of

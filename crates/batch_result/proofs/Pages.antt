@@ -4,7 +4,7 @@ use Rattle.ranked_list.specs.declared.row.Row.{Row}
 use Rattle.topk_theory.specs.Transcript.{Begins}
 use Rattle.topk_theory.proofs.AgreementLists.{begins_with, begins_splits}
 use Rattle.source_api.specs.Told.{IsPage}
-use Rattle.query_turns.specs.Honest.{IsNextOf}
+use Rattle.query_run.specs.Honest.{IsNextOf}
 
 -- a page goes on with what is kept
 pub next_page : (list kept rows : List Row) → Begins kept list → length kept < length list → IsPage list (length kept) rows → IsNextOf list kept rows

@@ -19,16 +19,16 @@ use Rattle.query_core.specs.Machines.{state_of}
 use Rattle.query_core.specs.OneAnswer.{IsOverRoomWith}
 use Rattle.query_core.specs.Ready.{method_of_ready}
 use Rattle.query_core.proofs.Answering.{drives_begun, finishes_begun, stops_begun}
-use Rattle.query_turns.specs.declared.ended.Ended.{Ended}
-use Rattle.query_turns.specs.declared.ended.Ended.TheVariants as ended
-use Rattle.query_turns.specs.declared.ended.Refusal.TheVariants as refusal
-use Rattle.query_turns.specs.declared.inquiry.Inquiry.{Inquiry}
-use Rattle.query_turns.specs.Inquiries.{source_needed}
-use Rattle.query_turns.specs.Causes.{IsCause}
-use Rattle.query_turns.specs.Endings.{EndsAs}
-use Rattle.query_turns.specs.Honest.{lists_of, MayRefuse, IsOnItsRun}
-use Rattle.query_turns.specs.Kept.{IsServed}
-use Rattle.query_turns.specs.Made.{IsOf}
+use Rattle.query_run.specs.declared.ended.Ended.{Ended}
+use Rattle.query_run.specs.declared.ended.Ended.TheVariants as ended
+use Rattle.query_run.specs.declared.ended.Refusal.TheVariants as refusal
+use Rattle.query_run.specs.declared.inquiry.Inquiry.{Inquiry}
+use Rattle.query_run.specs.Inquiries.{source_needed}
+use Rattle.query_run.specs.Causes.{IsCause}
+use Rattle.query_run.specs.Endings.{EndsAs}
+use Rattle.query_run.specs.Honest.{lists_of, MayRefuse, IsOnItsRun}
+use Rattle.query_run.specs.Kept.{IsServed}
+use Rattle.query_run.specs.Made.{IsOf}
 use Rattle.batch_result.specs.Batches.{IsSpared}
 use Rattle.batch_result.specs.Tables.{EndsOrFails, EndsOver, IsOutside}
 

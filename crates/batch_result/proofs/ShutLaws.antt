@@ -4,17 +4,17 @@ use Rattle.std.proofs.lemmas.List.Elements.{filter_map-append}
 use Rattle.ranked_list.specs.declared.row.Row.{Row}
 use Rattle.turn_lock.specs.declared.known.Known.{Known}
 use Rattle.turn_lock.specs.Facts.{IsFrontOf}
-use Rattle.source_log.specs.declared.entry.LogEntry.{LogEntry}
-use Rattle.source_log.specs.declared.entry.LogEntry.TheVariants.{Kept, Settled, Fault}
-use Rattle.source_log.specs.declared.entry.Settling.TheVariants.{Bad, Missed}
-use Rattle.source_log.specs.declared.entry.SourceFault.{SourceFault}
-use Rattle.source_log.specs.declared.entry.SourceFault.TheVariants.{ShortList, Moved}
-use Rattle.source_log.specs.Log.{first_of, kept_row, rows_in, fault_in}
+use Rattle.source_state.specs.declared.entry.LogEntry.{LogEntry}
+use Rattle.source_state.specs.declared.entry.LogEntry.TheVariants.{Kept, Settled, Fault}
+use Rattle.source_state.specs.declared.entry.Settling.TheVariants.{Bad, Missed}
+use Rattle.source_state.specs.declared.entry.SourceFault.{SourceFault}
+use Rattle.source_state.specs.declared.entry.SourceFault.TheVariants.{ShortList, Moved}
+use Rattle.source_state.specs.Log.{first_of, kept_row, rows_in, fault_in}
 use Rattle.source_state.specs.State.{State, asks_of, row_fault, settle}
 use Rattle.source_state.specs.declared.event.Event.TheVariants.{Move}
 use Rattle.source_state.specs.Events.{logged, row_or, with_rows, paged, after}
-use Rattle.source_log.proofs.Lists.{none_not_some}
-use Rattle.source_log.proofs.LogLaws.{kept_faults}
+use Rattle.source_state.proofs.Lists.{none_not_some}
+use Rattle.source_state.proofs.LogLaws.{kept_faults}
 use Rattle.source_api.specs.declared.counts.Counts.{Counts}
 use Rattle.fetcher.specs.declared.turned.Turned.{Turned}
 use Rattle.fetcher.specs.declared.turned.Turned.TheVariants as turned

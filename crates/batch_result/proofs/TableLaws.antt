@@ -15,17 +15,17 @@ use Rattle.topk_theory.proofs.Agreement.{drawn_gives, drawn_more}
 use Rattle.topk_theory.proofs.AgreementLists.{all_from_members, member_of_all, contains_nil, contains_cases, contains_map, contains_at, contains_splits, begins_splits}
 use Rattle.topk_theory.proofs.AgreementRows.{objects_in_each}
 use Rattle.access_log.specs.Log.{AgreesWith}
-use Rattle.source_log.specs.declared.entry.Settling.TheVariants.{Graded}
-use Rattle.source_log.specs.Log.{rows_in, graded_in}
+use Rattle.source_state.specs.declared.entry.Settling.TheVariants.{Graded}
+use Rattle.source_state.specs.Log.{rows_in, graded_in}
 use Rattle.source_state.specs.State.{State, opened, IsSound, state_at}
-use Rattle.source_log.proofs.LogLaws.{graded_settling}
+use Rattle.source_state.proofs.LogLaws.{graded_settling}
 use Rattle.query_core.specs.Machines.{state_of}
-use Rattle.query_turns.specs.declared.inquiry.Inquiry.{Inquiry}
-use Rattle.query_turns.specs.Inquiries.{told_to, needed, source_of}
-use Rattle.query_turns.specs.Kept.{IsSourceOf, IsServed}
-use Rattle.query_turns.specs.Honest.{lists_of, HasTable, IsTrueOf, IsTrueFor, IsOnItsRun}
-use Rattle.query_turns.proofs.Serving.{sound_at, rows_told, known_told, source_at}
-use Rattle.query_turns.proofs.Honest.{list_is, on_its_run}
+use Rattle.query_run.specs.declared.inquiry.Inquiry.{Inquiry}
+use Rattle.query_run.specs.Inquiries.{told_to, needed, source_of}
+use Rattle.query_run.specs.Kept.{IsSourceOf, IsServed}
+use Rattle.query_run.specs.Honest.{lists_of, HasTable, IsTrueOf, IsTrueFor, IsOnItsRun}
+use Rattle.query_run.proofs.Serving.{sound_at, rows_told, known_told, source_at}
+use Rattle.query_run.proofs.Honest.{list_is, on_its_run}
 use Rattle.query_run.specs.Asking.{access_of, AsksGradeOf}
 use Rattle.fetcher.specs.Telling.{TellsOf}
 use Rattle.batch_result.specs.Numbered.{told_at}

@@ -8,21 +8,21 @@ use Rattle.turn_lock.specs.Facts as facts
 use Rattle.topk_theory.specs.Transcript.{Begins}
 use Rattle.source_api.specs.declared.counts.Counts.{Counts}
 use Rattle.source_api.specs.Told.{IsPage}
-use Rattle.source_log.specs.declared.entry.LogEntry.{LogEntry}
-use Rattle.source_log.specs.declared.entry.Settling.{Settling}
+use Rattle.source_state.specs.declared.entry.LogEntry.{LogEntry}
+use Rattle.source_state.specs.declared.entry.Settling.{Settling}
 use Rattle.source_state.specs.declared.event.Event.{Event}
 use Rattle.source_state.specs.declared.event.Event.TheVariants as event
-use Rattle.source_log.specs.declared.entry.Settling.TheVariants.{Bad}
-use Rattle.source_log.specs.declared.entry.SourceFault.{SourceFault}
-use Rattle.source_log.specs.declared.entry.SourceFault.TheVariants.{Moved}
-use Rattle.source_log.specs.Log.{first_of, rows_in, settled_as, settling_in, fault_set, faults_in, fault_in}
+use Rattle.source_state.specs.declared.entry.Settling.TheVariants.{Bad}
+use Rattle.source_state.specs.declared.entry.SourceFault.{SourceFault}
+use Rattle.source_state.specs.declared.entry.SourceFault.TheVariants.{Moved}
+use Rattle.source_state.specs.Log.{first_of, rows_in, settled_as, settling_in, fault_set, faults_in, fault_in}
 use Rattle.source_state.specs.State.{State}
 use Rattle.source_state.specs.Events as events
 use Rattle.source_state.proofs.AskLaws.{pending_parts}
-use Rattle.source_log.proofs.Lists.{none_not_some}
-use Rattle.source_log.proofs.LogLaws.{settled_same, fault_first}
-use Rattle.query_turns.specs.Honest.{IsGradeOf, IsTrueOf}
-use Rattle.query_turns.proofs.TrueLists.{IsHonestEvent, true_after}
+use Rattle.source_state.proofs.Lists.{none_not_some}
+use Rattle.source_state.proofs.LogLaws.{settled_same, fault_first}
+use Rattle.query_run.specs.Honest.{IsGradeOf, IsTrueOf}
+use Rattle.query_run.proofs.TrueLists.{IsHonestEvent, true_after}
 use Rattle.fetcher.specs.declared.turned.Turned.{Turned}
 use Rattle.fetcher.specs.declared.turned.Turned.TheVariants as turned
 use Rattle.fetcher.specs.Turning.{IsFed, IsOfSource, Brings}

@@ -7,13 +7,13 @@ use Rattle.source_api.specs.declared.counts.Counts.{Counts}
 use Rattle.source_state.specs.declared.look.LookFault.TheVariants as why
 use Rattle.source_state.specs.State.{State, IsSound, state_at}
 use Rattle.query_core.specs.declared.ready.Ready.{Ready}
-use Rattle.query_turns.specs.declared.ended.Ended.{Ended}
-use Rattle.query_turns.specs.declared.ended.Refusal.TheVariants.{Look}
-use Rattle.query_turns.specs.declared.inquiry.Inquiry.{Inquiry}
-use Rattle.query_turns.specs.Kept.{IsServed}
-use Rattle.query_turns.specs.Made.{IsOf}
-use Rattle.query_turns.specs.Honest.{IsTrueOf}
-use Rattle.query_turns.specs.Endings.{EndsAs, IsRight}
+use Rattle.query_run.specs.declared.ended.Ended.{Ended}
+use Rattle.query_run.specs.declared.ended.Refusal.TheVariants.{Look}
+use Rattle.query_run.specs.declared.inquiry.Inquiry.{Inquiry}
+use Rattle.query_run.specs.Kept.{IsServed}
+use Rattle.query_run.specs.Made.{IsOf}
+use Rattle.query_run.specs.Honest.{IsTrueOf}
+use Rattle.query_run.specs.Endings.{EndsAs, IsRight}
 use Rattle.fetcher.specs.declared.slot.Slot.{Slot}
 use Rattle.fetcher.specs.Moving.{TellsNoMove}
 use Rattle.fetcher.specs.Telling.{TellsOf}

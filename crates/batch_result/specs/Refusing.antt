@@ -4,8 +4,8 @@ use Rattle.turn_lock.specs.Facts.{AtMost, IsFrontOf}
 use Rattle.source_pool.specs.declared.hold.Hold.{Hold}
 use Rattle.source_pool.specs.Passes.{hold_at}
 use Rattle.source_state.specs.State.{State, state_at}
-use Rattle.query_turns.specs.declared.inquiry.Inquiry.{Inquiry}
-use Rattle.query_turns.specs.Inquiries.{source_needed}
+use Rattle.query_run.specs.declared.inquiry.Inquiry.{Inquiry}
+use Rattle.query_run.specs.Inquiries.{source_needed}
 use Rattle.query_run.specs.Failing.{LookRefused}
 
 -- a query is refused by the turns that its pass took while it ran. For a call that failed or was garbled it is so only where it had called for its need

@@ -6,15 +6,15 @@ use Rattle.ranked_list.specs.Table.{IsTable}
 use Rattle.topk_theory.specs.Transcript.{list_at}
 use Rattle.machine_base.specs.declared.core_fault.CoreFault.TheVariants.{RoomFull}
 use Rattle.source_api.specs.declared.counts.Counts.{Counts}
-use Rattle.source_log.specs.declared.entry.SourceFault.TheVariants.{Moved}
+use Rattle.source_state.specs.declared.entry.SourceFault.TheVariants.{Moved}
 use Rattle.source_state.specs.declared.look.LookFault.{LookFault}
 use Rattle.source_state.specs.declared.look.LookFault.TheVariants as why
 use Rattle.query_core.specs.declared.ready.Ready.{Ready}
 use Rattle.query_core.specs.Driving.{AnswersOver}
 use Rattle.query_core.specs.Ready.{method_of_ready}
 use Rattle.query_core.specs.OneAnswer.{IsOverRoomWith}
-use Rattle.query_turns.specs.declared.ended.Ended.{Ended}
-use Rattle.query_turns.specs.declared.ended.Ended.TheVariants as ended
+use Rattle.query_run.specs.declared.ended.Ended.{Ended}
+use Rattle.query_run.specs.declared.ended.Ended.TheVariants as ended
 use Rattle.batch_result.specs.Numbered.{counts_at}
 use Rattle.batch_result.specs.Batches.{BatchRun}
 

@@ -4,12 +4,12 @@ use Rattle.std.specs.List.{slice_index_or}
 use Rattle.ranked_list.specs.declared.row.Row.{Row}
 use Rattle.ranked_list.specs.Table.{objects}
 use Rattle.topk_theory.specs.Transcript.{Begins}
-use Rattle.source_log.specs.declared.entry.SourceFault.{SourceFault}
-use Rattle.source_log.specs.declared.entry.SourceFault.TheVariants.{OutOfOrder, TooHigh, Repeated, Clash, Above, ShortList, Moved}
+use Rattle.source_state.specs.declared.entry.SourceFault.{SourceFault}
+use Rattle.source_state.specs.declared.entry.SourceFault.TheVariants.{OutOfOrder, TooHigh, Repeated, Clash, Above, ShortList, Moved}
 use Rattle.source_state.specs.declared.look.LookFault.TheVariants as why
 use Rattle.query_core.specs.declared.ready.Ready.{Ready}
-use Rattle.query_turns.specs.declared.ended.Ended.{Ended}
-use Rattle.query_turns.specs.declared.ended.Ended.TheVariants as ended
+use Rattle.query_run.specs.declared.ended.Ended.{Ended}
+use Rattle.query_run.specs.declared.ended.Ended.TheVariants as ended
 use Rattle.fetcher.specs.Causes.{IsAboveFront, IsTooHigh, Rises}
 use Rattle.batch_result.specs.Numbered.{told_at}
 

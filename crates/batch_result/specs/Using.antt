@@ -3,17 +3,17 @@ use Rattle.std.specs.Prelude.{◌≡◌, ◌≢◌, ◌≤◌, ◌==◌, ◌&&�
 use Rattle.std.specs.List.{sum_by}
 use Rattle.tk_io.specs.Faults.{Rose}
 use Rattle.source_api.specs.declared.counts.Counts.{Counts}
-use Rattle.source_log.specs.declared.entry.FailKind.{FailKind}
-use Rattle.source_log.specs.declared.entry.FailKind.TheVariants as kind
+use Rattle.source_state.specs.declared.entry.FailKind.{FailKind}
+use Rattle.source_state.specs.declared.entry.FailKind.TheVariants as kind
 use Rattle.source_state.specs.declared.look.LookFault.{LookFault}
 use Rattle.source_state.specs.declared.look.LookFault.TheVariants as why
-use Rattle.source_log.specs.Log.{settled_in}
+use Rattle.source_state.specs.Log.{settled_in}
 use Rattle.source_state.specs.State.{State}
 use Rattle.source_state.specs.Looking.{reach_of}
-use Rattle.query_turns.specs.declared.ended.Refusal.{Refusal}
-use Rattle.query_turns.specs.declared.ended.Refusal.TheVariants.{Core, Look}
-use Rattle.query_turns.specs.declared.inquiry.Inquiry.{Inquiry}
-use Rattle.query_turns.specs.Inquiries.{source_of}
+use Rattle.query_run.specs.declared.ended.Refusal.{Refusal}
+use Rattle.query_run.specs.declared.ended.Refusal.TheVariants.{Core, Look}
+use Rattle.query_run.specs.declared.inquiry.Inquiry.{Inquiry}
+use Rattle.query_run.specs.Inquiries.{source_of}
 use Rattle.query_run.specs.Asking.{IsAskedFor, AsksGradeOf, grades_asked}
 use Rattle.fetcher.specs.Causes.{HasGiven}
 use Rattle.fetcher.specs.Moving.{TellsMove}

@@ -3,7 +3,7 @@
 ghost use Rattle.std.specs.Prelude.{◌≡◌, ◌<◌, ℕ, Some, List, All, length, map};
 ghost use Rattle.std.specs.List.{AllZip};
 ghost use Rattle.ranked_list.specs.declared.row.Row.{Row};
-ghost use Rattle.query_turns.specs.Honest.{HasTable, IsOnItsRun};
+ghost use Rattle.query_run.specs.Honest.{HasTable, IsOnItsRun};
 ghost use Rattle.ranked_list.specs.Table.{IsTable};
 ghost use Rattle.topk_theory.specs.Transcript.{list_at};
 ghost use Rattle.source_state.specs.State.{state_at};

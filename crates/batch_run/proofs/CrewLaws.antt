@@ -12,10 +12,10 @@ use Rattle.source_pool.specs.Passes.{Feed, hold_at, IsPassOf}
 use Rattle.source_pool.specs.Looks.{IsWithin}
 use Rattle.source_pool.specs.Sharing.{IsOpened, IsSplit, MaySplit}
 use Rattle.query_core.specs.declared.ready.Ready.{Ready}
-use Rattle.query_turns.specs.Made.{IsReadyFor}
+use Rattle.query_run.specs.Made.{IsReadyFor}
 use Rattle.limits.specs.declared.settings.Settings.{Settings}
-use Rattle.batch_sides.specs.declared.work.Worker.{Worker}
-use Rattle.batch_sides.specs.Working.{DidOf, IsAtWork, Worked, AllWorked}
+use Rattle.batch_run.specs.declared.work.Worker.{Worker}
+use Rattle.batch_run.specs.Working.{DidOf, IsAtWork, Worked, AllWorked}
 use Rattle.batch_run.specs.Crews.{fresh_hold, IsHired, IsBase, IsHiring, HasLeft}
 
 -- what a fresh pass holds of a source

@@ -11,11 +11,11 @@ use Rattle.turn_lock.specs.declared.facts.Tally.{Tally}
 use Rattle.turn_lock.specs.declared.known.Known.{Known}
 use Rattle.turn_lock.specs.Known.{Follows}
 use Rattle.source_api.specs.declared.counts.Counts.{Counts}
-use Rattle.source_log.specs.declared.entry.LogEntry.{LogEntry}
-use Rattle.source_log.specs.declared.entry.FailKind.{FailKind}
-use Rattle.source_log.specs.declared.entry.FailKind.TheVariants as kind
-use Rattle.source_log.specs.Log.{settled_in}
-use Rattle.source_log.proofs.Lists.{none_not_some}
+use Rattle.source_state.specs.declared.entry.LogEntry.{LogEntry}
+use Rattle.source_state.specs.declared.entry.FailKind.{FailKind}
+use Rattle.source_state.specs.declared.entry.FailKind.TheVariants as kind
+use Rattle.source_state.specs.Log.{settled_in}
+use Rattle.source_state.proofs.Lists.{none_not_some}
 use Rattle.source_state.specs.State.{State, IsSound, last_count, state_at}
 use Rattle.source_state.specs.Looking.{reach_of}
 use Rattle.source_pool.specs.declared.hold.Hold.{Hold}
@@ -23,12 +23,12 @@ use Rattle.source_pool.specs.Passes.{Feed, lock_at, hold_at, feed_at}
 use Rattle.source_pool.specs.Sharing.{first_feed}
 use Rattle.source_pool.specs.Closed.{HaveAll, IsClosed, AreClosed}
 use Rattle.query_core.specs.declared.ready.Ready.{Ready}
-use Rattle.query_turns.specs.declared.ended.Ended.{Ended}
-use Rattle.query_turns.specs.declared.inquiry.Inquiry.{Inquiry}
-use Rattle.query_turns.specs.Inquiries.{source_needed}
-use Rattle.query_turns.specs.Kept.{IsServed}
-use Rattle.query_turns.specs.Made.{IsOf}
-use Rattle.query_turns.specs.Endings.{EndsAs, IsRight}
+use Rattle.query_run.specs.declared.ended.Ended.{Ended}
+use Rattle.query_run.specs.declared.inquiry.Inquiry.{Inquiry}
+use Rattle.query_run.specs.Inquiries.{source_needed}
+use Rattle.query_run.specs.Kept.{IsServed}
+use Rattle.query_run.specs.Made.{IsOf}
+use Rattle.query_run.specs.Endings.{EndsAs, IsRight}
 use Rattle.query_run.specs.Asking.{grades_asked}
 use Rattle.fetcher.specs.Causes.{HasGiven}
 use Rattle.fetcher.specs.Chaining.{moment, IsFetched}
@@ -41,24 +41,24 @@ use Rattle.limits.specs.declared.settings.Settings.{Settings}
 use Rattle.limits.specs.Ranges.{AreSettings}
 use Rattle.batch_result.specs.Numbered.{told_at, version_at, counts_at}
 use Rattle.batch_result.specs.declared.batch.Use.{Use}
-use Rattle.batch_sides.specs.declared.work.Worker.{Worker}
-use Rattle.batch_sides.specs.Shares.{share, share_from}
+use Rattle.batch_run.specs.declared.work.Worker.{Worker}
+use Rattle.batch_run.specs.Shares.{share, share_from}
 use Rattle.batch_result.specs.Using.{is_refused_for, IsWantedBy, IsNamedBy, all_grades_asked, IsUsed, HasCounted}
 use Rattle.batch_result.specs.Refusing.{IsByOwnTurns}
 use Rattle.batch_result.specs.Batches.{batch_of, use_at, IsClosing, IsSpared, IsBatch}
-use Rattle.batch_sides.specs.Working.{End, IsEndOf, DidOf, RanAll}
-use Rattle.batch_sides.specs.Slots.{SlotState, slot_at}
+use Rattle.batch_run.specs.Working.{End, IsEndOf, DidOf, RanAll}
+use Rattle.batch_run.specs.Slots.{SlotState, slot_at}
 use Rattle.batch_run.specs.Crews.{IsBase, HasLeft, HasFetched, Rejoins}
 use Rattle.batch_run.specs.Finishing.{AreShares, UsedOf, slots_run}
-use Rattle.batch_sides.proofs.SumLaws.{sum_up, sum_up_bound, sum_by_most}
-use Rattle.batch_sides.proofs.ShareLaws.{HasShares, whole_of, shares_add}
+use Rattle.batch_run.proofs.SumLaws.{sum_up, sum_up_bound, sum_by_most}
+use Rattle.batch_run.proofs.ShareLaws.{HasShares, whole_of, shares_add}
 use Rattle.batch_result.proofs.Places.{map_at, stands_at}
-use Rattle.batch_sides.proofs.Picks.{Picked, picked, sum_ones, share_member, share_map, share_long, member_mapped}
+use Rattle.batch_run.proofs.Picks.{Picked, picked, sum_ones, share_member, share_map, share_long, member_mapped}
 use Rattle.batch_result.proofs.TruthLaws.{told_honest}
 use Rattle.batch_result.proofs.ShutLaws.{Shut, fetched_shut}
 use Rattle.batch_result.proofs.LaterLaws.{begins_on, at_most_on, IsAhead, ahead_of, all_later, served_later}
 use Rattle.batch_run.proofs.JoinLaws.{passes}
-use Rattle.batch_sides.proofs.Zips.{zip_map, zip_part, all_seconds, both_parts}
+use Rattle.batch_run.proofs.Zips.{zip_map, zip_part, all_seconds, both_parts}
 
 -- the pass of a worker among the passes
 pass_at : (workers : List Worker) (i : ℕ) (d : List Hold) (e : Worker) → i < length workers

@@ -4,11 +4,11 @@ use Rattle.std.proofs.Math.Nat.{mod-lt}
 use Rattle.std.proofs.Math.Seq.{drop-cons}
 use Rattle.std.proofs.lemmas.Bool.Decides.{eqb_tells}
 use Rattle.std.proofs.lemmas.List.{get_or-set_same, get_or-set_other, length-set, length_push, take_more, take_all, reverse-append, same_from_push}
-use Rattle.query_turns.specs.declared.ended.Ended.{Ended}
-use Rattle.batch_sides.specs.declared.work.Worker.{Worker}
-use Rattle.batch_sides.specs.Shares.{share_from}
+use Rattle.query_run.specs.declared.ended.Ended.{Ended}
+use Rattle.batch_run.specs.declared.work.Worker.{Worker}
+use Rattle.batch_run.specs.Shares.{share_from}
 use Rattle.batch_run.specs.Finishing.{AreShares}
-use Rattle.batch_sides.proofs.ShareLaws.{share_here, share_else}
+use Rattle.batch_run.proofs.ShareLaws.{share_here, share_else}
 use Rattle.batch_result.proofs.Places.{stands_at}
 
 -- the endings before a place are taken, and the workers have their shares of the others

@@ -9,7 +9,7 @@ use Rattle.turn_lock.specs.Known.{Follows}
 use Rattle.source_pool.specs.declared.hold.Hold.{Hold}
 use Rattle.source_pool.specs.Passes.{hold_at, IsPassOf}
 use Rattle.source_pool.specs.Sharing.{IsJoined}
-use Rattle.batch_sides.specs.declared.work.Worker.{Worker}
+use Rattle.batch_run.specs.declared.work.Worker.{Worker}
 use Rattle.batch_run.specs.Crews.{Rejoins}
 use Rattle.batch_result.proofs.LaterLaws.{follows_on}
 

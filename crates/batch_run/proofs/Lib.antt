@@ -1,3 +1,14 @@
+-- Lemmas on feeders that are put into slots and taken back.
+pub mod LendLaws
+-- Lemmas on shares of the queries, and on what a worker does with its share.
+pub mod SumLaws
+pub mod ShareLaws
+pub mod Picks
+pub mod Zips
+pub mod WorkLaws
+-- Lemmas on passes to the posts, and on who has them.
+pub mod PassLaws
+pub mod HandLaws
 -- Lemmas on a crew: its workers, what the fetchers did of the slots, and passes that are joined.
 pub mod CrewLaws
 pub mod SlotLaws

@@ -11,8 +11,8 @@ use Rattle.source_api.specs.Counting.{NoneFell}
 use Rattle.fetcher.specs.declared.slot.Slot.{Slot}
 use Rattle.limits.specs.declared.settings.Settings.{Settings}
 use Rattle.query_core.specs.declared.ready.Ready.{Ready}
-use Rattle.batch_sides.specs.declared.work.Worker.{Worker}
-use Rattle.batch_sides.specs.Slots.{SlotState, states_of, slot_at}
+use Rattle.batch_run.specs.declared.work.Worker.{Worker}
+use Rattle.batch_run.specs.Slots.{SlotState, states_of, slot_at}
 use Rattle.batch_result.specs.Batches.{BatchRun, run_of}
 use Rattle.batch_run.specs.declared.hire.Crew.{Crew}
 use Rattle.batch_run.specs.Crews.{HasLeft, HasRun}

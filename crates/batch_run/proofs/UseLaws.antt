@@ -9,7 +9,7 @@ use Rattle.fetcher.specs.declared.slot.Slot.{Slot}
 use Rattle.fetcher.specs.declared.turned.Fetched.{Fetched}
 use Rattle.batch_result.specs.declared.batch.Use.{Use}
 use Rattle.batch_result.specs.Batches.{use_at}
-use Rattle.batch_sides.specs.Slots.{SlotState, states_of, slot_at}
+use Rattle.batch_run.specs.Slots.{SlotState, states_of, slot_at}
 use Rattle.batch_run.specs.Finishing.{UsedOf}
 use Rattle.batch_run.proofs.SlotLaws.{slot_is}
 

@@ -15,10 +15,10 @@ use Rattle.fetcher.specs.Metering.{IsMetered}
 use Rattle.fetcher.specs.Moving.{MovesOnly}
 use Rattle.batch_result.specs.Using.{IsReplaced}
 use Rattle.limits.specs.declared.settings.Settings.{Settings}
-use Rattle.batch_sides.specs.declared.work.Worker.{Worker}
+use Rattle.batch_run.specs.declared.work.Worker.{Worker}
 use Rattle.batch_run.specs.declared.hire.Crew.{Crew}
-use Rattle.batch_sides.specs.Working.{HasWorked}
-use Rattle.batch_sides.specs.Slots.{SlotState, slot_at}
+use Rattle.batch_run.specs.Working.{HasWorked}
+use Rattle.batch_run.specs.Slots.{SlotState, slot_at}
 
 -- what a worker's pass holds of a source before it works: it did nothing yet, and waits for nothing
 abbrev pub fresh_hold : List TableId → List ℕ → ℕ → Hold

@@ -3,16 +3,16 @@ use Rattle.std.specs.Prelude.{◌≡◌, ◌<◌, ◌^◌, ℕ, false, List, len
 use Rattle.std.specs.List.{slice_index_or, list_any}
 use Rattle.source_state.specs.State.{State}
 use Rattle.query_core.specs.declared.ready.Ready.{Ready}
-use Rattle.query_turns.specs.declared.ended.Ended.{Ended}
+use Rattle.query_run.specs.declared.ended.Ended.{Ended}
 use Rattle.fetcher.specs.declared.turned.Fetched.{Fetched}
 use Rattle.limits.specs.declared.settings.Settings.{Settings}
 use Rattle.limits.specs.Ranges.{AreSettings}
 use Rattle.batch_result.specs.declared.batch.Use.{Use}
-use Rattle.batch_sides.specs.declared.work.Worker.{Worker}
+use Rattle.batch_run.specs.declared.work.Worker.{Worker}
 use Rattle.batch_run.specs.declared.hire.Crew.{Crew}
-use Rattle.batch_sides.specs.Shares.{share}
+use Rattle.batch_run.specs.Shares.{share}
 use Rattle.batch_result.specs.Batches.{BatchRun}
-use Rattle.batch_sides.specs.Slots.{SlotState}
+use Rattle.batch_run.specs.Slots.{SlotState}
 use Rattle.batch_run.specs.Crews.{HasRun}
 
 -- the workers have the shares of the whole, each the last one first

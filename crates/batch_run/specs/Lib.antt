@@ -1,3 +1,10 @@
+-- What happens to slots.
+pub mod Slots
+-- What workers and fetchers do.
+pub mod Shares
+pub mod Working
+-- What workers leave that have passes to the posts.
+pub mod Handing
 -- What a crew of workers and fetchers is, before it runs and after it.
 pub mod Crews
 -- What comes of a crew that has run.

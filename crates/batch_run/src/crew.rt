@@ -3,13 +3,14 @@
 ghost use Rattle.std.specs.Prelude.{◌≡◌, ◌≤◌, ◌<◌, ◌^◌, ℕ, List, None, All, length};
 ghost use Rattle.std.specs.List.{list_any};
 ghost use Rattle.limits.specs.Ranges.{AreSettings};
-ghost use Rattle.query_turns.specs.Made.{IsReadyFor};
-ghost use Rattle.batch_sides.specs.Slots.{states_of};
+ghost use Rattle.query_run.specs.Made.{IsReadyFor};
+ghost use Rattle.batch_run.specs.Slots.{states_of};
 ghost use Rattle.batch_run.specs.Crews.{IsNewCrew, HasRun};
 
 use super::hire::Crew;
+use super::lending::{lend, take_back};
+use super::sides::run_sides;
 use batch_result::Settings;
-use batch_sides::{lend, run_sides, take_back};
 use fetcher::Slot;
 use query_core::Ready;
 use source_api::Source;

@@ -3,16 +3,16 @@
 ghost use Rattle.std.specs.Prelude.{◌≡◌, ◌≤◌, ◌<◌, [], ◌∷◌, ◌++◌, ℕ, List, length, map, vec_len, vec_capacity};
 ghost use Rattle.source_state.specs.State.{state_at};
 ghost use Rattle.query_core.specs.declared.ready.Ready.{Ready};
-ghost use Rattle.query_turns.specs.declared.ended.Ended.{Ended as EndedOf};
+ghost use Rattle.query_run.specs.declared.ended.Ended.{Ended as EndedOf};
 ghost use Rattle.limits.specs.declared.settings.Settings.{Settings};
-ghost use Rattle.batch_sides.specs.Slots.{SlotState, states_of, slot_at};
+ghost use Rattle.batch_run.specs.Slots.{SlotState, states_of, slot_at};
 ghost use Rattle.batch_result.specs.Batches.{IsBatch, use_at};
 ghost use Rattle.batch_run.specs.Finishing.{slots_run, CanFinish, AreShares, UsedOf};
 
 use super::hire::Crew;
 use super::joining::rejoin;
+use super::work::Worker;
 use batch_result::{Batch, Use};
-use batch_sides::Worker;
 use fetcher::{Fetched, Slot};
 use query_run::Ended;
 use source_api::Source;

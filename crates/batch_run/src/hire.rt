@@ -4,8 +4,8 @@ ghost use Rattle.std.specs.Prelude.{◌≡◌, ◌≤◌, ◌<◌, ◌+◌, ◌^
 ghost use Rattle.source_pool.specs.Passes.{IsPassOf};
 ghost use Rattle.batch_run.specs.Crews.{IsHiring, IsNewCrew};
 
+use super::work::Worker;
 use batch_result::Use;
-use batch_sides::Worker;
 use limits::MAX_OBJECTS;
 use query_run::{Ended, Memory};
 use source_pool::{Feeder, Pool, PoolPass};

@@ -4,7 +4,7 @@ ghost use Rattle.std.specs.Prelude.{All, map};
 ghost use Rattle.source_pool.specs.Passes.{IsPassOf};
 ghost use Rattle.batch_run.specs.Crews.{Rejoins};
 
-use batch_sides::Worker;
+use super::work::Worker;
 use source_pool::{Pool, PoolPass};
 
 /// Joins the passes of the workers to the first one.

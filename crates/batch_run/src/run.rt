@@ -3,8 +3,8 @@
 ghost use Rattle.std.specs.Prelude.{◌≡◌, ◌≤◌, ◌<◌, ◌^◌, None, All, map, length, IfOk};
 ghost use Rattle.std.specs.List.{AllZip};
 ghost use Rattle.source_api.specs.Counting.{NoneFell};
-ghost use Rattle.query_turns.specs.Made.{IsReadyFor};
-ghost use Rattle.query_turns.specs.Endings.{IsRight};
+ghost use Rattle.query_run.specs.Made.{IsReadyFor};
+ghost use Rattle.query_run.specs.Endings.{IsRight};
 ghost use Rattle.limits.specs.Ranges.{AreSettings};
 ghost use Rattle.batch_result.specs.Batches.{run_of, IsBatch};
 

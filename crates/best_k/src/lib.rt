@@ -7,6 +7,6 @@ mod rank;
 mod ranking;
 
 pub use board::Board;
-pub use memory::Memory;
+pub use limits::Memory;
 pub use order::put_in_order;
 pub use ranked_list::{Item, Items};

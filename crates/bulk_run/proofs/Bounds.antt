@@ -29,9 +29,9 @@ use Rattle.query_core.proofs.RunLength.{run_short}
 use Rattle.made_inputs.specs.MadeQueries.{list_trees, list_terms, made_tree}
 use Rattle.made_inputs.proofs.Trees.{each_tree, each_count}
 use Rattle.made_inputs.proofs.Making.{is_table}
-use Rattle.query_turns.specs.declared.ended.Ended.{Ended}
-use Rattle.query_turns.proofs.Lists.{zip_member}
-use Rattle.query_turns.specs.declared.ended.Ended.TheVariants.{Answered, Core, Look}
+use Rattle.query_run.specs.declared.ended.Ended.{Ended}
+use Rattle.query_run.proofs.Lists.{zip_member}
+use Rattle.query_run.specs.declared.ended.Ended.TheVariants.{Answered, Core, Look}
 use Rattle.bulk_run.specs.declared.input.BulkInput.{BulkInput}
 use Rattle.bulk_run.specs.Sums.{IsInput, table_of, query_of}
 use Rattle.bulk_run.specs.Endings.{EndsInOne, AllEndInOne, IsSmall}

@@ -9,8 +9,8 @@ use Rattle.query_text.specs.declared.query.Query.{Query}
 use Rattle.query_core.specs.declared.ready.Ready.{Ready}
 use Rattle.query_core.specs.Methods.{method_with}
 use Rattle.query_core.specs.OneAnswer.{IsOneAnswer, IsOneAnswerWith}
-use Rattle.query_turns.specs.declared.ended.Ended.{Ended}
-use Rattle.query_turns.specs.declared.ended.Ended.TheVariants.{Answered, Core, Look}
+use Rattle.query_run.specs.declared.ended.Ended.{Ended}
+use Rattle.query_run.specs.declared.ended.Ended.TheVariants.{Answered, Core, Look}
 use Rattle.fetcher.specs.declared.slot.Slot.{Slot}
 use Rattle.bulk_run.proofs.TableLaws.{table_told}
 use Rattle.limits.specs.declared.settings.Settings.{Settings}

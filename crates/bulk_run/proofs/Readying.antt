@@ -21,8 +21,8 @@ use Rattle.query_text.specs.declared.query.Query.{Query}
 use Rattle.query_text.specs.Query.{IsLawful}
 use Rattle.query_core.specs.declared.ready.Ready.{Ready}
 use Rattle.query_core.specs.Ready.{HasToRead}
-use Rattle.query_turns.specs.Made.{IsReadyFor}
-use Rattle.query_turns.proofs.Lists.{zip_member}
+use Rattle.query_run.specs.Made.{IsReadyFor}
+use Rattle.query_run.proofs.Lists.{zip_member}
 use Rattle.batch_result.specs.Tables.{lists_for}
 use Rattle.bulk_run.specs.declared.input.BulkInput.{BulkInput}
 use Rattle.bulk_run.proofs.TableLaws.{table_long}

@@ -12,9 +12,9 @@ use Rattle.topk_theory.specs.Transcript.{depth, sorted_count, random_count}
 use Rattle.topk_theory.proofs.AgreementLists.{all_from_members, member_of_all, take_within}
 use Rattle.machine_base.specs.declared.answer.Answer.{Answer}
 use Rattle.query_text.specs.declared.query.Query.{Query}
-use Rattle.query_turns.proofs.Lists.{take_whole}
-use Rattle.query_turns.specs.declared.ended.Ended.{Ended}
-use Rattle.query_turns.specs.declared.ended.Ended.TheVariants.{Answered, Core, Look}
+use Rattle.query_run.proofs.Lists.{take_whole}
+use Rattle.query_run.specs.declared.ended.Ended.{Ended}
+use Rattle.query_run.specs.declared.ended.Ended.TheVariants.{Answered, Core, Look}
 use Rattle.bulk_run.specs.declared.input.BulkInput.{BulkInput}
 use Rattle.bulk_run.specs.declared.sums.BulkSums.{BulkSums}
 use Rattle.bulk_run.specs.Sums.{table_of, query_of, run_depth, run_sorted, run_random, answer_value, bulk_sums}

@@ -14,7 +14,7 @@ use super::sums::BulkSums;
 use super::writing::write_sums;
 use call_ends::{Status, ended};
 use command_words::BulkOptions;
-use memory::Memory;
+use limits::Memory;
 use std::alloc::Global;
 use std::sync::Wait;
 use std::thread::Threads;

@@ -13,8 +13,8 @@ mod writing;
 
 pub use bulking::bulk;
 pub use input::BulkInput;
+pub use limits::Memory;
 pub use made_source::MadeSource;
-pub use memory::Memory;
 pub use run::run_bulk;
 pub use slots::{let_go, table_slots};
 pub use sums::BulkSums;

@@ -2,14 +2,14 @@
 
 ghost use Rattle.std.specs.Prelude.{◌≡◌, ◌≤◌, ◌^◌, [], All, length};
 ghost use Rattle.std.specs.List.{sum_by};
-ghost use Rattle.query_turns.specs.declared.ended.Ended.TheVariants.{Answered};
+ghost use Rattle.query_run.specs.declared.ended.Ended.TheVariants.{Answered};
 ghost use Rattle.bulk_run.specs.Endings.{sums_over, IsSmall, HasRoom, with_answer, with_ending};
 ghost use Rattle.limits.specs.declared.TheConstants.{MAX_QUERIES};
 
 use access_log::Items;
 use cert_text::depth_of;
 use machine_base::Answer;
-use query_turns::Ended;
+use query_run::Ended;
 
 /// What queries came to, in sums over those that were answered.
 #[derive(Clone, Copy)]

@@ -7,7 +7,7 @@ ghost use Rattle.bundle_calls.specs.Bundled.{lists_at};
 
 use super::told::ToldList;
 use bundle_text::Bundle;
-use memory::Memory;
+use limits::Memory;
 use query_admission::{Listed, Lists};
 use std::alloc::Global;
 use std::marker::Model;

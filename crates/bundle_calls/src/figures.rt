@@ -10,7 +10,7 @@ use super::drive::answer_over;
 use super::told::ToldList;
 use access_log::Transcript;
 use cert_text::depth_of;
-use memory::Memory;
+use limits::Memory;
 use query_core::{DriveFault, Ready};
 use query_text::{Algorithm, Query};
 use std::alloc::Global;

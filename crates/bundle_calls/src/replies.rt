@@ -11,7 +11,7 @@ use super::bundled::{Bundled, told_lists};
 use super::drive::answer_over;
 use bundle_text::{Bundle, BundleFault, GivenList, gather_bundle, read_bundle};
 use cert_text::{Outcome, Refusal, Versions};
-use memory::Memory;
+use limits::Memory;
 use query_admission::{Admitted, LineOutcome, admit};
 use query_core::{DriveFault, Ready};
 use std::alloc::Global;

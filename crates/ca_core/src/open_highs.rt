@@ -10,9 +10,8 @@ ghost use Rattle.ca_core.specs.Open.{AreOpen, KeepsOpen, WasOpen};
 use super::kept_high::KeptHigh;
 use access_log::Transcript;
 use indexed_heap::IndexedHeap;
-use limits::MAX_OBJECTS;
+use limits::{MAX_OBJECTS, Memory};
 use machine_base::next_unknown;
-use memory::Memory;
 use monotone_fn::Expr;
 use std::alloc::Global;
 

@@ -6,14 +6,13 @@ use Rattle.cert_text.specs.declared.refusal.Refusal.{Refusal}
 use Rattle.query_text.specs.declared.query.Query.{Query}
 use Rattle.query_core.specs.declared.ready.Ready.{Ready as ReadyQuery}
 use Rattle.query_admission.specs.View.{View}
-use Rattle.query_admission.specs.Causes.{admission_causes}
+use Rattle.query_admission.specs.Causes.{admission_causes, line_over}
 use Rattle.query_admission.specs.Admission.{Admits, IsReadAs, RefusesLine, IsAdmitted}
 use Rattle.query_admission.specs.declared.reading.ReadLine.{ReadLine}
 use Rattle.query_admission.specs.declared.admitted.Admitted.{Admitted}
 use Rattle.query_admission.specs.declared.admitted.Admitted.TheVariants as admitted
 use Rattle.catalog_open.specs.declared.admissions.Stage.{Stage}
 use Rattle.catalog_open.specs.declared.admissions.Stage.TheVariants.{Refused, Ready}
-use Rattle.catalog_open.specs.Views.{line_over}
 use Rattle.catalog_open.specs.Wanted.{AreRead}
 use Rattle.catalog_open.specs.Admissions.{AreAdmitted}
 

@@ -2,11 +2,10 @@
 use Rattle.std.specs.Prelude.{◌≡◌, ◌+◌, ℕ, List, [], ◌∷◌}
 use Rattle.query_core.specs.declared.ready.Ready.{Ready as ReadyQuery}
 use Rattle.query_admission.specs.View.{View}
-use Rattle.query_admission.specs.Causes.{admission_causes}
+use Rattle.query_admission.specs.Causes.{admission_causes, line_over}
 use Rattle.query_admission.specs.Admission.{RefusesLine, IsAdmitted}
 use Rattle.catalog_open.specs.declared.admissions.Stage.{Stage}
 use Rattle.catalog_open.specs.declared.admissions.Stage.TheVariants.{Refused, Ready}
-use Rattle.catalog_open.specs.Views.{line_over}
 
 -- each of some lines, numbered from this number on, is refused, or its query is ready: the next of these
 abbrev pub AreAdmitted : View → ℕ → List (List ℕ) → List Stage → List ReadyQuery → Type 0

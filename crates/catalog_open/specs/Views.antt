@@ -6,7 +6,6 @@ use Rattle.std.specs.Str.{bytes_eq}
 use Rattle.ranked_list.specs.declared.row.Row.{Row}
 use Rattle.catalog_text.specs.Catalog.{Listed as Entry}
 use Rattle.query_admission.specs.View.{View}
-use Rattle.query_admission.specs.Causes.{QueryLine}
 use Rattle.query_admission.specs.declared.lists.Listed.{Listed}
 use Rattle.catalog_open.specs.Entries.{entry_at, opening_at, entry_told}
 use Rattle.catalog_open.specs.declared.opened.Opening.{Opening}
@@ -37,7 +36,3 @@ view_over catalog openings lists = record {
   listed = λ name. option_map (listed_at catalog openings) (entry_named catalog name);
   told = λ name. option_and_then (entry_told lists catalog) (entry_named catalog name);
 }
-
--- the query line of a number over such lists
-abbrev pub line_over : View → ℕ → List ℕ → QueryLine
-line_over view number bytes = record { view = view; number = number; bytes = bytes }

@@ -14,7 +14,7 @@ mod wanted;
 pub use admissions::{Admissions, Stage, admit_all};
 pub use catalogued::{Catalogued, said_of};
 pub use closing::put_back_all;
-pub use memory::Memory;
+pub use limits::Memory;
 pub use opened::{Opened, Opening};
 pub use opening::open_wanted;
 pub use reading::{let_lines_go, read_lines};

@@ -11,16 +11,16 @@ use Rattle.topk_theory.proofs.AgreementLists.{contains_nil, contains_here, conta
 use Rattle.topk_theory.proofs.Counts.{none_counted}
 use Rattle.source_api.specs.declared.counts.Counts.{Counts}
 use Rattle.source_api.specs.Counting.{added, raised}
-use Rattle.source_log.specs.declared.entry.FailKind.{FailKind}
+use Rattle.source_state.specs.declared.entry.FailKind.{FailKind}
 use Rattle.source_state.specs.declared.look.LookFault.{LookFault}
 use Rattle.source_state.specs.State.{State, state_at}
 use Rattle.query_core.specs.Machines.{state_of}
-use Rattle.query_turns.specs.declared.ended.Refusal.TheVariants as refusal
-use Rattle.query_turns.specs.declared.inquiry.Inquiry.{Inquiry}
-use Rattle.query_turns.specs.Inquiries.{needed, list_needed, source_needed, source_of}
-use Rattle.query_turns.specs.Causes.{IsCause, IsOfList}
-use Rattle.query_turns.specs.Kept.{IsServed}
-use Rattle.query_turns.proofs.Serving.{listed, of_some_list}
+use Rattle.query_run.specs.declared.ended.Refusal.TheVariants as refusal
+use Rattle.query_run.specs.declared.inquiry.Inquiry.{Inquiry}
+use Rattle.query_run.specs.Inquiries.{needed, list_needed, source_needed, source_of}
+use Rattle.query_run.specs.Causes.{IsCause, IsOfList}
+use Rattle.query_run.specs.Kept.{IsServed}
+use Rattle.query_run.proofs.Serving.{listed, of_some_list}
 use Rattle.batch_result.specs.Numbered.{counts_at}
 use Rattle.batch_result.specs.Using.{IsFewFor, is_fail, is_refused_for}
 use Rattle.batch_result.proofs.EndingLaws.{counted_for, no_calls}
@@ -28,7 +28,7 @@ use Rattle.catalog_text.specs.Catalog.{Listed as Entry}
 use Rattle.catalog_open.specs.Entries.{entry_at}
 use Rattle.catalog_open.specs.Openings.{Counted, Used, used_at, added_all, PutsBack, put_back}
 use Rattle.catalog_run.proofs.Turned.{contains_back}
-use Rattle.catalog_run.proofs.Writable.{of_list_is}
+use Rattle.line_outcome.proofs.Writable.{of_list_is}
 
 -- what is counted of sources that were put back
 pub faults_sum : (c : Counts) (xs : List Counts) → min (added_all c xs).faults (2 ^ 64 - 1) ≡ min (c.faults + sum_by (λ (x : Counts). x.faults) xs) (2 ^ 64 - 1)

@@ -9,3 +9,6 @@ pub mod Writable
 pub mod Whole
 pub mod Running
 pub mod Failing
+-- Lemmas on runs of query lines.
+mod LineTexts
+pub mod RunEnding

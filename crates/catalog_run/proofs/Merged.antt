@@ -2,7 +2,7 @@
 use Rattle.std.proofs.Common.{◌≡◌, ◌<◌, List, [], ◌∷◌, ◌++◌, reverse, length, append-nil, append_assoc, refl, sym, ap, ◌∙◌, subst, arith}
 use Rattle.std.proofs.lemmas.List.{reverse-reverse, reverse-append}
 use Rattle.query_core.specs.declared.ready.Ready.{Ready as ReadyQuery}
-use Rattle.query_turns.specs.declared.ended.Ended.{Ended}
+use Rattle.query_run.specs.declared.ended.Ended.{Ended}
 use Rattle.catalog_open.specs.declared.admissions.Stage.{Stage}
 use Rattle.catalog_open.specs.declared.admissions.Stage.TheVariants.{Refused, Ready}
 use Rattle.query_admission.specs.declared.line_outcome.LineOutcome.{LineOutcome}

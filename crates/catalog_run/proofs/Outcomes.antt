@@ -1,24 +1,18 @@
 -- The outcomes of lines, from what admission and the run of their queries gave.
-use Rattle.std.proofs.Common.{◌≡◌, ℕ, ◌+◌, List, [], ◌∷◌, length, inl, inr, Option, refl, sym, ap, subst, arith}
+use Rattle.std.proofs.Common.{◌≡◌, ℕ, ◌+◌, List, [], ◌∷◌, length, inl, inr, refl, arith}
 use Rattle.std.specs.List.{AllZip}
-use Rattle.cert_text.specs.declared.outcome.Outcome.TheVariants.{Refused as IsRefusedNow}
-use Rattle.cert_text.specs.declared.refusal.Refusal.{Refusal}
-use Rattle.query_text.specs.declared.query.Query.{Query}
 use Rattle.query_core.specs.declared.ready.Ready.{Ready as ReadyQuery}
 use Rattle.query_admission.specs.View.{View}
-use Rattle.query_admission.specs.Causes.{admission_causes}
-use Rattle.query_admission.specs.Admission.{RefusesLine}
-use Rattle.query_turns.specs.declared.ended.Ended.{Ended}
-use Rattle.query_turns.specs.declared.inquiry.Inquiry.{Inquiry}
-use Rattle.query_turns.specs.Made.{IsOf}
-use Rattle.query_turns.specs.Endings.{EndsAs, IsRight}
+use Rattle.query_run.specs.declared.ended.Ended.{Ended}
+use Rattle.query_run.specs.declared.inquiry.Inquiry.{Inquiry}
+use Rattle.query_run.specs.Made.{IsOf}
+use Rattle.query_run.specs.Endings.{EndsAs, IsRight}
 use Rattle.catalog_open.specs.declared.admissions.Stage.{Stage}
 use Rattle.catalog_open.specs.declared.admissions.Stage.TheVariants.{Refused, Ready}
 use Rattle.catalog_open.specs.Admissions.{AreAdmitted}
-use Rattle.catalog_open.specs.Views.{line_over}
 use Rattle.query_admission.specs.declared.line_outcome.LineOutcome.{LineOutcome}
 use Rattle.catalog_run.specs.Merging.{Fit, Merges}
-use Rattle.catalog_run.specs.Runs.{AreOutcomes, IsLineRefused, IsLineRun}
+use Rattle.catalog_run.specs.Runs.{AreOutcomes, IsLineRun}
 
 -- as many endings as queries fit the lines
 pub admitted_fit : (view : View) (number : ℕ) (lines : List (List ℕ)) (stages : List Stage) (readies : List ReadyQuery) (endings : List Ended)
@@ -47,16 +41,6 @@ pub right_fit : (view : View) (number : ℕ) (lines : List (List ℕ)) (stages :
     → AreAdmitted view number lines stages readies
     → AllZip IsRight readies endings → Fit stages readies endings
 right_fit view number lines stages readies endings are right = admitted_fit view number lines stages readies endings are (zip_long readies endings right)
-
-pub refused_here : (view : View) (number : ℕ) (bytes : List ℕ) (o : LineOutcome) (refusal : Refusal) (query : Option Query)
-    → RefusesLine admission_causes (line_over view number bytes) refusal query
-    → o ≡ record { query = query; count = 0; versions = []; outcome = IsRefusedNow refusal } → IsLineRefused view number bytes o
-refused_here view number bytes o refusal query is e = record {
-  refusal = refusal;
-  outcome = ap (λ (p : LineOutcome). p.outcome) e;
-  count = ap (λ (p : LineOutcome). p.count) e;
-  refused = subst (RefusesLine admission_causes (line_over view number bytes) refusal) (sym (ap (λ (p : LineOutcome). p.query) e)) is;
-}
 
 -- the outcomes of the lines
 pub outcomes_are : (view : View) (number : ℕ) (lines : List (List ℕ)) (stages : List Stage) (readies : List ReadyQuery)

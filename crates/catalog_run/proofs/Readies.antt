@@ -11,18 +11,18 @@ use Rattle.topk_theory.proofs.AgreementLists.{contains_here, member_of_all}
 use Rattle.cert_text.specs.declared.refusal.Refusal.{Refusal}
 use Rattle.cert_text.specs.declared.refusal.Refusal.TheVariants.{ManyQueries}
 use Rattle.query_admission.specs.View.{View, versions_at}
-use Rattle.query_admission.specs.Causes.{most_queries, Cause, admission_causes, RefusesFor, NoneOf}
+use Rattle.query_admission.specs.Causes.{most_queries, Cause, admission_causes, RefusesFor, NoneOf, line_over}
 use Rattle.query_admission.specs.Admission.{IsAdmitted}
 use Rattle.query_admission.specs.declared.lists.Listed.{Listed}
 use Rattle.query_admission.proofs.Positions.{nothing}
 use Rattle.query_admission.proofs.ReadyLists.{admitted_states}
-use Rattle.query_turns.specs.Made.{IsReadyFor}
+use Rattle.query_run.specs.Made.{IsReadyFor}
 use Rattle.catalog_text.specs.Catalog.{Listed as Entry}
 use Rattle.catalog_open.specs.declared.opened.Opening.{Opening}
 use Rattle.catalog_open.specs.declared.opened.Opening.TheVariants.{Closed, Open}
 use Rattle.catalog_open.specs.declared.admissions.Stage.{Stage}
 use Rattle.catalog_open.specs.declared.admissions.Stage.TheVariants.{Refused, Ready}
-use Rattle.catalog_open.specs.Views.{entry_named, said_of, listed_at, view_over, line_over}
+use Rattle.catalog_open.specs.Views.{entry_named, said_of, listed_at, view_over}
 use Rattle.catalog_open.specs.Entries.{entry_at, opening_at}
 use Rattle.catalog_open.specs.Openings.{Counted, Sources, AreOpened, IsOpening, IsSource, run_count}
 use Rattle.catalog_open.specs.Admissions.{AreAdmitted}

@@ -6,8 +6,8 @@ use Rattle.source_api.specs.declared.counts.Counts.{Counts}
 use Rattle.source_api.specs.Counting.{NoneFell}
 use Rattle.query_core.specs.declared.ready.Ready.{Ready as ReadyQuery}
 use Rattle.query_admission.specs.View.{View}
-use Rattle.query_turns.specs.declared.ended.Ended.{Ended}
-use Rattle.query_turns.specs.Made.{IsReadyFor}
+use Rattle.query_run.specs.declared.ended.Ended.{Ended}
+use Rattle.query_run.specs.Made.{IsReadyFor}
 use Rattle.limits.specs.declared.settings.Settings.{Settings}
 use Rattle.batch_result.specs.Batches.{BatchState, IsBatch}
 use Rattle.catalog_open.specs.declared.admissions.Stage.{Stage}
@@ -15,7 +15,8 @@ use Rattle.catalog_open.specs.Admissions.{AreAdmitted}
 use Rattle.catalog_open.specs.Openings.{Sources}
 use Rattle.query_admission.specs.declared.line_outcome.LineOutcome.{LineOutcome}
 use Rattle.catalog_run.specs.Merging.{Fit, Merges}
-use Rattle.catalog_run.specs.Runs.{CanBeWritten, HasVersions, RanOver}
+use Rattle.catalog_run.specs.Runs.{HasVersions, RanOver}
+use Rattle.line_outcome.specs.LineOutcomes.{CanBeWritten}
 use Rattle.catalog_run.specs.OpenSources.{batch_over}
 use Rattle.catalog_run.proofs.Outcomes.{outcomes_are, right_fit}
 use Rattle.catalog_run.proofs.Readies.{all_own}

@@ -1,7 +1,11 @@
 -- What the outcomes of query lines are.
-pub mod Outcomes
 pub mod Merging
 -- What a batch over open sources is.
 pub mod OpenSources
 -- What query lines over the lists of a catalog come to.
 pub mod Runs
+-- How a run of query lines over a catalog ends, and what it writes.
+pub mod Taking
+pub mod Running
+pub mod RunEnds
+pub mod Faults

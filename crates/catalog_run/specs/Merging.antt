@@ -1,25 +1,11 @@
 -- The outcomes of lines, in order, from what refused them before they ran and from how the queries of the others ended.
-use Rattle.std.specs.Prelude.{◌≡◌, List, [], ◌∷◌, ◌++◌, Option, Some}
-use Rattle.query_text.specs.declared.query.Query.{Query}
-use Rattle.cert_text.specs.declared.outcome.Outcome.TheVariants.{Refused as RefusedAs}
-use Rattle.cert_text.specs.declared.refusal.Refusal.{Refusal}
+use Rattle.std.specs.Prelude.{◌≡◌, List, [], ◌∷◌, ◌++◌}
 use Rattle.query_core.specs.declared.ready.Ready.{Ready as ReadyQuery}
-use Rattle.query_turns.specs.declared.ended.Ended.{Ended}
+use Rattle.query_run.specs.declared.ended.Ended.{Ended}
 use Rattle.catalog_open.specs.declared.admissions.Stage.{Stage}
 use Rattle.catalog_open.specs.declared.admissions.Stage.TheVariants.{Refused, Ready}
 use Rattle.query_admission.specs.declared.line_outcome.LineOutcome.{LineOutcome}
-use Rattle.catalog_run.specs.Outcomes.{ended_outcome}
-
--- the outcome of a line that is refused before it runs, beside its query where that was read
-abbrev pub line_refused : Refusal → Option Query → LineOutcome
-line_refused refusal query = record { query = query; count = 0; versions = []; outcome = RefusedAs refusal }
-
--- the outcome of a line whose query was ready and ended so
-pub record IsEndedAs (ready : ReadyQuery) (ended : Ended) (o : LineOutcome) : Type 0 where
-  pub query : o.query ≡ Some ready.query
-  pub count : o.count ≡ ready.count
-  pub versions : o.versions ≡ ready.versions.items
-  pub outcome : ended_outcome ended ≡ Some o.outcome
+use Rattle.line_outcome.specs.LineOutcomes.{line_refused, IsEndedAs}
 
 -- each line that was ready has one of the queries and of the endings, in their order
 abbrev pub Fit : List Stage → List ReadyQuery → List Ended → Type 0

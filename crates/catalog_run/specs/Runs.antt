@@ -4,35 +4,25 @@ use Rattle.std.specs.List.{AllZip}
 use Rattle.ranked_list.specs.declared.row.Row.{Row}
 use Rattle.source_api.specs.declared.counts.Counts.{Counts}
 use Rattle.source_api.specs.Counting.{NoneFell}
-use Rattle.cert_text.specs.declared.outcome.Outcome.TheVariants.{Refused}
-use Rattle.cert_text.specs.declared.refusal.Refusal.{Refusal}
-use Rattle.cert_text.specs.Outcome.{IsOutcome}
 use Rattle.query_core.specs.declared.ready.Ready.{Ready}
 use Rattle.query_admission.specs.View.{View}
-use Rattle.query_admission.specs.Causes.{admission_causes}
-use Rattle.query_admission.specs.Admission.{RefusesLine, IsAdmitted}
-use Rattle.query_turns.specs.declared.ended.Ended.{Ended}
-use Rattle.query_turns.specs.declared.inquiry.Inquiry.{Inquiry}
-use Rattle.query_turns.specs.Made.{IsOf, IsReadyFor}
-use Rattle.query_turns.specs.Endings.{EndsAs, IsRight}
+use Rattle.query_admission.specs.Causes.{line_over}
+use Rattle.query_admission.specs.Admission.{IsAdmitted}
+use Rattle.query_run.specs.declared.ended.Ended.{Ended}
+use Rattle.query_run.specs.declared.inquiry.Inquiry.{Inquiry}
+use Rattle.query_run.specs.Made.{IsOf, IsReadyFor}
+use Rattle.query_run.specs.Endings.{EndsAs, IsRight}
 use Rattle.limits.specs.declared.settings.Settings.{Settings}
 use Rattle.batch_result.specs.Batches.{BatchState, IsBatch}
 use Rattle.batch_result.specs.Numbered.{version_at}
 use Rattle.catalog_text.specs.Catalog.{Listed as Entry}
 use Rattle.catalog_open.specs.declared.opened.Opening.{Opening}
-use Rattle.catalog_open.specs.Views.{view_over, line_over, nothing_told}
+use Rattle.catalog_open.specs.Views.{view_over, nothing_told}
 use Rattle.catalog_open.specs.Wanted.{IsWanted, AreMarked}
 use Rattle.catalog_open.specs.Openings.{Counted, IsUnread, GivesNothing, PutsBack, Sources, AreOpened, AsksEachAtMostOnce, AsksEachOnce, put_back}
 use Rattle.catalog_run.specs.OpenSources.{batch_over}
 use Rattle.query_admission.specs.declared.line_outcome.LineOutcome.{LineOutcome}
-use Rattle.catalog_run.specs.Merging.{IsEndedAs}
-
--- the line is refused before it runs, for the first of the causes that holds
-pub record IsLineRefused (view : View) (number : ℕ) (bytes : List ℕ) (o : LineOutcome) : Type 0 where
-  pub refusal : Refusal
-  pub outcome : o.outcome ≡ Refused refusal
-  pub count : o.count ≡ 0
-  pub refused : RefusesLine admission_causes (line_over view number bytes) refusal o.query
+use Rattle.line_outcome.specs.LineOutcomes.{IsLineRefused, IsEndedAs}
 
 -- the line is ready, this is its query as it stood at its end, and the outcome is how that ended: right where it is answered, and else refused as the query is
 pub record IsLineRun (view : View) (query : Inquiry) (number : ℕ) (bytes : List ℕ) (o : LineOutcome) : Type 0 where
@@ -53,10 +43,6 @@ AreOutcomes view queries number (bytes ∷ lines) (o ∷ outcomes) =
     ⊎ ((query : Inquiry) × (others : List Inquiry) × (queries ≡ query ∷ others) × IsLineRun view query number bytes o
     × AreOutcomes view others (number + 1) lines outcomes)
 AreOutcomes _ _ _ _ _ = ⊥
-
--- the outcome can be written: an answer with its query and the versions of its lists, a refusal with the query whose lists it names
-abbrev pub CanBeWritten : LineOutcome → Type 0
-CanBeWritten o = IsOutcome o.query o.versions o.outcome
 
 -- the query is that of one of the lines, which are numbered from 1, and is ready
 pub record IsReadyOf (view : View) (lines : List (List ℕ)) (ready : Ready) : Type 0 where

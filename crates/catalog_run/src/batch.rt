@@ -3,7 +3,7 @@
 ghost use Rattle.std.specs.Prelude.{◌≡◌, ◌≤◌, ◌<◌, ◌^◌, All, IfOk, length, map};
 ghost use Rattle.std.specs.List.{AllZip};
 ghost use Rattle.source_api.specs.Counting.{NoneFell};
-ghost use Rattle.query_turns.specs.Made.{IsReadyFor};
+ghost use Rattle.query_run.specs.Made.{IsReadyFor};
 ghost use Rattle.limits.specs.Ranges.{AreSettings};
 ghost use Rattle.batch_result.specs.Batches.{IsBatch, run_of};
 ghost use Rattle.catalog_open.specs.Slots.{IsIdle, of_slot};

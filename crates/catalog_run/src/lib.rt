@@ -1,18 +1,20 @@
-//! Query lines over the lists of a catalog: the sources that the lines name are opened, the lines are admitted, their queries are
-//! run at the same time over the sources, and the sources are put back.
+//! The command `run`: query lines over the lists of a catalog, whose sources are taken of a shelf.
 //!
-//! A line's outcome is what it came to before it ran, or how its query ended.
+//! The sources that the lines name are opened, the lines are admitted, their queries are run at the same time over the sources, and the sources
+//! are put back. A line's outcome is what it came to before it ran, or how its query ended.
 #![tactic(auto)]
 
+mod admitted;
 mod batch;
+mod command;
+mod line_outcomes;
 mod lines;
 mod merging;
-mod outcome;
-mod run;
 
 pub use batch::run_queries;
 pub use batch_run::Settings;
 pub use catalog_open::Memory;
+pub use command::{refuse, run};
 pub use lines::run_lines;
-pub use merging::{let_admissions_go, let_go, line_ended, line_refused, merge};
+pub use merging::{let_admissions_go, let_go, merge};
 pub use query_admission::LineOutcome;

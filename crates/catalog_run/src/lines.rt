@@ -10,10 +10,11 @@ ghost use Rattle.catalog_open.specs.Wanted.{AreRead, IsWanted};
 ghost use Rattle.catalog_open.specs.Slots.{IsIdle, of_slot, sources_in};
 ghost use Rattle.catalog_open.specs.Entries.{IsMarked};
 ghost use Rattle.catalog_open.specs.Openings.{AreOpened, Counted, GivesNothing, IsKnownAt, IsUnread, KeepsOthers, Moves, Used};
-ghost use Rattle.catalog_run.specs.Runs.{AsksWantedAtMostOnce, AsksWantedOnce, CanBeWritten, IsRun, RanOver};
+ghost use Rattle.catalog_run.specs.Runs.{AsksWantedAtMostOnce, AsksWantedOnce, IsRun, RanOver};
+ghost use Rattle.line_outcome.specs.LineOutcomes.{CanBeWritten};
 
 use super::Memory;
-use super::run::run_admitted;
+use super::admitted::run_admitted;
 use batch_run::Settings;
 use catalog_open::{
     Catalogued, Opened, admit_all, let_lines_go, mark_wanted, open_wanted, put_back_all, read_lines,

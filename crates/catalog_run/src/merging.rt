@@ -3,16 +3,14 @@
 ghost use Rattle.std.specs.Prelude.{◌≡◌, ◌≤◌, ◌<◌, ◌∷◌, [], List, IfOk, OnOk, length, reverse, vec_len, vec_capacity};
 ghost use Rattle.catalog_open.specs.declared.admissions.Stage.{Stage as AnyStage};
 ghost use Rattle.catalog_open.specs.declared.admissions.Stage.TheVariants as stage;
-ghost use Rattle.catalog_run.specs.Merging.{line_refused, IsEndedAs, Fit, Merges, Nexts};
+ghost use Rattle.catalog_run.specs.Merging.{Fit, Merges, Nexts};
 
 use super::Memory;
-use super::outcome::ended_outcome;
 use catalog_open::{Admissions, Stage};
-use cert_text::{Outcome, Refusal, Versions};
+use line_outcome::{line_ended, line_refused};
 use query_admission::LineOutcome;
 use query_core::Ready;
-use query_text::Query;
-use query_turns::Ended;
+use query_run::Ended;
 use std::alloc::Global;
 
 /// Lets the outcomes of lines go. Who owns some lets them go by this call, so that it is proved once.
@@ -121,32 +119,4 @@ fn next_ended(readies: &mut Vec<Ready>, endings: &mut Vec<Ended>) -> Result<Line
         unreachable!();
     };
     line_ended(ready, ended)
-}
-
-/// The outcome of a line that is refused before it runs, beside its query where that was read. Takes no memory.
-pub fn line_refused(alloc: Global, refusal: Refusal, query: Option<Query>) -> LineOutcome
-    ensures { result ≡ line_refused refusal query }
-{
-    LineOutcome {
-        query,
-        count: 0,
-        versions: Versions::from_vec(Vec::new(alloc)),
-        outcome: Outcome::Refused(refusal),
-    }
-}
-
-/// The outcome of a line whose query was ready and ended so, or a want of memory where it ended for that. Takes no memory.
-pub fn line_ended(ready: Ready, ended: Ended) -> Result<LineOutcome, Memory>
-    ensures { IfOk result (IsEndedAs ready ended) }
-{
-    let Some(outcome) = ended_outcome(ended) else {
-        drop(ready);
-        return Err(Memory);
-    };
-    Ok(LineOutcome {
-        query: Some(ready.query),
-        count: ready.count,
-        versions: Versions::from_vec(ready.versions),
-        outcome,
-    })
 }

@@ -5,9 +5,9 @@ ghost use Rattle.csv.specs.Records.{fields_of};
 ghost use Rattle.catalog_text.specs.Catalog.{IsPlace, fields_in};
 ghost use Rattle.catalog_text.specs.Listed.{ReadsAccess, ReadsHeader, ReadsSorted, ReadsSource, fields_now};
 
+use super::place::location_of;
 use csv::ByteRecord;
 use line_text::is_name;
-use place_text::location_of;
 use std::str::from_utf8;
 
 /// What the record of a source says.
@@ -101,7 +101,7 @@ fn has_access(random: bool, sorted: bool) -> bool
 }
 
 /// The place that a field is.
-#[tactic(auto, using(place_text::proofs::AddressLaws::located))]
+#[tactic(auto, using(crate::proofs::AddressLaws::located))]
 fn place_in(field: &[u8]) -> Option<&str>
     ensures { MatchOption result (¬ IsPlace field.now) (λ place. (place.now ≡ field.now) × IsPlace field.now) }
 {

@@ -18,5 +18,5 @@ mod writing;
 
 pub use judgement::Judgement;
 pub use judging::judge_text;
-pub use memory::Memory;
+pub use limits::Memory;
 pub use writing::write_told;

@@ -13,20 +13,20 @@ use Rattle.topk_theory.specs.Transcript.{Begins, last_grade}
 use Rattle.topk_theory.specs.Bounds.{grade_among}
 use Rattle.topk_theory.proofs.AgreementLists.{begins_with, begins_splits, begins_front, begins_trans}
 use Rattle.topk_theory.proofs.AgreementRows.{grade_among_row, grade_among_none, object_of_row}
-use Rattle.source_log.specs.declared.ask.Ask.{Ask}
-use Rattle.source_log.specs.declared.entry.LogEntry.{LogEntry}
-use Rattle.source_log.specs.declared.entry.LogEntry.TheVariants.{Kept, Settled, Fault}
-use Rattle.source_log.specs.declared.entry.Settling.{Settling}
-use Rattle.source_log.specs.declared.entry.Settling.TheVariants.{Graded, Bad, Missed}
-use Rattle.source_log.specs.declared.entry.SourceFault.{SourceFault}
-use Rattle.source_log.specs.declared.entry.SourceFault.TheVariants.{OutOfOrder, TooHigh, Repeated, Clash, Above, ShortList, Moved}
-use Rattle.source_log.specs.Log.{first_of, rows_in, settling_in, fault_in}
-use Rattle.source_log.specs.Asks.{ask_in, ask_of, good_grade, open_row, open_rows, first_above}
+use Rattle.source_state.specs.declared.ask.Ask.{Ask}
+use Rattle.source_state.specs.declared.entry.LogEntry.{LogEntry}
+use Rattle.source_state.specs.declared.entry.LogEntry.TheVariants.{Kept, Settled, Fault}
+use Rattle.source_state.specs.declared.entry.Settling.{Settling}
+use Rattle.source_state.specs.declared.entry.Settling.TheVariants.{Graded, Bad, Missed}
+use Rattle.source_state.specs.declared.entry.SourceFault.{SourceFault}
+use Rattle.source_state.specs.declared.entry.SourceFault.TheVariants.{OutOfOrder, TooHigh, Repeated, Clash, Above, ShortList, Moved}
+use Rattle.source_state.specs.Log.{first_of, rows_in, settling_in, fault_in}
+use Rattle.source_state.specs.Asks.{ask_in, ask_of, good_grade, open_row, open_rows, first_above}
 use Rattle.source_state.specs.State.{State, asks_of, clash_or, above_fault, grade_asked, row_fault, settle_by, settle}
 use Rattle.source_state.specs.Events.{logged, row_or, with_rows, paged, MayPage}
-use Rattle.source_log.proofs.Lists.{none_not_some}
+use Rattle.source_state.proofs.Lists.{none_not_some}
 use Rattle.source_state.proofs.AskLaws.{ask_found, good_settled}
-use Rattle.source_log.proofs.LogLaws.{kept_rows, kept_settling, kept_faults, settled_rows, settled_faults, settled_other, settled_same, fault_rows, fault_settling, fault_first}
+use Rattle.source_state.proofs.LogLaws.{kept_rows, kept_settling, kept_faults, settled_rows, settled_faults, settled_other, settled_same, fault_rows, fault_settling, fault_first}
 use Rattle.fetcher.specs.Causes.{Rises, IsTooHigh, Repeats, IsFaultOfRow, HasFaultyRow, IsFaultOf, IsFaultOfGrade, ComesOf}
 
 pub some_same : {A : Type 0} {x y : A} → Some x ≡ Some y → x ≡ y

@@ -1,8 +1,8 @@
 -- What is fetched until the pool closes is called for.
 use Rattle.std.proofs.Common.{◌≡◌, ◌≤◌, ℕ, length, sym, ap, subst}
 use Rattle.turn_lock.specs.declared.known.Known.{Known}
-use Rattle.source_log.specs.declared.entry.LogEntry.{LogEntry}
-use Rattle.source_log.specs.Log.{rows_in}
+use Rattle.source_state.specs.declared.entry.LogEntry.{LogEntry}
+use Rattle.source_state.specs.Log.{rows_in}
 use Rattle.source_state.specs.State.{State}
 use Rattle.source_state.specs.Looking.{reach_of, state_reach}
 use Rattle.source_api.specs.declared.counts.Counts.{Counts}

@@ -2,17 +2,17 @@
 use Rattle.std.proofs.Common.{◌≡◌, ◌+◌, ℕ, Option, Some, None, List, [], ◌∷◌, ◌++◌, length, refl, sym, ap, ◌∙◌, append_assoc, append-nil}
 use Rattle.std.proofs.lemmas.List.{length-append, length_push}
 use Rattle.ranked_list.specs.declared.row.Row.{Row}
-use Rattle.source_log.specs.declared.entry.LogEntry.TheVariants.{Kept, Settled, Fault}
-use Rattle.source_log.specs.declared.entry.Settling.{Settling}
-use Rattle.source_log.specs.declared.entry.SourceFault.{SourceFault}
-use Rattle.source_log.specs.declared.entry.SourceFault.TheVariants.{ShortList}
+use Rattle.source_state.specs.declared.entry.LogEntry.TheVariants.{Kept, Settled, Fault}
+use Rattle.source_state.specs.declared.entry.Settling.{Settling}
+use Rattle.source_state.specs.declared.entry.SourceFault.{SourceFault}
+use Rattle.source_state.specs.declared.entry.SourceFault.TheVariants.{ShortList}
 use Rattle.source_state.specs.declared.event.Event.{Event}
 use Rattle.source_state.specs.declared.event.Event.TheVariants as event
-use Rattle.source_log.specs.Log.{first_of, rows_in, settled_in, fault_in}
+use Rattle.source_state.specs.Log.{first_of, rows_in, settled_in, fault_in}
 use Rattle.source_state.specs.State.{State, asks_of, row_fault}
 use Rattle.source_state.specs.Events.{logged, row_or, with_rows, paged, after}
-use Rattle.source_log.proofs.Lists.{none_not_some}
-use Rattle.source_log.proofs.LogLaws.{kept_rows, kept_settled, kept_faults, settled_rows, settled_settled, settled_faults, fault_settled, fault_first}
+use Rattle.source_state.proofs.Lists.{none_not_some}
+use Rattle.source_state.proofs.LogLaws.{kept_rows, kept_settled, kept_faults, settled_rows, settled_settled, settled_faults, fault_settled, fault_first}
 use Rattle.fetcher.specs.Turning.{IsOfSource}
 
 -- the want, the asks, the tally and what is settled stay

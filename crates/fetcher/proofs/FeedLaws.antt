@@ -7,7 +7,7 @@ use Rattle.turn_lock.specs.declared.known.Known.{Known}
 use Rattle.turn_lock.specs.Facts.{FactsGrow}
 use Rattle.turn_lock.specs.Known.{KnowsOf, HasAll, after_turn}
 use Rattle.turn_lock.proofs.Growth.{begins_on, at_most_on, grows_same}
-use Rattle.source_log.specs.declared.entry.LogEntry.{LogEntry}
+use Rattle.source_state.specs.declared.entry.LogEntry.{LogEntry}
 use Rattle.source_state.specs.declared.event.Event.{Event}
 use Rattle.source_state.specs.declared.plan.Plan.{Plan}
 use Rattle.source_state.specs.State.{State, facts_of, IsSound}

@@ -9,22 +9,22 @@ use Rattle.turn_lock.specs.declared.known.Known.{Known}
 use Rattle.turn_lock.specs.Facts.{IsFrontOf}
 use Rattle.turn_lock.proofs.Growth.{begins_same, begins_on, at_most_same, at_most_on}
 use Rattle.topk_theory.proofs.AgreementLists.{distinct_fits}
-use Rattle.source_log.specs.declared.entry.LogEntry.{LogEntry}
-use Rattle.source_log.specs.declared.entry.LogEntry.TheVariants.{Settled, Fault}
-use Rattle.source_log.specs.declared.entry.Settling.{Settling}
-use Rattle.source_log.specs.declared.entry.Settling.TheVariants.{Bad, Missed}
-use Rattle.source_log.specs.declared.entry.SourceFault.{SourceFault}
-use Rattle.source_log.specs.declared.entry.SourceFault.TheVariants.{Moved}
-use Rattle.source_log.specs.declared.entry.Asked.TheVariants as became
+use Rattle.source_state.specs.declared.entry.LogEntry.{LogEntry}
+use Rattle.source_state.specs.declared.entry.LogEntry.TheVariants.{Settled, Fault}
+use Rattle.source_state.specs.declared.entry.Settling.{Settling}
+use Rattle.source_state.specs.declared.entry.Settling.TheVariants.{Bad, Missed}
+use Rattle.source_state.specs.declared.entry.SourceFault.{SourceFault}
+use Rattle.source_state.specs.declared.entry.SourceFault.TheVariants.{Moved}
+use Rattle.source_state.specs.declared.entry.Asked.TheVariants as became
 use Rattle.source_state.specs.declared.event.Event.{Event}
 use Rattle.source_state.specs.declared.event.Event.TheVariants as event
-use Rattle.source_log.specs.Log.{rows_in, settled_in, fault_in}
+use Rattle.source_state.specs.Log.{rows_in, settled_in, fault_in}
 use Rattle.source_state.specs.State.{State, asked_in, settle, IsSound}
 use Rattle.source_state.specs.Events as events
 use Rattle.source_state.specs.Events.{logged, paged, one_more}
 use Rattle.source_state.specs.Looking.{reach_of}
-use Rattle.source_log.proofs.Lists.{none_not_some}
-use Rattle.source_log.proofs.LogLaws.{fault_rows, fault_settled, fault_first}
+use Rattle.source_state.proofs.Lists.{none_not_some}
+use Rattle.source_state.proofs.LogLaws.{fault_rows, fault_settled, fault_first}
 use Rattle.source_state.proofs.AskLaws.{pending_parts}
 use Rattle.source_api.specs.declared.counts.Counts.{Counts}
 use Rattle.source_api.specs.Counting.{raised, NoneFell}

@@ -4,13 +4,13 @@ use Rattle.std.proofs.lemmas.Bool.Decides.{eqb_tells}
 use Rattle.ranked_list.specs.declared.row.Row.{Row}
 use Rattle.tk_io.specs.Faults.{Rose}
 use Rattle.turn_lock.specs.declared.known.Known.{Known}
-use Rattle.source_log.specs.declared.entry.LogEntry.{LogEntry}
-use Rattle.source_log.specs.declared.entry.LogEntry.TheVariants.{Settled}
-use Rattle.source_log.specs.declared.entry.Settling.{Settling}
-use Rattle.source_log.specs.declared.entry.Settling.TheVariants.{Bad, Missed}
-use Rattle.source_log.specs.declared.entry.SourceFault.TheVariants.{Moved}
-use Rattle.source_log.specs.Log.{rows_in, settling_in}
-use Rattle.source_log.proofs.LogLaws.{settled_other, settled_same, fault_settling, fault_first}
+use Rattle.source_state.specs.declared.entry.LogEntry.{LogEntry}
+use Rattle.source_state.specs.declared.entry.LogEntry.TheVariants.{Settled}
+use Rattle.source_state.specs.declared.entry.Settling.{Settling}
+use Rattle.source_state.specs.declared.entry.Settling.TheVariants.{Bad, Missed}
+use Rattle.source_state.specs.declared.entry.SourceFault.TheVariants.{Moved}
+use Rattle.source_state.specs.Log.{rows_in, settling_in}
+use Rattle.source_state.proofs.LogLaws.{settled_other, settled_same, fault_settling, fault_first}
 use Rattle.source_state.specs.declared.event.Event.{Event}
 use Rattle.source_state.specs.declared.event.Event.TheVariants as event
 use Rattle.source_state.specs.State.{State, settle}

@@ -2,10 +2,10 @@
 use Rattle.std.proofs.Common.{◌≡◌, ◌||◌, ◌&&◌, ◌-◌, ℕ, min, Bool, true, false, Option, Some, None, List, length, is_some, is_none, nat_le, map, refl, ap, if◌then◌else◌}
 use Rattle.std.specs.Option.{option_map}
 use Rattle.turn_lock.specs.declared.facts.Facts.{Facts}
-use Rattle.source_log.specs.declared.ask.Ask.{Ask}
-use Rattle.source_log.specs.declared.entry.LogEntry.{LogEntry}
-use Rattle.source_log.specs.Log.{rows_in, fault_in}
-use Rattle.source_log.specs.Asks.{ask_in, first_due}
+use Rattle.source_state.specs.declared.ask.Ask.{Ask}
+use Rattle.source_state.specs.declared.entry.LogEntry.{LogEntry}
+use Rattle.source_state.specs.Log.{rows_in, fault_in}
+use Rattle.source_state.specs.Asks.{ask_in, first_due}
 use Rattle.source_state.specs.declared.plan.Plan.{Plan}
 use Rattle.source_state.specs.declared.plan.Plan.TheVariants as plan
 use Rattle.source_state.specs.State.{State, facts_of, first_pending, due_by}

@@ -4,7 +4,7 @@ use Rattle.std.proofs.Math.Nat.{div-mul-le_self, mul-le-mul_right}
 use Rattle.std.proofs.lemmas.Nat.{le-div}
 use Rattle.std.proofs.lemmas.Bool.Decides.{eqb_tells}
 use Rattle.source_state.specs.Looking.{reach_of}
-use Rattle.source_log.proofs.Lists.{eqb_other}
+use Rattle.source_state.proofs.Lists.{eqb_other}
 
 div_more : (a b k : ℕ) → 0 < k → a ≤ b → a / k ≤ b / k
 div_more a b k pos le = le-div (a / k) b k pos (le_trans (div-mul-le_self a k) le)

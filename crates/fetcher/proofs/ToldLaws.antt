@@ -10,21 +10,21 @@ use Rattle.topk_theory.specs.Transcript.{Begins, last_grade}
 use Rattle.topk_theory.specs.Bounds.{grade_among}
 use Rattle.topk_theory.proofs.AgreementLists.{contains_nil, contains_here, contains_cases, begins_with, begins_splits, begins_trans}
 use Rattle.turn_lock.specs.declared.known.Known.{Known}
-use Rattle.source_log.specs.declared.entry.LogEntry.{LogEntry}
-use Rattle.source_log.specs.declared.entry.LogEntry.TheVariants.{Settled, Fault}
-use Rattle.source_log.specs.declared.entry.Settling.{Settling}
-use Rattle.source_log.specs.declared.entry.Settling.TheVariants.{Graded, Bad, Missed}
-use Rattle.source_log.specs.declared.entry.SourceFault.{SourceFault}
-use Rattle.source_log.specs.declared.entry.SourceFault.TheVariants.{OutOfOrder, TooHigh, Repeated, Clash, Above, ShortList, Moved}
+use Rattle.source_state.specs.declared.entry.LogEntry.{LogEntry}
+use Rattle.source_state.specs.declared.entry.LogEntry.TheVariants.{Settled, Fault}
+use Rattle.source_state.specs.declared.entry.Settling.{Settling}
+use Rattle.source_state.specs.declared.entry.Settling.TheVariants.{Graded, Bad, Missed}
+use Rattle.source_state.specs.declared.entry.SourceFault.{SourceFault}
+use Rattle.source_state.specs.declared.entry.SourceFault.TheVariants.{OutOfOrder, TooHigh, Repeated, Clash, Above, ShortList, Moved}
 use Rattle.source_state.specs.declared.event.Event.{Event}
 use Rattle.source_state.specs.declared.event.Event.TheVariants as event
-use Rattle.source_log.specs.Log.{first_of, rows_in, settling_in, fault_in}
+use Rattle.source_state.specs.Log.{first_of, rows_in, settling_in, fault_in}
 use Rattle.source_state.specs.State.{State, settle_by, settle}
 use Rattle.source_state.specs.Events as events
 use Rattle.source_state.specs.Events.{logged, with_rows, paged, MayPage, MayCome}
-use Rattle.source_log.proofs.Lists.{none_not_some}
+use Rattle.source_state.proofs.Lists.{none_not_some}
 use Rattle.source_state.proofs.AskLaws.{pending_parts}
-use Rattle.source_log.proofs.LogLaws.{settled_rows, settled_faults, settled_other, settled_same, fault_rows, fault_settling, fault_first}
+use Rattle.source_state.proofs.LogLaws.{settled_rows, settled_faults, settled_other, settled_same, fault_rows, fault_settling, fault_first}
 use Rattle.source_api.specs.declared.counts.Counts.{Counts}
 use Rattle.source_api.specs.Told.{HasEachOnce, IsPage}
 use Rattle.fetcher.specs.declared.turned.Turned.{Turned}

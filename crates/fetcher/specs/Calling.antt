@@ -4,7 +4,7 @@ use Rattle.std.specs.declared.result.Result.{Result}
 use Rattle.std.specs.declared.result.Result.TheVariants.{Ok, Err}
 use Rattle.ranked_list.specs.declared.row.Row.{Row}
 use Rattle.turn_lock.specs.declared.known.Known.{Known}
-use Rattle.source_log.specs.declared.entry.LogEntry.{LogEntry}
+use Rattle.source_state.specs.declared.entry.LogEntry.{LogEntry}
 use Rattle.source_state.specs.declared.event.Event.{Event}
 use Rattle.source_state.specs.declared.event.Event.TheVariants as event
 use Rattle.source_state.specs.declared.plan.Plan.{Plan}

@@ -2,8 +2,8 @@
 use Rattle.std.specs.Prelude.{◌≡◌, ◌≤◌, ◌<◌, ◌+◌, ◌-◌, ◌^◌, ℕ, max, None, [], length}
 use Rattle.tk_io.specs.Faults.{Rose}
 use Rattle.turn_lock.specs.declared.known.Known.{Known}
-use Rattle.source_log.specs.declared.entry.LogEntry.{LogEntry}
-use Rattle.source_log.specs.Log.{rows_in, settled_in, fault_in}
+use Rattle.source_state.specs.declared.entry.LogEntry.{LogEntry}
+use Rattle.source_state.specs.Log.{rows_in, settled_in, fault_in}
 use Rattle.source_state.specs.State.{State}
 use Rattle.source_state.specs.Looking.{reach_of, state_reach}
 use Rattle.source_api.specs.declared.counts.Counts.{Counts}

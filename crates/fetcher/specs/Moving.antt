@@ -1,10 +1,10 @@
 -- Where a log tells that the list of its source was replaced.
 use Rattle.std.specs.Prelude.{◌≡◌, ◌⊎◌, ℕ, Option, Some, List}
 use Rattle.tk_io.specs.Faults.{Rose}
-use Rattle.source_log.specs.declared.entry.LogEntry.{LogEntry}
-use Rattle.source_log.specs.declared.entry.Settling.TheVariants.{Bad}
-use Rattle.source_log.specs.declared.entry.SourceFault.TheVariants.{Moved}
-use Rattle.source_log.specs.Log.{settling_in, fault_in}
+use Rattle.source_state.specs.declared.entry.LogEntry.{LogEntry}
+use Rattle.source_state.specs.declared.entry.Settling.TheVariants.{Bad}
+use Rattle.source_state.specs.declared.entry.SourceFault.TheVariants.{Moved}
+use Rattle.source_state.specs.Log.{settling_in, fault_in}
 use Rattle.source_api.specs.declared.counts.Counts.{Counts}
 use Rattle.source_api.specs.Counting.{IsMove}
 use Rattle.fetcher.specs.declared.turned.Turned.{Turned}

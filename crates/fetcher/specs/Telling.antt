@@ -4,12 +4,12 @@ use Rattle.ranked_list.specs.declared.row.Row.{Row}
 use Rattle.ranked_list.specs.Table.{objects}
 use Rattle.topk_theory.specs.Transcript.{Begins}
 use Rattle.source_api.specs.Told.{HasEachOnce}
-use Rattle.source_log.specs.declared.entry.LogEntry.{LogEntry}
-use Rattle.source_log.specs.declared.entry.Settling.{Settling}
-use Rattle.source_log.specs.declared.entry.Settling.TheVariants.{Graded, Bad, Missed}
-use Rattle.source_log.specs.declared.entry.SourceFault.{SourceFault}
-use Rattle.source_log.specs.declared.entry.SourceFault.TheVariants.{Above, Moved}
-use Rattle.source_log.specs.Log.{rows_in, settling_in, fault_in}
+use Rattle.source_state.specs.declared.entry.LogEntry.{LogEntry}
+use Rattle.source_state.specs.declared.entry.Settling.{Settling}
+use Rattle.source_state.specs.declared.entry.Settling.TheVariants.{Graded, Bad, Missed}
+use Rattle.source_state.specs.declared.entry.SourceFault.{SourceFault}
+use Rattle.source_state.specs.declared.entry.SourceFault.TheVariants.{Above, Moved}
+use Rattle.source_state.specs.Log.{rows_in, settling_in, fault_in}
 use Rattle.fetcher.specs.Causes.{IsAboveFront, IsFaultOf}
 
 -- a bad grade of an object is still the list's, and above those of the first rows of the list, or the list was replaced by one of another

@@ -4,15 +4,15 @@ use Rattle.ranked_list.specs.declared.row.Row.{Row}
 use Rattle.turn_lock.specs.declared.known.Known.{Known}
 use Rattle.turn_lock.specs.Facts.{IsFrontOf}
 use Rattle.turn_lock.specs.Known.{Follows}
-use Rattle.source_log.specs.declared.entry.LogEntry.{LogEntry}
-use Rattle.source_log.specs.declared.entry.FailKind.{FailKind}
-use Rattle.source_log.specs.declared.entry.FailKind.TheVariants as kind
-use Rattle.source_log.specs.declared.entry.Asked.TheVariants as became
+use Rattle.source_state.specs.declared.entry.LogEntry.{LogEntry}
+use Rattle.source_state.specs.declared.entry.FailKind.{FailKind}
+use Rattle.source_state.specs.declared.entry.FailKind.TheVariants as kind
+use Rattle.source_state.specs.declared.entry.Asked.TheVariants as became
 use Rattle.source_state.specs.declared.event.Event.{Event}
 use Rattle.source_state.specs.declared.event.Event.TheVariants as event
 use Rattle.source_state.specs.declared.plan.Plan.{Plan}
 use Rattle.source_state.specs.declared.plan.Plan.TheVariants as plan
-use Rattle.source_log.specs.Log.{rows_in, fault_in}
+use Rattle.source_state.specs.Log.{rows_in, fault_in}
 use Rattle.source_state.specs.State.{State, asked_in, facts_of, IsSound}
 use Rattle.source_state.specs.Events as events
 use Rattle.source_state.specs.Events.{counted, MayCome}

@@ -1,7 +1,7 @@
 //! The turns of a fetcher.
 
 ghost use Rattle.std.specs.Prelude.{◌≡◌, ◌≢◌, ◌≤◌, ◌+◌, ◌<◌, ◌^◌, ℕ, Some, None, length, OnErr};
-ghost use Rattle.source_log.specs.Log.{rows_in, fault_in};
+ghost use Rattle.source_state.specs.Log.{rows_in, fault_in};
 ghost use Rattle.source_state.specs.State.{State as StateOf, asked_in};
 ghost use Rattle.source_state.specs.Events.{MayCome};
 ghost use Rattle.source_state.specs.Looking.{reach_of};

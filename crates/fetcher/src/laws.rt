@@ -3,9 +3,9 @@
 ghost use Rattle.std.specs.Prelude.{◌≡◌, ◌≤◌, ℕ, Some, List, []};
 ghost use Rattle.ranked_list.specs.declared.row.Row.{Row};
 ghost use Rattle.turn_lock.specs.declared.known.Known.{Known};
-ghost use Rattle.source_log.specs.declared.entry.LogEntry.{LogEntry};
-ghost use Rattle.source_log.specs.declared.entry.SourceFault.TheVariants.{Repeated, Clash};
-ghost use Rattle.source_log.specs.Log.{fault_in};
+ghost use Rattle.source_state.specs.declared.entry.LogEntry.{LogEntry};
+ghost use Rattle.source_state.specs.declared.entry.SourceFault.TheVariants.{Repeated, Clash};
+ghost use Rattle.source_state.specs.Log.{fault_in};
 ghost use Rattle.source_state.specs.State.{State, facts_of};
 ghost use Rattle.source_state.specs.Looking.{plan_of};
 ghost use Rattle.source_api.specs.declared.counts.Counts.{Counts};

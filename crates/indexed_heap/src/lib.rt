@@ -11,6 +11,6 @@ mod slots;
 mod tree;
 
 pub use heap::IndexedHeap;
-pub use memory::Memory;
+pub use limits::Memory;
 pub use slots::{Entry, RankedSlots};
 pub use tree::Ranked;

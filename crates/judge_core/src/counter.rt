@@ -12,7 +12,7 @@ ghost use Rattle.judge_core.specs.CounterTable.{IsCounterTable};
 
 use super::objects::Objects;
 use access_log::{Access, Transcript};
-use memory::Memory;
+use limits::Memory;
 use ranked_list::{MemList, Row};
 use std::alloc::Global;
 use topk_theory::sort_by_grade;

@@ -14,6 +14,6 @@ mod verdict;
 
 pub use counter::counter_table;
 pub use decision::{judge, judge_within};
-pub use memory::Memory;
+pub use limits::Memory;
 pub use objects::Objects;
 pub use verdict::{JudgeFault, Verdict};

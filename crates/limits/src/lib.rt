@@ -1,8 +1,11 @@
-//! The limits of topk, each stated once, and the settings of a run within them: every other crate cites them from here.
+//! The limits of topk, each stated once, the settings of a run within them, and `Memory`, the error of a call that gets no memory: every other
+//! crate cites them from here.
 #![tactic(auto)]
 
+mod memory;
 mod settings;
 
+pub use memory::Memory;
 pub use settings::Settings;
 
 /// The most objects, and so the most rows of a list.

@@ -6,6 +6,6 @@ mod generator;
 mod query;
 mod table;
 
-pub use memory::Memory;
+pub use limits::Memory;
 pub use query::made_query;
 pub use table::make_table;

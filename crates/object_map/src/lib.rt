@@ -7,6 +7,6 @@
 mod map;
 mod room_map;
 
+pub use limits::Memory;
 pub use map::ObjectMap;
-pub use memory::Memory;
 pub use room_map::RoomMap;

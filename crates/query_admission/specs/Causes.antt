@@ -22,6 +22,10 @@ pub record QueryLine : Type 0 where
   pub number : ℕ
   pub bytes : List ℕ
 
+-- the query line of a number over such lists
+abbrev pub line_over : View → ℕ → List ℕ → QueryLine
+line_over view number bytes = record { view = view; number = number; bytes = bytes }
+
 -- the most query lines of an input
 abbrev pub most_queries : ℕ
 most_queries = MAX_QUERIES

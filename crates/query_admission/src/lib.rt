@@ -11,7 +11,7 @@ mod seek;
 
 pub use admission::{admit, admit_read};
 pub use admitted::Admitted;
+pub use limits::Memory;
 pub use line_outcome::LineOutcome;
 pub use lists::{Listed, Lists};
-pub use memory::Memory;
 pub use reading::{ReadLine, read_line};

@@ -9,7 +9,7 @@ use Rattle.theta_theory.specs.Guarantee.{early_guarantee}
 use Rattle.theta_theory.specs.Within.{IsWithin}
 use Rattle.machine_base.specs.declared.answer.Answer.{Answer}
 use Rattle.machine_base.specs.Machine.{MachineState, asked_of, IsSameLog, MakesRun, IsAnswerBy}
-use Rattle.theta_core.specs.Machine.{ThetaState, EarlyState, MakesThetaRun, MakesEarlyRun, IsThetaAnswer, IsEarlyAnswer}
+use Rattle.ta_core.specs.MachineWithin.{ThetaState, EarlyState, MakesThetaRun, MakesEarlyRun, IsThetaAnswer, IsEarlyAnswer}
 use Rattle.zlist_core.specs.Machine.{RestrictedState, MakesItsRun, IsAnswer}
 use Rattle.query_text.specs.declared.algorithm.Algorithm.TheVariants.{Theta, Early}
 use Rattle.guarantee.specs.Guarantee.{guarantee_by}

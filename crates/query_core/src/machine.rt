@@ -20,8 +20,7 @@ use nra_core::Nra;
 use query_text::Algorithm;
 use ranked_list::{Need, Row};
 use std::alloc::Global;
-use ta_core::Ta;
-use theta_core::{Early, Theta};
+use ta_core::{Early, Ta, Theta};
 use zlist_core::Taz;
 
 /// A machine of the algorithm that a query names. It says which access it needs next, and is fed what

@@ -14,10 +14,10 @@ use Rattle.topk_theory.proofs.Agreement.{sorted_rows_append}
 use Rattle.topk_theory.proofs.AgreementLists.{contains_nil, contains_here, contains_cases}
 use Rattle.machine_base.specs.Machine.{MachineState, row_access, grade_access}
 use Rattle.turn_lock.specs.declared.known.Known.{Known}
-use Rattle.source_log.specs.declared.entry.LogEntry.{LogEntry}
+use Rattle.source_state.specs.declared.entry.LogEntry.{LogEntry}
 use Rattle.query_core.specs.Machines.{state_of}
-use Rattle.query_turns.specs.declared.inquiry.Inquiry.{Inquiry}
-use Rattle.query_turns.specs.Inquiries.{needed, is_done}
+use Rattle.query_run.specs.declared.inquiry.Inquiry.{Inquiry}
+use Rattle.query_run.specs.Inquiries.{needed, is_done}
 use Rattle.query_run.specs.Asking.{access_of, accesses_asked, is_grade_of, grades_asked, IsAskedFor, AsksGradeOf, Wanted}
 use Rattle.query_run.specs.Looking.{grades_given}
 

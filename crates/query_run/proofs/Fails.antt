@@ -8,10 +8,10 @@ use Rattle.turn_lock.specs.declared.facts.Tally.{Tally}
 use Rattle.turn_lock.specs.declared.known.Known.{Known}
 use Rattle.turn_lock.specs.Facts.{IsFrontOf}
 use Rattle.turn_lock.proofs.Growth.{begins_on}
-use Rattle.source_log.specs.declared.entry.LogEntry.{LogEntry}
-use Rattle.source_log.specs.declared.entry.FailKind.{FailKind}
-use Rattle.source_log.specs.declared.entry.FailKind.TheVariants as kind
-use Rattle.source_log.proofs.Lists.{none_not_some}
+use Rattle.source_state.specs.declared.entry.LogEntry.{LogEntry}
+use Rattle.source_state.specs.declared.entry.FailKind.{FailKind}
+use Rattle.source_state.specs.declared.entry.FailKind.TheVariants as kind
+use Rattle.source_state.proofs.Lists.{none_not_some}
 use Rattle.source_state.specs.declared.look.Look.{Look}
 use Rattle.source_state.specs.declared.look.Look.TheVariants as look
 use Rattle.source_state.specs.declared.look.LookFault.{LookFault}

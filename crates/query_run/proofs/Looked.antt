@@ -23,9 +23,9 @@ use Rattle.source_pool.specs.declared.hold.Hold.{Hold}
 use Rattle.source_pool.specs.Passes.{hold_at, OthersStay}
 use Rattle.source_pool.specs.Looks.{IsTurn}
 use Rattle.query_core.specs.Machines.{state_of}
-use Rattle.query_turns.specs.declared.inquiry.Inquiry.{Inquiry}
-use Rattle.query_turns.specs.Inquiries.{told_to}
-use Rattle.query_turns.proofs.Serving.{state_set, state_other, fault_ends}
+use Rattle.query_run.specs.declared.inquiry.Inquiry.{Inquiry}
+use Rattle.query_run.specs.Inquiries.{told_to}
+use Rattle.query_run.proofs.Serving.{state_set, state_other, fault_ends}
 use Rattle.source_pool.specs.Seen.{state_seen}
 use Rattle.query_run.specs.Looking.{FeedsFrom}
 use Rattle.query_run.proofs.SeenLaws.{told_goes}

@@ -8,7 +8,7 @@ use Rattle.source_pool.specs.Holds.{no_hold}
 use Rattle.source_pool.specs.Passes.{Feed}
 use Rattle.source_pool.specs.Sharing.{IsOpened}
 use Rattle.query_core.specs.declared.ready.Ready.{Ready}
-use Rattle.query_turns.specs.Made.{IsReadyFor}
+use Rattle.query_run.specs.Made.{IsReadyFor}
 use Rattle.query_run.specs.Advancing.{WaitsForNothing, HasSourcesIn}
 
 pub opened_rests : (counts : List ℕ) (pool : List TableId) (holds : List Hold) (feeds : List Feed) → IsOpened counts pool holds feeds → WaitsForNothing holds

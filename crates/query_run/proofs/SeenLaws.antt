@@ -4,14 +4,14 @@ use Rattle.std.proofs.lemmas.List.{length-map}
 use Rattle.turn_lock.specs.Facts.{IsFrontOf}
 use Rattle.topk_theory.specs.Transcript as transcript
 use Rattle.topk_theory.specs.Transcript.{Grows, list_at}
-use Rattle.source_log.specs.Log.{rows_in}
+use Rattle.source_state.specs.Log.{rows_in}
 use Rattle.source_state.specs.State.{State, state_at}
 use Rattle.source_state.specs.Drawing.{told_by}
 use Rattle.source_pool.specs.declared.hold.Hold.{Hold}
 use Rattle.source_pool.specs.Passes.{hold_at}
-use Rattle.query_turns.specs.Inquiries.{logs_of}
-use Rattle.query_turns.proofs.Causes.{rows_begin, known_more}
-use Rattle.query_turns.proofs.Serving.{rows_told, known_told}
+use Rattle.query_run.specs.Inquiries.{logs_of}
+use Rattle.query_run.proofs.Causes.{rows_begin, known_more}
+use Rattle.query_run.proofs.Serving.{rows_told, known_told}
 use Rattle.source_pool.specs.Seen.{state_seen}
 use Rattle.query_run.specs.Seen.{states_seen}
 

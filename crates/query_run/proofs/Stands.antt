@@ -11,7 +11,7 @@ use Rattle.topk_theory.specs.Transcript.{Grows}
 use Rattle.topk_theory.proofs.Agreement.{drawn_more}
 use Rattle.machine_base.specs.Machine.{MachineState}
 use Rattle.machine_base.specs.declared.core_fault.CoreFault.{CoreFault}
-use Rattle.source_log.specs.declared.entry.FailKind.{FailKind}
+use Rattle.source_state.specs.declared.entry.FailKind.{FailKind}
 use Rattle.source_state.specs.declared.look.Waiting.{Waiting}
 use Rattle.source_state.specs.declared.look.Look.{Look}
 use Rattle.source_state.specs.declared.look.Look.TheVariants as look
@@ -19,19 +19,19 @@ use Rattle.source_state.specs.declared.look.LookFault.{LookFault}
 use Rattle.source_state.specs.declared.look.LookFault.TheVariants as why
 use Rattle.source_state.specs.Looking.{waits_for, is_same, newer, told, Refuses}
 use Rattle.source_state.specs.State.{State, state_at, facts_of}
-use Rattle.source_log.proofs.Lists.{none_not_some, eqb_same}
+use Rattle.source_state.proofs.Lists.{none_not_some, eqb_same}
 use Rattle.source_pool.specs.declared.hold.Hold.{Hold}
 use Rattle.source_pool.specs.Passes.{hold_at, OthersStay}
 use Rattle.source_pool.specs.Looks.{Answers as LookAnswers}
 use Rattle.source_pool.specs.Looks.{KeepsMarks, shown_fault, Ends, BeginsToWait, IsTurn}
 use Rattle.query_core.specs.Machines.{state_of, MakesItsRun}
-use Rattle.query_turns.specs.declared.ended.Refusal.TheVariants as refusal
-use Rattle.query_turns.specs.declared.inquiry.Inquiry.{Inquiry}
-use Rattle.query_turns.specs.Inquiries.{told_to, needed, list_needed, source_of, source_needed, is_done}
-use Rattle.query_turns.specs.Causes.{CanNotBeHad, IsCause}
-use Rattle.query_turns.specs.Kept.{IsServed}
-use Rattle.query_turns.proofs.Serving.{own_list}
-use Rattle.query_turns.proofs.Causes.{refusal_cause}
+use Rattle.query_run.specs.declared.ended.Refusal.TheVariants as refusal
+use Rattle.query_run.specs.declared.inquiry.Inquiry.{Inquiry}
+use Rattle.query_run.specs.Inquiries.{told_to, needed, list_needed, source_of, source_needed, is_done}
+use Rattle.query_run.specs.Causes.{CanNotBeHad, IsCause}
+use Rattle.query_run.specs.Kept.{IsServed}
+use Rattle.query_run.proofs.Serving.{own_list}
+use Rattle.query_run.proofs.Causes.{refusal_cause}
 use Rattle.source_pool.specs.Seen.{state_seen}
 use Rattle.query_run.specs.Seen.{states_seen}
 use Rattle.query_run.specs.Advancing.{WaitsForNothing, IsSourceIn}

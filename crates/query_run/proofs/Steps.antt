@@ -7,24 +7,24 @@ use Rattle.ranked_list.specs.declared.need.Need.TheVariants as need
 use Rattle.turn_lock.specs.declared.known.Known.{Known}
 use Rattle.machine_base.specs.Machine.{MachineState, IsInRange}
 use Rattle.machine_base.proofs.MachineLaws.{in_range}
-use Rattle.source_log.specs.declared.entry.LogEntry.{LogEntry}
+use Rattle.source_state.specs.declared.entry.LogEntry.{LogEntry}
 use Rattle.source_state.specs.declared.look.Waiting.{Waiting}
 use Rattle.source_state.specs.declared.look.Look.{Look}
 use Rattle.source_state.specs.declared.look.Look.TheVariants as look
 use Rattle.source_state.specs.Looking.{decided, IsDecided}
 use Rattle.source_state.specs.State.{State, IsSound, state_at}
-use Rattle.source_log.proofs.Lists.{none_not_some}
+use Rattle.source_state.proofs.Lists.{none_not_some}
 use Rattle.source_pool.specs.declared.hold.Hold.{Hold}
 use Rattle.source_pool.specs.Passes.{hold_at, OthersStay}
 use Rattle.source_pool.specs.Looks.{MayLookFor, shown_by, IsTurn, IsWithin, TookTurn, Waits}
 use Rattle.query_core.specs.Methods.{run_with}
 use Rattle.query_core.specs.Machines.{method_of, state_of, MakesItsRun}
-use Rattle.query_turns.specs.declared.inquiry.Inquiry.{Inquiry}
-use Rattle.query_turns.specs.Inquiries.{needed, list_needed, source_needed, is_done, is_ended}
-use Rattle.query_turns.specs.Kept.{IsServed}
-use Rattle.query_turns.specs.Causes.{IsCause}
-use Rattle.query_turns.specs.Turns.{MayFeed, Answers}
-use Rattle.query_turns.proofs.Serving.{state_set, listed, open_parts, may_feed}
+use Rattle.query_run.specs.declared.inquiry.Inquiry.{Inquiry}
+use Rattle.query_run.specs.Inquiries.{needed, list_needed, source_needed, is_done, is_ended}
+use Rattle.query_run.specs.Kept.{IsServed}
+use Rattle.query_run.specs.Causes.{IsCause}
+use Rattle.query_run.specs.Turns.{MayFeed, Answers}
+use Rattle.query_run.proofs.Serving.{state_set, listed, open_parts, may_feed}
 use Rattle.source_pool.specs.Seen.{state_seen}
 use Rattle.query_run.specs.Looking.{FeedsFrom, IsReading, LooksOnce}
 use Rattle.query_run.proofs.Looked.{IsDecidedBy, row_seen, grade_seen, SeesOn, name_on, feeds_later}

@@ -17,7 +17,7 @@ use Rattle.source_state.specs.declared.look.Look.TheVariants as look
 use Rattle.source_state.specs.declared.look.LookFault.{LookFault}
 use Rattle.source_state.specs.State.{State, opened, IsSound, state_at}
 use Rattle.source_state.specs.Drawing.{told_by}
-use Rattle.source_log.proofs.Lists.{none_not_some}
+use Rattle.source_state.proofs.Lists.{none_not_some}
 use Rattle.source_pool.specs.declared.hold.Hold.{Hold}
 use Rattle.source_pool.specs.Passes.{hold_at}
 use Rattle.source_pool.specs.Looks.{IsWithin, TookTurn}
@@ -26,19 +26,19 @@ use Rattle.query_core.specs.Driving.{Continues, IsFedFrom}
 use Rattle.query_core.specs.Machines.{state_of}
 use Rattle.query_core.proofs.Feeding.{continues_same, continues_on}
 use Rattle.query_core.proofs.ListCount.{lists_counted}
-use Rattle.query_turns.specs.declared.ended.Ended.{Ended}
-use Rattle.query_turns.specs.declared.ended.Ended.TheVariants as ended
-use Rattle.query_turns.specs.declared.ended.Refusal.{Refusal}
-use Rattle.query_turns.specs.declared.ended.Refusal.TheVariants as refusal
-use Rattle.query_turns.specs.declared.inquiry.Inquiry.{Inquiry}
-use Rattle.query_turns.specs.Inquiries.{logs_of, told_to, needed, list_needed, source_needed, is_done, is_ended}
-use Rattle.query_turns.specs.Causes.{LacksRoom, IsCause}
-use Rattle.query_turns.specs.Endings.{EndsAs, IsRight}
-use Rattle.query_turns.specs.Made.{IsFresh}
-use Rattle.query_turns.specs.Turns.{RowTaken}
-use Rattle.query_turns.proofs.Ending.{right}
-use Rattle.query_turns.proofs.Serving.{open_parts, Went, went}
-use Rattle.query_turns.proofs.Opening.{opened_sound}
+use Rattle.query_run.specs.declared.ended.Ended.{Ended}
+use Rattle.query_run.specs.declared.ended.Ended.TheVariants as ended
+use Rattle.query_run.specs.declared.ended.Refusal.{Refusal}
+use Rattle.query_run.specs.declared.ended.Refusal.TheVariants as refusal
+use Rattle.query_run.specs.declared.inquiry.Inquiry.{Inquiry}
+use Rattle.query_run.specs.Inquiries.{logs_of, told_to, needed, list_needed, source_needed, is_done, is_ended}
+use Rattle.query_run.specs.Causes.{LacksRoom, IsCause}
+use Rattle.query_run.specs.Endings.{EndsAs, IsRight}
+use Rattle.query_run.specs.Made.{IsFresh}
+use Rattle.query_run.specs.Turns.{RowTaken}
+use Rattle.query_run.proofs.Ending.{right}
+use Rattle.query_run.proofs.Serving.{open_parts, Went, went}
+use Rattle.query_run.proofs.TurnOpening.{opened_sound}
 use Rattle.source_pool.specs.Seen.{state_seen}
 use Rattle.query_run.specs.Seen.{states_seen}
 use Rattle.query_run.specs.Advancing.{WaitsForNothing, IsSourceIn, HasSourcesIn, KnowsMore, Advances}
@@ -128,7 +128,7 @@ step_row before now after q r row h reading ending on l is =
     let by = row_seen (needed q) (hold_at now s) (hold_at after s) row turn in
     let states = slice_set reading.states s (state_seen (hold_at after s).pass.1) in
     let f = fresh now after q reading parts.0 place on by.sound in
-    let answers = subst (Rattle.query_turns.specs.Turns.Answers q r) is l.answers in
+    let answers = subst (Rattle.query_run.specs.Turns.Answers q r) is l.answers in
     let w = went states q r (state_at states s) (look.Row row) f.served parts.1
     (decided_looks reading.states s (needed q) (state_seen (hold_at after s).pass.1) q.waiting r.waiting (look.Row row) (there_too now q reading place) by reading.rests l.waiting) answers in
     let feeds = feeds_on after q r states f.feeds l.sources w.goes w.fed in
@@ -150,7 +150,7 @@ step_grade before now after q r grade h reading ending on l is =
     let by = grade_seen (needed q) (hold_at now s) (hold_at after s) grade turn in
     let states = slice_set reading.states s (state_seen (hold_at after s).pass.1) in
     let f = fresh now after q reading parts.0 place on by.sound in
-    let answers = subst (Rattle.query_turns.specs.Turns.Answers q r) is l.answers in
+    let answers = subst (Rattle.query_run.specs.Turns.Answers q r) is l.answers in
     let w = went states q r (state_at states s) (look.Grade grade) f.served parts.1
     (decided_looks reading.states s (needed q) (state_seen (hold_at after s).pass.1) q.waiting r.waiting (look.Grade grade) (there_too now q reading place) by reading.rests l.waiting) answers in
     record {
@@ -176,7 +176,7 @@ step_waits sources before now after q r advances h reading ending on l is =
     let s = source_needed q in
     let parts = open_parts q ending in
     let place = place_of now q reading ending in
-    let answers = subst (Rattle.query_turns.specs.Turns.Answers q r) is l.answers in
+    let answers = subst (Rattle.query_run.specs.Turns.Answers q r) is l.answers in
     let same : state_of r.machine ≡ state_of q.machine = ap state_of answers.1 in
     let goes = same_goes q r same in
     let feeds = feeds_still s now after q reading.states on reading.feeds in
@@ -197,7 +197,7 @@ step_fault : (before now after : List Hold) (q r : Inquiry) (fault : LookFault) 
 step_fault before now after q r fault h reading ending on l is =
     let s = source_needed q in
     let parts = open_parts q ending in
-    let answers = subst (Rattle.query_turns.specs.Turns.Answers q r) is l.answers in
+    let answers = subst (Rattle.query_run.specs.Turns.Answers q r) is l.answers in
     let same : state_of r.machine ≡ state_of q.machine = ap state_of answers.1 in
     let goes = same_goes q r same in
     let turn = subst (Rattle.source_pool.specs.Looks.IsTurn (needed q) (hold_at now s) (hold_at after s)) is l.turn in

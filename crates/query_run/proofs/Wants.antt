@@ -12,14 +12,14 @@ use Rattle.topk_theory.specs.Transcript.{depth_of}
 use Rattle.topk_theory.proofs.Agreement.{depth_of_sorted}
 use Rattle.topk_theory.proofs.AgreementLists.{contains_nil, contains_here, contains_cases}
 use Rattle.machine_base.specs.Machine.{IsInRange}
-use Rattle.source_log.specs.declared.entry.LogEntry.{LogEntry}
+use Rattle.source_state.specs.declared.entry.LogEntry.{LogEntry}
 use Rattle.source_state.specs.declared.look.Waiting.{Waiting}
-use Rattle.source_log.proofs.Lists.{none_not_some}
+use Rattle.source_state.proofs.Lists.{none_not_some}
 use Rattle.source_pool.specs.declared.hold.Hold.{Hold}
 use Rattle.source_pool.specs.Looks.{KeepsMarks, HasCalled, BeginsToWait}
 use Rattle.query_core.specs.Machines.{state_of}
-use Rattle.query_turns.specs.declared.inquiry.Inquiry.{Inquiry}
-use Rattle.query_turns.specs.Inquiries.{needed, list_needed, source_of, source_needed}
+use Rattle.query_run.specs.declared.inquiry.Inquiry.{Inquiry}
+use Rattle.query_run.specs.Inquiries.{needed, list_needed, source_of, source_needed}
 use Rattle.query_run.specs.Asking.{access_of, accesses_asked, is_grade_of, grades_asked, IsAskedFor, AsksGradeOf, Wanted}
 use Rattle.query_run.specs.Looking.{grades_given, WantsOf}
 use Rattle.query_run.proofs.AskingLaws.{WasGiven, given_asks, asked_given, same_asks, same_given, wanted_more}

@@ -6,10 +6,10 @@ use Rattle.turn_lock.specs.declared.known.Known.{Known}
 use Rattle.topk_theory.specs.declared.access.Access.{Access}
 use Rattle.topk_theory.specs.declared.access.Access.TheVariants.{Sorted, Random}
 use Rattle.topk_theory.specs.Transcript.{list_of, is_sorted, depth_of}
-use Rattle.source_log.specs.declared.entry.LogEntry.{LogEntry}
+use Rattle.source_state.specs.declared.entry.LogEntry.{LogEntry}
 use Rattle.query_core.specs.Machines.{state_of}
-use Rattle.query_turns.specs.declared.inquiry.Inquiry.{Inquiry}
-use Rattle.query_turns.specs.Inquiries.{needed, source_of}
+use Rattle.query_run.specs.declared.inquiry.Inquiry.{Inquiry}
+use Rattle.query_run.specs.Inquiries.{needed, source_of}
 
 -- a need as an access, of which it isn't known yet what it gives
 abbrev pub access_of : Need → List Access

@@ -5,9 +5,9 @@ use Rattle.ranked_list.specs.declared.need.Need.TheVariants as need
 use Rattle.turn_lock.specs.declared.facts.Facts.{Facts}
 use Rattle.turn_lock.specs.declared.facts.Tally.{Tally}
 use Rattle.turn_lock.specs.declared.known.Known.{Known}
-use Rattle.source_log.specs.declared.entry.LogEntry.{LogEntry}
-use Rattle.source_log.specs.declared.entry.FailKind.{FailKind}
-use Rattle.source_log.specs.declared.entry.FailKind.TheVariants as kind
+use Rattle.source_state.specs.declared.entry.LogEntry.{LogEntry}
+use Rattle.source_state.specs.declared.entry.FailKind.{FailKind}
+use Rattle.source_state.specs.declared.entry.FailKind.TheVariants as kind
 use Rattle.source_state.specs.declared.look.Look.TheVariants as look
 use Rattle.source_state.specs.declared.look.LookFault.{LookFault}
 use Rattle.source_state.specs.declared.look.LookFault.TheVariants as why
@@ -15,10 +15,10 @@ use Rattle.source_state.specs.Looking.{newer}
 use Rattle.source_pool.specs.declared.hold.Hold.{Hold}
 use Rattle.source_pool.specs.Passes.{hold_at}
 use Rattle.source_pool.specs.Looks.{said_in, HasNoRoom}
-use Rattle.query_turns.specs.declared.ended.Refusal.{Refusal}
-use Rattle.query_turns.specs.declared.ended.Refusal.TheVariants.{Core, Look as LookedFor}
-use Rattle.query_turns.specs.declared.inquiry.Inquiry.{Inquiry}
-use Rattle.query_turns.specs.Inquiries.{needed, source_needed}
+use Rattle.query_run.specs.declared.ended.Refusal.{Refusal}
+use Rattle.query_run.specs.declared.ended.Refusal.TheVariants.{Core, Look as LookedFor}
+use Rattle.query_run.specs.declared.inquiry.Inquiry.{Inquiry}
+use Rattle.query_run.specs.Inquiries.{needed, source_needed}
 
 -- a turn calls for a need: in what it gave the row is wanted, or the object is asked
 abbrev pub CallsFor : Need → Facts LogEntry → Type 0

@@ -13,12 +13,12 @@ use Rattle.source_pool.specs.Looks.{Answers as LookAnswers}
 use Rattle.source_pool.specs.Looks.{shown_by, IsTurn, IsWithin, TookTurn, Waits}
 use Rattle.query_core.specs.Driving.{Continues, IsFedFrom}
 use Rattle.query_core.specs.Machines.{method_of, state_of, MakesItsRun}
-use Rattle.query_turns.specs.declared.ended.Refusal.{Refusal}
-use Rattle.query_turns.specs.declared.ended.Refusal.TheVariants.{Core, Look as LookedFor}
-use Rattle.query_turns.specs.declared.inquiry.Inquiry.{Inquiry}
-use Rattle.query_turns.specs.Inquiries.{told_to, needed, source_needed, is_done}
-use Rattle.query_turns.specs.Kept.{IsServed}
-use Rattle.query_turns.specs.Turns.{Answers}
+use Rattle.query_run.specs.declared.ended.Refusal.{Refusal}
+use Rattle.query_run.specs.declared.ended.Refusal.TheVariants.{Core, Look as LookedFor}
+use Rattle.query_run.specs.declared.inquiry.Inquiry.{Inquiry}
+use Rattle.query_run.specs.Inquiries.{told_to, needed, source_needed, is_done}
+use Rattle.query_run.specs.Kept.{IsServed}
+use Rattle.query_run.specs.Turns.{Answers}
 use Rattle.query_run.specs.Seen.{states_seen}
 use Rattle.query_run.specs.Advancing.{WaitsForNothing, IsSourceIn, Advances}
 use Rattle.query_run.specs.Asking.{is_grade_of, Wanted}

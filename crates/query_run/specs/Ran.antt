@@ -7,14 +7,14 @@ use Rattle.source_pool.specs.declared.hold.Hold.{Hold}
 use Rattle.source_pool.specs.Passes.{hold_at}
 use Rattle.source_pool.specs.Looks.{shown_fault}
 use Rattle.query_core.specs.declared.ready.Ready.{Ready}
-use Rattle.query_turns.specs.declared.ended.Ended.{Ended}
-use Rattle.query_turns.specs.declared.ended.Refusal.{Refusal}
-use Rattle.query_turns.specs.declared.ended.Refusal.TheVariants.{Core, Look}
-use Rattle.query_turns.specs.declared.inquiry.Inquiry.{Inquiry}
-use Rattle.query_turns.specs.Inquiries.{source_of, source_needed}
-use Rattle.query_turns.specs.Kept.{IsServed}
-use Rattle.query_turns.specs.Made.{IsOf}
-use Rattle.query_turns.specs.Endings.{EndsAs}
+use Rattle.query_run.specs.declared.ended.Ended.{Ended}
+use Rattle.query_run.specs.declared.ended.Refusal.{Refusal}
+use Rattle.query_run.specs.declared.ended.Refusal.TheVariants.{Core, Look}
+use Rattle.query_run.specs.declared.inquiry.Inquiry.{Inquiry}
+use Rattle.query_run.specs.Inquiries.{source_of, source_needed}
+use Rattle.query_run.specs.Kept.{IsServed}
+use Rattle.query_run.specs.Made.{IsOf}
+use Rattle.query_run.specs.Endings.{EndsAs}
 use Rattle.query_run.specs.Seen.{states_seen}
 use Rattle.query_run.specs.Asking.{Wanted}
 use Rattle.query_run.specs.Failing.{LookRefused}

@@ -3,15 +3,17 @@
 ghost use Rattle.std.specs.Prelude.{◌≡◌, ◌<◌, true, false, None, IfOk, length};
 ghost use Rattle.source_pool.specs.Passes.{IsPassOf};
 ghost use Rattle.query_core.specs.Ready.{IsReady};
-ghost use Rattle.query_turns.specs.Inquiries.{is_ended};
-ghost use Rattle.query_turns.specs.Endings.{IsRight};
+ghost use Rattle.query_run.specs.Inquiries.{is_ended};
+ghost use Rattle.query_run.specs.Endings.{IsRight};
 ghost use Rattle.query_run.specs.Advancing.{WaitsForNothing, HasSourcesIn, Advances};
 ghost use Rattle.query_run.specs.Ran.{Ran};
 ghost use Rattle.query_run.specs.Serving.{MayServe, Leaves, ServesAll};
 ghost use Rattle.query_run.specs.Looking.{IsReading, LooksOnce, HasLooked, HasStopped, wants_memory};
 
+use super::ended::{Ended, Refusal};
+use super::inquiry::{Inquiry, list_needed};
+use access_log::Memory;
 use query_core::Ready;
-use query_turns::{Ended, Inquiry, Memory, Refusal, list_needed};
 use source_pool::{Pool, PoolPass};
 use source_state::{Look, LookFault};
 use std::alloc::Global;

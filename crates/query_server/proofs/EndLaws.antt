@@ -2,7 +2,7 @@
 use Rattle.std.proofs.Common.{◌≡◌, ℕ, Bool, true, false, cond, List, codes, inl, inr, Option, Some, None, IfSome, Result, Ok, Err, refl, sym, ap, subst, ◌∙◌}
 use Rattle.std.specs.Result.{IsOk}
 use Rattle.std.specs.Str.{bytes_eq}
-use Rattle.request_target.specs.Targets.{Parts, parts_of}
+use Rattle.wire.specs.Targets.{Parts, parts_of}
 use Rattle.wire.specs.Heads.{AnswersRequest}
 use Rattle.wire.specs.Told.{Counts}
 use Rattle.wire.specs.declared.fault.WireFault.{WireFault}

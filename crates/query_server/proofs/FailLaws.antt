@@ -2,8 +2,8 @@
 use Rattle.std.proofs.Common.{◌≡◌, ℕ, List, cond, Option, Some, slice_index_or, refl, ap, ◌∙◌, subst, eq-eqb}
 use Rattle.machine_base.specs.declared.core_fault.CoreFault.TheVariants as core
 use Rattle.turn_lock.specs.declared.facts.Tally.{Tally}
-use Rattle.source_log.specs.declared.entry.FailKind.TheVariants as kind
-use Rattle.source_log.specs.declared.entry.SourceFault.TheVariants as fault
+use Rattle.source_state.specs.declared.entry.FailKind.TheVariants as kind
+use Rattle.source_state.specs.declared.entry.SourceFault.TheVariants as fault
 use Rattle.source_state.specs.declared.look.LookFault.{LookFault}
 use Rattle.source_state.specs.declared.look.LookFault.TheVariants as look
 use Rattle.source_pool.specs.declared.hold.Hold.{Hold}
@@ -13,14 +13,14 @@ use Rattle.cert_text.specs.declared.outcome.Outcome.TheVariants.{Refused}
 use Rattle.cert_text.specs.declared.refusal.Refusal.TheVariants.{Failed, Garbled}
 use Rattle.query_core.specs.declared.ready.Ready.{Ready}
 use Rattle.query_admission.specs.declared.line_outcome.LineOutcome.{LineOutcome}
-use Rattle.query_turns.specs.declared.ended.Ended.{Ended}
-use Rattle.query_turns.specs.declared.ended.Ended.TheVariants as ended
-use Rattle.query_turns.specs.declared.ended.Refusal.{Refusal}
-use Rattle.query_turns.specs.declared.ended.Refusal.TheVariants.{Look}
-use Rattle.query_turns.specs.Inquiries.{source_of}
-use Rattle.query_turns.specs.Endings.{EndsAs}
+use Rattle.query_run.specs.declared.ended.Ended.{Ended}
+use Rattle.query_run.specs.declared.ended.Ended.TheVariants as ended
+use Rattle.query_run.specs.declared.ended.Refusal.{Refusal}
+use Rattle.query_run.specs.declared.ended.Refusal.TheVariants.{Look}
+use Rattle.query_run.specs.Inquiries.{source_of}
+use Rattle.query_run.specs.Endings.{EndsAs}
 use Rattle.query_run.specs.Ran.{Ran, shown_to}
-use Rattle.catalog_run.specs.Outcomes.{ended_outcome}
+use Rattle.line_outcome.specs.Outcomes.{ended_outcome}
 use Rattle.query_server.specs.Becoming.{RunsTo, ShowsOneMore}
 
 -- a query with such an outcome ended so

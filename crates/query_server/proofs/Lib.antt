@@ -4,3 +4,10 @@ mod PassLaws
 mod LineLaws
 mod EndLaws
 mod FailLaws
+-- Lemmas on links that are taken one after another.
+pub mod TakingLaws
+-- Lemmas on the sources of lists, on counts, and on what a generation leaves of the sources.
+pub mod HomeLaws
+pub mod SourceLaws
+pub mod FetchLaws
+pub mod CrewLaws

@@ -6,19 +6,17 @@ use Rattle.cert_text.specs.declared.refusal.Refusal.{Refusal}
 use Rattle.cert_text.specs.Outcome.{IsOutcome}
 use Rattle.query_core.specs.declared.ready.Ready.{Ready}
 use Rattle.query_admission.specs.View.{View}
-use Rattle.query_admission.specs.Causes.{admission_causes}
+use Rattle.query_admission.specs.Causes.{admission_causes, line_over}
 use Rattle.query_admission.specs.Admission.{RefusesLine, IsAdmitted}
 use Rattle.query_admission.specs.declared.line_outcome.LineOutcome.{LineOutcome}
 use Rattle.query_admission.proofs.Becoming.{refused_writable}
-use Rattle.query_turns.specs.declared.ended.Ended.{Ended}
-use Rattle.query_turns.specs.Endings.{IsRight}
+use Rattle.query_run.specs.declared.ended.Ended.{Ended}
+use Rattle.query_run.specs.Endings.{IsRight}
 use Rattle.query_run.specs.Ran.{Ran}
 use Rattle.query_run.specs.Seen.{states_seen}
-use Rattle.catalog_open.specs.Views.{line_over}
-use Rattle.catalog_run.specs.Merging.{line_refused, IsEndedAs}
-use Rattle.catalog_run.specs.Runs.{CanBeWritten}
-use Rattle.catalog_run.proofs.Outcomes.{refused_here}
-use Rattle.catalog_run.proofs.Writable.{ended_written}
+use Rattle.line_outcome.specs.LineOutcomes.{line_refused, IsEndedAs, CanBeWritten}
+use Rattle.line_outcome.proofs.Refused.{refused_here}
+use Rattle.line_outcome.proofs.Writable.{ended_written}
 use Rattle.query_server.specs.Becoming.{RunsTo, BecomesHere}
 
 -- how a query ended can be written

@@ -19,7 +19,8 @@ use Rattle.catalog_open.specs.declared.opened.Opening.{Opening}
 use Rattle.catalog_open.specs.declared.opened.Opening.TheVariants.{Closed}
 use Rattle.catalog_open.specs.Entries.{no_entry, entry_at, opening_at}
 use Rattle.catalog_text.specs.Catalog.{Listed as Entry}
-use Rattle.catalog_open.specs.Views.{entry_named, said_of, listed_at, line_over}
+use Rattle.catalog_open.specs.Views.{entry_named, said_of, listed_at}
+use Rattle.query_admission.specs.Causes.{line_over}
 use Rattle.query_server.specs.declared.opened.OpenedEntry.{OpenedEntry}
 use Rattle.query_server.specs.declared.opened.OpenedEntry.TheVariants.{Opened, NotOpened, TooLarge}
 use Rattle.query_server.specs.Entries.{Openings, IsSized, AreEntriesOf, opening_of, view_in, IsThere, HasSources}

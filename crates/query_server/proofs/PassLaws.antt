@@ -9,7 +9,7 @@ use Rattle.query_run.proofs.Stops.{advances_same}
 use Rattle.query_server.specs.declared.opened.OpenedEntry.{OpenedEntry}
 use Rattle.query_server.specs.declared.opened.OpenedEntry.TheVariants.{Opened, NotOpened, TooLarge}
 use Rattle.query_server.specs.Entries.{Openings, IsThere, MayAnswer}
-use Rattle.batch_sides.specs.Working.{KnowsAll}
+use Rattle.batch_run.specs.Working.{KnowsAll}
 
 -- nothing is changed
 pub knows_same : (holds : List Hold) → KnowsAll holds holds

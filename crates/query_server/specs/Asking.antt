@@ -2,8 +2,8 @@
 use Rattle.std.specs.Prelude.{◌≡◌, ℕ, List, codes, if◌then◌else◌, Option, Some, None, Result, Ok, Err, IsOk}
 use Rattle.std.specs.Option.{ok_or}
 use Rattle.std.specs.Str.{bytes_eq}
-use Rattle.request_target.specs.Targets.{Parts, parts_of}
-use Rattle.request_target.specs.Queries.{value_in}
+use Rattle.wire.specs.Targets.{Parts, parts_of}
+use Rattle.wire.specs.Queries.{value_in}
 use Rattle.source_node.specs.declared.refusal.Refusal.{Refusal}
 use Rattle.source_node.specs.declared.refusal.Refusal.TheVariants.{BadRequest, NotFound, MethodNotAllowed, NoMemory}
 

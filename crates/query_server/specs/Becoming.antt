@@ -1,6 +1,6 @@
 -- What becomes of a query line that is answered through a pass of a pool.
 use Rattle.std.specs.Prelude.{◌≡◌, ◌⊎◌, ℕ, Bool, true, false, List, slice_index_or}
-use Rattle.source_log.specs.declared.entry.FailKind.{FailKind}
+use Rattle.source_state.specs.declared.entry.FailKind.{FailKind}
 use Rattle.source_state.specs.Events.{counted}
 use Rattle.source_pool.specs.declared.hold.Hold.{Hold}
 use Rattle.source_pool.specs.Passes.{hold_at}
@@ -13,12 +13,11 @@ use Rattle.query_core.specs.declared.ready.Ready.{Ready}
 use Rattle.query_admission.specs.View.{View}
 use Rattle.query_admission.specs.Admission.{IsAdmitted}
 use Rattle.query_admission.specs.declared.line_outcome.LineOutcome.{LineOutcome}
-use Rattle.query_turns.specs.declared.ended.Ended.{Ended}
-use Rattle.query_turns.specs.Endings.{IsRight}
+use Rattle.query_run.specs.declared.ended.Ended.{Ended}
+use Rattle.query_run.specs.Endings.{IsRight}
 use Rattle.query_run.specs.Ran.{Ran}
-use Rattle.catalog_open.specs.Views.{line_over}
-use Rattle.catalog_run.specs.Merging.{IsEndedAs}
-use Rattle.catalog_run.specs.Runs.{IsLineRefused}
+use Rattle.query_admission.specs.Causes.{line_over}
+use Rattle.line_outcome.specs.LineOutcomes.{IsEndedAs, IsLineRefused}
 use Rattle.query_server.specs.declared.line.Told.{Told as ToldLine}
 
 -- a query that is ready ran through the pass, and this is how it ended: an answer is right, and rests on what the pass saw; a refusal has its cause

@@ -5,11 +5,10 @@ ghost use Rattle.std.specs.Cow.{cow_str_bytes};
 ghost use Rattle.std.specs.Result.{result_map_both};
 ghost use Rattle.query_server.specs.Asking.{routed, AsksFor, AsksAt};
 
-use request_target::{read_target, value_in};
 use source_node::Refusal;
 use std::alloc::Global;
 use std::borrow::CowStr;
-use wire::Head;
+use wire::{Head, read_target, value_in};
 
 /// The query line that the head of a request asks about, or why it is refused.
 ///

@@ -1,15 +1,14 @@
 //! One connection of a query server.
 
-ghost use Rattle.std.specs.Prelude.{◌≡◌, true, codes, Some, option_copied};
+ghost use Rattle.std.specs.Prelude.{◌≡◌, true, codes, Some, option_copied, Err};
 ghost use Rattle.std.specs.Str.{bytes_eq};
 ghost use Rattle.std.specs.Result.{result_map_both};
 ghost use Rattle.wire.specs.Writing.{has_reason, reply_text};
 ghost use Rattle.source_node.specs.Refusals.{status_of, body_of};
 ghost use Rattle.query_server.specs.Entries.{view_in, MayAnswer};
-ghost use Rattle.batch_sides.specs.Working.{KnowsAll};
+ghost use Rattle.batch_run.specs.Working.{KnowsAll};
 ghost use Rattle.query_server.specs.Becoming.{shown};
 ghost use Rattle.query_server.specs.Connections.{Ends, Serves, Sends, SendsAnswer, IsRepliedTo};
-ghost use Rattle.std.specs.Prelude.{Err};
 
 use super::asked::line_asked;
 use super::line::{Told, tell_line};

@@ -2,7 +2,7 @@
 
 ghost use Rattle.std.specs.Prelude.{◌≡◌, List, All, map, IfOk};
 ghost use Rattle.query_admission.specs.Admission.{Admits};
-ghost use Rattle.catalog_open.specs.Views.{line_over};
+ghost use Rattle.query_admission.specs.Causes.{line_over};
 ghost use Rattle.query_server.specs.Entries.{AreEntriesOf, view_in, opening_of, IsThere, HasSources};
 ghost use Rattle.catalog_open.specs.Entries.{opening_at};
 ghost use Rattle.source_pool.specs.declared.hold.Hold.{Hold};

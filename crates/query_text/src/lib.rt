@@ -33,7 +33,7 @@ mod words;
 pub use algorithm::Algorithm;
 pub use course::{Course, is_weighted};
 pub use fault::QueryFault;
-pub use memory::Memory;
+pub use limits::Memory;
 pub use monotone_fn::Costs;
 pub use named::{algorithm_of, count_within, is_text, list_of, number_within, opened_by};
 pub use names::Names;

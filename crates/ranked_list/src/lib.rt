@@ -11,8 +11,8 @@ mod row;
 mod table;
 
 pub use item::{Item, Items};
+pub use limits::Memory;
 pub use mem_list::MemList;
-pub use memory::Memory;
 pub use need::Need;
 pub use order::{RowFault, check_next};
 pub use page_rows::PageRows;

@@ -16,7 +16,7 @@ use Rattle.source_api.specs.Counting.{gave_rows, gave_grade}
 use Rattle.source_node.specs.Asking.{OnRoute, on_route, by_parts, route_of, routed, asked_at, asked_of, AsksAt, AsksFor, HasCount}
 use Rattle.source_node.specs.Serving.{Seen, Fails, IsQuiet, given_by}
 use Rattle.source_node.specs.Connections.{Visit, IsTroubled, Serving, ServesAsked, Serves, ServesHeard, asks_head, status_in, reply_of, Sends, IsServed, Ends}
-use Rattle.request_target.specs.Targets.{Parts, parts_of}
+use Rattle.wire.specs.Targets.{Parts, parts_of}
 use Rattle.wire.specs.Writing.{reply_text}
 use Rattle.wire.specs.declared.writing.Kind.TheVariants.{Text, Json}
 use Rattle.source_node.specs.declared.asked.Asked.{Asked}

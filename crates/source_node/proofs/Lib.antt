@@ -3,3 +3,5 @@ pub mod PageLaws
 pub mod EndLaws
 pub mod ReplyBack
 pub mod BodyLaws
+-- Lemmas on links that are served one after another.
+pub mod ServingLaws

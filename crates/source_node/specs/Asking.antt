@@ -4,8 +4,8 @@ use Rattle.std.specs.Option.{ok_or, option_and_then}
 use Rattle.line_text.specs.Cuts.{rest_after}
 use Rattle.std.specs.Str.{bytes_eq}
 use Rattle.limits.specs.declared.TheConstants.{MAX_PAGE}
-use Rattle.request_target.specs.Targets.{Parts, parts_of}
-use Rattle.request_target.specs.Queries.{number_in}
+use Rattle.wire.specs.Targets.{Parts, parts_of}
+use Rattle.wire.specs.Queries.{number_in}
 use Rattle.source_node.specs.declared.asked.Asked.{Asked}
 use Rattle.source_node.specs.declared.asked.Asked.TheVariants as asked
 use Rattle.source_node.specs.declared.asked.Route.{Route}

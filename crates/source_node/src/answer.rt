@@ -9,7 +9,7 @@ ghost use Rattle.source_node.specs.Asking.{HasCount};
 ghost use Rattle.source_node.specs.Serving.{seen, GivesPage, GivesRows, Asks, Fails, text_of};
 
 use super::Asked;
-use memory::Memory;
+use limits::Memory;
 use page_json::{write_grade, write_page, write_size};
 use ranked_list::Row;
 use source_api::{Source, Trouble};

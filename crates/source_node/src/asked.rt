@@ -5,12 +5,10 @@ ghost use Rattle.std.specs.Result.{result_map_both};
 ghost use Rattle.source_node.specs.Asking.{routed, route_of, call_in, call_of, asked_by, page_asked, grade_asked, shown, AsksFor, AsksAt, HasCount};
 
 use super::Refusal;
-use limits::MAX_PAGE;
+use limits::{MAX_PAGE, Memory};
 use line_text::rest_after;
-use memory::Memory;
-use request_target::{number_in, read_target};
 use std::alloc::Global;
-use wire::Head;
+use wire::{Head, number_in, read_target};
 
 /// What a request asks of a list.
 #[derive(Clone, Copy, Debug, PartialEq, Eq)]

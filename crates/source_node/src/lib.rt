@@ -1,7 +1,7 @@
 //! A node serves one list over HTTP: a connection is one request, and one reply from a source.
 //!
-//! The routes are `/lists/NAME/size`, `/lists/NAME/page?from=F&count=C` and `/lists/NAME/grade?object=O`;
-//! the bodies are those of `page_json`.
+//! The routes are `/lists/NAME/size`, `/lists/NAME/page?from=F&count=C` and `/lists/NAME/grade?object=O`; the bodies are those of `page_json`.
+//! At a port it serves one connection after another.
 #![tactic(auto)]
 
 mod answer;
@@ -9,9 +9,11 @@ mod asked;
 mod laws;
 mod node;
 mod refusal;
+mod serving;
 
 pub use answer::Answer;
 pub use asked::{Asked, asked_of};
 pub use laws::{a_body_says_its_answer, an_answer_is_read};
 pub use node::{ConnEnd, node_conn};
 pub use refusal::Refusal;
+pub use serving::{Served, serve_links};

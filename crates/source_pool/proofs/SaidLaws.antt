@@ -8,15 +8,15 @@ use Rattle.ranked_list.specs.declared.need.Need.TheVariants as need
 use Rattle.ranked_list.proofs.OptionLaws.{option_cases}
 use Rattle.topk_theory.specs.Bounds.{grade_among}
 use Rattle.topk_theory.proofs.AgreementLists.{contains_here}
-use Rattle.source_log.specs.declared.ask.Ask.{Ask}
-use Rattle.source_log.specs.declared.entry.Asked.{Asked}
-use Rattle.source_log.specs.Log.{rows_in, settling_in}
-use Rattle.source_log.specs.Asks.{ask_of}
+use Rattle.source_state.specs.declared.ask.Ask.{Ask}
+use Rattle.source_state.specs.declared.entry.Asked.{Asked}
+use Rattle.source_state.specs.Log.{rows_in, settling_in}
+use Rattle.source_state.specs.Asks.{ask_of}
 use Rattle.source_state.specs.State.{State, asks_of, asked_in, asked_as, IsSound}
 use Rattle.source_state.specs.Events.{one_asked}
 use Rattle.source_state.specs.Looking.{grade_or, decided, is_full}
-use Rattle.source_log.proofs.Lists.{none_not_some, eqb_same}
-use Rattle.source_log.proofs.LogLaws.{settled_there}
+use Rattle.source_state.proofs.Lists.{none_not_some, eqb_same}
+use Rattle.source_state.proofs.LogLaws.{settled_there}
 use Rattle.source_state.proofs.AskLaws.{ask_found, ask_is_found, ask_missing, not_asked}
 use Rattle.source_pool.specs.Looks.{said_in}
 

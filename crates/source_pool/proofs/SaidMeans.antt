@@ -5,14 +5,14 @@ use Rattle.ranked_list.specs.declared.row.Row.{Row}
 use Rattle.ranked_list.specs.declared.need.Need.TheVariants as need
 use Rattle.topk_theory.specs.Bounds.{grade_among}
 use Rattle.topk_theory.proofs.AgreementRows.{grade_among_row}
-use Rattle.source_log.specs.declared.entry.LogEntry.{LogEntry}
-use Rattle.source_log.specs.declared.entry.Settling.{Settling}
-use Rattle.source_log.specs.declared.entry.Settling.TheVariants.{Graded, Bad, Missed}
+use Rattle.source_state.specs.declared.entry.LogEntry.{LogEntry}
+use Rattle.source_state.specs.declared.entry.Settling.{Settling}
+use Rattle.source_state.specs.declared.entry.Settling.TheVariants.{Graded, Bad, Missed}
 use Rattle.source_state.specs.declared.look.Look.TheVariants as look
-use Rattle.source_log.specs.Log.{rows_in, graded_in, fault_in, settling_in}
+use Rattle.source_state.specs.Log.{rows_in, graded_in, fault_in, settling_in}
 use Rattle.source_state.specs.State.{asked_as}
 use Rattle.source_state.specs.Looking.{grade_or}
-use Rattle.source_log.proofs.LogLaws.{settling_graded}
+use Rattle.source_state.proofs.LogLaws.{settling_graded}
 use Rattle.source_state.proofs.LookLaws.{held_there, row_there, no_row, no_grade}
 use Rattle.source_pool.specs.Looks.{said_in}
 

@@ -6,7 +6,7 @@ use Rattle.turn_lock.specs.declared.facts.Tally.{Tally}
 use Rattle.turn_lock.specs.declared.known.Known.{Known}
 use Rattle.turn_lock.specs.Facts.{IsFrontOf}
 use Rattle.turn_lock.specs.Known.{Follows, longer, greatest, writers, joined, split_off, all_parts, after_turn}
-use Rattle.source_log.specs.declared.entry.LogEntry.{LogEntry}
+use Rattle.source_state.specs.declared.entry.LogEntry.{LogEntry}
 use Rattle.source_state.specs.State.{State, facts_of, IsCounted, IsSoundLog, IsSound}
 use Rattle.source_state.specs.declared.look.Look.{Look}
 use Rattle.source_state.proofs.Sound.{sound_opened}

@@ -13,20 +13,20 @@ use Rattle.turn_lock.specs.declared.known.Known.{Known}
 use Rattle.turn_lock.specs.Facts.{AtMost, FactsGrow, AreFactsKept}
 use Rattle.turn_lock.specs.Known.{KnowsOf, raised, holding, after_turn}
 use Rattle.turn_lock.proofs.Growth.{begins_on, at_most_on}
-use Rattle.source_log.specs.declared.ask.Ask.{Ask}
-use Rattle.source_log.specs.declared.entry.LogEntry.{LogEntry}
-use Rattle.source_log.specs.declared.entry.FailKind.{FailKind}
-use Rattle.source_log.specs.declared.entry.FailKind.TheVariants as kind
+use Rattle.source_state.specs.declared.ask.Ask.{Ask}
+use Rattle.source_state.specs.declared.entry.LogEntry.{LogEntry}
+use Rattle.source_state.specs.declared.entry.FailKind.{FailKind}
+use Rattle.source_state.specs.declared.entry.FailKind.TheVariants as kind
 use Rattle.source_state.specs.declared.look.Waiting.{Waiting}
 use Rattle.source_state.specs.declared.look.Look.{Look}
 use Rattle.source_state.specs.declared.look.Look.TheVariants as look
 use Rattle.source_state.specs.declared.look.LookFault.TheVariants as why
-use Rattle.source_log.specs.Asks.{ask_of}
+use Rattle.source_state.specs.Asks.{ask_of}
 use Rattle.source_state.specs.State.{State, asks_of, first_pending, due_by, facts_of, IsSound}
 use Rattle.source_state.specs.Events.{one_asked, one_more, counted, count_of}
 use Rattle.source_state.specs.Looking.{is_same, waits_for, told, decided, is_full, called, Looks, MayLook}
 use Rattle.source_state.specs.Looking as looking
-use Rattle.source_log.proofs.Lists.{eqb_same, none_not_some}
+use Rattle.source_state.proofs.Lists.{eqb_same, none_not_some}
 use Rattle.source_state.proofs.Counting.{told_more}
 use Rattle.source_pool.specs.declared.hold.Hold.{Hold}
 use Rattle.source_pool.specs.Looks.{said_in, MayLookFor, HasNoRoom, told_of, Answers, KeepsMarks, HasCalled, GoesOn, BeginsToWait, Ends, Waits, shown_by, TookTurn, IsTurn, IsWithin}

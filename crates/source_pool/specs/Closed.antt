@@ -4,7 +4,7 @@ use Rattle.atomic_table.specs.Seated.{TableId}
 use Rattle.turn_lock.specs.declared.known.Known.{Known}
 use Rattle.turn_lock.specs.Facts.{IsFrontOf, AtMost}
 use Rattle.turn_lock.specs.Known.{all_parts}
-use Rattle.source_log.specs.declared.entry.LogEntry.{LogEntry}
+use Rattle.source_state.specs.declared.entry.LogEntry.{LogEntry}
 use Rattle.source_state.specs.State.{State, state_at, IsSound}
 use Rattle.source_pool.specs.declared.hold.Hold.{Hold}
 use Rattle.source_pool.specs.Passes.{Feed, hold_at, feed_at}

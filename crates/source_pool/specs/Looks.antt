@@ -7,14 +7,14 @@ use Rattle.turn_lock.specs.declared.facts.Tally.{Tally}
 use Rattle.turn_lock.specs.declared.known.Known.{Known}
 use Rattle.turn_lock.specs.Facts.{AtMost}
 use Rattle.turn_lock.specs.Known.{KnowsOf, Follows, after_turn}
-use Rattle.source_log.specs.declared.entry.LogEntry.{LogEntry}
-use Rattle.source_log.specs.declared.entry.FailKind.{FailKind}
-use Rattle.source_log.specs.declared.entry.FailKind.TheVariants as kind
+use Rattle.source_state.specs.declared.entry.LogEntry.{LogEntry}
+use Rattle.source_state.specs.declared.entry.FailKind.{FailKind}
+use Rattle.source_state.specs.declared.entry.FailKind.TheVariants as kind
 use Rattle.source_state.specs.declared.look.Look.{Look}
 use Rattle.source_state.specs.declared.look.Look.TheVariants as look
 use Rattle.source_state.specs.declared.look.LookFault.{LookFault}
 use Rattle.source_state.specs.declared.look.LookFault.TheVariants as why
-use Rattle.source_log.specs.Log.{rows_in, fault_in, settling_in}
+use Rattle.source_state.specs.Log.{rows_in, fault_in, settling_in}
 use Rattle.source_state.specs.State.{State, asked_as, facts_of, IsSound}
 use Rattle.source_state.specs.Events.{counted}
 use Rattle.source_state.specs.Looking.{waits_for, row_or_fault, grade_or, told, Looks}

@@ -4,7 +4,7 @@ use Rattle.std.specs.List.{slice_index_or}
 use Rattle.atomic_table.specs.Seated.{TableId}
 use Rattle.turn_lock.specs.declared.facts.Facts.{Facts}
 use Rattle.turn_lock.specs.Known.{holding, after_turn}
-use Rattle.source_log.specs.declared.entry.LogEntry.{LogEntry}
+use Rattle.source_state.specs.declared.entry.LogEntry.{LogEntry}
 use Rattle.source_pool.specs.declared.hold.Hold.{Hold}
 use Rattle.source_state.specs.State.{IsSound}
 use Rattle.source_pool.specs.Holds.{SourcePass, no_lock, no_pass, no_hold, IsFree}

@@ -1,7 +1,7 @@
 -- What a pass knows of a source, as a state.
 use Rattle.std.specs.Prelude.{false, None}
 use Rattle.turn_lock.specs.declared.known.Known.{Known}
-use Rattle.source_log.specs.declared.entry.LogEntry.{LogEntry}
+use Rattle.source_state.specs.declared.entry.LogEntry.{LogEntry}
 use Rattle.source_state.specs.State.{State}
 
 -- the state of a source as a pass saw it last: its log, its asks and how many fails of each kind came. How far rows are wanted, which kind of

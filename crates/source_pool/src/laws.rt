@@ -4,9 +4,9 @@ ghost use Rattle.std.specs.Prelude.{◌≡◌, ◌-◌, ◌++◌, ℕ, Some, Non
 ghost use Rattle.ranked_list.specs.declared.row.Row.{Row};
 ghost use Rattle.ranked_list.specs.declared.need.Need.TheVariants as need;
 ghost use Rattle.topk_theory.specs.Bounds.{grade_among};
-ghost use Rattle.source_log.specs.declared.entry.LogEntry.{LogEntry};
+ghost use Rattle.source_state.specs.declared.entry.LogEntry.{LogEntry};
 ghost use Rattle.source_state.specs.declared.look.Look.TheVariants as look;
-ghost use Rattle.source_log.specs.Log.{rows_in, graded_in, fault_in, settling_in};
+ghost use Rattle.source_state.specs.Log.{rows_in, graded_in, fault_in, settling_in};
 ghost use Rattle.source_pool.specs.Looks.{said_in};
 
 /// What a log says of a need is there: the row at the depth among its rows, and the grade of the object among those that are known of

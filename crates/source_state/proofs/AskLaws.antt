@@ -9,18 +9,18 @@ use Rattle.topk_theory.specs.Bounds.{grade_among}
 use Rattle.topk_theory.proofs.AgreementRows.{grade_among_append_some, grade_among_append_none}
 use Rattle.topk_theory.proofs.AgreementLists.{contains_here, contains_there, contains_cases, contains_nil}
 use Rattle.topk_theory.proofs.ThresholdLists.{map_map, map_same}
-use Rattle.source_log.specs.declared.ask.Ask.{Ask}
-use Rattle.source_log.specs.declared.entry.LogEntry.{LogEntry}
-use Rattle.source_log.specs.declared.entry.LogEntry.TheVariants.{Kept, Settled, Fault}
-use Rattle.source_log.specs.declared.entry.Settling.{Settling}
-use Rattle.source_log.specs.declared.entry.Settling.TheVariants.{Graded, Bad, Missed}
-use Rattle.source_log.specs.declared.entry.Asked.TheVariants as became
-use Rattle.source_log.specs.declared.entry.SourceFault.{SourceFault}
-use Rattle.source_log.specs.Log.{rows_in, settling_in}
-use Rattle.source_log.specs.Asks.{ask_in, ask_of, good_grade, change, settled_asks, held_asks}
+use Rattle.source_state.specs.declared.ask.Ask.{Ask}
+use Rattle.source_state.specs.declared.entry.LogEntry.{LogEntry}
+use Rattle.source_state.specs.declared.entry.LogEntry.TheVariants.{Kept, Settled, Fault}
+use Rattle.source_state.specs.declared.entry.Settling.{Settling}
+use Rattle.source_state.specs.declared.entry.Settling.TheVariants.{Graded, Bad, Missed}
+use Rattle.source_state.specs.declared.entry.Asked.TheVariants as became
+use Rattle.source_state.specs.declared.entry.SourceFault.{SourceFault}
+use Rattle.source_state.specs.Log.{rows_in, settling_in}
+use Rattle.source_state.specs.Asks.{ask_in, ask_of, good_grade, change, settled_asks, held_asks}
 use Rattle.source_state.specs.State.{State, asks_of, asked_in, asked_as}
-use Rattle.source_log.proofs.Lists.{eqb_same, eqb_other, none_not_some}
-use Rattle.source_log.proofs.LogLaws.{kept_rows, kept_settling, settled_rows, settled_other, settled_same, fault_rows, fault_settling}
+use Rattle.source_state.proofs.Lists.{eqb_same, eqb_other, none_not_some}
+use Rattle.source_state.proofs.LogLaws.{kept_rows, kept_settling, settled_rows, settled_other, settled_same, fault_rows, fault_settling}
 
 -- an ask by its parts
 ask_is : (object : ℕ) (one other : Option Settling) (held kept : Bool) → one ≡ other → held ≡ kept

@@ -3,13 +3,13 @@ use Rattle.std.proofs.Common.{◌≡◌, ◌≤◌, ◌<◌, ℕ, Bool, true, fa
 use Rattle.std.proofs.lemmas.Bool.{le-ltb, ltb-true}
 use Rattle.ranked_list.specs.declared.need.Need.{Need}
 use Rattle.turn_lock.specs.declared.facts.Tally.{Tally}
-use Rattle.source_log.specs.declared.entry.FailKind.{FailKind}
-use Rattle.source_log.specs.declared.entry.FailKind.TheVariants.{Failed, Garbled, Memory}
+use Rattle.source_state.specs.declared.entry.FailKind.{FailKind}
+use Rattle.source_state.specs.declared.entry.FailKind.TheVariants.{Failed, Garbled, Memory}
 use Rattle.source_state.specs.declared.look.Waiting.{Waiting}
 use Rattle.source_state.specs.State.{last_count, IsCounted}
 use Rattle.source_state.specs.Events.{count_of, counted, one_more}
 use Rattle.source_state.specs.Looking.{newer, told, waits_for}
-use Rattle.source_log.proofs.Lists.{none_not_some}
+use Rattle.source_state.proofs.Lists.{none_not_some}
 
 still : (n : ℕ) → n ≡ last_count → one_more n ≡ n
 still n full = omega arith

@@ -17,12 +17,12 @@ use Rattle.topk_theory.proofs.Agreement.{drawn_push}
 use Rattle.topk_theory.proofs.ConsistentRows.{AreCoherent, ranked_front, ranked_capped, behind_below_last}
 use Rattle.topk_theory.proofs.ConsistentTable.{IsCoherent}
 use Rattle.topk_theory.proofs.Consistent.{coherent_free, coherent_agrees}
-use Rattle.source_log.specs.declared.entry.LogEntry.{LogEntry}
-use Rattle.source_log.specs.declared.entry.Settling.TheVariants.{Graded}
-use Rattle.source_log.specs.Log.{rows_in, settling_in, graded_in}
+use Rattle.source_state.specs.declared.entry.LogEntry.{LogEntry}
+use Rattle.source_state.specs.declared.entry.Settling.TheVariants.{Graded}
+use Rattle.source_state.specs.Log.{rows_in, settling_in, graded_in}
 use Rattle.source_state.specs.State.{GoesWith, IsSoundLog}
 use Rattle.source_state.specs.Drawing.{told_by, IsSomeSound}
-use Rattle.source_log.proofs.LogLaws.{graded_settling}
+use Rattle.source_state.proofs.LogLaws.{graded_settling}
 
 -- a row of ranked rows has the grade that they give its object
 row_grade : (rows : List Row) (row : Row) → IsRanked rows → Contains rows row → grade_among rows row.object ≡ Some row.grade

@@ -3,17 +3,17 @@ use Rattle.std.proofs.Common.{◌≡◌, Option, Some, None, List, [], ◌∷◌
 use Rattle.ranked_list.specs.declared.row.Row.{Row}
 use Rattle.turn_lock.specs.Facts.{IsFrontOf, FactsGrow}
 use Rattle.turn_lock.proofs.Growth.{begins_same, begins_more, at_most_same, grows_same, grows_on}
-use Rattle.source_log.specs.declared.ask.Ask.{Ask}
-use Rattle.source_log.specs.declared.entry.LogEntry.{LogEntry}
-use Rattle.source_log.specs.declared.entry.LogEntry.TheVariants.{Kept, Settled, Fault}
-use Rattle.source_log.specs.declared.entry.Settling.TheVariants.{Bad}
-use Rattle.source_log.specs.declared.entry.SourceFault.{SourceFault}
+use Rattle.source_state.specs.declared.ask.Ask.{Ask}
+use Rattle.source_state.specs.declared.entry.LogEntry.{LogEntry}
+use Rattle.source_state.specs.declared.entry.LogEntry.TheVariants.{Kept, Settled, Fault}
+use Rattle.source_state.specs.declared.entry.Settling.TheVariants.{Bad}
+use Rattle.source_state.specs.declared.entry.SourceFault.{SourceFault}
 use Rattle.source_state.specs.declared.event.Applied.TheVariants.{Broken}
-use Rattle.source_log.specs.Log.{rows_in, fault_in}
-use Rattle.source_log.specs.Asks.{ask_of}
+use Rattle.source_state.specs.Log.{rows_in, fault_in}
+use Rattle.source_state.specs.Asks.{ask_of}
 use Rattle.source_state.specs.State.{State, asks_of, row_fault, facts_of}
 use Rattle.source_state.specs.Events.{logged, one_asked, with_ask, row_or, with_rows, moved, IsApplied}
-use Rattle.source_log.proofs.LogLaws.{fault_first}
+use Rattle.source_state.proofs.LogLaws.{fault_first}
 
 pub logged_grows : (s : State) (entry : LogEntry) → FactsGrow (facts_of s) (facts_of (logged s entry))
 logged_grows s entry = record { name = refl; log = begins_more s.log (entry ∷ []); asks = begins_same s.asks; mark = le_refl _; tally = at_most_same s.tally }

@@ -1,3 +1,8 @@
+pub mod TreeLaws
+pub mod Keeping
+pub mod Lists
+pub mod LogLaws
+pub mod Caching
 pub mod AskLaws
 pub mod Sound
 mod Stepping

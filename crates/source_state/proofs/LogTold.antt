@@ -4,19 +4,19 @@ use Rattle.std.specs.List.{flat_map}
 use Rattle.std.proofs.Math.Seq.{drop-length, drop-append_seam}
 use Rattle.std.proofs.lemmas.Grind.{flat_map-append}
 use Rattle.ranked_list.specs.declared.row.Row.{Row}
-use Rattle.source_log.specs.declared.entry.LogEntry.{LogEntry}
-use Rattle.source_log.specs.declared.entry.LogEntry.TheVariants as entry
-use Rattle.source_log.specs.declared.entry.Settling.{Settling}
-use Rattle.source_log.specs.declared.entry.Settling.TheVariants as settling
-use Rattle.source_log.specs.declared.entry.SourceFault.{SourceFault}
-use Rattle.source_log.specs.declared.entry.SourceFault.TheVariants.{ShortList, Moved}
+use Rattle.source_state.specs.declared.entry.LogEntry.{LogEntry}
+use Rattle.source_state.specs.declared.entry.LogEntry.TheVariants as entry
+use Rattle.source_state.specs.declared.entry.Settling.{Settling}
+use Rattle.source_state.specs.declared.entry.Settling.TheVariants as settling
+use Rattle.source_state.specs.declared.entry.SourceFault.{SourceFault}
+use Rattle.source_state.specs.declared.entry.SourceFault.TheVariants.{ShortList, Moved}
 use Rattle.source_state.specs.declared.event.Event.{Event}
 use Rattle.source_state.specs.declared.event.Event.TheVariants.{Want, Ask, Page, Grade, Miss, Fail, Move}
-use Rattle.source_log.specs.Log.{first_of, rows_in, fault_in}
+use Rattle.source_state.specs.Log.{first_of, rows_in, fault_in}
 use Rattle.source_state.specs.State.{State, opened, asks_of, row_fault, settle}
 use Rattle.source_state.specs.Events.{logged, row_or, with_rows, after, MayCome}
 use Rattle.source_state.specs.History.{Moment, moments, settling_by, rows_told, fault_told, fault_added, entries_by, entries_told, log_told, replayed, AllMayCome, kept_by, IsByHistory}
-use Rattle.source_log.proofs.LogLaws.{kept_rows, kept_faults, settled_rows, settled_faults, fault_rows, fault_first}
+use Rattle.source_state.proofs.LogLaws.{kept_rows, kept_faults, settled_rows, settled_faults, fault_rows, fault_first}
 use Rattle.source_state.proofs.Told.{replayed_push, moments_push, count_stays, told_next, none_told}
 
 -- what adds nothing

@@ -9,25 +9,25 @@ use Rattle.ranked_list.specs.declared.need.Need.TheVariants as need
 use Rattle.ranked_list.proofs.OptionLaws.{option_cases}
 use Rattle.topk_theory.specs.Bounds.{grade_among}
 use Rattle.topk_theory.proofs.AgreementLists.{contains_here, contains_there, contains_map_from}
-use Rattle.source_log.specs.declared.ask.Ask.{Ask}
-use Rattle.source_log.specs.declared.entry.Settling.{Settling}
-use Rattle.source_log.specs.declared.entry.Settling.TheVariants.{Graded, Bad, Missed}
-use Rattle.source_log.specs.declared.entry.Asked.{Asked}
-use Rattle.source_log.specs.declared.entry.Asked.TheVariants as became
-use Rattle.source_log.specs.declared.entry.FailKind.{FailKind}
-use Rattle.source_log.specs.declared.entry.FailKind.TheVariants as kind
-use Rattle.source_log.specs.declared.entry.SourceFault.{SourceFault}
+use Rattle.source_state.specs.declared.ask.Ask.{Ask}
+use Rattle.source_state.specs.declared.entry.Settling.{Settling}
+use Rattle.source_state.specs.declared.entry.Settling.TheVariants.{Graded, Bad, Missed}
+use Rattle.source_state.specs.declared.entry.Asked.{Asked}
+use Rattle.source_state.specs.declared.entry.Asked.TheVariants as became
+use Rattle.source_state.specs.declared.entry.FailKind.{FailKind}
+use Rattle.source_state.specs.declared.entry.FailKind.TheVariants as kind
+use Rattle.source_state.specs.declared.entry.SourceFault.{SourceFault}
 use Rattle.source_state.specs.declared.look.Waiting.{Waiting}
 use Rattle.source_state.specs.declared.look.Look.{Look}
 use Rattle.source_state.specs.declared.look.Look.TheVariants as look
 use Rattle.source_state.specs.declared.look.LookFault.TheVariants as why
 use Rattle.source_state.specs.declared.plan.Plan.{Plan}
 use Rattle.source_state.specs.declared.plan.Plan.TheVariants as plan
-use Rattle.source_log.specs.Log.{rows_in, fault_in}
-use Rattle.source_log.specs.Asks.{ask_in, first_due, is_due}
+use Rattle.source_state.specs.Log.{rows_in, fault_in}
+use Rattle.source_state.specs.Asks.{ask_in, first_due, is_due}
 use Rattle.source_state.specs.State.{State, asks_of, asked_in, asked_as, first_pending}
 use Rattle.source_state.specs.Looking.{row_or_fault, grade_or, decided, told, refusal_of, state_reach, is_idle, fetched, plan_of, Ends, Looks}
-use Rattle.source_log.proofs.Lists.{none_not_some}
+use Rattle.source_state.proofs.Lists.{none_not_some}
 use Rattle.source_state.proofs.AskLaws.{ask_is_found}
 
 -- what a log may say of a need

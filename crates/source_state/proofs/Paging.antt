@@ -3,14 +3,14 @@ use Rattle.std.proofs.Common.{◌≡◌, ◌<◌, ◌+◌, ◌∙◌, ℕ, Optio
 use Rattle.std.proofs.lemmas.List.{drop_more, drop_all, length-append}
 use Rattle.std.proofs.lemmas.Option.{get_or_from_slice_get, slice_get_within}
 use Rattle.ranked_list.specs.declared.row.Row.{Row}
-use Rattle.source_log.specs.declared.entry.LogEntry.TheVariants.{Kept, Fault}
-use Rattle.source_log.specs.declared.entry.SourceFault.{SourceFault}
+use Rattle.source_state.specs.declared.entry.LogEntry.TheVariants.{Kept, Fault}
+use Rattle.source_state.specs.declared.entry.SourceFault.{SourceFault}
 use Rattle.source_state.specs.declared.event.Applied.TheVariants.{Broken}
-use Rattle.source_log.specs.Log.{first_of, rows_in, fault_in}
+use Rattle.source_state.specs.Log.{first_of, rows_in, fault_in}
 use Rattle.source_state.specs.State.{State, asks_of, row_fault, IsSound}
 use Rattle.source_state.specs.Events.{logged, row_or, with_rows, MayPage, IsApplied}
 use Rattle.source_state.specs.Keeping.{RowsLeft}
-use Rattle.source_log.proofs.LogLaws.{kept_rows, kept_faults, fault_first}
+use Rattle.source_state.proofs.LogLaws.{kept_rows, kept_faults, fault_first}
 
 -- what is left begins with the row at the place
 next_row : (rows : List Row) (place : ℕ) (row : Row) → slice_get rows place ≡ Some row → drop place rows ≡ row ∷ drop (place + 1) rows

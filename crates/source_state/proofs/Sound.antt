@@ -16,21 +16,21 @@ use Rattle.topk_theory.proofs.AgreementLists.{contains_at, contains_cases, conta
 use Rattle.topk_theory.proofs.AgreementRows.{grade_among_row, grade_among_none, grade_among_append_some, grade_among_append_none, object_of_row}
 use Rattle.topk_theory.proofs.ThresholdRun.{contains_filter_map}
 use Rattle.topk_theory.proofs.ConsistentRows.{last_is_least, last_below_top}
-use Rattle.source_log.specs.declared.ask.Ask.{Ask}
-use Rattle.source_log.specs.declared.entry.LogEntry.{LogEntry}
-use Rattle.source_log.specs.declared.entry.LogEntry.TheVariants.{Kept, Settled, Fault}
-use Rattle.source_log.specs.declared.entry.Settling.{Settling}
-use Rattle.source_log.specs.declared.entry.Settling.TheVariants.{Graded, Bad, Missed}
-use Rattle.source_log.specs.declared.entry.Asked.TheVariants as became
-use Rattle.source_log.specs.declared.entry.SourceFault.{SourceFault}
-use Rattle.source_log.specs.declared.entry.SourceFault.TheVariants.{OutOfOrder, TooHigh, Repeated, Clash, Above}
-use Rattle.source_log.specs.Log.{rows_in, settling_in, settled_in, graded_in, graded_as, faults_in, fault_in}
-use Rattle.source_log.specs.Asks.{ask_in, ask_of, good_grade, open_row, open_rows, first_above}
+use Rattle.source_state.specs.declared.ask.Ask.{Ask}
+use Rattle.source_state.specs.declared.entry.LogEntry.{LogEntry}
+use Rattle.source_state.specs.declared.entry.LogEntry.TheVariants.{Kept, Settled, Fault}
+use Rattle.source_state.specs.declared.entry.Settling.{Settling}
+use Rattle.source_state.specs.declared.entry.Settling.TheVariants.{Graded, Bad, Missed}
+use Rattle.source_state.specs.declared.entry.Asked.TheVariants as became
+use Rattle.source_state.specs.declared.entry.SourceFault.{SourceFault}
+use Rattle.source_state.specs.declared.entry.SourceFault.TheVariants.{OutOfOrder, TooHigh, Repeated, Clash, Above}
+use Rattle.source_state.specs.Log.{rows_in, settling_in, settled_in, graded_in, graded_as, faults_in, fault_in}
+use Rattle.source_state.specs.Asks.{ask_in, ask_of, good_grade, open_row, open_rows, first_above}
 use Rattle.source_state.specs.State.{State, opened, asks_of, asked_in, clash_or, above_fault, grade_asked, fault_by_grades, row_fault, settle, settle_by, GoesWith, SettlesWell, IsSoundLog, IsSound}
 use Rattle.source_state.specs.Events.{logged, one_asked, with_ask, moved, MayMove}
 use Rattle.limits.specs.declared.TheConstants.{MAX_OBJECTS}
-use Rattle.source_log.proofs.Lists.{cond_none, none_not_some, none_found, no_first}
-use Rattle.source_log.proofs.LogLaws.{kept_rows, kept_settled, kept_graded, kept_faults, settled_rows, settled_settled, settled_graded, settled_faults, fault_rows, fault_settled, fault_graded, fault_faults, log_length, not_settled, graded_settled, graded_settling}
+use Rattle.source_state.proofs.Lists.{cond_none, none_not_some, none_found, no_first}
+use Rattle.source_state.proofs.LogLaws.{kept_rows, kept_settled, kept_graded, kept_faults, settled_rows, settled_settled, settled_graded, settled_faults, fault_rows, fault_settled, fault_graded, fault_faults, log_length, not_settled, graded_settled, graded_settling}
 use Rattle.source_state.proofs.AskLaws.{pending_parts, ask_missing, ask_is_found}
 
 abbrev pub Apart : ℕ → ℕ → Type 0

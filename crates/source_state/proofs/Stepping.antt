@@ -4,20 +4,20 @@ use Rattle.std.proofs.lemmas.List.{length-append, length-map, map-append}
 use Rattle.ranked_list.specs.declared.row.Row.{Row}
 use Rattle.ranked_list.proofs.OptionLaws.{option_cases}
 use Rattle.topk_theory.specs.Bounds.{grade_among}
-use Rattle.source_log.specs.declared.ask.Ask.{Ask}
-use Rattle.source_log.specs.declared.entry.LogEntry.{LogEntry}
-use Rattle.source_log.specs.declared.entry.LogEntry.TheVariants.{Kept, Settled, Fault}
-use Rattle.source_log.specs.declared.entry.Settling.{Settling}
-use Rattle.source_log.specs.declared.entry.Asked.TheVariants as became
-use Rattle.source_log.specs.declared.entry.SourceFault.{SourceFault}
-use Rattle.source_log.specs.Log.{rows_in, settling_in, fault_in, first_of}
-use Rattle.source_log.specs.Asks.{ask_in, ask_of, new_ask, with_one_more, held_asks, settled_asks}
+use Rattle.source_state.specs.declared.ask.Ask.{Ask}
+use Rattle.source_state.specs.declared.entry.LogEntry.{LogEntry}
+use Rattle.source_state.specs.declared.entry.LogEntry.TheVariants.{Kept, Settled, Fault}
+use Rattle.source_state.specs.declared.entry.Settling.{Settling}
+use Rattle.source_state.specs.declared.entry.Asked.TheVariants as became
+use Rattle.source_state.specs.declared.entry.SourceFault.{SourceFault}
+use Rattle.source_state.specs.Log.{rows_in, settling_in, fault_in, first_of}
+use Rattle.source_state.specs.Asks.{ask_in, ask_of, new_ask, with_one_more, held_asks, settled_asks}
 use Rattle.source_state.specs.State.{State, opened, asks_of, asked_in, row_fault, SettlesWell, IsSound}
 use Rattle.source_state.specs.Events.{logged, one_asked, with_ask}
-use Rattle.source_log.specs.Keeping.{RowList, AskList, ask_objects}
+use Rattle.source_state.specs.LogKeeping.{RowList, AskList, ask_objects}
 use Rattle.source_state.specs.Keeping.{KeepsState}
 use Rattle.limits.specs.declared.TheConstants.{MAX_OBJECTS}
-use Rattle.source_log.proofs.LogLaws.{kept_rows, kept_faults, settled_rows, settled_faults, fault_rows, fault_first, settled_there}
+use Rattle.source_state.proofs.LogLaws.{kept_rows, kept_faults, settled_rows, settled_faults, fault_rows, fault_first, settled_there}
 use Rattle.source_state.proofs.AskLaws.{asks_kept, asks_settled, asks_fault, objects_of_asks, pending_parts, ask_missing, not_asked}
 use Rattle.source_state.proofs.Sound.{log_fits, sound_opened, sound_row, sound_fault, sound_settling, sound_ask}
 

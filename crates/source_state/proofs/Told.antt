@@ -12,24 +12,24 @@ use Rattle.topk_theory.specs.Transcript.{each_once}
 use Rattle.topk_theory.specs.Bounds.{grade_among}
 use Rattle.topk_theory.proofs.AgreementLists.{filter_map_push_some, filter_map_push_none}
 use Rattle.topk_theory.proofs.AgreementNames.{each_once_push_old, each_once_push_new}
-use Rattle.source_log.specs.declared.ask.Ask.{Ask as Asking}
-use Rattle.source_log.specs.declared.entry.LogEntry.{LogEntry}
-use Rattle.source_log.specs.declared.entry.LogEntry.TheVariants as entry
-use Rattle.source_log.specs.declared.entry.Settling.{Settling}
-use Rattle.source_log.specs.declared.entry.Settling.TheVariants as settling
-use Rattle.source_log.specs.declared.entry.FailKind.{FailKind}
-use Rattle.source_log.specs.declared.entry.FailKind.TheVariants as kind
-use Rattle.source_log.specs.declared.entry.SourceFault.{SourceFault}
-use Rattle.source_log.specs.declared.entry.SourceFault.TheVariants.{ShortList, Moved}
+use Rattle.source_state.specs.declared.ask.Ask.{Ask as Asking}
+use Rattle.source_state.specs.declared.entry.LogEntry.{LogEntry}
+use Rattle.source_state.specs.declared.entry.LogEntry.TheVariants as entry
+use Rattle.source_state.specs.declared.entry.Settling.{Settling}
+use Rattle.source_state.specs.declared.entry.Settling.TheVariants as settling
+use Rattle.source_state.specs.declared.entry.FailKind.{FailKind}
+use Rattle.source_state.specs.declared.entry.FailKind.TheVariants as kind
+use Rattle.source_state.specs.declared.entry.SourceFault.{SourceFault}
+use Rattle.source_state.specs.declared.entry.SourceFault.TheVariants.{ShortList, Moved}
 use Rattle.source_state.specs.declared.event.Event.{Event}
 use Rattle.source_state.specs.declared.event.Event.TheVariants.{Want, Ask, Page, Grade, Miss, Fail, Move}
-use Rattle.source_log.specs.Log.{first_of, rows_in, settled_as, settling_in, fault_in}
-use Rattle.source_log.specs.Asks.{ask_in, ask_of}
+use Rattle.source_state.specs.Log.{first_of, rows_in, settled_as, settling_in, fault_in}
+use Rattle.source_state.specs.Asks.{ask_in, ask_of}
 use Rattle.source_state.specs.State.{State, opened, asks_of, row_fault, settle, last_count}
 use Rattle.source_state.specs.Events.{logged, wanted, one_asked, with_ask, row_or, with_rows, paged, one_more, counted, failed, moved, after, MayCome, MayMove}
 use Rattle.source_state.specs.History.{last_of, depth_wanted, object_asked, kind_failed, rows_brought, greatest_want, objects_asked, fails_told, is_failed, is_garbled, is_memory, tally_told, pauses, is_paused, replayed, AllMayCome, Moment, moments_after, moments, settling_by, settlings, Came, page_came, came_after, came, asks_told, fault_came, before_first, rows_told, ended_by, fault_told, kept_by, IsByHistory}
-use Rattle.source_log.proofs.Lists.{no_first}
-use Rattle.source_log.proofs.LogLaws.{kept_rows, kept_settling, kept_faults, settled_rows, settled_faults, fault_rows, fault_settling, fault_first}
+use Rattle.source_state.proofs.Lists.{no_first}
+use Rattle.source_state.proofs.LogLaws.{kept_rows, kept_settling, kept_faults, settled_rows, settled_faults, fault_rows, fault_settling, fault_first}
 use Rattle.source_state.proofs.AskLaws.{ask_found, ask_missing}
 
 -- one more event of a history

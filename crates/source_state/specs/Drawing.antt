@@ -1,8 +1,8 @@
 -- What the logs of sources tell of their lists.
 use Rattle.std.specs.Prelude.{ℕ, List, ◌++◌, map}
 use Rattle.topk_theory.specs.Transcript.{Told}
-use Rattle.source_log.specs.declared.entry.LogEntry.{LogEntry}
-use Rattle.source_log.specs.Log.{rows_in, graded_in}
+use Rattle.source_state.specs.declared.entry.LogEntry.{LogEntry}
+use Rattle.source_state.specs.Log.{rows_in, graded_in}
 use Rattle.source_state.specs.State.{IsSoundLog}
 
 -- of each list its rows, and as known grades those of its rows and the good ones that were asked for

@@ -3,21 +3,21 @@ use Rattle.std.specs.Prelude.{◌≡◌, ◌≢◌, ◌≤◌, ◌<◌, ◌+◌,
 use Rattle.ranked_list.specs.declared.row.Row.{Row}
 use Rattle.turn_lock.specs.declared.facts.Tally.{Tally}
 use Rattle.turn_lock.specs.Facts.{AreFactsKept}
-use Rattle.source_log.specs.declared.ask.Ask.{Ask as Asking}
-use Rattle.source_log.specs.declared.entry.LogEntry.{LogEntry}
-use Rattle.source_log.specs.declared.entry.LogEntry.TheVariants as entry
-use Rattle.source_log.specs.declared.entry.Settling.TheVariants as settling
-use Rattle.source_log.specs.declared.entry.Asked.TheVariants.{Pending}
-use Rattle.source_log.specs.declared.entry.FailKind.{FailKind}
-use Rattle.source_log.specs.declared.entry.FailKind.TheVariants.{Failed, Garbled, Memory}
-use Rattle.source_log.specs.declared.entry.SourceFault.{SourceFault}
-use Rattle.source_log.specs.declared.entry.SourceFault.TheVariants.{ShortList, Moved}
+use Rattle.source_state.specs.declared.ask.Ask.{Ask as Asking}
+use Rattle.source_state.specs.declared.entry.LogEntry.{LogEntry}
+use Rattle.source_state.specs.declared.entry.LogEntry.TheVariants as entry
+use Rattle.source_state.specs.declared.entry.Settling.TheVariants as settling
+use Rattle.source_state.specs.declared.entry.Asked.TheVariants.{Pending}
+use Rattle.source_state.specs.declared.entry.FailKind.{FailKind}
+use Rattle.source_state.specs.declared.entry.FailKind.TheVariants.{Failed, Garbled, Memory}
+use Rattle.source_state.specs.declared.entry.SourceFault.{SourceFault}
+use Rattle.source_state.specs.declared.entry.SourceFault.TheVariants.{ShortList, Moved}
 use Rattle.source_state.specs.declared.event.Event.{Event}
 use Rattle.source_state.specs.declared.event.Event.TheVariants.{Want, Ask, Page, Grade, Miss, Fail, Move}
 use Rattle.source_state.specs.declared.event.Applied.{Applied}
 use Rattle.source_state.specs.declared.event.Applied.TheVariants.{Done, Broken}
-use Rattle.source_log.specs.Log.{rows_in, fault_in}
-use Rattle.source_log.specs.Asks.{ask_of}
+use Rattle.source_state.specs.Log.{rows_in, fault_in}
+use Rattle.source_state.specs.Asks.{ask_of}
 use Rattle.source_state.specs.State.{State, asks_of, asked_in, row_fault, settle, last_count, facts_of}
 
 -- the state with one more entry of its log

@@ -6,17 +6,17 @@ use Rattle.ranked_list.specs.declared.row.Row.{Row}
 use Rattle.turn_lock.specs.declared.facts.Tally.{Tally}
 use Rattle.topk_theory.specs.Transcript.{each_once}
 use Rattle.topk_theory.specs.Bounds.{grade_among}
-use Rattle.source_log.specs.declared.ask.Ask.{Ask as Asking}
-use Rattle.source_log.specs.declared.entry.LogEntry.{LogEntry}
-use Rattle.source_log.specs.declared.entry.LogEntry.TheVariants.{Kept, Settled, Fault}
-use Rattle.source_log.specs.declared.entry.Settling.TheVariants.{Bad, Missed}
-use Rattle.source_log.specs.declared.entry.FailKind.{FailKind}
-use Rattle.source_log.specs.declared.entry.FailKind.TheVariants.{Failed, Garbled, Memory}
-use Rattle.source_log.specs.declared.entry.SourceFault.{SourceFault}
-use Rattle.source_log.specs.declared.entry.SourceFault.TheVariants.{ShortList, Moved}
+use Rattle.source_state.specs.declared.ask.Ask.{Ask as Asking}
+use Rattle.source_state.specs.declared.entry.LogEntry.{LogEntry}
+use Rattle.source_state.specs.declared.entry.LogEntry.TheVariants.{Kept, Settled, Fault}
+use Rattle.source_state.specs.declared.entry.Settling.TheVariants.{Bad, Missed}
+use Rattle.source_state.specs.declared.entry.FailKind.{FailKind}
+use Rattle.source_state.specs.declared.entry.FailKind.TheVariants.{Failed, Garbled, Memory}
+use Rattle.source_state.specs.declared.entry.SourceFault.{SourceFault}
+use Rattle.source_state.specs.declared.entry.SourceFault.TheVariants.{ShortList, Moved}
 use Rattle.source_state.specs.declared.event.Event.{Event}
 use Rattle.source_state.specs.declared.event.Event.TheVariants.{Want, Ask, Page, Grade, Miss, Fail, Move}
-use Rattle.source_log.specs.Log.{first_of, rows_in, settling_in, fault_in}
+use Rattle.source_state.specs.Log.{first_of, rows_in, settling_in, fault_in}
 use Rattle.source_state.specs.State.{State, row_fault, settle, last_count}
 use Rattle.source_state.specs.Events.{after, MayCome}
 

@@ -1,12 +1,12 @@
 -- What the state keeps beside its log.
 use Rattle.std.specs.Prelude.{◌≡◌, ◌≤◌, ◌+◌, ◌*◌, ℕ, Option, None, List, drop, length, map, vec_capacity}
 use Rattle.ranked_list.specs.declared.row.Row.{Row}
-use Rattle.source_log.specs.declared.entry.SourceFault.{SourceFault}
-use Rattle.source_log.specs.Log.{rows_in, fault_in}
-use Rattle.source_log.specs.Asks.{ask_in}
+use Rattle.source_state.specs.declared.entry.SourceFault.{SourceFault}
+use Rattle.source_state.specs.Log.{rows_in, fault_in}
+use Rattle.source_state.specs.Asks.{ask_in}
 use Rattle.source_state.specs.State.{State, IsSound}
 use Rattle.source_state.specs.Events.{with_rows}
-use Rattle.source_log.specs.Keeping.{RowList, AskList, ask_objects}
+use Rattle.source_state.specs.LogKeeping.{RowList, AskList, ask_objects}
 use Rattle.source_state.specs.declared.state.Kept.{Kept}
 
 -- the rows, the asks as they stand and the row fault are those of the log, and the state is sound

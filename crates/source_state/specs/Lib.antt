@@ -1,3 +1,8 @@
+pub mod Grades
+pub mod Nodes
+pub mod Log
+pub mod Asks
+pub mod LogKeeping
 pub mod State
 pub mod Events
 pub mod Looking

@@ -6,11 +6,11 @@ use Rattle.ranked_list.specs.declared.need.Need.{Need}
 use Rattle.ranked_list.specs.declared.need.Need.TheVariants as need
 use Rattle.turn_lock.specs.declared.facts.Tally.{Tally}
 use Rattle.topk_theory.specs.Bounds.{grade_among}
-use Rattle.source_log.specs.declared.entry.Asked.{Asked}
-use Rattle.source_log.specs.declared.entry.Asked.TheVariants as became
-use Rattle.source_log.specs.declared.entry.FailKind.{FailKind}
-use Rattle.source_log.specs.declared.entry.FailKind.TheVariants as kind
-use Rattle.source_log.specs.declared.entry.SourceFault.{SourceFault}
+use Rattle.source_state.specs.declared.entry.Asked.{Asked}
+use Rattle.source_state.specs.declared.entry.Asked.TheVariants as became
+use Rattle.source_state.specs.declared.entry.FailKind.{FailKind}
+use Rattle.source_state.specs.declared.entry.FailKind.TheVariants as kind
+use Rattle.source_state.specs.declared.entry.SourceFault.{SourceFault}
 use Rattle.source_state.specs.declared.look.Waiting.{Waiting}
 use Rattle.source_state.specs.declared.look.Look.{Look}
 use Rattle.source_state.specs.declared.look.Look.TheVariants as look
@@ -18,7 +18,7 @@ use Rattle.source_state.specs.declared.look.LookFault.{LookFault}
 use Rattle.source_state.specs.declared.look.LookFault.TheVariants as why
 use Rattle.source_state.specs.declared.plan.Plan.{Plan}
 use Rattle.source_state.specs.declared.plan.Plan.TheVariants as plan
-use Rattle.source_log.specs.Log.{rows_in, fault_in}
+use Rattle.source_state.specs.Log.{rows_in, fault_in}
 use Rattle.source_state.specs.State.{State, asked_in, first_pending}
 use Rattle.source_state.specs.Events.{wanted, with_ask}
 

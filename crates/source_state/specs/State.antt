@@ -8,17 +8,17 @@ use Rattle.turn_lock.specs.declared.facts.Tally.{Tally}
 use Rattle.turn_lock.specs.declared.facts.Facts.{Facts}
 use Rattle.topk_theory.specs.Transcript.{last_grade}
 use Rattle.topk_theory.specs.Bounds.{grade_among}
-use Rattle.source_log.specs.declared.ask.Ask.{Ask}
-use Rattle.source_log.specs.declared.entry.LogEntry.{LogEntry}
-use Rattle.source_log.specs.declared.entry.Settling.{Settling}
-use Rattle.source_log.specs.declared.entry.Settling.TheVariants.{Graded, Bad, Missed}
-use Rattle.source_log.specs.declared.entry.Asked.{Asked}
-use Rattle.source_log.specs.declared.entry.Asked.TheVariants as became
-use Rattle.source_log.specs.declared.entry.FailKind.{FailKind}
-use Rattle.source_log.specs.declared.entry.SourceFault.{SourceFault}
-use Rattle.source_log.specs.declared.entry.SourceFault.TheVariants.{OutOfOrder, TooHigh, Repeated, Clash, Above}
-use Rattle.source_log.specs.Log.{rows_in, settled_in, graded_in, faults_in}
-use Rattle.source_log.specs.Asks.{ask_in, ask_of, good_grade, first_above, first_due}
+use Rattle.source_state.specs.declared.ask.Ask.{Ask}
+use Rattle.source_state.specs.declared.entry.LogEntry.{LogEntry}
+use Rattle.source_state.specs.declared.entry.Settling.{Settling}
+use Rattle.source_state.specs.declared.entry.Settling.TheVariants.{Graded, Bad, Missed}
+use Rattle.source_state.specs.declared.entry.Asked.{Asked}
+use Rattle.source_state.specs.declared.entry.Asked.TheVariants as became
+use Rattle.source_state.specs.declared.entry.FailKind.{FailKind}
+use Rattle.source_state.specs.declared.entry.SourceFault.{SourceFault}
+use Rattle.source_state.specs.declared.entry.SourceFault.TheVariants.{OutOfOrder, TooHigh, Repeated, Clash, Above}
+use Rattle.source_state.specs.Log.{rows_in, settled_in, graded_in, faults_in}
+use Rattle.source_state.specs.Asks.{ask_in, ask_of, good_grade, first_above, first_due}
 use Rattle.limits.specs.declared.TheConstants.{MAX_OBJECTS}
 
 -- the number of the list and how many objects it has, the greatest depth that was wanted, the log, the objects that were asked in

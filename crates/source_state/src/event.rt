@@ -1,7 +1,7 @@
 //! What may happen to a source.
 
+use super::entry::FailKind;
 use ranked_list::PageRows;
-use source_log::FailKind;
 
 /// An event of a source: what queries want of it, and what came of it.
 #[derive(Drop)]

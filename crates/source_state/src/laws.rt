@@ -4,11 +4,11 @@ ghost use Rattle.std.specs.Prelude.{◌≡◌, ◌<◌, ◌≤◌, ℕ, Some, Li
 ghost use Rattle.topk_theory.specs.declared.access.Access.{Access};
 ghost use Rattle.topk_theory.specs.Transcript.{IsDrawn, Gives, list_of, named_objects};
 ghost use Rattle.topk_theory.specs.Consistent.{Kind, IsOfKind, SomeAgrees, too_many_objects};
-ghost use Rattle.source_log.specs.declared.entry.LogEntry.{LogEntry};
+ghost use Rattle.source_state.specs.declared.entry.LogEntry.{LogEntry};
 ghost use Rattle.source_state.specs.declared.event.Event.{Event};
 ghost use Rattle.ranked_list.specs.declared.need.Need.{Need};
 ghost use Rattle.turn_lock.specs.declared.facts.Tally.{Tally};
-ghost use Rattle.source_log.specs.declared.entry.FailKind.{FailKind};
+ghost use Rattle.source_state.specs.declared.entry.FailKind.{FailKind};
 ghost use Rattle.source_state.specs.declared.event.Event.TheVariants.{Fail};
 ghost use Rattle.source_state.specs.declared.look.Waiting.{Waiting};
 ghost use Rattle.source_state.specs.State.{State, opened, last_count, IsCounted};

@@ -5,9 +5,9 @@ ghost use Rattle.turn_lock.specs.Facts.{FactsGrow, AreFactsKept};
 ghost use Rattle.source_state.specs.State.{IsSound, facts_of};
 ghost use Rattle.source_state.specs.Looking.{is_same, waits_for, newer, told, refusal_of, decided_row, decided_grade, decided, is_full, called, Looks, MayLook};
 
+use super::entry::{Asked, FailKind, SourceFault};
 use super::state::SourceState;
 use ranked_list::{Need, Row};
-use source_log::{Asked, FailKind, SourceFault};
 use turn_lock::Tally;
 
 /// What is waited for, and the tally that was noted when the waiting began.

@@ -2,15 +2,17 @@
 
 ghost use Rattle.std.specs.Prelude.{◌≡◌, ◌<◌, ◌≤◌, [], ◌∷◌, ◌++◌, None, Some, length, slice_get, IfOk, is_some, vec_len, vec_capacity};
 ghost use Rattle.turn_lock.specs.Facts.{FactsGrow};
-ghost use Rattle.source_log.specs.Log.{rows_in, fault_in};
+ghost use Rattle.source_state.specs.Log.{rows_in, fault_in};
 ghost use Rattle.topk_theory.specs.Bounds.{grade_among};
 ghost use Rattle.source_state.specs.State.{opened, asks_of, asked_in, asked_as, first_pending, fails_of, fault_by_grades, row_fault, settle, IsSound, SettlesWell};
 ghost use Rattle.source_state.specs.Events.{counted};
 
+use super::asks::Asks;
+use super::entry::{Asked, FailKind, LogEntry, Settling, SourceFault};
 use super::event::{Applied, Event};
-use limits::{MAX_OBJECTS, TOP_GRADE};
+use super::kept_rows::KeptRows;
+use limits::{MAX_OBJECTS, Memory, TOP_GRADE};
 use ranked_list::{PageRows, Row};
-use source_log::{Asked, Asks, FailKind, KeptRows, LogEntry, Memory, Settling, SourceFault};
 use std::alloc::Global;
 use std::marker::Model;
 use turn_lock::{Logged, Tally};

@@ -14,3 +14,6 @@ pub mod Calls
 pub mod Answering
 pub mod ExactLaws
 pub mod Unasked
+-- The rules of the threshold machine as those of the two algorithms, and their answers.
+pub mod Rules
+pub mod Answers

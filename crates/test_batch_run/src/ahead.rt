@@ -5,8 +5,8 @@ use super::gated_runs::Case;
 use super::waiting::{Call, Gate};
 use batch_run::Settings;
 use source_api::Trouble;
+use test_mem_source::{Held, Kind};
 use test_query_support::{Expected, FIRST, FIRST_ENDS, Figures};
-use test_source_support::{Held, Kind};
 
 /// The query needs a grade of the second list before a second row of the first one, and the call for it waits until the first list is
 /// read to its end.

@@ -2,23 +2,22 @@
 
 ghost use Rattle.std.specs.Prelude.{◌≡◌, ◌≤◌, true, None, All, OnSome, length};
 ghost use Rattle.limits.specs.Ranges.{AreSettings};
-ghost use Rattle.query_turns.specs.Made.{IsReadyFor};
+ghost use Rattle.query_run.specs.Made.{IsReadyFor};
 
 use batch_run::{Batch, Settings, run_all};
 use fetcher::Slot;
 use limits::MAX_OBJECTS;
 use query_core::Ready;
-use query_turns::Endings;
+use query_run::Endings;
 use source_api::Source;
 use std::alloc::Global;
 use std::sync::Wait;
 use std::test::Fail;
 use std::thread::Threads;
-use test_mem_source::MemSource;
+use test_mem_source::{Held, MemSource, source_of};
 use test_query_support::{
     Asked, Expected, are_small, is_ended_so, let_endings_go, let_go, readies_beside,
 };
-use test_source_support::{Held, source_of};
 
 /// What is used of a source: the rows and the grades that it gave, the greatest depth that was wanted, and how many objects were asked for.
 pub type Used = (u32, u32, u32, u32);

@@ -5,8 +5,8 @@ use super::gated_runs::{Case, GATE};
 use super::waiting::{Call, Gate};
 use batch_run::Settings;
 use source_api::Trouble;
+use test_mem_source::{Held, Kind};
 use test_query_support::{Expected, Figures};
-use test_source_support::{Held, Kind};
 
 /// A row a page, nothing read ahead.
 const TWO_WORKERS: Settings = Settings {

@@ -9,9 +9,8 @@ use std::alloc::Global;
 use std::sync::Wait;
 use std::test::Fail;
 use std::thread::Threads;
-use test_mem_source::MemSource;
+use test_mem_source::{Held, Kind, MemSource};
 use test_query_support::{Asked, Expected};
-use test_source_support::{Held, Kind};
 
 /// A batch: sources, how many objects each is to have, queries, which sources answer grades alone, settings, how the queries end, and
 /// what is used of the first sources.

@@ -4,8 +4,8 @@ use super::cases::{A, B, Case, PLAIN, ROWS_A, ROWS_B};
 use batch_run::Settings;
 use machine_base::CoreFault;
 use source_state::{LookFault, SourceFault};
+use test_mem_source::{Held, Kind};
 use test_query_support::{Asked, Expected, FIRST, FIRST_ENDS, Figures};
-use test_source_support::{Held, Kind};
 
 /// The second row's grade rises.
 const RISING: Held = Held {

@@ -12,8 +12,8 @@ use std::sync::Wait;
 use std::sync::atomic::AtomicU64;
 use std::test::Fail;
 use std::thread::Threads;
+use test_mem_source::{Held, source_of};
 use test_query_support::{Asked, Expected};
-use test_source_support::{Held, source_of};
 
 /// A source, and its call that waits.
 pub type Waiter = (Held, Option<Gate>);

@@ -2,8 +2,8 @@
 
 use super::cases::{A, B, Case, PLAIN, ROWS_A};
 use source_state::{LookFault, SourceFault};
+use test_mem_source::{Held, Kind};
 use test_query_support::{Expected, FIRST};
-use test_source_support::{Held, Kind};
 
 /// Two lists that have one object each that the other one lacks.
 const ONE: Held = Held {

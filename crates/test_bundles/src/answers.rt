@@ -1,7 +1,7 @@
 //! Queries that are answered. Each row has a bundle's lists, a query, and its certificate from the third line on.
 
+use super::drive_answers::{Answer, first_wrong};
 use super::none_is_wrong;
-use test_bundle_support::{Answer, first_wrong};
 
 const LISTS: &str = "list A\n1,900\n2,800\n3,100\nlist B\n2,700\n3,600\n1,500\n";
 

@@ -1,8 +1,10 @@
 //! Each fault of the streams in turn, on the first example.
 
+use super::drives::one_into;
 use super::none_is_wrong;
+use super::outcomes::{Streams, one_ends_over};
+use call_ends::Status;
 use std::alloc::Global;
-use test_bundle_support::{Status, Streams, one_ends_over, one_into};
 use test_support::FIRST_TEXT;
 use tk_io::{Failed, MemSink, Sink};
 

@@ -1,8 +1,10 @@
 //! Answers within a factor and early ones: their certificates, and what is told of these.
 
+use super::drive_answers::{Answer, first_wrong};
 use super::none_is_wrong;
+use super::outcomes::judge_ends;
+use call_ends::Status;
 use std::alloc::Global;
-use test_bundle_support::{Answer, Status, first_wrong, judge_ends};
 
 const LISTS: &str = "list A\n1,900\n2,800\n3,100\nlist B\n2,700\n3,600\n1,500\n";
 

@@ -1,8 +1,10 @@
 //! The command `make`.
 
+use super::drive_answers::{Answer, first_wrong};
 use super::none_is_wrong;
+use super::outcomes::make_ends;
+use call_ends::Status;
 use std::alloc::Global;
-use test_bundle_support::{Answer, Status, first_wrong, make_ends};
 
 /// The sections of the table of 2 lists over 4 objects that is made from 7.
 const MADE: &str =

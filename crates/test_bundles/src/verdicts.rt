@@ -1,8 +1,9 @@
 //! Certificates and what is told of them.
 
 use super::none_is_wrong;
+use super::outcomes::judge_ends;
+use call_ends::Status;
 use std::alloc::Global;
-use test_bundle_support::{Status, judge_ends};
 use test_support::FIRST_TEXT;
 
 /// The certificate of a run over one list of one object, whose grade is 0.

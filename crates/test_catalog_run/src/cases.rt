@@ -4,8 +4,7 @@ use super::drives::{run_into, settings_of};
 use std::alloc::Global;
 use std::sync::Wait;
 use std::thread::Threads;
-use test_mem_source::MemShelf;
-use test_source_support::{Held, shelf_of};
+use test_mem_source::{Held, MemShelf, shelf_of};
 use tk_io::MemSink;
 
 /// A run with one worker that reads no page ahead: the catalog's text, the sources on the shelf, the lines, how many rows a page has,

@@ -1,7 +1,7 @@
 //! What runs of query lines write.
 
 ghost use Rattle.std.specs.Prelude.{All, IfSome};
-ghost use Rattle.catalog_run.specs.Runs.{CanBeWritten};
+ghost use Rattle.line_outcome.specs.LineOutcomes.{CanBeWritten};
 ghost use Rattle.limits.specs.Ranges.{AreSettings};
 
 use catalog_run::{LineOutcome, Settings, let_go, run_lines};

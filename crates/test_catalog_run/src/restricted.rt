@@ -4,7 +4,7 @@ use super::cases::{Case, first_wrong, runs_over};
 use std::alloc::Global;
 use std::sync::Wait;
 use std::thread::Threads;
-use test_source_support::{Held, Kind, shelf_of};
+use test_mem_source::{Held, Kind, shelf_of};
 
 /// The two lists; the second offers random access alone.
 const CATALOG: &str = "name,place,random,sorted\nA,a,yes,yes\nB,b,yes,no\n";

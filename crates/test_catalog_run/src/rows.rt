@@ -1,7 +1,7 @@
 //! The outcomes of lines.
 
 use super::cases::{Case, first_wrong};
-use test_source_support::{Held, Kind};
+use test_mem_source::{Held, Kind};
 
 /// The first lists: their objects' grades don't rise.
 const A: &[(u32, u32)] = &[(1, 900), (2, 800), (3, 100)];

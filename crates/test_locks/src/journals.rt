@@ -1,8 +1,8 @@
 //! A journal that one pass writes, and that others read, all at once.
 
+use super::runs::{Outcome, bench, join_late, split_to_the_last_part};
 use std::test::Fail;
 use std::thread;
-use test_turn_lock_support::{Outcome, bench, join_late, split_to_the_last_part};
 
 const ENTRIES: u32 = 50;
 

@@ -5,7 +5,7 @@ use monotone_fn::Expr;
 use query_text::read;
 use ranked_list::MemList;
 use std::alloc::Global;
-use test_plain_ta::aggregate;
+use test_plain::aggregate;
 use test_support::{Lists, table_of};
 
 /// Whether objects of a table have these aggregates.

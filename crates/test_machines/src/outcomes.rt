@@ -1,16 +1,16 @@
 //! What is found on a table, and what is wanted.
 
 ghost use Rattle.std.specs.Prelude.{◌≤◌, IsTrue};
-ghost use Rattle.test_plain_ta.specs.Posed.{IsPosed};
+ghost use Rattle.test_plain.specs.Posed.{IsPosed};
 
 use monotone_fn::Expr;
 use query_text::{Algorithm, Costs, Query, read};
 use ranked_list::{Item, MemList, is_table};
 use std::alloc::Global;
-use test_plain_ca::{ca_answer, ca_depth, ca_run};
-use test_plain_fa::{fa_answer, fa_depth, fa_run};
-use test_plain_nra::{nra_answer, nra_depth, nra_run};
-use test_plain_ta::{ta_answer, ta_depth, ta_run};
+use test_plain::{
+    ca_answer, ca_depth, ca_run, fa_answer, fa_depth, fa_run, nra_answer, nra_depth, nra_run,
+    ta_answer, ta_depth, ta_run,
+};
 use test_support::{Lists, table_of};
 use topk_theory::Access;
 

@@ -4,7 +4,7 @@ use limits::TOP_GRADE;
 use monotone_fn::Expr;
 use query_text::read;
 use std::alloc::Global;
-use test_plain_nra::{high, low};
+use test_plain::{high, low};
 use topk_theory::Access;
 
 /// Accesses, an object, and its bounds after them.

@@ -1,10 +1,15 @@
-//! Ranked lists in memory behind calls that fail on demand: a source of rows, and the shelf of texts and sources.
+//! Ranked lists in memory behind calls that fail on demand: sources of rows, the shelf of texts and sources, and calls with what they are to
+//! answer, for the tests of several crates.
 #![tactic(auto)]
 
 mod edition;
+mod held;
 mod mem_shelf;
 mod source_in_memory;
+mod steps;
 
 pub use edition::Later;
+pub use held::{Held, Kind, Move, shelf_of, source_of};
 pub use mem_shelf::MemShelf;
 pub use source_in_memory::MemSource;
+pub use steps::{Step, first_wrong};

@@ -8,8 +8,8 @@ use std::sync::Wait;
 use std::sync::atomic::AtomicU64;
 use std::test::*;
 use std::thread::Threads;
-use test_pool_support::Pair;
-use test_source_support::{Held, Kind, source_of};
+use test_mem_source::{Held, Kind, source_of};
+use test_query_support::Pair;
 
 /// Three rows.
 const HELD: Held = Held {

@@ -8,9 +8,8 @@ use source_state::{Look, LookFault, SourceFault};
 use std::alloc::Global;
 use std::sync::Wait;
 use std::test::Fail;
-use test_mem_source::MemSource;
-use test_pool_support::{Desk, Step, first_wrong};
-use test_source_support::{Held, Kind, Move, source_of};
+use test_mem_source::{Held, Kind, MemSource, Move, source_of};
+use test_query_support::{Desk, Step, first_wrong};
 
 const ROWS: &[(u32, u32)] = &[(1, 900), (2, 800), (3, 100)];
 

@@ -8,9 +8,8 @@ use source_state::{Look, LookFault};
 use std::alloc::Global;
 use std::sync::Wait;
 use std::test::Fail;
-use test_mem_source::MemSource;
-use test_pool_support::{Desk, Step, first_wrong};
-use test_source_support::{Held, Kind, source_of};
+use test_mem_source::{Held, Kind, MemSource, source_of};
+use test_query_support::{Desk, Step, first_wrong};
 
 const TEN: &[(u32, u32)] = &[
     (1, 90),

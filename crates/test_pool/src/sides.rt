@@ -14,7 +14,7 @@ use std::sync::Wait;
 use std::sync::atomic::{AtomicU64, Ordering};
 use std::thread;
 use std::thread::{Threads, join_mut};
-use test_pool_support::{fetch_till_set, only};
+use test_query_support::{fetch_till_set, only};
 
 /// Looks for a row until it is there or can't be had, and counts the looks.
 fn wait_for(

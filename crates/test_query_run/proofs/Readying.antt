@@ -3,10 +3,10 @@ use Rattle.std.proofs.Common.{◌≡◌, ◌<◌, ◌∷◌, [], ℕ, List, leng
 use Rattle.atomic_table.specs.Seated.{TableId}
 use Rattle.source_pool.specs.Passes.{Feed, lock_at, feed_at, IsIdleOf, AreFeedersOf}
 use Rattle.query_core.specs.declared.ready.Ready.{Ready}
-use Rattle.query_turns.specs.Made.{IsReadyFor}
+use Rattle.query_run.specs.Made.{IsReadyFor}
 use Rattle.query_run.proofs.Opening.{opened_rests, opened_sources}
-use Rattle.test_pool_support.specs.declared.pair.Pair.{Pair}
-use Rattle.test_pool_support.specs.Pairs.{IsPair}
+use Rattle.test_query_support.specs.declared.pair.Pair.{Pair}
+use Rattle.test_query_support.specs.Pairs.{IsPair}
 use Rattle.test_query_run.specs.Running.{MayRun}
 
 pub may_run : (count : ℕ) (pair : Pair) (ready : Ready) → IsPair count pair → IsReadyFor (count ∷ count ∷ []) ready → MayRun pair.pool pair.pass ready

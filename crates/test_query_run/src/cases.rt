@@ -1,7 +1,7 @@
 //! Cases of one query as plain data, and whether it ends as it is to.
 
 ghost use Rattle.std.specs.Prelude.{◌≤◌, ◌∷◌, [], All};
-ghost use Rattle.query_turns.specs.Made.{IsReadyFor};
+ghost use Rattle.query_run.specs.Made.{IsReadyFor};
 
 use super::sides::ends_beside;
 use query_core::Ready;
@@ -9,9 +9,8 @@ use std::alloc::Global;
 use std::sync::Wait;
 use std::test::Fail;
 use std::thread::Threads;
-use test_mem_source::MemSource;
+use test_mem_source::{Held, MemSource, source_of};
 use test_query_support::{Asked, Expected, let_go, readies_of};
-use test_source_support::{Held, source_of};
 
 /// A query over two sources that are to have so many objects each, and how it ends.
 #[derive(Clone, Copy)]

@@ -2,8 +2,8 @@
 
 ghost use Rattle.std.specs.Prelude.{◌≡◌, ◌≤◌, ◌∷◌, []};
 ghost use Rattle.source_pool.specs.Passes.{IsIdleOf};
-ghost use Rattle.test_pool_support.specs.Pairs.{IsPair};
-ghost use Rattle.query_turns.specs.Made.{IsReadyFor};
+ghost use Rattle.test_query_support.specs.Pairs.{IsPair};
+ghost use Rattle.query_run.specs.Made.{IsReadyFor};
 ghost use Rattle.test_query_run.specs.Running.{MayRun};
 
 use fetcher::Stop;
@@ -14,8 +14,7 @@ use std::alloc::Global;
 use std::sync::Wait;
 use std::thread::{Threads, join_mut};
 use test_mem_source::MemSource;
-use test_pool_support::{Pair, fetch_till_set};
-use test_query_support::{Expected, has_ended_so};
+use test_query_support::{Expected, Pair, fetch_till_set, has_ended_so};
 
 /// The query's side: it runs the query, tells whether it ended as it is to, and sets the sign.
 fn ask(

@@ -5,11 +5,11 @@ use machine_base::CoreFault;
 use source_state::{LookFault, SourceFault};
 use std::process::Abort;
 use std::test::Fail;
+use test_mem_source::{Held, Kind};
 use test_query_support::{
     EARLY, EARLY_ENDS, Expected, FIRST, FIRST_ENDS, Figures, NEAR, NEAR_ENDS, RESTRICTED, SORTED,
     SORTED_ENDS,
 };
-use test_source_support::{Held, Kind};
 
 /// Two lists of three objects.
 const ROWS_A: &[(u32, u32)] = &[(1, 900), (2, 800), (3, 100)];

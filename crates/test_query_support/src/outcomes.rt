@@ -2,8 +2,8 @@
 
 use access_log::Transcript;
 use machine_base::{Answer, CoreFault};
+use query_run::{Ended, Endings, Memory};
 use query_text::Costs;
-use query_turns::{Ended, Endings, Memory};
 use source_state::LookFault;
 
 /// What the accesses of an answer come to, where each costs 1.

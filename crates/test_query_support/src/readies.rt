@@ -1,7 +1,7 @@
 //! Queries that are ready, from their texts.
 
 ghost use Rattle.std.specs.Prelude.{◌≡◌, ◌<◌, ◌≤◌, true, All, length, slice_index_or, IfSome};
-ghost use Rattle.query_turns.specs.Made.{IsReadyFor};
+ghost use Rattle.query_run.specs.Made.{IsReadyFor};
 ghost use Rattle.query_core.specs.Ready.{IsReady};
 
 use super::outcomes::Asked;

@@ -3,7 +3,7 @@
 use super::cases::{Case, RUN, Row, first_wrong};
 use super::none_is_wrong;
 use call_ends::Status;
-use test_source_support::{Held, Kind};
+use test_mem_source::{Held, Kind};
 
 /// Two lists of the same objects.
 const A: &[(u32, u32)] = &[(1, 900), (2, 800), (3, 100)];

@@ -6,7 +6,7 @@ use call_ends::Status;
 use std::alloc::Global;
 use std::sync::Wait;
 use std::thread::Threads;
-use test_source_support::{Held, Kind, Move, shelf_of};
+use test_mem_source::{Held, Kind, Move, shelf_of};
 
 /// Ways in which the source of a place differs from an honest one, each alone, and how the run ends and what it writes then.
 struct Calls {

@@ -6,8 +6,7 @@ use call_ends::Status;
 use std::alloc::Global;
 use std::sync::Wait;
 use std::thread::Threads;
-use test_mem_source::MemShelf;
-use test_source_support::{Held, shelf_of};
+use test_mem_source::{Held, MemShelf, shelf_of};
 
 /// The place of the catalog on the shelf.
 pub(crate) const CATALOG: &str = "cat.csv";

@@ -4,7 +4,7 @@ ghost use Rattle.std.specs.Prelude.{IfSome};
 ghost use Rattle.limits.specs.Ranges.{AreSettings};
 
 use call_ends::Status;
-use catalog_calls::run;
+use catalog_run::run;
 use command_words::{Command, RunOptions, read_command};
 use std::alloc::Global;
 use std::sync::Wait;

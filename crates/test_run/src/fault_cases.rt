@@ -7,8 +7,7 @@ use call_ends::Status;
 use std::alloc::Global;
 use std::sync::Wait;
 use std::thread::Threads;
-use test_mem_source::MemShelf;
-use test_source_support::{Held, shelf_of};
+use test_mem_source::{Held, MemShelf, shelf_of};
 
 /// A run: how many bytes each piece of its input has, which calls of it fail, for how many bytes there is room, how it ends, what it writes,
 /// and how many rows the source has given then.

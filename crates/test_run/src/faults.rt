@@ -3,7 +3,7 @@
 use super::fault_cases::{FaultyRun, FaultyShelf, first_wrong_fault};
 use super::none_is_wrong;
 use call_ends::Status;
-use test_source_support::{Held, Kind};
+use test_mem_source::{Held, Kind};
 
 const SOURCE: &Held = &Held {
     place: "a",

@@ -9,8 +9,8 @@ use Rattle.query_run.proofs.Opening.{opened_rests}
 use Rattle.catalog_text.specs.Catalog.{Listed as Entry}
 use Rattle.query_server.specs.declared.opened.OpenedEntry.{OpenedEntry}
 use Rattle.query_server.specs.Entries.{Openings, IsSized, AreEntriesOf, IsThere, MayAnswer}
-use Rattle.test_pool_support.specs.declared.pair.Pair.{Pair}
-use Rattle.test_pool_support.specs.Pairs.{IsPair}
+use Rattle.test_query_support.specs.declared.pair.Pair.{Pair}
+use Rattle.test_query_support.specs.Pairs.{IsPair}
 use Rattle.test_server.specs.Four.{four_entries}
 
 pub are_entries : (catalog : List Entry) (entries : List OpenedEntry) → length catalog ≡ 4 → entries ≡ four_entries → AreEntriesOf catalog entries

@@ -1,2 +1,4 @@
+-- The two lists have sources of their own.
+pub mod HomeLaws
 -- Lemmas on the four lists and their pool.
 mod Answering

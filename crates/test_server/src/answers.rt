@@ -1,7 +1,7 @@
 //! Query lines that come to an outcome.
 
 use super::none_is_wrong;
-use super::visits::{CLOSE, NO_QUERY, OK, Parts, first_other};
+use super::server_visits::{CLOSE, NO_QUERY, OK, Parts, first_other};
 
 /// The end of a head.
 const END: &[u8] = b" HTTP/1.1\r\nHost: h\r\n\r\n";

@@ -1,7 +1,7 @@
 //! A catalog of four lists, and a pool of the two sources that are open.
 
 ghost use Rattle.std.specs.Prelude.{◌≡◌, IfSome};
-ghost use Rattle.test_pool_support.specs.Pairs.{IsPair};
+ghost use Rattle.test_query_support.specs.Pairs.{IsPair};
 ghost use Rattle.query_server.specs.Entries.{MayAnswer};
 ghost use Rattle.source_pool.specs.Passes.{IsIdleOf};
 ghost use Rattle.test_server.specs.Four.{four_entries};
@@ -9,7 +9,7 @@ ghost use Rattle.test_server.specs.Four.{four_entries};
 use catalog_text::read_catalog;
 use query_server::{Opened, OpenedEntry};
 use std::alloc::Global;
-use test_pool_support::Pair;
+use test_query_support::Pair;
 
 /// Four lists: A and B are open, C isn't, and D is too large.
 const CATALOG: &[u8] = b"name,place,random\nA,a,yes\nB,b,yes\nC,c,yes\nD,d,yes\n";

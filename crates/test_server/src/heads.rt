@@ -1,6 +1,6 @@
 //! Requests that are refused by their heads, by the first cause.
 
-use super::visits::{
+use super::server_visits::{
     BAD, NO_HEAD, NO_QUERY, NOT_ALLOWED, NOT_FOUND, Parts, TOO_LARGE, comes_to, first_other,
 };
 use super::{holds, none_is_wrong};

@@ -1,7 +1,7 @@
 //! The first of five places with a grade above a bound.
 
 use super::none_is_wrong;
-use source_log::GradeTree;
+use source_state::GradeTree;
 use std::alloc::Global;
 
 /// Grades that are put under places or taken away, a bound, and the first place above it.

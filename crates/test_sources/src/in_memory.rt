@@ -4,8 +4,7 @@ use super::none_is_wrong;
 use ranked_list::Row;
 use source_api::{Counts, Trouble};
 use std::alloc::Global;
-use test_mem_source::MemSource;
-use test_source_support::{Step, first_wrong};
+use test_mem_source::{MemSource, Step, first_wrong};
 
 /// The rows of each source here.
 const ROWS: &[Row] = &[

@@ -1,10 +1,26 @@
-//! Tests of sources and shelves in memory, by their public calls.
+//! Tests of sources and shelves by their public calls: in memory, from list files, and over HTTP by dials in memory.
 #![tactic(auto)]
 
 #[cfg(test)]
+mod cut_short;
+#[cfg(test)]
+mod file_faults;
+#[cfg(test)]
+mod file_shelf;
+#[cfg(test)]
+mod http_versions;
+#[cfg(test)]
 mod in_memory;
 #[cfg(test)]
+mod link_faults;
+#[cfg(test)]
+mod list_files;
+#[cfg(test)]
+mod sessions;
+#[cfg(test)]
 mod shelves;
+#[cfg(test)]
+mod stepping;
 #[cfg(test)]
 mod versions;
 
@@ -15,4 +31,10 @@ use std::process::Abort;
 #[cfg(test)]
 fn none_is_wrong(rt: &impl Abort, first_wrong: Option<usize>) {
     assert_eq!(rt; first_wrong, None);
+}
+
+/// What a test asks holds.
+#[cfg(test)]
+fn holds(rt: &impl Abort, is_so: bool) {
+    assert!(rt; is_so);
 }

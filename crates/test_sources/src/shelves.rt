@@ -6,8 +6,7 @@ use super::none_is_wrong;
 use ranked_list::Row;
 use source_api::{Shelf, Source, Trouble};
 use std::alloc::Global;
-use test_mem_source::{MemShelf, MemSource};
-use test_source_support::{Step, first_wrong};
+use test_mem_source::{MemShelf, MemSource, Step, first_wrong};
 
 /// The rows at `a`.
 const ROWS: &[Row] = &[

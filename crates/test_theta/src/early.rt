@@ -6,9 +6,9 @@ use guarantee::{Guarantee, has_guarantee};
 use machine_base::Answer;
 use query_text::Algorithm;
 use std::alloc::Global;
+use ta_core::Early;
 use test_machine_driver::{asked, drive, let_go};
 use test_support::item_row;
-use theta_core::Early;
 
 /// A depth, what is wanted of a query that may stop from there on, and the guarantee `p / q`.
 type Row = (u32, Case, (u64, u64));

@@ -1,10 +1,15 @@
-//! Tests of the machines that stop within a factor and early, and of what their transcripts guarantee: tables worked out by hand.
+//! Tests of the machines that stop within a factor and early, and of the one over lists of which some can't be read in order: tables worked
+//! out by hand, what is read of them, what is answered or refused, and what transcripts guarantee.
 #![tactic(auto)]
 
+#[cfg(test)]
+mod answers;
 #[cfg(test)]
 mod cases;
 #[cfg(test)]
 mod early;
+#[cfg(test)]
+mod rows;
 #[cfg(test)]
 mod theta;
 

@@ -6,8 +6,8 @@ use guarantee::Guarantee;
 use machine_base::Answer;
 use query_text::Algorithm;
 use std::alloc::Global;
+use ta_core::Theta;
 use test_machine_driver::{asked, drive, let_go};
-use theta_core::Theta;
 
 /// A factor, and what is wanted of a query within it.
 type Row = (u32, u32, Case);

@@ -1,9 +1,10 @@
 //! Steps as plain data, taken where they are lawful.
 
 ghost use Rattle.std.specs.Prelude.{◌≡◌, true, All, OnSome};
-ghost use Rattle.query_turns.specs.Inquiries.{is_ended};
+ghost use Rattle.query_run.specs.Inquiries.{is_ended};
 
-use query_world::{Step, World};
+use super::step::Step;
+use super::world::World;
 use ranked_list::{PageRows, Row};
 use source_state::{FailKind, Plan};
 use std::alloc::Global;

@@ -1,13 +1,13 @@
 //! Worlds that are worked out by hand.
 
 ghost use Rattle.std.specs.Prelude.{◌<◌, ◌≤◌, ◌^◌, All, length};
-ghost use Rattle.query_turns.specs.Made.{IsReadyFor};
+ghost use Rattle.query_run.specs.Made.{IsReadyFor};
 
 use super::acts::{Act, Sources, take_act};
 use super::outcomes::{ends_of, world_of};
+use super::world::World;
 use limits::MAX_OBJECTS;
 use query_core::Ready;
-use query_world::World;
 use std::alloc::Global;
 use test_query_support::{Asked, Expected, are_small, let_go, readies_of};
 

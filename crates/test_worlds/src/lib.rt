@@ -1,4 +1,8 @@
-//! Tests of worlds: rows that were worked out by hand, and the one answer after every order of steps that are lawful.
+//! Worlds, and tests of them: sources and the queries that share them, over any list of steps.
+//!
+//! A step is a page, a grade, a miss, a fail or a move of one source, or a turn of one query. Whatever the steps are, and in whatever order they
+//! come, each query that is answered has the one answer of the tables that agree with what it read. The tests have rows that were worked out by
+//! hand.
 #![tactic(auto)]
 
 #[cfg(test)]
@@ -13,18 +17,22 @@ mod fails;
 mod faults;
 #[cfg(test)]
 mod grades;
+mod lawful;
+mod laws;
 #[cfg(test)]
 mod moves;
 #[cfg(test)]
 mod orders;
 #[cfg(test)]
 mod outcomes;
+mod step;
 #[cfg(test)]
 mod tables;
 #[cfg(test)]
 mod three;
 #[cfg(test)]
 mod trials;
+mod world;
 
 #[cfg(test)]
 use std::process::Abort;

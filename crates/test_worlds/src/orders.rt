@@ -1,15 +1,15 @@
 //! How queries end after every list of lawful steps.
 
 ghost use Rattle.std.specs.Prelude.{◌<◌, ◌≤◌, ◌^◌, All, length};
-ghost use Rattle.query_turns.specs.Made.{IsReadyFor};
+ghost use Rattle.query_run.specs.Made.{IsReadyFor};
 
 use super::acts::{Act, take_act};
 use super::none_is_wrong;
 use super::outcomes::{Ends, ends_of, world_of};
 use super::trials::{TRIALS, Trial};
+use super::world::World;
 use limits::MAX_OBJECTS;
 use query_core::Ready;
-use query_world::World;
 use std::alloc::Global;
 use test_query_support::{are_small, let_go, readies_of};
 

@@ -1,14 +1,14 @@
 //! How the queries of a world end.
 
 ghost use Rattle.std.specs.Prelude.{◌≡◌, ◌<◌, ◌≤◌, ◌^◌, true, All, length};
-ghost use Rattle.query_turns.specs.Inquiries.{is_ended};
-ghost use Rattle.query_turns.specs.Made.{IsReadyFor};
+ghost use Rattle.query_run.specs.Inquiries.{is_ended};
+ghost use Rattle.query_run.specs.Made.{IsReadyFor};
 
 use super::acts::{Sources, end_by_rounds};
+use super::world::World;
 use limits::MAX_OBJECTS;
 use query_core::Ready;
-use query_turns::{Ended, Endings};
-use query_world::World;
+use query_run::{Ended, Endings};
 use source_state::LookFault;
 use std::alloc::Global;
 use test_query_support::{Expected, is_ended_so, let_endings_go};

@@ -24,13 +24,13 @@ mod writer;
 
 pub use dial::Dial;
 pub use intake::Intake;
+pub use limits::Memory;
 pub use link::Link;
 pub use mem_dial::MemDial;
 pub use mem_intake::MemIntake;
 pub use mem_link::{Ended, MemLink, Share};
 pub use mem_port::MemPort;
 pub use mem_sink::MemSink;
-pub use memory::Memory;
 pub use net_dial::NetDial;
 pub use net_link::NetLink;
 pub use net_port::NetPort;

@@ -1,1 +1,5 @@
+-- What the source of a place is, and what a shelf of places is.
+pub mod Sources
+pub mod Shelved
+
 -- What contracts cite.

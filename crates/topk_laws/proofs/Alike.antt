@@ -17,11 +17,10 @@ use Rattle.cert_text.specs.declared.outcome.Outcome.TheVariants.{Answered, Refus
 use Rattle.query_core.specs.Methods.{method_with}
 use Rattle.query_core.specs.OneAnswer.{IsOverRoomWith, IsAnsweredWith}
 use Rattle.query_admission.specs.View.{View, AreTold, is_closed, is_large, differs, lacks_random, lacks_sorted, offers_sorted, unread_list, sorted_at, method_over, versions_at, size_stated, count_of}
-use Rattle.query_admission.specs.Causes.{most_queries, Cause, admission_causes, Over, ListsGive, RefusesFor, NoneOf, IsFirstOf}
+use Rattle.query_admission.specs.Causes.{most_queries, Cause, admission_causes, Over, ListsGive, RefusesFor, NoneOf, IsFirstOf, line_over}
 use Rattle.query_admission.specs.Admission.{RefusesLine}
 use Rattle.query_admission.specs.Becomes.{Becomes}
 use Rattle.query_admission.specs.declared.lists.Listed.{Listed}
-use Rattle.catalog_open.specs.Views.{line_over}
 
 -- what a list says of itself, without the number of its source
 abbrev pub plain : Listed → Listed

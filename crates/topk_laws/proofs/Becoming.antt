@@ -12,9 +12,9 @@ use Rattle.topk_theory.specs.Transcript.{list_at}
 use Rattle.topk_theory.proofs.AgreementLists.{contains_here, contains_there, member_of_all}
 use Rattle.machine_base.specs.declared.core_fault.CoreFault.TheVariants as core
 use Rattle.source_api.specs.Counting.{NoneFell}
-use Rattle.source_log.specs.declared.entry.FailKind.{FailKind}
-use Rattle.source_log.specs.declared.entry.FailKind.TheVariants as kind
-use Rattle.source_log.specs.declared.entry.SourceFault.TheVariants as fault
+use Rattle.source_state.specs.declared.entry.FailKind.{FailKind}
+use Rattle.source_state.specs.declared.entry.FailKind.TheVariants as kind
+use Rattle.source_state.specs.declared.entry.SourceFault.TheVariants as fault
 use Rattle.source_state.specs.declared.look.LookFault.{LookFault}
 use Rattle.source_state.specs.declared.look.LookFault.TheVariants as why
 use Rattle.source_state.specs.State.{State, state_at}
@@ -22,37 +22,38 @@ use Rattle.cert_text.specs.declared.outcome.Outcome.{Outcome}
 use Rattle.cert_text.specs.declared.outcome.Outcome.TheVariants.{Answered}
 use Rattle.query_core.specs.declared.ready.Ready.{Ready as ReadyQuery}
 use Rattle.query_admission.specs.View.{View}
-use Rattle.query_admission.specs.Causes.{most_queries, Cause, admission_causes}
+use Rattle.query_admission.specs.Causes.{most_queries, Cause, admission_causes, line_over}
 use Rattle.query_admission.specs.Admission.{IsAdmitted}
 use Rattle.query_admission.specs.Becomes.{Becomes}
 use Rattle.query_admission.proofs.Becoming.{answered_line, full_line, refused_line}
-use Rattle.query_turns.specs.declared.ended.Ended.{Ended}
-use Rattle.query_turns.specs.declared.ended.Ended.TheVariants as ended
-use Rattle.query_turns.specs.declared.ended.Refusal.TheVariants as refusal
-use Rattle.query_turns.specs.declared.inquiry.Inquiry.{Inquiry}
-use Rattle.query_turns.specs.Inquiries.{needed, source_needed, source_of}
-use Rattle.query_turns.specs.Causes.{IsAtFault, IsCause}
-use Rattle.query_turns.proofs.Serving.{of_some_list, source_there as needs_source}
+use Rattle.query_run.specs.declared.ended.Ended.{Ended}
+use Rattle.query_run.specs.declared.ended.Ended.TheVariants as ended
+use Rattle.query_run.specs.declared.ended.Refusal.TheVariants as refusal
+use Rattle.query_run.specs.declared.inquiry.Inquiry.{Inquiry}
+use Rattle.query_run.specs.Inquiries.{needed, source_needed, source_of}
+use Rattle.query_run.specs.Causes.{IsAtFault, IsCause}
+use Rattle.query_run.proofs.Serving.{of_some_list, source_there as needs_source}
 use Rattle.fetcher.specs.Moving.{TellsMove}
 use Rattle.query_core.specs.Machines.{state_of}
 use Rattle.batch_result.specs.Numbered.{counts_at, version_at}
-use Rattle.query_turns.specs.Endings.{EndsAs}
-use Rattle.query_turns.specs.Honest.{lists_of, IsOnItsRun}
-use Rattle.query_turns.specs.Kept.{IsServed}
-use Rattle.query_turns.specs.Made.{IsOf}
+use Rattle.query_run.specs.Endings.{EndsAs}
+use Rattle.query_run.specs.Honest.{lists_of, IsOnItsRun}
+use Rattle.query_run.specs.Kept.{IsServed}
+use Rattle.query_run.specs.Made.{IsOf}
 use Rattle.batch_result.specs.Batches.{IsSpared}
 use Rattle.batch_result.specs.Tables.{EndsOver}
 use Rattle.batch_result.specs.Using.{is_fail}
 use Rattle.batch_result.proofs.EndingLaws.{counted_for}
 use Rattle.batch_result.proofs.RunOverLists.{ends_over}
-use Rattle.catalog_open.specs.Views.{view_over, nothing_told, line_over}
+use Rattle.catalog_open.specs.Views.{view_over, nothing_told}
 use Rattle.catalog_open.specs.Entries.{entry_at}
 use Rattle.catalog_open.specs.Openings.{TroubleAt}
 use Rattle.catalog_open.specs.Wanted.{IsWanted}
 use Rattle.catalog_open.proofs.Moving.{moves_at, trouble_from}
 use Rattle.query_admission.specs.declared.line_outcome.LineOutcome.{LineOutcome}
-use Rattle.catalog_run.specs.Outcomes.{ended_outcome}
-use Rattle.catalog_run.specs.Runs.{CatalogRun, IsRun, IsLineRefused, IsLineRun, AreOutcomes}
+use Rattle.line_outcome.specs.Outcomes.{ended_outcome}
+use Rattle.catalog_run.specs.Runs.{CatalogRun, IsRun, IsLineRun, AreOutcomes}
+use Rattle.line_outcome.specs.LineOutcomes.{IsLineRefused}
 use Rattle.topk_laws.specs.Told.{view_told, ShelfTellsTables, AllBecome}
 use Rattle.topk_laws.proofs.Alike.{Alike, SameTold, becomes_alike, late_refused, none_alike, refused_alike, unseen_rows}
 use Rattle.catalog_run.proofs.Failing.{calls_behind, counted_back, refused_there, rose_faults, rose_garbles, rose_moves}

@@ -13,10 +13,10 @@ use Rattle.topk_theory.proofs.AgreementLists.{contains_here, contains_there}
 use Rattle.topk_theory.proofs.Counts.{count_first, count_le, count_no, count_none, count_yes}
 use Rattle.machine_base.specs.declared.core_fault.CoreFault.TheVariants as core
 use Rattle.source_api.specs.declared.counts.Counts.{Counts}
-use Rattle.source_log.specs.declared.entry.FailKind.{FailKind}
-use Rattle.source_log.specs.declared.entry.FailKind.TheVariants as kind
-use Rattle.source_log.specs.declared.entry.SourceFault.{SourceFault}
-use Rattle.source_log.specs.declared.entry.SourceFault.TheVariants as fault
+use Rattle.source_state.specs.declared.entry.FailKind.{FailKind}
+use Rattle.source_state.specs.declared.entry.FailKind.TheVariants as kind
+use Rattle.source_state.specs.declared.entry.SourceFault.{SourceFault}
+use Rattle.source_state.specs.declared.entry.SourceFault.TheVariants as fault
 use Rattle.source_state.specs.declared.look.LookFault.{LookFault}
 use Rattle.source_state.specs.declared.look.LookFault.TheVariants as why
 use Rattle.query_text.specs.declared.query.Query.{Query}
@@ -26,27 +26,28 @@ use Rattle.cert_text.specs.declared.refusal.Refusal.{Refusal}
 use Rattle.cert_text.specs.declared.refusal.Refusal.TheVariants.{NotOpened, Failed, Garbled, Moved}
 use Rattle.query_core.specs.declared.ready.Ready.{Ready as ReadyQuery}
 use Rattle.query_admission.specs.View.{View}
-use Rattle.query_admission.specs.Causes.{QueryLine, Cause, RefusesFor}
+use Rattle.query_admission.specs.Causes.{QueryLine, Cause, RefusesFor, line_over}
 use Rattle.query_admission.specs.Admission.{IsAdmitted}
-use Rattle.query_turns.specs.declared.ended.Ended.{Ended}
-use Rattle.query_turns.specs.declared.ended.Ended.TheVariants as ended
-use Rattle.query_turns.specs.declared.ended.Refusal.{Refusal as QueryRefusal}
-use Rattle.query_turns.specs.declared.ended.Refusal.TheVariants as refusal
-use Rattle.query_turns.specs.declared.inquiry.Inquiry.{Inquiry}
-use Rattle.query_turns.specs.Inquiries.{source_of, source_needed}
-use Rattle.query_turns.specs.Endings.{EndsAs}
-use Rattle.query_turns.specs.Made.{IsOf}
+use Rattle.query_run.specs.declared.ended.Ended.{Ended}
+use Rattle.query_run.specs.declared.ended.Ended.TheVariants as ended
+use Rattle.query_run.specs.declared.ended.Refusal.{Refusal as QueryRefusal}
+use Rattle.query_run.specs.declared.ended.Refusal.TheVariants as refusal
+use Rattle.query_run.specs.declared.inquiry.Inquiry.{Inquiry}
+use Rattle.query_run.specs.Inquiries.{source_of, source_needed}
+use Rattle.query_run.specs.Endings.{EndsAs}
+use Rattle.query_run.specs.Made.{IsOf}
 use Rattle.batch_result.specs.Numbered.{counts_at}
 use Rattle.batch_result.specs.Using.{IsFewFor, is_fail, is_refused_for}
 use Rattle.batch_result.proofs.EndingLaws.{counted_for}
 use Rattle.catalog_text.specs.Catalog.{Listed as Entry}
-use Rattle.catalog_open.specs.Views.{view_over, nothing_told, line_over}
+use Rattle.catalog_open.specs.Views.{view_over, nothing_told}
 use Rattle.catalog_open.specs.Entries.{entry_at}
 use Rattle.catalog_open.specs.Openings.{Used, used_at, put_back}
 use Rattle.catalog_open.proofs.Moving.{used_append}
 use Rattle.query_admission.specs.declared.line_outcome.LineOutcome.{LineOutcome}
-use Rattle.catalog_run.specs.Outcomes.{ended_outcome, source_refusal}
-use Rattle.catalog_run.specs.Runs.{CatalogRun, IsRun, IsLineRefused, IsLineRun, AreOutcomes}
+use Rattle.line_outcome.specs.Outcomes.{ended_outcome, source_refusal}
+use Rattle.catalog_run.specs.Runs.{CatalogRun, IsRun, IsLineRun, AreOutcomes}
+use Rattle.line_outcome.specs.LineOutcomes.{IsLineRefused}
 use Rattle.topk_laws.specs.Failures.{AreFew, RefusesFew, failed_list, is_place, is_refused_at, place_at, refused_at, says_failed, says_garbled}
 use Rattle.topk_laws.proofs.Becoming.{served_all, source_there, still_many, text_for}
 use Rattle.catalog_run.proofs.Failing.{faults_sum, garbles_sum, refused_there}

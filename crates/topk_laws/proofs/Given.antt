@@ -7,7 +7,7 @@ use Rattle.source_api.specs.declared.counts.Counts.{Counts}
 use Rattle.source_api.specs.Counting.{added, no_counts, raised}
 use Rattle.source_state.specs.State.{State, IsSound, state_at}
 use Rattle.source_state.specs.Looking.{reach_of}
-use Rattle.query_turns.specs.declared.inquiry.Inquiry.{Inquiry}
+use Rattle.query_run.specs.declared.inquiry.Inquiry.{Inquiry}
 use Rattle.fetcher.specs.Metering.{WentUp}
 use Rattle.fetcher.proofs.ReachLaws.{reach_within}
 use Rattle.limits.specs.declared.settings.Settings.{Settings}

@@ -10,7 +10,8 @@ use Rattle.query_admission.specs.declared.lists.Listed.{Listed}
 use Rattle.catalog_text.specs.Catalog.{Listed as Entry}
 use Rattle.catalog_open.specs.declared.opened.Opening.{Opening}
 use Rattle.catalog_open.specs.declared.opened.Opening.TheVariants.{Closed, Open}
-use Rattle.catalog_open.specs.Views.{entry_named, said_of, listed_at, view_over, nothing_told, line_over}
+use Rattle.catalog_open.specs.Views.{entry_named, said_of, listed_at, view_over, nothing_told}
+use Rattle.query_admission.specs.Causes.{line_over}
 use Rattle.catalog_open.specs.Entries.{entry_at, opening_at}
 use Rattle.topk_laws.specs.Answers.{is_sorted, method_in}
 

@@ -1,3 +1,5 @@
+-- Lemmas on what is read of a node's answers.
+mod ReadLaws
 -- Lemmas on the outcomes of lines, by what their sources told and counted.
 pub mod Alike
 pub mod ToldLists

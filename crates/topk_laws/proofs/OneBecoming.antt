@@ -38,7 +38,7 @@ use Rattle.query_admission.specs.Admission.{RefusesLine}
 use Rattle.query_admission.specs.Becomes.{AnswersLine, Becomes}
 use Rattle.query_admission.specs.declared.lists.Listed.{Listed}
 use Rattle.query_admission.proofs.Admitting.{read_once, lists_once}
-use Rattle.catalog_calls.specs.Running.{is_answer}
+use Rattle.catalog_run.specs.Running.{is_answer}
 use Rattle.topk_laws.proofs.OneReading.{two_splits, fault_once}
 
 -- what holds over the lists of a line's query holds over the same ones

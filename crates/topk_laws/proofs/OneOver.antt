@@ -25,27 +25,29 @@ use Rattle.query_admission.specs.Admission.{IsAdmitted}
 use Rattle.query_admission.specs.declared.lists.Listed.{Listed}
 use Rattle.query_admission.proofs.Positions.{nothing}
 use Rattle.query_admission.proofs.ReadyLists.{admitted_states}
-use Rattle.query_turns.specs.declared.ended.Ended.{Ended}
-use Rattle.query_turns.specs.declared.ended.Ended.TheVariants as ended
-use Rattle.query_turns.specs.declared.inquiry.Inquiry.{Inquiry}
-use Rattle.query_turns.specs.Inquiries.{source_of}
-use Rattle.query_turns.specs.Endings.{EndsAs, IsRight}
-use Rattle.query_turns.specs.Honest.{HasTable as HasQueryTable, lists_of}
-use Rattle.query_turns.specs.Kept.{IsServed, IsSourceOf}
-use Rattle.query_turns.specs.Made.{IsOf}
+use Rattle.query_run.specs.declared.ended.Ended.{Ended}
+use Rattle.query_run.specs.declared.ended.Ended.TheVariants as ended
+use Rattle.query_run.specs.declared.inquiry.Inquiry.{Inquiry}
+use Rattle.query_run.specs.Inquiries.{source_of}
+use Rattle.query_run.specs.Endings.{EndsAs, IsRight}
+use Rattle.query_run.specs.Honest.{HasTable as HasQueryTable, lists_of}
+use Rattle.query_run.specs.Kept.{IsServed, IsSourceOf}
+use Rattle.query_run.specs.Made.{IsOf}
 use Rattle.fetcher.specs.Telling.{TellsOf}
 use Rattle.batch_result.proofs.TableLaws.{states_sound, told_agrees}
 use Rattle.catalog_open.specs.declared.opened.Opening.{Opening}
 use Rattle.catalog_open.specs.declared.opened.Opening.TheVariants.{Closed, Open}
-use Rattle.catalog_open.specs.Views.{entry_named, said_of, listed_at, view_over, nothing_told, line_over}
+use Rattle.catalog_open.specs.Views.{entry_named, said_of, listed_at, view_over, nothing_told}
+use Rattle.query_admission.specs.Causes.{line_over}
 use Rattle.catalog_open.specs.Entries.{entry_at, opening_at, entry_told}
 use Rattle.catalog_open.specs.Wanted.{IsWanted}
 use Rattle.catalog_open.specs.Openings.{IsOpening, IsSource, IsToldAs}
 use Rattle.query_admission.specs.declared.line_outcome.LineOutcome.{LineOutcome}
 use Rattle.topk_laws.specs.Answers.{method_in, IsOneOverTold}
 use Rattle.topk_laws.proofs.InOrder.{ready_method}
-use Rattle.catalog_run.specs.Outcomes.{ended_outcome, look_refusal}
-use Rattle.catalog_run.specs.Runs.{CatalogRun, IsRun, IsLineRefused, IsLineRun, AreOutcomes}
+use Rattle.line_outcome.specs.Outcomes.{ended_outcome, look_refusal}
+use Rattle.catalog_run.specs.Runs.{CatalogRun, IsRun, IsLineRun, AreOutcomes}
+use Rattle.line_outcome.specs.LineOutcomes.{IsLineRefused}
 use Rattle.catalog_run.specs.OpenSources.{batch_over}
 use Rattle.topk_laws.specs.Told.{view_told}
 use Rattle.topk_laws.proofs.Becoming.{served_all}

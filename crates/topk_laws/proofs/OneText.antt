@@ -6,14 +6,13 @@ use Rattle.std.proofs.lemmas.List.Elements.{Contains-append_left}
 use Rattle.topk_theory.proofs.AgreementLists.{all_from_members, member_of_all}
 use Rattle.cert_text.specs.declared.refusal.Refusal.{Refusal}
 use Rattle.query_admission.specs.View.{View}
-use Rattle.query_admission.specs.Causes.{QueryLine, Cause, admission_causes, line_causes, RefusesFor, NoneOf}
-use Rattle.catalog_open.specs.Views.{line_over}
+use Rattle.query_admission.specs.Causes.{QueryLine, Cause, admission_causes, line_causes, RefusesFor, NoneOf, line_over}
 use Rattle.catalog_open.specs.Entries.{entry_told}
 use Rattle.query_admission.specs.declared.line_outcome.LineOutcome.{LineOutcome}
 use Rattle.catalog_run.specs.Runs.{CatalogRun}
 use Rattle.topk_laws.specs.Told.{AllBecome, ShelfTellsTables, told_listed, view_told}
 use Rattle.topk_laws.proofs.ToldLists.{rows_of, known_places, named_wanted, admitted_few, names_told}
-use Rattle.catalog_calls.specs.Running.{is_answer, outcomes_text, run_status}
+use Rattle.catalog_run.specs.Running.{is_answer, outcomes_text, run_status}
 use Rattle.topk_laws.specs.RunLaws.{ComeTo}
 use Rattle.call_ends.specs.declared.status.Status.{Status}
 use Rattle.call_ends.specs.declared.status.Status.TheVariants.{Done, Partial}

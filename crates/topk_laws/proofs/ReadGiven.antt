@@ -11,7 +11,7 @@ use Rattle.source_state.specs.Looking.{reach_of}
 use Rattle.source_api.specs.declared.counts.Counts.{Counts}
 use Rattle.source_api.specs.Counting.{no_counts}
 use Rattle.query_core.specs.declared.ready.Ready.{Ready as ReadyQuery}
-use Rattle.query_turns.specs.declared.inquiry.Inquiry.{Inquiry}
+use Rattle.query_run.specs.declared.inquiry.Inquiry.{Inquiry}
 use Rattle.fetcher.proofs.ReachLaws.{reach_more, reach_within}
 use Rattle.limits.specs.declared.settings.Settings.{Settings}
 use Rattle.batch_result.specs.Account.{IsAnsweredOf, IsWithin, Reading, deepest, one_readings, printed_readings}

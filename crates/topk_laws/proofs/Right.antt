@@ -19,18 +19,19 @@ use Rattle.query_core.specs.Methods.{IsGoodBy}
 use Rattle.query_core.specs.Ready.{method_of_ready}
 use Rattle.query_core.specs.OneAnswer.{asked_by, IsAnsweredWith}
 use Rattle.query_admission.specs.View.{View}
-use Rattle.query_turns.specs.declared.ended.Ended.{Ended}
-use Rattle.query_turns.specs.declared.ended.Ended.TheVariants as ended
-use Rattle.query_turns.specs.declared.inquiry.Inquiry.{Inquiry}
-use Rattle.query_turns.specs.Endings.{IsRight}
+use Rattle.query_run.specs.declared.ended.Ended.{Ended}
+use Rattle.query_run.specs.declared.ended.Ended.TheVariants as ended
+use Rattle.query_run.specs.declared.inquiry.Inquiry.{Inquiry}
+use Rattle.query_run.specs.Endings.{IsRight}
 use Rattle.query_admission.specs.declared.line_outcome.LineOutcome.{LineOutcome}
 use Rattle.catalog_text.specs.Catalog.{Listed as Entry}
 use Rattle.catalog_open.specs.Views.{view_over, nothing_told}
 use Rattle.topk_laws.specs.Answers.{method_in, IsGoodAsPrinted, IsRightLine}
 use Rattle.topk_laws.proofs.Good.{written_back}
 use Rattle.topk_laws.proofs.InOrder.{ready_method}
-use Rattle.catalog_run.specs.Outcomes.{ended_outcome, look_refusal}
-use Rattle.catalog_run.specs.Runs.{CatalogRun, IsRun, IsLineRefused, IsLineRun, AreOutcomes}
+use Rattle.line_outcome.specs.Outcomes.{ended_outcome, look_refusal}
+use Rattle.catalog_run.specs.Runs.{CatalogRun, IsRun, IsLineRun, AreOutcomes}
+use Rattle.line_outcome.specs.LineOutcomes.{IsLineRefused}
 
 pub refused_answered : (refusal : Refusal) (answer : Answer) → Refused refusal ≡ Answered answer → ⊥
 refused_answered refusal answer e = cc

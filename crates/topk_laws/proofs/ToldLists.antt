@@ -14,20 +14,20 @@ use Rattle.query_text.specs.declared.query.Query.{Query}
 use Rattle.query_text.specs.Reading.{Reads}
 use Rattle.query_core.specs.declared.ready.Ready.{Ready as ReadyQuery}
 use Rattle.query_admission.specs.View.{count_of}
-use Rattle.query_admission.specs.Causes.{most_queries, admission_causes}
+use Rattle.query_admission.specs.Causes.{most_queries, admission_causes, line_over}
 use Rattle.query_admission.specs.Admission.{IsAdmitted}
 use Rattle.query_admission.specs.declared.lists.Listed.{Listed}
-use Rattle.query_turns.specs.declared.inquiry.Inquiry.{Inquiry}
-use Rattle.query_turns.specs.Made.{IsOf}
-use Rattle.query_turns.specs.Honest.{HasTable as HasQueryTable, IsOnItsRun}
-use Rattle.query_turns.proofs.Lists.{zip_member}
+use Rattle.query_run.specs.declared.inquiry.Inquiry.{Inquiry}
+use Rattle.query_run.specs.Made.{IsOf}
+use Rattle.query_run.specs.Honest.{HasTable as HasQueryTable, IsOnItsRun}
+use Rattle.query_run.proofs.Lists.{zip_member}
 use Rattle.batch_result.specs.Batches.{BatchState, IsBatch, BatchRun}
 use Rattle.batch_result.specs.Numbered.{counts_at}
 use Rattle.batch_result.specs.Tables.{NoneMoved}
 use Rattle.catalog_text.specs.Catalog.{Listed as Entry}
 use Rattle.catalog_open.specs.declared.opened.Opening.{Opening}
 use Rattle.catalog_open.specs.declared.opened.Opening.TheVariants.{Closed, Open}
-use Rattle.catalog_open.specs.Views.{entry_named, said_of, listed_at, view_over, nothing_told, line_over}
+use Rattle.catalog_open.specs.Views.{entry_named, said_of, listed_at, view_over, nothing_told}
 use Rattle.catalog_open.specs.Entries.{entry_at, opening_at, entry_told}
 use Rattle.catalog_open.specs.Wanted.{IsWanted}
 use Rattle.catalog_open.specs.Openings.{Sources, IsOpening, IsSource, IsToldAs, IsNumbered}

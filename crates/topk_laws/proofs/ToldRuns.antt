@@ -19,8 +19,8 @@ use Rattle.query_admission.specs.declared.line_outcome.LineOutcome.{LineOutcome}
 use Rattle.catalog_run.specs.Runs.{CatalogRun, IsRun}
 use Rattle.call_ends.specs.Calls.{Call, WroteWhole}
 use Rattle.call_ends.specs.Shelves.{Shelf, AsksText, GivesText}
-use Rattle.catalog_calls.specs.Running.{lines_run}
-use Rattle.catalog_calls.specs.RunEnds.{EndsRunning, LinesReplied, from_shelf}
+use Rattle.catalog_run.specs.Running.{lines_run}
+use Rattle.catalog_run.specs.RunEnds.{EndsRunning, LinesReplied, from_shelf}
 use Rattle.topk_laws.specs.RunLaws.{TellsAll, ComeTo, WritesTheOne, ToldRunsWriteTheOne, TellTheSame, WroteTheSame, SettingsChangeNothing}
 use Rattle.call_ends.specs.declared.status.Status.{Status}
 use Rattle.call_ends.specs.declared.status.Status.TheVariants.{Done, Partial, BadWords, BadCatalog, ReadFault, WriteFault, OpenFault, PortFault, Memory, LongInput, BadInput}

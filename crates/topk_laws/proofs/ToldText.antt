@@ -8,8 +8,8 @@ use Rattle.catalog_text.proofs.Exclusion.{broken_is_none, repeated_is_none}
 use Rattle.command_words.specs.declared.running.RunOptions.{RunOptions}
 use Rattle.call_ends.specs.Calls.{Call}
 use Rattle.call_ends.specs.Shelves.{Shelf, GivesText}
-use Rattle.catalog_calls.specs.Running.{RefusesCatalog}
-use Rattle.catalog_calls.specs.RunEnds.{EndsRunning}
+use Rattle.catalog_run.specs.Running.{RefusesCatalog}
+use Rattle.catalog_run.specs.RunEnds.{EndsRunning}
 use Rattle.topk_laws.specs.RunLaws.{TurnsAway, WrongCatalogsAreRefused}
 use Rattle.call_ends.specs.declared.status.Status.{Status}
 use Rattle.call_ends.specs.declared.status.Status.TheVariants.{Done, Partial, BadWords, BadCatalog, ReadFault, WriteFault, OpenFault, PortFault, Memory, LongInput, BadInput}

@@ -9,7 +9,7 @@ use Rattle.query_text.specs.declared.algorithm.Algorithm.{Algorithm}
 use Rattle.query_text.specs.declared.algorithm.Algorithm.TheVariants.{Ta, Nra, Ca, Fa, Theta, Early, Taz}
 use Rattle.query_core.specs.declared.ready.Ready.{Ready as ReadyQuery}
 use Rattle.query_admission.specs.View.{View, lacks_sorted, unread_list, sorted_at}
-use Rattle.query_admission.specs.Causes.{QueryLine}
+use Rattle.query_admission.specs.Causes.{QueryLine, line_over}
 use Rattle.query_admission.specs.Admission.{IsAdmitted}
 use Rattle.query_admission.specs.declared.lists.Listed.{Listed}
 use Rattle.query_admission.proofs.Positions.{nothing}
@@ -17,7 +17,7 @@ use Rattle.query_admission.proofs.ReadyLists.{admitted_sorts, admitted_states}
 use Rattle.batch_result.specs.Account.{AsksGradesAlone, IsReadByGrades}
 use Rattle.batch_result.specs.Batches.{BatchRun, BatchState, IsBatch, use_at}
 use Rattle.batch_result.specs.Numbered.{counts_at}
-use Rattle.catalog_open.specs.Views.{listed_at, view_over, nothing_told, line_over}
+use Rattle.catalog_open.specs.Views.{listed_at, view_over, nothing_told}
 use Rattle.catalog_open.specs.Entries.{entry_at, opening_at}
 use Rattle.query_admission.specs.declared.line_outcome.LineOutcome.{LineOutcome}
 use Rattle.catalog_run.specs.OpenSources.{batch_over}

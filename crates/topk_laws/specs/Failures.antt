@@ -1,6 +1,5 @@
 -- What stands behind the refusals of lists that failed: the counts of their places on the shelf.
-use Rattle.std.specs.Prelude.{◌≡◌, ◌≤◌, ◌⊎◌, ◌*◌, ◌-◌, ◌^◌, ◌&&◌, ℕ, Bool, true, false}
-use Rattle.std.specs.Prelude.{List, Option, None, Some, option_map, slice_get, slice_index_or, count_by}
+use Rattle.std.specs.Prelude.{◌≡◌, ◌≤◌, ◌⊎◌, ◌*◌, ◌-◌, ◌^◌, ◌&&◌, ℕ, Bool, true, false, List, Option, None, Some, option_map, slice_get, slice_index_or, count_by}
 use Rattle.std.specs.Option.{option_and_then}
 use Rattle.std.specs.Str.{bytes_eq}
 use Rattle.tk_io.specs.Faults.{Rose}

@@ -7,7 +7,7 @@ use Rattle.source_api.specs.declared.counts.Counts.{Counts}
 use Rattle.source_api.specs.declared.ledger.PlaceCounts.{PlaceCounts}
 use Rattle.source_state.specs.Looking.{reach_of}
 use Rattle.fetcher.specs.Metering.{WentUp}
-use Rattle.query_turns.specs.declared.inquiry.Inquiry.{Inquiry}
+use Rattle.query_run.specs.declared.inquiry.Inquiry.{Inquiry}
 use Rattle.limits.specs.declared.settings.Settings.{Settings}
 use Rattle.batch_result.specs.Account.{IsAnsweredOf, Reading, deepest, one_readings, printed_readings, random_accesses}
 use Rattle.batch_result.specs.Batches.{size_at}

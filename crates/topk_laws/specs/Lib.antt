@@ -1,3 +1,5 @@
+-- What is read of a node's answers.
+pub mod ReadBack
 -- What the laws of runs of query lines say.
 pub mod Told
 pub mod Failures

@@ -15,8 +15,8 @@ use Rattle.topk_laws.specs.Failures.{RefusesFew}
 use Rattle.topk_laws.specs.Giving.{EachGaveSparingly, EachPlaceRose}
 use Rattle.call_ends.specs.Calls.{Call, WroteWhole, input_limit}
 use Rattle.call_ends.specs.Shelves.{Shelf, TextFailed}
-use Rattle.catalog_calls.specs.Running.{RefusesCatalog, RepliesToLines, outcomes_text, lines_run, run_status}
-use Rattle.catalog_calls.specs.RunEnds.{EndsRunning}
+use Rattle.catalog_run.specs.Running.{RefusesCatalog, RepliesToLines, outcomes_text, lines_run, run_status}
+use Rattle.catalog_run.specs.RunEnds.{EndsRunning}
 use Rattle.call_ends.specs.declared.status.Status.{Status}
 use Rattle.call_ends.specs.declared.status.Status.TheVariants.{BadCatalog, Memory}
 use Rattle.call_ends.specs.declared.status.Status.TheVariants.{WriteFault, OpenFault}

@@ -7,11 +7,11 @@ use Rattle.ranked_list.specs.Table.{IsTable}
 use Rattle.query_text.specs.declared.query.Query.{Query}
 use Rattle.query_text.specs.Reading.{Reads}
 use Rattle.query_admission.specs.View.{View, AreTold}
-use Rattle.query_admission.specs.Causes.{QueryLine, admission_causes, RefusesFor, NoneOf}
+use Rattle.query_admission.specs.Causes.{QueryLine, admission_causes, RefusesFor, NoneOf, line_over}
 use Rattle.query_admission.specs.Becomes.{Becomes}
 use Rattle.query_admission.specs.declared.lists.Listed.{Listed}
 use Rattle.catalog_text.specs.Catalog.{Listed as Entry}
-use Rattle.catalog_open.specs.Views.{entry_named, line_over}
+use Rattle.catalog_open.specs.Views.{entry_named}
 use Rattle.catalog_open.specs.Entries.{entry_at, entry_told}
 use Rattle.catalog_open.specs.Wanted.{IsWanted}
 use Rattle.catalog_open.specs.Openings.{TroubleAt}

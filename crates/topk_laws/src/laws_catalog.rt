@@ -2,7 +2,7 @@
 
 ghost use Rattle.std.specs.Prelude.{ℕ, List, All};
 ghost use Rattle.ranked_list.specs.declared.row.Row.{Row};
-ghost use Rattle.query_turns.specs.Causes.{IsRefusedForCause};
+ghost use Rattle.query_run.specs.Causes.{IsRefusedForCause};
 ghost use Rattle.query_admission.specs.declared.line_outcome.LineOutcome.{LineOutcome as AnyOutcome};
 ghost use Rattle.catalog_run.specs.Runs.{CatalogRun, IsRun};
 ghost use Rattle.topk_laws.specs.Told.{AllBecome, ShelfTellsTables, view_told};

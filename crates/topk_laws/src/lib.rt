@@ -1,12 +1,13 @@
 //! Laws of the commands: what follows of their contracts alone, by which each top call ends, for every input, whatever sources it reads.
 //!
-//! Those on runs over a catalog say which outcomes lines have where the sources tell tables, what stands behind refusals, and
-//! how much the sources give.
+//! Those on runs over a catalog say which outcomes lines have where the sources tell tables, what stands behind refusals, and how much the
+//! sources give. In a further one a node and a source over its host meet: what the source reads is what the node's list tells.
 #![tactic(auto)]
 
 mod laws;
 mod laws_catalog;
 mod laws_run;
+mod node_law;
 
 pub use laws::{answers_are_fixed, counters_are_bundles, limits_are_stated};
 pub use laws_catalog::{
@@ -17,3 +18,4 @@ pub use laws_run::{
     replies_are_sparing, settings_change_nothing, told_runs_write_the_one_text,
     wrong_catalogs_are_refused,
 };
+pub use node_law::a_node_is_read_back;

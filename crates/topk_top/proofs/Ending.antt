@@ -8,8 +8,8 @@ use Rattle.call_ends.specs.Calls.{Call, KeepsShelf, LeftAlone, WroteNothing}
 use Rattle.call_ends.specs.Ends.{Says}
 use Rattle.call_ends.specs.declared.status.Status.{Status}
 use Rattle.call_ends.specs.declared.status.Status.TheVariants.{BadWords, Memory}
-use Rattle.catalog_calls.proofs.RunEnding.{asks_kept}
-use Rattle.node_calls.specs.Ports.{Ports, KeepsPort}
+use Rattle.catalog_run.proofs.RunEnding.{asks_kept}
+use Rattle.port_calls.specs.Ports.{Ports, KeepsPort}
 use Rattle.call_ends.proofs.Ending.{read_none}
 
 -- what is said where words are refused ends so

@@ -4,11 +4,11 @@ use Rattle.command_words.specs.Commands.{command_of}
 use Rattle.command_words.specs.declared.command.Command.{Command}
 use Rattle.command_words.specs.declared.command.Command.TheVariants.{One, Judge, Compare, Make, Run, Bulk, Node, Serve}
 use Rattle.call_ends.specs.Calls.{Call, LeftAlone, KeepsShelf, WroteNothing, WroteWhole, WroteFront}
-use Rattle.catalog_calls.specs.RunEnds.{EndsRunning}
+use Rattle.catalog_run.specs.RunEnds.{EndsRunning}
 use Rattle.bulk_run.specs.Bulk.{bulk_text}
-use Rattle.node_calls.specs.Ports.{Ports, KeepsPort}
-use Rattle.node_calls.specs.NodeEnds.{EndsNode}
-use Rattle.serve_calls.specs.ServeEnds.{EndsServe}
+use Rattle.port_calls.specs.Ports.{Ports, KeepsPort}
+use Rattle.port_calls.specs.NodeEnds.{EndsNode}
+use Rattle.port_calls.specs.ServeEnds.{EndsServe}
 use Rattle.call_ends.specs.Codes.{exit_code}
 use Rattle.bundle_calls.specs.Made.{made_text}
 use Rattle.bundle_calls.specs.Reply.{Replies}

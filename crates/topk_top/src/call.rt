@@ -2,16 +2,15 @@
 
 ghost use Rattle.std.specs.Prelude.{◌≤◌};
 ghost use Rattle.call_ends.specs.Calls.{call_of};
-ghost use Rattle.node_calls.specs.Ports.{ports_of};
+ghost use Rattle.port_calls.specs.Ports.{ports_of};
 ghost use Rattle.topk_top.specs.Ends.{CallEnds};
 
 use bulk_run::bulk;
 use bundle_calls::{compare, judge, make, one};
 use call_ends::{Status, say};
-use catalog_calls::run;
+use catalog_run::run;
 use command_words::{Command, Words, WordsFault, read_command};
-use node_calls::node;
-use serve_calls::serve;
+use port_calls::{node, serve};
 use source_api::Shelf;
 use std::alloc::Global;
 use std::sync::Wait;

@@ -2,7 +2,7 @@
 
 ghost use Rattle.std.specs.Prelude.{List, ℕ};
 ghost use Rattle.call_ends.specs.Calls.{call_of};
-ghost use Rattle.node_calls.specs.Ports.{ports_of};
+ghost use Rattle.port_calls.specs.Ports.{ports_of};
 ghost use Rattle.topk_top.specs.Ends.{ExitsBy};
 
 use super::call::top;

@@ -7,3 +7,5 @@ mod ReplyLaws
 mod StepLaws
 pub mod ToldLaws
 mod WritingLaws
+pub mod TargetLaws
+pub mod QueryLaws

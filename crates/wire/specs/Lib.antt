@@ -8,3 +8,6 @@ pub mod Steps
 pub mod Told
 pub mod Wording
 pub mod Writing
+-- What targets and query parts say.
+pub mod Targets
+pub mod Queries

@@ -1,7 +1,8 @@
-//! Messages of HTTP/1.1 over links, one in each direction: the head of a request, and a response with its body.
+//! The text of HTTP/1.1: requests and responses over links, one message in each direction, and what a request's target names.
 //!
-//! The heads and the lines of chunks are those of the grammar of `httparse` (RFC 9112), the framing of a
-//! body is that of RFC 9112, section 6.3.
+//! The heads and the lines of chunks are those of the grammar of `httparse` (RFC 9112), the framing of a body is that of RFC 9112, section 6.3.
+//! A target stands in origin form, as `/lists/A/size`, or in absolute form, as `http://host/lists/A/size` (RFC 9112, section 3.2); its query
+//! part is read as a form (`application/x-www-form-urlencoded`), by the grammar of `form_urlencoded`.
 #![tactic(auto)]
 
 mod chunks;
@@ -11,13 +12,18 @@ mod found;
 mod framing;
 mod laws;
 mod lines;
+mod query;
 mod request;
 mod response;
+mod target;
 mod writing;
 
 pub use fault::WireFault;
 pub use framing::Framing;
 pub use laws::{a_reply_is_the_only_answer, a_request_is_the_only_answer};
+pub use limits::Memory;
+pub use query::{number_in, value_in};
 pub use request::{Head, read_request};
 pub use response::{Reply, read_response};
+pub use target::{Target, read_target};
 pub use writing::{Kind, Place, write_reply, write_request};

@@ -1,7 +1,7 @@
 use Rattle.std.proofs.Common.{sym, ap, subst, ◌∙◌, arith}
 use Rattle.source_pool.specs.Closed.{HaveAll, AreClosed}
 use Rattle.batch_result.specs.Batches.{IsBatch, batch_of}
-use Rattle.batch_sides.specs.Slots.{states_of}
+use Rattle.batch_run.specs.Slots.{states_of}
 use Rattle.batch_run.specs.Finishing.{slots_run}
 use Rattle.batch_run.specs.Crews.{Rejoins}
 use Rattle.batch_run.proofs.SlotLaws.{states_long}

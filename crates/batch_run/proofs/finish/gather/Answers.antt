@@ -1,6 +1,6 @@
 use Rattle.std.proofs.Common.{◌≡◌, ◌<◌, ◌%◌, ◌+◌, ◌++◌, ◌∷◌, [], length, set, slice_index_or, sym, ap, subst, ◌∙◌, arith}
 use Rattle.std.proofs.Math.Nat.{mod-lt}
-use Rattle.batch_sides.specs.declared.work.Worker.{Worker}
+use Rattle.batch_run.specs.declared.work.Worker.{Worker}
 use Rattle.batch_run.proofs.GatherLaws.{GatheredTo, has_next, gathered_step}
 use Rattle.batch_result.proofs.Places.{map_set}
 use Rattle.batch_run.proofs.finish.gather.Goals as goal

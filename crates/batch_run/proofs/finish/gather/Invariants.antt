@@ -1,6 +1,6 @@
 use Rattle.std.proofs.Common.{◌≡◌, ◌≤◌, List, length, map, vec_len, vec_capacity}
-use Rattle.query_turns.specs.declared.ended.Ended.{Ended}
-use Rattle.batch_sides.specs.declared.work.Worker.{Worker}
+use Rattle.query_run.specs.declared.ended.Ended.{Ended}
+use Rattle.batch_run.specs.declared.work.Worker.{Worker}
 use Rattle.batch_run.specs.Finishing.{AreShares}
 use Rattle.batch_run.proofs.GatherLaws.{GatheredTo}
 use Rattle.batch_run.proofs.finish.gather.Given as goal

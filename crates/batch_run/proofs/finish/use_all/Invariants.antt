@@ -1,6 +1,6 @@
 use Rattle.std.proofs.Common.{◌≡◌, ◌≤◌, ◌<◌, ℕ, length, vec_len, vec_capacity}
 use Rattle.source_state.specs.State.{state_at}
-use Rattle.batch_sides.specs.Slots.{states_of, slot_at}
+use Rattle.batch_run.specs.Slots.{states_of, slot_at}
 use Rattle.batch_result.specs.Batches.{use_at}
 use Rattle.batch_run.specs.Finishing.{UsedOf}
 use Rattle.batch_run.proofs.finish.use_all.Given as goal

@@ -1,6 +1,6 @@
 use Rattle.topk_theory.proofs.AgreementLists.{member_of_all}
 use Rattle.source_pool.specs.Passes.{IsPassOf}
-use Rattle.batch_sides.specs.declared.work.Worker.{Worker}
+use Rattle.batch_run.specs.declared.work.Worker.{Worker}
 use Rattle.batch_run.proofs.JoinLaws.{last_left, rejoined_more}
 use Rattle.batch_run.proofs.joining.rejoin.Goals as goal
 

@@ -1,6 +1,6 @@
 use Rattle.std.proofs.Common.{length, refl, sym, subst, ◌∙◌}
 use Rattle.batch_result.specs.Batches.{IsBatch}
-use Rattle.batch_sides.specs.Slots.{states_of}
+use Rattle.batch_run.specs.Slots.{states_of}
 use Rattle.batch_run.specs.Finishing.{slots_run, CanFinish}
 use Rattle.batch_run.proofs.RunLaws.{run_is, kept_lists, kept_versions, kept_counts, counts_same}
 use Rattle.batch_run.proofs.run.run_all.Goals as goal

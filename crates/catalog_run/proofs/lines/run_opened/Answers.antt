@@ -1,5 +1,5 @@
 use Rattle.std.proofs.Common.{rules, All, map, refl, sym, subst}
-use Rattle.query_turns.specs.Made.{IsReadyFor}
+use Rattle.query_run.specs.Made.{IsReadyFor}
 use Rattle.catalog_open.specs.Admissions.{AreAdmitted}
 use Rattle.catalog_open.specs.Views.{view_over, nothing_told}
 use Rattle.catalog_open.specs.Entries.{IsMarked}

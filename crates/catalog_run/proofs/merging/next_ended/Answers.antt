@@ -1,6 +1,7 @@
 use Rattle.std.proofs.lemmas.Result.{IfOk-weaker}
 use Rattle.catalog_open.specs.declared.admissions.Stage.TheVariants.{Ready}
-use Rattle.catalog_run.specs.Merging.{IsEndedAs, Nexts}
+use Rattle.catalog_run.specs.Merging.{Nexts}
+use Rattle.line_outcome.specs.LineOutcomes.{IsEndedAs}
 use Rattle.catalog_run.proofs.merging.next_ended.Goals as goal
 
 pub returns : goal.returns

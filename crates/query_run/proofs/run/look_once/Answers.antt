@@ -2,7 +2,7 @@ use Rattle.std.proofs.Common.{ℕ, sym, ap, subst, ◌∙◌, arith}
 use Rattle.ranked_list.specs.declared.need.Need.{Need}
 use Rattle.source_pool.specs.Looks.{MayLookFor}
 use Rattle.source_pool.specs.Passes.{hold_at}
-use Rattle.query_turns.specs.Inquiries.{list_needed}
+use Rattle.query_run.specs.Inquiries.{list_needed}
 use Rattle.query_run.proofs.Steps.{place_of, source_read, at_need, looked_may, looks_once}
 use Rattle.query_run.proofs.run.look_once.Goals as goal
 

@@ -1,6 +1,6 @@
 use Rattle.std.proofs.Common.{sym, ◌∙◌}
 use Rattle.std.proofs.lemmas.Result.{IfOk-weaker}
-use Rattle.query_turns.specs.Endings.{EndsAs, IsRight}
+use Rattle.query_run.specs.Endings.{EndsAs, IsRight}
 use Rattle.query_run.specs.Ran.{Ran}
 use Rattle.query_run.proofs.Stops.{fresh_reads, ran, ran_right}
 use Rattle.query_run.proofs.run.run_query_by.Goals as goal

@@ -1,7 +1,7 @@
 use Rattle.std.proofs.Common.{subst}
 use Rattle.std.proofs.lemmas.Result.{IfOk-weaker}
 use Rattle.query_admission.specs.Admission.{Admits}
-use Rattle.catalog_open.specs.Views.{line_over}
+use Rattle.query_admission.specs.Causes.{line_over}
 use Rattle.query_server.specs.Entries.{view_in, HasSources}
 use Rattle.query_server.specs.Becoming.{RunsTo, BecomesHere}
 use Rattle.query_server.proofs.PassLaws.{knows_same, may_still}

@@ -1,6 +1,5 @@
 use Rattle.std.proofs.lemmas.Result.{IfOk-weaker}
-use Rattle.catalog_run.specs.Merging.{IsEndedAs}
-use Rattle.catalog_run.specs.Runs.{CanBeWritten}
+use Rattle.line_outcome.specs.LineOutcomes.{IsEndedAs, CanBeWritten}
 use Rattle.query_server.specs.Becoming.{RunsTo}
 use Rattle.query_server.proofs.PassLaws.{knows_on}
 use Rattle.query_server.proofs.LineLaws.{runs_to, ended_writable}

@@ -1,6 +1,6 @@
 use Rattle.std.proofs.Common.{All, sym, subst}
 use Rattle.std.proofs.lemmas.List.Elements.{All-push}
-use Rattle.query_turns.specs.Made.{IsReadyFor}
+use Rattle.query_run.specs.Made.{IsReadyFor}
 use Rattle.test_query_support.proofs.readies.add_ready.Goals as goal
 
 pub returns-in-Ok : goal.returns-in-Ok

@@ -1,5 +1,5 @@
 use Rattle.std.proofs.Common.{All}
-use Rattle.query_turns.specs.Made.{IsReadyFor}
+use Rattle.query_run.specs.Made.{IsReadyFor}
 use Rattle.test_query_support.proofs.readies.readies_beside.Given as goal
 
 -- the queries so far are ready

@@ -1,6 +1,6 @@
 use Rattle.topk_theory.proofs.AgreementLists.{all_from_members, member_of_all}
-use Rattle.query_turns.specs.Causes.{IsRefusedForCause}
-use Rattle.query_turns.specs.Kept.{IsServed}
+use Rattle.query_run.specs.Causes.{IsRefusedForCause}
+use Rattle.query_run.specs.Kept.{IsServed}
 use Rattle.topk_laws.proofs.Right.{lines_right}
 use Rattle.topk_laws.proofs.laws_catalog.outcomes_are_right.Goals as goal
 

@@ -1,4 +1,4 @@
-use Rattle.catalog_calls.specs.Running.{lines_run}
+use Rattle.catalog_run.specs.Running.{lines_run}
 use Rattle.line_text.specs.Lines.{lines}
 use Rattle.topk_laws.proofs.laws_run.replies_are_sparing.Goals as goal
 

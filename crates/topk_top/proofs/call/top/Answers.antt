@@ -6,7 +6,7 @@ use Rattle.call_ends.specs.Calls.{Input, Outside, call_at}
 use Rattle.call_ends.specs.Shelves.{Shelf}
 use Rattle.call_ends.specs.declared.status.Status.TheVariants.{Memory}
 use Rattle.call_ends.proofs.Ending.{outside_at, shelf_at}
-use Rattle.node_calls.specs.Ports.{Ports, ports_of}
+use Rattle.port_calls.specs.Ports.{Ports, ports_of}
 use Rattle.topk_top.proofs.Ending.{ends_as, ends_refused, ends_without_memory}
 use Rattle.topk_top.proofs.call.top.Goals as goal
 

@@ -1,6 +1,6 @@
 use Rattle.std.proofs.Common.{◌≡◌, ◌<◌, None, length, sym, ap, subst, ◌∙◌, arith, vec_capacity}
-use Rattle.source_log.specs.declared.entry.LogEntry.TheVariants.{Fault}
-use Rattle.source_log.specs.Log.{fault_in}
+use Rattle.source_state.specs.declared.entry.LogEntry.TheVariants.{Fault}
+use Rattle.source_state.specs.Log.{fault_in}
 use Rattle.source_state.specs.State.{State}
 use Rattle.source_state.specs.Events.{logged}
 use Rattle.source_state.specs.Keeping.{shown_by, KeepsFields}

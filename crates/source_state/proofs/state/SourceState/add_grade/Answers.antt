@@ -1,7 +1,7 @@
 use Rattle.std.proofs.Common.{sym, subst}
 use Rattle.ranked_list.specs.Table.{IsRanked}
-use Rattle.source_log.specs.declared.entry.Settling.{Settling}
-use Rattle.source_log.specs.Log.{rows_in}
+use Rattle.source_state.specs.declared.entry.Settling.{Settling}
+use Rattle.source_state.specs.Log.{rows_in}
 use Rattle.source_state.specs.State.{State, SettlesWell}
 use Rattle.source_state.proofs.Sound.{settles_well}
 use Rattle.source_state.proofs.state.SourceState.add_grade.Goals as goal

@@ -1,8 +1,8 @@
 use Rattle.std.proofs.Common.{subst, ap, ◌∙◌}
-use Rattle.source_log.specs.Log.{first_of, fault_in}
+use Rattle.source_state.specs.Log.{first_of, fault_in}
 use Rattle.source_state.specs.State.{State}
 use Rattle.source_state.specs.Events.{MayMove}
-use Rattle.source_log.proofs.LogLaws.{settled_faults}
+use Rattle.source_state.proofs.LogLaws.{settled_faults}
 use Rattle.source_state.proofs.Growing.{broken_by}
 use Rattle.source_state.proofs.state.SourceState.add_move.Goals as goal
 

@@ -1,6 +1,6 @@
 use Rattle.std.proofs.Common.{sym, subst}
 use Rattle.turn_lock.specs.Facts.{FactsGrow}
-use Rattle.source_log.specs.declared.entry.LogEntry.TheVariants.{Fault}
+use Rattle.source_state.specs.declared.entry.LogEntry.TheVariants.{Fault}
 use Rattle.source_state.specs.State.{State, facts_of}
 use Rattle.source_state.proofs.Growing.{broken_by, logged_grows, rows_grow}
 use Rattle.source_state.proofs.state.SourceState.add_page.Goals as goal

@@ -1,11 +1,11 @@
 use Rattle.std.proofs.Common.{◌≡◌, ◌<◌, None, length, sym, ap, subst, ◌∙◌, arith, vec_capacity}
 use Rattle.topk_theory.specs.Bounds.{grade_among}
-use Rattle.source_log.specs.declared.entry.LogEntry.TheVariants.{Kept}
-use Rattle.source_log.specs.Log.{rows_in}
+use Rattle.source_state.specs.declared.entry.LogEntry.TheVariants.{Kept}
+use Rattle.source_state.specs.Log.{rows_in}
 use Rattle.source_state.specs.State.{State, asks_of, row_fault}
 use Rattle.source_state.specs.Events.{logged}
 use Rattle.source_state.specs.Keeping.{shown_by, KeepsFields}
-use Rattle.source_log.specs.Keeping.{RowList}
+use Rattle.source_state.specs.LogKeeping.{RowList}
 use Rattle.source_state.proofs.Sound.{follows, sound_row}
 use Rattle.source_state.proofs.Stepping.{state_row, entry_room}
 use Rattle.source_state.proofs.state.SourceState.add_row.Goals as goal

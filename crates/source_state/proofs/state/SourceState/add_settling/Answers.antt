@@ -1,8 +1,8 @@
 use Rattle.std.proofs.Common.{◌≡◌, ◌<◌, Some, length, sym, ap, subst, ◌∙◌, arith, vec_capacity}
 use Rattle.turn_lock.specs.Facts.{FactsGrow}
-use Rattle.source_log.specs.declared.entry.Asked.TheVariants.{Pending}
-use Rattle.source_log.specs.declared.entry.LogEntry.TheVariants.{Settled}
-use Rattle.source_log.specs.Log.{rows_in}
+use Rattle.source_state.specs.declared.entry.Asked.TheVariants.{Pending}
+use Rattle.source_state.specs.declared.entry.LogEntry.TheVariants.{Settled}
+use Rattle.source_state.specs.Log.{rows_in}
 use Rattle.source_state.specs.State.{State, asked_in, SettlesWell, facts_of}
 use Rattle.source_state.specs.Events.{logged}
 use Rattle.source_state.specs.Keeping.{shown_by, KeepsFields}

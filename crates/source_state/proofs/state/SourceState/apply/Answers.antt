@@ -1,8 +1,8 @@
 use Rattle.std.proofs.Common.{sym, ap, ◌∙◌}
-use Rattle.source_log.specs.Log.{first_of, fault_in}
+use Rattle.source_state.specs.Log.{first_of, fault_in}
 use Rattle.source_state.specs.State.{State}
 use Rattle.source_state.specs.Events.{after}
-use Rattle.source_log.proofs.LogLaws.{settled_faults}
+use Rattle.source_state.proofs.LogLaws.{settled_faults}
 use Rattle.source_state.proofs.state.SourceState.apply.Goals as goal
 
 pub returns-in-Grade-clause-applied : goal.returns-in-Grade-clause-applied

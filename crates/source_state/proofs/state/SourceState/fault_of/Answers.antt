@@ -1,6 +1,6 @@
 use Rattle.std.proofs.Common.{sym, ap, subst, ◌∙◌, is_some, arith}
-use Rattle.source_log.specs.Log.{rows_in}
-use Rattle.source_log.specs.Keeping.{RowList}
+use Rattle.source_state.specs.Log.{rows_in}
+use Rattle.source_state.specs.LogKeeping.{RowList}
 use Rattle.source_state.specs.State.{State, asks_of}
 use Rattle.source_state.specs.Keeping.{shown_by, KeepsFields}
 use Rattle.source_state.proofs.Sound.{repeated_fault, fault_of_grades}

@@ -1,0 +1,213 @@
+//! The two sides of a run: the fetchers, and the workers.
+
+ghost use Rattle.std.specs.Prelude.{◌≡◌, ◌≤◌, ◌<◌, ◌^◌, [], All, IfSome, IfNone, length, vec_len, vec_capacity};
+ghost use Rattle.limits.specs.Ranges.{AreSettings};
+ghost use Rattle.keyed_lock.specs.Hold.{all_parts};
+ghost use Rattle.fetcher.specs.Metering.{nothing};
+ghost use Rattle.fetcher.specs.Posting.{ArePosts, AreServed, MayServe, share_of};
+ghost use Rattle.batch_run.specs.Working.{IsAtWork, Worked, AllWorked};
+ghost use Rattle.batch_run.specs.Slots.{HasFeeder, AllFetch};
+ghost use Rattle.batch_run.specs.Handing.{AllHands, AreSpared};
+
+use super::hands::{Hand, Hands, hand_in, hand_out, join_all, make_room, split_all};
+use super::work::{Worker, work};
+use batch_result::Settings;
+use fetcher::{Posts, Slot, serve_loop, serve_or_wait};
+use keyed_lock::Pass;
+use query_core::Ready;
+use source_api::Source;
+use source_pool::Pool;
+use std::alloc::Global;
+use std::sync::Wait;
+use std::thread;
+use std::thread::Threads;
+
+/// One fetcher a source, each in a thread of its own. They end once the sign is set.
+fn fetch_all<W: Threads + Wait + Sync, S: Source>(
+    rt: &W,
+    alloc: Global,
+    pool: &Pool,
+    posts: &Posts<S>,
+    fetchers: &mut [Pass<Slot<S>>],
+)
+    requires posts { ArePosts posts.now pool.now }
+    requires shares { All (λ own. own ≡ share_of posts.now.lock 1) fetchers.old }
+    requires many { length fetchers.old ≡ length pool.now }
+    ensures shares { All (λ own. own ≡ share_of posts.now.lock 1) fetchers.new }
+    ensures size { length fetchers.new ≡ length fetchers.old }
+{
+    let threads = fetchers.len().max(1);
+    thread::for_each_mut(
+        rt,
+        fetchers,
+        threads,
+        &|place, own: &mut Pass<Slot<S>>|
+            requires { ArePosts posts.now pool.now × (place < length pool.now) × (own.now ≡ share_of posts.now.lock 1) }
+        { serve_loop(rt, alloc, pool, posts, own, place) },
+    );
+}
+
+/// A worker runs its share of the queries, and takes turns at the posts itself.
+fn work_by_posts<W: Wait, S: Source>(
+    rt: &W,
+    alloc: Global,
+    pool: &Pool,
+    posts: &Posts<S>,
+    hand: &mut Hand<S>,
+    queries: &[Ready],
+    workers: usize,
+)
+    requires posts { ArePosts posts.now pool.now }
+    requires share { hand.old.pass ≡ share_of posts.now.lock 1 }
+    requires work { IsAtWork pool.now workers queries.now hand.old.worker }
+    ensures worked { Worked pool.now workers queries.now hand.old.worker hand.new.worker }
+    ensures pass { hand.new.pass ≡ hand.old.pass }
+{
+    let serve = |source: u32, _told: u64, pass: &mut Pass<Slot<S>>|
+        requires { MayServe posts.now pool.now pass.now × (source < length pool.now) }
+        ensures { pass.exit.now ≡ pass.entry.now }
+    { serve_or_wait(rt, alloc, pool, posts, pass, source as usize) };
+    work(
+        rt,
+        alloc,
+        pool,
+        &mut hand.worker,
+        queries,
+        workers,
+        &serve,
+        &mut hand.pass,
+    );
+}
+
+/// The workers, each in a thread of its own. Once all have worked the sign is set.
+fn work_all<W: Threads + Wait + Sync, S: Source>(
+    rt: &W,
+    alloc: Global,
+    pool: &Pool,
+    posts: &Posts<S>,
+    hands: &mut [Hand<S>],
+    queries: &[Ready],
+)
+    requires posts { ArePosts posts.now pool.now }
+    requires workers { All (λ hand. IsAtWork pool.now (length hands.old) queries.now hand.worker) hands.old }
+    requires shares { All (λ hand. hand.pass ≡ share_of posts.now.lock 1) hands.old }
+    ensures { AllHands pool.now (length hands.old) queries.now hands.old hands.new }
+{
+    let threads = hands.len().max(1);
+    let count = hands.len();
+    thread::for_each_mut(
+        rt,
+        hands,
+        threads,
+        &|_, hand: &mut Hand<S>|
+            requires { ArePosts posts.now pool.now × IsAtWork pool.now count queries.now hand.now.worker × (hand.now.pass ≡ share_of posts.now.lock 1) }
+        { work_by_posts(rt, alloc, pool, posts, hand, queries, count) },
+    );
+    posts.stop.set(pool);
+    posts.wake_all();
+}
+
+/// Both sides at the same time. The fetchers end after the workers.
+fn run_both<W: Threads + Wait + Sync, S: Source>(
+    rt: &W,
+    alloc: Global,
+    pool: &Pool,
+    posts: &Posts<S>,
+    hands: &mut Hands<S>,
+    queries: &[Ready],
+)
+    requires posts { ArePosts posts.now pool.now }
+    requires workers { All (λ hand. IsAtWork pool.now (length hands.old.workers.items) queries.now hand.worker) hands.old.workers.items }
+    requires shares { All (λ hand. hand.pass ≡ share_of posts.now.lock 1) hands.old.workers.items }
+    requires fetchers { All (λ own. own ≡ share_of posts.now.lock 1) hands.old.fetchers.items }
+    requires many { vec_len hands.old.fetchers ≡ length pool.now }
+    ensures worked { AllHands pool.now (length hands.old.workers.items) queries.now hands.old.workers.items hands.new.workers.items }
+    ensures fetchers { All (λ own. own ≡ share_of posts.now.lock 1) hands.new.fetchers.items }
+    ensures many { vec_len hands.new.fetchers ≡ vec_len hands.old.fetchers }
+{
+    let Hands { workers, fetchers } = hands;
+    thread::join_mut(
+        rt,
+        &mut ||
+            requires { ArePosts posts.now pool.now × All (λ own. own ≡ share_of posts.now.lock 1) fetchers.now.items × (vec_len fetchers.now ≡ length pool.now) }
+        { fetch_all(rt, alloc, pool, posts, fetchers) },
+        &mut ||
+            requires { ArePosts posts.now pool.now × All (λ hand. IsAtWork pool.now (length workers.now.items) queries.now hand.worker) workers.now.items
+                × All (λ hand. hand.pass ≡ share_of posts.now.lock 1) workers.now.items }
+        { work_all(rt, alloc, pool, posts, workers, queries) },
+    );
+}
+
+/// Runs both sides over the posts, and takes the slots back.
+fn run_posts<W: Threads + Wait + Sync, S: Source>(
+    rt: &W,
+    alloc: Global,
+    pool: &Pool,
+    workers: &mut Vec<Worker>,
+    slots: &mut Vec<Slot<S>>,
+    queries: &[Ready],
+    posts: Posts<S>,
+    mut pass: Pass<Slot<S>>,
+    hands: &mut Hands<S>,
+)
+    requires posts { ArePosts posts pool.now }
+    requires pass { pass ≡ share_of posts.lock all_parts }
+    requires none { (hands.old.workers.items ≡ []) × (hands.old.fetchers.items ≡ []) × (slots.old.items ≡ []) }
+    requires hands_room { (vec_len workers.old ≤ vec_capacity hands.old.workers) × (length pool.now ≤ vec_capacity hands.old.fetchers) }
+    requires room { length pool.now ≤ vec_capacity slots.old }
+    requires workers { All (IsAtWork pool.now (length workers.old.items) queries.now) workers.old.items }
+    requires few { (length workers.old.items ≤ 32) × (length pool.now < 2 ^ 32) }
+    ensures worked { AllWorked pool.now (length workers.old.items) queries.now workers.old.items workers.new.items }
+    ensures served { AreServed S.list S.counts S.calls S.at_hand S.states posts.lock.key.pool.value posts.lock.key.page posts.lock.key.ahead
+        posts.lock.key.slots.value.items slots.new.items }
+{
+    let sources = posts.bells.len();
+    hand_out(&posts, &mut pass, workers, &mut hands.workers);
+    split_all(&posts, &mut pass, &mut hands.fetchers, sources);
+    run_both(rt, alloc, pool, &posts, hands, queries);
+    hand_in(&posts, &mut pass, &mut hands.workers, workers);
+    join_all(&posts, &mut pass, &mut hands.fetchers);
+    posts.close(pass, slots);
+}
+
+/// Tells all workers that memory was wanted.
+fn spare(workers: &mut [Worker])
+    ensures { AreSpared workers.old workers.new }
+{
+    for place in 0..workers.len() {
+        let worker = &mut workers[place];
+        worker.short = true;
+    }
+}
+
+/// Both sides at the same time. The fetchers end after the workers. What a worker needs of a source, and no other thread fetches, it fetches
+/// itself; the fetchers read ahead. Where memory is wanted no query runs, and each worker is short of it.
+pub fn run_sides<W: Threads + Wait + Sync, S: Source>(
+    rt: &W,
+    alloc: Global,
+    pool: &Pool,
+    workers: &mut Vec<Worker>,
+    slots: &mut Vec<Slot<S>>,
+    queries: &[Ready],
+    settings: Settings,
+)
+    requires settings { AreSettings settings }
+    requires feeders { All (λ slot. HasFeeder pool.now slot.feeder) slots.old.items }
+    requires fresh { All (λ slot. slot.fetched ≡ nothing) slots.old.items }
+    requires many { length slots.old.items ≡ length pool.now }
+    requires few { (length workers.old.items ≤ 32) × (length slots.old.items < 2 ^ 32) }
+    requires workers { All (IsAtWork pool.now (length workers.old.items) queries.now) workers.old.items }
+    ensures fetched { AllFetch S.list S.counts S.at_hand pool.now settings slots.old.items slots.new.items }
+    ensures worked { AllWorked pool.now (length workers.old.items) queries.now workers.old.items workers.new.items }
+{
+    let Ok(mut hands) = make_room::<S>(alloc, workers.len(), slots.len()) else {
+        spare(workers);
+        return;
+    };
+    match Posts::open(alloc, pool, slots, settings.page, settings.ahead) {
+        Some((posts, pass)) => run_posts(
+            rt, alloc, pool, workers, slots, queries, posts, pass, &mut hands,
+        ),
+        None => spare(workers),
+    }
+}

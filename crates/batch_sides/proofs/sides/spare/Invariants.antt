@@ -1,5 +1,0 @@
-use Rattle.batch_sides.proofs.HandLaws.{SparedTo}
-use Rattle.batch_sides.proofs.sides.spare.Given as goal
-
-abbrev pub invariant-loop-place : goal.invariant-loop-place
-invariant-loop-place l = SparedTo l.place l.fn.workers l.workers

@@ -1,3 +1,0 @@
--- Lemmas on runs of query lines.
-mod LineTexts
-pub mod RunEnding

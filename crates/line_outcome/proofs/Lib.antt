@@ -1,0 +1,3 @@
+-- Lemmas on the outcomes of lines.
+pub mod Refused
+pub mod Writable

@@ -1,2 +1,0 @@
--- Lemmas on links that are served one after another.
-pub mod ServingLaws

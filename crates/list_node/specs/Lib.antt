@@ -1,2 +1,0 @@
--- What a node at a port does with the links of the port.
-pub mod Serving

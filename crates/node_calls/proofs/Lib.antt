@@ -1,2 +1,0 @@
--- Lemmas on how a node ends.
-pub mod NodeEnding

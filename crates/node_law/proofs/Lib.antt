@@ -1,2 +1,0 @@
--- Lemmas on what is read of a node's answers.
-mod ReadLaws

@@ -1,2 +1,0 @@
--- What is read of a node's answers.
-pub mod ReadBack

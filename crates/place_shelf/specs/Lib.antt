@@ -1,3 +1,0 @@
--- What the source of a place is, and what a shelf of places is.
-pub mod Sources
-pub mod Shelved

@@ -1,2 +1,0 @@
--- Lemmas on the pieces of an address.
-pub mod AddressLaws

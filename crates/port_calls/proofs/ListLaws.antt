@@ -1,0 +1,205 @@
+-- The lists of a catalog that is served, and how serving ends.
+use Rattle.std.proofs.Common.{◌≡◌, ◌≤◌, ◌<◌, ◌+◌, ℕ, zero, suc, Bool, true, false, List, [], ◌∷◌, ◌++◌, Option, Some, Result, Ok, Err, IfOk, All, Contains, length, map, take, reverse, replicate, nat_le, leb-true, leb-false, refl, sym, ap, subst, ◌∙◌, arith}
+use Rattle.std.specs.Prelude.{if◌then◌else◌}
+use Rattle.std.proofs.lemmas.Bool.{false≢true}
+use Rattle.std.proofs.lemmas.List.{length-map, take_all}
+use Rattle.ranked_list.specs.declared.row.Row.{Row}
+use Rattle.limits.specs.declared.TheConstants.{MAX_OBJECTS}
+use Rattle.source_api.specs.declared.counts.Counts.{Counts}
+use Rattle.fetcher.specs.declared.slot.Slot.{Slot}
+use Rattle.catalog_open.specs.Slots.{of_slot}
+use Rattle.source_api.specs.Places.{SameAtEach}
+use Rattle.catalog_text.specs.Catalog.{Listed as Entry}
+use Rattle.catalog_open.specs.declared.opened.Opening.{Opening}
+use Rattle.catalog_open.specs.declared.opened.Opening.TheVariants.{Closed, Open}
+use Rattle.catalog_open.specs.Entries.{opening_at, is_marked, IsMarked}
+use Rattle.catalog_open.specs.Openings.{AreOpened, AsksEachAtMostOnce, AsksEachOnce, Counted, IsOpening, IsSource, KeepsOthers, PutsBack, Sources, Used, counted_times, put_back}
+use Rattle.catalog_open.proofs.Once.{few_back}
+use Rattle.catalog_run.proofs.Whole.{back_keeps, opened_for, run_moves}
+use Rattle.query_server.specs.Entries.{AreEntriesOf, IsSized}
+use Rattle.query_server.specs.declared.opened.OpenedEntry.{OpenedEntry}
+use Rattle.query_server.specs.declared.opened.OpenedEntry.TheVariants.{Opened, TooLarge}
+use Rattle.query_server.specs.Homes.{AreHomes, home_at, home_of}
+use Rattle.query_server.specs.declared.server.Served.{Served}
+use Rattle.query_server.specs.declared.server.Served.TheVariants.{Ended, PortFault as AtFault, Memory as NoMemory}
+use Rattle.call_ends.specs.Shelves.{Shelf}
+use Rattle.port_calls.specs.Ports.{Ports}
+use Rattle.port_calls.specs.Opening.{Borrows, BorrowsAll, IsOneOf, entry_of, every}
+use Rattle.port_calls.specs.ServeEnds.{EndsLists, ServesPort}
+
+-- each entry of a catalog is marked, and nothing else
+marked_within : (n place : ℕ) → is_marked (replicate n true) place ≡ true → place < n
+marked_within zero place h = absurd (false≢true h)
+marked_within (suc n) zero h = omega arith
+marked_within (suc n) (suc place) h = let l = marked_within n place h in omega (arith, l)
+
+within_marked : (n place : ℕ) → place < n → is_marked (replicate n true) place ≡ true
+within_marked zero place h = absurd (omega (arith, h))
+within_marked (suc n) zero h = refl
+within_marked (suc n) (suc place) h = within_marked n place (omega (arith, h))
+
+pub opened_every : (lists : List ℕ → Option (List Row)) (versions : List ℕ → Option ℕ) (catalog : List Entry) (marks : List Bool) (before now : Counted)
+    (openings : List Opening) (s : Sources) → marks ≡ every catalog → AreOpened lists versions catalog (IsMarked marks) before now openings s
+    → AreOpened lists versions catalog (IsOneOf catalog) before now openings s
+opened_every lists versions catalog marks before now openings s is are =
+    opened_for lists versions catalog (IsMarked marks) (IsOneOf catalog) before now openings s
+    (λ place h. marked_within (length catalog) place (subst (λ ms. is_marked ms place ≡ true) is h))
+    (λ place h. subst (λ ms. is_marked ms place ≡ true) (sym is) (within_marked (length catalog) place h)) are
+
+-- what becomes of a list is within the sizes of lists
+sized_entry : (o : Opening) → IsSized (entry_of o)
+sized_entry Closed = tt
+sized_entry (Open size source version) = go (nat_le size MAX_OBJECTS) refl
+  where
+    go : (b : Bool) → nat_le size MAX_OBJECTS ≡ b → IsSized (if b then Opened size source version else TooLarge size)
+    go true e = leb-true size MAX_OBJECTS e
+    go false e = let past = leb-false size MAX_OBJECTS e in omega (arith, past)
+
+sized_entries : (os : List Opening) → All IsSized (map entry_of os)
+sized_entries [] i d l = absurd (omega (arith, l))
+sized_entries (o ∷ os) zero d l = sized_entry o
+sized_entries (o ∷ os) (suc i) d l = sized_entries os i d (omega (arith, l))
+
+pub are_entries : (catalog : List Entry) (openings : List Opening) (entries : List OpenedEntry) → entries ≡ map entry_of openings
+    → length openings ≡ length catalog → AreEntriesOf catalog entries
+are_entries catalog openings entries is many = subst (AreEntriesOf catalog) (sym is) (record { many = length-map openings entry_of ∙ many; sized = sized_entries openings })
+
+-- a list that has a source is open by it
+record OpenThere (openings : List Opening) (place source : ℕ) : Type 0 where
+  pub within : place < length openings
+  pub size : ℕ
+  pub version : ℕ
+  pub open_as : opening_at openings place ≡ Open size source version
+
+home_opened : (o : Opening) (source : ℕ) → home_of (entry_of o) ≡ Some source → (size : ℕ) × (version : ℕ) × (o ≡ Open size source version)
+home_opened Closed source h = absurd (cc)
+home_opened (Open size s version) source h = go (nat_le size MAX_OBJECTS) h
+  where
+    go : (b : Bool) → home_of (if b then Opened size s version else TooLarge size) ≡ Some source
+        → (size_is : ℕ) × (version_is : ℕ) × (Open size s version ≡ Open size_is source version_is)
+    go true e = let same : s ≡ source = cc in (size, version, ap (λ t. Open size t version) same)
+    go false e = absurd (cc)
+
+open_there : (openings : List Opening) (place source : ℕ) → home_at (map home_of (map entry_of openings)) place ≡ Some source → OpenThere openings place source
+open_there [] place source h = absurd (cc)
+open_there (o ∷ openings) zero source h =
+    let t = home_opened o source h in
+    record { within = omega arith; size = t.0; version = t.1; open_as = t.2 }
+open_there (o ∷ openings) (suc place) source h =
+    let t = open_there openings place source h in
+    let w = t.within in
+    record { within = omega (arith, w); size = t.size; version = t.version; open_as = t.open_as }
+
+-- each list that is open has a source of its own
+pub are_homes : (lists : List ℕ → Option (List Row)) (versions : List ℕ → Option ℕ) (catalog : List Entry) (W : ℕ → Type 0) (before now : Counted)
+    (openings : List Opening) (s : Sources) (sources : ℕ) (entries : List OpenedEntry) → entries ≡ map entry_of openings → sources ≡ length s.places
+    → AreOpened lists versions catalog W before now openings s → AreHomes sources (map home_of entries)
+are_homes lists versions catalog W before now openings s sources entries is many are =
+    subst (λ es. AreHomes sources (map home_of es)) (sym is) (record {
+      within = λ place source h. let w = (source_at place source h).within in omega (arith, w, many);
+      apart = λ place other source h k. sym (source_at place source h).stands ∙ (source_at other source k).stands;
+    })
+  where
+    there : (place source : ℕ) → home_at (map home_of (map entry_of openings)) place ≡ Some source → OpenThere openings place source
+    there place source h = open_there openings place source h
+
+    source_at : (place source : ℕ) → (h : home_at (map home_of (map entry_of openings)) place ≡ Some source)
+        → IsSource lists versions catalog s place (there place source h).size source (there place source h).version
+    source_at place source h =
+        let t = there place source h in
+        let opening : IsOpening lists versions catalog s W before now place (Open t.size source t.version) =
+        subst (IsOpening lists versions catalog s W before now place) t.open_as (are.each place t.within) in
+        opening.1
+
+-- putting sources back asks for none
+once_back : (catalog : List Entry) (marks : List Bool) (back : List Used) (before mid now : Counted) → AsksEachOnce catalog marks before mid → PutsBack back mid now
+    → AsksEachOnce catalog marks before now
+once_back catalog marks back before mid now so_far puts = λ place.
+    let asks = so_far place in
+    let same : (now place).take_faults ≡ (mid place).take_faults = puts.takes place in
+    record {
+      given = asks.given;
+      failed = asks.failed;
+      all = asks.all;
+      taken = puts.taken place ∙ asks.taken;
+      faults = subst (λ n. counted_times asks.failed (before place).take_faults ≤ n) (sym same) asks.faults;
+      quiet = λ none. same ∙ asks.quiet none;
+    }
+
+-- sources were taken of a shelf and put back
+pub borrows : (catalog : List Entry) (before mid now : Shelf) (openings : List Opening) (s : Sources) (counts : List Counts)
+    → SameAtEach before.texts mid.texts → SameAtEach before.lists mid.lists → SameAtEach before.versions mid.versions
+    → SameAtEach mid.texts now.texts → SameAtEach mid.lists now.lists → SameAtEach mid.versions now.versions
+    → length counts ≡ length s.places → AreOpened before.lists before.versions catalog (IsOneOf catalog) before.at mid.at openings s
+    → AsksEachAtMostOnce catalog (every catalog) before.at mid.at
+    → PutsBack (reverse (put_back catalog s.places counts)) mid.at now.at → KeepsOthers catalog (Contains s.places) mid.at now.at
+    → Borrows catalog before now
+borrows catalog before mid now openings s counts t l v t_now l_now v_now many are few back others =
+    let moves = run_moves before.lists before.versions catalog (IsOneOf catalog) before.at mid.at now.at openings s counts many are back in
+    record {
+      tells = record { texts = λ place. t_now place ∙ t place; lists = λ place. l_now place ∙ l place; versions = λ place. v_now place ∙ v place };
+      used = moves.0;
+      moves = moves.1;
+      few = few_back catalog (every catalog) (reverse (put_back catalog s.places counts)) before.at mid.at now.at few back;
+      others = back_keeps before.lists before.versions catalog (IsOneOf catalog) before.at mid.at now.at openings s are others;
+    }
+
+pub borrows_all : (catalog : List Entry) (before mid now : Shelf) (back : List Used) → Borrows catalog before now
+    → AsksEachOnce catalog (every catalog) before.at mid.at → PutsBack back mid.at now.at → BorrowsAll catalog before now
+borrows_all catalog before mid now back b once puts =
+    record { borrows = b; once = once_back catalog (every catalog) back before.at mid.at now.at once puts }
+
+pub lists_end : (conns : ℕ) (catalog : List Entry) (before now : Shelf) (p : Ports) (served : Served) → BorrowsAll catalog before now
+    → ServesPort conns p served → p.after.closed ≡ p.before.closed → EndsLists conns catalog before now p served
+lists_end conns catalog before now p (Ended count) b serves closed = record { borrows = b; serves = serves; closed = closed }
+lists_end conns catalog before now p AtFault b serves closed = record { borrows = b; serves = serves; closed = closed }
+lists_end conns catalog before now p NoMemory b serves closed = b.borrows
+
+mapped_next : (openings : List Opening) (place : ℕ) → place < length openings
+    → map entry_of (take (suc place) openings) ≡ map entry_of (take place openings) ++ entry_of (opening_at openings place) ∷ []
+mapped_next [] place l = absurd (omega (arith, l))
+mapped_next (o ∷ openings) zero l = refl
+mapped_next (o ∷ openings) (suc place) l = ap (λ es. entry_of o ∷ es) (mapped_next openings place (omega (arith, l)))
+
+-- what becomes of the lists before a place
+pub record EntriesTo (place : ℕ) (openings : List Opening) (entries : List OpenedEntry) : Type 0 where
+  pub is : entries ≡ map entry_of (take place openings)
+
+pub entries_none : (openings : List Opening) (entries : List OpenedEntry) → entries ≡ [] → EntriesTo 0 openings entries
+entries_none openings entries none = record { is = none }
+
+pub entries_more : (place : ℕ) (openings : List Opening) (entries now : List OpenedEntry) (entry : OpenedEntry) → place < length openings
+    → EntriesTo place openings entries → entry ≡ entry_of (opening_at openings place) → now ≡ entries ++ entry ∷ [] → EntriesTo (place + 1) openings now
+entries_more place openings entries now entry within so is push =
+    let next : suc place ≡ place + 1 = omega arith in
+    record {
+      is = push ∙ (ap (λ es. es ++ entry ∷ []) so.is ∙ (ap (λ e. map entry_of (take place openings) ++ e ∷ []) is
+          ∙ (sym (mapped_next openings place within) ∙ ap (λ n. map entry_of (take n openings)) next)));
+    }
+
+pub entries_all : (place : ℕ) (openings : List Opening) (entries : List OpenedEntry) → length openings ≤ place → EntriesTo place openings entries
+    → entries ≡ map entry_of openings
+entries_all place openings entries far so = so.is ∙ ap (map entry_of) (take_all place openings far)
+
+-- what holds where memory wasn't refused
+pub if_so : {A E : Type 0} (r : Result A E) (P Q : A → Type 0) → IfOk r P → ((x : A) → P x → Q x) → IfOk r Q
+if_so (Ok x) P Q h f = f x h
+if_so (Err e) P Q h f = tt
+
+pub short : {X : Type 0} (catalog : List Entry) (xs : List X) → xs ≡ [] → length xs ≤ length catalog
+short catalog xs none = let e : length xs ≡ 0 = ap length none in omega (arith, e)
+
+-- the same of sources that stand in slots
+pub borrows_from : {S : Type 0} (count : S → Counts) (catalog other : List Entry) (before mid now : Shelf) (openings : List Opening) (s : Sources)
+    (places : List ℕ) (slots : List (Slot S)) → other ≡ catalog → places ≡ s.places
+    → SameAtEach before.texts mid.texts → SameAtEach before.lists mid.lists → SameAtEach before.versions mid.versions
+    → SameAtEach mid.texts now.texts → SameAtEach mid.lists now.lists → SameAtEach mid.versions now.versions
+    → AreOpened before.lists before.versions catalog (IsOneOf catalog) before.at mid.at openings s
+    → AsksEachAtMostOnce catalog (every catalog) before.at mid.at
+    → PutsBack (reverse (put_back other places (map (of_slot count) slots))) mid.at now.at → KeepsOthers other (Contains places) mid.at now.at
+    → length slots ≡ length s.places → Borrows catalog before now
+borrows_from count catalog other before mid now openings s places slots same at t l v t_now l_now v_now are few back others many =
+    borrows catalog before mid now openings s (map (of_slot count) slots) t l v t_now l_now v_now (length-map slots (of_slot count) ∙ many) are few
+    (subst (λ cat. PutsBack (reverse (put_back cat s.places (map (of_slot count) slots))) mid.at now.at) same
+    (subst (λ ps. PutsBack (reverse (put_back other ps (map (of_slot count) slots))) mid.at now.at) at back))
+    (subst (λ cat. KeepsOthers cat (Contains s.places) mid.at now.at) same (subst (λ ps. KeepsOthers other (Contains ps) mid.at now.at) at others))

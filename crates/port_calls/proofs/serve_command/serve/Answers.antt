@@ -1,0 +1,33 @@
+use Rattle.std.proofs.Common.{refl, arith}
+use Rattle.std.proofs.KnownBytes.{Keeps-refl}
+use Rattle.call_ends.specs.Calls.{Call, output_as, outside_of, call_at}
+use Rattle.call_ends.specs.Shelves.{Shelf, GivesText}
+use Rattle.call_ends.proofs.Ending.{shelf_at}
+use Rattle.catalog_run.proofs.RunEnding.{asks_text, gives_text, text_failed}
+use Rattle.port_calls.specs.Ports.{ports_of}
+use Rattle.port_calls.proofs.Ending.{ends_on}
+use Rattle.port_calls.proofs.serve_command.serve.Goals as goal
+
+pub returns-in-Ok-clause-ends : goal.returns-in-Ok-clause-ends
+returns-in-Ok-clause-ends g c = λ words input.
+    let before : Shelf = shelf_at (g.H.Shelf.texts c.args.shelf.now) (g.H.Shelf.lists c.args.shelf.now) (g.H.Shelf.versions c.args.shelf.now) (g.H.Shelf.at c.args.shelf.now) in
+    let given : Shelf = shelf_at (g.H.Shelf.texts c.text.new.self) (g.H.Shelf.lists c.text.new.self) (g.H.Shelf.versions c.text.new.self) (g.H.Shelf.at c.text.new.self) in
+    let after : Shelf = shelf_at (g.H.Shelf.texts c.serve_over.new.shelf) (g.H.Shelf.lists c.serve_over.new.shelf) (g.H.Shelf.versions c.serve_over.new.shelf) (g.H.Shelf.at c.serve_over.new.shelf) in
+    let call : Call = call_at words (outside_of input (output_as g.K.Sink.held g.K.Sink.faults c.args.out.now) before) (outside_of input (output_as g.K.Sink.held g.K.Sink.faults c.serve_over.new.out) after) in
+    let gives : GivesText c.args.options.now.catalog before given c.in-Ok.text.items =
+    gives_text c.args.options.now.catalog c.as_str.result.now before given c.in-Ok.text.items c.as_str.ensures
+    (asks_text c.args.options.now.catalog c.as_str.result.now before given c.as_str.ensures c.text.ensures.texts c.text.ensures.lists c.text.ensures.versions c.text.ensures.elsewhere c.text.ensures.counts)
+    c.in-Ok.ensures.text (omega (arith, c.in-Ok.ensures.within, c.in-Ok.text.ok.0)) in
+    ends_on c.args.options.now call (ports_of g.P.Port.links g.P.Port.closed g.P.Port.faults (c.args.port.now, c.serve_over.new.port)) c.serve_over.result
+    (c.in-Ok.text.items, given, gives, c.serve_over.ensures.ends words input)
+
+pub returns-in-Err-Failed-clause-ends : goal.returns-in-Err-Failed-clause-ends
+returns-in-Err-Failed-clause-ends g c = λ words input.
+    let before : Shelf = shelf_at (g.H.Shelf.texts c.args.shelf.now) (g.H.Shelf.lists c.args.shelf.now) (g.H.Shelf.versions c.args.shelf.now) (g.H.Shelf.at c.args.shelf.now) in
+    let given : Shelf = shelf_at (g.H.Shelf.texts c.text.new.self) (g.H.Shelf.lists c.text.new.self) (g.H.Shelf.versions c.text.new.self) (g.H.Shelf.at c.text.new.self) in (
+      text_failed c.args.options.now.catalog c.as_str.result.now before given c.in-Err-Failed.field-0 c.in-Err-Failed.field-0-is c.as_str.ensures
+          (asks_text c.args.options.now.catalog c.as_str.result.now before given c.as_str.ensures c.text.ensures.texts c.text.ensures.lists c.text.ensures.versions c.text.ensures.elsewhere c.text.ensures.counts)
+          c.in-Err-Failed.ensures.cause,
+      refl,
+      record { held = Keeps-refl (g.K.Sink.held c.args.out.now); faults = refl },
+    )

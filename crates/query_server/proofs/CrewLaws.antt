@@ -1,0 +1,37 @@
+-- The workers of a crew that is new.
+use Rattle.std.proofs.Common.{◌≡◌, ◌<◌, ℕ, List, [], All, length, slice_index, slice_index_or, ap, ◌∙◌, arith}
+use Rattle.atomic_table.specs.Seated.{TableId}
+use Rattle.source_pool.specs.declared.hold.Hold.{Hold}
+use Rattle.source_pool.specs.Passes.{hold_at}
+use Rattle.batch_run.specs.declared.work.Worker.{Worker}
+use Rattle.batch_run.specs.Crews.{IsHired, IsHiring}
+use Rattle.batch_run.proofs.CrewLaws.{hired_at_work}
+use Rattle.query_server.specs.Entries.{Openings, IsThere, MayAnswer}
+use Rattle.query_server.specs.declared.opened.OpenedEntry.{OpenedEntry}
+use Rattle.query_server.specs.declared.opened.OpenedEntry.TheVariants.{Opened, NotOpened, TooLarge}
+use Rattle.query_server.specs.Homes.{IsCounted}
+
+-- a list that is open is there in a pool of these counts
+is_there : (counts : List ℕ) (holds : List Hold) (entry : OpenedEntry) → length holds ≡ length counts
+    → ((source : ℕ) → source < length counts → (hold_at holds source).pass.1.name.1 ≡ slice_index counts source) → IsCounted counts entry → IsThere holds entry
+is_there counts holds (Opened count source version) size named counted = (
+  (let l = counted.0 in omega (arith, l, size)),
+  named source counted.0 ∙ counted.1,
+)
+is_there counts holds NotOpened size named counted = tt
+is_there counts holds (TooLarge count) size named counted = tt
+
+may_answer : (o : Openings) (counts : List ℕ) (pool : List TableId) (number : ℕ) (worker : Worker) → length pool ≡ length counts → IsHired pool counts number worker
+    → All (IsCounted counts) o.entries → MayAnswer o pool worker.pass
+may_answer o counts pool number worker size hired counted = record {
+  own = hired.own;
+  rests = (hired_at_work pool counts 1 number [] worker (omega arith) size hired (λ i d l. absurd (omega (arith, l)))).rests;
+  sources = λ i d l. is_there counts worker.pass (slice_index_or o.entries i d) (hired.own.size ∙ size)
+      (λ source m. ap (λ (hold : Hold). hold.pass.1.name.1) (hired.fresh source m)) (counted i d l);
+}
+
+-- each worker may serve connections
+pub all_may_answer : (o : Openings) (counts : List ℕ) (pool : List TableId) (holds : List Hold) (workers : List Worker) → IsHiring pool counts holds workers
+    → All (IsCounted counts) o.entries → All (λ (worker : Worker). MayAnswer o pool worker.pass) workers
+all_may_answer o counts pool holds workers hiring counted i d l =
+    may_answer o counts pool i (slice_index_or workers i d) hiring.base.size (hiring.each i d l) counted

@@ -1,0 +1,12 @@
+use Rattle.std.proofs.Common.{All, length, ap, sym, subst, ◌∙◌}
+use Rattle.query_server.specs.Entries.{IsSized}
+use Rattle.query_server.proofs.generation.reopen.Goals as goal
+
+pub entries_again-requires-clause-sized : goal.entries_again-requires-clause-sized
+entries_again-requires-clause-sized g c κs within = subst (All IsSized) (sym c.entries.ensures.value) c.entries.ensures.are.sized
+
+pub reopen-requires : goal.reopen-requires
+reopen-requires g c = record {
+  many = c.in-Ok.ensures.many ∙ (ap length c.entries.ensures.value ∙ c.entries.ensures.are.many);
+  sized = c.in-Ok.ensures.sized;
+}

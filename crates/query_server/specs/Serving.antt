@@ -1,0 +1,21 @@
+-- How a server ends, and what it leaves of the sources.
+use Rattle.std.specs.Prelude.{◌≡◌, ◌<◌, ℕ, ⊤, List, Option, length, slice_index_or}
+use Rattle.ranked_list.specs.declared.row.Row.{Row}
+use Rattle.source_api.specs.declared.counts.Counts.{Counts}
+use Rattle.source_api.specs.Counting.{NoneFell}
+use Rattle.fetcher.specs.declared.slot.Slot.{Slot}
+use Rattle.query_server.specs.Accepting.{TookAll, TookSome}
+use Rattle.query_server.specs.declared.server.Served.{Served}
+use Rattle.query_server.specs.declared.server.Served.TheVariants as served
+
+-- the sources stand at their places, tell the lists that they told, and no count of theirs fell
+pub record KeepsSources {S : Type 0} (list : S → Option (List Row)) (counts : S → Counts) (before after : List (Slot S)) : Type 0 where
+  pub size : length after ≡ length before
+  pub lists : (i : ℕ) (d : Slot S) → i < length before → list (slice_index_or after i d).source ≡ list (slice_index_or before i d).source
+  pub later : (i : ℕ) (d : Slot S) → i < length before → NoneFell (counts (slice_index_or before i d).source) (counts (slice_index_or after i d).source)
+
+-- how serving at most so many links of a port ends; want of memory is free
+abbrev pub Serves : ℕ → Option (List (List ℕ)) → Option (List (List ℕ)) → ℕ → ℕ → Served → Type 0
+Serves asked links links_now faults faults_now (served.Ended count) = TookAll asked links links_now faults faults_now count
+Serves asked links links_now faults faults_now served.PortFault = TookSome asked links links_now faults faults_now
+Serves asked links links_now faults faults_now served.Memory = ⊤

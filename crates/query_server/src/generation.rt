@@ -1,0 +1,167 @@
+//! Generations of a server.
+
+ghost use Rattle.std.specs.Prelude.{◌≡◌, ◌<◌, ◌^◌, ℕ, List, None, All, length, map};
+ghost use Rattle.limits.specs.Ranges.{AreSettings};
+ghost use Rattle.batch_run.specs.Crews.{IsNewCrew};
+ghost use Rattle.query_server.specs.Homes.{AreHomes, AreAtHome, HaveHomes, IsCounted, home_of};
+ghost use Rattle.query_server.specs.Serving.{KeepsSources};
+
+use super::counting::counts_of;
+use super::homes::homes_of;
+use super::opened::Opened;
+use super::queue::LinkQueue;
+use super::reopening::entries_again;
+use super::sides::serve_sides;
+use batch_run::{Crew, lend, take_back};
+use fetcher::Slot;
+use limits::{Memory, Settings};
+use source_api::Source;
+use std::alloc::Global;
+use std::sync::Wait;
+use std::thread::Threads;
+use tk_io::Link;
+
+/// A crew serves links until there are none to take. The feeders stand in the slots meanwhile.
+fn serve_crew<W: Threads + Wait + Sync, S: Source, L: Link + Send + Drop>(
+    rt: &W,
+    alloc: Global,
+    catalog: &Opened,
+    crew: &mut Crew,
+    slots: &mut [Slot<S>],
+    queue: &LinkQueue<L>,
+    settings: Settings,
+)
+    requires settings { AreSettings settings }
+    requires new { (counts : List ℕ) × IsNewCrew counts 0 settings.workers crew.old × (length counts ≡ length slots.old)
+        × All (IsCounted counts) catalog.now.entries }
+    ensures kept { KeepsSources S.list S.counts slots.old slots.new }
+    ensures empty { All (λ slot. slot.feeder ≡ None) slots.new }
+{
+    lend(&mut crew.feeders, slots);
+    serve_sides(
+        rt,
+        alloc,
+        catalog,
+        &crew.pool,
+        crew.workers.as_mut_slice(),
+        slots,
+        queue,
+        settings,
+    );
+    take_back(slots, &mut crew.feeders);
+}
+
+/// One generation: a pool is opened over the sources of the lists that are open, links are served until there are none to take, and the
+/// pool is taken down.
+fn serve_generation<W: Threads + Wait + Sync, S: Source, L: Link + Send + Drop>(
+    rt: &W,
+    alloc: Global,
+    catalog: &Opened,
+    slots: &mut [Slot<S>],
+    queue: &LinkQueue<L>,
+    settings: Settings,
+) -> Result<(), Memory>
+    requires settings { AreSettings settings }
+    requires few { length slots.old < 2 ^ 32 }
+    requires homes { HaveHomes (length slots.old) catalog.now.entries }
+    requires empty { All (λ slot. slot.feeder ≡ None) slots.old }
+    ensures kept { KeepsSources S.list S.counts slots.old slots.new }
+    ensures empty { All (λ slot. slot.feeder ≡ None) slots.new }
+{
+    let Ok(counts) = counts_of(alloc, catalog.entries(), slots.len()) else {
+        return Err(Memory);
+    };
+    let Ok(mut crew) = Crew::make(alloc, counts.as_slice(), 0, settings.workers) else {
+        return Err(Memory);
+    };
+    serve_crew(rt, alloc, catalog, &mut crew, slots, queue, settings);
+    crew.let_go();
+    Ok(())
+}
+
+/// Asks each source for its size again, and gives the catalog what became of its lists.
+fn reopen<S: Source>(
+    alloc: Global,
+    homes: &[Option<u32>],
+    catalog: &mut Opened,
+    slots: &mut [Slot<S>],
+) -> Result<(), Memory>
+    requires homes { AreHomes (length slots.old) homes.now }
+    requires home { AreAtHome homes.now catalog.old.entries }
+    requires many { length homes.now ≡ length catalog.old.entries }
+    requires empty { All (λ slot. slot.feeder ≡ None) slots.old }
+    ensures kept { KeepsSources S.list S.counts slots.old slots.new }
+    ensures empty { All (λ slot. slot.feeder ≡ None) slots.new }
+    ensures catalog { catalog.new.catalog ≡ catalog.old.catalog }
+    ensures home { AreAtHome homes.now catalog.new.entries }
+    ensures many { length catalog.new.entries ≡ length catalog.old.entries }
+{
+    let Ok(entries) = entries_again(alloc, homes, catalog.entries(), slots) else {
+        return Err(Memory);
+    };
+    catalog.reopen(entries);
+    Ok(())
+}
+
+/// Generations one after another, until no more links come.
+fn serve_generations<W: Threads + Wait + Sync, S: Source, L: Link + Send + Drop>(
+    rt: &W,
+    alloc: Global,
+    homes: &[Option<u32>],
+    catalog: &mut Opened,
+    slots: &mut [Slot<S>],
+    queue: &LinkQueue<L>,
+    settings: Settings,
+) -> Result<(), Memory>
+    requires settings { AreSettings settings }
+    requires few { length slots.old < 2 ^ 32 }
+    requires homes { AreHomes (length slots.old) homes.now }
+    requires home { AreAtHome homes.now catalog.old.entries }
+    requires many { length homes.now ≡ length catalog.old.entries }
+    requires empty { All (λ slot. slot.feeder ≡ None) slots.old }
+    ensures kept { KeepsSources S.list S.counts slots.old slots.new }
+    ensures empty { All (λ slot. slot.feeder ≡ None) slots.new }
+    ensures catalog { catalog.new.catalog ≡ catalog.old.catalog }
+    ensures home { AreAtHome homes.now catalog.new.entries }
+{
+    for _ in rt.forever() {
+        serve_generation(rt, alloc, catalog, slots, queue, settings)?;
+        if !queue.has_more(rt) {
+            return Ok(());
+        }
+        reopen(alloc, homes, catalog, slots)?;
+        queue.resume(rt);
+    }
+    Ok(())
+}
+
+/// The side of the workers and the fetchers. It tells whether memory was wanted: then nobody takes links any more.
+pub(crate) fn serve_side<W: Threads + Wait + Sync, S: Source, L: Link + Send + Drop>(
+    rt: &W,
+    alloc: Global,
+    catalog: &mut Opened,
+    slots: &mut [Slot<S>],
+    queue: &LinkQueue<L>,
+    settings: Settings,
+) -> bool
+    requires settings { AreSettings settings }
+    requires few { length slots.old < 2 ^ 32 }
+    requires homes { AreHomes (length slots.old) (map home_of catalog.old.entries) }
+    requires empty { All (λ slot. slot.feeder ≡ None) slots.old }
+    ensures kept { KeepsSources S.list S.counts slots.old slots.new }
+    ensures empty { All (λ slot. slot.feeder ≡ None) slots.new }
+    ensures catalog { catalog.new.catalog ≡ catalog.old.catalog }
+    ensures home { AreAtHome (map home_of catalog.old.entries) catalog.new.entries }
+{
+    let Ok(homes) = homes_of(alloc, catalog.entries()) else {
+        queue.leave(rt);
+        return true;
+    };
+    let served = serve_generations(rt, alloc, homes.as_slice(), catalog, slots, queue, settings);
+    drop(homes);
+    if served.is_err() {
+        queue.leave(rt);
+        return true;
+    }
+    false
+}

@@ -1,0 +1,94 @@
+//! A server.
+
+ghost use Rattle.std.specs.Prelude.{◌≡◌, ◌<◌, ◌^◌, None, All, length, map};
+ghost use Rattle.limits.specs.Ranges.{AreSettings};
+ghost use Rattle.query_server.specs.Homes.{AreHomes, AreAtHome, home_of};
+ghost use Rattle.query_server.specs.Serving.{KeepsSources, Serves};
+
+use super::accepting::{Accepted, accept_all};
+use super::generation::serve_side;
+use super::opened::Opened;
+use super::queue::LinkQueue;
+use fetcher::Slot;
+use limits::Settings;
+use source_api::Source;
+use std::alloc::Global;
+use std::sync::Wait;
+use std::thread;
+use std::thread::Threads;
+use tk_io::Port;
+
+/// How a server ended.
+#[derive(Clone, Copy, Debug, PartialEq, Eq)]
+pub enum Served {
+    /// So many links were taken: all that were asked for, or all that came before the port ended.
+    Ended { conns: u64 },
+    /// The port failed to give a link, and its count has gone up.
+    PortFault,
+    /// No memory was left to open a generation.
+    Memory,
+}
+
+/// The side with the port: how the server ends by it. Where nobody takes links any more memory was wanted.
+fn accept_side<P: Port>(rt: &impl Wait, port: &mut P, queue: &LinkQueue<P::L>, conns: u64) -> Served
+    ensures serves { Serves conns (P.links port.old) (P.links port.new) (P.faults port.old) (P.faults port.new) result }
+    ensures closed { P.closed port.new ≡ P.closed port.old }
+{
+    match accept_all(rt, port, queue, conns) {
+        Accepted::Ended { conns: taken } => Served::Ended { conns: taken },
+        Accepted::PortFault => Served::PortFault,
+        Accepted::Left => Served::Memory,
+    }
+}
+
+/// Serves at most so many links of a port, which has to listen already: each gets the reply to its one request, as
+/// `query_server::serve_conn` gives it over the catalog. As many workers as the settings say serve links at the same time, and beside them
+/// one fetcher a source brings what their queries need. This thread accepts the links; at most as many as there are workers wait. A worker
+/// drops a link when its connection has ended; one that fails ends its own connection alone. Every connection has ended when the call
+/// returns, unless memory was wanted. The call may wait for ever.
+///
+/// A source that moves to another version ends a generation: no connection begins until those that were begun have ended, and then each
+/// source of a list that was open at first is asked for its size once a further link has come, the catalog gets what became of the
+/// lists, and a new pool is made. So the answers of a generation are of one version of each list. A source that can't be opened in one
+/// generation is asked again in the next.
+///
+/// *Cost*: the queue, and for each generation a pool and a pass for each worker.
+pub fn serve_all<W: Threads + Wait + Sync, S: Source, P: Port>(
+    rt: &W,
+    alloc: Global,
+    catalog: &mut Opened,
+    sources: &mut [Slot<S>],
+    port: &mut P,
+    settings: Settings,
+    conns: u64,
+) -> Served
+    requires settings { AreSettings settings }
+    requires few { length sources.old < 2 ^ 32 }
+    requires homes { AreHomes (length sources.old) (map home_of catalog.old.entries) }
+    requires empty { All (λ slot. slot.feeder ≡ None) sources.old }
+    ensures serves { Serves conns (P.links port.old) (P.links port.new) (P.faults port.old) (P.faults port.new) result }
+    ensures closed { P.closed port.new ≡ P.closed port.old }
+    ensures kept { KeepsSources S.list S.counts sources.old sources.new }
+    ensures empty { All (λ slot. slot.feeder ≡ None) sources.new }
+    ensures catalog { catalog.new.catalog ≡ catalog.old.catalog }
+    ensures home { AreAtHome (map home_of catalog.old.entries) catalog.new.entries }
+{
+    let Ok(queue) = LinkQueue::make(alloc, settings.workers) else {
+        return Served::Memory;
+    };
+    let line = &queue;
+    let mut served = Served::Memory;
+    let mut short = true;
+    thread::join_mut(
+        rt,
+        &mut ||
+            requires { AreSettings settings × (length sources.now < 2 ^ 32) × AreHomes (length sources.now) (map home_of catalog.now.entries)
+                × All (λ slot. slot.feeder ≡ None) sources.now }
+        { short = serve_side(rt, alloc, catalog, sources, line, settings) },
+        &mut || { served = accept_side(rt, port, line, conns) },
+    );
+    if short {
+        return Served::Memory;
+    }
+    served
+}

@@ -1,8 +1,0 @@
--- Lemmas on worlds.
-mod Reading
-pub mod Stepping
-pub mod Honest
-pub mod Ending
-pub mod Making
-mod Turning
-mod Fails

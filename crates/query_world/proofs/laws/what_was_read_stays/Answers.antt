@@ -1,5 +1,0 @@
-use Rattle.query_world.proofs.Stepping.{ran_after}
-use Rattle.query_world.proofs.laws.what_was_read_stays.Goals as goal
-
-pub returns : goal.returns
-returns c = λ first steps last world runs. ran_after steps first last world runs

@@ -1,2 +1,0 @@
-pub mod TargetLaws
-pub mod QueryLaws

@@ -1,3 +1,0 @@
--- What targets and query parts say.
-pub mod Targets
-pub mod Queries

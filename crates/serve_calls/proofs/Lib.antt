@@ -1,3 +1,0 @@
--- Lemmas on the lists of a catalog that is served, and on how serving ends.
-pub mod ListLaws
-pub mod Ending

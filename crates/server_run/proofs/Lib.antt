@@ -1,5 +1,0 @@
--- Lemmas on the sources of lists, on counts, and on what a generation leaves of the sources.
-pub mod HomeLaws
-pub mod SourceLaws
-pub mod FetchLaws
-pub mod CrewLaws

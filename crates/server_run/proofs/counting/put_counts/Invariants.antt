@@ -1,5 +1,0 @@
-use Rattle.server_run.proofs.HomeLaws.{CountedTo}
-use Rattle.server_run.proofs.counting.put_counts.Given as goal
-
-abbrev pub invariant-loop-place : goal.invariant-loop-place
-invariant-loop-place l = CountedTo l.place l.entries l.fn.counts l.counts

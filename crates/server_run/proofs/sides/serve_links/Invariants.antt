@@ -1,5 +1,0 @@
-use Rattle.query_server.specs.Entries.{MayAnswer}
-use Rattle.server_run.proofs.sides.serve_links.Given as goal
-
-abbrev pub invariant-loop : goal.invariant-loop
-invariant-loop g l = MayAnswer l.catalog l.pool l.worker.pass

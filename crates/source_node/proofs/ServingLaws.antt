@@ -1,0 +1,94 @@
+-- Links that are served one after another.
+use Rattle.std.proofs.Common.{◌≡◌, Bool, true, Ok, ◌+◌, ℕ, List, [], ◌∷◌, ◌++◌, Option, Some, None, refl, sym, ap, subst, ◌∙◌, arith, append_assoc, length-append}
+use Rattle.std.proofs.lemmas.List.{append-nil}
+use Rattle.std.specs.Io.KnownBytes.{IsAtEnd}
+use Rattle.tk_io.specs.Links.{Closed, ClosesOne, GivesFirst, IsFresh}
+use Rattle.source_node.specs.Connections.{Ends}
+use Rattle.source_node.specs.Serving.{Seen}
+use Rattle.source_node.specs.declared.node.ConnEnd.{ConnEnd}
+use Rattle.source_node.specs.ServingLinks.{PortAt, visit_of, ServesLink, ServesEach, ClosesAll, ServesLinks, ServesOne, ServesFirst, ServesNext, ServesNone}
+
+-- a link more behind others
+each_more : (name : List ℕ) (version : Option ℕ) (links mid links_now : Option (List (List ℕ))) (source after source_now : Seen) (ones : List Closed) (one : Closed)
+    → ServesEach name version links mid source after ones → ServesLink name version mid links_now after source_now one
+    → ServesEach name version links links_now source source_now (ones ++ one ∷ [])
+each_more name version links mid links_now source after source_now [] one each serves = (
+  links_now,
+  source_now,
+  subst (λ l. ServesLink name version l links_now source source_now one) each.0
+      (subst (λ s. ServesLink name version mid links_now s source_now one) each.1 serves),
+  (refl, refl),
+)
+each_more name version links mid links_now source after source_now (first ∷ ones) one each serves =
+    (each.0, each.1, each.2, each_more name version each.0 mid links_now each.1 after source_now ones one each.3 serves)
+
+closes_more : (closed mid closed_now : Option (List Closed)) (ones : List Closed) (one : Closed) → ClosesAll closed mid ones → ClosesOne mid closed_now one
+    → ClosesAll closed closed_now (ones ++ one ∷ [])
+closes_more None mid closed_now ones one all more = tt
+closes_more (Some closed) None closed_now ones one all more = absurd all
+closes_more (Some closed) (Some mid) None ones one all more = more
+closes_more (Some closed) (Some mid) (Some closed_now) ones one all more = more ∙ (ap (λ c. c ++ one ∷ []) all ∙ append_assoc closed ones (one ∷ []))
+
+closes_none : (closed : Option (List Closed)) → ClosesAll closed closed []
+closes_none None = tt
+closes_none (Some closed) = sym (append-nil closed)
+
+-- before the first link
+pub none_served : (name : List ℕ) (version : Option ℕ) (port : PortAt) (source : Seen) → ServesLinks name version port port source source 0
+none_served name version port source = record { ones = []; number = refl; each = (refl, refl); closed = closes_none port.closed }
+
+-- after one more
+pub one_more : (name : List ℕ) (version : Option ℕ) (before mid now : PortAt) (source after source_now : Seen) (count : ℕ)
+    → ServesLinks name version before mid source after count → ServesFirst name version mid now after source_now
+    → ServesLinks name version before now source source_now (count + 1)
+one_more name version before mid now source after source_now count served next = record {
+  ones = served.ones ++ next.one ∷ [];
+  number = let e = served.number in let l = length-append served.ones (next.one ∷ []) in omega (arith, e, l);
+  each = each_more name version before.links mid.links now.links source after source_now served.ones next.one served.each next.serves;
+  closed = closes_more before.closed mid.closed now.closed served.ones next.one served.closed next.given_back;
+}
+
+-- where no more came
+pub none_more : (name : List ℕ) (version : Option ℕ) (before mid now : PortAt) (source after source_now : Seen) (count : ℕ)
+    → ServesLinks name version before mid source after count → ServesNone mid now after source_now → ServesLinks name version before now source source_now count
+none_more name version before mid now source after source_now count served none = record {
+  ones = served.ones;
+  number = served.number;
+  each = subst (λ l. ServesEach name version before.links l source source_now served.ones) (sym none.links)
+      (subst (λ s. ServesEach name version before.links mid.links source s served.ones) (sym none.same) served.each);
+  closed = subst (λ c. ClosesAll before.closed c served.ones) (sym none.closed) served.closed;
+}
+
+-- the connection of a fresh link, by the counts that it had
+pub served_fresh : (name : List ℕ) (version : Option ℕ) (came held : Option (List ℕ)) (read_faults write_faults : ℕ) (one : Closed) (source source_now : Seen) (end : ConnEnd)
+    → IsFresh held read_faults write_faults
+    → Ends name version (record (visit_of came held one source source_now) { read_faults = read_faults; write_faults = write_faults }) end
+    → Ends name version (visit_of came held one source source_now) end
+served_fresh name version came held read_faults write_faults one source source_now end fresh ends =
+    subst (λ r. Ends name version (record (visit_of came held one source source_now) { read_faults = r; write_faults = 0 }) end) fresh.reads
+    (subst (λ w. Ends name version (record (visit_of came held one source source_now) { read_faults = read_faults; write_faults = w }) end) fresh.writes ends)
+
+-- the next link, which was given and served
+pub first_served : (name : List ℕ) (version : Option ℕ) (before mid now : PortAt) (came held : Option (List ℕ)) (source source_now : Seen)
+    → GivesFirst before.links mid.links came held → IsAtEnd held → mid.closed ≡ before.closed → mid.faults ≡ before.faults
+    → now.links ≡ mid.links → now.faults ≡ mid.faults → ServesOne name version came held mid.closed now.closed source source_now
+    → ServesFirst name version before now source source_now
+first_served name version before mid now came held source source_now first unused closed faults links quiet serves = record {
+  one = serves.one;
+  given_back = subst (λ c. ClosesOne c now.closed serves.one) closed serves.given_back;
+  serves = record {
+    came = came;
+    held = held;
+    first = subst (λ l. GivesFirst before.links l came held) (sym links) first;
+    unused = unused;
+    end = serves.end;
+    ends = serves.ends;
+  };
+  quiet = quiet ∙ faults;
+}
+
+-- where a link came, it was served
+pub next_served : (E : Type 0) (name : List ℕ) (version : Option ℕ) (before now : PortAt) (source source_now : Seen) (came : Bool) → came ≡ true
+    → ServesNext {E = E} name version before now source source_now (Ok came) → ServesFirst name version before now source source_now
+next_served E name version before now source source_now came is serves =
+    subst (λ t. ServesNext {E = E} name version before now source source_now (Ok t)) is serves

@@ -1,0 +1,10 @@
+pub mod Apart
+pub mod Least
+pub mod Making
+pub mod Reading
+pub mod Bounding
+pub mod Descending
+pub mod Scanning
+pub mod Seeing
+pub mod Asking
+pub mod Capped

@@ -1,0 +1,19 @@
+use Rattle.std.proofs.Common.{[], ◌∷◌, ◌++◌, ◌∙◌, map, ap}
+use Rattle.std.proofs.lemmas.List.{take_all}
+use Rattle.monotone_fn.specs.Value.{value}
+use Rattle.ranked_list.specs.declared.item.Item.{Item}
+use Rattle.topk_theory.specs.Threshold.{scored}
+use Rattle.test_plain.proofs.Making.{map_more}
+use Rattle.test_plain.proofs.threshold.items_of.Goals as goal
+
+pub loop-object-init : goal.loop-object-init
+loop-object-init c = c.new-items.ensures.items
+
+pub loop-object-preserved : goal.loop-object-preserved
+loop-object-preserved c =
+    map_more (scored (value c.args.expr.now) c.args.lists.now) c.args.objects.now c.loop-object.object-index 0 c.loop-object.items.items c.push.new.self.items c.loop-object-test.true
+    (c.in_ok-push.ensures.items ∙ ap (λ (item : Item). c.loop-object.items.items ++ item ∷ []) c.scored.ensures) c.loop-object.invariant
+
+pub returns : goal.returns
+returns c =
+    c.loop-object.invariant ∙ ap (map (scored (value c.args.expr.now) c.args.lists.now)) (take_all c.loop-object.object-index c.args.objects.now c.loop-object-test.false)

@@ -1,4 +1,0 @@
-pub mod Bounding
-pub mod Descending
-pub mod Scanning
-pub mod Seeing

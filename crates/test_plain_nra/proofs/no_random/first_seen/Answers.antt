@@ -1,6 +1,0 @@
-use Rattle.monotone_fn.specs.Value.{value}
-use Rattle.test_plain_nra.proofs.Seeing.{seen_apart}
-use Rattle.test_plain_nra.proofs.no_random.first_seen.Goals as goal
-
-pub first_k-requires : goal.first_k-requires
-first_k-requires c = seen_apart (value c.args.expr.now) _ c.args.accesses.now _ c.in_ok-items.ensures

@@ -1,4 +1,0 @@
-pub mod Apart
-pub mod Least
-pub mod Making
-pub mod Reading

@@ -1,6 +1,0 @@
-use Rattle.std.proofs.Common.{◌≡◌, map, take, length}
-use Rattle.ranked_list.specs.Table.{grade_in}
-use Rattle.test_plain_ta.proofs.table.grades_of.Given as goal
-
-abbrev pub invariant-loop-list : goal.invariant-loop-list
-invariant-loop-list l = (length l.grades ≡ 8) × (take l.list l.grades ≡ map (λ rows. grade_in rows l.object) (take l.list l.lists))

@@ -1,6 +1,0 @@
-use Rattle.std.proofs.Common.{◌≡◌, take}
-use Rattle.ranked_list.specs.Table.{objects}
-use Rattle.test_plain_ta.proofs.table.objects.Given as goal
-
-abbrev pub invariant-loop-place : goal.invariant-loop-place
-invariant-loop-place l = l.found.items ≡ objects (take l.place l.list)

@@ -1,6 +1,0 @@
-use Rattle.std.proofs.Common.{◌≢◌, ℕ, ◌<◌, slice_index_or}
-use Rattle.test_plain_ta.specs.Posed.{no_row}
-use Rattle.test_plain_ta.proofs.table.place_in.Given as goal
-
-abbrev pub invariant-loop-place : goal.invariant-loop-place
-invariant-loop-place l = (k : ℕ) → k < l.place → (slice_index_or l.list k no_row).object ≢ l.object

@@ -1,5 +1,0 @@
-use Rattle.test_pool_support.specs.Ready.{IsReady}
-use Rattle.test_pool_support.proofs.desk.first_wrong.Given as goal
-
-abbrev pub invariant-loop-place : goal.invariant-loop-place
-invariant-loop-place g l = IsReady l.desk

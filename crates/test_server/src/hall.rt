@@ -1,0 +1,199 @@
+//! Two lists of three objects in memory, a server over them, and links whose replies are kept.
+
+ghost use Rattle.std.specs.Prelude.{◌≡◌, ◌≤◌, ◌<◌, ℕ, None, All, length, map, IfSome};
+ghost use Rattle.tk_io.specs.LinksInMemory.{IsUnused};
+ghost use Rattle.query_server.specs.Homes.{AreHomes, home_of};
+ghost use Rattle.test_server.specs.Two.{two_entries};
+
+use catalog_text::read_catalog;
+use fetcher::Slot;
+use limits::Settings;
+use query_server::{Opened, OpenedEntry, Served, serve_all};
+use source_api::Source;
+use std::alloc::Global;
+use std::sync::{OnceLock, Wait};
+use std::thread::Threads;
+use test_mem_source::{Held, Kind, MemSource, source_of};
+use tk_io::{MemLink, Port, Share};
+
+/// The parts of a message, one after another.
+pub(crate) type Parts = &'static [&'static [u8]];
+
+const CATALOG: &[u8] = b"name,place,random\nA,a,yes\nB,b,yes\n";
+
+/// The list A at version 7, which differs so from an honest one.
+pub(crate) const fn list_a(kind: Kind) -> Held {
+    Held {
+        place: "a",
+        rows: &[(1, 900), (2, 800), (3, 100)],
+        kind,
+    }
+}
+
+const B: Held = Held {
+    place: "b",
+    rows: &[(2, 700), (3, 600), (1, 500)],
+    kind: Kind::Honest,
+};
+
+/// The front of a reply with an outcome, and the end of each head.
+pub(crate) const OK: &[u8] = b"HTTP/1.1 200 OK\r\nContent-Type: text/plain\r\n";
+
+pub(crate) const CLOSE: &[u8] = b"Connection: close\r\n\r\n";
+
+/// A request with a line of no bytes, and its reply.
+pub(crate) const ASKS_NOTHING: Parts = &[b"GET /top?q= HTTP/1.1\r\nHost: h\r\n\r\n"];
+
+pub(crate) const NO_QUERY: Parts = &[
+    OK,
+    b"Content-Length: 19\r\n",
+    CLOSE,
+    b"refused 1 Syntax 0\n",
+];
+
+/// The bytes of the parts. None without memory.
+pub(crate) fn joined(alloc: Global, parts: &[&[u8]]) -> Option<Vec<u8>> {
+    let mut bytes = Vec::new(alloc);
+    for part in parts {
+        let Ok(()) = bytes.extend_from_slice(part) else {
+            return None;
+        };
+    }
+    Some(bytes)
+}
+
+/// Whether a link that was dropped took the whole of this reply.
+pub(crate) fn took(alloc: Global, share: &Share, reply: &[&[u8]]) -> Option<bool> {
+    let reply = joined(alloc, reply)?;
+    match share.get() {
+        Some(taken) => Some(taken.as_slice() == reply.as_slice()),
+        None => Some(false),
+    }
+}
+
+/// A place for what a link took.
+pub(crate) fn new_share(alloc: Global) -> Option<Share> {
+    Share::new(alloc, OnceLock::new()).ok()
+}
+
+/// A link with this request, of whose writes those of these numbers fail, and which leaves in the share what it took.
+pub(crate) fn link_of(
+    alloc: Global,
+    request: &[&[u8]],
+    write_fails: &[u64],
+    share: &Share,
+) -> Option<MemLink>
+    ensures { IfSome result IsUnused }
+{
+    let bytes = joined(alloc, request)?;
+    let Ok(kept) = share.clone() else {
+        return None;
+    };
+    let Ok(link) = MemLink::make(alloc, &bytes, 1000, 10_000, &[], write_fails, Some(kept)) else {
+        return None;
+    };
+    Some(link)
+}
+
+/// What became of the sources: both have three objects, that of A at version 7.
+fn two_entries(alloc: Global) -> Option<Vec<OpenedEntry>>
+    ensures { IfSome result (λ entries. entries.items ≡ two_entries) }
+{
+    let Ok(mut entries) = Vec::with_capacity(alloc, 2) else {
+        return None;
+    };
+    entries.push_reserved(OpenedEntry::Opened {
+        count: 3,
+        source: 0,
+        version: 7,
+    });
+    entries.push_reserved(OpenedEntry::Opened {
+        count: 3,
+        source: 1,
+        version: 0,
+    });
+    Some(entries)
+}
+
+/// The lists with what became of their sources. None without memory.
+fn open_lists(alloc: Global) -> Option<Opened>
+    ensures { IfSome result (λ opened. opened.entries ≡ two_entries) }
+{
+    let Ok(catalog) = read_catalog(alloc, CATALOG) else {
+        return None;
+    };
+    let Some(entries) = two_entries(alloc) else {
+        drop(catalog);
+        return None;
+    };
+    if catalog.len() != 2 {
+        drop(entries);
+        drop(catalog);
+        return None;
+    }
+    Some(Opened::make(catalog, entries))
+}
+
+/// The slot of a source that was asked for its size once. None without memory.
+fn slot_of(alloc: Global, held: &Held) -> Option<Slot<MemSource>>
+    ensures { IfSome result (λ slot. slot.feeder ≡ None) }
+{
+    let mut source = source_of(alloc, held)?;
+    if source.size(alloc).is_err() {
+        drop(source);
+        return None;
+    }
+    Some(Slot::make(source))
+}
+
+/// The slots of both sources. None without memory.
+fn two_slots(alloc: Global, first: &Held) -> Option<Vec<Slot<MemSource>>>
+    ensures size { IfSome result (λ slots. length slots.items ≡ 2) }
+    ensures empty { IfSome result (λ slots. All (λ slot. slot.feeder ≡ None) slots.items) }
+{
+    let first = slot_of(alloc, first)?;
+    let second = slot_of(alloc, &B)?;
+    let Ok(slots) = vec![in alloc; first, second] else {
+        return None;
+    };
+    Some(slots)
+}
+
+/// The two lists have a source of two each.
+fn two_have_homes()
+    ensures { AreHomes 2 (map home_of two_entries) }
+{}
+
+/// How a server over both lists ends that has so many workers, reads a row a page and none ahead, and serves at most so many links. None without
+/// memory.
+pub(crate) fn serve<R: Threads + Wait + Sync, P: Port>(
+    rt: &R,
+    alloc: Global,
+    first: Kind,
+    workers: u32,
+    conns: u64,
+    port: &mut P,
+) -> Option<Served>
+    requires { (1 ≤ workers) × (workers ≤ 32) }
+{
+    let mut lists = open_lists(alloc)?;
+    let mut slots = two_slots(alloc, &list_a(first))?;
+    two_have_homes();
+    let settings = Settings {
+        workers,
+        page: 1,
+        ahead: 0,
+    };
+    let served = serve_all(
+        rt,
+        alloc,
+        &mut lists,
+        slots.as_mut_slice(),
+        port,
+        settings,
+        conns,
+    );
+    drop(slots);
+    drop(lists);
+    Some(served)
+}

@@ -1,0 +1,170 @@
+//! Requests to a node of the list A over a link in memory, and their replies.
+
+use source_node::{ConnEnd, node_conn};
+use std::alloc::Global;
+use test_mem_source::{Held, Kind, MemSource, source_of};
+use tk_io::MemLink;
+
+/// The parts of a message, one after another.
+pub(crate) type Parts = &'static [&'static [u8]];
+
+/// The rows of the list A, at version 0.
+pub(crate) const A: Held = Held {
+    place: "A",
+    rows: &[(1, 900), (2, 800), (3, 100)],
+    kind: Kind::Honest,
+};
+
+/// The front of a reply with an answer, a line of the other replies, and the end of each head.
+pub(crate) const OK: &[u8] = b"HTTP/1.1 200 OK\r\nContent-Type: application/json\r\n";
+
+const PLAIN: &[u8] = b"Content-Type: text/plain\r\n";
+
+pub(crate) const CLOSE: &[u8] = b"Connection: close\r\n\r\n";
+
+/// The replies that say why there is no answer.
+pub(crate) const BAD: Parts = &[
+    b"HTTP/1.1 400 Bad Request\r\n",
+    PLAIN,
+    b"Content-Length: 12\r\n",
+    CLOSE,
+    b"Bad Request\n",
+];
+
+pub(crate) const NOT_FOUND: Parts = &[
+    b"HTTP/1.1 404 Not Found\r\n",
+    PLAIN,
+    b"Content-Length: 10\r\n",
+    CLOSE,
+    b"Not Found\n",
+];
+
+pub(crate) const NOT_ALLOWED: Parts = &[
+    b"HTTP/1.1 405 Method Not Allowed\r\n",
+    PLAIN,
+    b"Allow: GET\r\nContent-Length: 19\r\n",
+    CLOSE,
+    b"Method Not Allowed\n",
+];
+
+pub(crate) const NO_HEAD: Parts = &[
+    b"HTTP/1.1 405 Method Not Allowed\r\n",
+    PLAIN,
+    b"Allow: GET\r\n",
+    CLOSE,
+];
+
+pub(crate) const TOO_LARGE: Parts = &[
+    b"HTTP/1.1 431 Request Header Fields Too Large\r\n",
+    PLAIN,
+    b"Content-Length: 32\r\n",
+    CLOSE,
+    b"Request Header Fields Too Large\n",
+];
+
+pub(crate) const FAILED: Parts = &[
+    b"HTTP/1.1 500 Internal Server Error\r\n",
+    PLAIN,
+    b"Content-Length: 22\r\n",
+    CLOSE,
+    b"Internal Server Error\n",
+];
+
+/// The reply that says how many rows A has.
+pub(crate) const SIZE: Parts = &[OK, b"Content-Length: 11\r\n", CLOSE, b"{\"count\":3}"];
+
+/// The bytes of the parts, or None where no memory was left.
+pub(crate) fn joined(alloc: Global, parts: &[&[u8]]) -> Option<Vec<u8>> {
+    let mut bytes = Vec::new(alloc);
+    for part in parts {
+        let Ok(()) = bytes.extend_from_slice(part) else {
+            return None;
+        };
+    }
+    Some(bytes)
+}
+
+/// A link that gives these parts, so many bytes in one read, and has room for any reply.
+fn link_of(alloc: Global, parts: &[&[u8]], piece: u32) -> Option<MemLink> {
+    let bytes = joined(alloc, parts)?;
+    MemLink::make(alloc, &bytes, piece.max(1), 1_000, &[], &[], None).ok()
+}
+
+/// The statuses, by how a reply begins.
+static STATUSES: &[(&[u8], u16)] = &[
+    (b"HTTP/1.1 200 ", 200),
+    (b"HTTP/1.1 400 ", 400),
+    (b"HTTP/1.1 404 ", 404),
+    (b"HTTP/1.1 405 ", 405),
+    (b"HTTP/1.1 431 ", 431),
+    (b"HTTP/1.1 500 ", 500),
+];
+
+/// The status that stands in a reply.
+fn status_in(reply: &[u8]) -> Option<u16> {
+    for (front, status) in STATUSES {
+        if reply.starts_with(front) {
+            return Some(*status);
+        }
+    }
+    None
+}
+
+/// Whether a connection ended with the reply of these parts and its status.
+fn is_reply(alloc: Global, end: ConnEnd, link: &MemLink, parts: &[&[u8]]) -> bool {
+    let Some(reply) = joined(alloc, parts) else {
+        return false;
+    };
+    let is_so = match end {
+        ConnEnd::Replied { status } => {
+            Some(status) == status_in(&reply) && link.taken() == reply.as_slice()
+        }
+        _ => false,
+    };
+    drop(reply);
+    is_so
+}
+
+/// Whether a source gets this reply to a request, so many bytes of which come in one read, where the node
+/// is told a version or none.
+pub(crate) fn replies(
+    alloc: Global,
+    source: &mut MemSource,
+    version: Option<u64>,
+    request: &[&[u8]],
+    piece: u32,
+    reply: &[&[u8]],
+) -> bool {
+    let Some(mut link) = link_of(alloc, request, piece) else {
+        return false;
+    };
+    let end = node_conn(alloc, "A", version, source, &mut link);
+    let is_so = is_reply(alloc, end, &link, reply);
+    drop(link);
+    is_so
+}
+
+/// Whether a list that no call has reached gets this reply to a request, whole and byte by byte.
+pub(crate) fn comes_to(alloc: Global, held: &Held, request: &[&[u8]], reply: &[&[u8]]) -> bool {
+    for piece in [1_000_000, 1] {
+        let Some(mut source) = source_of(alloc, held) else {
+            return false;
+        };
+        let is_so = replies(alloc, &mut source, None, request, piece, reply);
+        drop(source);
+        if !is_so {
+            return false;
+        }
+    }
+    true
+}
+
+/// The place of the first request to the list A that gets another reply.
+pub(crate) fn first_other(alloc: Global, visits: &[(Parts, Parts)]) -> Option<usize> {
+    for (place, (request, reply)) in visits.iter().enumerate() {
+        if !comes_to(alloc, &A, request, reply) {
+            return Some(place);
+        }
+    }
+    None
+}

@@ -1,0 +1,337 @@
+//! Requests to the server over a link in memory, beside fetchers of its two sources, and their replies.
+
+ghost use Rattle.std.specs.Prelude.{◌≡◌};
+ghost use Rattle.source_pool.specs.Passes.{IsIdleOf};
+ghost use Rattle.query_server.specs.Entries.{MayAnswer};
+
+use super::desk::{open_lists, opened_may_answer};
+use fetcher::Stop;
+use query_server::{ConnEnd, Opened, Turn, serve_conn};
+use source_pool::{Feeder, Pool, PoolPass};
+use std::alloc::Global;
+use std::sync::Wait;
+use std::thread::{Threads, join_mut};
+use test_mem_source::{Held, Kind, MemSource, source_of};
+use test_query_support::{Pair, fetch_till_set};
+use tk_io::MemLink;
+
+/// The parts of a message, one after another.
+pub(crate) type Parts = &'static [&'static [u8]];
+
+/// Two lists of three objects.
+const A: Held = Held {
+    place: "a",
+    rows: &[(1, 900), (2, 800), (3, 100)],
+    kind: Kind::Honest,
+};
+
+const B: Held = Held {
+    place: "b",
+    rows: &[(2, 700), (3, 600), (1, 500)],
+    kind: Kind::Honest,
+};
+
+/// The fronts of replies, and the end of each head.
+pub(crate) const OK: &[u8] = b"HTTP/1.1 200 OK\r\nContent-Type: text/plain\r\n";
+
+const PLAIN: &[u8] = b"Content-Type: text/plain\r\n";
+
+pub(crate) const CLOSE: &[u8] = b"Connection: close\r\n\r\n";
+
+/// The replies that say why there is no outcome.
+pub(crate) const BAD: Parts = &[
+    b"HTTP/1.1 400 Bad Request\r\n",
+    PLAIN,
+    b"Content-Length: 12\r\n",
+    CLOSE,
+    b"Bad Request\n",
+];
+
+pub(crate) const NOT_FOUND: Parts = &[
+    b"HTTP/1.1 404 Not Found\r\n",
+    PLAIN,
+    b"Content-Length: 10\r\n",
+    CLOSE,
+    b"Not Found\n",
+];
+
+pub(crate) const NOT_ALLOWED: Parts = &[
+    b"HTTP/1.1 405 Method Not Allowed\r\n",
+    PLAIN,
+    b"Allow: GET\r\nContent-Length: 19\r\n",
+    CLOSE,
+    b"Method Not Allowed\n",
+];
+
+pub(crate) const NO_HEAD: Parts = &[
+    b"HTTP/1.1 405 Method Not Allowed\r\n",
+    PLAIN,
+    b"Allow: GET\r\n",
+    CLOSE,
+];
+
+pub(crate) const TOO_LARGE: Parts = &[
+    b"HTTP/1.1 431 Request Header Fields Too Large\r\n",
+    PLAIN,
+    b"Content-Length: 32\r\n",
+    CLOSE,
+    b"Request Header Fields Too Large\n",
+];
+
+/// The reply to a line of no bytes.
+pub(crate) const NO_QUERY: Parts = &[
+    OK,
+    b"Content-Length: 19\r\n",
+    CLOSE,
+    b"refused 1 Syntax 0\n",
+];
+
+/// The bytes of the parts, or None where no memory was left.
+fn joined(alloc: Global, parts: &[&[u8]]) -> Option<Vec<u8>> {
+    let mut bytes = Vec::new(alloc);
+    for part in parts {
+        let Ok(()) = bytes.extend_from_slice(part) else {
+            return None;
+        };
+    }
+    Some(bytes)
+}
+
+/// A link that gives these parts, so many bytes in one read, has room for any reply, and fails these of its reads and writes.
+pub(crate) fn link_of(
+    alloc: Global,
+    parts: &[&[u8]],
+    piece: u32,
+    read_fails: &[u64],
+    write_fails: &[u64],
+) -> Option<MemLink> {
+    let bytes = joined(alloc, parts)?;
+    MemLink::make(
+        alloc,
+        &bytes,
+        piece.max(1),
+        2_000,
+        read_fails,
+        write_fails,
+        None,
+    )
+    .ok()
+}
+
+/// The statuses, by how a reply begins.
+static STATUSES: &[(&[u8], u16)] = &[
+    (b"HTTP/1.1 200 ", 200),
+    (b"HTTP/1.1 400 ", 400),
+    (b"HTTP/1.1 404 ", 404),
+    (b"HTTP/1.1 405 ", 405),
+    (b"HTTP/1.1 431 ", 431),
+];
+
+/// The status that stands in a reply.
+fn status_in(reply: &[u8]) -> Option<u16> {
+    for (front, status) in STATUSES {
+        if reply.starts_with(front) {
+            return Some(*status);
+        }
+    }
+    None
+}
+
+/// Whether a connection ended with the reply of these parts and its status, and nothing moved.
+fn is_reply(alloc: Global, turn: Turn, link: &MemLink, parts: &[&[u8]]) -> bool {
+    let Some(reply) = joined(alloc, parts) else {
+        return false;
+    };
+    let is_so = match turn.end {
+        ConnEnd::Replied { status } => {
+            !turn.moved && Some(status) == status_in(&reply) && link.taken() == reply.as_slice()
+        }
+        ConnEnd::LinkFault => false,
+    };
+    drop(reply);
+    is_so
+}
+
+/// The server's side: it answers the request of the link, and sets the sign.
+fn answer(
+    rt: &impl Wait,
+    alloc: Global,
+    lists: &Opened,
+    pool: &Pool,
+    pass: &mut PoolPass,
+    link: &mut MemLink,
+    turn: &mut Option<Turn>,
+    stop: &Stop,
+)
+    requires { MayAnswer lists.now pool.now pass.old }
+{
+    *turn = Some(serve_conn(rt, alloc, lists, pool, pass, link));
+    stop.set(pool);
+}
+
+/// A source's side: it is fetched a row a page until the sign is set.
+fn fetch(
+    rt: &impl Wait,
+    alloc: Global,
+    pool: &Pool,
+    feeder: &mut Feeder,
+    source: &mut MemSource,
+    stop: &Stop,
+)
+    requires { IsIdleOf pool.now feeder.old }
+{
+    fetch_till_set(rt, alloc, pool, feeder, source, stop);
+}
+
+/// Both sources' sides.
+fn fetch_both<R: Threads + Wait + Sync>(
+    rt: &R,
+    alloc: Global,
+    pool: &Pool,
+    first: &mut Feeder,
+    second: &mut Feeder,
+    sources: &mut (MemSource, MemSource),
+    stop: &Stop,
+)
+    requires first { IsIdleOf pool.now first.old }
+    requires second { IsIdleOf pool.now second.old }
+{
+    let (one, other) = sources;
+    join_mut(
+        rt,
+        &mut ||
+            requires { IsIdleOf pool.now first.now }
+        { fetch(rt, alloc, pool, first, one, stop) },
+        &mut ||
+            requires { IsIdleOf pool.now second.now }
+        { fetch(rt, alloc, pool, second, other, stop) },
+    );
+}
+
+/// All sides.
+fn run_all<R: Threads + Wait + Sync>(
+    rt: &R,
+    alloc: Global,
+    lists: &Opened,
+    pool: &Pool,
+    pass: &mut PoolPass,
+    first: &mut Feeder,
+    second: &mut Feeder,
+    sources: &mut (MemSource, MemSource),
+    link: &mut MemLink,
+) -> Option<Turn>
+    requires may { MayAnswer lists.now pool.now pass.old }
+    requires first { IsIdleOf pool.now first.old }
+    requires second { IsIdleOf pool.now second.old }
+{
+    let stop = Stop::make();
+    let sign = &stop;
+    let mut turn = None;
+    let found = &mut turn;
+    join_mut(
+        rt,
+        &mut ||
+            requires { (IsIdleOf pool.now first.now) × IsIdleOf pool.now second.now }
+        { fetch_both(rt, alloc, pool, first, second, sources, sign) },
+        &mut ||
+            requires { MayAnswer lists.now pool.now pass.now }
+        { answer(rt, alloc, lists, pool, pass, link, found, sign) },
+    );
+    turn
+}
+
+/// How the connection of a link ends over the four lists and these sources. None without memory.
+fn serve_over<R: Threads + Wait + Sync>(
+    rt: &R,
+    alloc: Global,
+    sources: &mut (MemSource, MemSource),
+    link: &mut MemLink,
+) -> Option<Turn> {
+    let lists = open_lists(alloc)?;
+    let Some(mut pair) = Pair::open(alloc, 3) else {
+        drop(lists);
+        return None;
+    };
+    opened_may_answer(&lists, &pair);
+    let turn = run_all(
+        rt,
+        alloc,
+        &lists,
+        &pair.pool,
+        &mut pair.pass,
+        &mut pair.first,
+        &mut pair.second,
+        sources,
+        link,
+    );
+    pair.let_go();
+    drop(lists);
+    turn
+}
+
+/// The sources of A and B. None without memory.
+fn two_sources(alloc: Global) -> Option<(MemSource, MemSource)> {
+    let first = source_of(alloc, &A)?;
+    match source_of(alloc, &B) {
+        Some(second) => Some((first, second)),
+        None => {
+            drop(first);
+            None
+        }
+    }
+}
+
+/// How the connection of a link ends over the lists A and B. None without memory.
+pub(crate) fn serve_link<R: Threads + Wait + Sync>(
+    rt: &R,
+    alloc: Global,
+    link: &mut MemLink,
+) -> Option<Turn> {
+    let mut sources = two_sources(alloc)?;
+    let turn = serve_over(rt, alloc, &mut sources, link);
+    drop(sources);
+    turn
+}
+
+/// Whether a request gets this reply, where so many of its bytes come in one read.
+fn replies<R: Threads + Wait + Sync>(
+    rt: &R,
+    alloc: Global,
+    request: &[&[u8]],
+    piece: u32,
+    reply: &[&[u8]],
+) -> bool {
+    let Some(mut link) = link_of(alloc, request, piece, &[], &[]) else {
+        return false;
+    };
+    let is_so = match serve_link(rt, alloc, &mut link) {
+        Some(turn) => is_reply(alloc, turn, &link, reply),
+        None => false,
+    };
+    drop(link);
+    is_so
+}
+
+/// Whether a request gets this reply, whole and byte by byte.
+pub(crate) fn comes_to<R: Threads + Wait + Sync>(
+    rt: &R,
+    alloc: Global,
+    request: &[&[u8]],
+    reply: &[&[u8]],
+) -> bool {
+    replies(rt, alloc, request, 1_000_000, reply) && replies(rt, alloc, request, 1, reply)
+}
+
+/// The place of the first request that gets another reply.
+pub(crate) fn first_other<R: Threads + Wait + Sync>(
+    rt: &R,
+    alloc: Global,
+    visits: &[(Parts, Parts)],
+) -> Option<usize> {
+    for (place, (request, reply)) in visits.iter().enumerate() {
+        if !comes_to(rt, alloc, request, reply) {
+            return Some(place);
+        }
+    }
+    None
+}

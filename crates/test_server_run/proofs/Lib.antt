@@ -1,2 +1,0 @@
--- The two lists have sources of their own.
-pub mod HomeLaws

@@ -1,2 +1,0 @@
--- What became of the two lists of the tests.
-pub mod Two
