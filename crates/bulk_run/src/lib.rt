@@ -1,5 +1,6 @@
-//! The command `bulk`: many made queries over one made table, whose lists are sources, each in a slot. They are the same queries and the
-//! same rows wherever they are run, and what is written is one line of sums over their answers.
+//! The command `bulk`: many made queries over one made table, whose lists are sources, each in a slot.
+//!
+//! They are the same queries and the same rows wherever they are run, and what is written is one line of sums over their answers.
 #![tactic(auto)]
 
 mod bulking;

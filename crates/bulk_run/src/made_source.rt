@@ -5,7 +5,7 @@ ghost use Rattle.bulk_run.specs.Held.{fresh, grade_at, AreSmall, AreGradesOf};
 
 use super::Memory;
 use ranked_list::{MemList, Row};
-use source_api::{Source, Trouble, part_of};
+use source_api::{FailKind, Source, Trouble, part_of};
 use std::alloc::Global;
 use std::marker::Model;
 
@@ -106,7 +106,7 @@ impl Source for MadeSource {
     /// All of the rows that are asked for and are there.
     fn page(&mut self, alloc: Global, from: u32, count: u32) -> Result<Vec<Row>, Trouble> {
         let Ok(page) = Vec::from_slice(alloc, part_of(&self.rows, from, count)) else {
-            return Err(Trouble::Memory);
+            return Err(Trouble::Fail(FailKind::Memory));
         };
         self.rows_given = self.rows_given.saturating_add(page.len() as u64);
         Ok(page)

@@ -8,7 +8,8 @@ use Rattle.tk_io.specs.Faults.{counted, Rose}
 use Rattle.source_api.specs.declared.counts.Counts.{Counts}
 use Rattle.source_api.specs.declared.ledger.PlaceCounts.{PlaceCounts}
 use Rattle.source_api.specs.declared.source.Trouble.{Trouble}
-use Rattle.source_api.specs.declared.source.Trouble.TheVariants.{Failed, Garbled, Memory, Moved}
+use Rattle.source_api.specs.declared.source.FailKind.TheVariants.{Failed, Garbled, Memory}
+use Rattle.source_api.specs.declared.source.Trouble.TheVariants.{Fail, Moved}
 use Rattle.source_api.specs.Counting.{TroubleHasCause, IsNoMove, added, no_counts, raised}
 use Rattle.source_api.specs.Places.{CountsTakes, HasTakeCause, SameElsewhere, counts_taken, put_back_at, with_source}
 use Rattle.catalog_text.specs.Catalog.{Listed as Entry}
@@ -322,32 +323,32 @@ put_known before now knows counts is known = (counts, is ∙ ap (λ k. put_back_
 
 -- and had failed at its first call, or answered it by garbled data
 pub put_troubled : (before now : PlaceCounts) (knows : Bool) (first counts : Counts) (trouble : Trouble) → now ≡ put_back_at knows counts before → knows ≡ true
-    → first ≡ no_counts → TroubleHasCause first counts trouble → (trouble ≡ Memory → ⊥) → IsNoMove trouble → TroubleAt before now
-put_troubled before now knows first counts Failed is known fresh cause other still =
+    → first ≡ no_counts → TroubleHasCause first counts trouble → (trouble ≡ Fail Memory → ⊥) → IsNoMove trouble → TroubleAt before now
+put_troubled before now knows first counts (Fail Failed) is known fresh cause other still =
     let here : now.sources.faults ≡ raised before.sources.faults counts.faults = ap (λ (c : PlaceCounts). c.sources.faults) (is ∙ ap (λ k. put_back_at k counts before) known) in
     let none : first.faults ≡ 0 = ap (λ (c : Counts). c.faults) fresh in
     inr (inl (omega (arith, here, none, cause)))
-put_troubled before now knows first counts Garbled is known fresh cause other still =
+put_troubled before now knows first counts (Fail Garbled) is known fresh cause other still =
     let here : now.sources.garbles ≡ raised before.sources.garbles counts.garbles = ap (λ (c : PlaceCounts). c.sources.garbles) (is ∙ ap (λ k. put_back_at k counts before) known) in
     let none : first.garbles ≡ 0 = ap (λ (c : Counts). c.garbles) fresh in
     inr (inr (omega (arith, here, none, cause)))
-put_troubled before now knows first counts Memory is known fresh cause other still = absurd (other refl)
+put_troubled before now knows first counts (Fail Memory) is known fresh cause other still = absurd (other refl)
 put_troubled before now knows first counts (Moved had stated) is known fresh cause other still = absurd still
 
-failed_not : Failed ≡ Memory → ⊥
+failed_not : Fail Failed ≡ Fail Memory → ⊥
 failed_not e = cc
 
-garbled_not : Garbled ≡ Memory → ⊥
+garbled_not : Fail Garbled ≡ Fail Memory → ⊥
 garbled_not e = cc
 
 -- the same, where the trouble is known
 pub put_failed : (before now : PlaceCounts) (knows : Bool) (first counts : Counts) (trouble : Trouble) → now ≡ put_back_at knows counts before → knows ≡ true
-    → first ≡ no_counts → TroubleHasCause first counts trouble → trouble ≡ Failed → TroubleAt before now
-put_failed before now knows first counts trouble is known fresh cause failed = put_troubled before now knows first counts Failed is known fresh (subst (TroubleHasCause first counts) failed cause) failed_not tt
+    → first ≡ no_counts → TroubleHasCause first counts trouble → trouble ≡ Fail Failed → TroubleAt before now
+put_failed before now knows first counts trouble is known fresh cause failed = put_troubled before now knows first counts (Fail Failed) is known fresh (subst (TroubleHasCause first counts) failed cause) failed_not tt
 
 pub put_garbled : (before now : PlaceCounts) (knows : Bool) (first counts : Counts) (trouble : Trouble) → now ≡ put_back_at knows counts before → knows ≡ true
-    → first ≡ no_counts → TroubleHasCause first counts trouble → trouble ≡ Garbled → TroubleAt before now
-put_garbled before now knows first counts trouble is known fresh cause garbled = put_troubled before now knows first counts Garbled is known fresh (subst (TroubleHasCause first counts) garbled cause) garbled_not tt
+    → first ≡ no_counts → TroubleHasCause first counts trouble → trouble ≡ Fail Garbled → TroubleAt before now
+put_garbled before now knows first counts trouble is known fresh cause garbled = put_troubled before now knows first counts (Fail Garbled) is known fresh (subst (TroubleHasCause first counts) garbled cause) garbled_not tt
 
 -- a call that takes a source moves so
 pub take_moves : (before now : PlaceCounts) → CountsTakes before now → MovesAt before now
@@ -388,15 +389,15 @@ took_back before mid now took put =
     }
 
 -- a take that failed or was answered by garbled data is trouble at its place
-pub take_trouble : (before now : PlaceCounts) (trouble : Trouble) → HasTakeCause before now trouble → (trouble ≡ Memory → ⊥) → TroubleAt before now
-take_trouble before now Failed cause other = inl cause
-take_trouble before now Garbled cause other = inl cause
-take_trouble before now Memory cause other = absurd (other refl)
+pub take_trouble : (before now : PlaceCounts) (trouble : Trouble) → HasTakeCause before now trouble → (trouble ≡ Fail Memory → ⊥) → TroubleAt before now
+take_trouble before now (Fail Failed) cause other = inl cause
+take_trouble before now (Fail Garbled) cause other = inl cause
+take_trouble before now (Fail Memory) cause other = absurd (other refl)
 take_trouble before now (Moved had stated) cause other = absurd cause
 
 -- the same, where the trouble is known
-pub take_failed : (before now : PlaceCounts) (trouble : Trouble) → HasTakeCause before now trouble → trouble ≡ Failed → TroubleAt before now
-take_failed before now trouble cause failed = take_trouble before now Failed (subst (HasTakeCause before now) failed cause) failed_not
+pub take_failed : (before now : PlaceCounts) (trouble : Trouble) → HasTakeCause before now trouble → trouble ≡ Fail Failed → TroubleAt before now
+take_failed before now trouble cause failed = take_trouble before now (Fail Failed) (subst (HasTakeCause before now) failed cause) failed_not
 
-pub take_garbled : (before now : PlaceCounts) (trouble : Trouble) → HasTakeCause before now trouble → trouble ≡ Garbled → TroubleAt before now
-take_garbled before now trouble cause garbled = take_trouble before now Garbled (subst (HasTakeCause before now) garbled cause) garbled_not
+pub take_garbled : (before now : PlaceCounts) (trouble : Trouble) → HasTakeCause before now trouble → trouble ≡ Fail Garbled → TroubleAt before now
+take_garbled before now trouble cause garbled = take_trouble before now (Fail Garbled) (subst (HasTakeCause before now) garbled cause) garbled_not

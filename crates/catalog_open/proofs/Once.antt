@@ -9,7 +9,8 @@ use Rattle.tk_io.specs.Faults.{counted, Rose}
 use Rattle.ranked_list.specs.declared.row.Row.{Row}
 use Rattle.source_api.specs.declared.ledger.PlaceCounts.{PlaceCounts}
 use Rattle.source_api.specs.declared.source.Trouble.{Trouble}
-use Rattle.source_api.specs.declared.source.Trouble.TheVariants.{Failed, Garbled, Memory}
+use Rattle.source_api.specs.declared.source.FailKind.TheVariants.{Failed, Garbled, Memory}
+use Rattle.source_api.specs.declared.source.Trouble.TheVariants.{Fail}
 use Rattle.source_api.specs.Places.{HasTakeCause, SameElsewhere, counts_taken}
 use Rattle.catalog_text.specs.Catalog.{Listed as Entry}
 use Rattle.catalog_open.specs.Entries.{entry_at}
@@ -42,17 +43,17 @@ asks_given before now taken same = record { given = 1; failed = 0; all = refl; t
 pub asks_failed : (before now : PlaceCounts) → now.taken ≡ before.taken → Rose before.take_faults now.take_faults → AsksFor 1 before now
 asks_failed before now taken rose = record { given = 0; failed = 1; all = refl; taken = taken; faults = rose; quiet = λ none. absurd (omega (arith, none)) }
 
-pub take_fails : (before now : PlaceCounts) (trouble : Trouble) → now.taken ≡ before.taken → HasTakeCause before now trouble → trouble ≡ Failed → AsksFor 1 before now
+pub take_fails : (before now : PlaceCounts) (trouble : Trouble) → now.taken ≡ before.taken → HasTakeCause before now trouble → trouble ≡ Fail Failed → AsksFor 1 before now
 take_fails before now trouble taken cause is = asks_failed before now taken (subst (HasTakeCause before now) is cause)
 
-pub take_garbles : (before now : PlaceCounts) (trouble : Trouble) → now.taken ≡ before.taken → HasTakeCause before now trouble → trouble ≡ Garbled → AsksFor 1 before now
+pub take_garbles : (before now : PlaceCounts) (trouble : Trouble) → now.taken ≡ before.taken → HasTakeCause before now trouble → trouble ≡ Fail Garbled → AsksFor 1 before now
 take_garbles before now trouble taken cause is = asks_failed before now taken (subst (HasTakeCause before now) is cause)
 
 -- memory was refused
 pub few_none : (most : ℕ) (before now : PlaceCounts) → now ≡ before → AsksAtMost most before now
 few_none most before now same = record { calls = 0; few = omega arith; asks = asks_none before now same }
 
-pub take_short : (before now : PlaceCounts) (trouble : Trouble) → HasTakeCause before now trouble → trouble ≡ Memory → AsksAtMost 1 before now
+pub take_short : (before now : PlaceCounts) (trouble : Trouble) → HasTakeCause before now trouble → trouble ≡ Fail Memory → AsksAtMost 1 before now
 take_short before now trouble cause is = few_none 1 before now (subst (HasTakeCause before now) is cause)
 
 -- exactly so many times is at most so many

@@ -1,5 +1,6 @@
-//! Query lines over a catalog before they run: reading them, which sources they want, opening these, admitting the lines over what became of them, and
-//! putting the sources back.
+//! Query lines over a catalog before they run: which sources they want, opening these, and admitting the lines over what became of them.
+//!
+//! The lines are read here too, and the sources put back.
 #![tactic(auto)]
 
 mod admissions;

@@ -15,7 +15,7 @@ use super::opened::{Opened, Opening};
 use catalog_text::Catalog;
 use fetcher::Slot;
 use limits::MAX_OBJECTS;
-use source_api::{Shelf, Source, Trouble};
+use source_api::{FailKind, Shelf, Source, Trouble};
 use std::alloc::Global;
 
 /// How many objects a source of this size has in a run.
@@ -74,10 +74,10 @@ fn ask_size<H: Shelf>(
         Err(trouble) => {
             shelf.put_back(place, source);
             match trouble {
-                Trouble::Failed => Ok(None),
-                Trouble::Garbled => Ok(None),
+                Trouble::Fail(FailKind::Failed) => Ok(None),
+                Trouble::Fail(FailKind::Garbled) => Ok(None),
                 Trouble::Moved { .. } => unreachable!(),
-                Trouble::Memory => Err(Memory),
+                Trouble::Fail(FailKind::Memory) => Err(Memory),
             }
         }
     }
@@ -107,9 +107,9 @@ fn open_source<H: Shelf>(
 {
     match shelf.take(alloc, place) {
         Ok(source) => ask_size(alloc, shelf, place, source),
-        Err(Trouble::Failed) => Ok(None),
-        Err(Trouble::Garbled) => Ok(None),
-        Err(Trouble::Memory) => Err(Memory),
+        Err(Trouble::Fail(FailKind::Failed)) => Ok(None),
+        Err(Trouble::Fail(FailKind::Garbled)) => Ok(None),
+        Err(Trouble::Fail(FailKind::Memory)) => Err(Memory),
         Err(Trouble::Moved { .. }) => unreachable!(),
     }
 }

@@ -9,7 +9,7 @@ use Rattle.turn_lock.specs.Facts.{IsFrontOf}
 use Rattle.turn_lock.proofs.Growth.{begins_on}
 use Rattle.source_state.specs.declared.ask.Ask.{Ask}
 use Rattle.source_state.specs.declared.entry.LogEntry.{LogEntry}
-use Rattle.source_state.specs.declared.entry.FailKind.{FailKind}
+use Rattle.source_api.specs.declared.source.FailKind.{FailKind}
 use Rattle.source_state.specs.declared.event.Event.{Event}
 use Rattle.source_state.specs.declared.event.Event.TheVariants as event
 use Rattle.source_state.specs.declared.plan.Plan.{Plan}
@@ -27,7 +27,7 @@ use Rattle.source_api.specs.Counting.{TroubleHasCause, MovedHasCause, GaveNothin
 use Rattle.source_api.specs.Told.{IsPage, IsGrade}
 use Rattle.fetcher.specs.declared.turned.Turned.{Turned}
 use Rattle.fetcher.specs.declared.turned.Turned.TheVariants as turned
-use Rattle.fetcher.specs.Turning.{IsFound, Feeds, IsPlanned, IsFed, BroughtFail, Brings, MayTellPage, IsNext, MayTellGrade, MayFetch, settled_by, answer_by, troubled_by, failed_by, IsOfSource}
+use Rattle.fetcher.specs.Turning.{IsFound, Feeds, IsPlanned, IsFed, BroughtFail, Brings, MayTellPage, IsNext, MayTellGrade, MayFetch, settled_by, answer_by, troubled_by, IsOfSource}
 use Rattle.fetcher.proofs.ReachLaws.{reach_more}
 use Rattle.fetcher.proofs.EventLaws.{page_stays, move_tally}
 
@@ -90,15 +90,13 @@ grade_brings page ahead object (Some grade) list counts now before after fed gav
     record { grade = grade; fed = fed; tally = fed_tally (event.Grade object grade) before after fed (λ s. refl); gave = gave; told = told }
 
 -- a call that failed
-fail_is : (what : FailKind) (why : Trouble) (counts now : Counts) (before after : Known LogEntry) → IsFed (event.Fail what) before after
-    → GaveNothing counts now → TroubleHasCause counts now why → BroughtFail what why counts now before after
-fail_is what why counts now before after fed gave cause = record { fed = fed; seen = fed.sees.log ∙ fed.is.log; tally = fed.sees.tally ∙ ap (counted what) fed.is.tally; gave = gave; cause = cause }
+fail_is : (what : FailKind) (counts now : Counts) (before after : Known LogEntry) → IsFed (event.Fail what) before after
+    → GaveNothing counts now → TroubleHasCause counts now (trouble.Fail what) → BroughtFail what counts now before after
+fail_is what counts now before after fed gave cause = record { fed = fed; seen = fed.sees.log ∙ fed.is.log; tally = fed.sees.tally ∙ ap (counted what) fed.is.tally; gave = gave; cause = cause }
 
 pub trouble_brings : (page ahead : ℕ) (object : Option ℕ) (why : Trouble) (list : Option (List Row)) (counts now : Counts) (before after : Known LogEntry)
-    → IsFed (troubled_by object why) before after → GaveNothing counts now → TroubleHasCause counts now why → Brings page ahead list counts now before after (failed_by why)
-trouble_brings page ahead object trouble.Failed list counts now before after fed gave cause = fail_is _ _ counts now before after fed gave cause
-trouble_brings page ahead object trouble.Garbled list counts now before after fed gave cause = fail_is _ _ counts now before after fed gave cause
-trouble_brings page ahead object trouble.Memory list counts now before after fed gave cause = fail_is _ _ counts now before after fed gave cause
+    → IsFed (troubled_by object why) before after → GaveNothing counts now → TroubleHasCause counts now why → Brings page ahead list counts now before after (turned.Troubled why)
+trouble_brings page ahead object (trouble.Fail what) list counts now before after fed gave cause = fail_is what counts now before after fed gave cause
 trouble_brings page ahead object (trouble.Moved had other) list counts now before after fed gave cause = record {
   object = object;
   fed = fed;
@@ -110,9 +108,7 @@ trouble_brings page ahead object (trouble.Moved had other) list counts now befor
 -- what is told of a call that gave nothing may be told
 move_may : (object : Option ℕ) (why : Trouble) (version : ℕ) (told : Option ℕ) (known : Known LogEntry) → MovedHasCause version told why
     → ((state : State) → IsFound state known → MayMove state object) → (state : State) → IsFound state known → MayCome state (troubled_by object why)
-move_may object trouble.Failed version told known cause may state is = tt
-move_may object trouble.Garbled version told known cause may state is = tt
-move_may object trouble.Memory version told known cause may state is = tt
+move_may object (trouble.Fail what) version told known cause may state is = tt
 move_may object (trouble.Moved had other) version told known cause may state is = (cause.differ, may state is)
 
 pub page_trouble_may : (from count : ℕ) (why : Trouble) (version : ℕ) (told : Option ℕ) (known : Known LogEntry) → IsNext from count known
@@ -131,9 +127,7 @@ pub grade_trouble_may : (object : ℕ) (why : Trouble) (version : ℕ) (told : O
 grade_trouble_may object why version told known may cause = move_may (Some object) why version told known cause may.pending
 
 pub trouble_source : (object : Option ℕ) (why : Trouble) → IsOfSource (troubled_by object why)
-trouble_source object trouble.Failed = tt
-trouble_source object trouble.Garbled = tt
-trouble_source object trouble.Memory = tt
+trouble_source object (trouble.Fail what) = tt
 trouble_source object (trouble.Moved had other) = tt
 
 -- none of these is idle
@@ -144,11 +138,8 @@ pub answer_busy : (object : ℕ) (grade : Option ℕ) (answer : Turned) → answ
 answer_busy object None answer e idle = let bad : turned.Missed object ≡ turned.Idle = sym e ∙ idle in absurd (cc)
 answer_busy object (Some grade) answer e idle = let bad : turned.Graded object ≡ turned.Idle = sym e ∙ idle in absurd (cc)
 
-pub failed_busy : (why : Trouble) (answer : Turned) → answer ≡ failed_by why → answer ≢ turned.Idle
-failed_busy trouble.Failed answer e idle = let bad : turned.Failed ≡ turned.Idle = sym e ∙ idle in absurd (cc)
-failed_busy trouble.Garbled answer e idle = let bad : turned.Garbled ≡ turned.Idle = sym e ∙ idle in absurd (cc)
-failed_busy trouble.Memory answer e idle = let bad : turned.Memory ≡ turned.Idle = sym e ∙ idle in absurd (cc)
-failed_busy (trouble.Moved had other) answer e idle = let bad : turned.Moved had other ≡ turned.Idle = sym e ∙ idle in absurd (cc)
+pub failed_busy : (why : Trouble) (answer : Turned) → answer ≡ turned.Troubled why → answer ≢ turned.Idle
+failed_busy why answer e idle = let bad : turned.Troubled why ≡ turned.Idle = sym e ∙ idle in absurd (cc)
 
 -- what is found later is found from the beginning
 found_from : (state : State) (page ahead : ℕ) (before mid : Known LogEntry) (planned : Plan) → IsPlanned page ahead before mid planned → Feeds before mid
@@ -166,10 +157,10 @@ fed_from : (e : Event) (page ahead : ℕ) (before mid after : Known LogEntry) (p
     → IsFed e mid after → IsFed e before after
 fed_from e page ahead before mid after planned p feeds fed = record { found = fed.found; is = found_from fed.found page ahead before mid planned p feeds fed.is; may = fed.may; sound = fed.sound; sees = fed.sees }
 
-fail_from : (what : FailKind) (why : Trouble) (counts now : Counts) (page ahead : ℕ) (before mid after : Known LogEntry) (planned : Plan)
+fail_from : (what : FailKind) (counts now : Counts) (page ahead : ℕ) (before mid after : Known LogEntry) (planned : Plan)
     → IsPlanned page ahead before mid planned → Feeds before mid
-    → BroughtFail what why counts now mid after → BroughtFail what why counts now before after
-fail_from what why counts now page ahead before mid after planned p feeds b = record {
+    → BroughtFail what counts now mid after → BroughtFail what counts now before after
+fail_from what counts now page ahead before mid after planned p feeds b = record {
   fed = fed_from (event.Fail what) page ahead before mid after planned p feeds b.fed;
   seen = b.seen ∙ (p.sees.log ∙ p.is.log);
   tally = b.tally ∙ ap (counted what) (p.sees.tally ∙ p.is.tally);
@@ -197,10 +188,8 @@ brings_from page ahead list counts now before mid after planned (turned.Graded o
     record { grade = b.grade; fed = fed_from (event.Grade object b.grade) page ahead before mid after planned p feeds b.fed; tally = b.tally ∙ (p.sees.tally ∙ p.is.tally); gave = b.gave; told = b.told }
 brings_from page ahead list counts now before mid after planned (turned.Missed object) p feeds busy b =
     record { fed = fed_from (event.Miss object) page ahead before mid after planned p feeds b.fed; tally = b.tally ∙ (p.sees.tally ∙ p.is.tally); gave = b.gave; told = b.told }
-brings_from page ahead list counts now before mid after planned turned.Failed p feeds busy b = fail_from _ _ counts now page ahead before mid after planned p feeds b
-brings_from page ahead list counts now before mid after planned turned.Garbled p feeds busy b = fail_from _ _ counts now page ahead before mid after planned p feeds b
-brings_from page ahead list counts now before mid after planned turned.Memory p feeds busy b = fail_from _ _ counts now page ahead before mid after planned p feeds b
-brings_from page ahead list counts now before mid after planned (turned.Moved had other) p feeds busy b = record {
+brings_from page ahead list counts now before mid after planned (turned.Troubled (trouble.Fail what)) p feeds busy b = fail_from what counts now page ahead before mid after planned p feeds b
+brings_from page ahead list counts now before mid after planned (turned.Troubled (trouble.Moved had other)) p feeds busy b = record {
   object = b.object;
   fed = fed_from (event.Move b.object had other) page ahead before mid after planned p feeds b.fed;
   tally = b.tally ∙ (p.sees.tally ∙ p.is.tally);

@@ -29,6 +29,8 @@ use Rattle.source_state.proofs.AskLaws.{pending_parts}
 use Rattle.source_api.specs.declared.counts.Counts.{Counts}
 use Rattle.source_api.specs.Counting.{raised, NoneFell}
 use Rattle.fetcher.specs.declared.turned.Fetched.{Fetched}
+use Rattle.source_api.specs.declared.source.FailKind.TheVariants as kind
+use Rattle.source_api.specs.declared.source.Trouble.TheVariants as trouble
 use Rattle.fetcher.specs.declared.turned.Turned.{Turned}
 use Rattle.fetcher.specs.declared.turned.Turned.TheVariants as turned
 use Rattle.fetcher.specs.Turning.{Feeds, IsFed, Brings}
@@ -314,24 +316,24 @@ meter_more page ahead fetched (turned.Missed object) list c0 c1 c2 k0 k1 k2 some
     (given_settled fetched.rows object (event.Miss object) Missed k1 k2 feeds b.fed refl b.fed.may (λ fault e. absurd (let bad : Missed ≡ Bad fault = e in cc)))
     b.tally b.gave.rows b.gave.grades
     (moving page ahead fetched (turned.Missed object) list c0 c1 c2 k0 k1 k2 m later b)
-meter_more page ahead fetched turned.Failed list c0 c1 c2 k0 k1 k2 some m feeds later b =
+meter_more page ahead fetched (turned.Troubled (trouble.Fail kind.Failed)) list c0 c1 c2 k0 k1 k2 some m feeds later b =
     still page ahead fetched c0 c1 c2 k0 k1 k2 some m feeds b.seen b.gave.rows b.gave.grades
     (subst (λ (t : Tally). RoseBy (t.failed - k0.tally.failed) c0.faults c2.faults) (sym b.tally) (one_failed c0.faults c1.faults c2.faults k0.tally.failed k1.tally.failed m.metered.failed b.cause))
     (same_garbled k0 k1 k2 c0.garbles c1.garbles c2.garbles (ap (λ (t : Tally). t.garbled) b.tally) m.metered.garbled later.garbles)
-    (moving page ahead fetched turned.Failed list c0 c1 c2 k0 k1 k2 m later b)
-meter_more page ahead fetched turned.Garbled list c0 c1 c2 k0 k1 k2 some m feeds later b =
+    (moving page ahead fetched (turned.Troubled (trouble.Fail kind.Failed)) list c0 c1 c2 k0 k1 k2 m later b)
+meter_more page ahead fetched (turned.Troubled (trouble.Fail kind.Garbled)) list c0 c1 c2 k0 k1 k2 some m feeds later b =
     still page ahead fetched c0 c1 c2 k0 k1 k2 some m feeds b.seen b.gave.rows b.gave.grades
     (same_failed k0 k1 k2 c0.faults c1.faults c2.faults (ap (λ (t : Tally). t.failed) b.tally) m.metered.failed later.faults)
     (subst (λ (t : Tally). RoseBy (t.garbled - k0.tally.garbled) c0.garbles c2.garbles) (sym b.tally) (one_failed c0.garbles c1.garbles c2.garbles k0.tally.garbled k1.tally.garbled m.metered.garbled b.cause))
-    (moving page ahead fetched turned.Garbled list c0 c1 c2 k0 k1 k2 m later b)
-meter_more page ahead fetched turned.Memory list c0 c1 c2 k0 k1 k2 some m feeds later b =
+    (moving page ahead fetched (turned.Troubled (trouble.Fail kind.Garbled)) list c0 c1 c2 k0 k1 k2 m later b)
+meter_more page ahead fetched (turned.Troubled (trouble.Fail kind.Memory)) list c0 c1 c2 k0 k1 k2 some m feeds later b =
     still page ahead fetched c0 c1 c2 k0 k1 k2 some m feeds b.seen b.gave.rows b.gave.grades
     (same_failed k0 k1 k2 c0.faults c1.faults c2.faults (ap (λ (t : Tally). t.failed) b.tally) m.metered.failed later.faults)
     (same_garbled k0 k1 k2 c0.garbles c1.garbles c2.garbles (ap (λ (t : Tally). t.garbled) b.tally) m.metered.garbled later.garbles)
-    (moving page ahead fetched turned.Memory list c0 c1 c2 k0 k1 k2 m later b)
-meter_more page ahead fetched (turned.Moved had other) list c0 c1 c2 k0 k1 k2 some m feeds later b =
+    (moving page ahead fetched (turned.Troubled (trouble.Fail kind.Memory)) list c0 c1 c2 k0 k1 k2 m later b)
+meter_more page ahead fetched (turned.Troubled (trouble.Moved had other)) list c0 c1 c2 k0 k1 k2 some m feeds later b =
     let s = moved_by b.object had other k1 k2 b.fed in
-    let moves = moving page ahead fetched (turned.Moved had other) list c0 c1 c2 k0 k1 k2 m later b in
+    let moves = moving page ahead fetched (turned.Troubled (trouble.Moved had other)) list c0 c1 c2 k0 k1 k2 m later b in
     record {
       metered = record {
         rows = went_same c0.rows_given fetched.rows c1.rows_given c2.rows_given m.metered.rows b.gave.rows;
@@ -376,10 +378,8 @@ counts_fit page ahead fetched (turned.Graded object) list c0 c1 c2 k0 k1 k2 m fe
     grade_fits page ahead fetched c0 c1 k0 k1 k2 m (settles_by (event.Grade object b.grade) object (λ s. settle (rows_in s.log) object b.grade) k1 k2 (λ s. refl) b.fed)
 counts_fit page ahead fetched (turned.Missed object) list c0 c1 c2 k0 k1 k2 m feeds b =
     grade_fits page ahead fetched c0 c1 k0 k1 k2 m (settles_by (event.Miss object) object (λ s. Missed) k1 k2 (λ s. refl) b.fed)
-counts_fit page ahead fetched turned.Failed list c0 c1 c2 k0 k1 k2 m feeds b = tt
-counts_fit page ahead fetched turned.Garbled list c0 c1 c2 k0 k1 k2 m feeds b = tt
-counts_fit page ahead fetched turned.Memory list c0 c1 c2 k0 k1 k2 m feeds b = tt
-counts_fit page ahead fetched (turned.Moved had other) list c0 c1 c2 k0 k1 k2 m feeds b = tt
+counts_fit page ahead fetched (turned.Troubled (trouble.Fail what)) list c0 c1 c2 k0 k1 k2 m feeds b = tt
+counts_fit page ahead fetched (turned.Troubled (trouble.Moved had other)) list c0 c1 c2 k0 k1 k2 m feeds b = tt
 counts_fit page ahead fetched turned.Idle list c0 c1 c2 k0 k1 k2 m feeds b = tt
 
 -- before any turn

@@ -23,7 +23,7 @@ use Rattle.source_api.specs.declared.source.Trouble.TheVariants as trouble
 use Rattle.source_api.specs.Counting.{NoneFell, MovedHasCause}
 use Rattle.fetcher.specs.declared.turned.Turned.{Turned}
 use Rattle.fetcher.specs.declared.turned.Turned.TheVariants as turned
-use Rattle.fetcher.specs.Turning.{IsFed, Brings, answer_by, failed_by}
+use Rattle.fetcher.specs.Turning.{IsFed, Brings, answer_by}
 use Rattle.fetcher.specs.Moving.{IsMovedAs, TellsMove, IsCountedMove, MovesOnly, HasMovesOf}
 use Rattle.fetcher.proofs.CauseLaws.{some_same, page_settling, page_no_move}
 use Rattle.fetcher.proofs.EventLaws.{settling_fault}
@@ -34,11 +34,8 @@ pub answer_as : (version : ℕ) (told : Option ℕ) (object : ℕ) (grade : Opti
 answer_as version told object None = tt
 answer_as version told object (Some grade) = tt
 
-pub trouble_as : (version : ℕ) (told : Option ℕ) (why : Trouble) → MovedHasCause version told why → IsMovedAs version told (failed_by why)
-trouble_as version told trouble.Failed cause = tt
-trouble_as version told trouble.Garbled cause = tt
-trouble_as version told trouble.Memory cause = tt
-trouble_as version told (trouble.Moved had other) cause = cause
+pub trouble_as : (version : ℕ) (told : Option ℕ) (why : Trouble) → MovedHasCause version told why → IsMovedAs version told (turned.Troubled why)
+trouble_as version told why cause = cause
 
 -- a page tells no move
 page_moves : (P : ℕ → ℕ → Type 0) (s : State) (given : List Row) → MayPage s given → MovesOnly P s.log (paged s given).log
@@ -83,7 +80,7 @@ same_moves P before after e = λ had other tells. inl (subst (λ log. TellsMove 
 
 -- one turn
 pub turn_moves : (P : ℕ → ℕ → Type 0) (page ahead : ℕ) (list : Option (List Row)) (counts now : Counts) (k1 k2 : Known LogEntry) (answer : Turned)
-    → Brings page ahead list counts now k1 k2 answer → ((had other : ℕ) → answer ≡ turned.Moved had other → P had other) → MovesOnly P k1.seen k2.seen
+    → Brings page ahead list counts now k1 k2 answer → ((had other : ℕ) → answer ≡ turned.Troubled (trouble.Moved had other) → P had other) → MovesOnly P k1.seen k2.seen
 turn_moves P page ahead list counts now k1 k2 (turned.Paged rows) b cause =
     fed_moves P (event.Page b.given) k1 k2 b.fed (page_moves P b.fed.found b.given b.fed.may)
 turn_moves P page ahead list counts now k1 k2 (turned.Graded object) b cause =
@@ -94,22 +91,20 @@ turn_moves P page ahead list counts now k1 k2 (turned.Missed object) b cause =
     fed_moves P (event.Miss object) k1 k2 b.fed
     (settled_moves P b.fed.found object Missed (pending_parts b.fed.found object b.fed.may).1
     (λ had other e. absurd (let bad : Missed ≡ Bad (Moved had other) = e in cc)))
-turn_moves P page ahead list counts now k1 k2 turned.Failed b cause = same_moves P k1.seen k2.seen b.seen
-turn_moves P page ahead list counts now k1 k2 turned.Garbled b cause = same_moves P k1.seen k2.seen b.seen
-turn_moves P page ahead list counts now k1 k2 turned.Memory b cause = same_moves P k1.seen k2.seen b.seen
-turn_moves P page ahead list counts now k1 k2 (turned.Moved had other) b cause =
+turn_moves P page ahead list counts now k1 k2 (turned.Troubled (trouble.Fail what)) b cause = same_moves P k1.seen k2.seen b.seen
+turn_moves P page ahead list counts now k1 k2 (turned.Troubled (trouble.Moved had other)) b cause =
     fed_moves P (event.Move b.object had other) k1 k2 b.fed (moved_moves P b.fed.found b.object had other b.fed.may (cause had other refl))
 turn_moves P page ahead list counts now k1 k2 turned.Idle b cause = same_moves P k1.seen k2.seen b.seen
 
 -- a turn that tells a move had its cause
 pub rose_as : (page ahead : ℕ) (list : Option (List Row)) (counts now : Counts) (k1 k2 : Known LogEntry) (answer : Turned)
-    → Brings page ahead list counts now k1 k2 answer → (had other : ℕ) → answer ≡ turned.Moved had other → Rose counts.moves now.moves
+    → Brings page ahead list counts now k1 k2 answer → (had other : ℕ) → answer ≡ turned.Troubled (trouble.Moved had other) → Rose counts.moves now.moves
 rose_as page ahead list counts now k1 k2 answer b had other e =
-    let brought : Brings page ahead list counts now k1 k2 (turned.Moved had other) = subst (Brings page ahead list counts now k1 k2) e b in
+    let brought : Brings page ahead list counts now k1 k2 (turned.Troubled (trouble.Moved had other)) = subst (Brings page ahead list counts now k1 k2) e b in
     brought.cause
 
 pub counted_as : (version : ℕ) (told : Option ℕ) (page ahead : ℕ) (list : Option (List Row)) (counts now : Counts) (k1 k2 : Known LogEntry) (answer : Turned)
-    → Brings page ahead list counts now k1 k2 answer → IsMovedAs version told answer → (had other : ℕ) → answer ≡ turned.Moved had other
+    → Brings page ahead list counts now k1 k2 answer → IsMovedAs version told answer → (had other : ℕ) → answer ≡ turned.Troubled (trouble.Moved had other)
     → IsCountedMove version told counts now had other
 counted_as version told page ahead list counts now k1 k2 answer b said had other e =
     record { move = subst (IsMovedAs version told) e said; counted = rose_as page ahead list counts now k1 k2 answer b had other e }

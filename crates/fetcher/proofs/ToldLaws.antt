@@ -27,6 +27,7 @@ use Rattle.source_state.proofs.AskLaws.{pending_parts}
 use Rattle.source_state.proofs.LogLaws.{settled_rows, settled_faults, settled_other, settled_same, fault_rows, fault_settling, fault_first}
 use Rattle.source_api.specs.declared.counts.Counts.{Counts}
 use Rattle.source_api.specs.Told.{HasEachOnce, IsPage}
+use Rattle.source_api.specs.declared.source.Trouble.TheVariants as trouble
 use Rattle.fetcher.specs.declared.turned.Turned.{Turned}
 use Rattle.fetcher.specs.declared.turned.Turned.TheVariants as turned
 use Rattle.fetcher.specs.Turning.{IsFed, Brings}
@@ -254,10 +255,8 @@ told_turn page ahead list counts now before after (turned.Graded object) b h =
 told_turn page ahead list counts now before after (turned.Missed object) b h =
     told_same list (logged b.fed.found (Settled object Missed)).log after.seen b.fed.sees.log
     (told_settled list b.fed.found object Missed (told_found list (event.Miss object) before after b.fed h) (pending_parts b.fed.found object b.fed.may).1 b.told)
-told_turn page ahead list counts now before after turned.Failed b h = told_same list before.seen after.seen b.seen h
-told_turn page ahead list counts now before after turned.Garbled b h = told_same list before.seen after.seen b.seen h
-told_turn page ahead list counts now before after turned.Memory b h = told_same list before.seen after.seen b.seen h
-told_turn page ahead list counts now before after (turned.Moved had other) b h =
+told_turn page ahead list counts now before after (turned.Troubled (trouble.Fail what)) b h = told_same list before.seen after.seen b.seen h
+told_turn page ahead list counts now before after (turned.Troubled (trouble.Moved had other)) b h =
     told_same list (events.after b.fed.found (event.Move b.object had other)).log after.seen b.fed.sees.log
     (told_moved list b.fed.found b.object had other (told_found list (event.Move b.object had other) before after b.fed h) b.fed.may)
 told_turn page ahead list counts now before after turned.Idle b h = told_same list before.seen after.seen b.seen h

@@ -16,7 +16,7 @@ use Rattle.source_api.specs.declared.source.Trouble.{Trouble}
 use Rattle.source_api.specs.Calls.{Call, with_call}
 use Rattle.fetcher.specs.declared.turned.Turned.{Turned}
 use Rattle.fetcher.specs.declared.turned.Turned.TheVariants as turned
-use Rattle.fetcher.specs.Turning.{IsFound, HasSeen, settled_by, answer_by, troubled_by, failed_by}
+use Rattle.fetcher.specs.Turning.{IsFound, HasSeen, settled_by, answer_by, troubled_by}
 
 -- the event that the answer to a call for a page makes, and the one that the answer to a call for a grade makes
 abbrev pub page_event : Result (List Row) Trouble → Event
@@ -30,11 +30,11 @@ grade_event object (Err why) = troubled_by (Some object) why
 -- what a turn tells of such an answer
 abbrev pub page_turned : Result (List Row) Trouble → Turned
 page_turned (Ok rows) = turned.Paged (length rows)
-page_turned (Err why) = failed_by why
+page_turned (Err why) = turned.Troubled why
 
 abbrev pub grade_turned : ℕ → Result (Option ℕ) Trouble → Turned
 grade_turned object (Ok grade) = answer_by object grade
-grade_turned object (Err why) = failed_by why
+grade_turned object (Err why) = turned.Troubled why
 
 -- one turn of the lock: the pass found a state, gave it back as it was, and read its plan
 pub record IsLooked (page ahead : ℕ) (before after : Known LogEntry) (next : Plan) : Type 0 where

@@ -64,10 +64,7 @@ abbrev pub counted_by : Fetched → Turned → Fetched
 counted_by fetched (turned.Paged rows) = record fetched { rows = fetched.rows + rows }
 counted_by fetched (turned.Graded object) = record fetched { grades = fetched.grades + 1 }
 counted_by fetched (turned.Missed object) = record fetched { grades = fetched.grades + 1 }
-counted_by fetched turned.Failed = fetched
-counted_by fetched turned.Garbled = fetched
-counted_by fetched turned.Memory = fetched
-counted_by fetched (turned.Moved had now) = fetched
+counted_by fetched (turned.Troubled why) = fetched
 counted_by fetched turned.Idle = fetched
 
 -- the count that one more turn raises stays within 32 bits
@@ -75,8 +72,5 @@ abbrev pub HasCountOf : Fetched → Turned → Type 0
 HasCountOf fetched (turned.Paged rows) = fetched.rows + rows < 2 ^ 32
 HasCountOf fetched (turned.Graded object) = fetched.grades + 1 < 2 ^ 32
 HasCountOf fetched (turned.Missed object) = fetched.grades + 1 < 2 ^ 32
-HasCountOf fetched turned.Failed = Unit {0}
-HasCountOf fetched turned.Garbled = Unit {0}
-HasCountOf fetched turned.Memory = Unit {0}
-HasCountOf fetched (turned.Moved had now) = Unit {0}
+HasCountOf fetched (turned.Troubled why) = Unit {0}
 HasCountOf fetched turned.Idle = Unit {0}

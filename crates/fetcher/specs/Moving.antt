@@ -6,13 +6,13 @@ use Rattle.source_state.specs.declared.entry.Settling.TheVariants.{Bad}
 use Rattle.source_state.specs.declared.entry.SourceFault.TheVariants.{Moved}
 use Rattle.source_state.specs.Log.{settling_in, fault_in}
 use Rattle.source_api.specs.declared.counts.Counts.{Counts}
-use Rattle.source_api.specs.Counting.{IsMove}
+use Rattle.source_api.specs.Counting.{IsMove, MovedHasCause}
 use Rattle.fetcher.specs.declared.turned.Turned.{Turned}
 use Rattle.fetcher.specs.declared.turned.Turned.TheVariants as turned
 
 -- a turn tells of a replaced list the version at hand and the one that the reply stated
 abbrev pub IsMovedAs : ℕ → Option ℕ → Turned → Type 0
-IsMovedAs version told (turned.Moved had now) = IsMove version told had now
+IsMovedAs version told (turned.Troubled why) = MovedHasCause version told why
 IsMovedAs version told _ = Unit {0}
 
 -- a log has that the list was replaced, as its row fault or as what an object settled as

@@ -5,8 +5,7 @@ use Rattle.turn_lock.specs.declared.known.Known.{Known}
 use Rattle.turn_lock.specs.Facts.{IsFrontOf}
 use Rattle.turn_lock.specs.Known.{Follows}
 use Rattle.source_state.specs.declared.entry.LogEntry.{LogEntry}
-use Rattle.source_state.specs.declared.entry.FailKind.{FailKind}
-use Rattle.source_state.specs.declared.entry.FailKind.TheVariants as kind
+use Rattle.source_api.specs.declared.source.FailKind.{FailKind}
 use Rattle.source_state.specs.declared.entry.Asked.TheVariants as became
 use Rattle.source_state.specs.declared.event.Event.{Event}
 use Rattle.source_state.specs.declared.event.Event.TheVariants as event
@@ -96,12 +95,12 @@ pub record BroughtMiss (object : ℕ) (list : Option (List Row)) (counts now : C
   pub told : IfSome list (λ all. IsGrade all object None)
 
 -- one call of the source failed so, and one more fail of its kind is counted
-pub record BroughtFail (what : FailKind) (why : Trouble) (counts now : Counts) (before after : Known LogEntry) : Type 0 where
+pub record BroughtFail (what : FailKind) (counts now : Counts) (before after : Known LogEntry) : Type 0 where
   pub fed : IsFed (event.Fail what) before after
   pub seen : after.seen ≡ before.seen
   pub tally : after.tally ≡ counted what before.tally
   pub gave : GaveNothing counts now
-  pub cause : TroubleHasCause counts now why
+  pub cause : TroubleHasCause counts now (trouble.Fail what)
 
 -- one call of the source, for a page or for the grade of an object, stated the version `other` of the list in place of `had`: that is told once,
 -- nothing of the reply is kept, and the count of moves rose
@@ -134,10 +133,8 @@ abbrev pub Brings : ℕ → ℕ → Option (List Row) → Counts → Counts → 
 Brings page ahead list counts now before after (turned.Paged rows) = BroughtPage page ahead rows list counts now before after
 Brings page ahead list counts now before after (turned.Graded object) = BroughtGrade object list counts now before after
 Brings page ahead list counts now before after (turned.Missed object) = BroughtMiss object list counts now before after
-Brings page ahead list counts now before after turned.Failed = BroughtFail kind.Failed trouble.Failed counts now before after
-Brings page ahead list counts now before after turned.Garbled = BroughtFail kind.Garbled trouble.Garbled counts now before after
-Brings page ahead list counts now before after turned.Memory = BroughtFail kind.Memory trouble.Memory counts now before after
-Brings page ahead list counts now before after (turned.Moved had other) = BroughtMove had other counts now before after
+Brings page ahead list counts now before after (turned.Troubled (trouble.Fail what)) = BroughtFail what counts now before after
+Brings page ahead list counts now before after (turned.Troubled (trouble.Moved had other)) = BroughtMove had other counts now before after
 Brings page ahead list counts now before after turned.Idle = BroughtNothing page ahead counts now before after
 
 -- the rows may be told as a page: no row fault stands, a row is missing, and they are no more than are missing
@@ -172,18 +169,10 @@ abbrev pub answer_by : ℕ → Option ℕ → Turned
 answer_by object None = turned.Missed object
 answer_by object (Some grade) = turned.Graded object
 
--- the event of a call that gave nothing, for the grade of an object or for a page where there is none, and what the turn answers
+-- the event of a call that gave nothing, for the grade of an object or for a page where there is none
 abbrev pub troubled_by : Option ℕ → Trouble → Event
-troubled_by object trouble.Failed = event.Fail kind.Failed
-troubled_by object trouble.Garbled = event.Fail kind.Garbled
-troubled_by object trouble.Memory = event.Fail kind.Memory
+troubled_by object (trouble.Fail what) = event.Fail what
 troubled_by object (trouble.Moved had now) = event.Move object had now
-
-abbrev pub failed_by : Trouble → Turned
-failed_by trouble.Failed = turned.Failed
-failed_by trouble.Garbled = turned.Garbled
-failed_by trouble.Memory = turned.Memory
-failed_by (trouble.Moved had now) = turned.Moved had now
 
 -- an event that comes of the source, and not of a query
 abbrev pub IsOfSource : Event → Type 0

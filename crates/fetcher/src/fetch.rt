@@ -8,7 +8,7 @@ ghost use Rattle.source_state.specs.Looking.{reach_of};
 ghost use Rattle.source_pool.specs.Passes.{IsIdleOf};
 ghost use Rattle.source_api.specs.Counting.{NoneFell, GaveNothing};
 ghost use Rattle.fetcher.specs.Turning.{IsFound, Feeds, IsPlanned, IsFed, Brings, MayTellPage, MayTellGrade, MayFetch, IsNext};
-ghost use Rattle.fetcher.specs.Turning.{settled_by, answer_by, troubled_by, failed_by, IsOfSource};
+ghost use Rattle.fetcher.specs.Turning.{settled_by, answer_by, troubled_by, IsOfSource};
 ghost use Rattle.fetcher.specs.Calling.{IsLooked, IsTold, CalledForPage, CalledForGrade, IsFetchTurn};
 ghost use Rattle.fetcher.specs.Moving.{IsMovedAs};
 ghost use Rattle.fetcher.specs.Metering.{HasCountOf, counted_by};
@@ -17,7 +17,7 @@ use super::turned::{Fetched, Turned};
 use ranked_list::PageRows;
 use source_api::{Source, Trouble};
 use source_pool::{Feeder, Pool};
-use source_state::{Event, FailKind, Plan};
+use source_state::{Event, Plan};
 use std::alloc::Global;
 use std::sync::Wait;
 
@@ -122,28 +122,8 @@ fn trouble_event(object: Option<u32>, trouble: Trouble) -> Event
     ensures { result ≡ troubled_by object trouble }
 {
     match trouble {
-        Trouble::Failed => Event::Fail {
-            what: FailKind::Failed,
-        },
-        Trouble::Garbled => Event::Fail {
-            what: FailKind::Garbled,
-        },
-        Trouble::Memory => Event::Fail {
-            what: FailKind::Memory,
-        },
+        Trouble::Fail(what) => Event::Fail { what },
         Trouble::Moved { had, now } => Event::Move { object, had, now },
-    }
-}
-
-/// What a call that ended so makes of the turn.
-fn failed_by(trouble: Trouble) -> Turned
-    ensures { result ≡ failed_by trouble }
-{
-    match trouble {
-        Trouble::Failed => Turned::Failed,
-        Trouble::Garbled => Turned::Garbled,
-        Trouble::Memory => Turned::Memory,
-        Trouble::Moved { had, now } => Turned::Moved { had, now },
     }
 }
 
@@ -162,11 +142,11 @@ fn tell_trouble(
     ensures feeds { Feeds feeder.old.pass.1 feeder.new.pass.1 }
     ensures fed { IsFed (troubled_by object trouble) feeder.old.pass.1 feeder.new.pass.1 }
     ensures told { IsTold (troubled_by object trouble) feeder.old.pass.1 feeder.new.pass.1 }
-    ensures answer { result ≡ failed_by trouble }
+    ensures answer { result ≡ Turned.Troubled trouble }
 {
     let event = trouble_event(object, trouble);
     tell(rt, pool, feeder, event);
-    failed_by(trouble)
+    Turned::Troubled(trouble)
 }
 
 /// Calls the source for a page, outside any turn, and applies what it answers.
@@ -278,7 +258,6 @@ pub(crate) fn counted(fetched: Fetched, turned: Turned) -> Fetched
             grades: fetched.grades + 1,
             ..fetched
         },
-        Turned::Failed | Turned::Garbled | Turned::Memory | Turned::Moved { .. } | Turned::Idle =>
-            fetched,
+        Turned::Troubled(_) | Turned::Idle => fetched,
     }
 }

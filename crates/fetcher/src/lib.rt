@@ -1,5 +1,6 @@
-//! Fetching from a source what queries want of it: rows no further than is wanted and stated to be read ahead, and the grades that
-//! were asked for. The source is called outside the turns of its lock.
+//! Fetching from a source what queries want of it: rows no further than is wanted or to be read ahead, and the grades that were asked for.
+//!
+//! The source is called outside the turns of its lock.
 #![tactic(auto)]
 
 mod fetch;

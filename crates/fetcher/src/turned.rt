@@ -1,5 +1,7 @@
 //! What turns bring.
 
+use source_api::Trouble;
+
 /// What a turn of a fetcher brought.
 #[derive(Clone, Copy, PartialEq, Eq)]
 pub enum Turned {
@@ -9,14 +11,8 @@ pub enum Turned {
     Graded { object: u32 },
     /// The source hasn't the object.
     Missed { object: u32 },
-    /// The call of the source failed.
-    Failed,
-    /// What the source answered couldn't be read.
-    Garbled,
-    /// The source wanted memory.
-    Memory,
-    /// The list was replaced: what the source answered stated the version `now`, and not the version `had` that it was opened with.
-    Moved { had: u64, now: u64 },
+    /// The call of the source gave no answer, for this.
+    Troubled(Trouble),
     /// Nothing was to be fetched.
     Idle,
 }

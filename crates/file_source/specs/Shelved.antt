@@ -5,7 +5,8 @@ use Rattle.std.specs.Global.{Vec}
 use Rattle.std.specs.Option.{option_and_then}
 use Rattle.ranked_list.specs.declared.row.Row.{Row}
 use Rattle.source_api.specs.declared.source.Trouble.{Trouble}
-use Rattle.source_api.specs.declared.source.Trouble.TheVariants.{Failed, Memory}
+use Rattle.source_api.specs.declared.source.FailKind.TheVariants.{Failed, Memory}
+use Rattle.source_api.specs.declared.source.Trouble.TheVariants.{Fail}
 use Rattle.source_api.specs.Places.{Noted, text_limit}
 use Rattle.tk_io.specs.Whole.{GaveAll, StopsReading}
 use Rattle.tk_io.specs.declared.whole.ReadError.TheVariants as stop
@@ -32,13 +33,13 @@ rows_at contents place = option_and_then told_rows (contents place)
 -- how a list's text is read from a stream: whole, to its end; or a read failed, or more came than a text may have; or memory was refused
 abbrev pub ReadsList : Option (List ℕ) → Option (List ℕ) → ℕ → ℕ → Result (Vec ℕ) Trouble → Type 0
 ReadsList before now faults faults_now (Ok text) = GaveAll text_limit before now text.items × (faults_now ≡ faults)
-ReadsList before now faults faults_now (Err Failed) =
+ReadsList before now faults faults_now (Err (Fail Failed)) =
     StopsReading text_limit before now faults faults_now stop.Failed ⊎ StopsReading text_limit before now faults faults_now stop.Long
-ReadsList before now faults faults_now (Err Memory) = StopsReading text_limit before now faults faults_now stop.Memory
+ReadsList before now faults faults_now (Err (Fail Memory)) = StopsReading text_limit before now faults faults_now stop.Memory
 ReadsList _ _ _ _ (Err _) = ⊥
 
 -- a call on a file fails, or wants memory
 abbrev pub IsFileTrouble : Trouble → Type 0
-IsFileTrouble Failed = Unit {0}
-IsFileTrouble Memory = Unit {0}
+IsFileTrouble (Fail Failed) = Unit {0}
+IsFileTrouble (Fail Memory) = Unit {0}
 IsFileTrouble _ = ⊥

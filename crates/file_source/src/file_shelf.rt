@@ -1,7 +1,8 @@
 //! A shelf of files.
 
 ghost use Rattle.std.specs.Prelude.{◌≡◌, ◌≤◌, [], true, ℕ, List, vec_len, IfErr, IfOk, IfSome, OnErr, OnOk};
-ghost use Rattle.source_api.specs.declared.source.Trouble.TheVariants.{Memory};
+ghost use Rattle.source_api.specs.declared.source.FailKind.TheVariants.{Memory};
+ghost use Rattle.source_api.specs.declared.source.Trouble.TheVariants.{Fail};
 ghost use Rattle.source_api.specs.Counting.{no_counts};
 ghost use Rattle.source_api.specs.Places.{counts_at, is_known, IsTaking, SameElsewhere, CountsTexts, CountsTakes, HasTextCause, HasTakeCause, text_limit};
 ghost use Rattle.file_source.specs.ListFile.{list_records};
@@ -10,7 +11,7 @@ ghost use Rattle.file_source.specs.Shelved.{ReadsList, IsFileTrouble};
 use super::FileSource;
 use super::file_tree::FileTree;
 use limits::MAX_LIST_TEXT;
-use source_api::{Ledger, Shelf, Trouble};
+use source_api::{FailKind, Ledger, Shelf, Trouble};
 use std::alloc::Global;
 use std::marker::Model;
 use tk_io::{Intake, ReadError, read_text};
@@ -94,13 +95,13 @@ fn give(
     ensures taken { OnOk result (IsTaking ledger.old ledger.new place.now) }
     ensures source { IfOk result (λ given. given ≡ source) }
     ensures untaken { OnErr result (ledger.new ≡ ledger.old) }
-    ensures refused { OnErr result (result ≡ Err Memory) }
+    ensures refused { OnErr result (result ≡ Err (Fail Memory)) }
 {
     match ledger.count_taken(alloc, place) {
         Ok(()) => Ok(source),
         Err(_) => {
             drop(source);
-            Err(Trouble::Memory)
+            Err(Trouble::Fail(FailKind::Memory))
         }
     }
 }
@@ -112,12 +113,12 @@ pub fn count_text(ledger: &mut Ledger, alloc: Global, place: &str, trouble: Trou
     ensures counts { CountsTexts (counts_at ledger.old place.now) (counts_at ledger.new place.now) }
     ensures cause { HasTextCause (counts_at ledger.old place.now) (counts_at ledger.new place.now) result }
 {
-    if let Trouble::Memory = trouble {
-        return Trouble::Memory;
+    if let Trouble::Fail(FailKind::Memory) = trouble {
+        return Trouble::Fail(FailKind::Memory);
     }
     match ledger.count_text_fault(alloc, place) {
-        Ok(()) => Trouble::Failed,
-        Err(_) => Trouble::Memory,
+        Ok(()) => Trouble::Fail(FailKind::Failed),
+        Err(_) => Trouble::Fail(FailKind::Memory),
     }
 }
 
@@ -129,12 +130,12 @@ pub fn count_take(ledger: &mut Ledger, alloc: Global, place: &str, trouble: Trou
     ensures untaken { (counts_at ledger.new place.now).taken ≡ (counts_at ledger.old place.now).taken }
     ensures cause { HasTakeCause (counts_at ledger.old place.now) (counts_at ledger.new place.now) result }
 {
-    if let Trouble::Memory = trouble {
-        return Trouble::Memory;
+    if let Trouble::Fail(FailKind::Memory) = trouble {
+        return Trouble::Fail(FailKind::Memory);
     }
     match ledger.count_take_fault(alloc, place) {
-        Ok(()) => Trouble::Failed,
-        Err(_) => Trouble::Memory,
+        Ok(()) => Trouble::Fail(FailKind::Failed),
+        Err(_) => Trouble::Fail(FailKind::Memory),
     }
 }
 
@@ -146,7 +147,7 @@ pub fn read_file<F: FileTree>(alloc: Global, files: &F, place: &str) -> Result<V
     ensures sound { IfErr result IsFileTrouble }
 {
     let Some(mut file) = files.open_place(place) else {
-        return Err(Trouble::Failed);
+        return Err(Trouble::Fail(FailKind::Failed));
     };
     let read = read_list(alloc, &mut file);
     drop(file);
@@ -160,8 +161,8 @@ fn read_list<I: Intake>(alloc: Global, input: &mut I) -> Result<Vec<u8>, Trouble
 {
     match read_text(alloc, input, MAX_LIST_TEXT) {
         Ok(text) => Ok(text),
-        Err(ReadError::Memory) => Err(Trouble::Memory),
-        Err(_) => Err(Trouble::Failed),
+        Err(ReadError::Memory) => Err(Trouble::Fail(FailKind::Memory)),
+        Err(_) => Err(Trouble::Fail(FailKind::Failed)),
     }
 }
 
@@ -177,6 +178,6 @@ fn source_at<F: FileTree>(alloc: Global, files: &F, place: &str) -> Result<FileS
     };
     match FileSource::open(alloc, &text) {
         Ok(source) => Ok(source),
-        Err(_) => Err(Trouble::Memory),
+        Err(_) => Err(Trouble::Fail(FailKind::Memory)),
     }
 }

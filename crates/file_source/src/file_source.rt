@@ -10,7 +10,7 @@ ghost use Rattle.file_source.specs.FileAnswers.{AnswersPage, AnswersGrade, after
 use super::Memory;
 use super::list_file::{Reading, read_list};
 use ranked_list::Row;
-use source_api::{Counts, Source, Trouble, part_of};
+use source_api::{Counts, FailKind, Source, Trouble, part_of};
 use std::alloc::Global;
 use std::collections::HashMap;
 use std::marker::Model;
@@ -106,11 +106,11 @@ impl Source for FileSource {
         ensures page { IfOk result (λ page. IfSome (told_records self.old.records) (λ rows. IsPage rows from page.items)) }
     {
         let Ok(found) = rows_of(alloc, part_of(&self.records, from, count)) else {
-            return Err(Trouble::Memory);
+            return Err(Trouble::Fail(FailKind::Memory));
         };
         let Some(page) = found else {
-            self.counts.count_trouble(Trouble::Garbled);
-            return Err(Trouble::Garbled);
+            self.counts.count_trouble(Trouble::Fail(FailKind::Garbled));
+            return Err(Trouble::Fail(FailKind::Garbled));
         };
         self.counts.count_rows(page.len() as u64);
         Ok(page)
@@ -132,8 +132,8 @@ impl Source for FileSource {
     {
         let grade = self.grades.get(&object).copied();
         if grade.is_none() && self.broken {
-            self.counts.count_trouble(Trouble::Garbled);
-            return Err(Trouble::Garbled);
+            self.counts.count_trouble(Trouble::Fail(FailKind::Garbled));
+            return Err(Trouble::Fail(FailKind::Garbled));
         }
         self.counts.count_grade();
         Ok(grade)

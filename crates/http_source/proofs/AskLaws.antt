@@ -7,7 +7,8 @@ use Rattle.std.proofs.lemmas.Bool.{eqb-true, true≢false}
 use Rattle.tk_io.specs.Faults.{Rose}
 use Rattle.tk_io.specs.Links.{Closed, ClosesOne, GivesFirst, AddsFaults}
 use Rattle.tk_io.specs.Whole.{TookFront}
-use Rattle.source_api.specs.declared.source.Trouble.TheVariants.{Memory}
+use Rattle.source_api.specs.declared.source.FailKind.TheVariants.{Memory}
+use Rattle.source_api.specs.declared.source.Trouble.TheVariants.{Fail}
 use Rattle.source_api.specs.Counting.{IsNoMove}
 use Rattle.std.specs.Prelude.{IfErr}
 use Rattle.wire.specs.Responses.{AnswersResponse, IsReply}
@@ -147,6 +148,6 @@ fails_of before mid now by (Err wire.Memory) same adds counts = adds.none counts
 
 -- ---- memory was refused before a link was asked for
 
-pub memory_answers : (told : Option (List ℕ)) → IfSome told (λ bytes. AnswersBody bytes (Err Memory))
+pub memory_answers : (told : Option (List ℕ)) → IfSome told (λ bytes. AnswersBody bytes (Err (Fail Memory)))
 memory_answers None = tt
 memory_answers (Some bytes) = tt

@@ -3,7 +3,8 @@ use Rattle.std.proofs.Common.{◌≡◌, ℕ, List, Option, Some, Result, Ok, Er
 use Rattle.std.specs.Global.{Vec}
 use Rattle.ranked_list.specs.declared.row.Row.{Row}
 use Rattle.source_api.specs.declared.source.Trouble.{Trouble}
-use Rattle.source_api.specs.declared.source.Trouble.TheVariants.{Failed, Garbled, Memory, Moved}
+use Rattle.source_api.specs.declared.source.FailKind.TheVariants.{Failed, Garbled, Memory}
+use Rattle.source_api.specs.declared.source.Trouble.TheVariants.{Fail, Moved}
 use Rattle.page_json.specs.Bodies.{IsSizeBody, IsPageBody, IsGradeBody}
 use Rattle.page_json.specs.declared.fault.JsonFault.{JsonFault}
 use Rattle.page_json.specs.declared.fault.JsonFault.TheVariants as json
@@ -26,17 +27,17 @@ only_grade body one other a b =
 pub page_from : (body : List ℕ) (said : Versioned (List Row)) (version count : ℕ) (result : Result (Vec Row) Trouble) → IsPageBody body said
     → PageBy (λ (other : Versioned (List Row)). other ≡ said) version count result → PageBy (IsPageBody body) version count result
 page_from body said version count (Ok page) is by = (subst (IsPageBody body) (sym by.0) is, by.1)
-page_from body said version count (Err Failed) is by = tt
-page_from body said version count (Err Garbled) is by = λ other says. by other (only_page body other said says is)
-page_from body said version count (Err Memory) is by = tt
+page_from body said version count (Err (Fail Failed)) is by = tt
+page_from body said version count (Err (Fail Garbled)) is by = λ other says. by other (only_page body other said says is)
+page_from body said version count (Err (Fail Memory)) is by = tt
 page_from body said version count (Err (Moved had now)) is by = (by.0, by.1, by.2, subst (IsPageBody body) (sym by.3) is)
 
 pub grade_from : (body : List ℕ) (said : Versioned (Option ℕ)) (version : ℕ) (result : Result (Option ℕ) Trouble) → IsGradeBody body said
     → GradeBy (λ (other : Versioned (Option ℕ)). other ≡ said) version result → GradeBy (IsGradeBody body) version result
 grade_from body said version (Ok grade) is by = subst (IsGradeBody body) (sym by) is
-grade_from body said version (Err Failed) is by = tt
-grade_from body said version (Err Garbled) is by = λ other says. by other (only_grade body other said says is)
-grade_from body said version (Err Memory) is by = tt
+grade_from body said version (Err (Fail Failed)) is by = tt
+grade_from body said version (Err (Fail Garbled)) is by = λ other says. by other (only_grade body other said says is)
+grade_from body said version (Err (Fail Memory)) is by = tt
 grade_from body said version (Err (Moved had now)) is by = (by.0, by.1, by.2, subst (IsGradeBody body) (sym by.3) is)
 
 -- ---- a body that says nothing

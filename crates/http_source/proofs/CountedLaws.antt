@@ -5,7 +5,8 @@ use Rattle.std.specs.Global.{Vec}
 use Rattle.ranked_list.specs.declared.row.Row.{Row}
 use Rattle.source_api.specs.declared.counts.Counts.{Counts}
 use Rattle.source_api.specs.declared.source.Trouble.{Trouble}
-use Rattle.source_api.specs.declared.source.Trouble.TheVariants.{Failed, Garbled, Memory, Moved}
+use Rattle.source_api.specs.declared.source.FailKind.TheVariants.{Failed, Garbled, Memory}
+use Rattle.source_api.specs.declared.source.Trouble.TheVariants.{Fail, Moved}
 use Rattle.source_api.specs.Counting.{troubled, gave_rows, gave_grade, NoneFell, TroubleHasCause, CountsAlone, GaveNothing, GaveRows, GaveGrade}
 use Rattle.http_source.specs.Exchanges.{FailsWith}
 use Rattle.http_source.specs.Served.{Served, counts_with, size_counted, page_counted, grade_counted}
@@ -33,30 +34,30 @@ counted_is now counts is = λ i. record {
 
 pub trouble_cause : (T : Type 0) (faults faults_now : ℕ) (counted : Counts) (why : Trouble) → FailsWith {T = T} faults faults_now (Err why)
     → TroubleHasCause (counts_with faults counted) (counts_with faults_now (troubled why counted)) why
-trouble_cause T faults faults_now counted Failed fails = fails
-trouble_cause T faults faults_now counted Garbled fails = omega arith
-trouble_cause T faults faults_now counted Memory fails = tt
+trouble_cause T faults faults_now counted (Fail Failed) fails = fails
+trouble_cause T faults faults_now counted (Fail Garbled) fails = omega arith
+trouble_cause T faults faults_now counted (Fail Memory) fails = tt
 trouble_cause T faults faults_now counted (Moved had now) fails = omega arith
 
 pub trouble_alone : (T : Type 0) (faults faults_now : ℕ) (counted : Counts) (why : Trouble) → FailsWith {T = T} faults faults_now (Err why)
     → CountsAlone (counts_with faults counted) (counts_with faults_now (troubled why counted)) why
-trouble_alone T faults faults_now counted Failed fails = refl
-trouble_alone T faults faults_now counted Garbled fails = ap (λ n. counts_with n (troubled Garbled counted)) fails
-trouble_alone T faults faults_now counted Memory fails = ap (λ n. counts_with n counted) fails
+trouble_alone T faults faults_now counted (Fail Failed) fails = refl
+trouble_alone T faults faults_now counted (Fail Garbled) fails = ap (λ n. counts_with n (troubled (Fail Garbled) counted)) fails
+trouble_alone T faults faults_now counted (Fail Memory) fails = ap (λ n. counts_with n counted) fails
 trouble_alone T faults faults_now counted (Moved had now) fails = ap (λ n. counts_with n (troubled (Moved had now) counted)) fails
 
 pub trouble_gave : (faults faults_now : ℕ) (counted : Counts) (why : Trouble) → GaveNothing (counts_with faults counted) (counts_with faults_now (troubled why counted))
-trouble_gave faults faults_now counted Failed = record { rows = refl; grades = refl }
-trouble_gave faults faults_now counted Garbled = record { rows = refl; grades = refl }
-trouble_gave faults faults_now counted Memory = record { rows = refl; grades = refl }
+trouble_gave faults faults_now counted (Fail Failed) = record { rows = refl; grades = refl }
+trouble_gave faults faults_now counted (Fail Garbled) = record { rows = refl; grades = refl }
+trouble_gave faults faults_now counted (Fail Memory) = record { rows = refl; grades = refl }
 trouble_gave faults faults_now counted (Moved had now) = record { rows = refl; grades = refl }
 
 -- ---- no count falls
 
 pub trouble_fell : (counted : Counts) (why : Trouble) → Fit counted → NoneFell counted (troubled why counted)
-trouble_fell counted Failed fit = record { faults = omega arith; garbles = omega arith; moves = omega arith; rows_given = omega arith; grades_given = omega arith }
-trouble_fell counted Garbled fit = record { faults = omega arith; garbles = omega arith; moves = omega arith; rows_given = omega arith; grades_given = omega arith }
-trouble_fell counted Memory fit = record { faults = omega arith; garbles = omega arith; moves = omega arith; rows_given = omega arith; grades_given = omega arith }
+trouble_fell counted (Fail Failed) fit = record { faults = omega arith; garbles = omega arith; moves = omega arith; rows_given = omega arith; grades_given = omega arith }
+trouble_fell counted (Fail Garbled) fit = record { faults = omega arith; garbles = omega arith; moves = omega arith; rows_given = omega arith; grades_given = omega arith }
+trouble_fell counted (Fail Memory) fit = record { faults = omega arith; garbles = omega arith; moves = omega arith; rows_given = omega arith; grades_given = omega arith }
 trouble_fell counted (Moved had now) fit = record { faults = omega arith; garbles = omega arith; moves = omega arith; rows_given = omega arith; grades_given = omega arith }
 
 pub rows_fell : (counted : Counts) (rows : ℕ) → Fit counted → NoneFell counted (gave_rows rows counted)

@@ -3,7 +3,8 @@ use Rattle.std.proofs.Common.{◌≡◌, ℕ, List, Option, Result, Ok, Err, ap}
 use Rattle.std.specs.Global.{Vec}
 use Rattle.ranked_list.specs.declared.row.Row.{Row}
 use Rattle.source_api.specs.declared.source.Trouble.{Trouble}
-use Rattle.source_api.specs.declared.source.Trouble.TheVariants.{Failed, Garbled, Memory, Moved}
+use Rattle.source_api.specs.declared.source.FailKind.TheVariants.{Failed, Garbled, Memory}
+use Rattle.source_api.specs.declared.source.Trouble.TheVariants.{Fail, Moved}
 use Rattle.page_json.specs.declared.object.Versioned.{Versioned}
 use Rattle.http_source.specs.Replies.{SaysSize, SaysPage, SaysGrade}
 use Rattle.http_source.specs.Answers.{AnswersSize, AnswersPage, AnswersGrade}
@@ -14,9 +15,9 @@ pub gives_size : ((bytes : List ℕ) (one other : Versioned ℕ) → SaysSize by
 gives_size only bytes said version (Ok size) says answers =
     let same = only bytes (record { version = version; body = size }) said answers says in
     (ap (λ (v : Versioned ℕ). v.body) same, ap (λ (v : Versioned ℕ). v.version) same)
-gives_size only bytes said version (Err Failed) says answers = tt
-gives_size only bytes said version (Err Garbled) says answers = answers said says
-gives_size only bytes said version (Err Memory) says answers = tt
+gives_size only bytes said version (Err (Fail Failed)) says answers = tt
+gives_size only bytes said version (Err (Fail Garbled)) says answers = answers said says
+gives_size only bytes said version (Err (Fail Memory)) says answers = tt
 gives_size only bytes said version (Err (Moved had now)) says answers = answers
 
 pub gives_page : ((bytes : List ℕ) (one other : Versioned (List Row)) → SaysPage bytes one → SaysPage bytes other → one ≡ other)
@@ -25,9 +26,9 @@ pub gives_page : ((bytes : List ℕ) (one other : Versioned (List Row)) → Says
 gives_page only bytes said version count (Ok page) says answers =
     let same = only bytes (record { version = version; body = page.items }) said answers.0 says in
     (ap (λ (v : Versioned (List Row)). v.body) same, ap (λ (v : Versioned (List Row)). v.version) same)
-gives_page only bytes said version count (Err Failed) says answers = tt
-gives_page only bytes said version count (Err Garbled) says answers = answers said says
-gives_page only bytes said version count (Err Memory) says answers = tt
+gives_page only bytes said version count (Err (Fail Failed)) says answers = tt
+gives_page only bytes said version count (Err (Fail Garbled)) says answers = answers said says
+gives_page only bytes said version count (Err (Fail Memory)) says answers = tt
 gives_page only bytes said version count (Err (Moved had now)) says answers =
     let same = only bytes (record { version = now; body = answers.2 }) said answers.3 says in
     (answers.0, ap (λ (v : Versioned (List Row)). v.version) same, answers.1)
@@ -38,9 +39,9 @@ pub gives_grade : ((bytes : List ℕ) (one other : Versioned (Option ℕ)) → S
 gives_grade only bytes said version (Ok grade) says answers =
     let same = only bytes (record { version = version; body = grade }) said answers says in
     (ap (λ (v : Versioned (Option ℕ)). v.body) same, ap (λ (v : Versioned (Option ℕ)). v.version) same)
-gives_grade only bytes said version (Err Failed) says answers = tt
-gives_grade only bytes said version (Err Garbled) says answers = answers said says
-gives_grade only bytes said version (Err Memory) says answers = tt
+gives_grade only bytes said version (Err (Fail Failed)) says answers = tt
+gives_grade only bytes said version (Err (Fail Garbled)) says answers = answers said says
+gives_grade only bytes said version (Err (Fail Memory)) says answers = tt
 gives_grade only bytes said version (Err (Moved had now)) says answers =
     let same = only bytes (record { version = now; body = answers.2 }) said answers.3 says in
     (answers.0, ap (λ (v : Versioned (Option ℕ)). v.version) same, answers.1)

@@ -6,7 +6,8 @@ use Rattle.std.proofs.lemmas.List.{append-nil}
 use Rattle.tk_io.specs.Links.{Closed}
 use Rattle.tk_io.specs.Whole.{TookFront}
 use Rattle.source_api.specs.declared.source.Trouble.{Trouble}
-use Rattle.source_api.specs.declared.source.Trouble.TheVariants.{Failed, Garbled, Memory, Moved}
+use Rattle.source_api.specs.declared.source.FailKind.TheVariants.{Failed, Garbled, Memory}
+use Rattle.source_api.specs.declared.source.Trouble.TheVariants.{Fail, Moved}
 use Rattle.http_source.specs.Exchanges.{OneLink, OneLinkInPart, UsesLink, FailsWith, IsUnanswered}
 use Rattle.http_source.specs.Asking.{IsNoFault}
 
@@ -30,35 +31,35 @@ link_in_part request links links_now closed closed_now used = record {
 pub link_used : {T : Type 0} (request : List ℕ) (links links_now : Option (List (List ℕ))) (closed closed_now : Option (List Closed)) (result : Result T Trouble)
     → OneLink request links links_now closed closed_now → IsNoFault result → UsesLink request links links_now closed closed_now result
 link_used request links links_now closed closed_now (Ok x) used calm = used
-link_used request links links_now closed closed_now (Err Failed) used calm = absurd calm
-link_used request links links_now closed closed_now (Err Garbled) used calm = used
-link_used request links links_now closed closed_now (Err Memory) used calm = inr (link_in_part request links links_now closed closed_now used)
+link_used request links links_now closed closed_now (Err (Fail Failed)) used calm = absurd calm
+link_used request links links_now closed closed_now (Err (Fail Garbled)) used calm = used
+link_used request links links_now closed closed_now (Err (Fail Memory)) used calm = inr (link_in_part request links links_now closed closed_now used)
 link_used request links links_now closed closed_now (Err (Moved had now)) used calm = used
 
 pub stays_calm : {T : Type 0} (before now : ℕ) (result : Result T Trouble) → now ≡ before → IsNoFault result → FailsWith before now result
 stays_calm before now (Ok x) same calm = same
-stays_calm before now (Err Failed) same calm = absurd calm
-stays_calm before now (Err Garbled) same calm = same
-stays_calm before now (Err Memory) same calm = same
+stays_calm before now (Err (Fail Failed)) same calm = absurd calm
+stays_calm before now (Err (Fail Garbled)) same calm = same
+stays_calm before now (Err (Fail Memory)) same calm = same
 stays_calm before now (Err (Moved had now_)) same calm = same
 
 -- ---- a trouble is handed on
 
 pub link_handed : (A T : Type 0) (request : List ℕ) (links links_now : Option (List (List ℕ))) (closed closed_now : Option (List Closed)) (why : Trouble)
     → UsesLink {T = A} request links links_now closed closed_now (Err why) → UsesLink {T = T} request links links_now closed closed_now (Err why)
-link_handed A T request links links_now closed closed_now Failed used = used
-link_handed A T request links links_now closed closed_now Garbled used = used
-link_handed A T request links links_now closed closed_now Memory used = used
+link_handed A T request links links_now closed closed_now (Fail Failed) used = used
+link_handed A T request links links_now closed closed_now (Fail Garbled) used = used
+link_handed A T request links links_now closed closed_now (Fail Memory) used = used
 link_handed A T request links links_now closed closed_now (Moved had now) used = used
 
 pub fails_handed : (A T : Type 0) (before now : ℕ) (why : Trouble) → FailsWith {T = A} before now (Err why) → FailsWith {T = T} before now (Err why)
-fails_handed A T before now Failed fails = fails
-fails_handed A T before now Garbled fails = fails
-fails_handed A T before now Memory fails = fails
+fails_handed A T before now (Fail Failed) fails = fails
+fails_handed A T before now (Fail Garbled) fails = fails
+fails_handed A T before now (Fail Memory) fails = fails
 fails_handed A T before now (Moved had now_) fails = fails
 
 pub unanswered_handed : (A T : Type 0) (why : Trouble) → IsUnanswered {T = A} (Err why) → IsUnanswered {T = T} (Err why)
-unanswered_handed A T Failed none = tt
-unanswered_handed A T Garbled none = none
-unanswered_handed A T Memory none = tt
+unanswered_handed A T (Fail Failed) none = tt
+unanswered_handed A T (Fail Garbled) none = none
+unanswered_handed A T (Fail Memory) none = tt
 unanswered_handed A T (Moved had now) none = none

@@ -4,7 +4,8 @@ use Rattle.std.specs.Global.{Vec}
 use Rattle.std.specs.Io.KnownBytes.{Appends}
 use Rattle.tk_io.specs.Whole.{TookFront}
 use Rattle.source_api.specs.declared.source.Trouble.{Trouble}
-use Rattle.source_api.specs.declared.source.Trouble.TheVariants.{Failed, Garbled, Memory, Moved}
+use Rattle.source_api.specs.declared.source.FailKind.TheVariants.{Failed, Garbled, Memory}
+use Rattle.source_api.specs.declared.source.Trouble.TheVariants.{Fail, Moved}
 use Rattle.wire.specs.declared.fault.WireFault.{WireFault}
 use Rattle.wire.specs.declared.fault.WireFault.TheVariants as wire
 use Rattle.wire.specs.declared.response.Reply.{Reply}
@@ -24,14 +25,14 @@ ok_body reply = if reply.status == 200 then reply.body else None
 
 -- a body that is there
 abbrev pub or_garbled : Option (Vec ℕ) → Result (Vec ℕ) Trouble
-or_garbled None = Err Garbled
+or_garbled None = Err (Fail Garbled)
 or_garbled (Some body) = Ok body
 
 -- the trouble that a fault is
 abbrev pub trouble_of : WireFault → Trouble
-trouble_of wire.LinkFault = Failed
-trouble_of wire.Memory = Memory
-trouble_of _ = Garbled
+trouble_of wire.LinkFault = Fail Failed
+trouble_of wire.Memory = Fail Memory
+trouble_of _ = Fail Garbled
 
 -- the body of a reply, or why there is none
 abbrev pub body_in : Result Reply WireFault → Result (Vec ℕ) Trouble
@@ -41,17 +42,17 @@ body_in (Err fault) = Err (trouble_of fault)
 -- what a request answers by the bytes of its link: the body that they bring, or that they bring none
 abbrev pub AnswersBody : List ℕ → Result (Vec ℕ) Trouble → Type 0
 AnswersBody bytes (Ok body) = Brings bytes body.items
-AnswersBody bytes (Err Failed) = ⊤
-AnswersBody bytes (Err Garbled) = (content : List ℕ) → ¬ Brings bytes content
-AnswersBody bytes (Err Memory) = ⊤
+AnswersBody bytes (Err (Fail Failed)) = ⊤
+AnswersBody bytes (Err (Fail Garbled)) = (content : List ℕ) → ¬ Brings bytes content
+AnswersBody bytes (Err (Fail Memory)) = ⊤
 AnswersBody bytes (Err (Moved had now)) = ⊥
 
 -- a call doesn't fail for what a body says
 abbrev pub IsNoFault : {T : Type 0} → Result T Trouble → Type 0
-IsNoFault (Err Failed) = ⊥
+IsNoFault (Err (Fail Failed)) = ⊥
 IsNoFault _ = ⊤
 
 -- the trouble that a fault of a body is
 abbrev pub trouble_in : JsonFault → Trouble
-trouble_in json.NotABody = Garbled
-trouble_in json.Memory = Memory
+trouble_in json.NotABody = Fail Garbled
+trouble_in json.Memory = Fail Memory

@@ -5,7 +5,8 @@ use Rattle.tk_io.specs.Faults.{Rose}
 use Rattle.tk_io.specs.Links.{Closed, ClosesOne}
 use Rattle.tk_io.specs.Whole.{TookFront}
 use Rattle.source_api.specs.declared.source.Trouble.{Trouble}
-use Rattle.source_api.specs.declared.source.Trouble.TheVariants.{Failed, Memory}
+use Rattle.source_api.specs.declared.source.FailKind.TheVariants.{Failed, Memory}
+use Rattle.source_api.specs.declared.source.Trouble.TheVariants.{Fail}
 
 -- the bytes of the link to come, where the links are told and there is one
 abbrev pub next_bytes : Option (List (List ℕ)) → Option (List ℕ)
@@ -41,19 +42,19 @@ pub record OneLinkInPart (request : List ℕ) (links links_now : Option (List (L
 -- a call makes one request on one link, which it gives back; where it fails or memory is refused there may be no link, or a front of the request
 abbrev pub UsesLink : {T : Type 0} → List ℕ → Option (List (List ℕ)) → Option (List (List ℕ)) → Option (List Closed) → Option (List Closed)
     → Result T Trouble → Type 0
-UsesLink request links links_now closed closed_now (Err Failed) =
+UsesLink request links links_now closed closed_now (Err (Fail Failed)) =
     NoLink links links_now closed closed_now ⊎ OneLinkInPart request links links_now closed closed_now
-UsesLink request links links_now closed closed_now (Err Memory) =
+UsesLink request links links_now closed closed_now (Err (Fail Memory)) =
     NoLink links links_now closed closed_now ⊎ OneLinkInPart request links links_now closed closed_now
 UsesLink request links links_now closed closed_now _ = OneLink request links links_now closed closed_now
 
 -- a call fails exactly where its dial's count rose: the count rises where it fails, and stays where it doesn't
 abbrev pub FailsWith : {T : Type 0} → ℕ → ℕ → Result T Trouble → Type 0
-FailsWith before now (Err Failed) = Rose before now
+FailsWith before now (Err (Fail Failed)) = Rose before now
 FailsWith before now _ = now ≡ before
 
 -- a call that fails, or wants memory
 abbrev pub IsUnanswered : {T : Type 0} → Result T Trouble → Type 0
-IsUnanswered (Err Failed) = ⊤
-IsUnanswered (Err Memory) = ⊤
+IsUnanswered (Err (Fail Failed)) = ⊤
+IsUnanswered (Err (Fail Memory)) = ⊤
 IsUnanswered _ = ⊥

@@ -10,7 +10,7 @@ ghost use Rattle.http_source.specs.Exchanges.{next_bytes, UsesLink, FailsWith, I
 ghost use Rattle.http_source.specs.Asking.{TakesRequest, ok_body, body_in, AnswersBody};
 
 use super::Memory;
-use source_api::Trouble;
+use source_api::{FailKind, Trouble};
 use std::alloc::Global;
 use tk_io::{Dial, Link};
 use wire::{Place, Reply, WireFault, a_reply_is_the_only_answer, read_response, write_request};
@@ -36,7 +36,7 @@ pub(crate) fn ask<D: Dial>(
 {
     a_reply_is_the_only_answer();
     let Ok(mut link) = dial.dial(place.host.as_str(), place.port) else {
-        return Err(Trouble::Failed);
+        return Err(Trouble::Fail(FailKind::Failed));
     };
     let reply = talk(alloc, &mut link, place, tail);
     dial.hang_up(link);
@@ -60,7 +60,7 @@ pub(crate) fn ask_made<D: Dial>(
 {
     match tail {
         Ok(tail) => ask(alloc, dial, place, tail.as_bytes()),
-        Err(_) => Err(Trouble::Memory),
+        Err(_) => Err(Trouble::Fail(FailKind::Memory)),
     }
 }
 
@@ -89,11 +89,11 @@ fn body_in(reply: Result<Reply, WireFault>) -> Result<Vec<u8>, Trouble>
     match reply {
         Ok(reply) => match ok_body(reply) {
             Some(body) => Ok(body),
-            None => Err(Trouble::Garbled),
+            None => Err(Trouble::Fail(FailKind::Garbled)),
         },
-        Err(WireFault::LinkFault) => Err(Trouble::Failed),
-        Err(WireFault::Memory) => Err(Trouble::Memory),
-        Err(_) => Err(Trouble::Garbled),
+        Err(WireFault::LinkFault) => Err(Trouble::Fail(FailKind::Failed)),
+        Err(WireFault::Memory) => Err(Trouble::Fail(FailKind::Memory)),
+        Err(_) => Err(Trouble::Fail(FailKind::Garbled)),
     }
 }
 

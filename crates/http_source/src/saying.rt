@@ -7,7 +7,7 @@ ghost use Rattle.http_source.specs.Asking.{IsNoFault, trouble_in};
 
 use page_json::{JsonFault, Versioned, read_grade, read_page, read_size};
 use ranked_list::Row;
-use source_api::Trouble;
+use source_api::{FailKind, Trouble};
 use std::alloc::Global;
 
 /// The size that a body says. The version that it states is the one at hand from then on.
@@ -55,7 +55,7 @@ fn page_at(said: Versioned<Vec<Row>>, at_hand: u64, count: u32) -> Result<Vec<Ro
         });
     }
     if body.len() > count as usize {
-        return Err(Trouble::Garbled);
+        return Err(Trouble::Fail(FailKind::Garbled));
     }
     Ok(body)
 }
@@ -90,7 +90,7 @@ fn trouble_in(fault: JsonFault) -> Trouble
     ensures { result ≡ trouble_in fault }
 {
     match fault {
-        JsonFault::NotABody => Trouble::Garbled,
-        JsonFault::Memory => Trouble::Memory,
+        JsonFault::NotABody => Trouble::Fail(FailKind::Garbled),
+        JsonFault::Memory => Trouble::Fail(FailKind::Memory),
     }
 }

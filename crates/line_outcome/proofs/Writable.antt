@@ -9,6 +9,7 @@ use Rattle.cert_text.specs.Outcome.{IsOutcome}
 use Rattle.query_core.specs.declared.ready.Ready.{Ready}
 use Rattle.source_state.specs.State.{State, state_at}
 use Rattle.source_state.specs.declared.look.LookFault.{LookFault}
+use Rattle.source_api.specs.declared.source.FailKind.TheVariants as kind
 use Rattle.source_state.specs.declared.look.LookFault.TheVariants as look
 use Rattle.source_state.specs.declared.entry.SourceFault.{SourceFault}
 use Rattle.source_state.specs.declared.entry.SourceFault.TheVariants as fault
@@ -54,9 +55,9 @@ look_written : (query : Query) (versions : List ℕ) (list : ℕ) (f : LookFault
 look_written query versions list (look.Source f) o h e = subst (IsOutcome (Some query) versions) (same_Some _ o e) (source_written query versions list f h)
 look_written query versions list (look.Missing object) o h e = subst (IsOutcome (Some query) versions) (same_Some _ o e) (one_list query list h)
 look_written query versions list (look.AsksFull kept) o h e = subst (IsOutcome (Some query) versions) (same_Some _ o e) (one_list query list h)
-look_written query versions list look.Failed o h e = subst (IsOutcome (Some query) versions) (same_Some _ o e) (one_list query list h)
-look_written query versions list look.Garbled o h e = subst (IsOutcome (Some query) versions) (same_Some _ o e) (one_list query list h)
-look_written query versions list look.Memory o h e = absurd cc
+look_written query versions list (look.Call kind.Failed) o h e = subst (IsOutcome (Some query) versions) (same_Some _ o e) (one_list query list h)
+look_written query versions list (look.Call kind.Garbled) o h e = subst (IsOutcome (Some query) versions) (same_Some _ o e) (one_list query list h)
+look_written query versions list (look.Call kind.Memory) o h e = absurd cc
 
 pub of_list_is : (list : ℕ) (n : Need) → IsOfList list n → list_needed n ≡ list
 of_list_is list (need.Row other depth) h = h

@@ -9,6 +9,7 @@ use Rattle.cert_text.specs.declared.refusal.Refusal.TheVariants as refusal
 use Rattle.source_state.specs.declared.entry.SourceFault.{SourceFault}
 use Rattle.source_state.specs.declared.entry.SourceFault.TheVariants as fault
 use Rattle.source_state.specs.declared.look.LookFault.{LookFault}
+use Rattle.source_api.specs.declared.source.FailKind.TheVariants as kind
 use Rattle.source_state.specs.declared.look.LookFault.TheVariants as look
 use Rattle.query_run.specs.declared.ended.Ended.{Ended}
 use Rattle.query_run.specs.declared.ended.Ended.TheVariants as ended
@@ -33,9 +34,9 @@ abbrev pub look_refusal : ℕ → LookFault → Option Refusal
 look_refusal list (look.Source fault) = Some (source_refusal list fault)
 look_refusal list (look.Missing object) = Some (refusal.Missing list object)
 look_refusal list (look.AsksFull kept) = Some (refusal.AsksFull list kept)
-look_refusal list look.Failed = Some (refusal.Failed list)
-look_refusal list look.Garbled = Some (refusal.Garbled list)
-look_refusal list look.Memory = None
+look_refusal list (look.Call kind.Failed) = Some (refusal.Failed list)
+look_refusal list (look.Call kind.Garbled) = Some (refusal.Garbled list)
+look_refusal list (look.Call kind.Memory) = None
 
 -- the outcome of a query that ended so; none for want of memory
 abbrev pub ended_outcome : Ended → Option Outcome

@@ -1,4 +1,4 @@
-//! What a query line comes to: the outcome of one that is refused before it runs, and of one whose query ended.
+//! The outcomes of query lines: of one that is refused before it runs, and of one whose query ended.
 #![tactic(auto)]
 
 mod ending;

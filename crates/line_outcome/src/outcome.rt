@@ -6,6 +6,7 @@ ghost use Rattle.line_outcome.specs.Outcomes.{core_refusal, source_refusal, look
 use cert_text::{Outcome, Refusal};
 use machine_base::CoreFault;
 use query_run::Ended;
+use source_api::FailKind;
 use source_state::{LookFault, SourceFault};
 
 /// The refusal of a query that has no room for an object.
@@ -72,9 +73,9 @@ fn look_refusal(list: u8, fault: LookFault) -> Option<Refusal>
         LookFault::Source(fault) => Some(source_refusal(list, fault)),
         LookFault::Missing { object } => Some(Refusal::Missing { list, object }),
         LookFault::AsksFull { kept } => Some(Refusal::AsksFull { list, kept }),
-        LookFault::Failed => Some(Refusal::Failed { list }),
-        LookFault::Garbled => Some(Refusal::Garbled { list }),
-        LookFault::Memory => None,
+        LookFault::Call(FailKind::Failed) => Some(Refusal::Failed { list }),
+        LookFault::Call(FailKind::Garbled) => Some(Refusal::Garbled { list }),
+        LookFault::Call(FailKind::Memory) => None,
     }
 }
 

@@ -3,7 +3,8 @@ use Rattle.std.specs.Prelude.{◌≡◌, ◌≢◌, ℕ, ◌+◌, ◌-◌, ◌^�
 use Rattle.tk_io.specs.Faults.{counted, Rose}
 use Rattle.source_api.specs.declared.counts.Counts.{Counts}
 use Rattle.source_api.specs.declared.source.Trouble.{Trouble}
-use Rattle.source_api.specs.declared.source.Trouble.TheVariants.{Failed, Garbled, Memory, Moved}
+use Rattle.source_api.specs.declared.source.FailKind.TheVariants.{Failed, Garbled, Memory}
+use Rattle.source_api.specs.declared.source.Trouble.TheVariants.{Fail, Moved}
 
 -- a count that goes up by so many, and stands still at the last value of its type
 abbrev pub raised : ℕ → ℕ → ℕ
@@ -15,9 +16,9 @@ no_counts = record { faults = 0; garbles = 0; moves = 0; rows_given = 0; grades_
 
 -- one more call that ended so; want of memory isn't counted
 abbrev pub troubled : Trouble → Counts → Counts
-troubled Failed c = record c { faults = counted c.faults }
-troubled Garbled c = record c { garbles = counted c.garbles }
-troubled Memory c = c
+troubled (Fail Failed) c = record c { faults = counted c.faults }
+troubled (Fail Garbled) c = record c { garbles = counted c.garbles }
+troubled (Fail Memory) c = c
 troubled (Moved had now) c = record c { moves = counted c.moves }
 
 -- one more page, of so many rows
@@ -48,16 +49,16 @@ pub record NoneFell (before now : Counts) : Type 0 where
 
 -- the count that stands behind a call that ended so went up, or stands at its last value; want of memory needs none
 abbrev pub TroubleHasCause : Counts → Counts → Trouble → Type 0
-TroubleHasCause before now Failed = Rose before.faults now.faults
-TroubleHasCause before now Garbled = Rose before.garbles now.garbles
-TroubleHasCause before now Memory = Unit {0}
+TroubleHasCause before now (Fail Failed) = Rose before.faults now.faults
+TroubleHasCause before now (Fail Garbled) = Rose before.garbles now.garbles
+TroubleHasCause before now (Fail Memory) = Unit {0}
 TroubleHasCause before now (Moved had other) = Rose before.moves now.moves
 
 -- of all counts the one of this trouble alone may have changed; a move raised its own by one, and want of memory changed none
 abbrev pub CountsAlone : Counts → Counts → Trouble → Type 0
-CountsAlone before now Failed = now ≡ record before { faults = now.faults }
-CountsAlone before now Garbled = now ≡ record before { garbles = now.garbles }
-CountsAlone before now Memory = now ≡ before
+CountsAlone before now (Fail Failed) = now ≡ record before { faults = now.faults }
+CountsAlone before now (Fail Garbled) = now ≡ record before { garbles = now.garbles }
+CountsAlone before now (Fail Memory) = now ≡ before
 CountsAlone before now (Moved had other) = now ≡ record before { moves = counted before.moves }
 
 -- a reply stated another version than the one at hand: had and now are these two, they differ, and now is the told one where one is told

@@ -6,7 +6,8 @@ use Rattle.tk_io.specs.Faults.{counted, Rose}
 use Rattle.source_api.specs.declared.counts.Counts.{Counts}
 use Rattle.source_api.specs.declared.ledger.PlaceCounts.{PlaceCounts}
 use Rattle.source_api.specs.declared.source.Trouble.{Trouble}
-use Rattle.source_api.specs.declared.source.Trouble.TheVariants.{Failed, Garbled, Memory, Moved}
+use Rattle.source_api.specs.declared.source.FailKind.TheVariants.{Failed, Garbled, Memory}
+use Rattle.source_api.specs.declared.source.Trouble.TheVariants.{Fail, Moved}
 use Rattle.source_api.specs.Counting.{no_counts, added}
 use Rattle.limits.specs.declared.TheConstants.{MAX_LIST_TEXT}
 
@@ -52,15 +53,15 @@ counts_taken before = record before { taken = counted before.taken }
 
 -- a text fails only where its count of the place went up, or stands at its last value; want of memory counts nothing; it never garbles and is never Moved
 abbrev pub HasTextCause : PlaceCounts → PlaceCounts → Trouble → Type 0
-HasTextCause before now Failed = Rose before.text_faults now.text_faults
-HasTextCause before now Memory = now ≡ before
+HasTextCause before now (Fail Failed) = Rose before.text_faults now.text_faults
+HasTextCause before now (Fail Memory) = now ≡ before
 HasTextCause before now _ = ⊥
 
 -- a take fails or garbles only where its count of the place went up, or stands at its last value; want of memory counts nothing; it is never Moved
 abbrev pub HasTakeCause : PlaceCounts → PlaceCounts → Trouble → Type 0
-HasTakeCause before now Failed = Rose before.take_faults now.take_faults
-HasTakeCause before now Garbled = Rose before.take_faults now.take_faults
-HasTakeCause before now Memory = now ≡ before
+HasTakeCause before now (Fail Failed) = Rose before.take_faults now.take_faults
+HasTakeCause before now (Fail Garbled) = Rose before.take_faults now.take_faults
+HasTakeCause before now (Fail Memory) = now ≡ before
 HasTakeCause before now (Moved had other) = ⊥
 
 -- one more source was put back at its place, and its counts were added to those there

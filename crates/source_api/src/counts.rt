@@ -3,7 +3,7 @@
 ghost use Rattle.std.specs.Prelude.{◌≡◌};
 ghost use Rattle.source_api.specs.Counting.{raised, no_counts, troubled, gave_rows, gave_grade, added};
 
-use super::Trouble;
+use super::{FailKind, Trouble};
 
 /// What a source counts over its calls. Each count stands still at the last value of its type.
 #[derive(Clone, Copy, Debug, PartialEq, Eq)]
@@ -39,10 +39,10 @@ impl Counts {
         ensures { self.new ≡ troubled trouble self.old }
     {
         match trouble {
-            Trouble::Failed => self.faults = self.faults.saturating_add(1),
-            Trouble::Garbled => self.garbles = self.garbles.saturating_add(1),
+            Trouble::Fail(FailKind::Failed) => self.faults = self.faults.saturating_add(1),
+            Trouble::Fail(FailKind::Garbled) => self.garbles = self.garbles.saturating_add(1),
             Trouble::Moved { .. } => self.moves = self.moves.saturating_add(1),
-            Trouble::Memory => {}
+            Trouble::Fail(FailKind::Memory) => {}
         }
     }
 

@@ -12,4 +12,4 @@ pub use ledger::{Ledger, PlaceCounts};
 pub use limits::Memory;
 pub use rows::{keep_first, part_of};
 pub use shelf::Shelf;
-pub use source::{Source, Trouble};
+pub use source::{FailKind, Source, Trouble};

@@ -10,15 +10,23 @@ ghost use Rattle.source_api.specs.Calls.{Call, with_call};
 use ranked_list::Row;
 use std::alloc::Global;
 
-/// Why a call on a source or a shelf gave no answer.
+/// How a call of a source or a shelf fails.
 #[derive(Clone, Copy, Debug, PartialEq, Eq)]
-pub enum Trouble {
-    /// The outside failed, and the count of faults has gone up.
+pub enum FailKind {
+    /// The outside failed.
     Failed,
-    /// What the outside gave isn't of the right form, and the count of garbles has gone up.
+    /// What the outside gave isn't of the right form.
     Garbled,
     /// No memory was left.
     Memory,
+}
+
+/// Why a call on a source or a shelf gave no answer.
+#[derive(Clone, Copy, Debug, PartialEq, Eq)]
+pub enum Trouble {
+    /// The call failed so. The count of faults has gone up where the outside failed, that of garbles where what it gave isn't of the
+    /// right form, and none where no memory was left.
+    Fail(FailKind),
     /// The reply stated the version `now` of the list in place of `had`, which `size` stated last. Nothing of the reply is used, and
     /// the count of moves has gone up.
     Moved { had: u64, now: u64 },

@@ -10,6 +10,7 @@ use Rattle.wire.specs.Told.{Counts as Counted}
 use Rattle.source_node.specs.Refusals.{status_of, body_of}
 use Rattle.source_api.specs.declared.counts.Counts.{Counts}
 use Rattle.source_api.specs.declared.source.Trouble.{Trouble}
+use Rattle.source_api.specs.declared.source.FailKind.TheVariants as kind
 use Rattle.source_api.specs.declared.source.Trouble.TheVariants as trouble
 use Rattle.source_api.specs.Calls.{Call}
 use Rattle.source_api.specs.Counting.{gave_rows, gave_grade}
@@ -40,10 +41,10 @@ quiet_given (Call.Grade object (Ok grade) ∷ calls) counts =
 quiet_given (Call.Grade object (Err why) ∷ calls) counts = quiet_given calls counts
 
 -- a call that failed, and not for want of memory, raised a count
-pub troubled : (before now : Counts) (why : Trouble) → Fails before now why → (why ≡ trouble.Memory → ⊥) → IsTroubled before now
-troubled before now trouble.Failed fails other = inl fails.cause
-troubled before now trouble.Garbled fails other = inr (inl fails.cause)
-troubled before now trouble.Memory fails other = absurd (other refl)
+pub troubled : (before now : Counts) (why : Trouble) → Fails before now why → (why ≡ trouble.Fail kind.Memory → ⊥) → IsTroubled before now
+troubled before now (trouble.Fail kind.Failed) fails other = inl fails.cause
+troubled before now (trouble.Fail kind.Garbled) fails other = inr (inl fails.cause)
+troubled before now (trouble.Fail kind.Memory) fails other = absurd (other refl)
 troubled before now (trouble.Moved had then) fails other = inr (inr fails.cause)
 
 -- what is asked stands on a route

@@ -6,6 +6,7 @@ use Rattle.std.proofs.lemmas.Bool.{cases_lt}
 use Rattle.ranked_list.specs.declared.row.Row.{Row}
 use Rattle.source_api.specs.declared.counts.Counts.{Counts}
 use Rattle.source_api.specs.declared.source.Trouble.{Trouble}
+use Rattle.source_api.specs.declared.source.FailKind.TheVariants as kind
 use Rattle.source_api.specs.declared.source.Trouble.TheVariants as trouble
 use Rattle.source_api.specs.Calls.{Call, with_call}
 use Rattle.source_api.specs.Counting.{NoneFell, TroubleHasCause, CountsAlone, gave_rows, gave_grade}
@@ -62,9 +63,9 @@ quiet_same before now is = record {
 
 -- a call that failed
 pub fails_of : (before now : Counts) (why : Trouble) → TroubleHasCause before now why → CountsAlone before now why → Fails before now why
-fails_of before now trouble.Failed cause alone = record { cause = cause; quiet = λ is. absurd cc }
-fails_of before now trouble.Garbled cause alone = record { cause = cause; quiet = λ is. absurd cc }
-fails_of before now trouble.Memory cause alone = record { cause = cause; quiet = λ is. quiet_same before now alone }
+fails_of before now (trouble.Fail kind.Failed) cause alone = record { cause = cause; quiet = λ is. absurd cc }
+fails_of before now (trouble.Fail kind.Garbled) cause alone = record { cause = cause; quiet = λ is. absurd cc }
+fails_of before now (trouble.Fail kind.Memory) cause alone = record { cause = cause; quiet = λ is. quiet_same before now alone }
 fails_of before now (trouble.Moved had other) cause alone = record { cause = cause; quiet = λ is. absurd cc }
 
 -- a call that failed behind others that didn't
@@ -75,9 +76,9 @@ fails_later a b c why first fails = record {
 }
   where
     cause_later : (why : Trouble) → TroubleHasCause b c why → TroubleHasCause a c why
-    cause_later trouble.Failed cause = let same = first.faults in omega (arith, same, cause)
-    cause_later trouble.Garbled cause = let same = first.garbles in omega (arith, same, cause)
-    cause_later trouble.Memory cause = tt
+    cause_later (trouble.Fail kind.Failed) cause = let same = first.faults in omega (arith, same, cause)
+    cause_later (trouble.Fail kind.Garbled) cause = let same = first.garbles in omega (arith, same, cause)
+    cause_later (trouble.Fail kind.Memory) cause = tt
     cause_later (trouble.Moved had other) cause = let same = first.moves in omega (arith, same, cause)
 
 -- no count falls where none changes, and in two steps

@@ -4,6 +4,7 @@ use Rattle.ranked_list.specs.declared.row.Row.{Row}
 use Rattle.page_json.specs.Texts.{size_text, page_text, grade_text}
 use Rattle.source_api.specs.declared.counts.Counts.{Counts}
 use Rattle.source_api.specs.declared.source.Trouble.{Trouble}
+use Rattle.source_api.specs.declared.source.FailKind.TheVariants as kind
 use Rattle.source_api.specs.declared.source.Trouble.TheVariants as trouble
 use Rattle.source_api.specs.Calls.{Call, with_call}
 use Rattle.source_api.specs.Counting.{TroubleHasCause, gave_rows, gave_grade}
@@ -89,7 +90,7 @@ pub record IsQuiet (before now : Counts) : Type 0 where
 -- a source gave no answer: the count of the trouble rose, and want of memory counts none
 pub record Fails (before now : Counts) (why : Trouble) : Type 0 where
   pub cause : TroubleHasCause before now why
-  pub quiet : why ≡ trouble.Memory → IsQuiet before now
+  pub quiet : why ≡ trouble.Fail kind.Memory → IsQuiet before now
 
 -- how a source was asked
 abbrev pub Asks : Asked → Seen → Seen → Result Answer Trouble → Type 0

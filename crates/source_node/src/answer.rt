@@ -12,7 +12,7 @@ use super::Asked;
 use limits::Memory;
 use page_json::{write_grade, write_page, write_size};
 use ranked_list::Row;
-use source_api::{Source, Trouble};
+use source_api::{FailKind, Source, Trouble};
 use std::alloc::Global;
 
 /// What a list answers to what is asked of it.
@@ -155,7 +155,7 @@ fn add_page<S: Source>(
     match source.page(alloc, from, count) {
         Ok(page) => match rows.extend_from_slice(&page) {
             Ok(()) => Ok(page.len()),
-            Err(_) => Err(Trouble::Memory),
+            Err(_) => Err(Trouble::Fail(FailKind::Memory)),
         },
         Err(why) => Err(why),
     }

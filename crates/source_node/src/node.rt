@@ -13,7 +13,7 @@ ghost use Rattle.source_node.specs.Connections.{Ends, Serves, Serving, Sends, Is
 
 use super::answer::{ask, write_answer};
 use super::{Asked, Refusal, asked_of};
-use source_api::{Source, Trouble};
+use source_api::{FailKind, Source, Trouble};
 use std::alloc::Global;
 use tk_io::Link;
 use wire::{Head, Kind, WireFault, read_request, write_reply};
@@ -162,7 +162,7 @@ fn serve_asked<S: Source>(
                 Err(_) => Err(Refusal::NoMemory),
             }
         }
-        Err(Trouble::Memory) => Err(Refusal::NoMemory),
+        Err(Trouble::Fail(FailKind::Memory)) => Err(Refusal::NoMemory),
         Err(_) => Err(Refusal::SourceFailed),
     }
 }

@@ -15,8 +15,8 @@ use Rattle.turn_lock.specs.Known.{KnowsOf, raised, holding, after_turn}
 use Rattle.turn_lock.proofs.Growth.{begins_on, at_most_on}
 use Rattle.source_state.specs.declared.ask.Ask.{Ask}
 use Rattle.source_state.specs.declared.entry.LogEntry.{LogEntry}
-use Rattle.source_state.specs.declared.entry.FailKind.{FailKind}
-use Rattle.source_state.specs.declared.entry.FailKind.TheVariants as kind
+use Rattle.source_api.specs.declared.source.FailKind.{FailKind}
+use Rattle.source_api.specs.declared.source.FailKind.TheVariants as kind
 use Rattle.source_state.specs.declared.look.Waiting.{Waiting}
 use Rattle.source_state.specs.declared.look.Look.{Look}
 use Rattle.source_state.specs.declared.look.Look.TheVariants as look
@@ -119,9 +119,7 @@ answers n before after (look.Fault (why.AsksFull kept)) t = record {
   full = no_room n after.pass.1 t.turn.found (met_is t ∙ ap (λ (s : State). s.asks) t.turn.looks.ends.same) (count_is t) t.turn.looks.full;
   all = t.turn.looks.all ∙ sym (ap (λ (s : State). length s.asks) t.turn.looks.ends.same) ∙ sym (ap length (met_is t));
 }
-answers n before after (look.Fault why.Failed) t = record { undecided = said_now t ∙ t.turn.looks.undecided; tells = told_now t ∙ t.turn.looks.tells }
-answers n before after (look.Fault why.Garbled) t = record { undecided = said_now t ∙ t.turn.looks.undecided; tells = told_now t ∙ t.turn.looks.tells }
-answers n before after (look.Fault why.Memory) t = record { undecided = said_now t ∙ t.turn.looks.undecided; tells = told_now t ∙ t.turn.looks.tells }
+answers n before after (look.Fault (why.Call what)) t = record { undecided = said_now t ∙ t.turn.looks.undecided; tells = told_now t ∙ t.turn.looks.tells }
 
 -- a turn that leaves the mark and the asks leaves what the pass raised and added
 not_raised : (mark high : ℕ) → raised mark mark high ≡ high
@@ -217,9 +215,7 @@ waits n before after look.NotYet t = elim t.turn.looks.waits [
 waits n before after (look.Fault (why.Source fault)) t = ends t t.turn.looks.ends
 waits n before after (look.Fault (why.Missing object)) t = ends t t.turn.looks.ends
 waits n before after (look.Fault (why.AsksFull kept)) t = ends t t.turn.looks.ends
-waits n before after (look.Fault why.Failed) t = ends t t.turn.looks.ends
-waits n before after (look.Fault why.Garbled) t = ends t t.turn.looks.ends
-waits n before after (look.Fault why.Memory) t = ends t t.turn.looks.ends
+waits n before after (look.Fault (why.Call what)) t = ends t t.turn.looks.ends
 
 -- what a turn leaves of the pass
 pub took_turn : (n : Need) (before after : Hold) (answer : Look) → Turned n before after answer → TookTurn before.pass.1 after.pass.1
@@ -284,9 +280,7 @@ by_answer n before after look.NotYet h shown a w = record { shown = unshown befo
 by_answer n before after (look.Fault (why.Source fault)) h shown a w = record { shown = unshown before after h shown; noted = no_more_waits before after w.over }
 by_answer n before after (look.Fault (why.Missing object)) h shown a w = record { shown = unshown before after h shown; noted = no_more_waits before after w.over }
 by_answer n before after (look.Fault (why.AsksFull kept)) h shown a w = record { shown = unshown before after h shown; noted = no_more_waits before after w.over }
-by_answer n before after (look.Fault why.Failed) h shown a w = record { shown = one_shown n kind.Failed before after h shown a.tells; noted = no_more_waits before after w.over }
-by_answer n before after (look.Fault why.Garbled) h shown a w = record { shown = one_shown n kind.Garbled before after h shown a.tells; noted = no_more_waits before after w.over }
-by_answer n before after (look.Fault why.Memory) h shown a w = record { shown = one_shown n kind.Memory before after h shown a.tells; noted = no_more_waits before after w.over }
+by_answer n before after (look.Fault (why.Call what)) h shown a w = record { shown = one_shown n what before after h shown a.tells; noted = no_more_waits before after w.over }
 
 pub within : (n : Need) (before after : Hold) (answer : Look) → Turned n before after answer → IsWithin before → IsWithin after
 within n before after answer t h =

@@ -8,8 +8,7 @@ use Rattle.turn_lock.specs.declared.known.Known.{Known}
 use Rattle.turn_lock.specs.Facts.{AtMost}
 use Rattle.turn_lock.specs.Known.{KnowsOf, Follows, after_turn}
 use Rattle.source_state.specs.declared.entry.LogEntry.{LogEntry}
-use Rattle.source_state.specs.declared.entry.FailKind.{FailKind}
-use Rattle.source_state.specs.declared.entry.FailKind.TheVariants as kind
+use Rattle.source_api.specs.declared.source.FailKind.{FailKind}
 use Rattle.source_state.specs.declared.look.Look.{Look}
 use Rattle.source_state.specs.declared.look.Look.TheVariants as look
 use Rattle.source_state.specs.declared.look.LookFault.{LookFault}
@@ -75,9 +74,7 @@ abbrev pub Refuses : Need → Hold → Hold → LookFault → Type 0
 Refuses need before after (why.Source fault) = IsSaid need before after (look.Fault (why.Source fault))
 Refuses need before after (why.Missing object) = IsSaid need before after (look.Fault (why.Missing object))
 Refuses need before after (why.AsksFull kept) = IsFull need before after kept
-Refuses need before after why.Failed = IsFail need before after kind.Failed
-Refuses need before after why.Garbled = IsFail need before after kind.Garbled
-Refuses need before after why.Memory = IsFail need before after kind.Memory
+Refuses need before after (why.Call what) = IsFail need before after what
 
 abbrev pub Answers : Need → Hold → Hold → Look → Type 0
 Answers need before after (look.Row row) = IsSaid need before after (look.Row row)
@@ -139,9 +136,7 @@ abbrev pub shown_fault : LookFault → Tally → Tally
 shown_fault (why.Source fault) shown = shown
 shown_fault (why.Missing object) shown = shown
 shown_fault (why.AsksFull kept) shown = shown
-shown_fault why.Failed shown = counted kind.Failed shown
-shown_fault why.Garbled shown = counted kind.Garbled shown
-shown_fault why.Memory shown = counted kind.Memory shown
+shown_fault (why.Call what) shown = counted what shown
 
 abbrev pub shown_by : Look → Tally → Tally
 shown_by (look.Row row) shown = shown

@@ -6,7 +6,6 @@
 
 mod closing;
 mod feeder;
-mod feeders;
 mod hold;
 mod hold_sharing;
 mod laws;
@@ -16,14 +15,13 @@ mod opening;
 mod pool;
 mod pool_pass;
 mod sharing;
-mod states;
 
 pub use closing::close_all;
 pub use feeder::Feeder;
-pub use feeders::Feeders;
 pub use hold::{Hold, NO_FAILS, NO_WAITING};
 pub use hold_sharing::{join_one, split_one};
 pub use laws::a_log_says_what_it_has;
+use listed::Listed;
 pub use lock_opening::open_lock;
 pub use look::look_once;
 pub use opening::{Opened, open_all};
@@ -31,4 +29,10 @@ pub use pool::Pool;
 pub use pool_pass::PoolPass;
 pub use sharing::{join_all, split_all};
 pub use source_state::Memory;
-pub use states::States;
+use source_state::SourceState;
+
+/// The states of sources, in the order of their numbers.
+pub type States = Listed<SourceState>;
+
+/// The feeders of sources, in the order of their numbers.
+pub type Feeders = Listed<Feeder>;

@@ -9,7 +9,8 @@ ghost use Rattle.source_pool.specs.Seen.{state_seen};
 
 use super::hold::Hold;
 use ranked_list::Need;
-use source_state::{FailKind, Look, LookFault, SourceState, Tally, look_at};
+use source_api::FailKind;
+use source_state::{Look, LookFault, SourceState, Tally, look_at};
 use std::sync::Wait;
 use turn_lock::TurnLock;
 
@@ -38,9 +39,7 @@ fn shown_fault(fault: LookFault, shown: Tally) -> Tally
     ensures { result ≡ shown_fault fault shown }
 {
     match fault {
-        LookFault::Failed => count_one(FailKind::Failed, shown),
-        LookFault::Garbled => count_one(FailKind::Garbled, shown),
-        LookFault::Memory => count_one(FailKind::Memory, shown),
+        LookFault::Call(what) => count_one(what, shown),
         LookFault::Source(_) | LookFault::Missing { .. } | LookFault::AsksFull { .. } => shown,
     }
 }

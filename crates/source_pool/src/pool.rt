@@ -11,12 +11,11 @@ ghost use Rattle.source_pool.specs.Closed.{HaveAll, AreClosed};
 
 use super::closing::close_all;
 use super::feeder::Feeder;
-use super::feeders::Feeders;
 use super::look::look_once;
 use super::opening::open_all;
 use super::pool_pass::PoolPass;
 use super::sharing::{join_all, split_all};
-use super::states::States;
+use super::{Feeders, States};
 use limits::MAX_OBJECTS;
 use ranked_list::Need;
 use source_state::{Look, Memory, SourceState};

@@ -14,8 +14,7 @@ use Rattle.source_state.specs.declared.entry.Settling.{Settling}
 use Rattle.source_state.specs.declared.entry.Settling.TheVariants.{Graded, Bad, Missed}
 use Rattle.source_state.specs.declared.entry.Asked.{Asked}
 use Rattle.source_state.specs.declared.entry.Asked.TheVariants as became
-use Rattle.source_state.specs.declared.entry.FailKind.{FailKind}
-use Rattle.source_state.specs.declared.entry.FailKind.TheVariants as kind
+use Rattle.source_api.specs.declared.source.FailKind.{FailKind}
 use Rattle.source_state.specs.declared.entry.SourceFault.{SourceFault}
 use Rattle.source_state.specs.declared.look.Waiting.{Waiting}
 use Rattle.source_state.specs.declared.look.Look.{Look}
@@ -26,7 +25,7 @@ use Rattle.source_state.specs.declared.plan.Plan.TheVariants as plan
 use Rattle.source_state.specs.Log.{rows_in, fault_in}
 use Rattle.source_state.specs.Asks.{ask_in, first_due, is_due}
 use Rattle.source_state.specs.State.{State, asks_of, asked_in, asked_as, first_pending}
-use Rattle.source_state.specs.Looking.{row_or_fault, grade_or, decided, told, refusal_of, state_reach, is_idle, fetched, plan_of, Ends, Looks}
+use Rattle.source_state.specs.Looking.{row_or_fault, grade_or, decided, told, state_reach, is_idle, fetched, plan_of, Ends, Looks}
 use Rattle.source_state.proofs.Lists.{none_not_some}
 use Rattle.source_state.proofs.AskLaws.{ask_is_found}
 
@@ -38,9 +37,7 @@ IsSaid look.NotYet = ⊥
 IsSaid (look.Fault (why.Source fault)) = Unit {0}
 IsSaid (look.Fault (why.Missing object)) = Unit {0}
 IsSaid (look.Fault (why.AsksFull kept)) = ⊥
-IsSaid (look.Fault why.Failed) = ⊥
-IsSaid (look.Fault why.Garbled) = ⊥
-IsSaid (look.Fault why.Memory) = ⊥
+IsSaid (look.Fault (why.Call what)) = ⊥
 
 said_same : (one answer : Look) → IsSaid one → Some one ≡ Some answer → IsSaid answer
 said_same one answer h e = let same : one ≡ answer = cc in subst IsSaid same h
@@ -75,19 +72,15 @@ decided_by s t waiting left need look.NotYet h e ends = absurd h
 decided_by s t waiting left need (look.Fault (why.Source fault)) h e ends = record { decides = e; ends = ends }
 decided_by s t waiting left need (look.Fault (why.Missing object)) h e ends = record { decides = e; ends = ends }
 decided_by s t waiting left need (look.Fault (why.AsksFull kept)) h e ends = absurd h
-decided_by s t waiting left need (look.Fault why.Failed) h e ends = absurd h
-decided_by s t waiting left need (look.Fault why.Garbled) h e ends = absurd h
-decided_by s t waiting left need (look.Fault why.Memory) h e ends = absurd h
+decided_by s t waiting left need (look.Fault (why.Call what)) h e ends = absurd h
 
 pub decided_looks : (s t : State) (waiting left : Waiting) (need : Need) (answer : Look) → decided s need ≡ Some answer → Ends s t waiting left
     → Looks need s t waiting left answer
 decided_looks s t waiting left need answer e ends = decided_by s t waiting left need answer (said s need answer e) e ends
 
 pub told_looks : (s t : State) (waiting left : Waiting) (need : Need) (what : FailKind) → decided s need ≡ None → told waiting need s.tally ≡ Some what
-    → Ends s t waiting left → Looks need s t waiting left (look.Fault (refusal_of what))
-told_looks s t waiting left need kind.Failed none e ends = record { undecided = none; tells = e; ends = ends }
-told_looks s t waiting left need kind.Garbled none e ends = record { undecided = none; tells = e; ends = ends }
-told_looks s t waiting left need kind.Memory none e ends = record { undecided = none; tells = e; ends = ends }
+    → Ends s t waiting left → Looks need s t waiting left (look.Fault (why.Call what))
+told_looks s t waiting left need what none e ends = record { undecided = none; tells = e; ends = ends }
 
 -- where no room is lacking an ask may come
 pub ask_may : (s : State) (object : ℕ) → length s.asks ≤ s.count → (is_none (asked_in s object) && (length s.asks == s.count)) ≡ false

@@ -8,8 +8,8 @@ use Rattle.turn_lock.specs.declared.facts.Tally.{Tally}
 use Rattle.topk_theory.specs.Bounds.{grade_among}
 use Rattle.source_state.specs.declared.entry.Asked.{Asked}
 use Rattle.source_state.specs.declared.entry.Asked.TheVariants as became
-use Rattle.source_state.specs.declared.entry.FailKind.{FailKind}
-use Rattle.source_state.specs.declared.entry.FailKind.TheVariants as kind
+use Rattle.source_api.specs.declared.source.FailKind.{FailKind}
+use Rattle.source_api.specs.declared.source.FailKind.TheVariants as kind
 use Rattle.source_state.specs.declared.entry.SourceFault.{SourceFault}
 use Rattle.source_state.specs.declared.look.Waiting.{Waiting}
 use Rattle.source_state.specs.declared.look.Look.{Look}
@@ -70,12 +70,6 @@ newer noted now =
 abbrev pub told : Waiting → Need → Tally → Option FailKind
 told waiting need now = if waits_for waiting.need need then newer waiting.noted now else None
 
--- the refusal for a kind of fail
-abbrev pub refusal_of : FailKind → LookFault
-refusal_of kind.Failed = why.Failed
-refusal_of kind.Garbled = why.Garbled
-refusal_of kind.Memory = why.Memory
-
 -- no room is left for the ask of this need
 abbrev pub is_full : State → Need → Bool
 is_full s (need.Grade list object) = is_none (asked_in s object) && length s.asks == s.count
@@ -135,9 +129,7 @@ abbrev pub Refuses : Need → State → State → Waiting → Waiting → LookFa
 Refuses need before after waiting left (why.Source fault) = IsDecided need before after waiting left (look.Fault (why.Source fault))
 Refuses need before after waiting left (why.Missing object) = IsDecided need before after waiting left (look.Fault (why.Missing object))
 Refuses need before after waiting left (why.AsksFull kept) = IsRefused need before after waiting left kept
-Refuses need before after waiting left why.Failed = IsFailTold need before after waiting left kind.Failed
-Refuses need before after waiting left why.Garbled = IsFailTold need before after waiting left kind.Garbled
-Refuses need before after waiting left why.Memory = IsFailTold need before after waiting left kind.Memory
+Refuses need before after waiting left (why.Call what) = IsFailTold need before after waiting left what
 
 -- what a look answers of a need, and what it leaves of the state and of what waits: what the log decides comes first, then a
 -- fail since the need began to wait, then that no room is left, then that it is not yet there

@@ -14,7 +14,7 @@ use Rattle.source_state.specs.declared.entry.Settling.{Settling}
 use Rattle.source_state.specs.declared.entry.Settling.TheVariants.{Graded, Bad, Missed}
 use Rattle.source_state.specs.declared.entry.Asked.{Asked}
 use Rattle.source_state.specs.declared.entry.Asked.TheVariants as became
-use Rattle.source_state.specs.declared.entry.FailKind.{FailKind}
+use Rattle.source_api.specs.declared.source.FailKind.{FailKind}
 use Rattle.source_state.specs.declared.entry.SourceFault.{SourceFault}
 use Rattle.source_state.specs.declared.entry.SourceFault.TheVariants.{OutOfOrder, TooHigh, Repeated, Clash, Above}
 use Rattle.source_state.specs.Log.{rows_in, settled_in, graded_in, faults_in}

@@ -80,14 +80,3 @@ pub enum LogEntry {
     /// The rows are at fault from here on.
     Fault(SourceFault),
 }
-
-/// How a call of a source may fail.
-#[derive(Clone, Copy, Debug, PartialEq, Eq)]
-pub enum FailKind {
-    /// The call failed.
-    Failed,
-    /// Its answer couldn't be read.
-    Garbled,
-    /// No memory was left.
-    Memory,
-}

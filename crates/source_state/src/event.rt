@@ -1,7 +1,7 @@
 //! What may happen to a source.
 
-use super::entry::FailKind;
 use ranked_list::PageRows;
+use source_api::FailKind;
 
 /// An event of a source: what queries want of it, and what came of it.
 #[derive(Drop)]
@@ -27,7 +27,7 @@ pub enum Event {
     Miss {
         object: u32,
     },
-    /// A call failed.
+    /// A call of the source failed so.
     Fail {
         what: FailKind,
     },

@@ -8,7 +8,7 @@ ghost use Rattle.source_state.specs.declared.entry.LogEntry.{LogEntry};
 ghost use Rattle.source_state.specs.declared.event.Event.{Event};
 ghost use Rattle.ranked_list.specs.declared.need.Need.{Need};
 ghost use Rattle.turn_lock.specs.declared.facts.Tally.{Tally};
-ghost use Rattle.source_state.specs.declared.entry.FailKind.{FailKind};
+ghost use Rattle.source_api.specs.declared.source.FailKind.{FailKind};
 ghost use Rattle.source_state.specs.declared.event.Event.TheVariants.{Fail};
 ghost use Rattle.source_state.specs.declared.look.Waiting.{Waiting};
 ghost use Rattle.source_state.specs.State.{State, opened, last_count, IsCounted};

@@ -19,7 +19,7 @@ mod tree;
 
 pub use ask::Ask;
 pub use asks::Asks;
-pub use entry::{Asked, FailKind, LogEntry, Settling, SourceFault};
+pub use entry::{Asked, LogEntry, Settling, SourceFault};
 pub use event::{Applied, Event};
 pub use kept_rows::KeptRows;
 pub use laws::{

@@ -3,11 +3,12 @@
 ghost use Rattle.std.specs.Prelude.{◌≡◌, ◌≤◌, false};
 ghost use Rattle.turn_lock.specs.Facts.{FactsGrow, AreFactsKept};
 ghost use Rattle.source_state.specs.State.{IsSound, facts_of};
-ghost use Rattle.source_state.specs.Looking.{is_same, waits_for, newer, told, refusal_of, decided_row, decided_grade, decided, is_full, called, Looks, MayLook};
+ghost use Rattle.source_state.specs.Looking.{is_same, waits_for, newer, told, decided_row, decided_grade, decided, is_full, called, Looks, MayLook};
 
-use super::entry::{Asked, FailKind, SourceFault};
+use super::entry::{Asked, SourceFault};
 use super::state::SourceState;
 use ranked_list::{Need, Row};
+use source_api::FailKind;
 use turn_lock::Tally;
 
 /// What is waited for, and the tally that was noted when the waiting began.
@@ -39,12 +40,8 @@ pub enum LookFault {
     Missing { object: u32 },
     /// As many objects were asked as the list has, and this one is neither among them nor in the rows.
     AsksFull { kept: u32 },
-    /// A call failed since the waiting began.
-    Failed,
-    /// A call's answer couldn't be read since the waiting began.
-    Garbled,
-    /// No memory was left for a call since the waiting began.
-    Memory,
+    /// A call failed so since the waiting began.
+    Call(FailKind),
 }
 
 /// Whether two needs are for the same row or the same grade.
@@ -88,17 +85,6 @@ fn newer(noted: Tally, now: Tally) -> Option<FailKind>
         return Some(FailKind::Memory);
     }
     None
-}
-
-/// The refusal for a kind of fail.
-fn refusal_of(what: FailKind) -> LookFault
-    ensures { result ≡ refusal_of what }
-{
-    match what {
-        FailKind::Failed => LookFault::Failed,
-        FailKind::Garbled => LookFault::Garbled,
-        FailKind::Memory => LookFault::Memory,
-    }
 }
 
 /// The kind of fail that came since this need began to wait, if it waits.
@@ -202,7 +188,7 @@ pub fn look_at(state: &mut SourceState, waiting: &mut Waiting, need: Need) -> Lo
     }
     if let Some(what) = told(*waiting, need, state.tally()) {
         waiting.need = None;
-        return Look::Fault(refusal_of(what));
+        return Look::Fault(LookFault::Call(what));
     }
     if is_full(state, need) {
         waiting.need = None;

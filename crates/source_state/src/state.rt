@@ -8,11 +8,12 @@ ghost use Rattle.source_state.specs.State.{opened, asks_of, asked_in, asked_as, 
 ghost use Rattle.source_state.specs.Events.{counted};
 
 use super::asks::Asks;
-use super::entry::{Asked, FailKind, LogEntry, Settling, SourceFault};
+use super::entry::{Asked, LogEntry, Settling, SourceFault};
 use super::event::{Applied, Event};
 use super::kept_rows::KeptRows;
 use limits::{MAX_OBJECTS, Memory, TOP_GRADE};
 use ranked_list::{PageRows, Row};
+use source_api::FailKind;
 use std::alloc::Global;
 use std::marker::Model;
 use turn_lock::{Logged, Tally};

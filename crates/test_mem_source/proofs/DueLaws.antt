@@ -9,6 +9,7 @@ use Rattle.tk_io.specs.Faults.{counted}
 use Rattle.ranked_list.specs.declared.row.Row.{Row}
 use Rattle.source_api.specs.declared.counts.Counts.{Counts}
 use Rattle.source_api.specs.declared.source.Trouble.{Trouble}
+use Rattle.source_api.specs.declared.source.FailKind.TheVariants as kind
 use Rattle.source_api.specs.declared.source.Trouble.TheVariants as trouble
 use Rattle.source_api.specs.Counting.{TroubleHasCause, CountsAlone, MovedHasCause, GaveNothing, GaveRows, NoneFell, troubled, gave_rows, gave_grade}
 use Rattle.test_mem_source.specs.Stored.{Stored}
@@ -37,9 +38,9 @@ not_among xs x off has = false≢true (sym off ∙ list_any_at (λ y. y == x) xs
 
 due_in_error : (T : Type 0) (fails garbles : List ℕ) (call at_hand now : ℕ) (t : Trouble) → IsDue fails garbles call at_hand now (Some t)
     → IsDue fails garbles call at_hand now (trouble_in {T = T} (Err t))
-due_in_error T fails garbles call at_hand now trouble.Failed h = h
-due_in_error T fails garbles call at_hand now trouble.Garbled h = h
-due_in_error T fails garbles call at_hand now trouble.Memory h = absurd h
+due_in_error T fails garbles call at_hand now (trouble.Fail kind.Failed) h = h
+due_in_error T fails garbles call at_hand now (trouble.Fail kind.Garbled) h = h
+due_in_error T fails garbles call at_hand now (trouble.Fail kind.Memory) h = absurd h
 due_in_error T fails garbles call at_hand now (trouble.Moved had other) h = h
 
 due_as : (f g fails garbles : List ℕ) (n call at_hand v now : ℕ) (found : Option Trouble) → f ≡ fails → g ≡ garbles → n ≡ call → v ≡ now
@@ -86,9 +87,7 @@ answered_version (Some version) now at_hand h same = sym h ∙ same
 -- a move has its cause
 pub moved_cause : (f g : List ℕ) (call at_hand now : ℕ) (told : Option ℕ) (t : Trouble) → IfSome told (λ version. now ≡ version) → IsDue f g call at_hand now (Some t)
     → MovedHasCause at_hand told t
-moved_cause f g call at_hand now told trouble.Failed is h = tt
-moved_cause f g call at_hand now told trouble.Garbled is h = tt
-moved_cause f g call at_hand now told trouble.Memory is h = tt
+moved_cause f g call at_hand now told (trouble.Fail what) is h = tt
 moved_cause f g call at_hand now told (trouble.Moved had other) is h = record {
   at_hand = h.1;
   stated = subst (λ v. IfSome told (λ version. v ≡ version)) (sym h.2) is;
@@ -121,21 +120,21 @@ told_grade_at stated lies rows (next ∷ later) call object grade is = tt
 -- ---- what is counted of a call that isn't answered
 
 pub cause_counted : (before now : Counts) (t : Trouble) → now ≡ troubled t before → TroubleHasCause before now t
-cause_counted before now trouble.Failed e = let same : now.faults ≡ counted before.faults = ap (λ (c : Counts). c.faults) e in omega arith
-cause_counted before now trouble.Garbled e = let same : now.garbles ≡ counted before.garbles = ap (λ (c : Counts). c.garbles) e in omega arith
-cause_counted before now trouble.Memory e = tt
+cause_counted before now (trouble.Fail kind.Failed) e = let same : now.faults ≡ counted before.faults = ap (λ (c : Counts). c.faults) e in omega arith
+cause_counted before now (trouble.Fail kind.Garbled) e = let same : now.garbles ≡ counted before.garbles = ap (λ (c : Counts). c.garbles) e in omega arith
+cause_counted before now (trouble.Fail kind.Memory) e = tt
 cause_counted before now (trouble.Moved had other) e = let same : now.moves ≡ counted before.moves = ap (λ (c : Counts). c.moves) e in omega arith
 
 pub counted_alone : (before now : Counts) (t : Trouble) → now ≡ troubled t before → CountsAlone before now t
-counted_alone before now trouble.Failed e = e ∙ ap (λ n. let c : Counts = record before { faults = n } in c) (sym (ap (λ (c : Counts). c.faults) e))
-counted_alone before now trouble.Garbled e = e ∙ ap (λ n. let c : Counts = record before { garbles = n } in c) (sym (ap (λ (c : Counts). c.garbles) e))
-counted_alone before now trouble.Memory e = e
+counted_alone before now (trouble.Fail kind.Failed) e = e ∙ ap (λ n. let c : Counts = record before { faults = n } in c) (sym (ap (λ (c : Counts). c.faults) e))
+counted_alone before now (trouble.Fail kind.Garbled) e = e ∙ ap (λ n. let c : Counts = record before { garbles = n } in c) (sym (ap (λ (c : Counts). c.garbles) e))
+counted_alone before now (trouble.Fail kind.Memory) e = e
 counted_alone before now (trouble.Moved had other) e = e
 
 pub nothing_given : (before now : Counts) (t : Trouble) → now ≡ troubled t before → GaveNothing before now
-nothing_given before now trouble.Failed e = record { rows = ap (λ (c : Counts). c.rows_given) e; grades = ap (λ (c : Counts). c.grades_given) e }
-nothing_given before now trouble.Garbled e = record { rows = ap (λ (c : Counts). c.rows_given) e; grades = ap (λ (c : Counts). c.grades_given) e }
-nothing_given before now trouble.Memory e = record { rows = ap (λ (c : Counts). c.rows_given) e; grades = ap (λ (c : Counts). c.grades_given) e }
+nothing_given before now (trouble.Fail kind.Failed) e = record { rows = ap (λ (c : Counts). c.rows_given) e; grades = ap (λ (c : Counts). c.grades_given) e }
+nothing_given before now (trouble.Fail kind.Garbled) e = record { rows = ap (λ (c : Counts). c.rows_given) e; grades = ap (λ (c : Counts). c.grades_given) e }
+nothing_given before now (trouble.Fail kind.Memory) e = record { rows = ap (λ (c : Counts). c.rows_given) e; grades = ap (λ (c : Counts). c.grades_given) e }
 nothing_given before now (trouble.Moved had other) e = record { rows = ap (λ (c : Counts). c.rows_given) e; grades = ap (λ (c : Counts). c.grades_given) e }
 
 pub none_fell_counted : (before now : Counts) (t : Trouble) → before.faults < 2 ^ 64 → before.garbles < 2 ^ 64 → before.moves < 2 ^ 64 → now ≡ troubled t before
@@ -143,9 +142,9 @@ pub none_fell_counted : (before now : Counts) (t : Trouble) → before.faults < 
 none_fell_counted before now t faults garbles moves e = subst (λ (c : Counts). NoneFell before c) (sym e) (none_fell_by t)
   where
     none_fell_by : (t : Trouble) → NoneFell before (troubled t before)
-    none_fell_by trouble.Failed = record { faults = omega arith; garbles = omega arith; moves = omega arith; rows_given = omega arith; grades_given = omega arith }
-    none_fell_by trouble.Garbled = record { faults = omega arith; garbles = omega arith; moves = omega arith; rows_given = omega arith; grades_given = omega arith }
-    none_fell_by trouble.Memory = record { faults = omega arith; garbles = omega arith; moves = omega arith; rows_given = omega arith; grades_given = omega arith }
+    none_fell_by (trouble.Fail kind.Failed) = record { faults = omega arith; garbles = omega arith; moves = omega arith; rows_given = omega arith; grades_given = omega arith }
+    none_fell_by (trouble.Fail kind.Garbled) = record { faults = omega arith; garbles = omega arith; moves = omega arith; rows_given = omega arith; grades_given = omega arith }
+    none_fell_by (trouble.Fail kind.Memory) = record { faults = omega arith; garbles = omega arith; moves = omega arith; rows_given = omega arith; grades_given = omega arith }
     none_fell_by (trouble.Moved had other) = record { faults = omega arith; garbles = omega arith; moves = omega arith; rows_given = omega arith; grades_given = omega arith }
 
 -- ---- what a call leaves
@@ -159,11 +158,11 @@ page_is_called before n all counts now called all_called is =
 pub page_troubled : (before m : Stored) (f g : List ℕ) (call at_hand now n all : ℕ) (counts : Counts) (t : Trouble) → before ≡ m → n ≡ next_call before.page_calls
     → all ≡ next_call before.calls → counts ≡ troubled t before.counts → IsDue f g call at_hand now (Some t)
     → record before { page_calls = n; calls = all; counts = counts } ≡ after_page (Err t) m
-page_troubled before m f g call at_hand now n all counts trouble.Failed same called all_called is due =
-    page_is_called before n all counts _ called all_called is ∙ ap (after_page (Err trouble.Failed)) same
-page_troubled before m f g call at_hand now n all counts trouble.Garbled same called all_called is due =
-    page_is_called before n all counts _ called all_called is ∙ ap (after_page (Err trouble.Garbled)) same
-page_troubled before m f g call at_hand now n all counts trouble.Memory same called all_called is due = absurd due
+page_troubled before m f g call at_hand now n all counts (trouble.Fail kind.Failed) same called all_called is due =
+    page_is_called before n all counts _ called all_called is ∙ ap (after_page (Err (trouble.Fail kind.Failed))) same
+page_troubled before m f g call at_hand now n all counts (trouble.Fail kind.Garbled) same called all_called is due =
+    page_is_called before n all counts _ called all_called is ∙ ap (after_page (Err (trouble.Fail kind.Garbled))) same
+page_troubled before m f g call at_hand now n all counts (trouble.Fail kind.Memory) same called all_called is due = absurd due
 page_troubled before m f g call at_hand now n all counts (trouble.Moved had other) same called all_called is due =
     page_is_called before n all counts _ called all_called is ∙ ap (after_page (Err (trouble.Moved had other))) same
 
@@ -188,11 +187,11 @@ grade_is_called before n all counts now called all_called is =
 pub grade_troubled : (before m : Stored) (f g : List ℕ) (call at_hand now n all : ℕ) (counts : Counts) (t : Trouble) → before ≡ m → n ≡ next_call before.grade_calls
     → all ≡ next_call before.calls → counts ≡ troubled t before.counts → IsDue f g call at_hand now (Some t)
     → record before { grade_calls = n; calls = all; counts = counts } ≡ after_grade (Err t) m
-grade_troubled before m f g call at_hand now n all counts trouble.Failed same called all_called is due =
-    grade_is_called before n all counts _ called all_called is ∙ ap (after_grade (Err trouble.Failed)) same
-grade_troubled before m f g call at_hand now n all counts trouble.Garbled same called all_called is due =
-    grade_is_called before n all counts _ called all_called is ∙ ap (after_grade (Err trouble.Garbled)) same
-grade_troubled before m f g call at_hand now n all counts trouble.Memory same called all_called is due = absurd due
+grade_troubled before m f g call at_hand now n all counts (trouble.Fail kind.Failed) same called all_called is due =
+    grade_is_called before n all counts _ called all_called is ∙ ap (after_grade (Err (trouble.Fail kind.Failed))) same
+grade_troubled before m f g call at_hand now n all counts (trouble.Fail kind.Garbled) same called all_called is due =
+    grade_is_called before n all counts _ called all_called is ∙ ap (after_grade (Err (trouble.Fail kind.Garbled))) same
+grade_troubled before m f g call at_hand now n all counts (trouble.Fail kind.Memory) same called all_called is due = absurd due
 grade_troubled before m f g call at_hand now n all counts (trouble.Moved had other) same called all_called is due =
     grade_is_called before n all counts _ called all_called is ∙ ap (after_grade (Err (trouble.Moved had other))) same
 

@@ -4,7 +4,8 @@ use Rattle.std.specs.Global.{Vec}
 use Rattle.tk_io.specs.Faults.{counted}
 use Rattle.ranked_list.specs.declared.row.Row.{Row}
 use Rattle.source_api.specs.declared.source.Trouble.{Trouble}
-use Rattle.source_api.specs.declared.source.Trouble.TheVariants.{Failed, Garbled, Memory, Moved}
+use Rattle.source_api.specs.declared.source.FailKind.TheVariants.{Failed, Garbled, Memory}
+use Rattle.source_api.specs.declared.source.Trouble.TheVariants.{Fail, Moved}
 use Rattle.source_api.specs.declared.counts.Counts.{Counts}
 use Rattle.source_api.specs.Counting.{no_counts, troubled, gave_rows, gave_grade}
 use Rattle.source_api.specs.Told.{first_grade, told_of, or_else}
@@ -87,17 +88,17 @@ IsSound fails garbles call = ¬ Contains fails call × ¬ Contains garbles call
 -- else it garbles where its number stands among those that garble, else it is moved where the two versions differ, else it is answered
 abbrev pub IsDue : List ℕ → List ℕ → ℕ → ℕ → ℕ → Option Trouble → Type 0
 IsDue fails garbles call at_hand now None = IsSound fails garbles call × (now ≡ at_hand)
-IsDue fails garbles call at_hand now (Some Failed) = Contains fails call
-IsDue fails garbles call at_hand now (Some Garbled) = ¬ Contains fails call × Contains garbles call
-IsDue fails garbles call at_hand now (Some Memory) = ⊥
+IsDue fails garbles call at_hand now (Some (Fail Failed)) = Contains fails call
+IsDue fails garbles call at_hand now (Some (Fail Garbled)) = ¬ Contains fails call × Contains garbles call
+IsDue fails garbles call at_hand now (Some (Fail Memory)) = ⊥
 IsDue fails garbles call at_hand now (Some (Moved had other)) = IsSound fails garbles call × (had ≡ at_hand) × (other ≡ now) × (had ≢ other)
 
 -- how a call ended whose end its number decides: want of memory is none of these
 abbrev pub trouble_in : {T : Type 0} → Result T Trouble → Option Trouble
 trouble_in (Ok answer) = None
-trouble_in (Err Failed) = Some Failed
-trouble_in (Err Garbled) = Some Garbled
-trouble_in (Err Memory) = None
+trouble_in (Err (Fail Failed)) = Some (Fail Failed)
+trouble_in (Err (Fail Garbled)) = Some (Fail Garbled)
+trouble_in (Err (Fail Memory)) = None
 trouble_in (Err (Moved had now)) = Some (Moved had now)
 
 -- after a call for the size, which never fails
@@ -114,15 +115,15 @@ grade_called m counts = record m { grade_calls = next_call m.grade_calls; calls 
 -- after a call for a page that ended so; want of memory leaves all as it was
 abbrev pub after_page : Result (Vec Row) Trouble → Stored → Stored
 after_page (Ok page) m = page_called m (gave_rows (vec_len page) m.counts)
-after_page (Err Failed) m = page_called m (troubled Failed m.counts)
-after_page (Err Garbled) m = page_called m (troubled Garbled m.counts)
-after_page (Err Memory) m = m
+after_page (Err (Fail Failed)) m = page_called m (troubled (Fail Failed) m.counts)
+after_page (Err (Fail Garbled)) m = page_called m (troubled (Fail Garbled) m.counts)
+after_page (Err (Fail Memory)) m = m
 after_page (Err (Moved had now)) m = page_called m (troubled (Moved had now) m.counts)
 
 -- after a call for a grade that ended so
 abbrev pub after_grade : Result (Option ℕ) Trouble → Stored → Stored
 after_grade (Ok grade) m = grade_called m (gave_grade m.counts)
-after_grade (Err Failed) m = grade_called m (troubled Failed m.counts)
-after_grade (Err Garbled) m = grade_called m (troubled Garbled m.counts)
-after_grade (Err Memory) m = m
+after_grade (Err (Fail Failed)) m = grade_called m (troubled (Fail Failed) m.counts)
+after_grade (Err (Fail Garbled)) m = grade_called m (troubled (Fail Garbled) m.counts)
+after_grade (Err (Fail Memory)) m = m
 after_grade (Err (Moved had now)) m = grade_called m (troubled (Moved had now) m.counts)

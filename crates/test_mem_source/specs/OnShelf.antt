@@ -5,7 +5,8 @@ use Rattle.std.specs.List.{list_any}
 use Rattle.std.specs.Global.{Vec}
 use Rattle.ranked_list.specs.declared.row.Row.{Row}
 use Rattle.source_api.specs.declared.source.Trouble.{Trouble}
-use Rattle.source_api.specs.declared.source.Trouble.TheVariants.{Failed, Memory}
+use Rattle.source_api.specs.declared.source.FailKind.TheVariants.{Failed, Memory}
+use Rattle.source_api.specs.declared.source.Trouble.TheVariants.{Fail}
 use Rattle.test_mem_source.specs.declared.mem_shelf.HeldText.{HeldText}
 use Rattle.test_mem_source.specs.declared.mem_shelf.HeldSource.{HeldSource}
 use Rattle.test_mem_source.specs.Stored.{Stored}
@@ -53,27 +54,27 @@ version_at s place = option_and_then told_version (source_at s.sources place)
 -- what a call for a text answers
 abbrev pub AnswersText : Shelved → List ℕ → Result (Vec ℕ) Trouble → Type 0
 AnswersText s place (Ok text) = given_text s place ≡ Some text.items
-AnswersText s place (Err Failed) = given_text s place ≡ None
-AnswersText s place (Err Memory) = Unit {0}
+AnswersText s place (Err (Fail Failed)) = given_text s place ≡ None
+AnswersText s place (Err (Fail Memory)) = Unit {0}
 AnswersText s place (Err _) = ⊥
 
 -- what a call for a source answers: a copy that had no call yet
 abbrev pub AnswersTake : Shelved → List ℕ → Result Stored Trouble → Type 0
 AnswersTake s place (Ok source) = option_map unused (given_source s place) ≡ Some source
-AnswersTake s place (Err Failed) = given_source s place ≡ None
-AnswersTake s place (Err Memory) = Unit {0}
+AnswersTake s place (Err (Fail Failed)) = given_source s place ≡ None
+AnswersTake s place (Err (Fail Memory)) = Unit {0}
 AnswersTake s place (Err _) = ⊥
 
 -- after a call for a text that ended so: a call that failed is counted at its place, and want of memory leaves all as it was
 abbrev pub AfterText : Shelved → Shelved → List ℕ → Result (Vec ℕ) Trouble → Type 0
 AfterText s now place (Ok text) = now ≡ record s { text_calls = next_call s.text_calls }
-AfterText s now place (Err Failed) = (now ≡ record s { text_calls = next_call s.text_calls; ledger = now.ledger }) × IsTextFault s.ledger now.ledger place
-AfterText s now place (Err Memory) = now ≡ s
+AfterText s now place (Err (Fail Failed)) = (now ≡ record s { text_calls = next_call s.text_calls; ledger = now.ledger }) × IsTextFault s.ledger now.ledger place
+AfterText s now place (Err (Fail Memory)) = now ≡ s
 AfterText s now place (Err _) = ⊥
 
 -- after a call for a source that ended so
 abbrev pub AfterTake : Shelved → Shelved → List ℕ → Result Stored Trouble → Type 0
 AfterTake s now place (Ok source) = (now ≡ record s { take_calls = next_call s.take_calls; ledger = now.ledger }) × IsTaking s.ledger now.ledger place
-AfterTake s now place (Err Failed) = (now ≡ record s { take_calls = next_call s.take_calls; ledger = now.ledger }) × IsTakeFault s.ledger now.ledger place
-AfterTake s now place (Err Memory) = now ≡ s
+AfterTake s now place (Err (Fail Failed)) = (now ≡ record s { take_calls = next_call s.take_calls; ledger = now.ledger }) × IsTakeFault s.ledger now.ledger place
+AfterTake s now place (Err (Fail Memory)) = now ≡ s
 AfterTake s now place (Err _) = ⊥

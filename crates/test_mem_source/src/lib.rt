@@ -1,5 +1,6 @@
-//! Ranked lists in memory behind calls that fail on demand: sources of rows, the shelf of texts and sources, and calls with what they are to
-//! answer, for the tests of several crates.
+//! Ranked lists in memory behind calls that fail on demand, for the tests of several crates.
+//!
+//! There are sources of rows, the shelf of texts and sources, and calls with what they are to answer.
 #![tactic(auto)]
 
 mod edition;

@@ -10,7 +10,7 @@ ghost use Rattle.test_mem_source.specs.OnShelf.{placed_texts, placed_sources, in
 
 use super::MemSource;
 use limits::MAX_LIST_TEXT;
-use source_api::{Ledger, Memory, PlaceCounts, Shelf, Trouble};
+use source_api::{FailKind, Ledger, Memory, PlaceCounts, Shelf, Trouble};
 use std::alloc::Global;
 use std::marker::Model;
 
@@ -156,17 +156,17 @@ impl Shelf for MemShelf {
         match held {
             Some(text) if !fails => {
                 let Ok(copy) = Vec::from_slice(alloc, text) else {
-                    return Err(Trouble::Memory);
+                    return Err(Trouble::Fail(FailKind::Memory));
                 };
                 self.text_calls = call;
                 Ok(copy)
             }
             _ => {
                 if self.ledger.count_text_fault(alloc, place).is_err() {
-                    return Err(Trouble::Memory);
+                    return Err(Trouble::Fail(FailKind::Memory));
                 }
                 self.text_calls = call;
-                Err(Trouble::Failed)
+                Err(Trouble::Fail(FailKind::Failed))
             }
         }
     }
@@ -183,21 +183,21 @@ impl Shelf for MemShelf {
         match held {
             Some(source) if !fails => {
                 let Ok(copy) = source.copy(alloc) else {
-                    return Err(Trouble::Memory);
+                    return Err(Trouble::Fail(FailKind::Memory));
                 };
                 if self.ledger.count_taken(alloc, place).is_err() {
                     drop(copy);
-                    return Err(Trouble::Memory);
+                    return Err(Trouble::Fail(FailKind::Memory));
                 }
                 self.take_calls = call;
                 Ok(copy)
             }
             _ => {
                 if self.ledger.count_take_fault(alloc, place).is_err() {
-                    return Err(Trouble::Memory);
+                    return Err(Trouble::Fail(FailKind::Memory));
                 }
                 self.take_calls = call;
-                Err(Trouble::Failed)
+                Err(Trouble::Fail(FailKind::Failed))
             }
         }
     }

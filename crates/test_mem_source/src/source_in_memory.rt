@@ -10,7 +10,7 @@ ghost use Rattle.test_mem_source.specs.Editions.{editions_of, standing};
 
 use super::edition::{Later, standing_at};
 use ranked_list::Row;
-use source_api::{Counts, Memory, Source, Trouble, keep_first, part_of};
+use source_api::{Counts, FailKind, Memory, Source, Trouble, keep_first, part_of};
 use std::alloc::Global;
 use std::collections::HashMap;
 use std::marker::Model;
@@ -231,7 +231,7 @@ impl Source for MemSource {
         }
         let rows = rows_at(&self.rows, &self.later, call);
         let Ok(page) = Vec::from_slice(alloc, part_of(rows, from, count)) else {
-            return Err(Trouble::Memory);
+            return Err(Trouble::Fail(FailKind::Memory));
         };
         self.page_calls = page_call;
         self.calls = call;
@@ -256,7 +256,7 @@ impl Source for MemSource {
         ensures moved { IfErr result (MovedHasCause self.old.version (told_version self.old)) }
         ensures quiet { OnOk result (self.new.counts ≡ gave_grade self.old.counts) }
         ensures grade { IfOk result (λ grade. IfSome (told_list self.old) (λ rows. IsGrade rows object grade)) }
-        ensures no_memory { result ≡ Err Trouble.Memory → ⊥ }
+        ensures no_memory { result ≡ Err (Trouble.Fail FailKind.Memory) → ⊥ }
     {
         self.grade_calls = self.grade_calls.saturating_add(1);
         self.calls = self.calls.saturating_add(1);
@@ -338,10 +338,10 @@ fn due(fails: &[u64], garbles: &[u64], call: u64, at_hand: u64, now: u64) -> Opt
     ensures { IsDue fails.now garbles.now call at_hand now result }
 {
     if fails.contains(&call) {
-        return Some(Trouble::Failed);
+        return Some(Trouble::Fail(FailKind::Failed));
     }
     if garbles.contains(&call) {
-        return Some(Trouble::Garbled);
+        return Some(Trouble::Fail(FailKind::Garbled));
     }
     if now != at_hand {
         return Some(Trouble::Moved { had: at_hand, now });

@@ -4,6 +4,7 @@ ghost use Rattle.std.specs.Prelude.{◌≤◌};
 
 use fetcher::Turned;
 use ranked_list::{Need, Row};
+use source_api::{FailKind, Trouble};
 use source_state::{Look, LookFault, SourceFault};
 use std::alloc::Global;
 use std::sync::Wait;
@@ -53,9 +54,9 @@ const FAILED_PAGE: [Step; 11] = [
     Step::Look(ROW_1, FIRST),
     Step::Turn(Turned::Idle),
     Step::Look(ROW_2, Look::NotYet),
-    Step::Turn(Turned::Failed),
+    Step::Turn(Turned::Troubled(Trouble::Fail(FailKind::Failed))),
     Step::Turn(Turned::Idle),
-    Step::Look(ROW_2, Look::Fault(LookFault::Failed)),
+    Step::Look(ROW_2, Look::Fault(LookFault::Call(FailKind::Failed))),
     Step::Look(ROW_2, Look::NotYet),
     Step::Turn(Turned::Paged { rows: 1 }),
     Step::Look(ROW_2, SECOND),
@@ -103,8 +104,8 @@ const GARBLED: [Step; 8] = [
     Step::Look(ROW_1, Look::NotYet),
     Step::Turn(Turned::Paged { rows: 1 }),
     Step::Look(GRADE_2, Look::NotYet),
-    Step::Turn(Turned::Garbled),
-    Step::Look(GRADE_2, Look::Fault(LookFault::Garbled)),
+    Step::Turn(Turned::Troubled(Trouble::Fail(FailKind::Garbled))),
+    Step::Look(GRADE_2, Look::Fault(LookFault::Call(FailKind::Garbled))),
     Step::Look(ROW_1, FIRST),
     Step::Look(GRADE_2, Look::NotYet),
     Step::Turn(Turned::Graded { object: 2 }),
@@ -139,12 +140,12 @@ const MOVED_PAGE: [Step; 10] = [
     Step::Look(ROW_1, Look::NotYet),
     Step::Turn(Turned::Paged { rows: 1 }),
     Step::Look(ROW_2, Look::NotYet),
-    Step::Turn(Turned::Moved { had: 0, now: 8 }),
+    Step::Turn(Turned::Troubled(Trouble::Moved { had: 0, now: 8 })),
     Step::Look(ROW_2, MOVED),
     Step::Look(ROW_1, FIRST),
     Step::Turn(Turned::Idle),
     Step::Look(GRADE_3, Look::NotYet),
-    Step::Turn(Turned::Moved { had: 0, now: 8 }),
+    Step::Turn(Turned::Troubled(Trouble::Moved { had: 0, now: 8 })),
     Step::Look(GRADE_3, MOVED),
 ];
 
@@ -153,11 +154,11 @@ const MOVED_GRADE: [Step; 8] = [
     Step::Look(ROW_1, Look::NotYet),
     Step::Turn(Turned::Paged { rows: 1 }),
     Step::Look(GRADE_2, Look::NotYet),
-    Step::Turn(Turned::Moved { had: 0, now: 8 }),
+    Step::Turn(Turned::Troubled(Trouble::Moved { had: 0, now: 8 })),
     Step::Look(GRADE_2, MOVED),
     Step::Turn(Turned::Idle),
     Step::Look(ROW_2, Look::NotYet),
-    Step::Turn(Turned::Moved { had: 0, now: 8 }),
+    Step::Turn(Turned::Troubled(Trouble::Moved { had: 0, now: 8 })),
 ];
 
 /// A source, how many objects it is stated to have, and steps with what they are to answer.

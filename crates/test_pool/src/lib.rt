@@ -1,5 +1,7 @@
-//! Tests of a pool of one source: on one thread, looks through two passes and the turns of its fetcher; and a fetcher and a reader on threads
-//! of their own that really run.
+//! Tests of a pool of one source.
+//!
+//! On one thread there are looks through two passes and the turns of its fetcher; and there are a fetcher and a reader on threads of their own
+//! that really run.
 #![tactic(auto)]
 
 #[cfg(test)]

@@ -4,6 +4,7 @@ ghost use Rattle.std.specs.Prelude.{◌≤◌};
 
 use fetcher::Turned;
 use ranked_list::{Need, Row};
+use source_api::{FailKind, Trouble};
 use source_state::{Look, LookFault};
 use std::alloc::Global;
 use std::sync::Wait;
@@ -52,10 +53,10 @@ static AHEAD: [Step; 9] = [
 static SHARED: [Step; 9] = [
     Step::Look(ROW_1, Look::NotYet),
     Step::Other(ROW_1, Look::NotYet),
-    Step::Turn(Turned::Failed),
-    Step::Look(ROW_1, Look::Fault(LookFault::Failed)),
+    Step::Turn(Turned::Troubled(Trouble::Fail(FailKind::Failed))),
+    Step::Look(ROW_1, Look::Fault(LookFault::Call(FailKind::Failed))),
     Step::Look(ROW_1, Look::NotYet),
-    Step::Other(ROW_1, Look::Fault(LookFault::Failed)),
+    Step::Other(ROW_1, Look::Fault(LookFault::Call(FailKind::Failed))),
     Step::Turn(Turned::Paged { rows: 1 }),
     Step::Other(ROW_1, FIRST),
     Step::Look(ROW_1, FIRST),

@@ -1,7 +1,7 @@
 //! A source that answers for a page only after a reader has looked once more.
 
 use ranked_list::Row;
-use source_api::{Source, Trouble};
+use source_api::{FailKind, Source, Trouble};
 use std::alloc::Global;
 use std::sync::atomic::{AtomicU64, Ordering};
 use test_mem_source::MemSource;
@@ -45,7 +45,7 @@ impl<'a> Source for Slow<'a> {
 
     fn page(&mut self, alloc: Global, from: u32, count: u32) -> Result<Vec<Row>, Trouble> {
         if !rises(self.looks) {
-            return Err(Trouble::Memory);
+            return Err(Trouble::Fail(FailKind::Memory));
         }
         self.rows.page(alloc, from, count)
     }

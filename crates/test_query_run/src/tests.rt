@@ -2,6 +2,7 @@
 
 use super::cases::{Case, first_wrong};
 use machine_base::CoreFault;
+use source_api::FailKind;
 use source_state::{LookFault, SourceFault};
 use std::process::Abort;
 use std::test::Fail;
@@ -246,7 +247,7 @@ const CALLS: &[Case] = &[
             },
         ),
         count: 3,
-        ends: Expected::Look(1, LookFault::Failed),
+        ends: Expected::Look(1, LookFault::Call(FailKind::Failed)),
     },
     // the second page of A can't be read
     Case {
@@ -260,7 +261,7 @@ const CALLS: &[Case] = &[
             &B,
         ),
         count: 3,
-        ends: Expected::Look(0, LookFault::Garbled),
+        ends: Expected::Look(0, LookFault::Call(FailKind::Garbled)),
     },
 ];
 

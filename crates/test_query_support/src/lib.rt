@@ -1,5 +1,7 @@
-//! Queries and pools for the tests of several crates: queries as plain data, made ready from their texts, with how they are to end; pools of one
-//! source, with looks through two passes and the turns of its fetcher on one thread, and of two sources.
+//! Queries and pools for the tests of several crates.
+//!
+//! Queries stand as plain data, made ready from their texts, with how they are to end. Pools are of one source, with looks through two passes and
+//! the turns of its fetcher on one thread, and of two sources.
 #![tactic(auto)]
 
 mod beside;

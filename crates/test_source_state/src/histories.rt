@@ -3,7 +3,8 @@
 use super::steps::{Step, apply_all};
 use super::{holds, none_is_wrong};
 use ranked_list::Row;
-use source_state::{Applied, Asked, FailKind, SourceFault, SourceState, Tally};
+use source_api::FailKind;
+use source_state::{Applied, Asked, SourceFault, SourceState, Tally};
 use std::alloc::Global;
 
 /// Events, what the last one is answered, how many rows there are then, their fault, and what is told of the ask of object 2.

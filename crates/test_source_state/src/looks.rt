@@ -3,7 +3,8 @@
 use super::steps::{Step, apply_all};
 use super::{holds, none_is_wrong};
 use ranked_list::{Need, Row};
-use source_state::{FailKind, Look, LookFault, SourceFault, SourceState, Tally, Waiting, look_at};
+use source_api::FailKind;
+use source_state::{Look, LookFault, SourceFault, SourceState, Tally, Waiting, look_at};
 use std::alloc::Global;
 
 /// Events, a need that is looked for first, further events, and the need with what is answered then.
@@ -56,7 +57,7 @@ static ROWS: [Looked; 17] = [
         Need::Row { list: 0, depth: 1 },
         &[Step::Fail(FailKind::Memory), Step::Fail(FailKind::Garbled)],
         Need::Row { list: 0, depth: 1 },
-        Look::Fault(LookFault::Garbled),
+        Look::Fault(LookFault::Call(FailKind::Garbled)),
     ),
     // a fail before the want
     (
@@ -80,7 +81,7 @@ static ROWS: [Looked; 17] = [
         Need::Row { list: 0, depth: 1 },
         &[Step::Fail(FailKind::Failed)],
         Need::Row { list: 3, depth: 1 },
-        Look::Fault(LookFault::Failed),
+        Look::Fault(LookFault::Call(FailKind::Failed)),
     ),
     // a grade that came
     (
@@ -265,8 +266,8 @@ fn answers_noted(alloc: Global, steps: &[Step], failed: u64, garbled: u64, answe
 /// The count of one kind may have been noted at its last value.
 #[test]
 fn tells_no_fail_past_the_last_count(rt: HostRuntime) {
-    let failed = Look::Fault(LookFault::Failed);
-    let garbled = Look::Fault(LookFault::Garbled);
+    let failed = Look::Fault(LookFault::Call(FailKind::Failed));
+    let garbled = Look::Fault(LookFault::Call(FailKind::Garbled));
     let are_so = answers_noted(rt.alloc(), &FAILS, 0, 0, failed)
         && answers_noted(rt.alloc(), &FAILS, u64::MAX, 0, garbled)
         && answers_noted(rt.alloc(), &FAILS, u64::MAX, u64::MAX, Look::NotYet);

@@ -3,7 +3,8 @@
 use super::none_is_wrong;
 use super::steps::{Step, apply_all};
 use limits::MAX_OBJECTS;
-use source_state::{FailKind, Plan, SourceState, reach};
+use source_api::FailKind;
+use source_state::{Plan, SourceState, reach};
 use std::alloc::Global;
 
 /// How many objects the list has, its events, page and ahead, and what is fetched next.

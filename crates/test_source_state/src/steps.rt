@@ -1,6 +1,7 @@
 //! Events as plain data, applied where they may come.
 
-use source_state::{Applied, Asked, Event, FailKind, SourceState};
+use source_api::FailKind;
+use source_state::{Applied, Asked, Event, SourceState};
 use std::alloc::Global;
 use test_support::page_of;
 

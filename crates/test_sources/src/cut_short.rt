@@ -2,7 +2,7 @@
 
 use super::holds;
 use super::stepping::{Call, Gives, call_gives, joined, source_over};
-use source_api::Trouble;
+use source_api::{FailKind, Trouble};
 use std::alloc::Global;
 use tk_io::{MemDial, MemLink};
 
@@ -32,7 +32,12 @@ fn gives_whole_alone(alloc: Global, parts: &[&[u8]]) -> bool {
     };
     let mut is_so = page_gives(alloc, &bytes, Gives::Rows(&[(1, 900)]));
     for cut in 0..bytes.len() {
-        is_so = is_so && page_gives(alloc, &bytes[..cut], Gives::Ends(Trouble::Garbled));
+        is_so = is_so
+            && page_gives(
+                alloc,
+                &bytes[..cut],
+                Gives::Ends(Trouble::Fail(FailKind::Garbled)),
+            );
     }
     drop(bytes);
     is_so

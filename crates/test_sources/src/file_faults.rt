@@ -2,7 +2,7 @@
 
 use super::none_is_wrong;
 use file_source::{FileShelf, FileTree};
-use source_api::{Shelf, Trouble};
+use source_api::{FailKind, Shelf, Trouble};
 use std::alloc::Global;
 use test_mem_source::{Step, first_wrong};
 use tk_io::MemIntake;
@@ -62,7 +62,7 @@ fn gives_text<F: FileTree>(
 ) -> bool {
     match shelf.text(alloc, place) {
         Ok(text) => is_there && text.as_slice() == TEXT,
-        Err(trouble) => !is_there && trouble == Trouble::Failed,
+        Err(trouble) => !is_there && trouble == Trouble::Fail(FailKind::Failed),
     }
 }
 
@@ -79,7 +79,7 @@ fn gives_source<F: FileTree>(
             shelf.put_back(place, source);
             is_there && wrong.is_none()
         }
-        Err(trouble) => !is_there && trouble == Trouble::Failed,
+        Err(trouble) => !is_there && trouble == Trouble::Fail(FailKind::Failed),
     }
 }
 

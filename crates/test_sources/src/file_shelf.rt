@@ -2,7 +2,7 @@
 
 use super::none_is_wrong;
 use file_source::{FileShelf, FileTree};
-use source_api::{Shelf, Trouble};
+use source_api::{FailKind, Shelf, Trouble};
 use std::alloc::Global;
 use std::fs;
 use std::rt::Files;
@@ -151,7 +151,7 @@ fn gives_no_source<F: FileTree>(alloc: Global, shelf: &mut FileShelf<'_, F>, pla
             shelf.put_back(place, source);
             false
         }
-        Err(trouble) => trouble == Trouble::Failed,
+        Err(trouble) => trouble == Trouble::Fail(FailKind::Failed),
     }
 }
 
@@ -166,7 +166,7 @@ fn gives_so<F: FileTree>(
         Gives::Text(bytes) => gives_text(alloc, shelf, place, Ok(bytes)),
         Gives::List(steps) => gives_list(alloc, shelf, place, steps),
         Gives::Nothing => {
-            gives_text(alloc, shelf, place, Err(Trouble::Failed))
+            gives_text(alloc, shelf, place, Err(Trouble::Fail(FailKind::Failed)))
                 && gives_no_source(alloc, shelf, place)
         }
     }

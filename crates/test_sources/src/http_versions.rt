@@ -3,7 +3,11 @@
 use super::stepping::Call::{Grade, Page, Size};
 use super::stepping::Gives::{Count, Ends, Graded, Rows};
 use super::stepping::{Step, first_wrong};
-use source_api::Trouble::{Garbled, Moved};
+use source_api::Trouble::Moved;
+use source_api::{FailKind, Trouble};
+
+/// The reply can't be read.
+const GARBLED: Trouble = Trouble::Fail(FailKind::Garbled);
 
 /// The head of a reply whose body ends with the connection.
 const OK: &[u8] = b"HTTP/1.1 200 OK\r\n\r\n";
@@ -75,7 +79,7 @@ static RUNS: &[&[Step]] = &[
             Page(0, 1),
             FIRST,
             &[OK, b"{\"rows\":[[1,900],[2,800]],\"version\":8}"],
-            Ends(Garbled),
+            Ends(GARBLED),
         ),
     ],
     // A size that is garbled, a page and a grade leave the version at hand.
@@ -85,13 +89,13 @@ static RUNS: &[&[Step]] = &[
             Size,
             SIZE,
             &[OK, b"{\"count\":null,\"version\":8}"],
-            Ends(Garbled),
+            Ends(GARBLED),
         ),
         (
             Page(0, 1),
             FIRST,
             &[b"HTTP/1.1 404 Not Found\r\n\r\n{\"rows\":[[1,900]],\"version\":8}"],
-            Ends(Garbled),
+            Ends(GARBLED),
         ),
         (
             Page(0, 1),
@@ -112,7 +116,7 @@ static RUNS: &[&[Step]] = &[
             Grade(1),
             GRADE_OF_1,
             &[OK, b"{\"grade\":900,\"version\":18446744073709551616}"],
-            Ends(Garbled),
+            Ends(GARBLED),
         ),
         (
             Grade(1),

@@ -2,7 +2,7 @@
 
 use super::none_is_wrong;
 use ranked_list::Row;
-use source_api::{Counts, Trouble};
+use source_api::{Counts, FailKind, Trouble};
 use std::alloc::Global;
 use test_mem_source::{MemSource, Step, first_wrong};
 
@@ -50,9 +50,9 @@ const UNCOUNTED: Counts = Counts {
     grades_given: 0,
 };
 
-const FAILED: Trouble = Trouble::Failed;
+const FAILED: Trouble = Trouble::Fail(FailKind::Failed);
 
-const GARBLED: Trouble = Trouble::Garbled;
+const GARBLED: Trouble = Trouble::Fail(FailKind::Garbled);
 
 /// The last two rows.
 const LAST: &[(u32, u32)] = &[(2, 800), (3, 100)];

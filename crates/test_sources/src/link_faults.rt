@@ -6,7 +6,7 @@ ghost use Rattle.tk_io.specs.LinksInMemory.{IsUnused};
 use super::holds;
 use super::stepping::{Call, Gives, call_gives, source_over, took};
 use http_source::HttpSource;
-use source_api::{Counts, Source, Trouble};
+use source_api::{Counts, FailKind, Source, Trouble};
 use std::alloc::Global;
 use tk_io::{MemDial, MemLink, Memory};
 
@@ -48,7 +48,7 @@ fn pages_fail(alloc: Global, source: &mut HttpSource<MemDial>, calls: u32) -> bo
             alloc,
             source,
             Call::Page(0, 1),
-            Gives::Ends(Trouble::Failed),
+            Gives::Ends(Trouble::Fail(FailKind::Failed)),
         );
         is_so = is_so && fails;
     }
@@ -62,7 +62,12 @@ fn fails_in_turn(alloc: Global, source: &mut HttpSource<MemDial>) -> bool {
         && pages_fail(alloc, source, 5)
         && call_gives(alloc, source, Call::Page(0, 1), Gives::Rows(&[(1, 900)]))
         && call_gives(alloc, source, Call::Grade(1), Gives::Graded(Some(900)))
-        && call_gives(alloc, source, Call::Size, Gives::Ends(Trouble::Failed))
+        && call_gives(
+            alloc,
+            source,
+            Call::Size,
+            Gives::Ends(Trouble::Fail(FailKind::Failed)),
+        )
         && source.version() == 7
 }
 

@@ -2,11 +2,11 @@
 
 use super::none_is_wrong;
 use file_source::FileSource;
-use source_api::{Counts, Trouble};
+use source_api::{Counts, FailKind, Trouble};
 use std::alloc::Global;
 use test_mem_source::{Step, first_wrong};
 
-const GARBLED: Trouble = Trouble::Garbled;
+const GARBLED: Trouble = Trouble::Fail(FailKind::Garbled);
 
 /// A list file with calls and their answers.
 type Called = (&'static [u8], &'static [Step]);

@@ -3,7 +3,10 @@
 use super::stepping::Call::{Grade, Page, Size};
 use super::stepping::Gives::{Count, Ends, Graded, Rows};
 use super::stepping::{Step, first_wrong};
-use source_api::Trouble::Garbled;
+use source_api::{FailKind, Trouble};
+
+/// The reply can't be read.
+const GARBLED: Trouble = Trouble::Fail(FailKind::Garbled);
 
 /// The head of a reply whose body ends with the connection.
 const OK: &[u8] = b"HTTP/1.1 200 OK\r\n\r\n";
@@ -34,18 +37,18 @@ static SIZES: &[&[Step]] = &[
         Size,
         SIZE,
         &[OK, b"{\"count\":18446744073709551616}"],
-        Ends(Garbled),
+        Ends(GARBLED),
     )],
-    &[(Size, SIZE, &[OK, b"{\"count\":3.0}"], Ends(Garbled))],
-    &[(Size, SIZE, &[OK, b"{\"grade\":3}"], Ends(Garbled))],
-    &[(Size, SIZE, &[OK, b"3"], Ends(Garbled))],
-    &[(Size, SIZE, &[OK], Ends(Garbled))],
-    &[(Size, SIZE, &[], Ends(Garbled))],
+    &[(Size, SIZE, &[OK, b"{\"count\":3.0}"], Ends(GARBLED))],
+    &[(Size, SIZE, &[OK, b"{\"grade\":3}"], Ends(GARBLED))],
+    &[(Size, SIZE, &[OK, b"3"], Ends(GARBLED))],
+    &[(Size, SIZE, &[OK], Ends(GARBLED))],
+    &[(Size, SIZE, &[], Ends(GARBLED))],
     &[(
         Size,
         SIZE,
         &[OK, b"{\"count\":3,\"version\":-1}"],
-        Ends(Garbled),
+        Ends(GARBLED),
     )],
     // The length of the body is stated, or it is in chunks.
     &[(
@@ -58,7 +61,7 @@ static SIZES: &[&[Step]] = &[
         Size,
         SIZE,
         &[b"HTTP/1.0 200 Fine\r\nContent-Length: 10\r\n\r\n{\"count\":3}"],
-        Ends(Garbled),
+        Ends(GARBLED),
     )],
     &[(
         Size,
@@ -70,32 +73,32 @@ static SIZES: &[&[Step]] = &[
         Size,
         SIZE,
         &[b"HTTP/1.1 200 OK\r\nContent-Length: 16777217\r\n\r\n{\"count\":3}"],
-        Ends(Garbled),
+        Ends(GARBLED),
     )],
     // Another status than 200.
     &[(
         Size,
         SIZE,
         &[b"HTTP/1.1 404 Not Found\r\n\r\n{\"count\":3}"],
-        Ends(Garbled),
+        Ends(GARBLED),
     )],
     &[(
         Size,
         SIZE,
         &[b"HTTP/1.1 500 Internal Server Error\r\n\r\n{\"count\":3}"],
-        Ends(Garbled),
+        Ends(GARBLED),
     )],
     &[(
         Size,
         SIZE,
         &[b"HTTP/1.1 201 Created\r\n\r\n{\"count\":3}"],
-        Ends(Garbled),
+        Ends(GARBLED),
     )],
     &[(
         Size,
         SIZE,
         &[b"HTTP/1.1 100 Continue\r\n\r\n", OK, b"{\"count\":3}"],
-        Ends(Garbled),
+        Ends(GARBLED),
     )],
 ];
 
@@ -125,25 +128,25 @@ static PAGES: &[&[Step]] = &[
         Page(0, 2),
         FIRST_TWO,
         &[OK, b"{\"rows\":[[1,900],[2,800],[3,700]]}"],
-        Ends(Garbled),
+        Ends(GARBLED),
     )],
     &[(
         Page(4_294_967_295, 1),
         b"/page?from=4294967295&count=1",
         &[OK, b"{\"rows\":[[1,900],[2,800]]}"],
-        Ends(Garbled),
+        Ends(GARBLED),
     )],
     &[(
         Page(0, 2),
         FIRST_TWO,
         &[OK, b"{\"rows\":[[1,4294967296]]}"],
-        Ends(Garbled),
+        Ends(GARBLED),
     )],
     &[(
         Page(0, 2),
         FIRST_TWO,
         &[OK, b"{\"count\":3}"],
-        Ends(Garbled),
+        Ends(GARBLED),
     )],
     &[(
         Page(0, 2),
@@ -159,13 +162,13 @@ static PAGES: &[&[Step]] = &[
         Page(0, 2),
         FIRST_TWO,
         &[b"HTTP/1.1 404 Not Found\r\n\r\n{\"rows\":[]}"],
-        Ends(Garbled),
+        Ends(GARBLED),
     )],
     &[(
         Page(0, 2),
         FIRST_TWO,
         &[b"HTTP/1.1 500 Internal Server Error\r\nContent-Length: 11\r\n\r\n{\"rows\":[]}"],
-        Ends(Garbled),
+        Ends(GARBLED),
     )],
 ];
 
@@ -199,20 +202,20 @@ static GRADES: &[&[Step]] = &[
         Grade(5),
         GRADE_OF_5,
         &[OK, b"{\"grade\":-1}"],
-        Ends(Garbled),
+        Ends(GARBLED),
     )],
-    &[(Grade(5), GRADE_OF_5, &[OK, b"{}"], Ends(Garbled))],
+    &[(Grade(5), GRADE_OF_5, &[OK, b"{}"], Ends(GARBLED))],
     &[(
         Grade(5),
         GRADE_OF_5,
         &[b"HTTP/1.1 404 Not Found\r\n\r\n{\"grade\":null}"],
-        Ends(Garbled),
+        Ends(GARBLED),
     )],
     &[(
         Grade(5),
         GRADE_OF_5,
         &[b"HTTP/1.1 503 Service Unavailable\r\n\r\n"],
-        Ends(Garbled),
+        Ends(GARBLED),
     )],
 ];
 

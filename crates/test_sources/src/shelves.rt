@@ -4,7 +4,7 @@ ghost use Rattle.std.specs.Prelude.{◌≤◌};
 
 use super::none_is_wrong;
 use ranked_list::Row;
-use source_api::{Shelf, Source, Trouble};
+use source_api::{FailKind, Shelf, Source, Trouble};
 use std::alloc::Global;
 use test_mem_source::{MemShelf, MemSource, Step, first_wrong};
 
@@ -33,7 +33,7 @@ enum Call {
     Take(&'static str, Result<&'static [(u32, u32)], Trouble>),
 }
 
-const FAILED: Trouble = Trouble::Failed;
+const FAILED: Trouble = Trouble::Fail(FailKind::Failed);
 
 const PAIRS: &[(u32, u32)] = &[(1, 9), (2, 8)];
 

@@ -2,7 +2,7 @@
 
 use super::none_is_wrong;
 use ranked_list::Row;
-use source_api::{Counts, Trouble};
+use source_api::{Counts, FailKind, Trouble};
 use std::alloc::Global;
 use test_mem_source::{Later, MemSource, Step, first_wrong};
 
@@ -130,8 +130,8 @@ static SOURCES: [Changing; 8] = [
         garble_pages: &[2],
         steps: &[
             Step::Size(3),
-            Step::Page(0, 1, Err(Trouble::Failed)),
-            Step::Page(0, 1, Err(Trouble::Garbled)),
+            Step::Page(0, 1, Err(Trouble::Fail(FailKind::Failed))),
+            Step::Page(0, 1, Err(Trouble::Fail(FailKind::Garbled))),
             Step::Page(0, 1, Err(MOVED)),
         ],
         counts: Counts {

@@ -11,20 +11,21 @@ use Rattle.turn_lock.specs.declared.facts.Tally.{Tally}
 use Rattle.topk_theory.proofs.AgreementLists.{member_of_all, contains_here, slice_get_contains, slice_get_in_range}
 use Rattle.indexed_heap.proofs.Getting.{get_set_same, get_set_other}
 use Rattle.machine_base.specs.Machine.{MachineState}
-use Rattle.source_state.specs.declared.entry.FailKind.{FailKind}
-use Rattle.source_state.specs.declared.entry.FailKind.TheVariants as kind
+use Rattle.source_api.specs.declared.source.FailKind.{FailKind}
+use Rattle.source_api.specs.declared.source.FailKind.TheVariants as kind
 use Rattle.source_state.specs.declared.event.Event.{Event}
 use Rattle.source_state.specs.declared.event.Event.TheVariants as event
 use Rattle.source_state.specs.declared.look.Waiting.{Waiting}
 use Rattle.source_state.specs.declared.look.Look.{Look}
 use Rattle.source_state.specs.declared.look.Look.TheVariants as look
 use Rattle.source_state.specs.declared.look.LookFault.{LookFault}
+use Rattle.source_state.specs.declared.look.LookFault.TheVariants as why
 use Rattle.source_state.specs.declared.entry.LogEntry.TheVariants as entry
 use Rattle.source_state.specs.declared.entry.SourceFault.{SourceFault}
 use Rattle.source_state.specs.Log.{rows_in}
 use Rattle.source_state.specs.State.{State, asks_of, row_fault, state_at}
 use Rattle.source_state.specs.Events.{logged, with_rows, row_or, moved, after}
-use Rattle.source_state.specs.Looking.{waits_for, newer, told, refusal_of, called, Refuses, IsFailTold, Looks}
+use Rattle.source_state.specs.Looking.{waits_for, newer, told, called, Refuses, IsFailTold, Looks}
 use Rattle.source_state.proofs.Lists.{none_not_some}
 use Rattle.query_core.specs.declared.ready.Ready.{Ready}
 use Rattle.query_run.specs.declared.ended.Refusal.TheVariants as refusal
@@ -68,7 +69,7 @@ record Waits (first : WorldState) (steps : List Step) (w : WorldState) (query : 
 -- what is known of a query after some steps
 record Known (first : WorldState) (steps : List Step) (w : WorldState) (query : ℕ) (q : Inquiry) : Type 0 where
   waits : (n : Need) → q.waiting.need ≡ Some n → Waits first steps w query q n
-  refused : (list : ℕ) (what : FailKind) → q.refusal ≡ Some (refusal.Look list (refusal_of what)) → IsToldOfFail first steps w query list what
+  refused : (list : ℕ) (what : FailKind) → q.refusal ≡ Some (refusal.Look list (why.Call what)) → IsToldOfFail first steps w query list what
 
 abbrev AllKnown : WorldState → List Step → WorldState → Type 0
 AllKnown first steps w = (query : ℕ) (q : Inquiry) → slice_get w.queries query ≡ Some q → Known first steps w query q
@@ -190,10 +191,8 @@ look_tally n s t waiting left look.NotYet h = elim h.waits [
 look_tally n s t waiting left (look.Fault fault) h = ap (λ (u : State). u.tally) (fault_ends n s t waiting left fault h).same
 
 -- a fail that is told
-refusal_told : (n : Need) (s t : State) (waiting left : Waiting) (what : FailKind) → Refuses n s t waiting left (refusal_of what) → IsFailTold n s t waiting left what
-refusal_told n s t waiting left kind.Failed h = h
-refusal_told n s t waiting left kind.Garbled h = h
-refusal_told n s t waiting left kind.Memory h = h
+refusal_told : (n : Need) (s t : State) (waiting left : Waiting) (what : FailKind) → Refuses n s t waiting left (why.Call what) → IsFailTold n s t waiting left what
+refusal_told n s t waiting left what h = h
 
 waited : (o : Option Need) (n : Need) → waits_for o n ≡ true → (m : Need) × (o ≡ Some m)
 waited None n e = absurd (cc)
@@ -209,12 +208,12 @@ same_fault : (list other : ℕ) (fault one : LookFault) → Some (refusal.Look l
 same_fault list other fault one e = cc
 
 -- the refusal of a turn is that of its look
-refusal_is : (q r : Inquiry) (answer : Look) (list : ℕ) (what : FailKind) → Answers q r answer → r.refusal ≡ Some (refusal.Look list (refusal_of what))
-    → answer ≡ look.Fault (refusal_of what)
+refusal_is : (q r : Inquiry) (answer : Look) (list : ℕ) (what : FailKind) → Answers q r answer → r.refusal ≡ Some (refusal.Look list (why.Call what))
+    → answer ≡ look.Fault (why.Call what)
 refusal_is q r (look.Row row) list what answers e = absurd (subst (RowTaken row q r) e answers)
 refusal_is q r (look.Grade grade) list what answers e = absurd (none_not_some (sym answers.0 ∙ e))
 refusal_is q r look.NotYet list what answers e = absurd (none_not_some (sym answers.0 ∙ e))
-refusal_is q r (look.Fault fault) list what answers e = ap look.Fault (same_fault (list_needed (needed q)) list fault (refusal_of what) (sym answers.0 ∙ e))
+refusal_is q r (look.Fault fault) list what answers e = ap look.Fault (same_fault (list_needed (needed q)) list fault (why.Call what) (sym answers.0 ∙ e))
 
 -- the query that takes the turn
 record Turning (first : WorldState) (steps : List Step) (w v : WorldState) (query : ℕ) : Type 0 where
@@ -301,12 +300,12 @@ turn_waits first steps w v query t n look.NotYet looks answers e =
 
 -- it is refused by the turn for a fail
 turn_refused : (first : WorldState) (steps : List Step) (w v : WorldState) (query : ℕ) (t : Turning first steps w v query) (list : ℕ) (what : FailKind)
-    → t.turn.r.refusal ≡ Some (refusal.Look list (refusal_of what)) → IsToldOfFail first (steps ++ Turn query ∷ []) v query list what
+    → t.turn.r.refusal ≡ Some (refusal.Look list (why.Call what)) → IsToldOfFail first (steps ++ Turn query ∷ []) v query list what
 turn_refused first steps w v query t list what e =
     let q = t.turn.q in
     let s = state_at w.states (source_needed q) in
     let is = refusal_is q t.turn.r t.turn.turns.answer list what t.turn.turns.answers e in
-    let looks : Looks (needed q) s t.turn.turns.state q.waiting t.turn.r.waiting (look.Fault (refusal_of what)) = subst (Looks (needed q) s t.turn.turns.state q.waiting t.turn.r.waiting) is t.turn.turns.looks in
+    let looks : Looks (needed q) s t.turn.turns.state q.waiting t.turn.r.waiting (look.Fault (why.Call what)) = subst (Looks (needed q) s t.turn.turns.state q.waiting t.turn.r.waiting) is t.turn.turns.looks in
     let tells = (refusal_told (needed q) s t.turn.turns.state q.waiting t.turn.r.waiting what looks).tells in
     let failed = told_failed q.waiting (needed q) s.tally what tells in
     let waits = waited q.waiting.need (needed q) (told_waits q.waiting (needed q) s.tally what tells) in
@@ -421,6 +420,6 @@ none_known counts readies w made query q is =
 
 pub fails_told : (counts : List ℕ) (readies : List Ready) (first : WorldState) (steps : List Step) (last : WorldState) → IsWorld first
     → IsMade counts readies first → Runs first steps last
-    → (query : ℕ) (q : Inquiry) (list : ℕ) (what : FailKind) → slice_get last.queries query ≡ Some q → q.refusal ≡ Some (refusal.Look list (refusal_of what)) → IsToldOfFail first steps last query list what
+    → (query : ℕ) (q : Inquiry) (list : ℕ) (what : FailKind) → slice_get last.queries query ≡ Some q → q.refusal ≡ Some (refusal.Look list (why.Call what)) → IsToldOfFail first steps last query list what
 fails_told counts readies first steps last world made runs query q list what is e =
     (runs_known first [] steps first last refl world (none_known counts readies first made) runs query q is).refused list what e

@@ -1,8 +1,9 @@
 -- Whom a fail of a source refuses.
 use Rattle.std.specs.Prelude.{◌≡◌, ℕ, false, Some, None, List, ◌∷◌, ◌++◌, Contains}
 use Rattle.ranked_list.specs.declared.need.Need.{Need}
-use Rattle.source_state.specs.declared.entry.FailKind.{FailKind}
-use Rattle.source_state.specs.Looking.{waits_for, refusal_of}
+use Rattle.source_api.specs.declared.source.FailKind.{FailKind}
+use Rattle.source_state.specs.declared.look.LookFault.TheVariants.{Call}
+use Rattle.source_state.specs.Looking.{waits_for}
 use Rattle.query_run.specs.declared.ended.Refusal.TheVariants.{Look}
 use Rattle.test_worlds.specs.declared.step.Step.{Step}
 use Rattle.test_worlds.specs.declared.step.Step.TheVariants.{Fail, Turn}
@@ -42,5 +43,5 @@ pub record IsToldOfFail (first : WorldState) (steps : List Step) (last : WorldSt
   pub turn : TakesTurn query before after
   pub goes : Runs after rest last
   pub unrefused : turn.q.refusal ≡ None
-  pub refused : turn.r.refusal ≡ Some (Look list (refusal_of what))
+  pub refused : turn.r.refusal ≡ Some (Look list (Call what))
   pub since : FailsSince first front before query (source_needed turn.q) (needed turn.q) what

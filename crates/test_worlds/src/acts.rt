@@ -6,7 +6,8 @@ ghost use Rattle.query_run.specs.Inquiries.{is_ended};
 use super::step::Step;
 use super::world::World;
 use ranked_list::{PageRows, Row};
-use source_state::{FailKind, Plan};
+use source_api::FailKind;
+use source_state::Plan;
 use std::alloc::Global;
 
 /// What the sources of a world hold, and how they answer.

@@ -3,6 +3,7 @@
 use super::acts::{Act, Sources};
 use super::cases::Case;
 use super::three::{THREE, THREE_LISTS};
+use source_api::FailKind;
 use source_state::LookFault;
 use test_query_support::{Expected, FIRST, FIRST_ENDS};
 
@@ -20,7 +21,10 @@ pub static CASES: [Case; 5] = [
         asked: &[FIRST, FIRST],
         acts: &[],
         workers: 1,
-        ends: &[Expected::Look(0, LookFault::Failed), FIRST_ENDS],
+        ends: &[
+            Expected::Look(0, LookFault::Call(FailKind::Failed)),
+            FIRST_ENDS,
+        ],
     },
     // a fail between a want and its page
     Case {
@@ -44,7 +48,10 @@ pub static CASES: [Case; 5] = [
             Act::Page(0, 1),
         ],
         workers: 2,
-        ends: &[Expected::Look(0, LookFault::Failed), FIRST_ENDS],
+        ends: &[
+            Expected::Look(0, LookFault::Call(FailKind::Failed)),
+            FIRST_ENDS,
+        ],
     },
     // a fail before the want
     Case {

@@ -9,6 +9,7 @@ use super::world::World;
 use limits::MAX_OBJECTS;
 use query_core::Ready;
 use query_run::{Ended, Endings};
+use source_api::FailKind;
 use source_state::LookFault;
 use std::alloc::Global;
 use test_query_support::{Expected, is_ended_so, let_endings_go};
@@ -43,7 +44,7 @@ fn first_failed(endings: &Endings) -> Option<u8> {
         Some(
             Ended::Look {
                 list,
-                fault: LookFault::Failed,
+                fault: LookFault::Call(FailKind::Failed),
             },
         ) => Some(*list),
         _ => None,

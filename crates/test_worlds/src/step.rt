@@ -1,7 +1,7 @@
 //! What may happen in a world.
 
 use ranked_list::PageRows;
-use source_state::FailKind;
+use source_api::FailKind;
 
 /// A step of a world: something of one source, or a turn of one query. Sources and queries count from 0.
 #[derive(Drop)]

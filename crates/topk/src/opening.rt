@@ -12,7 +12,7 @@ use super::place_source::PlaceSource;
 use catalog_text::{Address, Location, location_of};
 use file_source::{FileSource, FileTree, read_file};
 use http_source::HttpSource;
-use source_api::Trouble;
+use source_api::{FailKind, Trouble};
 use std::alloc::{AllocError, Global};
 use tk_io::Dial;
 use wire::Place;
@@ -32,7 +32,7 @@ pub fn open_place<F: FileTree, M: DialMaker>(
     match location_of(place) {
         Some(Location::File) => open_file(alloc, files, place),
         Some(Location::Http(address)) => open_served(alloc, dials.make_dial(), address),
-        None => Err(Trouble::Failed),
+        None => Err(Trouble::Fail(FailKind::Failed)),
     }
 }
 
@@ -68,7 +68,7 @@ fn open_file<F: FileTree, D: Dial + Drop>(
     };
     match FileSource::open(alloc, &text) {
         Ok(source) => Ok(PlaceSource::File(source)),
-        Err(_) => Err(Trouble::Memory),
+        Err(_) => Err(Trouble::Fail(FailKind::Memory)),
     }
 }
 
@@ -83,11 +83,11 @@ fn open_served<D: Dial + Drop>(
 {
     let Ok(place) = place_of(alloc, address) else {
         drop(dial);
-        return Err(Trouble::Memory);
+        return Err(Trouble::Fail(FailKind::Memory));
     };
     match HttpSource::make(alloc, dial, &place) {
         Ok(source) => Ok(PlaceSource::Http(source)),
-        Err(_) => Err(Trouble::Memory),
+        Err(_) => Err(Trouble::Fail(FailKind::Memory)),
     }
 }
 

@@ -2,14 +2,15 @@
 
 ghost use Rattle.std.specs.Prelude.{◌≡◌, [], IfOk, OnErr, OnOk};
 ghost use Rattle.std.specs.declared.result.Result.TheVariants.{Err};
-ghost use Rattle.source_api.specs.declared.source.Trouble.TheVariants.{Memory};
+ghost use Rattle.source_api.specs.declared.source.FailKind.TheVariants.{Memory};
+ghost use Rattle.source_api.specs.declared.source.Trouble.TheVariants.{Fail};
 ghost use Rattle.source_api.specs.Places.{IsTaking};
 
 use super::dial_maker::DialMaker;
 use super::opening::open_told;
 use super::place_source::PlaceSource;
 use file_source::{FileTree, count_take, count_text, read_file};
-use source_api::{Ledger, Shelf, Trouble};
+use source_api::{FailKind, Ledger, Shelf, Trouble};
 use std::alloc::Global;
 use std::marker::Model;
 use tk_io::Dial;
@@ -102,13 +103,13 @@ fn give<D: Dial + Drop>(
     ensures taken { OnOk result (IsTaking ledger.old ledger.new place.now) }
     ensures source { IfOk result (λ given. given ≡ source) }
     ensures untaken { OnErr result (ledger.new ≡ ledger.old) }
-    ensures refused { OnErr result (result ≡ Err Memory) }
+    ensures refused { OnErr result (result ≡ Err (Fail Memory)) }
 {
     match ledger.count_taken(alloc, place) {
         Ok(()) => Ok(source),
         Err(_) => {
             drop(source);
-            Err(Trouble::Memory)
+            Err(Trouble::Fail(FailKind::Memory))
         }
     }
 }

@@ -1,11 +1,12 @@
-use Rattle.std.proofs.Common.{subst}
+use Rattle.std.proofs.Common.{ap, subst, ◌∙◌}
+use Rattle.source_api.specs.declared.source.Trouble.TheVariants.{Fail}
 use Rattle.source_api.specs.Counting.{IsNoMove}
 use Rattle.catalog_open.proofs.Moving.{put_failed, put_garbled, put_known}
 use Rattle.catalog_open.proofs.Unread.{put_unread, unread_source}
 use Rattle.catalog_open.proofs.opening.ask_size.Goals as goal
 
-pub returns-in-Failed : goal.returns-in-Failed
-returns-in-Failed g c = record {
+pub returns-in-Fail-Failed : goal.returns-in-Fail-Failed
+returns-in-Fail-Failed g c = record {
   texts = c.put_back.ensures.texts;
   lists = c.put_back.ensures.lists;
   versions = c.put_back.ensures.versions;
@@ -13,12 +14,12 @@ returns-in-Failed g c = record {
   elsewhere = c.put_back.ensures.elsewhere;
   back = put_unread _ _ _ _ _ c.put_back.ensures.counts c.requires.knows c.requires.fresh c.size.ensures.given;
   unread = tt;
-  opens = (put_failed _ _ _ _ _ _ c.put_back.ensures.counts c.requires.knows c.requires.fresh c.in-Err.ensures.cause c.in-Failed.is, put_known _ _ _ _ c.put_back.ensures.counts c.requires.knows);
+  opens = (put_failed _ _ _ _ _ _ c.put_back.ensures.counts c.requires.knows c.requires.fresh c.in-Err.ensures.cause (c.in-Fail-Failed.is ∙ ap Fail (rw c.in-Fail-Failed.is at c.in-Fail-Failed.field-0-is)), put_known _ _ _ _ c.put_back.ensures.counts c.requires.knows);
   short = tt;
 }
 
-pub returns-in-Garbled : goal.returns-in-Garbled
-returns-in-Garbled g c = record {
+pub returns-in-Fail-Garbled : goal.returns-in-Fail-Garbled
+returns-in-Fail-Garbled g c = record {
   texts = c.put_back.ensures.texts;
   lists = c.put_back.ensures.lists;
   versions = c.put_back.ensures.versions;
@@ -26,12 +27,12 @@ returns-in-Garbled g c = record {
   elsewhere = c.put_back.ensures.elsewhere;
   back = put_unread _ _ _ _ _ c.put_back.ensures.counts c.requires.knows c.requires.fresh c.size.ensures.given;
   unread = tt;
-  opens = (put_garbled _ _ _ _ _ _ c.put_back.ensures.counts c.requires.knows c.requires.fresh c.in-Err.ensures.cause c.in-Garbled.is, put_known _ _ _ _ c.put_back.ensures.counts c.requires.knows);
+  opens = (put_garbled _ _ _ _ _ _ c.put_back.ensures.counts c.requires.knows c.requires.fresh c.in-Err.ensures.cause (c.in-Fail-Garbled.is ∙ ap Fail (rw c.in-Fail-Garbled.is at c.in-Fail-Garbled.field-0-is)), put_known _ _ _ _ c.put_back.ensures.counts c.requires.knows);
   short = tt;
 }
 
-pub returns-in-Memory : goal.returns-in-Memory
-returns-in-Memory g c = record {
+pub returns-in-Fail-Memory : goal.returns-in-Fail-Memory
+returns-in-Fail-Memory g c = record {
   texts = c.put_back.ensures.texts;
   lists = c.put_back.ensures.lists;
   versions = c.put_back.ensures.versions;

@@ -1,4 +1,5 @@
-use Rattle.std.proofs.Common.{◌≡◌, true, ◌∙◌, subst}
+use Rattle.std.proofs.Common.{◌≡◌, ap, subst, ◌∙◌, true}
+use Rattle.source_api.specs.declared.source.Trouble.TheVariants.{Fail}
 use Rattle.source_api.specs.Places.{HasTakeCause}
 use Rattle.catalog_open.proofs.Moving.{take_failed, take_garbled, take_moves, took_none}
 use Rattle.catalog_open.proofs.Opens.{asked, asked_short}
@@ -28,8 +29,8 @@ returns-in-Ok g c =
       few = asked_few c.ask_size.result before mid now c.in-Ok.ensures.taken c.ask_size.ensures.short;
     }
 
-pub returns-in-Err-Memory : goal.returns-in-Err-Memory
-returns-in-Err-Memory g c =
+pub returns-in-Err-Fail-Memory : goal.returns-in-Err-Fail-Memory
+returns-in-Err-Fail-Memory g c =
     let before = g.H.Shelf.at c.args.shelf.now c.args.place.now in
     let mid = g.H.Shelf.at c.take.new.self c.args.place.now in
     record {
@@ -41,16 +42,16 @@ returns-in-Err-Memory g c =
       back = took_nothing before mid c.take.ensures.counts;
       unread = tt;
       opens = tt;
-      short = took_none before mid c.take.ensures.counts c.in-Err-Memory.ensures.untaken;
+      short = took_none before mid c.take.ensures.counts c.in-Err-Fail-Memory.ensures.untaken;
       asks = tt;
-      few = take_short before mid c.in-Err-Memory.field-0 c.in-Err-Memory.ensures.cause c.in-Err-Memory.field-0-is;
+      few = take_short before mid c.in-Err-Fail-Memory.field-0 c.in-Err-Fail-Memory.ensures.cause (c.in-Err-Fail-Memory.field-0-is ∙ ap Fail (rw c.in-Err-Fail-Memory.field-0-is at c.in-Err-Fail-Memory.field-0-0-is));
     }
 
 pub unreachable-requires : goal.unreachable-requires
 unreachable-requires g c = subst (HasTakeCause (g.H.Shelf.at c.args.shelf.now c.args.place.now) (g.H.Shelf.at c.take.new.self c.args.place.now)) c.in-Err-Moved.field-0-is c.in-Err-Moved.ensures.cause
 
-pub returns-in-Err-Failed : goal.returns-in-Err-Failed
-returns-in-Err-Failed g c =
+pub returns-in-Err-Fail-Failed : goal.returns-in-Err-Fail-Failed
+returns-in-Err-Fail-Failed g c =
     let before = g.H.Shelf.at c.args.shelf.now c.args.place.now in
     let mid = g.H.Shelf.at c.take.new.self c.args.place.now in
     record {
@@ -61,14 +62,14 @@ returns-in-Err-Failed g c =
       elsewhere = c.take.ensures.elsewhere;
       back = took_nothing before mid c.take.ensures.counts;
       unread = tt;
-      opens = (take_failed before mid c.in-Err-Failed.field-0 c.in-Err-Failed.ensures.cause c.in-Err-Failed.field-0-is, took_none before mid c.take.ensures.counts c.in-Err-Failed.ensures.untaken);
+      opens = (take_failed before mid c.in-Err-Fail-Failed.field-0 c.in-Err-Fail-Failed.ensures.cause (c.in-Err-Fail-Failed.field-0-is ∙ ap Fail (rw c.in-Err-Fail-Failed.field-0-is at c.in-Err-Fail-Failed.field-0-0-is)), took_none before mid c.take.ensures.counts c.in-Err-Fail-Failed.ensures.untaken);
       short = tt;
-      asks = take_fails before mid c.in-Err-Failed.field-0 c.in-Err-Failed.ensures.untaken c.in-Err-Failed.ensures.cause c.in-Err-Failed.field-0-is;
+      asks = take_fails before mid c.in-Err-Fail-Failed.field-0 c.in-Err-Fail-Failed.ensures.untaken c.in-Err-Fail-Failed.ensures.cause (c.in-Err-Fail-Failed.field-0-is ∙ ap Fail (rw c.in-Err-Fail-Failed.field-0-is at c.in-Err-Fail-Failed.field-0-0-is));
       few = tt;
     }
 
-pub returns-in-Err-Garbled : goal.returns-in-Err-Garbled
-returns-in-Err-Garbled g c =
+pub returns-in-Err-Fail-Garbled : goal.returns-in-Err-Fail-Garbled
+returns-in-Err-Fail-Garbled g c =
     let before = g.H.Shelf.at c.args.shelf.now c.args.place.now in
     let mid = g.H.Shelf.at c.take.new.self c.args.place.now in
     record {
@@ -79,8 +80,8 @@ returns-in-Err-Garbled g c =
       elsewhere = c.take.ensures.elsewhere;
       back = took_nothing before mid c.take.ensures.counts;
       unread = tt;
-      opens = (take_garbled before mid c.in-Err-Garbled.field-0 c.in-Err-Garbled.ensures.cause c.in-Err-Garbled.field-0-is, took_none before mid c.take.ensures.counts c.in-Err-Garbled.ensures.untaken);
+      opens = (take_garbled before mid c.in-Err-Fail-Garbled.field-0 c.in-Err-Fail-Garbled.ensures.cause (c.in-Err-Fail-Garbled.field-0-is ∙ ap Fail (rw c.in-Err-Fail-Garbled.field-0-is at c.in-Err-Fail-Garbled.field-0-0-is)), took_none before mid c.take.ensures.counts c.in-Err-Fail-Garbled.ensures.untaken);
       short = tt;
-      asks = take_garbles before mid c.in-Err-Garbled.field-0 c.in-Err-Garbled.ensures.untaken c.in-Err-Garbled.ensures.cause c.in-Err-Garbled.field-0-is;
+      asks = take_garbles before mid c.in-Err-Fail-Garbled.field-0 c.in-Err-Fail-Garbled.ensures.untaken c.in-Err-Fail-Garbled.ensures.cause (c.in-Err-Fail-Garbled.field-0-is ∙ ap Fail (rw c.in-Err-Fail-Garbled.field-0-is at c.in-Err-Fail-Garbled.field-0-0-is));
       few = tt;
     }

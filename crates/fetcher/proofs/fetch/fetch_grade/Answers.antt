@@ -17,7 +17,7 @@ returns-in-Ok-clause-busy g c = answer_busy c.args.object c.in-Ok.grade c.tell_g
 pub returns-in-Err-clause-brings : goal.returns-in-Err-clause-brings
 returns-in-Err-clause-brings g c = λ page ahead.
     subst (Brings page ahead (g.S.Source.list c.args.source.now) (g.S.Source.counts c.args.source.now) (g.S.Source.counts c.grade.new.self) c.args.feeder.now.pass.1 c.tell_trouble.new.feeder.pass.1) (sym c.tell_trouble.ensures.answer)
-    (trouble_brings page ahead (Some c.args.object) c.in-Err.trouble _ _ _ _ _ c.tell_trouble.ensures.fed c.in-Err.ensures.gave_nothing c.in-Err.ensures.cause)
+    (trouble_brings page ahead (Some c.args.object) c.in-Err.trouble (g.S.Source.list c.args.source.now) _ _ _ _ c.tell_trouble.ensures.fed c.in-Err.ensures.gave_nothing c.in-Err.ensures.cause)
 
 pub returns-in-Err-clause-busy : goal.returns-in-Err-clause-busy
 returns-in-Err-clause-busy g c = failed_busy c.in-Err.trouble c.tell_trouble.result c.tell_trouble.ensures.answer

@@ -31,7 +31,7 @@ returns-in-Ok-clause-busy g c = paged_busy _ c.tell_page.result c.tell_page.ensu
 pub returns-in-Err-clause-brings : goal.returns-in-Err-clause-brings
 returns-in-Err-clause-brings g c = λ page ahead some reach.
     subst (Brings page ahead (g.S.Source.list c.args.source.now) (g.S.Source.counts c.args.source.now) (g.S.Source.counts c.page.new.self) c.args.feeder.now.pass.1 c.tell_trouble.new.feeder.pass.1) (sym c.tell_trouble.ensures.answer)
-    (trouble_brings page ahead None c.in-Err.trouble _ _ _ _ _ c.tell_trouble.ensures.fed c.in-Err.ensures.gave_nothing c.in-Err.ensures.cause)
+    (trouble_brings page ahead None c.in-Err.trouble (g.S.Source.list c.args.source.now) _ _ _ _ c.tell_trouble.ensures.fed c.in-Err.ensures.gave_nothing c.in-Err.ensures.cause)
 
 pub returns-in-Err-clause-busy : goal.returns-in-Err-clause-busy
 returns-in-Err-clause-busy g c = failed_busy c.in-Err.trouble c.tell_trouble.result c.tell_trouble.ensures.answer

@@ -1,8 +1,7 @@
-use Rattle.std.proofs.Common.{inl, inr, None, refl, sym, ap, subst, ◌∙◌}
+use Rattle.std.proofs.Common.{inl, inr, None, refl, sym, ap, ◌∙◌}
 use Rattle.turn_lock.specs.declared.facts.Tally.{Tally}
-use Rattle.source_state.specs.declared.look.LookFault.{LookFault}
 use Rattle.source_state.specs.declared.look.Waiting.{Waiting}
-use Rattle.source_state.specs.Looking.{told, Refuses}
+use Rattle.source_state.specs.Looking.{told}
 use Rattle.source_state.proofs.LookLaws.{decided_looks, told_looks}
 use Rattle.source_state.proofs.look.look_at.Goals as goal
 
@@ -13,9 +12,8 @@ returns-in-Some-clause-looks c =
 pub returns-in-Some-told-clause-looks : goal.returns-in-Some-told-clause-looks
 returns-in-Some-told-clause-looks c =
     let left : Waiting = record { need = None; noted = c.args.waiting.now.noted } in
-    subst (λ (why : LookFault). Refuses c.args.need c.args.state.now c.args.state.now c.args.waiting.now left why) (sym c.refusal_of.ensures)
-    (told_looks c.args.state.now c.args.state.now c.args.waiting.now left c.args.need c.in-Some-told.what (sym c.decided.ensures ∙ c.in_default.is)
-    (sym (c.told.ensures ∙ ap (λ (t : Tally). told c.args.waiting.now c.args.need t) c.tally.ensures) ∙ c.in-Some-told.is) (record { same = refl; over = refl }))
+    told_looks c.args.state.now c.args.state.now c.args.waiting.now left c.args.need c.in-Some-told.what (sym c.decided.ensures ∙ c.in_default.is)
+    (sym (c.told.ensures ∙ ap (λ (t : Tally). told c.args.waiting.now c.args.need t) c.tally.ensures) ∙ c.in-Some-told.is) (record { same = refl; over = refl })
 
 pub returns-then-is_full-clause-looks : goal.returns-then-is_full-clause-looks
 returns-then-is_full-clause-looks c = record {
